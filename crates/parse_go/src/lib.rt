@@ -1,0 +1,6 @@
+//! The tree of a Go text.
+#![tactic(auto)]
+
+mod tree;
+
+pub use tree::{BinOp, Expr, Name, Stmt, UnOp};

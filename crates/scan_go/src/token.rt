@@ -1,0 +1,21 @@
+//! Tokens, and where they stand.
+
+use crate::spelling::{Keyword, Op};
+use base::Pos;
+
+/// What a token is.
+#[derive(Clone, Copy, Debug, PartialEq, Eq)]
+pub enum Kind {
+    Name,
+    Number(u128),
+    Keyword(Keyword),
+    Op(Op),
+}
+
+/// A token: what it is, where it begins and the offset behind its last byte. An inserted semicolon is empty.
+#[derive(Clone, Copy, Debug, PartialEq, Eq)]
+pub struct Token {
+    pub kind: Kind,
+    pub pos: Pos,
+    pub end: u32,
+}

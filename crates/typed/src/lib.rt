@@ -1,0 +1,12 @@
+//! The typed program as plain data.
+#![tactic(auto)]
+
+mod expr;
+mod operators;
+mod program;
+mod stmt;
+
+pub use expr::{Const, Expr};
+pub use operators::{BinOp, UnOp};
+pub use program::{Func, Program, Site};
+pub use stmt::Stmt;

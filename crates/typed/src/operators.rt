@@ -1,0 +1,15 @@
+//! The operators of typed expressions.
+
+/// An operator on two operands.
+#[derive(Clone, Copy, Debug, PartialEq, Eq)]
+pub enum BinOp {
+    Add,
+    Sub,
+    Mul,
+}
+
+/// An operator on one operand.
+#[derive(Clone, Copy, Debug, PartialEq, Eq)]
+pub enum UnOp {
+    Negate,
+}
