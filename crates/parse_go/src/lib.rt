@@ -3,4 +3,4 @@
 
 mod tree;
 
-pub use tree::{BinOp, Expr, Name, Stmt, UnOp};
+pub use tree::{BinOp, Expr, Name, Stmt, Tree, UnOp};

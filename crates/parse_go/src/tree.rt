@@ -41,3 +41,11 @@ pub enum Stmt {
     /// `println`: the place of the word, and the operands.
     Print(Pos, Vec<Expr>),
 }
+
+/// The tree of a text, with a copy of the text: the place of the name `main`, and the statements of that function.
+#[derive(Drop)]
+pub struct Tree {
+    pub text: Vec<u8>,
+    pub main: Pos,
+    pub body: Vec<Stmt>,
+}
