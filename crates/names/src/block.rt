@@ -45,12 +45,13 @@ impl Block {
     pub fn open(&mut self) -> Result<(), NoMemory>
         ensures opened { OnOk result (self.new ≡ [] ∷ self.old) }
 
-        // One block was open before, and may be left by `close`.
+        // One block is open at least, so that the new one can be closed.
         ensures outer { 0 < length self.old }
         ensures same { OnErr result (self.new ≡ self.old) }
     {
         self.outer.reserve(1)?;
         let around = std::mem::replace(&mut self.innermost, IndexMap::new(self.alloc));
+        // Room is reserved, so that this cannot fail.
         let kept = self.outer.push(around);
         prove!(kept.is_ok());
         let _ = kept;
