@@ -1,0 +1,78 @@
+//! How an answer is reported: its line on the error output, and its status.
+ghost use Rattle.std.specs.Prelude.{OnOk, OnErr};
+ghost use Rattle.outside.specs.Causes.{HasCause};
+ghost use Rattle.outside.specs.Took.{Took, TookPrefix};
+ghost use Rattle.gostk.specs.Answer.{line_of};
+ghost use Rattle.gostk.specs.Refusal.{refusal_line};
+ghost use Rattle.gostk.specs.Rows.{Reported};
+
+use crate::answer::Answer;
+use crate::refusal::Refusal;
+use outside::{Piece, Sink, WriteFault, put_bytes, put_line};
+
+/// The status where the line can't be written.
+const WRITE_FAULT: u8 = 204;
+
+/// Writes the answer's line, and gives the status of the answer, or that of a write fault where the line was not
+/// written.
+pub fn report<E: Sink>(answer: &Answer<'_>, err: &mut E) -> u8
+    ensures { Reported answer.now result (E.taken err.old) (E.taken err.new) (E.faults err.old) (E.faults err.new) }
+{
+    match put_answer(answer, err) {
+        Ok(()) => answer.status(),
+        Err(_) => WRITE_FAULT,
+    }
+}
+
+// Writes the answer's line, where it has one.
+fn put_answer<E: Sink>(answer: &Answer<'_>, err: &mut E) -> Result<(), WriteFault>
+    ensures whole { OnOk result (Took (E.taken err.old) (E.taken err.new) (line_of answer.now)) }
+    ensures part { OnErr result (TookPrefix (E.taken err.old) (E.taken err.new) (line_of answer.now)) }
+    ensures cause { HasCause (E.faults err.old) (E.faults err.new) result }
+{
+    match answer {
+        Answer::Done => put_bytes(err, b""),
+        Answer::Words => put_bytes(err, b"gostk: words\n"),
+        Answer::SourceOnly => put_bytes(err, b"gostk: source only\n"),
+        Answer::Refused { file, refusal } => put_refusal(file, refusal, err),
+        Answer::ReadFault => put_bytes(err, b"gostk: read fault\n"),
+        Answer::WriteFault => put_bytes(err, b"gostk: write fault\n"),
+        Answer::NoMemory => put_bytes(err, b"gostk: no memory\n"),
+    }
+}
+
+// Writes the line of a refusal.
+fn put_refusal<E: Sink>(file: &str, refusal: &Refusal, err: &mut E) -> Result<(), WriteFault>
+    ensures whole { OnOk result (Took (E.taken err.old) (E.taken err.new) (refusal_line file.now refusal.now)) }
+    ensures part { OnErr result (TookPrefix (E.taken err.old) (E.taken err.new) (refusal_line file.now refusal.now)) }
+    ensures cause { HasCause (E.faults err.old) (E.faults err.new) result }
+{
+    let file = Piece::Text(file.as_bytes());
+    let colon = Piece::Text(b":");
+    let line = Piece::Number(u64::from(refusal.pos.line));
+    let col = Piece::Number(u64::from(refusal.pos.col));
+    let blank = Piece::Text(b": ");
+    let stage = Piece::Text(refusal.stage.text());
+    let of_kind = Piece::Text(b" kind ");
+    let kind = Piece::Number(u64::from(refusal.kind));
+    let newline = Piece::Text(b"\n");
+    match refusal.words {
+        None => put_line(
+            err,
+            &[
+                file, colon, line, colon, col, blank, stage, of_kind, kind, newline,
+            ],
+        ),
+        Some(words) => {
+            let of_words = Piece::Text(b" words ");
+            let words = Piece::Number(words);
+            put_line(
+                err,
+                &[
+                    file, colon, line, colon, col, blank, stage, of_kind, kind, of_words, words,
+                    newline,
+                ],
+            )
+        }
+    }
+}

@@ -1,0 +1,121 @@
+//! The top call.
+ghost use Rattle.std.specs.Prelude.{◌≡◌, ◌⊎◌, ℕ, List};
+ghost use Rattle.gostk.specs.Words.{texts_of};
+ghost use Rattle.gostk.specs.Rows.{seen, Allowed, Reported, Finished, WordsRefused, TextRefused, ReadFailed, WriteFailed, MemoryRefused, GainedRead, IsWrong, IsMissing, IsUnaccepted, Comes, Completes};
+ghost use Rattle.gostk.specs.declared.answer.Answer.{Answer};
+
+use crate::answer::Answer;
+use crate::compiling::{CompileFault, RunFault, compile, run};
+use crate::reporting::report;
+use crate::words::{is_source_path, path_of_run};
+use outside::{FileFault, Files, Sink, Source};
+use std::alloc::Global;
+
+// Does what the words ask for, and answers what it came to.
+fn carry_out<'a, F: Files, O: Sink>(
+    alloc: Global,
+    words: &'a [String],
+    files: &mut F,
+    out: &mut O,
+) -> Answer<'a>
+    ensures allowed { Allowed
+        (seen (F.content files.old) (F.failed files.old) (O.taken out.old) (O.faults out.old))
+        (seen (F.content files.new) (F.failed files.new) (O.taken out.new) (O.faults out.new))
+        (texts_of words.now) result }
+    ensures contents { (path : List ℕ) → F.content files.new path ≡ F.content files.old path }
+{
+    let Some(file) = path_of_run(words) else {
+        return Answer::Words;
+    };
+    if !is_source_path(file) {
+        return Answer::SourceOnly;
+    }
+    let text = match files.read_all(alloc, file) {
+        Ok(text) => text,
+        Err(FileFault::Failed) => return Answer::ReadFault,
+        Err(FileFault::NoMemory) => return Answer::NoMemory,
+    };
+    let compiled = match compile(alloc, &text) {
+        Ok(compiled) => compiled,
+        Err(CompileFault::NoMemory) => return Answer::NoMemory,
+        Err(CompileFault::Refused(refusal)) => return Answer::Refused { file, refusal },
+    };
+    match run(alloc, &compiled, out) {
+        Ok(()) => Answer::Done,
+        Err(RunFault::WriteFault) => Answer::WriteFault,
+        Err(RunFault::NoMemory) => Answer::NoMemory,
+    }
+}
+
+/// The program: does what the words ask for, with the files, the input and the output that are handed in, writes the
+/// answer's line on `err`, and answers the exit status. The words begin with the program's name.
+///
+/// | Status | When | Line on `err` |
+/// |---|---|---|
+/// | 0 | the text is accepted and ran to its end | none |
+/// | 200 | the words are not those of a `run` | `gostk: words` |
+/// | 200 | the file does not end in `.go` | `gostk: source only` |
+/// | 201 | the text is refused | `FILE:L:C: STAGE kind N`, for a frame that is too large with ` words W` behind it |
+/// | 203 | the file was not read | `gostk: read fault` |
+/// | 204 | `out` or `err` failed | `gostk: write fault`; where `err` failed, a part of the line of another row |
+/// | 209 | memory was refused | `gostk: no memory` |
+pub fn gostk<F: Files, I: Source, O: Sink, E: Sink>(
+    alloc: Global,
+    words: &[String],
+    files: &mut F,
+    input: &mut I,
+    out: &mut O,
+    err: &mut E,
+) -> u8
+    // What came of the call is one row of the table, and is reported as such.
+    ensures answered { (answer : Answer) × Allowed
+        (seen (F.content files.old) (F.failed files.old) (O.taken out.old) (O.faults out.old))
+        (seen (F.content files.new) (F.failed files.new) (O.taken out.new) (O.faults out.new)) (texts_of words.now) answer
+        × Reported answer result (E.taken err.old) (E.taken err.new) (E.faults err.old) (E.faults err.new) }
+
+    // The rows, each by its status.
+    ensures finished { result ≡ 0 → Finished
+        (seen (F.content files.old) (F.failed files.old) (O.taken out.old) (O.faults out.old))
+        (seen (F.content files.new) (F.failed files.new) (O.taken out.new) (O.faults out.new)) (texts_of words.now)
+        (E.taken err.old) (E.taken err.new) }
+    ensures words_refused { result ≡ 200 → WordsRefused
+        (seen (F.content files.old) (F.failed files.old) (O.taken out.old) (O.faults out.old))
+        (seen (F.content files.new) (F.failed files.new) (O.taken out.new) (O.faults out.new)) (texts_of words.now)
+        (E.taken err.old) (E.taken err.new) }
+    ensures text_refused { result ≡ 201 → TextRefused
+        (seen (F.content files.old) (F.failed files.old) (O.taken out.old) (O.faults out.old))
+        (seen (F.content files.new) (F.failed files.new) (O.taken out.new) (O.faults out.new)) (texts_of words.now)
+        (E.taken err.old) (E.taken err.new) }
+    ensures read_failed { result ≡ 203 → ReadFailed
+        (seen (F.content files.old) (F.failed files.old) (O.taken out.old) (O.faults out.old))
+        (seen (F.content files.new) (F.failed files.new) (O.taken out.new) (O.faults out.new)) (texts_of words.now)
+        (E.taken err.old) (E.taken err.new) }
+    ensures write_failed { result ≡ 204 → WriteFailed
+        (seen (F.content files.old) (F.failed files.old) (O.taken out.old) (O.faults out.old))
+        (seen (F.content files.new) (F.failed files.new) (O.taken out.new) (O.faults out.new)) (texts_of words.now)
+        (E.taken err.old) (E.taken err.new) (E.faults err.old) (E.faults err.new) }
+    ensures memory_refused { result ≡ 209 → MemoryRefused
+        (seen (F.content files.old) (F.failed files.old) (O.taken out.old) (O.faults out.old))
+        (seen (F.content files.new) (F.failed files.new) (O.taken out.new) (O.faults out.new)) (texts_of words.now)
+        (E.taken err.old) (E.taken err.new) }
+
+    // Where a row has to come, unless `err` failed.
+    ensures wrong_words { IsWrong (texts_of words.now) → Comes 200 result (E.faults err.old) (E.faults err.new) }
+    ensures missing_file { IsMissing (F.content files.old) (texts_of words.now) →
+        Comes 203 result (E.faults err.old) (E.faults err.new) ⊎ (result ≡ 209) }
+    ensures wrong_text { IsUnaccepted (F.content files.old) (texts_of words.now) →
+        Comes 201 result (E.faults err.old) (E.faults err.new) ⊎ (result ≡ 209) ⊎ GainedRead (F.failed files.old) (F.failed files.new) (texts_of words.now) }
+    ensures right_text { Completes
+        (seen (F.content files.old) (F.failed files.old) (O.taken out.old) (O.faults out.old))
+        (seen (F.content files.new) (F.failed files.new) (O.taken out.new) (O.faults out.new)) (texts_of words.now) result
+        (E.taken err.old) (E.taken err.new) (E.faults err.old) (E.faults err.new) }
+
+    // What is left of the files and the input.
+    ensures contents { (path : List ℕ) → F.content files.new path ≡ F.content files.old path }
+    ensures files { (F.failed files.new ≡ F.failed files.old) ⊎ GainedRead (F.failed files.old) (F.failed files.new) (texts_of words.now) }
+    ensures input { input.new ≡ input.old }
+{
+    let _ = &*input;
+    let answer = carry_out(alloc, words, files, out);
+    report(&answer, err)
+}
