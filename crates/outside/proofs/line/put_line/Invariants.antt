@@ -1,0 +1,10 @@
+use Rattle.std.proofs.Common.{take, ◌≤◌}
+use Rattle.outside.specs.Line.{text_of}
+use Rattle.outside.specs.Took.{Took}
+use Rattle.outside.proofs.line.put_line.Given as goal
+
+abbrev pub invariant-pieces : goal.invariant-pieces
+invariant-pieces g l = record {
+  took : Took (g.S.Sink.taken l.fn.out) (g.S.Sink.taken l.out) (text_of (take l.piece-index l.pieces));
+  later : g.S.Sink.faults l.fn.out ≤ g.S.Sink.faults l.out;
+}
