@@ -30,3 +30,6 @@ pub use put::{put_bytes, put_int, put_number};
 pub use sink::Sink;
 pub use source::Source;
 pub use standard::{StdSink, StdSource};
+
+#[cfg(test)]
+mod tests;
