@@ -20,6 +20,8 @@
 mod emitting;
 mod running;
 mod slots;
+#[cfg(test)]
+mod tests;
 mod values;
 
 pub use emitting::emit;
