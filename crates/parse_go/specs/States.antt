@@ -1,5 +1,5 @@
 -- The states of the code, as those of the machine, and what a step of the code answers.
-use Rattle.std.specs.Prelude.{◌≡◌, ℕ, ◌<◌, ◌≤◌, IsSome, Option, Some, None, Result, Ok, Err}
+use Rattle.std.specs.Prelude.{◌≡◌, ℕ, ◌<◌, ◌≤◌, List, IsSome, Option, Some, None, Result, Ok, Err}
 use Rattle.base.specs.declared.pos.Pos.{Pos}
 use Rattle.parse_go.specs.declared.fault.ParseFault.{ParseFault}
 use Rattle.parse_go.specs.declared.fault.ParseFault.TheVariants as parse_fault
@@ -9,7 +9,8 @@ use Rattle.parse_go.specs.declared.state.Function.{Function as CodeFunction}
 use Rattle.parse_go.specs.declared.state.State.{State as CodeState}
 use Rattle.parse_go.specs.declared.state.State.TheVariants as state
 use Rattle.parse_go.specs.Tree.{ex_of, stms_of}
-use Rattle.parse_go.specs.Grammar.{Function}
+use Rattle.parse_go.specs.declared.terminal.Terminal.{Terminal}
+use Rattle.parse_go.specs.Grammar.{Function, IsProgram}
 use Rattle.parse_go.specs.Frames.{frames_of, head_of}
 use Rattle.parse_go.specs.Machine.{State, at_header, at_statement, at_named, at_operands, at_operand, at_operator, at_stop, at_last, at_end}
 
@@ -47,3 +48,6 @@ abbrev pub fault_at : StepFault → Pos → ParseFault
 fault_at fault.NoMemory place = parse_fault.NoMemory
 fault_at fault.Unexpected place = parse_fault.Unexpected place
 fault_at fault.TooDeep place = parse_fault.TooDeep place
+
+abbrev pub HasOneFunction : List Terminal → Function → Type 0
+HasOneFunction ts f = (other : Function) → IsProgram ts other → f ≡ other
