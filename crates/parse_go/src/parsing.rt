@@ -48,14 +48,11 @@ fn function_of(
     ensures fault { IfErr result (IsFirstFault text.now tokens.now behind) }
 {
     let mut state = State::Header(Stage::Package);
-    let mut place = 0;
-    while place < tokens.len() {
-        let token = tokens[place];
-        match step(alloc, state, terminal_of(text, token)) {
+    for token in tokens {
+        match step(alloc, state, terminal_of(text, *token)) {
             Ok(next) => state = next,
             Err(fault) => return Err(fault_at(fault, token.pos)),
         }
-        place += 1;
     }
     match finish(state) {
         Some(function) => Ok(function),
@@ -74,10 +71,11 @@ pub fn parse(alloc: Global, tokens: &Tokens) -> Result<Tree, ParseFault>
     // The first token with which no text begins, or the first whose nesting passes the limit.
     ensures fault { IfErr result (IsFirstFault tokens.now.text tokens.now.list (pos_at tokens.now.text (length tokens.now.text))) }
 {
-    let function = function_of(alloc, tokens.text(), tokens.list(), tokens.end())?;
-    let text = Vec::from_slice(alloc, tokens.text())?;
+    let text = tokens.text();
+    let function = function_of(alloc, text, tokens.list(), tokens.end())?;
+    let copy = Vec::from_slice(alloc, text)?;
     Ok(Tree {
-        text,
+        text: copy,
         main: function.main,
         body: function.body,
     })
