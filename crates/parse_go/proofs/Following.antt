@@ -1,11 +1,9 @@
 -- What may follow in each state of the machine, and that a step keeps it: reading a terminal divides the texts by it from the left.
-use Rattle.std.proofs.Common.{◌≡◌, ℕ, zero, suc, max, ◌+◌, ◌<◌, ◌≤◌, Bool, true, false, cond, List, [], ◌∷◌, ◌++◌, ◌⊎◌, inl, inr, Option, Some, None, refl, sym, ap, subst, ◌∙◌, append_assoc, arith}
+use Rattle.std.proofs.Common.{◌≡◌, ℕ, suc, max, ◌≤◌, List, [], ◌∷◌, ◌++◌, ◌⊎◌, inl, inr, Option, Some, None, refl, sym, ap, subst, ◌∙◌, append_assoc, arith}
 use Rattle.std.proofs.lemmas.List.{append-nil}
 use Rattle.base.specs.declared.pos.Pos.{Pos}
 use Rattle.parse_go.specs.declared.tree.BinOp.{BinOp}
-use Rattle.parse_go.specs.declared.tree.BinOp.TheVariants.{Add, Sub, Mul}
-use Rattle.parse_go.specs.declared.tree.UnOp.{UnOp}
-use Rattle.parse_go.specs.declared.tree.UnOp.TheVariants.{Negate}
+use Rattle.parse_go.specs.declared.tree.BinOp.TheVariants.{Sub}
 use Rattle.parse_go.specs.declared.tree.Name.{Name}
 use Rattle.parse_go.specs.declared.terminal.Word.{Word}
 use Rattle.parse_go.specs.declared.terminal.Word.TheVariants.{Main, Println}
@@ -13,14 +11,14 @@ use Rattle.parse_go.specs.declared.terminal.Terminal.{Terminal}
 use Rattle.parse_go.specs.declared.terminal.Terminal.TheVariants.{Package, Func, Identifier, Number, Define, Operator, Comma, Semicolon, LeftParen, RightParen, LeftBrace, RightBrace}
 use Rattle.parse_go.specs.declared.state.Stage.{Stage}
 use Rattle.parse_go.specs.declared.state.Stage.TheVariants as stage
-use Rattle.parse_go.specs.Tree.{Ex, number, name, unary, binary, paren, Stm, define, print}
+use Rattle.parse_go.specs.Tree.{Ex, Stm, define, print}
 use Rattle.parse_go.specs.Terminals.{name_at}
 use Rattle.parse_go.specs.Heights.{precedence, height}
 use Rattle.parse_go.specs.Grammar.{ReadsEx, ReadsMore, ReadsOperands, ReadsStm, Body, close, empty, last, next, Function, header, IsMarked, Mark, inside}
 use Rattle.parse_go.specs.Frames.{Frame, prefixed, enclosed, awaiting, Head, defining, printing, head_depth, open_depth}
 use Rattle.parse_go.specs.Machine.{State, at_header, at_statement, at_named, at_operands, at_operand, at_operator, at_stop, at_last, at_end, extended, with_statement, operand, reduce, stop, ends, closes, step, nesting, nesting_at_stop, nesting_at_ends, nesting_at_closes}
-use Rattle.parse_go.proofs.Growth.{tightness, Grows, same, only_same, BeginsOperand, operand_first, operand_some, precedence_small}
-use Rattle.parse_go.proofs.OpenFrames.{Iff, iff_trans, level, Valid, level_small, Close, Have, Wants, Weak, paren_closes, paren_only, none_open, number_read, name_read, minus_read, paren_read, wants_first, operator_read, reduced, IsOpen, IsReduced, reduce_valid}
+use Rattle.parse_go.proofs.Growth.{tightness, operand_first, precedence_small}
+use Rattle.parse_go.proofs.OpenFrames.{Iff, iff_trans, level, Valid, level_small, Have, Wants, Weak, paren_closes, paren_only, none_open, number_read, name_read, minus_read, paren_read, wants_first, operator_read, reduced, IsOpen, reduce_valid}
 
 -- the semicolon behind the function
 abbrev pub the_last : List Mark
@@ -112,14 +110,38 @@ pub from_marked : (ts : List Mark) (f : Function) → IsMarked ts f → FromPack
 from_marked ts f (p, behind, q, m, is, b) = (
   inside (Identifier p Main) 0 ∷ inside Semicolon 0 ∷ inside Func 0 ∷ inside (Identifier (name_at f.main behind) Main) 0 ∷ inside (LeftParen q) 0 ∷ inside RightParen 0 ∷ inside LeftBrace 0 ∷ m,
   is,
-  (p, inside Semicolon 0 ∷ inside Func 0 ∷ inside (Identifier (name_at f.main behind) Main) 0 ∷ inside (LeftParen q) 0 ∷ inside RightParen 0 ∷ inside LeftBrace 0 ∷ m, refl,
-  (inside Func 0 ∷ inside (Identifier (name_at f.main behind) Main) 0 ∷ inside (LeftParen q) 0 ∷ inside RightParen 0 ∷ inside LeftBrace 0 ∷ m, refl,
-  (inside (Identifier (name_at f.main behind) Main) 0 ∷ inside (LeftParen q) 0 ∷ inside RightParen 0 ∷ inside LeftBrace 0 ∷ m, refl,
-  (name_at f.main behind, inside (LeftParen q) 0 ∷ inside RightParen 0 ∷ inside LeftBrace 0 ∷ m, refl,
-  (q, inside RightParen 0 ∷ inside LeftBrace 0 ∷ m, refl,
-  (inside LeftBrace 0 ∷ m, refl,
-  (m, refl,
-  (refl, b)))))))),
+  (
+    p,
+    inside Semicolon 0 ∷ inside Func 0 ∷ inside (Identifier (name_at f.main behind) Main) 0 ∷ inside (LeftParen q) 0 ∷ inside RightParen 0 ∷ inside LeftBrace 0 ∷ m,
+    refl,
+    (
+      inside Func 0 ∷ inside (Identifier (name_at f.main behind) Main) 0 ∷ inside (LeftParen q) 0 ∷ inside RightParen 0 ∷ inside LeftBrace 0 ∷ m,
+      refl,
+      (
+        inside (Identifier (name_at f.main behind) Main) 0 ∷ inside (LeftParen q) 0 ∷ inside RightParen 0 ∷ inside LeftBrace 0 ∷ m,
+        refl,
+        (
+          name_at f.main behind,
+          inside (LeftParen q) 0 ∷ inside RightParen 0 ∷ inside LeftBrace 0 ∷ m,
+          refl,
+          (
+            q,
+            inside RightParen 0 ∷ inside LeftBrace 0 ∷ m,
+            refl,
+            (
+              inside LeftBrace 0 ∷ m,
+              refl,
+              (
+                m,
+                refl,
+                (refl, b),
+              ),
+            ),
+          ),
+        ),
+      ),
+    ),
+  ),
 )
 
 pub to_marked : (ts : List Mark) (f : Function) → FromPackage ts f → IsMarked ts f
@@ -132,16 +154,20 @@ to_marked ts f h =
     let g = e.3 in
     let i = g.2 in
     let k = i.2 in
-    let names : header a.0 d.0 e.0 i.0 ≡ header a.0 (name_at f.main d.0.end) e.0 i.0 = ap (λ (q : Pos). header a.0 (name_at q d.0.end) e.0 i.0) (sym k.0) in
-    (a.0, d.0.end, e.0, i.0,
+    let names : header a.0 d.0 e.0 i.0 ≡ header a.0 (name_at f.main d.0.end) e.0 i.0 = ap (λ (q : Pos). header a.0 (name_at q d.0.end) e.0 i.0) (sym k.0) in (
+      a.0,
+      d.0.end,
+      e.0,
+      i.0,
       h.1 ∙ ap (λ (l : List Mark). inside Package 0 ∷ l)
-        (a.2 ∙ ap (λ (l : List Mark). inside (Identifier a.0 Main) 0 ∷ l)
+          (a.2 ∙ ap (λ (l : List Mark). inside (Identifier a.0 Main) 0 ∷ l)
           (b.1 ∙ ap (λ (l : List Mark). inside Semicolon 0 ∷ l)
-            (c.1 ∙ ap (λ (l : List Mark). inside Func 0 ∷ l)
-              (d.2 ∙ ap (λ (l : List Mark). inside (Identifier d.0 Main) 0 ∷ l)
-                (e.2 ∙ ap (λ (l : List Mark). inside (LeftParen e.0) 0 ∷ l)
-                  (g.1 ∙ ap (λ (l : List Mark). inside RightParen 0 ∷ l) i.1)))))) ∙ names,
-      k.1)
+          (c.1 ∙ ap (λ (l : List Mark). inside Func 0 ∷ l)
+          (d.2 ∙ ap (λ (l : List Mark). inside (Identifier d.0 Main) 0 ∷ l)
+          (e.2 ∙ ap (λ (l : List Mark). inside (LeftParen e.0) 0 ∷ l)
+          (g.1 ∙ ap (λ (l : List Mark). inside RightParen 0 ∷ l) i.1)))))) ∙ names,
+      k.1,
+    )
 
 -- ---- statements
 

@@ -1,17 +1,16 @@
 -- Expressions from left to right: what may follow an operand that was read.
-use Rattle.std.proofs.Common.{◌≡◌, ℕ, suc, max, ◌+◌, ◌<◌, ◌≤◌, List, [], ◌∷◌, ◌++◌, ◌⊎◌, inl, inr, refl, sym, ap, subst, ◌∙◌, arith}
+use Rattle.std.proofs.Common.{◌≡◌, ℕ, suc, max, ◌≤◌, List, [], ◌∷◌, ◌⊎◌, inl, inr, refl, sym, ap, subst, ◌∙◌, arith}
 use Rattle.base.specs.declared.pos.Pos.{Pos}
 use Rattle.parse_go.specs.declared.tree.BinOp.{BinOp}
 use Rattle.parse_go.specs.declared.tree.BinOp.TheVariants.{Add, Sub, Mul}
-use Rattle.parse_go.specs.declared.tree.UnOp.{UnOp}
 use Rattle.parse_go.specs.declared.tree.UnOp.TheVariants.{Negate}
 use Rattle.parse_go.specs.declared.tree.Name.{Name}
 use Rattle.parse_go.specs.declared.terminal.Word.{Word}
 use Rattle.parse_go.specs.declared.terminal.Terminal.{Terminal}
-use Rattle.parse_go.specs.declared.terminal.Terminal.TheVariants.{Package, Func, Identifier, Number, Define, Operator, Comma, Semicolon, LeftParen, RightParen, LeftBrace, RightBrace}
+use Rattle.parse_go.specs.declared.terminal.Terminal.TheVariants.{Identifier, Number, Operator, LeftParen, RightParen}
 use Rattle.parse_go.specs.Tree.{Ex, number, name, unary, binary, paren}
 use Rattle.parse_go.specs.Heights.{precedence, height}
-use Rattle.parse_go.specs.Grammar.{ReadsEx, Mark, inside, prefix_at}
+use Rattle.parse_go.specs.Grammar.{ReadsEx, Mark, inside}
 
 -- how tightly an expression holds together
 abbrev pub tightness : Ex → ℕ

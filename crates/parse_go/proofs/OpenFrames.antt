@@ -1,23 +1,22 @@
 -- What may follow while expressions are open: for each step of the machine, the same texts before and after it.
-use Rattle.std.proofs.Common.{◌≡◌, ℕ, suc, max, ◌+◌, ◌<◌, ◌≤◌, Bool, true, false, cond, leb, List, [], ◌∷◌, ◌++◌, ◌⊎◌, inl, inr, refl, sym, ap, subst, ◌∙◌, arith}
-use Rattle.std.specs.Prelude.{nat_le}
+use Rattle.std.proofs.Common.{◌≡◌, ℕ, suc, max, ◌≤◌, leb, List, [], ◌∷◌, inl, inr, refl, sym, ap, subst, arith}
 use Rattle.std.proofs.lemmas.Bool.{cases_Bool}
 use borrow.Author.Tests.{leb-true, leb-false}
 use Rattle.base.specs.declared.pos.Pos.{Pos}
 use Rattle.parse_go.specs.declared.tree.BinOp.{BinOp}
-use Rattle.parse_go.specs.declared.tree.BinOp.TheVariants.{Add, Sub, Mul}
+use Rattle.parse_go.specs.declared.tree.BinOp.TheVariants.{Sub}
 use Rattle.parse_go.specs.declared.tree.UnOp.{UnOp}
 use Rattle.parse_go.specs.declared.tree.UnOp.TheVariants.{Negate}
 use Rattle.parse_go.specs.declared.tree.Name.{Name}
 use Rattle.parse_go.specs.declared.terminal.Word.{Word}
 use Rattle.parse_go.specs.declared.terminal.Terminal.{Terminal}
-use Rattle.parse_go.specs.declared.terminal.Terminal.TheVariants.{Package, Func, Identifier, Number, Define, Operator, Comma, Semicolon, LeftParen, RightParen, LeftBrace, RightBrace}
+use Rattle.parse_go.specs.declared.terminal.Terminal.TheVariants.{Identifier, Number, Operator, LeftParen, RightParen}
 use Rattle.parse_go.specs.Tree.{Ex, number, name, unary, binary, paren}
 use Rattle.parse_go.specs.Heights.{precedence, height}
-use Rattle.parse_go.specs.Grammar.{ReadsEx, Mark, inside, prefix_at}
+use Rattle.parse_go.specs.Grammar.{ReadsEx, Mark, inside}
 use Rattle.parse_go.specs.Frames.{Frame, prefixed, enclosed, awaiting, open_depth}
 use Rattle.parse_go.specs.Machine.{reduce}
-use Rattle.parse_go.proofs.Growth.{tightness, Grows, same, more, precedence_small, from_number, from_name, from_prefix, from_paren, BeginsOperand, operand_first, operand_some, grown_reads, grown_from, next_operator, operator_back, only_same, operator_mark}
+use Rattle.parse_go.proofs.Growth.{tightness, Grows, same, precedence_small, from_number, from_name, from_prefix, from_paren, BeginsOperand, operand_first, grown_reads, next_operator, operator_back, only_same}
 
 abbrev pub Iff : Type 0 → Type 0 → Type 0
 Iff A B = (A → B) × (B → A)

@@ -1,7 +1,6 @@
 -- From runs over terminals to faults at the places of tokens.
 use Rattle.std.proofs.Common.{◌≡◌, ℕ, zero, suc, ◌+◌, ◌<◌, ◌≤◌, List, [], ◌∷◌, ◌++◌, length, take, get_or, Option, Some, None, refl, sym, ap, subst, ◌∙◌, arith}
-use Rattle.std.specs.Prelude.{map, IsSome, Result, Ok, Err, IsErrAnd}
-use Rattle.std.specs.Global.{Vec}
+use Rattle.std.specs.Prelude.{IsSome, Result, Ok, Err, IsErrAnd}
 use Rattle.std.proofs.lemmas.List.{take_more, length-map}
 use Rattle.std.proofs.Math.ListN.{get_or-map}
 use Rattle.base.specs.declared.pos.Pos.{Pos}
@@ -12,13 +11,12 @@ use Rattle.parse_go.specs.declared.fault.StepFault.{StepFault}
 use Rattle.parse_go.specs.declared.fault.StepFault.TheVariants as step_fault
 use Rattle.parse_go.specs.declared.fault.ParseFault.{ParseFault}
 use Rattle.parse_go.specs.declared.fault.ParseFault.TheVariants as fault
-use Rattle.parse_go.specs.declared.state.Function.{Function as CodeFunction}
-use Rattle.parse_go.specs.Tree.{Syntax, syntax_of}
+use Rattle.parse_go.specs.Tree.{Syntax}
 use Rattle.parse_go.specs.Terminals.{terminal_of, terminals_of}
 use Rattle.parse_go.specs.Grammar.{Function, function_of, IsProgram, IsText}
-use Rattle.parse_go.specs.Faults.{IsUnexpected, IsTooDeep, IsFirstFault, place_in, GivesTree}
+use Rattle.parse_go.specs.Faults.{IsTooDeep, IsFirstFault, place_in, GivesTree}
 use Rattle.parse_go.specs.Machine.{State, at_end, step, nesting}
-use Rattle.parse_go.specs.States.{function_in, FailsStep, fault_at, HasOneFunction}
+use Rattle.parse_go.specs.States.{FailsStep, fault_at, HasOneFunction}
 use Rattle.parse_go.proofs.Runs.{ReachedAt, more_read, stopped, too_deep, ended, found_program, found_only, unexpected_none, deep_none}
 
 place_more : (tokens : List Token) (behind : Pos) (i : ℕ) (d : Token) → i < length tokens → (get_or tokens i d).pos ≡ place_in tokens behind i

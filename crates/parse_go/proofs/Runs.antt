@@ -1,18 +1,13 @@
 -- Runs of the machine over the terminals that were read so far, with their nestings.
-use Rattle.std.proofs.Common.{◌≡◌, ℕ, zero, suc, ◌+◌, ◌<◌, ◌≤◌, List, [], ◌∷◌, ◌++◌, length, take, drop, get_or, Option, Some, None, inl, inr, refl, sym, ap, subst, ◌∙◌, append_assoc, arith}
-use Rattle.std.specs.Prelude.{map, IsSome, Result, Ok, Err, IfOk, IfErr}
-use Rattle.std.proofs.lemmas.List.{append-nil, take_more, take_all, take-append-drop, take_at, map-append, length-map}
+use Rattle.std.proofs.Common.{◌≡◌, ℕ, zero, suc, ◌+◌, ◌<◌, ◌≤◌, List, [], ◌∷◌, ◌++◌, length, take, drop, Option, Some, None, inl, inr, refl, sym, ap, subst, ◌∙◌, append_assoc, arith}
+use Rattle.std.proofs.lemmas.List.{append-nil, take_all, take-append-drop, take_at, map-append, length-map}
 use Rattle.std.proofs.lemmas.Bool.{cases_lt}
-use Rattle.base.specs.declared.pos.Pos.{Pos}
 use Rattle.parse_go.specs.declared.terminal.Terminal.{Terminal}
 use Rattle.parse_go.specs.declared.state.Stage.TheVariants as stage
-use Rattle.parse_go.specs.declared.fault.StepFault.{StepFault}
-use Rattle.parse_go.specs.declared.fault.StepFault.TheVariants as step_fault
 use Rattle.parse_go.specs.Grammar.{Mark, inside, terminal_in, nesting_of, terminals_in, Function, IsMarked, IsShallow, IsProgram}
 use Rattle.parse_go.specs.Faults.{Begins, InEachText, IsUnexpected, LastIsDeep, IsTooDeep}
 use Rattle.parse_go.specs.Machine.{State, at_header, at_end, step, nesting}
-use Rattle.parse_go.specs.States.{FailsStep, HasOneFunction}
-use Rattle.parse_go.proofs.OpenFrames.{Iff}
+use Rattle.parse_go.specs.States.{HasOneFunction}
 use Rattle.parse_go.proofs.Following.{Rest, Follows, ValidState, ValidNext, from_marked, to_marked, quotient}
 use Rattle.parse_go.proofs.Viable.{valid_step, viable, unfinished}
 

@@ -1,11 +1,8 @@
 -- What each state keeps, that some text follows in each of them, and that no text ends before the last one.
-use Rattle.std.proofs.Common.{◌≡◌, ℕ, zero, suc, max, ◌+◌, ◌<◌, ◌≤◌, Bool, true, false, cond, List, [], ◌∷◌, ◌++◌, ◌⊎◌, inl, inr, Option, Some, None, refl, sym, ap, subst, ◌∙◌, append_assoc, arith}
-use Rattle.std.proofs.lemmas.List.{append-nil}
+use Rattle.std.proofs.Common.{◌≡◌, ℕ, ◌≤◌, List, [], ◌∷◌, ◌++◌, refl, subst, ◌∙◌, arith}
 use Rattle.base.specs.declared.pos.Pos.{Pos}
 use Rattle.parse_go.specs.declared.tree.BinOp.{BinOp}
-use Rattle.parse_go.specs.declared.tree.BinOp.TheVariants.{Add, Sub, Mul}
-use Rattle.parse_go.specs.declared.tree.UnOp.{UnOp}
-use Rattle.parse_go.specs.declared.tree.UnOp.TheVariants.{Negate}
+use Rattle.parse_go.specs.declared.tree.BinOp.TheVariants.{Sub}
 use Rattle.parse_go.specs.declared.tree.Name.{Name}
 use Rattle.parse_go.specs.declared.terminal.Word.{Word}
 use Rattle.parse_go.specs.declared.terminal.Word.TheVariants.{Main, Println}
@@ -13,15 +10,15 @@ use Rattle.parse_go.specs.declared.terminal.Terminal.{Terminal}
 use Rattle.parse_go.specs.declared.terminal.Terminal.TheVariants.{Package, Func, Identifier, Number, Define, Operator, Comma, Semicolon, LeftParen, RightParen, LeftBrace, RightBrace}
 use Rattle.parse_go.specs.declared.state.Stage.{Stage}
 use Rattle.parse_go.specs.declared.state.Stage.TheVariants as stage
-use Rattle.parse_go.specs.Tree.{Ex, number, name, unary, binary, paren, Stm, define, print}
+use Rattle.parse_go.specs.Tree.{Ex, number, unary, binary, paren, Stm, define, print}
 use Rattle.parse_go.specs.Terminals.{name_at}
-use Rattle.parse_go.specs.Heights.{precedence, height}
-use Rattle.parse_go.specs.Grammar.{ReadsEx, ReadsMore, ReadsOperands, ReadsStm, Body, close, empty, last, next, Function, header, IsMarked, Mark, inside}
+use Rattle.parse_go.specs.Heights.{precedence}
+use Rattle.parse_go.specs.Grammar.{ReadsMore, ReadsOperands, ReadsStm, Body, close, last, next, Function, Mark, inside}
 use Rattle.parse_go.specs.Frames.{Frame, prefixed, enclosed, awaiting, Head, defining, printing, head_depth, open_depth}
-use Rattle.parse_go.specs.Machine.{State, at_header, at_statement, at_named, at_operands, at_operand, at_operator, at_stop, at_last, at_end, extended, with_statement, operand, reduce, stop, ends, closes, step, nesting, nesting_at_stop, nesting_at_ends, nesting_at_closes}
-use Rattle.parse_go.proofs.Growth.{tightness, Grows, same, only_same, BeginsOperand, operand_first, operand_some, precedence_small}
-use Rattle.parse_go.proofs.OpenFrames.{Iff, iff_trans, level, Valid, level_small, Close, Have, Wants, Weak, paren_closes, paren_only, none_open, number_read, name_read, minus_read, paren_read, wants_first, operator_read, reduced, IsOpen, IsReduced, reduce_valid}
-use Rattle.parse_go.proofs.Following.{the_last, FromBody, FromBrace, FromClose, FromOpen, FromFuncName, FromFunc, FromPackageEnd, FromPackageName, FromPackage, FromStage, Tail, brace, semi, BehindStm, Ends, Rest, Follows, ValidState, ValidNext}
+use Rattle.parse_go.specs.Machine.{State, at_header, at_statement, at_named, at_operands, at_operand, at_operator, at_stop, at_last, at_end, extended, with_statement, operand, reduce, stop, ends, closes, step}
+use Rattle.parse_go.proofs.Growth.{tightness, Grows, same, only_same, operand_some, precedence_small}
+use Rattle.parse_go.proofs.OpenFrames.{level, Valid, level_small, Close, reduce_valid}
+use Rattle.parse_go.proofs.Following.{the_last, FromBrace, FromClose, FromOpen, FromFuncName, FromFunc, FromPackageEnd, FromPackageName, FromStage, Tail, brace, Ends, Rest, ValidState, ValidNext}
 
 -- ---- what each state keeps
 

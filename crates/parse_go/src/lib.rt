@@ -32,3 +32,6 @@ mod tree;
 pub use fault::ParseFault;
 pub use parsing::parse;
 pub use tree::{BinOp, Expr, Name, Stmt, Tree, UnOp};
+
+#[cfg(test)]
+mod tests;

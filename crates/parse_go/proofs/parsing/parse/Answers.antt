@@ -1,5 +1,4 @@
-use Rattle.std.proofs.Common.{ℕ, rules}
-use Rattle.parse_go.specs.Tree.{syntax_of, stms_of}
+use Rattle.parse_go.specs.Tree.{stms_of}
 use Rattle.parse_go.proofs.Places.{fault_only, tree_only}
 use Rattle.parse_go.proofs.parsing.parse.Goals as goal
 
