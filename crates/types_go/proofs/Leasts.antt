@@ -1,5 +1,5 @@
 -- The least of two sets of faults.
-use Rattle.std.proofs.Common.{◌≡◌, ℕ, ◌<◌, ◌≤◌, Bool, true, false, cond, ltb, leb, eqb, ◌⊎◌, inl, inr, Option, Some, None, refl, sym, arith}
+use Rattle.std.proofs.Common.{◌≡◌, Bool, true, false, cond, ltb, leb, eqb, ◌⊎◌, inl, inr, Option, Some, None, refl, sym, arith}
 use Rattle.std.specs.Prelude.{◌||◌, ◌&&◌}
 use Rattle.std.proofs.lemmas.Bool.{cases_Bool, ltb-true, ltb-false, eqb-true, eqb-false, leb-true, leb-false}
 use Rattle.types_go.specs.declared.fault.Fault.{Fault}
@@ -107,3 +107,12 @@ least_sound P Q (Some f) least into = into f least.0
 pub is_least : (P : Fault → Type 0) (b : Option Fault) → Sound P b → ((g : Fault) → P g → Covers b g) → IsLeast P b
 is_least P None sound covers = covers
 is_least P (Some f) sound covers = (sound, covers)
+
+lesser_if : (f g : Fault) (t : Bool) → cond t (Some f) (Some g) ≡ None → ⊥
+lesser_if f g true e = let bad : None ≡ Some f = sym e in cc
+lesser_if f g false e = let bad : None ≡ Some g = sym e in cc
+
+pub lesser_none : (a b : Option Fault) → lesser a b ≡ None → (a ≡ None) × (b ≡ None)
+lesser_none None b e = (refl, e)
+lesser_none (Some f) None e = let bad : None ≡ Some f = sym e in absurd cc
+lesser_none (Some f) (Some g) e = absurd (lesser_if f g (is_before f g) e)

@@ -1,11 +1,11 @@
 -- What the pass works out of the parts of an expression is the least of the rules that fail.
-use Rattle.std.proofs.Common.{◌≡◌, ℕ, ◌<◌, ◌≤◌, ℤ, Bool, true, false, cond, List, ◌⊎◌, inl, inr, Option, Some, None, Result, Ok, Err, refl, sym, ap, ◌∙◌, subst, arith}
+use Rattle.std.proofs.Common.{◌≡◌, ℕ, ℤ, Bool, true, false, cond, List, ◌⊎◌, inr, Option, Some, None, Result, Ok, Err, refl, sym, ap, subst, arith}
 use Rattle.base.specs.declared.pos.Pos.{Pos}
 use Rattle.parse_go.specs.declared.tree.BinOp.{BinOp}
 use Rattle.parse_go.specs.declared.tree.UnOp.{UnOp}
 use Rattle.parse_go.specs.Tree.{Ex as TreeEx, unary, binary}
 use Rattle.names.specs.declared.constants.Const.{Const}
-use Rattle.names.specs.declared.constants.Const.TheVariants.{Int, NoConst}
+use Rattle.names.specs.declared.constants.Const.TheVariants.{Int}
 use Rattle.names.specs.declared.constants.ConstFault.{ConstFault}
 use Rattle.names.specs.declared.constants.ConstFault.TheVariants.{Overflow, NotConstant}
 use Rattle.names.specs.Constants.{folded, folded_one}

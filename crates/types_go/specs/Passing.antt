@@ -1,5 +1,5 @@
 -- What the checker's pass works out of what it knows of the parts.
-use Rattle.std.specs.Prelude.{ℕ, ◌^◌, ℤ, pos, Bool, nat_lt, Option, Some, None, Result, Ok, Err, if◌then◌else◌, option_and_then}
+use Rattle.std.specs.Prelude.{ℕ, ◌^◌, pos, Bool, List, [], ◌∷◌, ◌++◌, nat_lt, Option, Some, None, Result, Ok, Err, if◌then◌else◌, option_and_then}
 use Rattle.base.specs.declared.pos.Pos.{Pos}
 use Rattle.parse_go.specs.declared.tree.BinOp.{BinOp}
 use Rattle.parse_go.specs.declared.tree.UnOp.{UnOp}
@@ -63,3 +63,13 @@ undeclared_fault at (Some d) = None
 
 abbrev pub name_fault : Pos → Bool → Option Declared → Option Fault
 name_fault at reserved d = if reserved then Some (fault OutOfProfile at) else undeclared_fault at d
+
+-- one more operand, where all are some
+abbrev pub with_last : {A : Type 0} → Option (List A) → Option A → Option (List A)
+with_last (Some xs) (Some x) = Some (xs ++ x ∷ [])
+with_last xs x = None
+
+-- one more, where there is one
+abbrev pub with_some : {A : Type 0} → List A → Option A → List A
+with_some xs None = xs
+with_some xs (Some x) = xs ++ x ∷ []

@@ -1,9 +1,7 @@
 -- What the names of a program stand for, where a statement begins (Go specification, "Declarations and scope").
-use Rattle.std.specs.Prelude.{ℕ, ◌+◌, Bool, true, false, List, [], ◌∷◌, ◌++◌, length, slice_get, Option, None, Some, option_and_then, is_some}
-use Rattle.std.specs.Str.{bytes_eq}
+use Rattle.std.specs.Prelude.{ℕ, ◌+◌, Bool, List, [], ◌∷◌, ◌++◌, length, slice_get, Option, option_and_then, is_some}
 use Rattle.names.specs.Blocks.{Blocks, lookup, innermost, insert}
 use Rattle.types_go.specs.declared.scope.Declared.{Declared}
-use Rattle.types_go.specs.declared.scope.Declared.TheVariants.{Variable, Untyped}
 use Rattle.types_go.specs.declared.scope.Scope.{Scope as ScopeData}
 
 -- the blocks that are open, which number the declarations; the declarations; and how many variables have a site

@@ -1,14 +1,13 @@
 -- The typed program that the rules of the language give a tree (Go specification, "Constant expressions", "Arithmetic operators",
 -- "Short variable declarations", "Bootstrapping").
-use Rattle.std.specs.Prelude.{ℕ, ◌+◌, ◌-◌, ◌^◌, ℤ, pos, negsuc, Bool, true, false, not, ◌&&◌, List, [], ◌∷◌, Option, Some, None, Result, Ok, Err, option_and_then, nat_lt, int_le, if◌then◌else◌}
+use Rattle.std.specs.Prelude.{ℕ, ◌-◌, ◌^◌, ℤ, pos, negsuc, Bool, true, not, ◌&&◌, List, [], ◌∷◌, Option, Some, None, Result, Ok, Err, option_and_then, nat_lt, int_le, if◌then◌else◌}
 use Rattle.std.specs.Option.{option_map}
 use Rattle.base.specs.declared.pos.Pos.{Pos}
 use Rattle.parse_go.specs.declared.tree.BinOp.{BinOp}
 use Rattle.parse_go.specs.declared.tree.BinOp.TheVariants as tree_op
 use Rattle.parse_go.specs.declared.tree.UnOp.{UnOp}
 use Rattle.parse_go.specs.declared.tree.UnOp.TheVariants as tree_prefix
-use Rattle.parse_go.specs.declared.tree.Name.{Name}
-use Rattle.parse_go.specs.Tree.{Ex as TreeEx, number, name, unary, binary, paren, Stm, define, print as print_line, Syntax, spelled}
+use Rattle.parse_go.specs.Tree.{Ex as TreeEx, number, name, unary, binary, paren, Stm, define, print as print_line, spelled}
 use Rattle.typed.specs.declared.operators.BinOp.{BinOp as TypedOp}
 use Rattle.typed.specs.declared.operators.BinOp.TheVariants as op
 use Rattle.typed.specs.declared.operators.UnOp.{UnOp as TypedPrefix}
@@ -19,11 +18,11 @@ use Rattle.typed.specs.Syntax as typed
 use Rattle.names.specs.declared.constants.Const.{Const}
 use Rattle.names.specs.declared.constants.Const.TheVariants.{Int, NoConst}
 use Rattle.names.specs.declared.constants.ConstFault.{ConstFault}
-use Rattle.names.specs.Constants.{folded, folded_one, in_range}
+use Rattle.names.specs.Constants.{folded, folded_one}
 use Rattle.types_go.specs.declared.scope.Declared.{Declared}
 use Rattle.types_go.specs.declared.scope.Declared.TheVariants.{Variable, Untyped}
 use Rattle.types_go.specs.Profile.{is_reserved}
-use Rattle.types_go.specs.Scope.{Scope, declaration, is_here, with_declaration, with_site, beginning}
+use Rattle.types_go.specs.Scope.{Scope, declaration, is_here, with_declaration, with_site}
 
 -- what an expression gives: an untyped constant with its exact value, or an int
 pub data Operand : Type 0 where
@@ -80,6 +79,15 @@ abbrev pub combined : Pos → BinOp → Operand → Operand → Option Operand
 combined at op (untyped y) (untyped z) = constant_of (folded op (Int y) (Int z))
 combined at op a b = both_ints at op (as_int a) (as_int b)
 
+-- whether a statement may declare this name
+abbrev pub may_declare : Scope → List ℕ → Bool
+may_declare s n = not (is_reserved n) && not (is_here s n)
+
+-- a variable whose value has no type is declared all the same, without one
+abbrev pub declared_by : Scope → List ℕ → Option Ex → Scope
+declared_by s n (Some x) = with_site (with_declaration s n (Variable (record { 0 = s.sites })))
+declared_by s n None = with_declaration s n Untyped
+
 module _ (text : List ℕ) where
   -- what an expression gives in a scope, where no rule fails in it
   abbrev pub operand : Scope → TreeEx → Option Operand
@@ -98,18 +106,9 @@ module _ (text : List ℕ) where
   pieces s [] = Some []
   pieces s (e ∷ es) = option_and_then (λ x. option_map (λ ps. shown x ∷ ps) (pieces s es)) (int_of s e)
 
-  -- whether a statement may declare this name
-  abbrev pub may_declare : Scope → List ℕ → Bool
-  may_declare s n = not (is_reserved n) && not (is_here s n)
-
   abbrev pub statement : Scope → Stm → Option St
   statement s (define n at e) = if may_declare s (spelled text n) then option_map (λ x. assign (new s.sites ∷ []) (more x none)) (int_of s e) else None
   statement s (print_line at es) = option_map (print true) (pieces s es)
-
-  -- a variable whose value has no type is declared all the same, without one
-  abbrev pub declared_by : Scope → List ℕ → Option Ex → Scope
-  declared_by s n (Some x) = with_site (with_declaration s n (Variable (record { 0 = s.sites })))
-  declared_by s n None = with_declaration s n Untyped
 
   -- the scope behind a statement
   abbrev pub behind : Scope → Stm → Scope
@@ -119,8 +118,3 @@ module _ (text : List ℕ) where
   abbrev pub statements : Scope → List Stm → Option Sts
   statements s [] = Some done
   statements s (m ∷ ms) = option_and_then (λ t. option_map (next t) (statements (behind s m) ms)) (statement s m)
-
-  -- how many variables the statements declare
-  abbrev pub sites_behind : Scope → List Stm → ℕ
-  sites_behind s [] = s.sites
-  sites_behind s (m ∷ ms) = sites_behind (behind s m) ms

@@ -34,7 +34,9 @@ pub fn spelled(text: &[u8], name: Name) -> &[u8]
 {
     let start = text.len().min(name.pos.offset as usize);
     let rest = &text[start..];
-    let long = rest.len().min(name.end.saturating_sub(name.pos.offset) as usize);
+    let long = rest
+        .len()
+        .min(name.end.saturating_sub(name.pos.offset) as usize);
     &rest[..long]
 }
 
@@ -138,7 +140,12 @@ fn constant(pos: Pos, value: Result<Const, ConstFault>) -> Checked
 }
 
 /// A prefix on what its operand gives.
-fn under_prefix(alloc: Global, pos: Pos, op: UnOp, operand: Option<Operand>) -> Result<Checked, NoMemory>
+fn under_prefix(
+    alloc: Global,
+    pos: Pos,
+    op: UnOp,
+    operand: Option<Operand>,
+) -> Result<Checked, NoMemory>
     ensures pos { IfOk result (λ c. c.pos ≡ pos) }
     ensures operand { IfOk result (λ c. option_map operand_of c.operand ≡ option_and_then (prefixed op) (option_map operand_of operand)) }
     ensures fault { IfOk result (λ c. c.fault ≡ prefix_fault pos op (option_map operand_of operand)) }
@@ -162,7 +169,13 @@ fn under_prefix(alloc: Global, pos: Pos, op: UnOp, operand: Option<Operand>) -> 
 }
 
 /// An operator on two ints.
-fn int_pair(alloc: Global, pos: Pos, op: BinOp, left: Operand, right: Operand) -> Result<Option<Operand>, NoMemory>
+fn int_pair(
+    alloc: Global,
+    pos: Pos,
+    op: BinOp,
+    left: Operand,
+    right: Operand,
+) -> Result<Option<Operand>, NoMemory>
     ensures { IfOk result (λ o. option_map operand_of o ≡ both_ints pos op (as_int (operand_of left)) (as_int (operand_of right))) }
 {
     match (as_int(left), as_int(right)) {
@@ -180,7 +193,10 @@ fn between(op: BinOp, pos: Pos, right_pos: Pos, left: &Operand, right: &Operand)
     ensures { result ≡ pair_fault pos right_pos op (Some (operand_of left.now)) (Some (operand_of right.now)) }
 {
     match (left, right) {
-        (Operand::Untyped(y), Operand::Untyped(z)) => constant(pos, fold(op, Const::Int(*y), Const::Int(*z))).fault,
+        (Operand::Untyped(y), Operand::Untyped(z)) => constant(
+            pos,
+            fold(op, Const::Int(*y), Const::Int(*z)),
+        ).fault,
         (Operand::Untyped(y), Operand::Value(_)) => range_fault(pos, *y),
         (Operand::Value(_), Operand::Untyped(z)) => range_fault(right_pos, *z),
         (Operand::Value(_), Operand::Value(_)) => None,
@@ -188,11 +204,19 @@ fn between(op: BinOp, pos: Pos, right_pos: Pos, left: &Operand, right: &Operand)
 }
 
 /// What two operands that give something give together.
-fn combined(alloc: Global, op: BinOp, pos: Pos, left: Operand, right: Operand) -> Result<Option<Operand>, NoMemory>
+fn combined(
+    alloc: Global,
+    op: BinOp,
+    pos: Pos,
+    left: Operand,
+    right: Operand,
+) -> Result<Option<Operand>, NoMemory>
     ensures { IfOk result (λ o. option_map operand_of o ≡ combined pos op (operand_of left) (operand_of right)) }
 {
     match (left, right) {
-        (Operand::Untyped(y), Operand::Untyped(z)) => Ok(constant(pos, fold(op, Const::Int(y), Const::Int(z))).operand),
+        (Operand::Untyped(y), Operand::Untyped(z)) => Ok(
+            constant(pos, fold(op, Const::Int(y), Const::Int(z))).operand,
+        ),
         (left, right) => int_pair(alloc, pos, op, left, right),
     }
 }

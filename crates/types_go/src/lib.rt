@@ -1,12 +1,13 @@
 //! The types.
 #![tactic(auto)]
 
+mod checking;
 mod expressions;
 mod fault;
 mod operand;
 mod profile;
 mod scope;
+mod statements;
 
-pub use operand::Operand;
-pub use scope::{Declared, Scope};
+pub use checking::check;
 pub use fault::{Fault, FaultKind, TypeFault, lesser};

@@ -1,6 +1,6 @@
 //! What expressions give.
 
-ghost use Rattle.std.specs.Prelude.{◌≡◌, Option, Some, None, if◌then◌else◌};
+ghost use Rattle.std.specs.Prelude.{◌≡◌, Option, Some, None, if◌then◌else◌, option_and_then};
 ghost use Rattle.std.specs.Option.{option_map};
 ghost use Rattle.typed.specs.View.{ex_of};
 ghost use Rattle.types_go.specs.Typing.{as_int, is_int, untyped};
@@ -38,6 +38,16 @@ pub fn as_int(operand: Operand) -> Option<Expr>
             None => None,
         },
         Operand::Value(e) => Some(e),
+    }
+}
+
+/// The int of an operand that may have failed.
+pub fn int_of(operand: Option<Operand>) -> Option<Expr>
+    ensures { option_map ex_of result ≡ option_and_then as_int (option_map operand_of operand) }
+{
+    match operand {
+        Some(operand) => as_int(operand),
+        None => None,
     }
 }
 

@@ -1,12 +1,12 @@
-use Rattle.std.proofs.Common.{◌≡◌, Option, subst, ◌∙◌, ap}
+use Rattle.std.proofs.Common.{◌≡◌, subst}
 use Rattle.std.specs.Option.{option_map}
 use Rattle.parse_go.specs.declared.tree.Expr.{Expr}
 use Rattle.parse_go.specs.Tree.{ex_of}
-use Rattle.types_go.specs.Least.{IsLeast, lesser}
+use Rattle.types_go.specs.Least.{IsLeast}
 use Rattle.types_go.specs.Scope.{scope_of}
-use Rattle.types_go.specs.Typing.{Operand, operand, first_byte}
+use Rattle.types_go.specs.Typing.{operand, first_byte}
 use Rattle.types_go.specs.Faults.{Fails}
-use Rattle.types_go.specs.Passing.{operand_of, prefix_fault, pair_fault}
+use Rattle.types_go.specs.Passing.{operand_of}
 use Rattle.types_go.proofs.Parts.{unary_least, binary_least}
 use Rattle.types_go.proofs.expressions.+check_expr.Goals as goal
 
