@@ -4,7 +4,7 @@ use Rattle.std.specs.Prelude.{option_and_then, nat_lt}
 use Rattle.std.specs.Int.{w64}
 use Rattle.std.specs.Int.RustNames.{FitsSigned}
 use Rattle.std.specs.Option.{option_map}
-use Rattle.std.proofs.lemmas.Int.{to_z-of_z, ints}
+use Rattle.std.proofs.lemmas.Int.{ints}
 use Rattle.base.specs.declared.pos.Pos.{Pos}
 use Rattle.parse_go.specs.declared.tree.BinOp.{BinOp}
 use Rattle.parse_go.specs.declared.tree.UnOp.{UnOp}
@@ -24,7 +24,7 @@ use Rattle.types_go.specs.Checked.{places_of}
 use Rattle.types_go.proofs.Complete.{HasSite, IsSettled, and_then_some, map_some, none_some, declared_has_site, define_some, behind_define, settled_behind}
 
 is_word : (z : ℤ) → is_int z ≡ true → IsWord (int z)
-is_word z h = let fits : FitsSigned w64 z = grind (arith, ints) in to_z-of_z w64 z fits
+is_word z h = grind (arith, ints)
 
 abbrev OperandFits : ℕ → Operand → Type 0
 OperandFits m (untyped z) = Unit {0}
