@@ -1,12 +1,12 @@
 -- Tables of names in memory, as lists of names with their numbers.
-use Rattle.std.proofs.Common.{◌≡◌, ℕ, Bool, true, false, cond, List, [], ◌∷◌, ◌++◌, Option, Some, None, refl, ap, sym, ◌∙◌, subst, Vec, map, ◌+◌, ◌<◌, length, take, get_or}
+use Rattle.std.proofs.Common.{◌≡◌, ℕ, Bool, true, false, cond, List, [], ◌∷◌, ◌++◌, Option, Some, None, refl, ap, sym, ◌∙◌, map, ◌+◌, ◌<◌, length, take, get_or}
 use Rattle.std.specs.Global.{Vec as Bytes}
 use Rattle.std.specs.Str.{bytes_eq}
 use Rattle.std.specs.Map.{lookup as first_value}
 use Rattle.std.specs.Prelude.{reverse}
 use Rattle.std.proofs.lemmas.List.{map-append, reverse-append, take_more}
 use Rattle.indexmap.specs.IndexMap.{insert_entry}
-use Rattle.names.specs.Blocks.{Table, Names, Blocks, entry_of, names_of, with_entry, lookup, outer_of, or_else}
+use Rattle.names.specs.Blocks.{Table, entry_of, names_of, with_entry, lookup, outer_of, or_else}
 
 -- an entry in memory, as a name with its number
 abbrev entry : Bytes ℕ × ℕ → List ℕ × ℕ

@@ -33,3 +33,8 @@ folded op a b = Err NotConstant
 abbrev pub folded_one : UnOp → Const → Result Const ConstFault
 folded_one op (Int x) = kept (exact_one op x)
 folded_one op NoConst = Err NotConstant
+
+-- the number of a fault
+abbrev pub fault_number : ConstFault → ℕ
+fault_number Overflow = 1
+fault_number NotConstant = 4

@@ -1,7 +1,8 @@
 //! Blocks of names inside each other.
 
 ghost use Rattle.std.specs.Prelude.{◌≡◌, ◌<◌, [], ◌∷◌, length, OnOk, OnErr};
-ghost use Rattle.std.specs.Prelude.{reverse, map};
+ghost use Rattle.std.specs.Prelude.{reverse, map, ℕ, List, Some, if◌then◌else◌};
+ghost use Rattle.std.specs.Str.{bytes_eq};
 ghost use Rattle.names.specs.Blocks.{lookup, innermost, insert, names_of, entry_of, outer_of};
 
 use base::NoMemory;
@@ -43,10 +44,14 @@ impl Block {
     /// Opens a block inside the innermost one.
     pub fn open(&mut self) -> Result<(), NoMemory>
         ensures opened { OnOk result (self.new ≡ [] ∷ self.old) }
+
+        // One block is open at least, so that the new one can be closed.
+        ensures outer { 0 < length self.old }
         ensures same { OnErr result (self.new ≡ self.old) }
     {
         self.outer.reserve(1)?;
         let around = std::mem::replace(&mut self.innermost, IndexMap::new(self.alloc));
+        // Room is reserved, so that this cannot fail.
         let kept = self.outer.push(around);
         prove!(kept.is_ok());
         let _ = kept;
@@ -66,6 +71,10 @@ impl Block {
     /// Gives a name of the innermost block a number, in place of the one that it had there.
     pub fn insert(&mut self, name: &[u8], entry: u32) -> Result<(), NoMemory>
         ensures inserted { OnOk result (self.new ≡ insert self.old name.now entry) }
+
+        // The name then stands for this number, and every other name for what it stood for.
+        ensures last { OnOk result ((other : List ℕ) → lookup self.new other
+            ≡ (if bytes_eq other name.now then Some entry else lookup self.old other)) }
         ensures same { OnErr result (self.new ≡ self.old) }
     {
         let key = Vec::from_slice(self.alloc, name)?;

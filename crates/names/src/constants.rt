@@ -6,7 +6,8 @@ ghost use Rattle.names.specs.Constants.{folded, folded_one};
 use parse_go::{BinOp, UnOp};
 use thiserror::Error;
 
-/// The value of a constant expression.
+/// The value of a constant expression: a whole number from -2^127 to 2^127 - 1, or none where the expression is not
+/// constant.
 #[derive(Clone, Copy, Debug, PartialEq, Eq)]
 pub enum Const {
     Int(i128),
@@ -16,13 +17,28 @@ pub enum Const {
 /// Why a constant expression has no value.
 #[derive(Clone, Copy, Debug, PartialEq, Eq, Error)]
 pub enum ConstFault {
-    #[error("a constant leaves 128 bits")]
+    #[error("the result lies outside of 128 bits")]
     Overflow,
-    #[error("an operand is no constant")]
+    #[error("an operand is not a constant")]
     NotConstant,
 }
 
-/// The exact result of an operator on two constants.
+impl ConstFault {
+    ghost use Rattle.names.specs.Constants.{fault_number};
+
+    /// The number of the fault.
+    pub fn number(self) -> u32
+        ensures { result ≡ fault_number self }
+    {
+        match self {
+            ConstFault::Overflow => 1,
+            ConstFault::NotConstant => 4,
+        }
+    }
+}
+
+/// The exact result of an operator on two constants (Go specification, "Constant expressions"). Whether both are
+/// constants is tested first.
 pub fn fold(op: BinOp, a: Const, b: Const) -> Result<Const, ConstFault>
     ensures { result ≡ folded op a b }
 {
