@@ -1,1 +1,9 @@
 pub mod Tree
+pub mod Terminals
+pub mod Heights
+pub mod Grammar
+pub mod Frames
+pub mod Machine
+pub mod States
+pub mod Faults
+pub mod FaultNumbers

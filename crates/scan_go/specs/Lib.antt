@@ -1,1 +1,12 @@
 pub mod Spelling
+pub mod Characters
+pub mod Comments
+pub mod Words
+pub mod Operators
+pub mod Numbers
+pub mod Pieces
+pub mod Tokens
+pub mod Lines
+pub mod TokenList
+pub mod Scan
+pub mod Faults

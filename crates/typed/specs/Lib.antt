@@ -1,0 +1,5 @@
+pub mod Value
+pub mod Syntax
+pub mod View
+pub mod Form
+pub mod Frames

@@ -1,0 +1,89 @@
+-- The code of forms: its length, and where it stands.
+use Rattle.std.proofs.Common.{◌≡◌, ℕ, zero, suc, ◌+◌, true, false, List, [], ◌∷◌, ◌++◌, length, Some, refl, ap, subst, arith, length-append}
+use Rattle.std.specs.Prelude.{slice_get}
+use Rattle.isa.specs.Code.{Tables}
+use Rattle.isa.specs.declared.instr.Instr.{Instr}
+use Rattle.isa.specs.declared.instr.Instr.TheVariants.{Move, Bin}
+use Rattle.machine.specs.Machine.{frame_of, owner_of}
+use Rattle.typed.specs.Syntax.{Ex, Piece, St, Sts, constant, read, unary, binary, none, more, new, shown, assign, print}
+use Rattle.codegen.specs.Code.{operation, unary_code, ex_code, pieces_code, show_more, show_line, st_code, sts_code}
+
+abbrev pub size : Ex → ℕ
+size (constant v) = 1
+size (read p) = 1
+size (unary op a) = size a + 1
+size (binary at op a b) = size a + size b + 1
+
+abbrev pub pieces_size : List Piece → ℕ
+pieces_size [] = 0
+pieces_size (shown e ∷ ps) = size e + pieces_size ps
+
+abbrev pub more_size : List Piece → ℕ
+more_size [] = 1
+more_size (p ∷ ps) = suc (suc (more_size ps))
+
+abbrev pub shown_size : List Piece → ℕ
+shown_size [] = 1
+shown_size (p ∷ ps) = suc (more_size ps)
+
+abbrev pub st_size : St → ℕ
+st_size (assign (new site ∷ []) (more e none)) = size e + 1
+st_size (assign ls es) = 0
+st_size (print true ps) = pieces_size ps + shown_size ps
+st_size (print ln ps) = 0
+
+pub length_code : (t : ℕ) (e : Ex) (h : ℕ) → length (ex_code t e h) ≡ size e
+length_code t (constant v) h = refl
+length_code t (read p) h = refl
+length_code t (unary op a) h =
+    let ca = ex_code t a h in let i = unary_code op h in
+    let one : length (i ∷ []) ≡ 1 = refl in
+    omega (arith, one, length-append ca (i ∷ []), length_code t a h)
+length_code t (binary at o a b) h =
+    let ca = ex_code t a h in let cb = ex_code t b (h + 1) in let i = Bin (operation o) h h (h + 1) in
+    let one : length (i ∷ []) ≡ 1 = refl in
+    omega (arith, one, length-append ca (cb ++ i ∷ []), length-append cb (i ∷ []), length_code t a h, length_code t b (h + 1))
+
+pub length_pieces : (t : ℕ) (ps : List Piece) (h : ℕ) → length (pieces_code t ps h) ≡ pieces_size ps
+length_pieces t [] h = refl
+length_pieces t (shown e ∷ ps) h = omega (arith, length-append (ex_code t e h) (pieces_code t ps (h + 1)), length_code t e h, length_pieces t ps (h + 1))
+
+length_more : (ps : List Piece) (h : ℕ) → length (show_more ps h) ≡ more_size ps
+length_more [] h = refl
+length_more (p ∷ ps) h = ap (λ l. suc (suc l)) (length_more ps (h + 1))
+
+pub length_shown : (ps : List Piece) (h : ℕ) → length (show_line ps h) ≡ shown_size ps
+length_shown [] h = refl
+length_shown (p ∷ ps) h = ap suc (length_more ps (h + 1))
+
+pub length_st : (t : ℕ) (s : St) → length (st_code t s) ≡ st_size s
+length_st t (assign (new v ∷ []) (more e none)) =
+    let i = Move (t + v) 0 in let one : length (i ∷ []) ≡ 1 = refl in
+    omega (arith, one, length-append (ex_code t e 0) (i ∷ []), length_code t e 0)
+length_st t (assign [] es) = refl
+length_st t (assign (new v ∷ []) none) = refl
+length_st t (assign (new v ∷ []) (more e (more e1 es))) = refl
+length_st t (assign (new v ∷ x ∷ ls) es) = refl
+length_st t (print true ps) = omega (arith, length-append (pieces_code t ps 0) (show_line ps 0), length_pieces t ps 0, length_shown ps 0)
+length_st t (print false ps) = refl
+
+-- these instructions stand at this place
+abbrev pub HasAt : List Instr → ℕ → List Instr → Type 0
+HasAt code pc [] = Unit {0}
+HasAt code pc (i ∷ is) = (slice_get code pc ≡ Some i) × HasAt code (pc + 1) is
+
+pub has_front : (code : List Instr) (pc : ℕ) (a b : List Instr) → HasAt code pc (a ++ b) → HasAt code pc a
+has_front code pc [] b h = tt
+has_front code pc (i ∷ a) b h = (h.0, has_front code (pc + 1) a b h.1)
+
+pub has_back : (code : List Instr) (pc n : ℕ) (a b : List Instr) → length a ≡ n → HasAt code pc (a ++ b) → HasAt code (pc + n) b
+has_back code pc n [] b e h = let f : pc ≡ pc + n = omega arith in subst (λ n. HasAt code n b) f h
+has_back code pc zero (i ∷ a) b e h = absurd (omega arith)
+has_back code pc (suc n) (i ∷ a) b e h =
+    let f : pc + 1 + n ≡ pc + suc n = omega arith in
+    subst (λ n. HasAt code n b) f (has_back code (pc + 1) n a b (omega arith) h.1)
+
+-- the tables hold the code of these statements, and each place of it belongs to a frame of n sites and t temps
+pub record Compiled (n t : ℕ) (ss : Sts) (code : Tables) : Type 0 where
+  pub stands : HasAt code.instrs 0 (sts_code t ss)
+  pub frame : (pc : ℕ) → frame_of code (owner_of code pc) ≡ 2 + n + t

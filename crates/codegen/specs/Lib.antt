@@ -1,0 +1,3 @@
+pub mod Temps
+pub mod Code
+pub mod Correct

@@ -1,0 +1,15 @@
+//! The instructions of the machine, and the tables of a code.
+//!
+//! A code is three flat tables: the instructions of all functions one behind the other, for each instruction the number
+//! of the function that it belongs to, and the functions. A `Code` is known to be well formed: each instruction names
+//! slots of its own function's frame alone, and where it goes on, an instruction of the same function stands. So a run
+//! never leaves the tables or its frame, and the machine tests nothing of this as it runs.
+#![tactic(auto)]
+
+mod code;
+mod func;
+mod instr;
+
+pub use code::Code;
+pub use func::Func;
+pub use instr::{BinOp, Instr, bin, negate};

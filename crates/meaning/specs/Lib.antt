@@ -1,0 +1,7 @@
+pub mod Trace
+pub mod Store
+pub mod Operators
+pub mod Meaning
+pub mod Output
+pub mod Turns
+pub mod Laws

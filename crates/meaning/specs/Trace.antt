@@ -1,0 +1,51 @@
+-- What a run gives: turns, entries of the journal, states and an end.
+use Rattle.std.specs.Prelude.{ℕ, List}
+use Rattle.base.specs.declared.pos.Pos.{Pos}
+use Rattle.typed.specs.Value.{Value}
+
+-- an entry of the journal
+pub data Entry : Type 0 where
+  Call : (func : ℕ) → Entry
+  Return : Entry
+  Born : (site words : ℕ) → Entry
+  Read : (variable : ℕ) (path : List ℕ) (words : ℕ) → Entry
+  Print : (bytes : List ℕ) → Entry
+
+-- why a program panics
+pub data Fault : Type 0 where
+  divide_by_zero : Fault
+
+-- how a run ends; Turns where it would take a turn more than there are
+pub data Ending : Type 0 where
+  Turns : Ending
+  Exit : (status : ℕ) → Ending
+  Panic : Pos → Fault → Ending
+
+-- a variable: its site, the number of variables at the entry of the call that it was born in, its type and its value
+pub record Cell : Type 0 where
+  pub site : ℕ
+  pub call : ℕ
+  pub type : ℕ
+  pub value : Value
+
+-- the variables by birth, none of which dies or moves, and the input's bytes left
+pub record World : Type 0 where
+  pub store : List Cell
+  pub input : List ℕ
+
+-- what is marked for the invariants
+pub data Mark : Type 0 where
+  -- a state: the variables, and the values that running evaluations hold, the newest first
+  state : World → List Value → Mark
+  -- a call begins, with these variables and arguments
+  entered : World → List Value → Mark
+  -- a call returns: the variables from this number on are not current any more
+  ended : ℕ → Mark
+
+-- what a program does: a turn is marked where it is taken, Seen shows nothing, Cut is where the fuel is out
+pub data Trace : Type 0 where
+  Turn : Trace → Trace
+  Note : Entry → Trace → Trace
+  Seen : Mark → Trace → Trace
+  End : Ending → Trace
+  Cut : Trace

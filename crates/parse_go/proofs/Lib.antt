@@ -1,0 +1,6 @@
+pub mod Growth
+pub mod OpenFrames
+pub mod Following
+pub mod Viable
+pub mod Runs
+pub mod Places

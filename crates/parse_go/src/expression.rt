@@ -1,0 +1,276 @@
+//! The steps of the machine inside the expression of a statement.
+
+ghost use Rattle.std.specs.Prelude.{◌≡◌, ℕ, ◌≤◌, ◌+◌, ◌∷◌, [], List, max, min, suc, Some, IfOk};
+ghost use Rattle.parse_go.specs.Tree.{ex_of, unary, binary, paren};
+ghost use Rattle.parse_go.specs.Heights.{precedence, height};
+ghost use Rattle.parse_go.specs.Frames.{Frame as AnyFrame, awaiting, head_depth, open_depth, head_of, frame_of, frames_of};
+ghost use Rattle.parse_go.specs.Machine.{at_operand, at_operator, reduce, stop, ends, closes, step, nesting, nesting_at_stop, nesting_at_ends, nesting_at_closes};
+ghost use Rattle.parse_go.specs.States.{function_in, state_of, Steps};
+
+use crate::fault::StepFault;
+use crate::frame::{Frame, Head, Part};
+use crate::state::{Function, Reading, State};
+use crate::terminal::Terminal;
+use crate::tree::{BinOp, Expr, Stmt, UnOp};
+use base::Pos;
+use std::alloc::{AllocError, Global};
+
+/// The greatest nesting of a token.
+const MOST: u8 = 200;
+
+/// The precedence of a binary operator, from 1 to 5.
+fn precedence(op: BinOp) -> u8
+    ensures { result ≡ precedence op }
+{
+    match op {
+        BinOp::Add => 4,
+        BinOp::Sub => 4,
+        BinOp::Mul => 5,
+    }
+}
+
+/// The expression of a statement begins.
+pub fn begin(alloc: Global, function: Function, head: Head) -> Reading
+    ensures { state_of (State.Operand result) ≡ at_operand (function_in function) (head_of head) [] }
+{
+    let depth = match &head {
+        Head::Define(_, _) => 1,
+        Head::Print(_, _) => 2,
+    };
+    Reading {
+        function,
+        head,
+        frames: Vec::new(alloc),
+        depth,
+    }
+}
+
+/// An operand that is one token.
+fn leaf(reading: Reading, expr: Expr) -> Result<State, StepFault>
+    requires { height (ex_of expr) ≡ 0 }
+    ensures { Steps result (Some (at_operator (function_in reading.function) (head_of reading.head) (frames_of reading.frames.items) (ex_of expr))) (open_depth (head_depth (head_of reading.head)) (frames_of reading.frames.items)) }
+{
+    if reading.depth > MOST {
+        return Err(StepFault::TooDeep);
+    }
+    Ok(State::Operator(reading, Part { expr, height: 0 }))
+}
+
+/// A prefix or an opening parenthesis.
+fn deeper(reading: Reading, frame: Frame) -> Result<State, StepFault>
+    requires { (b : ℕ) (fs : List AnyFrame) → open_depth b (frame_of frame ∷ fs) ≡ suc (open_depth b fs) }
+    ensures { Steps result (Some (at_operand (function_in reading.function) (head_of reading.head) (frame_of frame ∷ frames_of reading.frames.items))) (open_depth (head_depth (head_of reading.head)) (frames_of reading.frames.items)) }
+{
+    let Reading {
+        function,
+        head,
+        mut frames,
+        depth,
+    } = reading;
+    if depth > MOST {
+        return Err(StepFault::TooDeep);
+    }
+    frames.push(frame)?;
+    Ok(State::Operand(Reading {
+        function,
+        head,
+        frames,
+        depth: depth + 1,
+    }))
+}
+
+/// A token where an operand is wanted.
+pub fn operand(reading: Reading, token: Terminal) -> Result<State, StepFault>
+    ensures { Steps result (step (state_of (State.Operand reading)) token) (nesting (state_of (State.Operand reading)) token) }
+{
+    match token {
+        Terminal::Number(pos, n) => leaf(reading, Expr::Int(pos, n)),
+        Terminal::Identifier(name, _) => leaf(reading, Expr::Name(name)),
+        Terminal::Operator(pos, BinOp::Sub) => deeper(reading, Frame::Prefix(pos, UnOp::Negate)),
+        Terminal::LeftParen(pos) => deeper(reading, Frame::Paren(pos)),
+        _ => Err(StepFault::Unexpected),
+    }
+}
+
+fn one_higher(height: u8) -> u8
+    ensures { result ≡ min (height + 1) 201 }
+{
+    if height >= 200 { 201 } else { height + 1 }
+}
+
+fn prefixed(alloc: Global, pos: Pos, op: UnOp, part: Part) -> Result<Part, AllocError>
+    ensures { IfOk result (λ r. ex_of r.expr ≡ unary pos op (ex_of part.expr)) }
+{
+    let height = one_higher(part.height);
+    let expr = Expr::Unary(pos, op, Box::new(alloc, part.expr)?);
+    Ok(Part { expr, height })
+}
+
+fn joined(alloc: Global, left: Part, op: BinOp, right: Part) -> Result<Part, AllocError>
+    ensures { IfOk result (λ r. ex_of r.expr ≡ binary op (ex_of left.expr) (ex_of right.expr)) }
+{
+    let height = one_higher(left.height.max(right.height));
+    let expr = Expr::Binary(
+        op,
+        Box::new(alloc, left.expr)?,
+        Box::new(alloc, right.expr)?,
+    );
+    Ok(Part { expr, height })
+}
+
+fn in_parens(alloc: Global, pos: Pos, part: Part) -> Result<Part, AllocError>
+    ensures { IfOk result (λ r. ex_of r.expr ≡ paren pos (ex_of part.expr)) }
+{
+    let height = part.height;
+    let expr = Expr::Paren(pos, Box::new(alloc, part.expr)?);
+    Ok(Part { expr, height })
+}
+
+/// Closes all that binds at least as tightly as `p`.
+fn reduce(
+    alloc: Global,
+    p: u8,
+    reading: Reading,
+    mut part: Part,
+) -> Result<(Reading, Part), AllocError>
+    ensures reduced { IfOk result (λ r. reduce p (frames_of reading.frames.items) (ex_of part.expr) ≡ (frames_of r.0.frames.items, ex_of r.1.expr)) }
+    ensures function { IfOk result (λ r. r.0.function ≡ reading.function) }
+    ensures head { IfOk result (λ r. r.0.head ≡ reading.head) }
+{
+    let Reading {
+        function,
+        head,
+        mut frames,
+        mut depth,
+    } = reading;
+    loop {
+        match frames.pop() {
+            None => break,
+            Some(Frame::Prefix(pos, op)) => {
+                depth -= 1;
+                part = prefixed(alloc, pos, op, part)?;
+            }
+            Some(Frame::Paren(pos)) => {
+                frames.push(Frame::Paren(pos))?;
+                break;
+            }
+            Some(Frame::Right(left, op)) => {
+                if p > precedence(op) {
+                    frames.push(Frame::Right(left, op))?;
+                    break;
+                }
+                part = joined(alloc, left, op, part)?;
+            }
+        }
+    }
+    let reading = Reading {
+        function,
+        head,
+        frames,
+        depth,
+    };
+    Ok((reading, part))
+}
+
+/// A binary operator behind its left operand.
+fn operator(mut reading: Reading, left: Part, op: BinOp) -> Result<State, StepFault>
+    ensures { Steps result (Some (at_operand (function_in reading.function) (head_of reading.head) (awaiting (ex_of left.expr) op ∷ frames_of reading.frames.items))) (max (open_depth (head_depth (head_of reading.head)) (frames_of reading.frames.items)) (suc (height (ex_of left.expr)))) }
+{
+    if reading.depth > MOST || left.height >= MOST {
+        return Err(StepFault::TooDeep);
+    }
+    reading.frames.push(Frame::Right(left, op))?;
+    Ok(State::Operand(reading))
+}
+
+/// A token behind a statement.
+pub fn stop(function: Function, token: Terminal) -> Result<State, StepFault>
+    ensures { Steps result (stop (function_in function) token) (nesting_at_stop token) }
+{
+    match token {
+        Terminal::Semicolon => Ok(State::Statement(function)),
+        Terminal::RightBrace => Ok(State::Last(function)),
+        _ => Err(StepFault::Unexpected),
+    }
+}
+
+/// A token behind the whole expression of a statement.
+fn ends(
+    alloc: Global,
+    mut function: Function,
+    head: Head,
+    expr: Expr,
+    token: Terminal,
+) -> Result<State, StepFault>
+    ensures { Steps result (ends (function_in function) (head_of head) (ex_of expr) token) (nesting_at_ends (head_of head) token) }
+{
+    match head {
+        Head::Define(name, pos) => {
+            function.body.push(Stmt::Define(name, pos, expr))?;
+            stop(function, token)
+        }
+        Head::Print(pos, mut operands) => {
+            operands.push(expr)?;
+            match token {
+                Terminal::Comma => {
+                    Ok(State::Operand(begin(alloc, function, Head::Print(pos, operands))))
+                }
+                Terminal::RightParen => {
+                    function.body.push(Stmt::Print(pos, operands))?;
+                    Ok(State::Stop(function))
+                }
+                _ => Err(StepFault::Unexpected),
+            }
+        }
+    }
+}
+
+/// A token that is no operator, behind what binds more tightly than any operator.
+fn closes(alloc: Global, reading: Reading, part: Part, token: Terminal) -> Result<State, StepFault>
+    ensures { Steps result (closes (function_in reading.function) (head_of reading.head) (frames_of reading.frames.items) (ex_of part.expr) token) (nesting_at_closes (head_of reading.head) (frames_of reading.frames.items) token) }
+{
+    let Reading {
+        function,
+        head,
+        mut frames,
+        depth,
+    } = reading;
+    match frames.pop() {
+        None => ends(alloc, function, head, part.expr, token),
+        Some(Frame::Paren(pos)) => match token {
+            Terminal::RightParen => {
+                let part = in_parens(alloc, pos, part)?;
+                let reading = Reading {
+                    function,
+                    head,
+                    frames,
+                    depth: depth - 1,
+                };
+                Ok(State::Operator(reading, part))
+            }
+            _ => Err(StepFault::Unexpected),
+        },
+        Some(_) => Err(StepFault::Unexpected),
+    }
+}
+
+/// A token behind an operand.
+pub fn behind_operand(
+    alloc: Global,
+    reading: Reading,
+    part: Part,
+    token: Terminal,
+) -> Result<State, StepFault>
+    ensures { Steps result (step (state_of (State.Operator reading part)) token) (nesting (state_of (State.Operator reading part)) token) }
+{
+    match token {
+        Terminal::Operator(_, op) => {
+            let (reading, part) = reduce(alloc, precedence(op), reading, part)?;
+            operator(reading, part, op)
+        }
+        _ => {
+            let (reading, part) = reduce(alloc, 0, reading, part)?;
+            closes(alloc, reading, part, token)
+        }
+    }
+}

@@ -1,0 +1,84 @@
+//! Why tokens have no tree.
+
+ghost use Rattle.std.specs.Prelude.{◌≡◌};
+ghost use Rattle.parse_go.specs.declared.fault.StepFault.TheVariants as step_fault;
+ghost use Rattle.parse_go.specs.declared.fault.ParseFault.TheVariants as parse_fault;
+
+use base::Pos;
+use std::alloc::{AllocError, AllocFailed};
+use thiserror::Error;
+
+/// Why tokens have no tree. Where several tokens fail, it is the first of them.
+#[derive(Clone, Copy, Debug, PartialEq, Eq, Error)]
+pub enum ParseFault {
+    #[error("no memory")]
+    NoMemory,
+    /// The first token with which no text of the grammar begins; an inserted semicolon stands at its line's end, and
+    /// where the tokens end too early, the place is behind the last byte of the text.
+    #[error("unexpected token")]
+    Unexpected(Pos),
+    /// The first token whose nesting reaches 201: the number of brackets and prefixes that are open around it; at a
+    /// binary operator at least one more than the height of the tree to its left.
+    #[error("nested too deeply")]
+    TooDeep(Pos),
+}
+
+impl From<AllocError> for ParseFault {
+    ghost from_gives = { λ _ e. e ≡ parse_fault.NoMemory };
+
+    fn from(_: AllocError) -> ParseFault {
+        ParseFault::NoMemory
+    }
+}
+
+impl ParseFault {
+    ghost use Rattle.parse_go.specs.FaultNumbers.{number_of, place_of};
+
+    /// The number of the fault's kind: 1 unexpected, 2 too deep. Want of memory has none.
+    pub fn number(&self) -> Option<u32>
+        ensures { result ≡ number_of self.now }
+    {
+        match self {
+            ParseFault::NoMemory => None,
+            ParseFault::Unexpected(_) => Some(1),
+            ParseFault::TooDeep(_) => Some(2),
+        }
+    }
+
+    /// Where the fault stands. Want of memory has no place.
+    pub fn pos(&self) -> Option<Pos>
+        ensures { result ≡ place_of self.now }
+    {
+        match self {
+            ParseFault::NoMemory => None,
+            ParseFault::Unexpected(pos) => Some(*pos),
+            ParseFault::TooDeep(pos) => Some(*pos),
+        }
+    }
+}
+
+/// Why a state takes no further token.
+#[derive(Clone, Copy, Debug, PartialEq, Eq)]
+pub enum StepFault {
+    NoMemory,
+    /// Nothing that begins with the token may follow.
+    Unexpected,
+    /// The token's nesting passes the limit.
+    TooDeep,
+}
+
+impl From<AllocError> for StepFault {
+    ghost from_gives = { λ _ e. e ≡ step_fault.NoMemory };
+
+    fn from(_: AllocError) -> StepFault {
+        StepFault::NoMemory
+    }
+}
+
+impl<T: Drop> From<AllocFailed<T>> for StepFault {
+    ghost from_gives = { λ _ e. e ≡ step_fault.NoMemory };
+
+    fn from(_: AllocFailed<T>) -> StepFault {
+        StepFault::NoMemory
+    }
+}

@@ -1,0 +1,13 @@
+-- The tokens of a text, beside the text.
+use Rattle.std.specs.Prelude.{ℕ, ◌≤◌, List, length}
+use Rattle.scan_go.specs.declared.token.Token.{Token}
+use Rattle.scan_go.specs.Lines.{AreSpans}
+
+pub record TokenList : Type 0 where
+  pub text : List ℕ
+  pub list : List Token
+
+-- the text has at most 1,048,576 bytes, and the spans lie within it
+pub record IsWithin (text : List ℕ) (list : List Token) : Type 0 where
+  pub short : length text ≤ 1048576
+  pub spans : AreSpans 0 list (length text)

@@ -1,0 +1,25 @@
+-- The fault that is reported: the least of those that there are, by offset and then by the number of the kind.
+use Rattle.std.specs.Prelude.{◌≡◌, ℕ, ◌<◌, ◌≤◌, ◌⊎◌, Option, Some, None, nat_lt, nat_le, ◌==◌, ◌||◌, ◌&&◌, if◌then◌else◌}
+use Rattle.types_go.specs.declared.fault.Fault.{Fault}
+use Rattle.types_go.specs.declared.fault.FaultKind.{FaultKind}
+use Rattle.types_go.specs.declared.fault.FaultKind.TheVariants as kind
+
+abbrev pub kind_number : FaultKind → ℕ
+kind_number kind.Unknown = 1
+kind_number kind.NothingNew = 3
+kind_number kind.ConstRange = 12
+kind_number kind.OutOfProfile = 20
+
+-- f is reported before g, or stands at the same place with the same number
+abbrev pub AtMost : Fault → Fault → Type 0
+AtMost f g = (f.pos.offset < g.pos.offset) ⊎ ((f.pos.offset ≡ g.pos.offset) × (kind_number f.kind ≤ kind_number g.kind))
+
+abbrev pub IsLeast : (Fault → Type 0) → Option Fault → Type 0
+IsLeast P None = (f : Fault) → P f → ⊥
+IsLeast P (Some f) = P f × ((g : Fault) → P g → AtMost f g)
+
+abbrev pub lesser : Option Fault → Option Fault → Option Fault
+lesser None b = b
+lesser (Some f) None = Some f
+lesser (Some f) (Some g) =
+    if nat_lt f.pos.offset g.pos.offset || ((f.pos.offset == g.pos.offset) && nat_le (kind_number f.kind) (kind_number g.kind)) then Some f else Some g

@@ -1,0 +1,7 @@
+pub mod Least
+pub mod Profile
+pub mod Scope
+pub mod Typing
+pub mod Faults
+pub mod Checked
+pub mod Passing
