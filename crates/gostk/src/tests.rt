@@ -23,14 +23,23 @@ fn fails_at(alloc: Global, call: u64) -> Result<Vec<u64>, Fail> {
 
 // Runs `gostk` on these words, where `a.go` and `a` hold this text. The call of this number fails of out and of err, if
 // it isn't 0.
-fn run_on(alloc: Global, words: &[&str], text: &[u8], out_fails: u64, err_fails: u64) -> Result<Ran, Fail> {
+fn run_on(
+    alloc: Global,
+    words: &[&str],
+    text: &[u8],
+    out_fails: u64,
+    err_fails: u64,
+) -> Result<Ran, Fail> {
     let mut owned = Vec::new(alloc);
     for word in words {
         owned.push(String::from_str(alloc, word)?)?;
     }
     let mut held = Vec::new(alloc);
     for name in ["a.go", "a"] {
-        held.push((String::from_str(alloc, name)?, Vec::from_slice(alloc, text)?))?;
+        held.push((
+            String::from_str(alloc, name)?,
+            Vec::from_slice(alloc, text)?,
+        ))?;
     }
     let mut files = MemFiles::new(alloc, held, Vec::new(alloc));
     let mut input = CleanSource::new(Vec::new(alloc));

@@ -1,0 +1,2 @@
+package main
+func main() { println(9223372036854775807 + 1) }
