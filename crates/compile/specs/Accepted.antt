@@ -1,5 +1,5 @@
 -- Which texts are accepted, with which program, and what all others are refused for.
-use Rattle.std.specs.Prelude.{◌≡◌, ◌≢◌, ℕ, ◌≤◌, List, length, ⊤, Result, Ok, Err}
+use Rattle.std.specs.Prelude.{◌≡◌, ◌≢◌, ℕ, ◌≤◌, List, length, ⊤}
 use Rattle.scan_go.specs.declared.token.Token.{Token}
 use Rattle.scan_go.specs.declared.fault.ScanFault.TheVariants as scan
 use Rattle.scan_go.specs.Scan.{AreTokens, IsFault}

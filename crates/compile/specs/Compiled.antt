@@ -1,6 +1,5 @@
 -- What the compiler answers.
-use Rattle.std.specs.Prelude.{◌≡◌, ℕ, ◌<◌, ◌^◌, ⊤, length, Result, Ok, Err}
-use Rattle.isa.specs.Code.{Tables}
+use Rattle.std.specs.Prelude.{◌≡◌, ◌<◌, ◌^◌, length, Result, Ok, Err}
 use Rattle.machine.specs.Inside.{Inside}
 use Rattle.typed.specs.Syntax.{Program}
 use Rattle.typed.specs.View.{program_of}
