@@ -1,5 +1,5 @@
 pub mod Answer
-pub mod Compiling
+pub mod Programs
 pub mod Refusal
 pub mod Rows
 pub mod Words

@@ -3,8 +3,10 @@ use Rattle.std.specs.Prelude.{◌≡◌, ◌⊎◌, ℕ, true, false, List, [], 
 use Rattle.outside.specs.Causes.{Rose}
 use Rattle.outside.specs.Files.{Content, Call, ReadOf, ReadsAs, Missing, Holds}
 use Rattle.outside.specs.Took.{Took, TookPrefix}
+use Rattle.typed.specs.Syntax.{Program}
 use Rattle.gostk.specs.Answer.{status_of, line_of}
-use Rattle.gostk.specs.Compiling.{Program, Accepted, Refuses, output_of}
+use Rattle.compile.specs.Accepted.{Accepted}
+use Rattle.gostk.specs.Programs.{Printed, PrintedPart, Refuses}
 use Rattle.gostk.specs.Refusal.{refusal_line}
 use Rattle.gostk.specs.Words.{run_path, is_source}
 use Rattle.gostk.specs.declared.answer.Answer.{Answer}
@@ -61,7 +63,7 @@ IsNoSource words = (path : List ℕ) × (run_path words ≡ Some path) × (is_so
 abbrev pub Allowed : Seen → Seen → List (List ℕ) → Answer → Type 0
 Allowed old new words Done =
     (path : List ℕ) × (text : List ℕ) × (program : Program)
-    × Reads old.content words path text × IsTextOf text program × (new.failed ≡ old.failed) × Took old.taken new.taken (output_of program)
+    × Reads old.content words path text × IsTextOf text program × (new.failed ≡ old.failed) × Printed program old.taken new.taken
 Allowed old new words Words = IsNoRun words × IsUntouched old new
 Allowed old new words SourceOnly = IsNoSource words × IsUntouched old new
 Allowed old new words (Refused file refusal) =
@@ -69,8 +71,7 @@ Allowed old new words (Refused file refusal) =
 Allowed old new words ReadFault = GainedRead old.failed new.failed words × Took old.taken new.taken []
 Allowed old new words WriteFault =
     (path : List ℕ) × (text : List ℕ) × (program : Program)
-    × Reads old.content words path text × IsTextOf text program × (new.failed ≡ old.failed) × TookPrefix old.taken new.taken (output_of program)
-    × Rose old.faults new.faults
+    × Reads old.content words path text × IsTextOf text program × (new.failed ≡ old.failed) × PrintedPart program old.taken new.taken old.faults new.faults
 Allowed old new words NoMemory = (path : List ℕ) × Asks words path × IsUntouched old new
 
 -- the status is the answer's and err took its line, or err failed and took a prefix of it
@@ -79,14 +80,14 @@ Reported answer status err err' before now =
     ((status ≡ status_of answer) × Took err err' (line_of answer))
     ⊎ ((status ≡ 204) × Rose before now × TookPrefix err err' (line_of answer))
 
--- 0: the text is accepted, out took exactly its output, and err nothing
+-- 0: the text is accepted, out took exactly what its program prints, and err nothing
 pub record Finished (old new : Seen) (words : List (List ℕ)) (err err' : Option (List ℕ)) : Type 0 where
   pub path : List ℕ
   pub text : List ℕ
   pub program : Program
   pub reads : Reads old.content words path text
   pub accepted : IsTextOf text program
-  pub out : Took old.taken new.taken (output_of program)
+  pub out : Printed program old.taken new.taken
   pub files : new.failed ≡ old.failed
   pub line : Took err err' []
 
@@ -113,15 +114,14 @@ pub record ReadFailed (old new : Seen) (words : List (List ℕ)) (err err' : Opt
   pub out : Took old.taken new.taken []
   pub line : Took err err' (codes "gostk: read fault\n")
 
--- out failed: its count rose, and it took a prefix of the output of an accepted text
+-- out failed: its count rose, and it took a front part of what the program of an accepted text prints
 pub record OutFailed (old new : Seen) (words : List (List ℕ)) (err err' : Option (List ℕ)) : Type 0 where
   pub path : List ℕ
   pub text : List ℕ
   pub program : Program
   pub reads : Reads old.content words path text
   pub accepted : IsTextOf text program
-  pub rose : Rose old.faults new.faults
-  pub out : TookPrefix old.taken new.taken (output_of program)
+  pub out : PrintedPart program old.taken new.taken old.faults new.faults
   pub files : new.failed ≡ old.failed
   pub line : Took err err' (codes "gostk: write fault\n")
 
@@ -165,8 +165,15 @@ pub record IsCalm (old new : Seen) (before now : ℕ) : Type 0 where
   pub out : Rose old.faults new.faults → ⊥
   pub err : Rose before now → ⊥
 
--- where the text is accepted and nothing fails, out takes exactly its output and the status is 0, or memory was refused
+-- where the text is accepted and nothing fails, out takes exactly what its program prints and the status is 0, or memory was refused
 abbrev pub Completes : Seen → Seen → List (List ℕ) → ℕ → Option (List ℕ) → Option (List ℕ) → ℕ → ℕ → Type 0
 Completes old new words status err err' before now =
     (path text : List ℕ) (program : Program) → Asks words path → old.content path ≡ Holds text → Accepted text program → IsCalm old new before now
-    → ((status ≡ 0) × Took old.taken new.taken (output_of program) × Took err err' []) ⊎ (status ≡ 209)
+    → ((status ≡ 0) × Printed program old.taken new.taken × Took err err' []) ⊎ (status ≡ 209)
+
+-- what a run of the program leaves, by its answer
+abbrev pub Ran : Program → Answer → Option (List ℕ) → Option (List ℕ) → ℕ → ℕ → Type 0
+Ran p Done old new before now = Printed p old new
+Ran p WriteFault old new before now = PrintedPart p old new before now
+Ran p NoMemory old new before now = Took old new []
+Ran p answer old new before now = ⊥

@@ -7,7 +7,6 @@
 #![tactic(auto)]
 
 mod answer;
-mod compiling;
 mod refusal;
 mod reporting;
 mod top;

@@ -1,8 +1,11 @@
 //! Why a source text is refused.
 ghost use Rattle.std.specs.Prelude.{◌≡◌};
-ghost use Rattle.gostk.specs.Refusal.{stage_text};
+ghost use Rattle.gostk.specs.Refusal.{refusal_at, refusal_of, stage_text};
 
 use base::Pos;
+use compile::CompileFault;
+use frame_layout::LayoutFault;
+use types_go::TypeFault;
 
 /// The stage of the compiler that refuses a text.
 #[derive(Clone, Copy, Debug, PartialEq, Eq)]
@@ -32,7 +35,47 @@ impl Stage {
 #[derive(Clone, Copy, Debug, PartialEq, Eq)]
 pub struct Refusal {
     pub stage: Stage,
-    pub kind: u8,
+    pub kind: u32,
     pub pos: Pos,
     pub words: Option<u64>,
+}
+
+// A refusal with this number at this place, where there are both.
+fn refusal_at(stage: Stage, kind: Option<u32>, pos: Option<Pos>) -> Option<Refusal>
+    ensures { result ≡ refusal_at stage kind pos }
+{
+    match (kind, pos) {
+        (Some(kind), Some(pos)) => Some(Refusal {
+            stage,
+            kind,
+            pos,
+            words: None,
+        }),
+        _ => None,
+    }
+}
+
+/// The refusal that a fault of the compiler is. Want of memory is none.
+pub fn refusal_of(fault: CompileFault) -> Option<Refusal>
+    ensures { result ≡ refusal_of fault }
+{
+    match fault {
+        CompileFault::NoMemory => None,
+        CompileFault::Scan(fault) => refusal_at(Stage::Scan, fault.number(), fault.pos()),
+        CompileFault::Parse(fault) => refusal_at(Stage::Parse, fault.number(), fault.pos()),
+        CompileFault::Typing(TypeFault::NoMemory) => None,
+        CompileFault::Typing(TypeFault::Fault(fault)) => Some(Refusal {
+            stage: Stage::Typing,
+            kind: u32::from(fault.kind.number()),
+            pos: fault.pos,
+            words: None,
+        }),
+        CompileFault::Layout(LayoutFault::NoMemory) => None,
+        CompileFault::Layout(LayoutFault::FrameTooLarge { pos, words }) => Some(Refusal {
+            stage: Stage::Layout,
+            kind: 1,
+            pos,
+            words: Some(words),
+        }),
+    }
 }

@@ -55,8 +55,9 @@ fn run_on(
 
 #[test]
 fn words_and_files(rt: HostRuntime) -> Result<(), Fail> {
+    let text = b"package main\nfunc main() { println(1+2*3) }\n";
     let table: [(&[&str], u8, &str, &str); 8] = [
-        (&["gostk", "run", "a.go"], 0, "text", ""),
+        (&["gostk", "run", "a.go"], 0, "7\n", ""),
         (&["gostk", "run", "b.go"], 203, "", "gostk: read fault\n"),
         (&["gostk", "run", "a"], 200, "", "gostk: source only\n"),
         (&["gostk", "run"], 200, "", "gostk: words\n"),
@@ -66,7 +67,69 @@ fn words_and_files(rt: HostRuntime) -> Result<(), Fail> {
         (&[], 200, "", "gostk: words\n"),
     ];
     for (i, (words, status, out, err)) in table.iter().enumerate() {
-        let got = run_on(rt.alloc(), words, b"text", 0, 0)?;
+        let got = run_on(rt.alloc(), words, text, 0, 0)?;
+        assert_eq!(rt; got.status, *status, "row {i}");
+        assert_eq!(rt; got.out.as_slice(), out.as_bytes(), "row {i}");
+        assert_eq!(rt; got.err.as_slice(), err.as_bytes(), "row {i}");
+    }
+    Ok(())
+}
+
+#[test]
+fn texts(rt: HostRuntime) -> Result<(), Fail> {
+    let table: [(&str, u8, &str, &str); 9] = [
+        (
+            "package main\nfunc main() { x := 9223372036854775807; println(x + 1) }",
+            0,
+            "-9223372036854775808\n",
+            "",
+        ),
+        (
+            "package main\nfunc main() { x := 1+2*3; println(x, -x); println() }",
+            0,
+            "7 -7\n\n",
+            "",
+        ),
+        ("", 201, "", "a.go:1:1: parse kind 1\n"),
+        (
+            "package main\nfunc main()\n{\nprintln(1)\n}\n",
+            201,
+            "",
+            "a.go:2:12: parse kind 1\n",
+        ),
+        (
+            "package main\nfunc main() { println(y) }",
+            201,
+            "",
+            "a.go:2:23: type kind 1\n",
+        ),
+        (
+            "package main\nfunc main() { x := 1; x := 2; println(x) }",
+            201,
+            "",
+            "a.go:2:25: type kind 3\n",
+        ),
+        (
+            "package main\nfunc main() { println(9223372036854775807 + 1) }",
+            201,
+            "",
+            "a.go:2:23: type kind 12\n",
+        ),
+        (
+            "package main\nfunc main() { main := 1; println(main) }",
+            201,
+            "",
+            "a.go:2:15: type kind 20\n",
+        ),
+        (
+            "package main\nfunc main() { println(\"a\") }",
+            201,
+            "",
+            "a.go:2:23: scan kind 10\n",
+        ),
+    ];
+    for (i, (text, status, out, err)) in table.iter().enumerate() {
+        let got = run_on(rt.alloc(), &["gostk", "run", "a.go"], text.as_bytes(), 0, 0)?;
         assert_eq!(rt; got.status, *status, "row {i}");
         assert_eq!(rt; got.out.as_slice(), out.as_bytes(), "row {i}");
         assert_eq!(rt; got.err.as_slice(), err.as_bytes(), "row {i}");
@@ -76,15 +139,16 @@ fn words_and_files(rt: HostRuntime) -> Result<(), Fail> {
 
 #[test]
 fn devices_fail(rt: HostRuntime) -> Result<(), Fail> {
-    let run: &[&str] = &["gostk", "run", "a.go"];
+    let two_lines = "package main\nfunc main() { println(1); println(2) }";
     let table: [(&str, u64, u64, u8, &str, &str); 4] = [
-        ("", 0, 0, 201, "", "a.go:1:1: parse kind 1\n"),
+        (two_lines, 3, 0, 204, "1\n", "gostk: write fault\n"),
+        (two_lines, 3, 1, 204, "1\n", ""),
+        (two_lines, 0, 1, 0, "1\n2\n", ""),
         ("", 0, 4, 204, "", "a.go:1"),
-        ("text", 1, 0, 204, "", "gostk: write fault\n"),
-        ("text", 1, 1, 204, "", ""),
     ];
     for (i, (text, out_fails, err_fails, status, out, err)) in table.iter().enumerate() {
-        let got = run_on(rt.alloc(), run, text.as_bytes(), *out_fails, *err_fails)?;
+        let words: &[&str] = &["gostk", "run", "a.go"];
+        let got = run_on(rt.alloc(), words, text.as_bytes(), *out_fails, *err_fails)?;
         assert_eq!(rt; got.status, *status, "row {i}");
         assert_eq!(rt; got.out.as_slice(), out.as_bytes(), "row {i}");
         assert_eq!(rt; got.err.as_slice(), err.as_bytes(), "row {i}");

@@ -1,15 +1,30 @@
 //! The top call.
 ghost use Rattle.std.specs.Prelude.{◌≡◌, ◌⊎◌, ℕ, List};
+ghost use Rattle.compile.specs.Compiled.{Does, compiled_program};
 ghost use Rattle.gostk.specs.Words.{texts_of};
-ghost use Rattle.gostk.specs.Rows.{seen, Allowed, Reported, Finished, WordsRefused, TextRefused, ReadFailed, WriteFailed, MemoryRefused, GainedRead, IsWrong, IsMissing, IsUnaccepted, Comes, Completes};
+ghost use Rattle.gostk.specs.Rows.{seen, Allowed, Reported, Finished, WordsRefused, TextRefused, ReadFailed, WriteFailed, MemoryRefused, GainedRead, IsWrong, IsMissing, IsUnaccepted, Comes, Completes, Ran};
 ghost use Rattle.gostk.specs.declared.answer.Answer.{Answer};
 
 use crate::answer::Answer;
-use crate::compiling::{CompileFault, RunFault, compile, run};
+use crate::refusal::refusal_of;
 use crate::reporting::report;
 use crate::words::{is_source_path, path_of_run};
+use codegen::{RunFault, run};
+use compile::{Compiled, compile};
 use outside::{FileFault, Files, Sink, Source};
 use std::alloc::Global;
+
+// Runs a compiled text to its end.
+fn run_compiled<O: Sink>(alloc: Global, compiled: &Compiled, out: &mut O) -> Answer<'static>
+    requires { Does compiled.now }
+    ensures { Ran (compiled_program compiled.now) result (O.taken out.old) (O.taken out.new) (O.faults out.old) (O.faults out.new) }
+{
+    match run(alloc, &compiled.code, compiled.layout.frame, out) {
+        Ok(()) => Answer::Done,
+        Err(RunFault::WriteFault) => Answer::WriteFault,
+        Err(RunFault::NoMemory) => Answer::NoMemory,
+    }
+}
 
 // Does what the words ask for, and answers what it came to.
 fn carry_out<'a, F: Files, O: Sink>(
@@ -37,14 +52,14 @@ fn carry_out<'a, F: Files, O: Sink>(
     };
     let compiled = match compile(alloc, &text) {
         Ok(compiled) => compiled,
-        Err(CompileFault::NoMemory) => return Answer::NoMemory,
-        Err(CompileFault::Refused(refusal)) => return Answer::Refused { file, refusal },
+        Err(fault) => {
+            return match refusal_of(fault) {
+                Some(refusal) => Answer::Refused { file, refusal },
+                None => Answer::NoMemory,
+            };
+        }
     };
-    match run(alloc, &compiled, out) {
-        Ok(()) => Answer::Done,
-        Err(RunFault::WriteFault) => Answer::WriteFault,
-        Err(RunFault::NoMemory) => Answer::NoMemory,
-    }
+    run_compiled(alloc, &compiled, out)
 }
 
 /// The program: does what the words ask for, with the files, the input and the output that are handed in, writes the
