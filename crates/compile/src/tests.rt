@@ -102,7 +102,7 @@ fn accepted_texts(rt: HostRuntime) -> Result<(), Fail> {
         (
             "x := -9223372036854775808; y := (x); println(x - y * 2, -x)",
             7,
-            17,
+            16,
         ),
     ];
     for (body, frame, instructions) in table {
@@ -118,29 +118,23 @@ fn accepted_texts(rt: HostRuntime) -> Result<(), Fail> {
     Ok(())
 }
 
-// A frame of 65,535 words passes: 65,532 variables, a temp and the link.
+// A frame of 65,535 words passes: 65,533 temps and the link.
 #[test]
 fn the_largest_frame(rt: HostRuntime) -> Result<(), Fail> {
-    for (variables, fault) in [
-        (65_532, None),
-        (
-            65_533,
-            Some(CompileFault::Layout(LayoutFault::FrameTooLarge {
-                pos: pos(18, 2, 6),
-                words: 65_536,
-            })),
-        ),
-    ] {
-        let mut text = String::from_str(rt.alloc(), "package main\nfunc main() {\n")?;
-        for i in 0..variables {
-            let line = format!(in rt.alloc(); "v{i} := 0\n")?;
-            text.push_str(line.as_str())?;
+    let too_large = CompileFault::Layout(LayoutFault::FrameTooLarge {
+        pos: pos(18, 2, 6),
+        words: 65_536,
+    });
+    for (operands, fault) in [(65_533, None), (65_534, Some(too_large))] {
+        let mut text = String::from_str(rt.alloc(), "package main\nfunc main() { println(0")?;
+        for _ in 1..operands {
+            text.push_str(",0")?;
         }
-        text.push_str("}\n")?;
+        text.push_str(") }\n")?;
         assert_eq!(rt;
             fault_of(rt.alloc(), text.as_bytes()),
             fault,
-            "{variables} variables"
+            "{operands} operands"
         );
     }
     Ok(())
