@@ -11,3 +11,6 @@ mod fault;
 
 pub use compiling::{Compiled, compile};
 pub use fault::CompileFault;
+
+#[cfg(test)]
+mod tests;

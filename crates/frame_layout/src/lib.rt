@@ -12,4 +12,3 @@ mod temps;
 
 pub use fault::LayoutFault;
 pub use layout::{Layout, layout_of};
-

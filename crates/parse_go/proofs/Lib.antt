@@ -4,3 +4,4 @@ pub mod Following
 pub mod Viable
 pub mod Runs
 pub mod Places
+pub mod NameSpans

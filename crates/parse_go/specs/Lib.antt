@@ -7,3 +7,4 @@ pub mod Machine
 pub mod States
 pub mod Faults
 pub mod FaultNumbers
+pub mod Spans

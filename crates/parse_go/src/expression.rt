@@ -3,9 +3,9 @@
 ghost use Rattle.std.specs.Prelude.{◌≡◌, ℕ, ◌≤◌, ◌+◌, ◌∷◌, [], List, max, min, suc, Some, IfOk};
 ghost use Rattle.parse_go.specs.Tree.{ex_of, unary, binary, paren};
 ghost use Rattle.parse_go.specs.Heights.{precedence, height};
-ghost use Rattle.parse_go.specs.Frames.{Frame as AnyFrame, awaiting, head_depth, open_depth, head_of, frame_of, frames_of};
-ghost use Rattle.parse_go.specs.Machine.{at_operand, at_operator, reduce, stop, ends, closes, step, nesting, nesting_at_stop, nesting_at_ends, nesting_at_closes};
-ghost use Rattle.parse_go.specs.States.{function_in, state_of, Steps};
+ghost use Rattle.parse_go.specs.Frames.{Frame as AnyFrame, awaiting, open_depth, head_of, frame_of};
+ghost use Rattle.parse_go.specs.Machine.{at_operand, reduce, stop, ends, closes, step, nesting, nesting_at_stop, nesting_at_ends, nesting_at_closes};
+ghost use Rattle.parse_go.specs.States.{function_in, frames_in, depth_in, wanting, having, state_of, Steps};
 
 use crate::fault::StepFault;
 use crate::frame::{Frame, Head, Part};
@@ -48,7 +48,7 @@ pub fn begin(alloc: Global, function: Function, head: Head) -> Reading
 /// An operand that is one token.
 fn leaf(reading: Reading, expr: Expr) -> Result<State, StepFault>
     requires { height (ex_of expr) ≡ 0 }
-    ensures { Steps result (Some (at_operator (function_in reading.function) (head_of reading.head) (frames_of reading.frames.items) (ex_of expr))) (open_depth (head_depth (head_of reading.head)) (frames_of reading.frames.items)) }
+    ensures { Steps result (Some (having reading (frames_in reading) (ex_of expr))) (depth_in reading) }
 {
     if reading.depth > MOST {
         return Err(StepFault::TooDeep);
@@ -58,8 +58,10 @@ fn leaf(reading: Reading, expr: Expr) -> Result<State, StepFault>
 
 /// A prefix or an opening parenthesis.
 fn deeper(reading: Reading, frame: Frame) -> Result<State, StepFault>
-    requires { (b : ℕ) (fs : List AnyFrame) → open_depth b (frame_of frame ∷ fs) ≡ suc (open_depth b fs) }
-    ensures { Steps result (Some (at_operand (function_in reading.function) (head_of reading.head) (frame_of frame ∷ frames_of reading.frames.items))) (open_depth (head_depth (head_of reading.head)) (frames_of reading.frames.items)) }
+    requires { (b : ℕ) (fs : List AnyFrame) → open_depth b (frame_of frame ∷ fs)
+        ≡ suc (open_depth b fs) }
+    ensures { Steps result (Some (wanting reading (frame_of frame ∷ frames_in reading)))
+        (depth_in reading) }
 {
     let Reading {
         function,
@@ -81,7 +83,7 @@ fn deeper(reading: Reading, frame: Frame) -> Result<State, StepFault>
 
 /// A token where an operand is wanted.
 pub fn operand(reading: Reading, token: Terminal) -> Result<State, StepFault>
-    ensures { Steps result (step (state_of (State.Operand reading)) token) (nesting (state_of (State.Operand reading)) token) }
+    ensures { let s = state_of (State.Operand reading) in Steps result (step s token) (nesting s token) }
 {
     match token {
         Terminal::Number(pos, n) => leaf(reading, Expr::Int(pos, n)),
@@ -133,7 +135,8 @@ fn reduce(
     reading: Reading,
     mut part: Part,
 ) -> Result<(Reading, Part), AllocError>
-    ensures reduced { IfOk result (λ r. reduce p (frames_of reading.frames.items) (ex_of part.expr) ≡ (frames_of r.0.frames.items, ex_of r.1.expr)) }
+    ensures reduced { IfOk result (λ r. reduce p (frames_in reading) (ex_of part.expr)
+        ≡ (frames_in r.0, ex_of r.1.expr)) }
     ensures function { IfOk result (λ r. r.0.function ≡ reading.function) }
     ensures head { IfOk result (λ r. r.0.head ≡ reading.head) }
 {
@@ -174,7 +177,8 @@ fn reduce(
 
 /// A binary operator behind its left operand.
 fn operator(mut reading: Reading, left: Part, op: BinOp) -> Result<State, StepFault>
-    ensures { Steps result (Some (at_operand (function_in reading.function) (head_of reading.head) (awaiting (ex_of left.expr) op ∷ frames_of reading.frames.items))) (max (open_depth (head_depth (head_of reading.head)) (frames_of reading.frames.items)) (suc (height (ex_of left.expr)))) }
+    ensures { Steps result (Some (wanting reading (awaiting (ex_of left.expr) op ∷ frames_in reading)))
+        (max (depth_in reading) (suc (height (ex_of left.expr)))) }
 {
     if reading.depth > MOST || left.height >= MOST {
         return Err(StepFault::TooDeep);
@@ -202,7 +206,8 @@ fn ends(
     expr: Expr,
     token: Terminal,
 ) -> Result<State, StepFault>
-    ensures { Steps result (ends (function_in function) (head_of head) (ex_of expr) token) (nesting_at_ends (head_of head) token) }
+    ensures { Steps result (ends (function_in function) (head_of head) (ex_of expr) token)
+        (nesting_at_ends (head_of head) token) }
 {
     match head {
         Head::Define(name, pos) => {
@@ -227,7 +232,9 @@ fn ends(
 
 /// A token that is no operator, behind what binds more tightly than any operator.
 fn closes(alloc: Global, reading: Reading, part: Part, token: Terminal) -> Result<State, StepFault>
-    ensures { Steps result (closes (function_in reading.function) (head_of reading.head) (frames_of reading.frames.items) (ex_of part.expr) token) (nesting_at_closes (head_of reading.head) (frames_of reading.frames.items) token) }
+    ensures { let h = head_of reading.head in
+        Steps result (closes (function_in reading.function) h (frames_in reading) (ex_of part.expr) token)
+        (nesting_at_closes h (frames_in reading) token) }
 {
     let Reading {
         function,
@@ -261,7 +268,8 @@ pub fn behind_operand(
     part: Part,
     token: Terminal,
 ) -> Result<State, StepFault>
-    ensures { Steps result (step (state_of (State.Operator reading part)) token) (nesting (state_of (State.Operator reading part)) token) }
+    ensures { let s = state_of (State.Operator reading part) in
+        Steps result (step s token) (nesting s token) }
 {
     match token {
         Terminal::Operator(_, op) => {

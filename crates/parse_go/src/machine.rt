@@ -1,7 +1,6 @@
 //! One token more.
 
 ghost use Rattle.std.specs.Prelude.{◌≡◌};
-ghost use Rattle.parse_go.specs.Frames.{head_of, frames_of};
 ghost use Rattle.parse_go.specs.Machine.{at_header, at_statement, at_named, at_operands, step, nesting};
 ghost use Rattle.parse_go.specs.States.{function_in, state_of, Steps};
 
@@ -16,7 +15,7 @@ use std::alloc::Global;
 
 /// A token of `package main; func main() {`.
 fn header(alloc: Global, stage: Stage, token: Terminal) -> Result<State, StepFault>
-    ensures { Steps result (step (at_header stage) token) (nesting (at_header stage) token) }
+    ensures { let s = at_header stage in Steps result (step s token) (nesting s token) }
 {
     let next = match (stage, token) {
         (Stage::Package, Terminal::Package) => Stage::PackageName,
@@ -40,7 +39,7 @@ fn header(alloc: Global, stage: Stage, token: Terminal) -> Result<State, StepFau
 
 /// A token where a statement may begin.
 fn statement(function: Function, token: Terminal) -> Result<State, StepFault>
-    ensures { Steps result (step (at_statement (function_in function)) token) (nesting (at_statement (function_in function)) token) }
+    ensures { let s = at_statement (function_in function) in Steps result (step s token) (nesting s token) }
 {
     match token {
         Terminal::Identifier(name, word) => Ok(State::Named(function, name, word)),
@@ -58,7 +57,7 @@ fn named(
     word: Word,
     token: Terminal,
 ) -> Result<State, StepFault>
-    ensures { Steps result (step (at_named (function_in function) name word) token) (nesting (at_named (function_in function) name word) token) }
+    ensures { let s = at_named (function_in function) name word in Steps result (step s token) (nesting s token) }
 {
     match (word, token) {
         (_, Terminal::Define(pos)) => {
@@ -76,7 +75,7 @@ fn operands(
     pos: Pos,
     token: Terminal,
 ) -> Result<State, StepFault>
-    ensures { Steps result (step (at_operands (function_in function) pos) token) (nesting (at_operands (function_in function) pos) token) }
+    ensures { let s = at_operands (function_in function) pos in Steps result (step s token) (nesting s token) }
 {
     match token {
         Terminal::RightParen => {
@@ -92,7 +91,7 @@ fn operands(
 
 /// A token behind the body.
 fn last(function: Function, token: Terminal) -> Result<State, StepFault>
-    ensures { Steps result (step (state_of (State.Last function)) token) (nesting (state_of (State.Last function)) token) }
+    ensures { let s = state_of (State.Last function) in Steps result (step s token) (nesting s token) }
 {
     match token {
         Terminal::Semicolon => Ok(State::End(function)),
@@ -102,7 +101,7 @@ fn last(function: Function, token: Terminal) -> Result<State, StepFault>
 
 /// One token more.
 pub fn step(alloc: Global, state: State, token: Terminal) -> Result<State, StepFault>
-    ensures { Steps result (step (state_of state) token) (nesting (state_of state) token) }
+    ensures { let s = state_of state in Steps result (step s token) (nesting s token) }
 {
     match state {
         State::Header(stage) => header(alloc, stage, token),

@@ -1,11 +1,12 @@
 //! The tree of a text.
 
-ghost use Rattle.std.specs.Prelude.{◌≡◌, List, length, All, IfOk, IfErr};
-ghost use Rattle.scan_go.specs.Lines.{pos_at, IsSpan};
-ghost use Rattle.parse_go.specs.Tree.{Syntax, syntax_of};
+ghost use Rattle.std.specs.Prelude.{◌≡◌, List, length, IfOk, IfErr};
+ghost use Rattle.scan_go.specs.Lines.{pos_at};
+ghost use Rattle.parse_go.specs.Tree.{Syntax, stms_of, syntax_of};
 ghost use Rattle.parse_go.specs.Terminals.{terminals_of};
 ghost use Rattle.parse_go.specs.Grammar.{IsProgram, IsText};
 ghost use Rattle.parse_go.specs.Faults.{IsFirstFault, GivesTree};
+ghost use Rattle.parse_go.specs.Spans.{StmsSpans};
 ghost use Rattle.parse_go.specs.States.{function_in, state_of, fault_at, Finishes, HasOneFunction};
 
 use crate::fault::{ParseFault, StepFault};
@@ -44,7 +45,8 @@ fn function_of(
     behind: Pos,
 ) -> Result<Function, ParseFault>
     ensures found { IfOk result (λ f. IsProgram (terminals_of text.now tokens.now) (function_in f)) }
-    ensures one { IfOk result (λ f. HasOneFunction (terminals_of text.now tokens.now) (function_in f)) }
+    ensures one { IfOk result
+        (λ f. HasOneFunction (terminals_of text.now tokens.now) (function_in f)) }
     ensures fault { IfErr result (IsFirstFault text.now tokens.now behind) }
 {
     let mut state = State::Header(Stage::Package);
@@ -68,8 +70,12 @@ pub fn parse(alloc: Global, tokens: &Tokens) -> Result<Tree, ParseFault>
     // Where they have a tree it is answered, unless memory runs out; so they have no other.
     ensures only { (tree : Syntax) → IsText tokens.now.text tokens.now.list tree → GivesTree result tree }
 
+    // The span of each name lies in the text.
+    ensures spans { IfOk result (λ tree. StmsSpans (length tokens.now.text) (stms_of tree.body.items)) }
+
     // The first token with which no text begins, or the first whose nesting passes the limit.
-    ensures fault { IfErr result (IsFirstFault tokens.now.text tokens.now.list (pos_at tokens.now.text (length tokens.now.text))) }
+    ensures fault { let behind = pos_at tokens.now.text (length tokens.now.text) in
+        IfErr result (IsFirstFault tokens.now.text tokens.now.list behind) }
 {
     let text = tokens.text();
     let function = function_of(alloc, text, tokens.list(), tokens.end())?;

@@ -10,4 +10,4 @@ mod scope;
 mod statements;
 
 pub use checking::check;
-pub use fault::{Fault, FaultKind, TypeFault, lesser};
+pub use fault::{Fault, FaultKind, TypeFault};
