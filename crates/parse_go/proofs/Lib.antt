@@ -1,7 +1,2 @@
-pub mod Growth
-pub mod OpenFrames
-pub mod Following
-pub mod Viable
-pub mod Runs
-pub mod Places
-pub mod NameSpans
+pub mod Rows
+pub mod Chains
