@@ -5,3 +5,4 @@ pub mod OpenFrames
 pub mod Following
 pub mod HeaderSteps
 pub mod StatementSteps
+pub mod ExpressionSteps
