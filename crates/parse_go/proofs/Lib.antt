@@ -6,3 +6,6 @@ pub mod Following
 pub mod HeaderSteps
 pub mod StatementSteps
 pub mod ExpressionSteps
+pub mod Viable
+pub mod Runs
+pub mod Places
