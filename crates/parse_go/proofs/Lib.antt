@@ -9,3 +9,4 @@ pub mod ExpressionSteps
 pub mod Viable
 pub mod Runs
 pub mod Places
+pub mod NameSpans
