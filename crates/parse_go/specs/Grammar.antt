@@ -16,8 +16,8 @@ use Rattle.parse_go.specs.Tree.{Ex, number, name, unary, binary, paren, Conditio
 use Rattle.parse_go.specs.Terminals.{name_at, terminals_of}
 use Rattle.parse_go.specs.Heights.{precedence, height}
 
--- A terminal with its nesting: the number of brackets and prefixes that are open around it, and at a binary operator
--- at least one more than the height of the tree to its left. A bracket or prefix is not around itself, a pair not
+-- A terminal with its nesting: the number of brackets, prefixes and else-ifs that are open around it, and at a binary
+-- operator or comparison at least one more than the height of the tree to its left. A bracket or prefix is not around itself, a pair not
 -- around its closing bracket.
 pub data Mark : Type 0 where
   inside : Terminal → ℕ → Mark

@@ -43,7 +43,8 @@ pub fn limited(nesting: usize, next: State) -> Result<State, StepFault>
 /// An operand that is one token.
 fn leaf(reading: Reading, expr: Expr) -> Result<State, StepFault>
     requires { height (ex_of expr) ≡ 0 }
-    ensures { Steps result (Some (having reading (frames_in reading) (ex_of expr))) (depth_in reading) }
+    ensures { Steps result (Some (having reading (frames_in reading) (ex_of expr)))
+        (depth_in reading) }
 {
     if reading.depth > MOST {
         return Err(StepFault::TooDeep);
@@ -78,7 +79,8 @@ fn deeper(reading: Reading, frame: Frame) -> Result<State, StepFault>
 
 /// A token where an operand is wanted.
 pub fn operand(reading: Reading, token: Terminal) -> Result<State, StepFault>
-    ensures { let s = state_of (State.Operand reading) in Steps result (step s token) (nesting s token) }
+    ensures { let s = state_of (State.Operand reading) in
+        Steps result (step s token) (nesting s token) }
 {
     match token {
         Terminal::Number(pos, n) => leaf(reading, Expr::Int(pos, n)),
@@ -172,7 +174,8 @@ fn reduce(
 
 /// A binary operator behind its left operand.
 fn operator(mut reading: Reading, left: Part, op: BinOp) -> Result<State, StepFault>
-    ensures { Steps result (Some (wanting reading (awaiting (ex_of left.expr) op ∷ frames_in reading)))
+    ensures { let fs = awaiting (ex_of left.expr) op ∷ frames_in reading in
+        Steps result (Some (wanting reading fs))
         (max (depth_in reading) (suc (height (ex_of left.expr)))) }
 {
     if reading.depth > MOST || left.height >= 200 {
@@ -183,12 +186,7 @@ fn operator(mut reading: Reading, left: Part, op: BinOp) -> Result<State, StepFa
 }
 
 /// A token that is no operator, behind what binds more tightly than any operator.
-fn closes(
-    alloc: Global,
-    reading: Reading,
-    part: Part,
-    token: Terminal,
-) -> Result<State, StepFault>
+fn closes(alloc: Global, reading: Reading, part: Part, token: Terminal) -> Result<State, StepFault>
     ensures { let b = blocks_of reading.blocks in
         let h = head_of reading.head in
         Steps result (closes b h (frames_in reading) (ex_of part.expr) token)

@@ -36,3 +36,6 @@ mod tree;
 pub use fault::ParseFault;
 pub use parsing::parse;
 pub use tree::{BinOp, CompareOp, Cond, Else, Expr, Name, Stmt, Tree, UnOp};
+
+#[cfg(test)]
+mod tests;

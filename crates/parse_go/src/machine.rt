@@ -38,7 +38,8 @@ fn header(alloc: Global, stage: Stage, token: Terminal) -> Result<State, StepFau
 
 /// A token behind the body.
 fn last(function: Function, token: Terminal) -> Result<State, StepFault>
-    ensures { let s = state_of (State.Last function) in Steps result (step s token) (nesting s token) }
+    ensures { let s = state_of (State.Last function) in
+        Steps result (step s token) (nesting s token) }
 {
     match token {
         Terminal::Semicolon => Ok(State::End(function)),

@@ -1,7 +1,7 @@
 //! Statements from their parts.
 
 ghost use Rattle.std.specs.Prelude.{◌≡◌, IfOk};
-ghost use Rattle.parse_go.specs.Tree.{block, loop, choice, else_block, else_if, condition_of, condition_in, stm_of, els_of, stms_of};
+ghost use Rattle.parse_go.specs.Tree.{block, loop, choice, else_block, else_if, condition_in, stm_of, els_of, stms_of};
 ghost use Rattle.parse_go.specs.Outer.{joined, one, branch_of, branches_of, whole_if};
 
 use crate::outer::Branch;
@@ -30,8 +30,8 @@ pub fn repetition(pos: Pos, cond: Option<Cond>, body: Vec<Stmt>) -> Stmt
 }
 
 fn choice(branch: Branch, otherwise: Else) -> Stmt
-    ensures { stm_of result
-        ≡ choice branch.pos (condition_of branch.cond) (stms_of branch.body.items) (els_of otherwise) }
+    ensures { let b = branch_of branch in
+        stm_of result ≡ choice b.place b.condition b.body (els_of otherwise) }
 {
     Stmt::If(branch.pos, branch.cond, branch.body, otherwise)
 }
@@ -43,8 +43,8 @@ pub fn else_block(body: Vec<Stmt>) -> Else
 }
 
 fn else_if(alloc: Global, branch: Branch, otherwise: Else) -> Result<Else, AllocError>
-    ensures { IfOk result (λ e. els_of e
-        ≡ else_if branch.pos (condition_of branch.cond) (stms_of branch.body.items) (els_of otherwise)) }
+    ensures { let b = branch_of branch in
+        IfOk result (λ e. els_of e ≡ else_if b.place b.condition b.body (els_of otherwise)) }
 {
     let otherwise = Box::new(alloc, otherwise)?;
     Ok(Else::If(branch.pos, branch.cond, branch.body, otherwise))
@@ -57,8 +57,8 @@ pub fn whole_if(
     mut last: Branch,
     mut otherwise: Else,
 ) -> Result<Stmt, AllocError>
-    ensures { IfOk result
-        (λ s. stm_of s ≡ whole_if (branches_of branches.items) (branch_of last) (els_of otherwise)) }
+    ensures { let bs = branches_of branches.items in
+        IfOk result (λ s. stm_of s ≡ whole_if bs (branch_of last) (els_of otherwise)) }
 {
     while let Some(before) = branches.pop() {
         otherwise = else_if(alloc, last, otherwise)?;

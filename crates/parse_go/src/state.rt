@@ -50,7 +50,8 @@ pub struct Reading {
     pub head: Head,
     pub frames: Vec<Frame>,
     pub depth: usize,
-    ghost is_depth: { depth ≡ open_depth (head_depth (suc (brace_depth (outers_of blocks.outer.items))) (head_of head)) (frames_of frames.items) },
+    ghost is_depth: { let d = suc (brace_depth (outers_of blocks.outer.items)) in
+        depth ≡ open_depth (head_depth d (head_of head)) (frames_of frames.items) },
     ghost small: { depth ≤ 202 },
 }
 

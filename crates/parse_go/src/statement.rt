@@ -36,14 +36,16 @@ fn begin(alloc: Global, blocks: Blocks, head: Head, depth: usize) -> Reading
 /// The nesting of an `if` that is the else of these branches.
 #[tactic(auto, using(crate::proofs::Chains::code_chain_depth))]
 fn chain_depth(blocks: &Blocks, branches: &[Branch]) -> usize
-    ensures { result ≡ chain_depth (branches_of branches.now) (statement_depth (blocks_of blocks.now)) }
+    ensures { result
+        ≡ chain_depth (branches_of branches.now) (statement_depth (blocks_of blocks.now)) }
 {
     blocks.depth + branches.len()
 }
 
 /// One statement more in the innermost block.
 fn with_statement(blocks: Blocks, stmt: Stmt) -> Result<Blocks, AllocError>
-    ensures blocks { IfOk result (λ b. blocks_of b ≡ with_statement (blocks_of blocks) (stm_of stmt)) }
+    ensures blocks { IfOk result
+        (λ b. blocks_of b ≡ with_statement (blocks_of blocks) (stm_of stmt)) }
     ensures depth { IfOk result (λ b. b.depth ≡ blocks.depth) }
 {
     let Blocks {
@@ -118,7 +120,8 @@ fn close(alloc: Global, blocks: Blocks) -> Result<State, AllocError>
 
 /// A token behind a statement.
 pub fn stop(alloc: Global, blocks: Blocks, token: Terminal) -> Result<State, StepFault>
-    ensures { Steps result (stop (blocks_of blocks) token) (nesting_at_stop (blocks_of blocks) token) }
+    ensures { let b = blocks_of blocks in
+        Steps result (stop b token) (nesting_at_stop b token) }
 {
     match token {
         Terminal::Semicolon => limited(blocks.depth, State::Statement(blocks)),
@@ -161,14 +164,24 @@ fn enter_body(
 ) -> Result<State, StepFault>
     requires { depth ≡ opener_depth (statement_depth (blocks_of blocks)) (opener_of opener) }
     ensures { Steps result
-        (Some (at_statement (opened (blocks_of blocks) (opener_of opener) (condition_of cond)))) depth }
+        (Some (at_statement (opened (blocks_of blocks) (opener_of opener) (condition_of cond))))
+        depth }
 {
     let Blocks {
-        main, outer, done, ..
+        main,
+        outer,
+        done,
+        ..
     } = blocks;
     match opener {
         Opener::If(branches, pos) => {
-            enter(alloc, main, outer, Outer::Then(done, branches, pos, cond), depth)
+            enter(
+                alloc,
+                main,
+                outer,
+                Outer::Then(done, branches, pos, cond),
+                depth,
+            )
         }
         Opener::For(pos) => enter(alloc, main, outer, Outer::For(done, pos, Some(cond)), depth),
     }
@@ -238,11 +251,13 @@ fn compares(
     left: Part,
     op: CompareOp,
 ) -> Result<State, StepFault>
-    requires is_depth { depth ≡ opener_depth (statement_depth (blocks_of blocks)) (opener_of opener) }
+    requires is_depth { depth
+        ≡ opener_depth (statement_depth (blocks_of blocks)) (opener_of opener) }
     requires small { depth ≤ 202 }
     ensures { let o = opener_of opener in
-        Steps result (Some (at_operand (blocks_of blocks) (compared o (ex_of left.expr) op) []))
-        (max (opener_depth (statement_depth (blocks_of blocks)) o) (suc (height (ex_of left.expr)))) }
+        let b = blocks_of blocks in
+        Steps result (Some (at_operand b (compared o (ex_of left.expr) op) []))
+        (max (opener_depth (statement_depth b) o) (suc (height (ex_of left.expr)))) }
 {
     if depth > MOST || left.height >= 200 {
         return Err(StepFault::TooDeep);
@@ -253,7 +268,8 @@ fn compares(
 
 /// A token where a statement may begin.
 pub fn statement(alloc: Global, blocks: Blocks, token: Terminal) -> Result<State, StepFault>
-    ensures { let s = at_statement (blocks_of blocks) in Steps result (step s token) (nesting s token) }
+    ensures { let s = at_statement (blocks_of blocks) in
+        Steps result (step s token) (nesting s token) }
 {
     let depth = blocks.depth;
     match token {
@@ -264,7 +280,13 @@ pub fn statement(alloc: Global, blocks: Blocks, token: Terminal) -> Result<State
         }
         Terminal::For(pos) => limited(depth, State::For(blocks, pos)),
         Terminal::LeftBrace => {
-            enter(alloc, blocks.main, blocks.outer, Outer::Block(blocks.done), depth)
+            enter(
+                alloc,
+                blocks.main,
+                blocks.outer,
+                Outer::Block(blocks.done),
+                depth,
+            )
         }
         _ => stop(alloc, blocks, token),
     }
@@ -278,7 +300,8 @@ pub fn named(
     word: Word,
     token: Terminal,
 ) -> Result<State, StepFault>
-    ensures { let s = at_named (blocks_of blocks) name word in Steps result (step s token) (nesting s token) }
+    ensures { let s = at_named (blocks_of blocks) name word in
+        Steps result (step s token) (nesting s token) }
 {
     let depth = blocks.depth;
     match (word, token) {
@@ -304,7 +327,8 @@ pub fn operands(
     pos: Pos,
     token: Terminal,
 ) -> Result<State, StepFault>
-    ensures { let s = at_operands (blocks_of blocks) pos in Steps result (step s token) (nesting s token) }
+    ensures { let s = at_operands (blocks_of blocks) pos in
+        Steps result (step s token) (nesting s token) }
 {
     let depth = blocks.depth;
     match token {
@@ -326,14 +350,24 @@ pub fn loop_header(
     pos: Pos,
     token: Terminal,
 ) -> Result<State, StepFault>
-    ensures { let s = at_for (blocks_of blocks) pos in Steps result (step s token) (nesting s token) }
+    ensures { let s = at_for (blocks_of blocks) pos in
+        Steps result (step s token) (nesting s token) }
 {
     let depth = blocks.depth;
     match token {
         Terminal::LeftBrace => {
-            enter(alloc, blocks.main, blocks.outer, Outer::For(blocks.done, pos, None), depth)
+            enter(
+                alloc,
+                blocks.main,
+                blocks.outer,
+                Outer::For(blocks.done, pos, None),
+                depth,
+            )
         }
-        _ => operand(begin(alloc, blocks, Head::Left(Opener::For(pos)), depth), token),
+        _ => operand(
+            begin(alloc, blocks, Head::Left(Opener::For(pos)), depth),
+            token,
+        ),
     }
 }
 
