@@ -1,25 +1,21 @@
 -- What may follow in each state of the machine.
-use Rattle.std.proofs.Common.{◌≡◌, ℕ, suc, max, ◌≤◌, List, [], ◌∷◌, ◌++◌, ◌⊎◌, inl, inr, Option, Some, None, refl, sym, ap, subst, ◌∙◌, append_assoc, arith}
+use Rattle.std.proofs.Common.{◌≡◌, ℕ, suc, max, ◌≤◌, List, [], ◌∷◌, ◌++◌, Option, Some, None, refl, sym, ap, ◌∙◌}
 use Rattle.base.specs.declared.pos.Pos.{Pos}
-use Rattle.parse_go.specs.declared.tree.BinOp.{BinOp}
-use Rattle.parse_go.specs.declared.tree.BinOp.TheVariants.{Sub}
 use Rattle.parse_go.specs.declared.tree.CompareOp.{CompareOp}
 use Rattle.parse_go.specs.declared.tree.Name.{Name}
-use Rattle.parse_go.specs.declared.terminal.Word.{Word}
-use Rattle.parse_go.specs.declared.terminal.Word.TheVariants.{Main, Println}
-use Rattle.parse_go.specs.declared.terminal.Terminal.{Terminal}
-use Rattle.parse_go.specs.declared.terminal.Terminal.TheVariants.{Package, Func, Identifier, Number, If, Else, For, Define, Assign, Compare, Operator, Comma, Semicolon, LeftParen, RightParen, LeftBrace, RightBrace}
+use Rattle.parse_go.specs.declared.terminal.Word.TheVariants.{Main}
+use Rattle.parse_go.specs.declared.terminal.Terminal.TheVariants.{Package, Func, Identifier, Else, Compare, Semicolon, LeftParen, RightParen, LeftBrace, RightBrace}
 use Rattle.parse_go.specs.declared.state.Stage.{Stage}
 use Rattle.parse_go.specs.declared.state.Stage.TheVariants as stage
-use Rattle.parse_go.specs.Tree.{Ex, Condition, compare, Stm, define, assign, print, choice, loop, block, Stms, nil, cons, Els, no_else, else_block, else_if}
+use Rattle.parse_go.specs.Tree.{Ex, Condition, compare, Stm, define, assign, print, loop, block, Stms, nil, Els, else_block}
 use Rattle.parse_go.specs.Terminals.{name_at}
-use Rattle.parse_go.specs.Heights.{precedence, height}
-use Rattle.parse_go.specs.Grammar.{ReadsEx, ReadsMore, ReadsOperands, ReadsCondition, ReadsLoopCondition, IsStm, defines, assigns, prints, chooses, repeats, blocks, IsElse, none, otherwise, otherwise_if, IsBody, close, empty, last, next, Function, header, IsMarked, Mark, inside}
-use Rattle.parse_go.specs.Outer.{joined, one, Branch, Outer, in_block, in_loop, in_then, in_else, chain_depth, brace_depth, whole_if}
-use Rattle.parse_go.specs.Frames.{Frame, prefixed, enclosed, awaiting, Opener, opens_if, opens_for, Head, defining, assigning, printing, comparing, compared, opener_depth, head_depth, open_depth}
-use Rattle.parse_go.specs.Machine.{Blocks, State, at_header, at_statement, at_named, at_operands, at_for, at_operand, at_operator, at_then, at_else, at_stop, at_last, at_end, with_statement, within, opened, around, up, operand, reduce, stop, ends, closes, step, statement_depth, nesting, nesting_at_stop, nesting_at_ends, nesting_at_closes}
-use Rattle.parse_go.proofs.Growth.{tightness, operand_first, precedence_small}
-use Rattle.parse_go.proofs.OpenFrames.{Iff, iff_trans, level, Valid, level_small, Have, Wants, Weak, paren_closes, paren_only, none_open, number_read, name_read, minus_read, paren_read, wants_first, operator_read, reduced, IsOpen, reduce_valid}
+use Rattle.parse_go.specs.Heights.{height}
+use Rattle.parse_go.specs.Grammar.{ReadsEx, ReadsMore, ReadsOperands, ReadsLoopCondition, IsStm, IsElse, IsBody, Function, header, IsMarked, Mark, inside}
+use Rattle.parse_go.specs.Outer.{joined, one, Outer, in_block, in_loop, in_then, in_else, chain_depth, brace_depth, whole_if}
+use Rattle.parse_go.specs.Frames.{Opener, Head, defining, assigning, printing, comparing, compared, opener_depth, head_depth}
+use Rattle.parse_go.specs.Machine.{Blocks, State, at_header, at_statement, at_named, at_operands, at_for, at_operand, at_operator, at_then, at_else, at_stop, at_last, at_end, with_statement, opened, statement_depth}
+use Rattle.parse_go.proofs.Growth.{tightness}
+use Rattle.parse_go.proofs.OpenFrames.{Valid, Have, Wants}
 
 -- the semicolon behind the function
 abbrev pub the_last : List Mark

@@ -10,7 +10,7 @@ use Rattle.scan_go.specs.declared.token.Kind.{Kind}
 use Rattle.scan_go.specs.declared.token.Kind.TheVariants as kind
 use Rattle.scan_go.specs.declared.token.Token.{Token}
 use Rattle.parse_go.specs.declared.terminal.Terminal.{Terminal}
-use Rattle.parse_go.specs.declared.terminal.Terminal.TheVariants.{Identifier, Compare, Operator, Semicolon, RightParen, LeftBrace, RightBrace}
+use Rattle.parse_go.specs.declared.terminal.Terminal.TheVariants.{Identifier, Compare, Operator, RightParen, LeftBrace}
 use Rattle.parse_go.specs.Tree.{Ex, number, name, unary, binary, paren, Condition, compare, Stm, Stms, Els}
 use Rattle.parse_go.specs.Terminals.{terminal_at, terminal_of, terminals_of}
 use Rattle.parse_go.specs.Heights.{precedence, height}

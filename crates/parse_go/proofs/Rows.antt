@@ -1,5 +1,5 @@
 -- Statements in memory as abstract syntax: the statements in a row are those of its vector, and one more at the end.
-use Rattle.std.proofs.Common.{◌≡◌, List, [], ◌∷◌, ◌++◌, refl, ap, ◌∙◌}
+use Rattle.std.proofs.Common.{◌≡◌, List, [], ◌∷◌, ◌++◌, refl, ap}
 use Rattle.parse_go.specs.declared.tree.Stmt.{Stmt, Row_of-Stmt, end_of-Stmt, more_of-Stmt, items-the_row-Stmt}
 use Rattle.parse_go.specs.Tree.{cons, stm_of, stms_of, row_of}
 use Rattle.parse_go.specs.Outer.{joined, one}

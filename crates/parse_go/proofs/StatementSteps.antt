@@ -1,26 +1,17 @@
 -- A terminal between the expressions of statements divides the texts by it from the left.
-use Rattle.std.proofs.Common.{◌≡◌, ℕ, suc, max, ◌≤◌, List, [], ◌∷◌, ◌++◌, ◌⊎◌, inl, inr, Option, Some, None, refl, sym, ap, subst, ◌∙◌, append_assoc, arith}
+use Rattle.std.proofs.Common.{◌≡◌, ℕ, suc, max, List, [], ◌∷◌, ◌⊎◌, inl, inr, Option, Some, None, refl, sym, ap, subst, ◌∙◌}
 use Rattle.base.specs.declared.pos.Pos.{Pos}
-use Rattle.parse_go.specs.declared.tree.BinOp.{BinOp}
-use Rattle.parse_go.specs.declared.tree.BinOp.TheVariants.{Sub}
-use Rattle.parse_go.specs.declared.tree.CompareOp.{CompareOp}
-use Rattle.parse_go.specs.declared.tree.Name.{Name}
-use Rattle.parse_go.specs.declared.terminal.Word.{Word}
-use Rattle.parse_go.specs.declared.terminal.Word.TheVariants.{Main, Println}
 use Rattle.parse_go.specs.declared.terminal.Terminal.{Terminal}
-use Rattle.parse_go.specs.declared.terminal.Terminal.TheVariants.{Package, Func, Identifier, Number, If, Else, For, Define, Assign, Compare, Operator, Comma, Semicolon, LeftParen, RightParen, LeftBrace, RightBrace}
-use Rattle.parse_go.specs.declared.state.Stage.{Stage}
-use Rattle.parse_go.specs.declared.state.Stage.TheVariants as stage
-use Rattle.parse_go.specs.Tree.{Ex, Condition, compare, Stm, define, assign, print, choice, loop, block, Stms, nil, cons, Els, no_else, else_block, else_if}
-use Rattle.parse_go.specs.Terminals.{name_at}
-use Rattle.parse_go.specs.Heights.{precedence, height}
-use Rattle.parse_go.specs.Grammar.{ReadsEx, ReadsMore, ReadsOperands, ReadsCondition, ReadsLoopCondition, IsStm, defines, assigns, prints, chooses, repeats, blocks, IsElse, none, otherwise, otherwise_if, IsBody, close, empty, last, next, Function, header, IsMarked, Mark, inside}
+use Rattle.parse_go.specs.declared.terminal.Terminal.TheVariants.{Identifier, If, Else, For, Compare, Semicolon, LeftBrace, RightBrace}
+use Rattle.parse_go.specs.Tree.{Condition, compare, Stm, choice, loop, block, Stms, nil, cons, Els, no_else, else_block, else_if}
+use Rattle.parse_go.specs.Heights.{height}
+use Rattle.parse_go.specs.Grammar.{ReadsEx, ReadsCondition, ReadsLoopCondition, IsStm, defines, assigns, prints, chooses, repeats, blocks, IsElse, none, otherwise, otherwise_if, IsBody, close, empty, last, next, Function, Mark, inside}
 use Rattle.parse_go.specs.Outer.{joined, one, Branch, Outer, in_block, in_loop, in_then, in_else, chain_depth, brace_depth, whole_if}
-use Rattle.parse_go.specs.Frames.{Frame, prefixed, enclosed, awaiting, Opener, opens_if, opens_for, Head, defining, assigning, printing, comparing, compared, opener_depth, head_depth, open_depth}
-use Rattle.parse_go.specs.Machine.{Blocks, State, at_header, at_statement, at_named, at_operands, at_for, at_operand, at_operator, at_then, at_else, at_stop, at_last, at_end, with_statement, within, opened, around, up, operand, reduce, stop, ends, closes, step, statement_depth, nesting, nesting_at_stop, nesting_at_ends, nesting_at_closes}
-use Rattle.parse_go.proofs.Growth.{tightness, operand_first, precedence_small}
-use Rattle.parse_go.proofs.OpenFrames.{Iff, iff_trans, level, Valid, level_small, Have, Wants, Weak, paren_closes, paren_only, none_open, number_read, name_read, minus_read, paren_read, wants_first, operator_read, reduced, IsOpen, reduce_valid}
-use Rattle.parse_go.proofs.Following.{the_last, FromBody, FromBrace, FromClose, FromOpen, FromFuncName, FromFunc, FromPackageEnd, FromPackageName, FromPackage, FromStage, Tail, brace, semi, Up, BehindStm, InBody, EndsCondition, Ends, Rest, Follows, ValidState, ValidNext}
+use Rattle.parse_go.specs.Frames.{Opener, opens_if, opens_for, comparing, opener_depth}
+use Rattle.parse_go.specs.Machine.{Blocks, at_statement, at_for, at_then, at_else, with_statement, within, opened, up, operand, stop, step, statement_depth, nesting, nesting_at_stop}
+use Rattle.parse_go.proofs.Growth.{operand_first}
+use Rattle.parse_go.proofs.OpenFrames.{Iff, iff_trans, Wants}
+use Rattle.parse_go.proofs.Following.{Tail, brace, semi, Up, BehindStm, InBody, Ends, Rest, Follows}
 
 joined_none : (a : Stms) → joined a nil ≡ a
 joined_none nil = refl

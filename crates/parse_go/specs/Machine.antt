@@ -1,9 +1,7 @@
 -- The parser as a machine that takes one terminal at a time.
 use Rattle.std.specs.Prelude.{ℕ, suc, max, List, [], ◌∷◌, ◌++◌, Option, Some, None, nat_le, if◌then◌else◌}
 use Rattle.base.specs.declared.pos.Pos.{Pos}
-use Rattle.parse_go.specs.declared.tree.BinOp.{BinOp}
 use Rattle.parse_go.specs.declared.tree.BinOp.TheVariants.{Sub}
-use Rattle.parse_go.specs.declared.tree.UnOp.{UnOp}
 use Rattle.parse_go.specs.declared.tree.UnOp.TheVariants.{Negate}
 use Rattle.parse_go.specs.declared.tree.Name.{Name}
 use Rattle.parse_go.specs.declared.terminal.Word.{Word}
@@ -12,7 +10,7 @@ use Rattle.parse_go.specs.declared.terminal.Terminal.{Terminal}
 use Rattle.parse_go.specs.declared.terminal.Terminal.TheVariants.{Package, Func, Identifier, Number, If, Else, For, Define, Assign, Compare, Operator, Comma, Semicolon, LeftParen, RightParen, LeftBrace, RightBrace}
 use Rattle.parse_go.specs.declared.state.Stage.{Stage}
 use Rattle.parse_go.specs.declared.state.Stage.TheVariants as stage
-use Rattle.parse_go.specs.Tree.{Ex, number, name, unary, binary, paren, Condition, compare, Stm, define, assign, print, choice, loop, block, Stms, nil, cons, Els, no_else, else_block, else_if}
+use Rattle.parse_go.specs.Tree.{Ex, number, name, unary, binary, paren, Condition, compare, Stm, define, assign, print, loop, block, Stms, nil, no_else, else_block}
 use Rattle.parse_go.specs.Grammar.{Function}
 use Rattle.parse_go.specs.Heights.{precedence, height}
 use Rattle.parse_go.specs.Outer.{joined, one, Branch, Outer, in_block, in_loop, in_then, in_else, chain_depth, brace_depth, whole_if}
