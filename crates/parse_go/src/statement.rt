@@ -1,10 +1,10 @@
 //! The steps of the machine between the expressions of a statement, and at its end.
 
 ghost use Rattle.std.specs.Prelude.{◌≡◌, ◌≤◌, ◌∷◌, [], max, suc, IfOk, Some};
-ghost use Rattle.parse_go.specs.Tree.{nil, ex_of, condition_of, stm_of, els_of};
+ghost use Rattle.parse_go.specs.Tree.{nil, ex_of, exs_of, condition_of, stm_of, stms_of, els_of};
 ghost use Rattle.parse_go.specs.Heights.{height};
 ghost use Rattle.parse_go.specs.Outer.{branch_of, branches_of, outer_of, outers_of, chain_depth, brace_depth, whole_if};
-ghost use Rattle.parse_go.specs.Frames.{compared, opener_depth, head_depth, opener_of, head_of};
+ghost use Rattle.parse_go.specs.Frames.{compared, printing, opener_depth, head_depth, opener_of, head_of};
 ghost use Rattle.parse_go.specs.Machine.{with_statement, at_operand, at_statement, at_named, at_operands, at_for, at_then, at_else, around, opened, statement_depth, up, stop, ends, step, nesting, nesting_at_stop, nesting_at_ends};
 ghost use Rattle.parse_go.specs.States.{blocks_of, state_of, Steps};
 
@@ -15,7 +15,7 @@ use crate::nodes::{append, block, else_block, repetition, whole_if};
 use crate::outer::{Branch, Outer};
 use crate::state::{Blocks, Function, Reading, State};
 use crate::terminal::{Terminal, Word};
-use crate::tree::{CompareOp, Cond, Else, Name, Stmt};
+use crate::tree::{CompareOp, Cond, Else, Expr, Name, Stmt};
 use base::Pos;
 use std::alloc::{AllocError, Global};
 
@@ -63,6 +63,20 @@ fn with_statement(blocks: Blocks, stmt: Stmt) -> Result<Blocks, AllocError>
     })
 }
 
+/// The blocks around the innermost one, where a statement has this nesting.
+fn around(main: Pos, outer: Vec<Outer>, done: Vec<Stmt>, depth: usize) -> Blocks
+    requires is_depth { depth ≡ suc (brace_depth (outers_of outer.items)) }
+    requires small { depth ≤ 201 }
+    ensures { blocks_of result ≡ around main (outers_of outer.items) (stms_of done.items) }
+{
+    Blocks {
+        main,
+        outer,
+        done,
+        depth,
+    }
+}
+
 /// The innermost block is closed.
 #[tactic(auto, using(crate::proofs::Chains::code_chain_depth))]
 fn close(alloc: Global, blocks: Blocks) -> Result<State, AllocError>
@@ -78,42 +92,23 @@ fn close(alloc: Global, blocks: Blocks) -> Result<State, AllocError>
     match outer.pop() {
         None => Ok(State::Last(Function { main, body })),
         Some(Outer::Block(done)) => {
-            let done = append(done, block(body))?;
-            Ok(State::Stop(Blocks {
-                main,
-                outer,
-                done,
-                depth: depth - 1,
-            }))
+            let blocks = around(main, outer, done, depth - 1);
+            Ok(State::Stop(with_statement(blocks, block(body))?))
         }
         Some(Outer::For(done, pos, cond)) => {
-            let done = append(done, repetition(pos, cond, body))?;
-            Ok(State::Stop(Blocks {
-                main,
-                outer,
-                done,
-                depth: depth - 1,
-            }))
+            let blocks = around(main, outer, done, depth - 1);
+            Ok(State::Stop(with_statement(blocks, repetition(pos, cond, body))?))
         }
         Some(Outer::Then(done, branches, pos, cond)) => {
-            let blocks = Blocks {
-                main,
-                outer,
-                done,
-                depth: depth - 1 - branches.len(),
-            };
+            let before = depth - 1 - branches.len();
+            let blocks = around(main, outer, done, before);
             Ok(State::Then(blocks, branches, Branch { pos, cond, body }))
         }
         Some(Outer::Else(done, branches, last)) => {
-            let depth = depth - 1 - branches.len();
+            let before = depth - 1 - branches.len();
+            let blocks = around(main, outer, done, before);
             let whole = whole_if(alloc, branches, last, else_block(body))?;
-            let done = append(done, whole)?;
-            Ok(State::Stop(Blocks {
-                main,
-                outer,
-                done,
-                depth,
-            }))
+            Ok(State::Stop(with_statement(blocks, whole)?))
         }
     }
 }
@@ -210,19 +205,8 @@ pub fn ends(
             let blocks = with_statement(blocks, Stmt::Assign(name, pos, part.expr))?;
             stop(alloc, blocks, token)
         }
-        Head::Print(pos, mut operands) => {
-            operands.push(part.expr)?;
-            match token {
-                Terminal::Comma => {
-                    let head = Head::Print(pos, operands);
-                    limited(depth, State::Operand(begin(alloc, blocks, head, depth)))
-                }
-                Terminal::RightParen => {
-                    let blocks = with_statement(blocks, Stmt::Print(pos, operands))?;
-                    limited(blocks.depth, State::Stop(blocks))
-                }
-                _ => Err(StepFault::Unexpected),
-            }
+        Head::Print(pos, operands) => {
+            ends_operand(alloc, blocks, pos, operands, depth, part.expr, token)
         }
         Head::Left(opener) => match token {
             Terminal::Compare(op) => compares(alloc, blocks, opener, depth, part, op),
@@ -239,6 +223,36 @@ pub fn ends(
             }
             _ => Err(StepFault::Unexpected),
         },
+    }
+}
+
+/// A token behind an operand of `println`.
+fn ends_operand(
+    alloc: Global,
+    blocks: Blocks,
+    pos: Pos,
+    mut operands: Vec<Expr>,
+    depth: usize,
+    operand: Expr,
+    token: Terminal,
+) -> Result<State, StepFault>
+    requires is_depth { depth ≡ suc (statement_depth (blocks_of blocks)) }
+    requires small { depth ≤ 202 }
+    ensures { let b = blocks_of blocks in
+        let h = printing pos (exs_of operands.items) in
+        Steps result (ends b h (ex_of operand) token) (nesting_at_ends b h (ex_of operand) token) }
+{
+    operands.push(operand)?;
+    match token {
+        Terminal::Comma => {
+            let head = Head::Print(pos, operands);
+            limited(depth, State::Operand(begin(alloc, blocks, head, depth)))
+        }
+        Terminal::RightParen => {
+            let blocks = with_statement(blocks, Stmt::Print(pos, operands))?;
+            limited(blocks.depth, State::Stop(blocks))
+        }
+        _ => Err(StepFault::Unexpected),
     }
 }
 
