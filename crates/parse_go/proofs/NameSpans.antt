@@ -1,5 +1,5 @@
 -- The names of a tree stand where tokens of the text stand.
-use Rattle.std.proofs.Common.{◌≡◌, ℕ, suc, max, ◌≤◌, List, [], ◌∷◌, length, sym, subst}
+use Rattle.std.proofs.Common.{◌≡◌, ℕ, suc, max, ◌≤◌, List, [], ◌∷◌, Option, Some, None, length, sym, subst}
 use Rattle.std.specs.Prelude.{All}
 use Rattle.base.specs.declared.pos.Pos.{Pos}
 use Rattle.std.proofs.lemmas.List.Elements.{All-head, All-tail}
@@ -10,12 +10,12 @@ use Rattle.scan_go.specs.declared.token.Kind.{Kind}
 use Rattle.scan_go.specs.declared.token.Kind.TheVariants as kind
 use Rattle.scan_go.specs.declared.token.Token.{Token}
 use Rattle.parse_go.specs.declared.terminal.Terminal.{Terminal}
-use Rattle.parse_go.specs.declared.terminal.Terminal.TheVariants.{Identifier, Operator, RightParen, RightBrace, Semicolon}
-use Rattle.parse_go.specs.Tree.{Ex, number, name, unary, binary, paren, Stm, define, print}
+use Rattle.parse_go.specs.declared.terminal.Terminal.TheVariants.{Identifier, Compare, Operator, RightParen, LeftBrace}
+use Rattle.parse_go.specs.Tree.{Ex, number, name, unary, binary, paren, Condition, compare, Stm, Stms, Els}
 use Rattle.parse_go.specs.Terminals.{terminal_at, terminal_of, terminals_of}
 use Rattle.parse_go.specs.Heights.{precedence, height}
-use Rattle.parse_go.specs.Grammar.{ReadsEx, ReadsMore, ReadsOperands, ReadsStm, Body, close, empty, last, next, Mark, inside, terminals_in, Function, IsMarked, IsProgram}
-use Rattle.parse_go.specs.Spans.{IsNameSpan, ExSpans, ExsSpans, StmSpans, StmsSpans}
+use Rattle.parse_go.specs.Grammar.{ReadsEx, ReadsMore, ReadsOperands, ReadsCondition, ReadsLoopCondition, IsStm, defines, assigns, prints, chooses, repeats, blocks, IsElse, none, otherwise, otherwise_if, IsBody, close, empty, last, next, Mark, inside, terminals_in, Function, IsMarked, IsProgram}
+use Rattle.parse_go.specs.Spans.{IsNameSpan, ExSpans, ExsSpans, ConditionSpans, LoopConditionSpans, StmSpans, StmsSpans, ElsSpans}
 
 abbrev HasSpan : ℕ → Terminal → Type 0
 HasSpan n (Identifier x w) = IsNameSpan n x
@@ -52,23 +52,58 @@ module _ (n : ℕ) where
       let k = more_spans d es r.0 rest r.2 i.1 in
       ((i.0, k.0), k.1)
 
-  stm_spans : (d : ℕ) (s : Stm) (ts rest : List Mark) → ReadsStm d s ts rest → HaveSpans n ts → StmSpans n s × HaveSpans n rest
-  stm_spans d (define x place e) ts rest r a =
-      let own = subst (HaveSpans n) r.2 a in
-      let i = ex_spans 1 d e r.1 rest r.3 own.1.1 in
-      ((own.0, i.0), i.1)
-  stm_spans d (print place es) ts rest r a = operands_spans d es r.2 rest r.4 (subst (HaveSpans n) r.3 a).1.1
+  condition_spans : (d : ℕ) (c : Condition) (ts rest : List Mark) → ReadsCondition d c ts rest → HaveSpans n ts → ConditionSpans n c × HaveSpans n rest
+  condition_spans d (compare op b e) ts rest r a =
+      let i = ex_spans 1 d b ts (inside (Compare op) (max d (suc (height b))) ∷ r.0) r.1 a in
+      let k = ex_spans 1 d e r.0 rest r.2 i.1.1 in
+      ((i.0, k.0), k.1)
 
-  body_spans : {d : ℕ} {ss : List Stm} {ts rest : List Mark} → Body d ss ts rest → HaveSpans n ts → StmsSpans n ss
-  body_spans close a = tt
-  body_spans (empty b) a = body_spans b a.1
-  body_spans {d} (last {s = s} {ts = ts} {rest = rest} r) a = ((stm_spans (suc d) s ts (inside RightBrace d ∷ rest) r a).0, tt)
-  body_spans {d} (next {s = s} {ts = ts} {m = m} r b) a =
-      let i = stm_spans (suc d) s ts (inside Semicolon (suc d) ∷ m) r a in
-      (i.0, body_spans b i.1.1)
+  loop_spans : (d : ℕ) (c : Option Condition) (ts rest : List Mark) → ReadsLoopCondition d c ts rest → HaveSpans n ts → LoopConditionSpans n c × HaveSpans n rest
+  loop_spans d None ts rest r a = (tt, subst (HaveSpans n) r a)
+  loop_spans d (Some c) ts rest r a = condition_spans d c ts rest r a
+
+  mutual
+    stm_spans : {d : ℕ} {s : Stm} {ts rest : List Mark} → IsStm d s ts rest → HaveSpans n ts → StmSpans n s × HaveSpans n rest
+    stm_spans (defines {d = d} {e = e} {m = m} {rest = rest} w r) a =
+        let i = ex_spans 1 d e m rest r a.1.1 in
+        ((a.0, i.0), i.1)
+    stm_spans (assigns {d = d} {e = e} {m = m} {rest = rest} w r) a =
+        let i = ex_spans 1 d e m rest r a.1.1 in
+        ((a.0, i.0), i.1)
+    stm_spans (prints {d = d} {es = es} {m = m} {rest = rest} behind opening r) a = operands_spans d es m rest r a.1.1
+    stm_spans (chooses {d = d} {c = c} {m = m} {k = k} r b l) a =
+        let i = condition_spans d c m (inside LeftBrace d ∷ k) r a.1 in
+        let j = body_spans b i.1.1 in
+        let o = else_spans l j.1 in
+        ((i.0, j.0, o.0), o.1)
+    stm_spans (repeats {d = d} {c = c} {m = m} {k = k} r b) a =
+        let i = loop_spans d c m (inside LeftBrace d ∷ k) r a.1 in
+        let j = body_spans b i.1.1 in
+        ((i.0, j.0), j.1)
+    stm_spans (blocks b) a = body_spans b a.1
+
+    else_spans : {d : ℕ} {e : Els} {ts rest : List Mark} → IsElse d e ts rest → HaveSpans n ts → ElsSpans n e × HaveSpans n rest
+    else_spans none a = (tt, a)
+    else_spans (otherwise b) a = body_spans b a.1.1
+    else_spans (otherwise_if {d = d} {c = c} {m = m} {k = k} r b l) a =
+        let i = condition_spans (suc d) c m (inside LeftBrace (suc d) ∷ k) r a.1.1 in
+        let j = body_spans b i.1.1 in
+        let o = else_spans l j.1 in
+        ((i.0, j.0, o.0), o.1)
+
+    body_spans : {d : ℕ} {ss : Stms} {ts rest : List Mark} → IsBody d ss ts rest → HaveSpans n ts → StmsSpans n ss × HaveSpans n rest
+    body_spans close a = (tt, a.1)
+    body_spans (empty b) a = body_spans b a.1
+    body_spans (last r) a =
+        let i = stm_spans r a in
+        ((i.0, tt), i.1.1)
+    body_spans (next r b) a =
+        let i = stm_spans r a in
+        let k = body_spans b i.1.1 in
+        ((i.0, k.0), k.1)
 
   function_spans : (ms : List Mark) (f : Function) → IsMarked ms f → HaveSpans n ms → StmsSpans n f.body
-  function_spans ms f h a = body_spans h.5 (subst (HaveSpans n) h.4 a).1.1.1.1.1.1.1.1
+  function_spans ms f h a = (body_spans h.5 (subst (HaveSpans n) h.4 a).1.1.1.1.1.1.1.1).0
 
   kind_span : (text : List ℕ) (k : Kind) (place : Pos) (behind : ℕ) → place.offset ≤ behind → behind ≤ n → HasSpan n (terminal_at text k place behind)
   kind_span text kind.Name place behind le within = (le, within)

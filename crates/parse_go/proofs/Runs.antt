@@ -8,7 +8,8 @@ use Rattle.parse_go.specs.Grammar.{Mark, inside, terminal_in, nesting_of, termin
 use Rattle.parse_go.specs.Faults.{Begins, InEachText, IsUnexpected, LastIsDeep, IsTooDeep}
 use Rattle.parse_go.specs.Machine.{State, at_header, at_end, step, nesting}
 use Rattle.parse_go.specs.States.{HasOneFunction}
-use Rattle.parse_go.proofs.Following.{Rest, Follows, ValidState, ValidNext, from_marked, to_marked, quotient}
+use Rattle.parse_go.proofs.Following.{Rest, Follows, ValidState, ValidNext, from_marked, to_marked}
+use Rattle.parse_go.proofs.ExpressionSteps.{quotient}
 use Rattle.parse_go.proofs.Viable.{valid_step, viable, unfinished}
 
 -- a text that begins with the terminals read so far: their nestings, and what follows

@@ -6,9 +6,13 @@ use Rattle.parse_go.specs.declared.tree.UnOp.{UnOp}
 use Rattle.parse_go.specs.declared.tree.Name.{Name}
 use Rattle.parse_go.specs.declared.frame.Frame.{Frame as CodeFrame}
 use Rattle.parse_go.specs.declared.frame.Frame.TheVariants as frame
+use Rattle.parse_go.specs.declared.tree.CompareOp.{CompareOp}
+use Rattle.parse_go.specs.declared.frame.Opener.{Opener as CodeOpener}
+use Rattle.parse_go.specs.declared.frame.Opener.TheVariants as opener
 use Rattle.parse_go.specs.declared.frame.Head.{Head as CodeHead}
 use Rattle.parse_go.specs.declared.frame.Head.TheVariants as head
 use Rattle.parse_go.specs.Tree.{Ex, ex_of, exs_of}
+use Rattle.parse_go.specs.Outer.{Branch, chain_depth, branches_of}
 
 -- a construct that is open
 pub data Frame : Type 0 where
@@ -19,16 +23,35 @@ pub data Frame : Type 0 where
   -- a left operand and its operator, without the right operand
   awaiting : Ex → BinOp → Frame
 
+-- what the block behind a condition belongs to
+pub data Opener : Type 0 where
+  -- an `if` that is the else of these branches, the innermost first
+  opens_if : List Branch → Pos → Opener
+  opens_for : Pos → Opener
+
 -- the statement whose expression is read
 pub data Head : Type 0 where
   defining : Name → Pos → Head
+  assigning : Name → Pos → Head
   -- the place of the word, and the operands before this one
   printing : Pos → List Ex → Head
+  -- the left operand of a condition
+  comparing : Opener → Head
+  -- the right operand of a condition, behind the left one and the comparison
+  compared : Opener → Ex → CompareOp → Head
 
--- how many brackets are open around the statement's expression
-abbrev pub head_depth : Head → ℕ
-head_depth (defining x place) = 1
-head_depth (printing place es) = 2
+-- the nesting of the words and braces of an `if` or `for`, where the statement's is d
+abbrev pub opener_depth : ℕ → Opener → ℕ
+opener_depth d (opens_if bs place) = chain_depth bs d
+opener_depth d (opens_for place) = d
+
+-- the nesting of the statement's expression, where the statement's is d
+abbrev pub head_depth : ℕ → Head → ℕ
+head_depth d (defining x place) = d
+head_depth d (assigning x place) = d
+head_depth d (printing place es) = suc d
+head_depth d (comparing o) = opener_depth d o
+head_depth d (compared o a op) = opener_depth d o
 
 -- how many brackets and prefixes are open, with b of them outside; the innermost frame stands first
 abbrev pub open_depth : ℕ → List Frame → ℕ
@@ -48,6 +71,13 @@ frame_of (frame.Right part op) = awaiting (ex_of part.expr) op
 abbrev pub frames_of : List CodeFrame → List Frame
 frames_of fs = reverse (map frame_of fs)
 
+abbrev pub opener_of : CodeOpener → Opener
+opener_of (opener.If bs place) = opens_if (branches_of bs.items) place
+opener_of (opener.For place) = opens_for place
+
 abbrev pub head_of : CodeHead → Head
 head_of (head.Define x place) = defining x place
+head_of (head.Assign x place) = assigning x place
 head_of (head.Print place es) = printing place (exs_of es.items)
+head_of (head.Left o) = comparing (opener_of o)
+head_of (head.Right o e op) = compared (opener_of o) (ex_of e) op

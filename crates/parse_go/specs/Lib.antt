@@ -1,7 +1,9 @@
 pub mod Tree
+pub mod FirstBytes
 pub mod Terminals
 pub mod Heights
 pub mod Grammar
+pub mod Outer
 pub mod Frames
 pub mod Machine
 pub mod States

@@ -6,6 +6,7 @@ use Rattle.parse_go.specs.declared.fault.ParseFault.TheVariants as parse_fault
 use Rattle.parse_go.specs.declared.fault.StepFault.{StepFault}
 use Rattle.parse_go.specs.declared.fault.StepFault.TheVariants as fault
 use Rattle.parse_go.specs.declared.state.Function.{Function as CodeFunction}
+use Rattle.parse_go.specs.declared.state.Blocks.{Blocks as CodeBlocks}
 use Rattle.parse_go.specs.declared.state.Reading.{Reading}
 use Rattle.parse_go.specs.declared.state.State.{State as CodeState}
 use Rattle.parse_go.specs.declared.state.State.TheVariants as state
@@ -13,33 +14,40 @@ use Rattle.parse_go.specs.Tree.{Ex, ex_of, stms_of}
 use Rattle.parse_go.specs.declared.terminal.Terminal.{Terminal}
 use Rattle.parse_go.specs.Grammar.{Function, IsProgram}
 use Rattle.parse_go.specs.Frames.{Frame, head_depth, open_depth, frames_of, head_of}
-use Rattle.parse_go.specs.Machine.{State, at_header, at_statement, at_named, at_operands, at_operand, at_operator, at_stop, at_last, at_end}
+use Rattle.parse_go.specs.Outer.{branch_of, branches_of, outers_of}
+use Rattle.parse_go.specs.Machine.{Blocks, around, statement_depth, State, at_header, at_statement, at_named, at_operands, at_for, at_operand, at_operator, at_then, at_else, at_stop, at_last, at_end}
 
 abbrev pub function_in : CodeFunction → Function
 function_in f = record { main = f.main; body = stms_of f.body.items }
+
+abbrev pub blocks_of : CodeBlocks → Blocks
+blocks_of b = around b.main (outers_of b.outer.items) (stms_of b.done.items)
 
 -- what is open in the expression that is read, and how deeply it is nested
 abbrev pub frames_in : Reading → List Frame
 frames_in r = frames_of r.frames.items
 
 abbrev pub depth_in : Reading → ℕ
-depth_in r = open_depth (head_depth (head_of r.head)) (frames_in r)
+depth_in r = open_depth (head_depth (statement_depth (blocks_of r.blocks)) (head_of r.head)) (frames_in r)
 
 -- its statement, with these frames open: an operand is wanted, or one was read
 abbrev pub wanting : Reading → List Frame → State
-wanting r fs = at_operand (function_in r.function) (head_of r.head) fs
+wanting r fs = at_operand (blocks_of r.blocks) (head_of r.head) fs
 
 abbrev pub having : Reading → List Frame → Ex → State
-having r fs e = at_operator (function_in r.function) (head_of r.head) fs e
+having r fs e = at_operator (blocks_of r.blocks) (head_of r.head) fs e
 
 abbrev pub state_of : CodeState → State
 state_of (state.Header g) = at_header g
-state_of (state.Statement f) = at_statement (function_in f)
-state_of (state.Named f x w) = at_named (function_in f) x w
-state_of (state.Operands f place) = at_operands (function_in f) place
+state_of (state.Statement b) = at_statement (blocks_of b)
+state_of (state.Named b x w) = at_named (blocks_of b) x w
+state_of (state.Operands b place) = at_operands (blocks_of b) place
+state_of (state.For b place) = at_for (blocks_of b) place
 state_of (state.Operand r) = wanting r (frames_in r)
 state_of (state.Operator r part) = having r (frames_in r) (ex_of part.expr)
-state_of (state.Stop f) = at_stop (function_in f)
+state_of (state.Then b bs last) = at_then (blocks_of b) (branches_of bs.items) (branch_of last)
+state_of (state.Else b bs last) = at_else (blocks_of b) (branches_of bs.items) (branch_of last)
+state_of (state.Stop b) = at_stop (blocks_of b)
 state_of (state.Last f) = at_last (function_in f)
 state_of (state.End f) = at_end (function_in f)
 

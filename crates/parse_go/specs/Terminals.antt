@@ -8,6 +8,7 @@ use Rattle.scan_go.specs.declared.token.Kind.{Kind}
 use Rattle.scan_go.specs.declared.token.Kind.TheVariants as kind
 use Rattle.scan_go.specs.declared.token.Token.{Token}
 use Rattle.parse_go.specs.declared.tree.BinOp.TheVariants as bin_op
+use Rattle.parse_go.specs.declared.tree.CompareOp.TheVariants as compare_op
 use Rattle.parse_go.specs.declared.tree.Name.{Name}
 use Rattle.parse_go.specs.declared.terminal.Word.{Word}
 use Rattle.parse_go.specs.declared.terminal.Word.TheVariants as word
@@ -28,7 +29,17 @@ terminal_at text kind.Name place behind = terminal.Identifier (name_at place beh
 terminal_at text (kind.Number n) place behind = terminal.Number place n
 terminal_at text (kind.Keyword keyword.Package) place behind = terminal.Package
 terminal_at text (kind.Keyword keyword.Func) place behind = terminal.Func
+terminal_at text (kind.Keyword keyword.If) place behind = terminal.If place
+terminal_at text (kind.Keyword keyword.Else) place behind = terminal.Else
+terminal_at text (kind.Keyword keyword.For) place behind = terminal.For place
 terminal_at text (kind.Op op.Define) place behind = terminal.Define place
+terminal_at text (kind.Op op.Assign) place behind = terminal.Assign place
+terminal_at text (kind.Op op.Equal) place behind = terminal.Compare compare_op.Equal
+terminal_at text (kind.Op op.NotEqual) place behind = terminal.Compare compare_op.NotEqual
+terminal_at text (kind.Op op.Less) place behind = terminal.Compare compare_op.Less
+terminal_at text (kind.Op op.LessEqual) place behind = terminal.Compare compare_op.LessEqual
+terminal_at text (kind.Op op.Greater) place behind = terminal.Compare compare_op.Greater
+terminal_at text (kind.Op op.GreaterEqual) place behind = terminal.Compare compare_op.GreaterEqual
 terminal_at text (kind.Op op.Plus) place behind = terminal.Operator place bin_op.Add
 terminal_at text (kind.Op op.Minus) place behind = terminal.Operator place bin_op.Sub
 terminal_at text (kind.Op op.Star) place behind = terminal.Operator place bin_op.Mul

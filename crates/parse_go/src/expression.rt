@@ -4,19 +4,20 @@ ghost use Rattle.std.specs.Prelude.{◌≡◌, ℕ, ◌≤◌, ◌+◌, ◌∷�
 ghost use Rattle.parse_go.specs.Tree.{ex_of, unary, binary, paren};
 ghost use Rattle.parse_go.specs.Heights.{precedence, height};
 ghost use Rattle.parse_go.specs.Frames.{Frame as AnyFrame, awaiting, open_depth, head_of, frame_of};
-ghost use Rattle.parse_go.specs.Machine.{at_operand, reduce, stop, ends, closes, step, nesting, nesting_at_stop, nesting_at_ends, nesting_at_closes};
-ghost use Rattle.parse_go.specs.States.{function_in, frames_in, depth_in, wanting, having, state_of, Steps};
+ghost use Rattle.parse_go.specs.Machine.{reduce, closes, step, nesting, nesting_at_closes};
+ghost use Rattle.parse_go.specs.States.{blocks_of, frames_in, depth_in, wanting, having, state_of, Steps};
 
 use crate::fault::StepFault;
-use crate::frame::{Frame, Head, Part};
-use crate::state::{Function, Reading, State};
+use crate::frame::{Frame, Part};
+use crate::state::{Reading, State};
+use crate::statement::ends;
 use crate::terminal::Terminal;
-use crate::tree::{BinOp, Expr, Stmt, UnOp};
+use crate::tree::{BinOp, Expr, UnOp};
 use base::Pos;
 use std::alloc::{AllocError, Global};
 
 /// The greatest nesting of a token.
-const MOST: u8 = 200;
+pub const MOST: usize = 200;
 
 /// The precedence of a binary operator, from 1 to 5.
 fn precedence(op: BinOp) -> u8
@@ -29,26 +30,21 @@ fn precedence(op: BinOp) -> u8
     }
 }
 
-/// The expression of a statement begins.
-pub fn begin(alloc: Global, function: Function, head: Head) -> Reading
-    ensures { state_of (State.Operand result) ≡ at_operand (function_in function) (head_of head) [] }
+/// The next state, where the token's nesting keeps the limit.
+pub fn limited(nesting: usize, next: State) -> Result<State, StepFault>
+    ensures { Steps result (Some (state_of next)) nesting }
 {
-    let depth = match &head {
-        Head::Define(_, _) => 1,
-        Head::Print(_, _) => 2,
-    };
-    Reading {
-        function,
-        head,
-        frames: Vec::new(alloc),
-        depth,
+    if nesting > MOST {
+        return Err(StepFault::TooDeep);
     }
+    Ok(next)
 }
 
 /// An operand that is one token.
 fn leaf(reading: Reading, expr: Expr) -> Result<State, StepFault>
     requires { height (ex_of expr) ≡ 0 }
-    ensures { Steps result (Some (having reading (frames_in reading) (ex_of expr))) (depth_in reading) }
+    ensures { Steps result (Some (having reading (frames_in reading) (ex_of expr)))
+        (depth_in reading) }
 {
     if reading.depth > MOST {
         return Err(StepFault::TooDeep);
@@ -64,7 +60,7 @@ fn deeper(reading: Reading, frame: Frame) -> Result<State, StepFault>
         (depth_in reading) }
 {
     let Reading {
-        function,
+        blocks,
         head,
         mut frames,
         depth,
@@ -74,7 +70,7 @@ fn deeper(reading: Reading, frame: Frame) -> Result<State, StepFault>
     }
     frames.push(frame)?;
     Ok(State::Operand(Reading {
-        function,
+        blocks,
         head,
         frames,
         depth: depth + 1,
@@ -83,7 +79,8 @@ fn deeper(reading: Reading, frame: Frame) -> Result<State, StepFault>
 
 /// A token where an operand is wanted.
 pub fn operand(reading: Reading, token: Terminal) -> Result<State, StepFault>
-    ensures { let s = state_of (State.Operand reading) in Steps result (step s token) (nesting s token) }
+    ensures { let s = state_of (State.Operand reading) in
+        Steps result (step s token) (nesting s token) }
 {
     match token {
         Terminal::Number(pos, n) => leaf(reading, Expr::Int(pos, n)),
@@ -137,11 +134,11 @@ fn reduce(
 ) -> Result<(Reading, Part), AllocError>
     ensures reduced { IfOk result (λ r. reduce p (frames_in reading) (ex_of part.expr)
         ≡ (frames_in r.0, ex_of r.1.expr)) }
-    ensures function { IfOk result (λ r. r.0.function ≡ reading.function) }
+    ensures blocks { IfOk result (λ r. r.0.blocks ≡ reading.blocks) }
     ensures head { IfOk result (λ r. r.0.head ≡ reading.head) }
 {
     let Reading {
-        function,
+        blocks,
         head,
         mut frames,
         mut depth,
@@ -167,7 +164,7 @@ fn reduce(
         }
     }
     let reading = Reading {
-        function,
+        blocks,
         head,
         frames,
         depth,
@@ -177,83 +174,42 @@ fn reduce(
 
 /// A binary operator behind its left operand.
 fn operator(mut reading: Reading, left: Part, op: BinOp) -> Result<State, StepFault>
-    ensures { Steps result (Some (wanting reading (awaiting (ex_of left.expr) op ∷ frames_in reading)))
+    ensures { let fs = awaiting (ex_of left.expr) op ∷ frames_in reading in
+        Steps result (Some (wanting reading fs))
         (max (depth_in reading) (suc (height (ex_of left.expr)))) }
 {
-    if reading.depth > MOST || left.height >= MOST {
+    if reading.depth > MOST || left.height >= 200 {
         return Err(StepFault::TooDeep);
     }
     reading.frames.push(Frame::Right(left, op))?;
     Ok(State::Operand(reading))
 }
 
-/// A token behind a statement.
-pub fn stop(function: Function, token: Terminal) -> Result<State, StepFault>
-    ensures { Steps result (stop (function_in function) token) (nesting_at_stop token) }
-{
-    match token {
-        Terminal::Semicolon => Ok(State::Statement(function)),
-        Terminal::RightBrace => Ok(State::Last(function)),
-        _ => Err(StepFault::Unexpected),
-    }
-}
-
-/// A token behind the whole expression of a statement.
-fn ends(
-    alloc: Global,
-    mut function: Function,
-    head: Head,
-    expr: Expr,
-    token: Terminal,
-) -> Result<State, StepFault>
-    ensures { Steps result (ends (function_in function) (head_of head) (ex_of expr) token)
-        (nesting_at_ends (head_of head) token) }
-{
-    match head {
-        Head::Define(name, pos) => {
-            function.body.push(Stmt::Define(name, pos, expr))?;
-            stop(function, token)
-        }
-        Head::Print(pos, mut operands) => {
-            operands.push(expr)?;
-            match token {
-                Terminal::Comma => {
-                    Ok(State::Operand(begin(alloc, function, Head::Print(pos, operands))))
-                }
-                Terminal::RightParen => {
-                    function.body.push(Stmt::Print(pos, operands))?;
-                    Ok(State::Stop(function))
-                }
-                _ => Err(StepFault::Unexpected),
-            }
-        }
-    }
-}
-
 /// A token that is no operator, behind what binds more tightly than any operator.
 fn closes(alloc: Global, reading: Reading, part: Part, token: Terminal) -> Result<State, StepFault>
-    ensures { let h = head_of reading.head in
-        Steps result (closes (function_in reading.function) h (frames_in reading) (ex_of part.expr) token)
-        (nesting_at_closes h (frames_in reading) token) }
+    ensures { let b = blocks_of reading.blocks in
+        let h = head_of reading.head in
+        Steps result (closes b h (frames_in reading) (ex_of part.expr) token)
+        (nesting_at_closes b h (frames_in reading) (ex_of part.expr) token) }
 {
     let Reading {
-        function,
+        blocks,
         head,
         mut frames,
         depth,
     } = reading;
     match frames.pop() {
-        None => ends(alloc, function, head, part.expr, token),
+        None => ends(alloc, blocks, head, depth, part, token),
         Some(Frame::Paren(pos)) => match token {
             Terminal::RightParen => {
                 let part = in_parens(alloc, pos, part)?;
                 let reading = Reading {
-                    function,
+                    blocks,
                     head,
                     frames,
                     depth: depth - 1,
                 };
-                Ok(State::Operator(reading, part))
+                limited(depth - 1, State::Operator(reading, part))
             }
             _ => Err(StepFault::Unexpected),
         },

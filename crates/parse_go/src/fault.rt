@@ -17,8 +17,8 @@ pub enum ParseFault {
     /// where the tokens end too early, the place is behind the last byte of the text.
     #[error("unexpected token")]
     Unexpected(Pos),
-    /// The first token whose nesting reaches 201: the number of brackets and prefixes that are open around it; at a
-    /// binary operator at least one more than the height of the tree to its left.
+    /// The first token whose nesting reaches 201: the number of brackets, prefixes and else-ifs that are open around
+    /// it; at a binary operator or comparison at least one more than the height of the tree to its left.
     #[error("nested too deeply")]
     TooDeep(Pos),
 }

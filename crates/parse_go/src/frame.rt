@@ -4,7 +4,8 @@ ghost use Rattle.std.specs.Prelude.{◌≡◌, ◌≤◌};
 ghost use Rattle.parse_go.specs.Tree.{ex_of};
 ghost use Rattle.parse_go.specs.Heights.{capped_height};
 
-use crate::tree::{BinOp, Expr, Name, UnOp};
+use crate::outer::Branch;
+use crate::tree::{BinOp, CompareOp, Expr, Name, UnOp};
 use base::Pos;
 
 /// An expression and its height, which counts to 201.
@@ -26,11 +27,26 @@ pub enum Frame {
     Right(Part, BinOp),
 }
 
+/// What the block behind a condition belongs to.
+#[derive(Drop)]
+pub enum Opener {
+    /// An `if`: the branches that it is the else of, the innermost last, and its place.
+    If(Vec<Branch>, Pos),
+    /// A `for`, with its place.
+    For(Pos),
+}
+
 /// The statement whose expression is read.
 #[derive(Drop)]
 pub enum Head {
     /// The name, and the place of the `:=`.
     Define(Name, Pos),
+    /// The name, and the place of the `=`.
+    Assign(Name, Pos),
     /// The place of the word `println`, and the operands before this one.
     Print(Pos, Vec<Expr>),
+    /// The left operand of a condition is read.
+    Left(Opener),
+    /// The right operand of a condition is read, behind the left one and the comparison.
+    Right(Opener, Expr, CompareOp),
 }

@@ -44,7 +44,8 @@ fn function_of(
     tokens: &[Token],
     behind: Pos,
 ) -> Result<Function, ParseFault>
-    ensures found { IfOk result (λ f. IsProgram (terminals_of text.now tokens.now) (function_in f)) }
+    ensures found { IfOk result
+        (λ f. IsProgram (terminals_of text.now tokens.now) (function_in f)) }
     ensures one { IfOk result
         (λ f. HasOneFunction (terminals_of text.now tokens.now) (function_in f)) }
     ensures fault { IfErr result (IsFirstFault text.now tokens.now behind) }
@@ -68,10 +69,12 @@ pub fn parse(alloc: Global, tokens: &Tokens) -> Result<Tree, ParseFault>
     ensures found { IfOk result (λ tree. IsText tokens.now.text tokens.now.list (syntax_of tree)) }
 
     // Where they have a tree it is answered, unless memory runs out; so they have no other.
-    ensures only { (tree : Syntax) → IsText tokens.now.text tokens.now.list tree → GivesTree result tree }
+    ensures only { (tree : Syntax) → IsText tokens.now.text tokens.now.list tree
+        → GivesTree result tree }
 
     // The span of each name lies in the text.
-    ensures spans { IfOk result (λ tree. StmsSpans (length tokens.now.text) (stms_of tree.body.items)) }
+    ensures spans { IfOk result
+        (λ tree. StmsSpans (length tokens.now.text) (stms_of tree.body.items)) }
 
     // The first token with which no text begins, or the first whose nesting passes the limit.
     ensures fault { let behind = pos_at tokens.now.text (length tokens.now.text) in

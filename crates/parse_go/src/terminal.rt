@@ -4,7 +4,7 @@ ghost use Rattle.std.specs.Prelude.{◌≡◌};
 ghost use Rattle.parse_go.specs.Tree.{spelled};
 ghost use Rattle.parse_go.specs.Terminals.{word_of, terminal_of};
 
-use crate::tree::{BinOp, Name};
+use crate::tree::{BinOp, CompareOp, Name};
 use base::Pos;
 use scan_go::{Keyword, Kind, Op, Token};
 
@@ -23,7 +23,12 @@ pub enum Terminal {
     Func,
     Identifier(Name, Word),
     Number(Pos, u128),
+    If(Pos),
+    Else,
+    For(Pos),
     Define(Pos),
+    Assign(Pos),
+    Compare(CompareOp),
     Operator(Pos, BinOp),
     Comma,
     Semicolon,
@@ -72,7 +77,17 @@ pub fn terminal_of(text: &[u8], token: Token) -> Terminal
         Kind::Number(n) => Terminal::Number(pos, n),
         Kind::Keyword(Keyword::Package) => Terminal::Package,
         Kind::Keyword(Keyword::Func) => Terminal::Func,
+        Kind::Keyword(Keyword::If) => Terminal::If(pos),
+        Kind::Keyword(Keyword::Else) => Terminal::Else,
+        Kind::Keyword(Keyword::For) => Terminal::For(pos),
         Kind::Op(Op::Define) => Terminal::Define(pos),
+        Kind::Op(Op::Assign) => Terminal::Assign(pos),
+        Kind::Op(Op::Equal) => Terminal::Compare(CompareOp::Equal),
+        Kind::Op(Op::NotEqual) => Terminal::Compare(CompareOp::NotEqual),
+        Kind::Op(Op::Less) => Terminal::Compare(CompareOp::Less),
+        Kind::Op(Op::LessEqual) => Terminal::Compare(CompareOp::LessEqual),
+        Kind::Op(Op::Greater) => Terminal::Compare(CompareOp::Greater),
+        Kind::Op(Op::GreaterEqual) => Terminal::Compare(CompareOp::GreaterEqual),
         Kind::Op(Op::Plus) => Terminal::Operator(pos, BinOp::Add),
         Kind::Op(Op::Minus) => Terminal::Operator(pos, BinOp::Sub),
         Kind::Op(Op::Star) => Terminal::Operator(pos, BinOp::Mul),

@@ -1,6 +1,6 @@
 //! Texts whose trees and faults are known from outside.
 
-use crate::{BinOp, Expr, Name, ParseFault, Stmt, Tree, parse};
+use crate::{BinOp, CompareOp, Else, Expr, Name, ParseFault, Stmt, Tree, parse};
 use base::Pos;
 use scan_go::scan;
 use std::alloc::{AllocError, Global};
@@ -71,7 +71,7 @@ fn shapes(rt: HostRuntime) -> Result<(), Fail> {
                         write_shape(operand, &mut shape)?;
                     }
                 }
-                Stmt::Define(_, _, _) => shape.push('?')?,
+                _ => shape.push('?')?,
             }
         }
         assert_eq!(rt; shape.as_str(), want);
@@ -92,9 +92,48 @@ fn faults_and_their_places(rt: HostRuntime) {
         ("package main; func main() { println(1,) }", 1, 38, 1, 39),
         ("package main; func main() { x := 1 y := 2 }", 1, 35, 1, 36),
         ("package main; func main() { x(1) }", 1, 29, 1, 30),
-        ("package main; func main() { x = 1 }", 1, 30, 1, 31),
         ("package main; func main() { x := (1\n) }", 1, 35, 1, 36),
         ("package main; func main() { }; func", 1, 31, 1, 32),
+        ("package main; func main() { x == 1 }", 1, 30, 1, 31),
+        ("package main; func main() { if x { } }", 1, 33, 1, 34),
+        ("package main; func main() { if (x < 1) { } }", 1, 34, 1, 35),
+        (
+            "package main; func main() { for x < 1 < 2 { } }",
+            1,
+            38,
+            1,
+            39,
+        ),
+        (
+            "package main; func main() { if x < 1 { } else x = 1 }",
+            1,
+            46,
+            1,
+            47,
+        ),
+        (
+            "package main; func main() { if x < 1 { }\nelse { } }",
+            1,
+            41,
+            2,
+            1,
+        ),
+        (
+            "package main; func main() { if x < 1 { } x = 1 }",
+            1,
+            41,
+            1,
+            42,
+        ),
+        (
+            "package main; func main() { for { } else { } }",
+            1,
+            36,
+            1,
+            37,
+        ),
+        ("package main; func main() { { { } }", 1, 35, 1, 36),
+        ("package main; func main() { { } } }", 1, 34, 1, 35),
     ];
     for (text, number, offset, line, col) in rows {
         match tree_of(&rt, rt.alloc(), text) {
@@ -145,6 +184,71 @@ fn limits(rt: HostRuntime) -> Result<(), Fail> {
         };
         assert_eq!(rt; found, want);
     }
+    Ok(())
+}
+
+/// Blocks and else-ifs in one another count: how often, and where they are too deep.
+#[test]
+fn limits_of_statements(rt: HostRuntime) -> Result<(), Fail> {
+    let alloc = rt.alloc();
+    let rows = [
+        ("{", "}", 200, None),
+        ("{", "}", 201, Some(28 + 200)),
+        ("for x<1{", "}", 200, None),
+        ("for x<1{", "}", 201, Some(28 + 8 * 200)),
+        ("if x<1{}else ", "{}", 199, None),
+        ("if x<1{}else ", "{}", 200, None),
+        ("if x<1{}else ", "{}", 201, Some(28 + 13 * 200)),
+    ];
+    for (front, behind, n, want) in rows {
+        let mut text = String::new(alloc);
+        text.push_str("package main; func main() { ")?;
+        for _ in 0..n {
+            text.push_str(front)?;
+        }
+        let closing = if behind == "}" { n } else { 1 };
+        for _ in 0..closing {
+            text.push_str(behind)?;
+        }
+        text.push_str(" }")?;
+        let found = match tree_of(&rt, alloc, text.as_str()) {
+            Ok(_) => None,
+            Err(ParseFault::TooDeep(pos)) => Some(pos.offset),
+            Err(_) => panic!(rt; "another fault"),
+        };
+        assert_eq!(rt; found, want, "{n} times {front}");
+    }
+    Ok(())
+}
+
+/// What stands in an `if` with its elses, in a `for` and in a block.
+#[test]
+fn statements(rt: HostRuntime) -> Result<(), Fail> {
+    let alloc = rt.alloc();
+    let text =
+        "package main; func main() { if x <= -1 { x = 1; ; } else if (x) != 2 { } else { { }; println(x) }; for { } }";
+    let tree = tree_of(&rt, alloc, text)?;
+    assert_eq!(rt; tree.body.len(), 2);
+    match &tree.body[0] {
+        Stmt::If(pos, cond, body, Else::If(second_pos, second, second_body, others)) => {
+            assert_eq!(rt; pos.offset, 28);
+            assert_eq!(rt; cond.op, CompareOp::LessEqual);
+            assert_eq!(rt; cond.pos().offset, 31);
+            assert!(rt; matches!(body.as_slice(), [Stmt::Assign(_, _, Expr::Int(_, 1))]));
+            assert_eq!(rt; second_pos.offset, 57);
+            assert_eq!(rt; second.op, CompareOp::NotEqual);
+            assert_eq!(rt; second.pos().offset, 60);
+            assert_eq!(rt; second_body.len(), 0);
+            match &**others {
+                Else::Block(last) => {
+                    assert!(rt; matches!(last.as_slice(), [Stmt::Block(_), Stmt::Print(_, _)]));
+                }
+                _ => panic!(rt; "no last else"),
+            }
+        }
+        _ => panic!(rt; "no if with an else-if"),
+    }
+    assert!(rt; matches!(&tree.body[1], Stmt::For(_, None, _)));
     Ok(())
 }
 
@@ -206,7 +310,7 @@ fn places(rt: HostRuntime) -> Result<(), Fail> {
             );
             assert_eq!(rt; operands.len(), 0);
         }
-        Stmt::Define(_, _, _) => panic!(rt; "no println"),
+        _ => panic!(rt; "no println"),
     }
     Ok(())
 }
