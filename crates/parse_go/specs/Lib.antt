@@ -1,10 +1,2 @@
 pub mod Tree
-pub mod Terminals
-pub mod Heights
-pub mod Grammar
-pub mod Frames
-pub mod Machine
-pub mod States
-pub mod Faults
-pub mod FaultNumbers
-pub mod Spans
+pub mod FirstBytes

@@ -1,37 +1,6 @@
-//! The tree of a Go text, from its tokens.
-//!
-//! The parser is a machine that takes one token at a time. Its state holds what was read: the statements that are
-//! whole, the statement that is open, and, for an expression, the stack of what is open in it (a prefix, a
-//! parenthesis, an operator that waits for its right operand). A binary operator first closes what binds at least as
-//! tightly, and then waits itself; any other token closes all up to the innermost parenthesis. Nothing is ever taken
-//! back, nothing is read ahead, and no function calls itself, so the work is linear in the number of tokens and
-//! the depth of the text needs no stack of the program's own.
-//!
-//! That the answer is right rests on one relation: for each state, which tokens may still follow, and to which tree
-//! they lead (`Rest`). At the start these are the texts of the grammar. Reading a token divides them by it from the
-//! left: a token with some others may follow exactly where the others may follow in the next state; where the machine
-//! has no next state, nothing that begins with the token may follow. And in each state something may follow, so the
-//! tokens that were read are always the beginning of some text (a viable prefix). From this come all that the contract
-//! of `parse` says: what is answered is a tree of the tokens, there is no other, and the token that is reported is the
-//! first with which no text begins.
-//!
-//! Each token has a nesting, which is bounded: the number of brackets and prefixes that are open around it and, at a
-//! binary operator, at least one more than the height of the tree to its left. The grammar itself speaks of tokens with their
-//! nestings, so the bound is a fact of a text and not a second grammar.
+//! The tree of a Go text.
 #![tactic(auto)]
 
-mod expression;
-mod fault;
-mod frame;
-mod machine;
-mod parsing;
-mod state;
-mod terminal;
 mod tree;
 
-pub use fault::ParseFault;
-pub use parsing::parse;
-pub use tree::{BinOp, Expr, Name, Stmt, Tree, UnOp};
-
-#[cfg(test)]
-mod tests;
+pub use tree::{BinOp, CompareOp, Cond, Else, Expr, Name, Stmt, Tree, UnOp};

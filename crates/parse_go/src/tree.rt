@@ -1,5 +1,7 @@
 //! Trees, as they lie in memory.
 
+ghost use Rattle.std.specs.Prelude.{◌≡◌};
+
 use base::Pos;
 
 /// A name of the text: where it begins, and the offset behind its last byte.
@@ -33,13 +35,80 @@ pub enum Expr {
     Paren(Pos, Box<Expr>),
 }
 
+impl Expr {
+    ghost use Rattle.parse_go.specs.Tree.{ex_of};
+    ghost use Rattle.parse_go.specs.FirstBytes.{first_place};
+
+    /// The place of its first byte.
+    pub fn pos(&self) -> Pos
+        ensures { result ≡ first_place (ex_of self.now) }
+    {
+        match self {
+            Expr::Int(pos, _) => *pos,
+            Expr::Name(name) => name.pos,
+            Expr::Unary(pos, _, _) => *pos,
+            Expr::Binary(_, left, _) => left.pos(),
+            Expr::Paren(pos, _) => *pos,
+        }
+    }
+}
+
+/// A comparison.
+#[derive(Clone, Copy, Debug, PartialEq, Eq)]
+pub enum CompareOp {
+    Equal,
+    NotEqual,
+    Less,
+    LessEqual,
+    Greater,
+    GreaterEqual,
+}
+
+/// A condition. It begins where its left operand begins.
+#[derive(Drop)]
+pub struct Cond {
+    pub op: CompareOp,
+    pub left: Expr,
+    pub right: Expr,
+}
+
+impl Cond {
+    ghost use Rattle.parse_go.specs.Tree.{condition_of};
+    ghost use Rattle.parse_go.specs.FirstBytes.{condition_place};
+
+    /// The place of its first byte.
+    pub fn pos(&self) -> Pos
+        ensures { result ≡ condition_place (condition_of self.now) }
+    {
+        self.left.pos()
+    }
+}
+
 /// A statement.
 #[derive(Drop)]
+#[cycle(statement)]
 pub enum Stmt {
     /// The name, the place of the `:=`, and the value.
     Define(Name, Pos, Expr),
+    /// The name, the place of the `=`, and the value.
+    Assign(Name, Pos, Expr),
     /// `println`: the place of the word, and the operands.
     Print(Pos, Vec<Expr>),
+    /// The place of the `if`, its condition and body, and what stands behind them.
+    If(Pos, Cond, Vec<Stmt>, Else),
+    /// The place of the `for`, its condition, if it has one, and its body.
+    For(Pos, Option<Cond>, Vec<Stmt>),
+    Block(Vec<Stmt>),
+}
+
+/// What stands behind the body of an `if`.
+#[derive(Drop)]
+#[cycle(statement)]
+pub enum Else {
+    Absent,
+    Block(Vec<Stmt>),
+    /// Another `if`: its place, its condition and body, and what stands behind them.
+    If(Pos, Cond, Vec<Stmt>, Box<Else>),
 }
 
 /// The tree of a text, with a copy of the text: the place of the name `main`, and the statements of that function.

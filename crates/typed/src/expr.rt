@@ -7,6 +7,7 @@ use base::{Pos, SiteId};
 #[derive(Clone, Copy, Debug, PartialEq, Eq)]
 pub enum Const {
     Int(i64),
+    Bool(bool),
 }
 
 /// An expression with one value. An operator that can panic has the place that a panic would name: the first byte of
