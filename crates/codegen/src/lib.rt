@@ -18,6 +18,7 @@
 #![tactic(auto)]
 
 mod emitting;
+mod lengths;
 mod running;
 mod slots;
 #[cfg(test)]

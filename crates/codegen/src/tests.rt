@@ -1,5 +1,4 @@
 //! What no clause says: that the calls succeed where memory is ample.
-
 ghost use Rattle.std.specs.Prelude.{◌≡◌, IfOk};
 ghost use Rattle.typed.specs.View.{program_of};
 ghost use Rattle.typed.specs.Form.{IsInForm};
@@ -7,10 +6,10 @@ ghost use Rattle.typed.specs.Frames.{temps_of, frame_of};
 
 use crate::{RunFault, emit, run};
 use base::{Pos, SiteId};
-use outside::{MemSink, Sink};
+use outside::MemSink;
 use std::alloc::Global;
 use std::test::Fail;
-use typed::{BinOp, Const, Expr, Func, Program, Site, Stmt, UnOp};
+use typed::{BinOp, Const, Expr, Func, Program, Site, Stmt};
 
 const AT: Pos = Pos {
     offset: 0,
@@ -18,19 +17,25 @@ const AT: Pos = Pos {
     col: 1,
 };
 
-// x := 9223372036854775807; println(x + 1, -x)
-fn sample(alloc: Global) -> Result<Program, Fail>
-    ensures { IfOk result (λ p. IsInForm (program_of p) × (temps_of (program_of p) ≡ 2) × (frame_of (program_of p) ≡ 5)) }
+// x := 3; for x > 0 { println(x, x*x-1); x = x - 1 }
+fn countdown(alloc: Global) -> Result<Program, Fail>
+    ensures { IfOk result (λ p. IsInForm (program_of p) × (temps_of (program_of p) ≡ 3) × (frame_of (program_of p) ≡ 6)) }
 {
-    let x = Box::new(alloc, Expr::Local(SiteId(0)))?;
+    let a = Box::new(alloc, Expr::Local(SiteId(0)))?;
+    let zero = Box::new(alloc, Expr::Constant(Const::Int(0)))?;
+    let test = Expr::Binary(AT, BinOp::Greater, a, zero);
+    let b = Box::new(alloc, Expr::Local(SiteId(0)))?;
+    let c = Box::new(alloc, Expr::Local(SiteId(0)))?;
+    let square = Box::new(alloc, Expr::Binary(AT, BinOp::Mul, b, c))?;
     let one = Box::new(alloc, Expr::Constant(Const::Int(1)))?;
-    let same = Box::new(alloc, Expr::Local(SiteId(0)))?;
-    let operands = vec![in alloc;
-        Expr::Binary(AT, BinOp::Add, x, one),
-        Expr::Unary(UnOp::Negate, same),
-    ]?;
-    let first = Expr::Constant(Const::Int(9223372036854775807));
-    let body = vec![in alloc; Stmt::Define(SiteId(0), first), Stmt::Print(operands)]?;
+    let less = Expr::Binary(AT, BinOp::Sub, square, one);
+    let line = Stmt::Print(vec![in alloc; Expr::Local(SiteId(0)), less]?);
+    let d = Box::new(alloc, Expr::Local(SiteId(0)))?;
+    let again = Box::new(alloc, Expr::Constant(Const::Int(1)))?;
+    let next = Stmt::Assign(SiteId(0), Expr::Binary(AT, BinOp::Sub, d, again));
+    let round = vec![in alloc; line, next]?;
+    let first = Stmt::Define(SiteId(0), Expr::Constant(Const::Int(3)));
+    let body = vec![in alloc; first, Stmt::Loop(test, round)]?;
     let sites = vec![in alloc; Site { pos: AT }]?;
     Ok(Program {
         main: Func { pos: AT, body },
@@ -39,27 +44,40 @@ fn sample(alloc: Global) -> Result<Program, Fail>
 }
 
 #[test]
-fn a_line_is_printed(rt: HostRuntime) -> Result<(), Fail> {
-    let program = sample(rt.alloc())?;
-    let code = emit(rt.alloc(), &program, 2)?;
-    let mut out = MemSink::new(rt.alloc(), Vec::new(rt.alloc()));
-    assert_eq!(rt; run(rt.alloc(), &code, 5, &mut out), Ok(()));
-    assert_eq!(rt;
-        out.bytes(),
-        b"-9223372036854775808 -9223372036854775807\n".as_slice()
-    );
+fn rounds_are_printed(rt: HostRuntime) -> Result<(), Fail> {
+    let program = countdown(rt.alloc())?;
+    let code = emit(rt.alloc(), &program, 3)?;
+    let cases: [(u64, u64, Result<u8, RunFault>, &[u8]); 3] = [
+        (6, 1000, Ok(0), b"3 8\n2 3\n1 0\n"),
+        (6, 0, Err(RunFault::Steps), b""),
+        (
+            5,
+            1000,
+            Err(RunFault::StackLimit {
+                used: 0,
+                asked: 6,
+                limit: 5,
+            }),
+            b"",
+        ),
+    ];
+    for (stack, steps, want, printed) in cases {
+        let mut out = MemSink::new(rt.alloc(), Vec::new(rt.alloc()));
+        assert_eq!(rt; run(rt.alloc(), &code, 6, stack, steps, &mut out), want);
+        assert_eq!(rt; out.bytes(), printed);
+    }
     Ok(())
 }
 
 #[test]
 fn a_failed_write_ends_the_run(rt: HostRuntime) -> Result<(), Fail> {
-    let program = sample(rt.alloc())?;
-    let code = emit(rt.alloc(), &program, 2)?;
+    let program = countdown(rt.alloc())?;
+    let code = emit(rt.alloc(), &program, 3)?;
     let mut out = MemSink::new(rt.alloc(), vec![in rt.alloc(); 2]?);
     assert_eq!(rt;
-        run(rt.alloc(), &code, 5, &mut out),
+        run(rt.alloc(), &code, 6, 1000, 1000, &mut out),
         Err(RunFault::WriteFault)
     );
-    assert_eq!(rt; out.bytes(), b"-9223372036854775808".as_slice());
+    assert_eq!(rt; out.bytes(), b"3".as_slice());
     Ok(())
 }

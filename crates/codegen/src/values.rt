@@ -24,6 +24,12 @@ fn operation(op: BinOp) -> isa::BinOp
         BinOp::Add => isa::BinOp::Add,
         BinOp::Sub => isa::BinOp::Sub,
         BinOp::Mul => isa::BinOp::Mul,
+        BinOp::Equal => isa::BinOp::Equal,
+        BinOp::NotEqual => isa::BinOp::NotEqual,
+        BinOp::Less => isa::BinOp::Less,
+        BinOp::LessEqual => isa::BinOp::LessEqual,
+        BinOp::Greater => isa::BinOp::Greater,
+        BinOp::GreaterEqual => isa::BinOp::GreaterEqual,
     }
 }
 
