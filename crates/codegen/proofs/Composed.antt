@@ -1,22 +1,21 @@
 -- What a run of the machine and the theorem give together.
-use Rattle.std.proofs.Common.{◌≡◌, ℕ, ◌+◌, ◌*◌, ◌/◌, ◌<◌, ◌≤◌, List, [], ◌∷◌, ◌++◌, Option, Some, None, Bool, true, false, sym, refl, ap, ◌∙◌, subst, arith, length, append_assoc, append-nil}
+use Rattle.std.proofs.Common.{◌≡◌, ℕ, ◌/◌, List, [], ◌∷◌, ◌++◌, Option, Some, None, Bool, true, false, sym, refl, ap, ◌∙◌, subst, arith, append_assoc}
 use Rattle.std.specs.Prelude.{replicate, nat_le, if◌then◌else◌}
-use Rattle.outside.specs.Causes.{Rose}
-use Rattle.outside.specs.Took.{Took, TookPrefix}
+use Rattle.outside.specs.Took.{Took}
 use Rattle.outside.proofs.Took.{Took-nothing}
 use Rattle.typed.specs.Syntax.{Program}
 use Rattle.meaning.specs.Trace.{Ending, Exit, Panic, Turns, StackLimit}
 use Rattle.meaning.specs.Meaning.{Answer}
 use Rattle.meaning.specs.Output.{source, output}
 use Rattle.simulation.specs.Outcome.{Outcome, Gives, Ends, Unfinished, Below, events_in, ending_in}
-use Rattle.simulation.specs.Steps.{Done, Goes, Stops, events_of, many, shown_by, exec}
+use Rattle.simulation.specs.Steps.{Stops, events_of, many, shown_by}
 use Rattle.simulation.proofs.Whole.{shows, events_shown, ending_giving}
 use Rattle.isa.specs.Code.{Tables}
-use Rattle.machine.specs.Machine.{State, Does, Event, Printed, bytes_of, act}
+use Rattle.machine.specs.Machine.{State, Does, Event, bytes_of, act}
 use Rattle.machine.specs.Answers.{Answers, printed_by, state_of}
 use Rattle.machine.specs.declared.place.Ending.{Ending as Stop}
 use Rattle.machine.specs.declared.place.Ending.TheVariants.{Exit as Stopped, WriteFault, StackLimit as Limit, WildReturn, WildLink}
-use Rattle.codegen.specs.Correct.{same_event, same_end, limits, target, first_state, Simulated, Between, Ran, answer_to}
+use Rattle.codegen.specs.Correct.{same_event, same_end, limits, target, first_state, Simulated, Ran, answer_to}
 
 some_same : {A : Type 0} (x y : A) → Some x ≡ Some y → x ≡ y
 some_same x y e = cc

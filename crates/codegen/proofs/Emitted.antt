@@ -1,11 +1,11 @@
 -- Code that is put together from pieces.
-use Rattle.std.proofs.Common.{◌≡◌, ℕ, suc, ◌+◌, ◌<◌, List, [], ◌∷◌, ◌++◌, length, get_or, drop, Some, refl, sym, ap, ◌∙◌, subst, arith, length-append, append_assoc, append-nil}
+use Rattle.std.proofs.Common.{◌≡◌, ℕ, suc, ◌+◌, ◌<◌, List, [], ◌∷◌, ◌++◌, length, get_or, drop, Some, refl, sym, ap, ◌∙◌, subst, arith, length-append, append_assoc}
 use Rattle.isa.specs.declared.instr.Instr.{Instr}
 use Rattle.isa.specs.declared.instr.Instr.TheVariants.{Jump, JumpZero}
 use Rattle.std.proofs.Math.Seq.{drop-cons}
 use Rattle.typed.specs.declared.expr.Expr.{Expr}
 use Rattle.typed.specs.declared.stmt.Stmt.{Stmt}
-use Rattle.typed.specs.Syntax.{Ex, St, Sts, choose, loop, done, next}
+use Rattle.typed.specs.Syntax.{Ex, Sts, choose, loop, done, next}
 use Rattle.typed.specs.View.{pieces_of, st_of, sts_of}
 use Rattle.codegen.specs.Temps.{StsFitIn}
 use Rattle.codegen.specs.Code.{ex_code, st_code, sts_code, size, pieces_size, more_size, shown_size, st_size, sts_size}

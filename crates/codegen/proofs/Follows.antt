@@ -1,6 +1,6 @@
 -- The machine follows the meaning.
-use Rattle.std.proofs.Common.{◌≡◌, ◌≢◌, ◌⊎◌, inl, inr, ℕ, zero, suc, ◌+◌, ◌-◌, ◌<◌, ◌≤◌, ◌^◌, ℤ, Bool, true, false, List, [], ◌∷◌, ◌++◌, length, Some, Ok, refl, sym, ap, ◌∙◌, subst, arith, length-append, set, get_or}
-use Rattle.std.specs.Prelude.{slice_get, slice_index, slice_set, if◌then◌else◌, replicate, nat_eq, nat_le, ◌==◌, None}
+use Rattle.std.proofs.Common.{◌≡◌, ◌≢◌, inl, inr, ℕ, zero, suc, ◌+◌, ◌-◌, ◌<◌, ◌≤◌, ◌^◌, ℤ, Bool, true, false, List, [], ◌∷◌, ◌++◌, length, Some, Ok, refl, sym, ap, ◌∙◌, subst, arith, length-append, get_or}
+use Rattle.std.specs.Prelude.{slice_get, slice_index, slice_set, if◌then◌else◌, replicate, nat_le, ◌==◌, None}
 use Rattle.std.specs.Fmt.{signed_decimal}
 use Rattle.std.specs.Int.{w64, cast_signed, cast_unsigned, int_wrapping_neg}
 use Rattle.std.proofs.Common.{mod-lt, ◌%◌, get_or-set_same, get_or-set_other, length-set}
@@ -15,10 +15,10 @@ use Rattle.typed.specs.declared.operators.BinOp.{BinOp}
 use Rattle.typed.specs.declared.operators.BinOp.TheVariants.{Add, Sub, Mul, Equal, NotEqual, Less, LessEqual, Greater, GreaterEqual}
 use Rattle.typed.specs.declared.operators.UnOp.{UnOp}
 use Rattle.typed.specs.declared.operators.UnOp.TheVariants as One
-use Rattle.typed.specs.Syntax.{Ex, Exs, Pl, Piece, St, Sts, constant, read, unary, binary, local, here as itself, none, more, new, to, shown, assign, block, choose, loop, print, done, next, program}
+use Rattle.typed.specs.Syntax.{Ex, Piece, St, Sts, constant, read, unary, binary, local, here as itself, none, more, new, to, shown, assign, block, choose, loop, print, done, next, program}
 use Rattle.typed.specs.Form.{InScope, IsArithmetic, IsComparison, ExFits, TestFits, PiecesFit, births, births_all, scope_after, StFits, StsFit}
 use Rattle.typed.specs.Frames.{need, need_pieces, st_need, sts_need}
-use Rattle.meaning.specs.Trace.{Call, Return as Returned, Born, Read, Write, Print, Ending, Exit, StackLimit, World, Cell, Trace, Turn, Note, Seen, End, Cut}
+use Rattle.meaning.specs.Trace.{Print, Ending, Exit, StackLimit, World, Cell, Trace, Turn, Note, End}
 use Rattle.meaning.specs.Store.{no_cell, read_at, written, change, born}
 use Rattle.meaning.specs.Operators.{of_ints, unary_int}
 use Rattle.meaning.specs.Meaning
@@ -26,7 +26,7 @@ use Rattle.meaning.specs.Meaning.{Go, Then, Env, Ways, Calls, Setting, Answer}
 use Rattle.meaning.specs.Output.{Limits, out}
 use Rattle.simulation.specs.Outcome as Run
 use Rattle.simulation.specs.Outcome.{Lines, Outcome}
-use Rattle.simulation.specs.Steps.{Done, Goes, Stops, exec}
+use Rattle.simulation.specs.Steps.{Goes, Stops, exec}
 use Rattle.simulation.specs.Follows.{Follows}
 use Rattle.simulation.proofs.Rules
 use Rattle.isa.specs.Bin.{bit_of, of_numbers, bin_of, negated}

@@ -5,3 +5,4 @@ pub mod Emitted
 pub mod IsCode
 pub mod Whole
 pub mod Composed
+pub mod Sample

@@ -5,7 +5,7 @@ use Rattle.isa.specs.Code.{Tables}
 use Rattle.isa.specs.declared.instr.Instr.{Instr}
 use Rattle.isa.specs.declared.instr.Instr.TheVariants.{Move, Bin, Jump, JumpZero}
 use Rattle.machine.specs.Machine.{frame_of, owner_of}
-use Rattle.typed.specs.Syntax.{Ex, Exs, Piece, St, Sts, constant, read, unary, binary, none, more, new, to, shown, assign, block, choose, loop, print, done, next}
+use Rattle.typed.specs.Syntax.{Ex, Piece, St, Sts, constant, read, unary, binary, none, more, new, to, shown, assign, block, choose, loop, print, done, next}
 use Rattle.codegen.specs.Code.{operation, unary_code, write_code, ex_code, pieces_code, show_more, show_line, st_code, sts_code, body_code, size, pieces_size, more_size, shown_size, st_size, sts_size}
 
 pub length_code : (t : ℕ) (e : Ex) (h : ℕ) → length (ex_code t e h) ≡ size e

@@ -1,5 +1,5 @@
 -- Where a form needs no more temps than there are, they suffice for all that it holds.
-use Rattle.std.proofs.Common.{◌≡◌, ◌⊎◌, inl, inr, ℕ, ◌+◌, ◌<◌, ◌≤◌, true, false, List, [], ◌∷◌, Some, length, get_or, max, arith, sym, subst}
+use Rattle.std.proofs.Common.{◌≡◌, inl, inr, ℕ, ◌+◌, ◌<◌, ◌≤◌, true, false, List, [], ◌∷◌, Some, length, get_or, arith, sym, subst}
 use Rattle.std.specs.Prelude.{None}
 use Rattle.typed.specs.declared.stmt.Stmt.{Stmt}
 use Rattle.typed.specs.Value.{int, bool}

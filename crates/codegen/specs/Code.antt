@@ -14,7 +14,7 @@ use Rattle.typed.specs.declared.operators.BinOp.TheVariants.{Add, Sub, Mul, Equa
 use Rattle.typed.specs.declared.operators.UnOp.{UnOp}
 use Rattle.typed.specs.declared.operators.UnOp.TheVariants as One
 use Rattle.typed.specs.Value.{Value, int, bool}
-use Rattle.typed.specs.Syntax.{Ex, Exs, Pl, Piece, St, Sts, Program, constant, read, unary, binary, local, none, more, new, to, shown, assign, block, choose, loop, print, done, next, main_body}
+use Rattle.typed.specs.Syntax.{Ex, Pl, Piece, St, Sts, Program, constant, read, unary, binary, local, none, more, new, to, shown, assign, block, choose, loop, print, done, next, main_body}
 use Rattle.typed.specs.Frames.{temps_of, frame_of}
 
 abbrev pub operation : Operator → BinOp

@@ -1,6 +1,6 @@
 -- That the slots of a frame suffice.
-use Rattle.std.specs.Prelude.{◌≡◌, ℕ, ◌+◌, ◌<◌, true, List, [], ◌∷◌, Some}
-use Rattle.typed.specs.Syntax.{Ex, Exs, Pl, Piece, St, Sts, constant, read, unary, binary, local, none, more, new, to, shown, assign, block, choose, loop, print, done, next}
+use Rattle.std.specs.Prelude.{ℕ, ◌+◌, ◌<◌, true, List, [], ◌∷◌, Some}
+use Rattle.typed.specs.Syntax.{Ex, Pl, Piece, St, Sts, constant, read, unary, binary, local, none, more, new, to, shown, assign, block, choose, loop, print, done, next}
 use Rattle.typed.specs.Form.{IsWord}
 
 abbrev pub PlaceFits : (n : ℕ) → Pl → Type 0

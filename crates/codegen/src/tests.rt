@@ -1,6 +1,10 @@
 //! What no clause says: that the calls succeed where memory is ample.
-ghost use Rattle.std.specs.Prelude.{◌≡◌, IfOk};
-ghost use Rattle.typed.specs.View.{program_of};
+ghost use Rattle.std.specs.Prelude.{◌≡◌, ◌∷◌, [], pos, true, IfOk};
+ghost use Rattle.base.specs.declared.pos.Pos.{Pos};
+ghost use Rattle.typed.specs.declared.operators.BinOp.{BinOp};
+ghost use Rattle.typed.specs.Value.{int};
+ghost use Rattle.typed.specs.Syntax.{read, local, here, constant, binary, none, more, to, shown, assign, print, done, next};
+ghost use Rattle.typed.specs.View.{ex_of, sts_of, program_of};
 ghost use Rattle.typed.specs.Form.{IsInForm};
 ghost use Rattle.typed.specs.Frames.{temps_of, frame_of};
 
@@ -17,25 +21,39 @@ const AT: Pos = Pos {
     col: 1,
 };
 
-// x := 3; for x > 0 { println(x, x*x-1); x = x - 1 }
+fn variable(alloc: Global) -> Result<Box<Expr>, Fail>
+    ensures { IfOk result (λ e. ex_of e.value ≡ read (local 0 here)) }
+{
+    Ok(Box::new(alloc, Expr::Local(SiteId(0)))?)
+}
+
+fn number(alloc: Global, n: i64) -> Result<Box<Expr>, Fail>
+    ensures { IfOk result (λ e. ex_of e.value ≡ constant (int n)) }
+{
+    Ok(Box::new(alloc, Expr::Constant(Const::Int(n)))?)
+}
+
+// println(x, x*x-1); x = x - 1
+fn round(alloc: Global) -> Result<Vec<Stmt>, Fail>
+    ensures { IfOk result (λ ss. (at : Pos) → at ≡ record { offset = 0; line = 1; col = 1 } → sts_of ss.items ≡ next (print true (shown (read (local 0 here)) ∷ shown (binary at BinOp.Sub (binary at BinOp.Mul (read (local 0 here)) (read (local 0 here))) (constant (int (pos 1)))) ∷ []))
+        (next (assign (to (local 0 here) ∷ []) (more (binary at BinOp.Sub (read (local 0 here)) (constant (int (pos 1)))) none)) done)) }
+{
+    let (a, b, c) = (variable(alloc)?, variable(alloc)?, variable(alloc)?);
+    let square = Box::new(alloc, Expr::Binary(AT, BinOp::Mul, a, b))?;
+    let less = Expr::Binary(AT, BinOp::Sub, square, number(alloc, 1)?);
+    let line = vec![in alloc; Expr::Local(SiteId(0)), less]?;
+    let lower = Expr::Binary(AT, BinOp::Sub, c, number(alloc, 1)?);
+    Ok(vec![in alloc; Stmt::Print(line), Stmt::Assign(SiteId(0), lower)]?)
+}
+
+// x := 3; for x > 0 { .. }
+#[tactic(auto, using(typed::proofs::Rows::stmt_rows))]
 fn countdown(alloc: Global) -> Result<Program, Fail>
     ensures { IfOk result (λ p. IsInForm (program_of p) × (temps_of (program_of p) ≡ 3) × (frame_of (program_of p) ≡ 6)) }
 {
-    let a = Box::new(alloc, Expr::Local(SiteId(0)))?;
-    let zero = Box::new(alloc, Expr::Constant(Const::Int(0)))?;
-    let test = Expr::Binary(AT, BinOp::Greater, a, zero);
-    let b = Box::new(alloc, Expr::Local(SiteId(0)))?;
-    let c = Box::new(alloc, Expr::Local(SiteId(0)))?;
-    let square = Box::new(alloc, Expr::Binary(AT, BinOp::Mul, b, c))?;
-    let one = Box::new(alloc, Expr::Constant(Const::Int(1)))?;
-    let less = Expr::Binary(AT, BinOp::Sub, square, one);
-    let line = Stmt::Print(vec![in alloc; Expr::Local(SiteId(0)), less]?);
-    let d = Box::new(alloc, Expr::Local(SiteId(0)))?;
-    let again = Box::new(alloc, Expr::Constant(Const::Int(1)))?;
-    let next = Stmt::Assign(SiteId(0), Expr::Binary(AT, BinOp::Sub, d, again));
-    let round = vec![in alloc; line, next]?;
+    let test = Expr::Binary(AT, BinOp::Greater, variable(alloc)?, number(alloc, 0)?);
     let first = Stmt::Define(SiteId(0), Expr::Constant(Const::Int(3)));
-    let body = vec![in alloc; first, Stmt::Loop(test, round)]?;
+    let body = vec![in alloc; first, Stmt::Loop(test, round(alloc)?)]?;
     let sites = vec![in alloc; Site { pos: AT }]?;
     Ok(Program {
         main: Func { pos: AT, body },

@@ -1,4 +1,4 @@
-use Rattle.std.proofs.Common.{◌≡◌, ◌++◌, length, [], ap, ◌∙◌, arith, rules}
+use Rattle.std.proofs.Common.{◌≡◌, ◌++◌, length, [], ap, ◌∙◌, arith}
 use Rattle.std.specs.Prelude.{Some}
 use Rattle.typed.proofs.Rows.{stmt_rows}
 use Rattle.typed.specs.Syntax.{choose, loop, done}

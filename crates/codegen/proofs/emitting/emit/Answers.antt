@@ -4,7 +4,6 @@ use Rattle.machine.specs.Inside.{Inside}
 use Rattle.typed.specs.Value.{int}
 use Rattle.typed.specs.View.{sts_of, program_of}
 use Rattle.typed.specs.Frames.{frame_of}
-use Rattle.codegen.specs.Temps.{StsFitIn}
 use Rattle.codegen.specs.Code.{body_code, first_func}
 use Rattle.codegen.specs.Correct.{Simulated}
 use Rattle.codegen.proofs.Whole.{built, frame_is, suffices, is_code, starts, simulates}

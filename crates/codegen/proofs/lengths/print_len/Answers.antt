@@ -1,6 +1,4 @@
-use Rattle.std.proofs.Common.{◌≡◌, ◌<◌, [], length, arith, rules, ap}
-use Rattle.typed.specs.View.{pieces_of}
-use Rattle.codegen.specs.Code.{pieces_size, more_size}
+use Rattle.std.proofs.Common.{◌<◌, length, arith}
 use Rattle.codegen.proofs.Emitted.{shown_less, nothing_left}
 use Rattle.codegen.proofs.lengths.print_len.Goals as goal
 
