@@ -1,5 +1,6 @@
 -- Code that is put together from pieces.
 use Rattle.std.proofs.Common.{◌≡◌, ℕ, suc, ◌+◌, ◌<◌, List, [], ◌∷◌, ◌++◌, length, get_or, drop, Some, refl, sym, ap, ◌∙◌, subst, arith, length-append, append_assoc}
+use Rattle.std.specs.Prelude.{None}
 use Rattle.isa.specs.declared.instr.Instr.{Instr}
 use Rattle.isa.specs.declared.instr.Instr.TheVariants.{Jump, JumpZero}
 use Rattle.std.proofs.Math.Seq.{drop-cons}
@@ -63,6 +64,10 @@ loop_emitted t old c1 c2 c3 c4 e body start n es en e1 e2 e3 e4 =
     let f4 : c4 ≡ c3 ++ Jump (length old) ∷ [] = e4 ∙ ap (λ p. c3 ++ Jump p ∷ []) es in
     let all : c4 ≡ (((old ++ ex_code t e 0) ++ JumpZero 0 pb ∷ []) ++ sts_code t body pa) ++ Jump (length old) ∷ [] = cc in
     all ∙ simp append_assoc
+
+pub endless_emitted : (t : ℕ) (old c1 c2 : List Instr) (body : Sts) (start : ℕ) → start ≡ length old → c1 ≡ old ++ sts_code t body (length old) → c2 ≡ c1 ++ Jump start ∷ [] → c2 ≡ old ++ st_code t (loop [] None done body) (length old)
+endless_emitted t old c1 c2 body start es e1 e2 =
+    e2 ∙ ap (λ p. c1 ++ Jump p ∷ []) es ∙ ap (λ l. l ++ Jump (length old) ∷ []) e1 ∙ append_assoc old (sts_code t body (length old)) (Jump (length old) ∷ [])
 
 pub nothing_left : (es : List Expr) → length es < 1 → pieces_size (pieces_of es) + more_size (pieces_of es) ≡ 1
 nothing_left [] l = refl

@@ -418,7 +418,14 @@ module _ (code : Tables) (lim : Limits) (running : List ℕ) where
 
     test_follows : (e : Ex) (ws : Ways) (env : Env) (g h : Go) (w : World) (s : State) (scope : List ℕ) (goal lo owed b : ℕ) → owed ≤ 15 + lo → HasAt code.instrs s.pc (ex_code t e 0) → slice_get code.instrs (s.pc + size e) ≡ Some (JumpZero 0 goal) → TestFits scope e → need e ≤ t → Good n t scope env w s.words →
         Reaches scope (s.pc + size e + 1) owed b env g w → Reaches scope goal owed b env h w → At lo 0 b (Meaning.ev around calls e ws env (λ v. Meaning.turn (Meaning.branch v g h)) w) s
-    test_follows (constant v) ws env g h w s scope goal lo owed b le has jump fit enough good on off = absurd fit
+    test_follows (constant (int z)) ws env g h w s scope goal lo owed b le has jump fit enough good on off = absurd fit
+    test_follows (constant (bool c)) ws env g h w s scope goal lo owed b le has jump fit enough good on off =
+        let s1 : State = record { pc = s.pc + 1; words = slice_set s.words 0 (bit_of c) } in
+        let b1 = put s 0 (bit_of c) (cast_signed w64 (bit_of c)) good.long (omega arith) refl in
+        let bit : slot s1 0 ≡ bit_of c = get_or-set_same s.words 0 (bit_of c) 0 (let k = good.long in omega arith) in
+        let decides : At lo 0 b (Turn (Meaning.when c g h w)) s1 =
+        turned {lo = lo} {lo1 = suc owed} (omega arith) (jump_follows c g h w env s1 scope goal owed b jump bit (good_behind scope env w s s1 1 0 (cast_signed w64 (bit_of c)) b1 good) on off) in
+        turned {lo1 = suc lo} (omega arith) (record { at = (stepped {lo = lo} {hi = 0} (Const 0 (bit_of c)) has.0 refl decides).at })
     test_follows (read p) ws env g h w s scope goal lo owed b le has jump fit enough good on off = absurd fit
     test_follows (unary o a) ws env g h w s scope goal lo owed b le has jump fit enough good on off = absurd fit
     test_follows (binary at o a c) ws env g h w s scope goal lo owed b le has jump fit enough good on off =
@@ -485,6 +492,16 @@ module _ (code : Tables) (lim : Limits) (running : List ℕ) where
           turned_less {lo1 = suc lo} (omega arith) (record { at = (stepped {lo = lo} {hi = 0} (Jump pc) (ap (slice_get code.instrs) p1 ∙ back) refl (loop_follows body k lo b post turn_of j (d - 1) (omega arith) (omega arith) v1 env1 w1 (record { pc = pc; words = u1.words }) refl g2)).at })))
           (λ u q g1. later {lo = lo} {hi = 0} {b = b} (omega arith) (omega arith) db (post v env w u q g1))
 
+    -- a loop with no condition
+    module _ (len pc : ℕ) (ws : Ways) (scope : List ℕ) (back : slice_get code.instrs (pc + len) ≡ Some (Jump pc)) where
+      endless_follows : (body : ℕ → Env → (ℕ → Env → Go) → Go) (k : ℕ → Env → Go) (lo b : ℕ) →
+          ((v : ℕ) (env : Env) (w : World) (u : State) (j : ℕ → Env → Go) (d : ℕ) → d ≤ b → u.pc ≡ pc → Good n t scope env w u.words → ((v1 : ℕ) (env1 : Env) (w1 : World) (u1 : State) → u1.pc ≡ pc + len → Good n t scope env1 w1 u1.words → At lo 0 d (j v1 env1 w1) u1) → At lo 0 d (body v env j w) u) →
+          (j d : ℕ) → d ≤ b → d ≤ j → (v : ℕ) (env : Env) (w : World) (s : State) → s.pc ≡ pc → Good n t scope env w s.words → At lo 0 d (Meaning.rounds j (Meaning.test_of around calls None ws) body k v env w) s
+      endless_follows body k lo b turn_of zero d db dj v env w s p g = record { at = record { lower = λ x y l. tt; upper = λ x y l m. absurd (omega arith) } }
+      endless_follows body k lo b turn_of (suc j) d db dj v env w s p g =
+          turn_of v env w s _ d db p g (λ v1 env1 w1 u1 p1 g1.
+          turned_less {lo1 = suc lo} (omega arith) (record { at = (stepped {lo = lo} {hi = 0} (Jump pc) (ap (slice_get code.instrs) p1 ∙ back) refl (endless_follows body k lo b turn_of j (d - 1) (omega arith) (omega arith) v1 env1 w1 (record { pc = pc; words = u1.words }) refl g1)).at }))
+
     -- what follows a statement
     abbrev After : (scope : List ℕ) → (pc lo b : ℕ) → (Env → Go) → Type 0
     After scope pc lo b k = (env : Env) (w : World) (u : State) → u.pc ≡ pc → Good n t scope env w u.words → At lo 0 b (k env w) u
@@ -542,7 +559,15 @@ module _ (code : Tables) (lim : Limits) (running : List ℕ) where
                 fuel b (omega arith) le _ env w s here g).at;
           }
       exec_follows (loop [] (Some e) (next x ss) body) ws env k w s scope m pc lo b le here has fit enough g post = absurd fit
-      exec_follows (loop [] None after body) ws env k w s scope m pc lo b le here has fit enough g post = absurd fit
+      exec_follows (loop [] None done body) ws env k w s scope m pc lo b le here has fit enough g post =
+          let cb = sts_code t body pc in
+          let has1 = has_back code.instrs pc (sts_size body) cb (Jump pc ∷ []) (length_sts t body pc) has in
+          record {
+            at = (endless_follows (sts_size body) pc ws scope has1.0 _ (Meaning.outside k) lo b
+                (λ v env1 w1 u j d db q g1 go. all_follow body _ env1 _ w1 u scope m pc lo d (omega arith) q (has_front code.instrs pc cb _ has) fit (omega arith) g1 (λ env2 w2 u2 q2 g2. record { at = (go _ env2 w2 u2 q2 g2).at }))
+                fuel b (omega arith) le _ env w s here g).at;
+          }
+      exec_follows (loop [] None (next x ss) body) ws env k w s scope m pc lo b le here has fit enough g post = absurd fit
       exec_follows (loop (site ∷ sites) test after body) ws env k w s scope m pc lo b le here has fit enough g post = absurd fit
       exec_follows (print false es) ws env k w s scope m pc lo b le here has fit enough g post = absurd fit
       exec_follows (print true es) ws env k w s scope m pc lo b le here has fit enough g post =

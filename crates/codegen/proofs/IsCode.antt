@@ -10,7 +10,6 @@ use Rattle.isa.specs.declared.instr.Instr.TheVariants.{Const, Move, Bin, Negate,
 use Rattle.machine.specs.Machine.{frame_of}
 use Rattle.machine.specs.Inside.{Inside}
 use Rattle.typed.specs.declared.operators.UnOp.TheVariants as One
-use Rattle.typed.specs.Value.{int, bool}
 use Rattle.typed.specs.Syntax.{Ex, Piece, St, Sts, constant, read, unary, binary, local, here, none, more, new, to, shown, assign, block, choose, loop, print, done, next}
 use Rattle.codegen.specs.Temps.{Fits, AllFit, StFitsIn, StsFitIn}
 use Rattle.codegen.specs.Code.{operation, ex_code, pieces_code, show_more, show_line, size, st_size, sts_size, st_code, sts_code, body_code, first_func, tables}
@@ -39,8 +38,7 @@ body_join s e (i ∷ a) b f g = (f.0, body_join s e a b f.1 g)
 
 module _ (n t end : ℕ) where
   ex_body : (e : Ex) (h : ℕ) → Fits n t h e → Body (n + t) end (ex_code t e h)
-  ex_body (constant (int z)) h f = (let k = f.0 in omega arith, tt)
-  ex_body (constant (bool b)) h f = absurd f.1
+  ex_body (constant v) h f = (omega arith, tt)
   ex_body (read (local v here)) h f = (((let k = f.0 in omega arith), (let k = f.1 in omega arith)), tt)
   ex_body (unary One.Negate a) h f =
       let k = f.0 in body_join (n + t) end (ex_code t a h) (Negate h h ∷ []) (ex_body a h f.1) ((omega arith, omega arith), tt)
@@ -85,7 +83,9 @@ module _ (n t end : ℕ) where
         body_join (n + t) end (ex_code t e 0) (JumpZero 0 (pa + sts_size body + 1) ∷ (sts_code t body pa ++ Jump pc ∷ [])) (ex_body e 0 f.1)
         ((omega arith, omega arith), body_join (n + t) end (sts_code t body pa) (Jump pc ∷ []) (sts_body body pa f.2 (omega arith)) (omega arith, tt))
     st_body (loop [] (Some e) (next s ss) body) pc f l = absurd f
-    st_body (loop [] None post body) pc f l = absurd f
+    st_body (loop [] None done body) pc f l =
+        body_join (n + t) end (sts_code t body pc) (Jump pc ∷ []) (sts_body body pc f (omega arith)) (omega arith, tt)
+    st_body (loop [] None (next s ss) body) pc f l = absurd f
     st_body (loop (site ∷ sites) test post body) pc f l = absurd f
     st_body (print true ps) pc f l = body_join (n + t) end (pieces_code t ps 0) (show_line ps 0) (all_body ps 0 f) (shown_body ps 0 f)
     st_body (print false ps) pc f l = absurd f

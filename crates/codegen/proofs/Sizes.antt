@@ -60,7 +60,11 @@ mutual
       let two : length (z ∷ (cb ++ Jump pc ∷ [])) ≡ suc (length (cb ++ Jump pc ∷ [])) = refl in
       omega (arith, one, two, length-append (ex_code t e 0) (z ∷ (cb ++ Jump pc ∷ [])), length-append cb (Jump pc ∷ []), length_code t e 0, length_sts t body p1)
   length_st t (loop [] (Some e) (next s ss) body) pc = refl
-  length_st t (loop [] None post body) pc = refl
+  length_st t (loop [] None done body) pc =
+      let cb = sts_code t body pc in
+      let one : length (Jump pc ∷ []) ≡ 1 = refl in
+      omega (arith, one, length-append cb (Jump pc ∷ []), length_sts t body pc)
+  length_st t (loop [] None (next s ss) body) pc = refl
   length_st t (loop (site ∷ sites) test post body) pc = refl
   length_st t (print true ps) pc = omega (arith, length-append (pieces_code t ps 0) (show_line ps 0), length_pieces t ps 0, length_shown ps 0)
   length_st t (print false ps) pc = refl

@@ -25,14 +25,15 @@ below_more n m scope l b v (inl e) = omega arith
 below_more n m scope l b v (inr i) = b v i
 
 ex_fits : (n t h : ℕ) (scope : List ℕ) (e : Ex) → Below n scope → ExFits scope e → h + need e ≤ t → Fits n t h e
-ex_fits n t h scope (constant (int z)) b f l = (omega arith, f)
+ex_fits n t h scope (constant (int z)) b f l = omega arith
 ex_fits n t h scope (constant (bool c)) b f l = absurd f
 ex_fits n t h scope (read (local v here)) b f l = (omega arith, b v f)
 ex_fits n t h scope (unary op e) b f l = ((let k = some_need e in omega arith), ex_fits n t h scope e b f l)
 ex_fits n t h scope (binary at op a c) b f l = ((let k = some_need c in omega arith), ex_fits n t h scope a b f.1 (omega arith), ex_fits n t (h + 1) scope c b f.2 (omega arith))
 
 test_fits : (n t : ℕ) (scope : List ℕ) (e : Ex) → Below n scope → TestFits scope e → need e ≤ t → Fits n t 0 e
-test_fits n t scope (constant v) b f l = absurd f
+test_fits n t scope (constant (bool c)) b f l = omega arith
+test_fits n t scope (constant (int z)) b f l = absurd f
 test_fits n t scope (read p) b f l = absurd f
 test_fits n t scope (unary op e) b f l = absurd f
 test_fits n t scope (binary at op a c) b f l = ((let k = some_need c in omega arith), ex_fits n t 0 scope a b f.1 (omega arith), ex_fits n t 1 scope c b f.2 (omega arith))
@@ -72,7 +73,8 @@ mutual
   st_fits n t m scope (loop [] (Some e) done body) b f k =
       ((let c = some_need e in omega arith), test_fits n t scope e b f.0 (omega arith), sts_fit n t m scope body b f.1 (omega arith))
   st_fits n t m scope (loop [] (Some e) (next s ss) body) b f k = f
-  st_fits n t m scope (loop [] None post body) b f k = f
+  st_fits n t m scope (loop [] None done body) b f k = sts_fit n t m scope body b f (omega arith)
+  st_fits n t m scope (loop [] None (next s ss) body) b f k = f
   st_fits n t m scope (loop (site ∷ sites) test post body) b f k = f
   st_fits n t m scope (print true ps) b f k = pieces_fit n t 0 scope ps b f (omega arith)
   st_fits n t m scope (print false ps) b f k = f

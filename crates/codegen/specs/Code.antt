@@ -1,6 +1,6 @@
 -- The code of a program. A frame has t temps, the sites, the link and the return place, from its lowest word on: temp h
 -- is slot h, and site v is slot t + v.
-use Rattle.std.specs.Prelude.{ℕ, suc, ◌+◌, true, List, [], ◌∷◌, ◌++◌, Some, length, replicate}
+use Rattle.std.specs.Prelude.{ℕ, suc, ◌+◌, true, List, [], ◌∷◌, ◌++◌, Some, None, length, replicate}
 use Rattle.std.specs.Int.{w64, cast_unsigned}
 use Rattle.isa.specs.Bin.{bit_of}
 use Rattle.isa.specs.Code.{Tables}
@@ -31,16 +31,17 @@ operation GreaterEqual = Word.GreaterEqual
 abbrev pub unary_code : UnOp → ℕ → Instr
 unary_code One.Negate h = Negate h h
 
-abbrev pub constant_code : Value → ℕ → Instr
-constant_code (int z) h = Const h (cast_unsigned w64 z)
-constant_code (bool b) h = Const h (bit_of b)
+-- the word of a value
+abbrev pub word_of : Value → ℕ
+word_of (int z) = cast_unsigned w64 z
+word_of (bool b) = bit_of b
 
 abbrev pub read_code : ℕ → Pl → ℕ → Instr
 read_code t (local site steps) h = Move h (t + site)
 
 -- the value lands in temp h
 abbrev pub ex_code : ℕ → Ex → ℕ → List Instr
-ex_code t (constant v) h = constant_code v h ∷ []
+ex_code t (constant v) h = Const h (word_of v) ∷ []
 ex_code t (read p) h = read_code t p h ∷ []
 ex_code t (unary op e) h = ex_code t e h ++ unary_code op h ∷ []
 ex_code t (binary at op a b) h = ex_code t a h ++ (ex_code t b (h + 1) ++ Bin (operation op) h h (h + 1) ∷ [])
@@ -88,6 +89,7 @@ abbrev mutual
   st_size (assign (l ∷ []) (more e none)) = size e + 1
   st_size (block ss) = sts_size ss
   st_size (choose e a b) = size e + 1 + sts_size a + 1 + sts_size b
+  st_size (loop [] None done body) = sts_size body + 1
   st_size (loop [] (Some e) done body) = size e + 1 + sts_size body + 1
   st_size (print true ps) = pieces_size ps + shown_size ps
   st_size s = 0
@@ -104,6 +106,7 @@ abbrev mutual
   st_code t (block ss) pc = sts_code t ss pc
   st_code t (choose e a b) pc =
       ex_code t e 0 ++ (JumpZero 0 (pc + size e + 1 + sts_size a + 1) ∷ (sts_code t a (pc + size e + 1) ++ (Jump (pc + size e + 1 + sts_size a + 1 + sts_size b) ∷ sts_code t b (pc + size e + 1 + sts_size a + 1))))
+  st_code t (loop [] None done body) pc = sts_code t body pc ++ Jump pc ∷ []
   st_code t (loop [] (Some e) done body) pc =
       ex_code t e 0 ++ (JumpZero 0 (pc + size e + 1 + sts_size body + 1) ∷ (sts_code t body (pc + size e + 1) ++ Jump pc ∷ []))
   st_code t (print true ps) pc = pieces_code t ps 0 ++ show_line ps 0

@@ -114,7 +114,11 @@ fn emit_stmt(code: &mut Vec<Instr>, s: &Stmt, slots: Slots) -> Result<(), NoMemo
             jump_over(code, n)?;
             emit_stmts(code, b, slots)?;
         }
-        Stmt::Loop(e, body) => {
+        Stmt::Loop(None, body) => {
+            emit_stmts(code, body, slots)?;
+            put(code, Instr::Jump { to: start })?;
+        }
+        Stmt::Loop(Some(e), body) => {
             let n = stmts_len(body)?;
             emit_expr(code, e, slots, 0)?;
             jump_if_not(code, n)?;

@@ -90,7 +90,11 @@ fn stmt_len(s: &Stmt) -> Result<u32, NoMemory>
             let second = plus(first, 1)?;
             plus(second, n)
         }
-        Stmt::Loop(e, body) => {
+        Stmt::Loop(None, body) => {
+            let n = stmts_len(body)?;
+            plus(n, 1)
+        }
+        Stmt::Loop(Some(e), body) => {
             let test = last_len(e)?;
             let n = stmts_len(body)?;
             let all = plus(test, n)?;

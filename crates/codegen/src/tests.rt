@@ -53,7 +53,7 @@ fn countdown(alloc: Global) -> Result<Program, Fail>
 {
     let test = Expr::Binary(AT, BinOp::Greater, variable(alloc)?, number(alloc, 0)?);
     let first = Stmt::Define(SiteId(0), Expr::Constant(Const::Int(3)));
-    let body = vec![in alloc; first, Stmt::Loop(test, round(alloc)?)]?;
+    let body = vec![in alloc; first, Stmt::Loop(Some(test), round(alloc)?)]?;
     let sites = vec![in alloc; Site { pos: AT }]?;
     Ok(Program {
         main: Func { pos: AT, body },

@@ -1,8 +1,8 @@
 //! The code of expressions.
 ghost use Rattle.std.specs.Prelude.{◌≡◌, ◌+◌, ◌≤◌, ◌++◌, ◌∷◌, [], OnOk};
-ghost use Rattle.typed.specs.View.{ex_of, pieces_of};
+ghost use Rattle.typed.specs.View.{ex_of, pieces_of, value_of};
 ghost use Rattle.codegen.specs.Temps.{Fits, AllFit};
-ghost use Rattle.codegen.specs.Code.{ex_code, pieces_code, operation as operation_of, unary_code};
+ghost use Rattle.codegen.specs.Code.{ex_code, pieces_code, operation as operation_of, unary_code, word_of};
 
 use crate::slots::Slots;
 use base::NoMemory;
@@ -33,6 +33,16 @@ fn operation(op: BinOp) -> isa::BinOp
     }
 }
 
+fn word(c: Const) -> u64
+    ensures { result ≡ word_of (value_of c) }
+{
+    match c {
+        Const::Int(z) => z.cast_unsigned(),
+        Const::Bool(true) => 1,
+        Const::Bool(false) => 0,
+    }
+}
+
 fn unary(op: UnOp, h: u16) -> Instr
     ensures { result ≡ unary_code op h }
 {
@@ -48,11 +58,11 @@ pub fn emit_expr(code: &mut Vec<Instr>, e: &Expr, slots: Slots, h: u16) -> Resul
     ensures { OnOk result (code.new.items ≡ code.old.items ++ ex_code slots.temps (ex_of e.now) h) }
 {
     match e {
-        Expr::Constant(Const::Int(z)) => put(
+        Expr::Constant(c) => put(
             code,
             Instr::Const {
                 a: h,
-                word: z.cast_unsigned(),
+                word: word(*c),
             },
         )?,
         Expr::Local(site) => put(

@@ -1,9 +1,9 @@
 -- What holds of each program that the checker gives.
-use Rattle.std.specs.Prelude.{◌≡◌, ◌⊎◌, ⊤, ℕ, ◌+◌, ◌<◌, true, List, [], ◌∷◌, Some, length, FitsSigned}
+use Rattle.std.specs.Prelude.{◌≡◌, ◌⊎◌, ⊤, ℕ, ◌+◌, ◌<◌, true, List, [], ◌∷◌, Some, None, length, FitsSigned}
 use Rattle.std.specs.Int.{w64}
 use Rattle.typed.specs.declared.operators.BinOp.{BinOp}
 use Rattle.typed.specs.declared.operators.BinOp.TheVariants.{Add, Sub, Mul}
-use Rattle.typed.specs.Value.{Value, int}
+use Rattle.typed.specs.Value.{Value, int, bool}
 use Rattle.typed.specs.Syntax.{Ex, Pl, Left, Piece, St, Sts, Program, constant, read, unary, binary, local, none, more, new, to, shown, assign, block, choose, loop, print, done, next, main_body}
 
 -- the sites whose variables can be named
@@ -41,6 +41,7 @@ ExFits scope (binary at op a b) = IsArithmetic op × ExFits scope a × ExFits sc
 
 -- a condition
 abbrev pub TestFits : List ℕ → Ex → Type 0
+TestFits scope (constant (bool b)) = ⊤
 TestFits scope (binary at op a b) = IsComparison op × ExFits scope a × ExFits scope b
 TestFits scope e = ⊥
 
@@ -78,6 +79,7 @@ abbrev mutual
   StFits scope m n (assign (to (local site steps) ∷ []) (more e none)) = InScope site scope × ExFits scope e
   StFits scope m n (block ss) = StsFit scope m n ss
   StFits scope m n (choose e a b) = TestFits scope e × StsFit scope m n a × StsFit scope (m + births_all a) n b
+  StFits scope m n (loop [] None done body) = StsFit scope m n body
   StFits scope m n (loop [] (Some e) done body) = TestFits scope e × StsFit scope m n body
   StFits scope m n (print true ps) = PiecesFit scope ps
   StFits scope m n s = ⊥

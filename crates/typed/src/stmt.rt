@@ -13,8 +13,8 @@ pub enum Stmt {
     Block(Vec<Stmt>),
     /// The condition, and what is done where it is true and where it is false.
     If(Expr, Vec<Stmt>, Vec<Stmt>),
-    /// The condition, and the body.
-    Loop(Expr, Vec<Stmt>),
+    /// The condition, if there is one, and the body.
+    Loop(Option<Expr>, Vec<Stmt>),
     /// `println` of these operands.
     Print(Vec<Expr>),
 }
