@@ -1,5 +1,5 @@
 -- A compiled text runs from a frame of its layout's words.
-use Rattle.std.proofs.Common.{◌≡◌, ℕ, List, subst, sym, false, pos}
+use Rattle.std.proofs.Common.{ℕ, List, subst, sym, false, pos}
 use Rattle.codegen.specs.Correct.{IsCodeOf}
 use Rattle.compile.specs.Compiled.{Does, compiled_program}
 use Rattle.compile.specs.declared.compiling.Compiled.{Compiled}

@@ -41,8 +41,8 @@ ExFits scope (binary at op a b) = IsArithmetic op × ExFits scope a × ExFits sc
 
 -- a condition
 abbrev pub TestFits : List ℕ → Ex → Type 0
-TestFits scope (binary at op a b) = IsComparison op × ExFits scope a × ExFits scope b
 TestFits scope (constant (bool b)) = ⊤
+TestFits scope (binary at op a b) = IsComparison op × ExFits scope a × ExFits scope b
 TestFits scope e = ⊥
 
 abbrev pub PiecesFit : List ℕ → List Piece → Type 0

@@ -23,7 +23,6 @@ abbrev pub pieces_of : List Expr → List Piece
 pieces_of [] = []
 pieces_of (e ∷ es) = shown (ex_of e) ∷ pieces_of es
 
--- a condition, where there is one
 abbrev pub test_of : Option Expr → Option Ex
 test_of None = None
 test_of (Some e) = Some (ex_of e)

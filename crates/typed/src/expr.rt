@@ -7,6 +7,7 @@ use base::{Pos, SiteId};
 #[derive(Clone, Copy, Debug, PartialEq, Eq)]
 pub enum Const {
     Int(i64),
+    /// A comparison of constants.
     Bool(bool),
 }
 
