@@ -3,7 +3,8 @@ use Rattle.std.proofs.Common.{◌≡◌, ℕ, ℤ, Bool, true, false, cond, List
 use Rattle.base.specs.declared.pos.Pos.{Pos}
 use Rattle.parse_go.specs.declared.tree.BinOp.{BinOp}
 use Rattle.parse_go.specs.declared.tree.UnOp.{UnOp}
-use Rattle.parse_go.specs.Tree.{Ex as TreeEx, Condition, compare, unary, binary}
+use Rattle.parse_go.specs.declared.tree.Name.{Name}
+use Rattle.parse_go.specs.Tree.{Ex as TreeEx, Condition, compare, name, unary, binary, spelled}
 use Rattle.parse_go.specs.declared.tree.CompareOp.{CompareOp}
 use Rattle.names.specs.declared.constants.Const.{Const}
 use Rattle.names.specs.declared.constants.Const.TheVariants.{Int}
@@ -13,10 +14,11 @@ use Rattle.names.specs.Constants.{folded, folded_one}
 use Rattle.types_go.specs.declared.fault.Fault.{Fault}
 use Rattle.types_go.specs.declared.fault.FaultKind.TheVariants.{ConstRange}
 use Rattle.types_go.specs.Least.{AtMost, IsLeast, lesser, kind_number}
-use Rattle.types_go.specs.Scope.{Scope}
+use Rattle.types_go.specs.Profile.{is_reserved}
+use Rattle.types_go.specs.Scope.{Scope, declaration}
 use Rattle.parse_go.specs.FirstBytes.{first_place}
 use Rattle.types_go.specs.Typing.{Operand, untyped, value, is_int, operand, target}
-use Rattle.types_go.specs.Faults.{fault, PrefixFails, PairFails, ComparisonFails, Fails, FailsAsInt, FailsInCondition, FailsToTake}
+use Rattle.types_go.specs.Faults.{fault, PrefixFails, PairFails, ComparisonFails, Fails, FailsAsInt, FailsInCondition, FailsInAssignment, FailsToTake}
 use Rattle.types_go.specs.Passing.{overflow_fault, prefix_fault, int_fault, pair_fault, comparison_fault, taken_fault}
 use Rattle.types_go.proofs.Leasts.{least_join}
 
@@ -145,3 +147,12 @@ module _ (text : List ℕ) (s : Scope) where
   as_int_least e f o least is =
       subst (λ (p : Option Operand). IsLeast (λ g. Fails text s e g ⊎ ((z : ℤ) × (p ≡ Some (untyped z)) × (is_int z ≡ false) × (g ≡ fault ConstRange (first_place e)))) (lesser f (int_fault (first_place e) o))) is
       (least_join (Fails text s e) _ f (int_fault (first_place e) o) least (constant_least (first_place e) o))
+
+  -- a `=`: its name, its value, and whether the variable takes it
+  pub assignment_least : (n : Name) (e : TreeEx) (f g : Option Fault) (o : Option Operand) → IsLeast (Fails text s (name n)) f → IsLeast (Fails text s e) g → o ≡ operand text s e
+      → IsLeast (FailsInAssignment text s n e) (lesser (lesser f g) (taken_fault (target (is_reserved (spelled text n)) (declaration s (spelled text n))) (first_place e) o))
+  assignment_least n e f g o left right is =
+      let site = target (is_reserved (spelled text n)) (declaration s (spelled text n)) in
+      subst (λ (q : Option Operand). IsLeast (λ h. (Fails text s (name n) h ⊎ Fails text s e h) ⊎ FailsToTake text site q (first_place e) h) (lesser (lesser f g) (taken_fault site (first_place e) o))) is
+      (least_join (λ h. Fails text s (name n) h ⊎ Fails text s e h) _ (lesser f g) (taken_fault site (first_place e) o)
+      (least_join (Fails text s (name n)) (Fails text s e) f g left right) (taken_least text site (first_place e) o))

@@ -27,7 +27,7 @@ use Rattle.names.specs.Constants.{folded, folded_one, compared}
 use Rattle.types_go.specs.declared.scope.Declared.{Declared}
 use Rattle.types_go.specs.declared.scope.Declared.TheVariants.{Variable, Untyped}
 use Rattle.types_go.specs.Profile.{is_reserved}
-use Rattle.types_go.specs.Scope.{Scope, declaration, is_here, with_declaration, with_site}
+use Rattle.types_go.specs.Scope.{Scope, declaration, is_here, with_declaration, with_site, opened, closed}
 
 -- what an expression gives: an untyped constant with its exact value, or an int
 pub data Operand : Type 0 where

@@ -3,7 +3,7 @@
 ghost use Rattle.std.specs.Prelude.{◌≡◌, ◌<◌, ◌^◌, Option, Some, None, option_and_then, IfOk, pos};
 ghost use Rattle.std.specs.Option.{option_map};
 ghost use Rattle.parse_go.specs.FirstBytes.{first_place};
-ghost use Rattle.parse_go.specs.Tree.{ex_of as tree_of, spelled};
+ghost use Rattle.parse_go.specs.Tree.{ex_of as tree_of, name as name_of, spelled};
 ghost use Rattle.typed.specs.View.{ex_of};
 ghost use Rattle.types_go.specs.Least.{IsLeast, lesser};
 ghost use Rattle.types_go.specs.Scope.{scope_of, declaration};
@@ -81,10 +81,12 @@ fn literal(pos: Pos, number: u128) -> Checked
     }
 }
 
-fn variable(text: &[u8], scope: &Scope, name: Name) -> Checked
+/// What is known of a name.
+pub fn variable(text: &[u8], scope: &Scope, name: Name) -> Checked
     ensures pos { result.pos ≡ name.pos }
     ensures operand { option_map operand_of result.operand ≡ name_operand (is_reserved (spelled text.now name)) (declaration (scope_of scope.now) (spelled text.now name)) }
     ensures fault { result.fault ≡ name_fault name.pos (is_reserved (spelled text.now name)) (declaration (scope_of scope.now) (spelled text.now name)) }
+    ensures least { IsLeast (Fails text.now (scope_of scope.now) (name_of name)) result.fault }
 {
     let pos = name.pos;
     let bytes = spelled(text, name);

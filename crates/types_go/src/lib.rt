@@ -1,11 +1,12 @@
 //! The types.
 #![tactic(auto)]
 
+mod conditions;
 mod expressions;
 mod fault;
 mod operand;
 mod profile;
 mod scope;
-
+mod statements;
 
 pub use fault::{Fault, FaultKind, TypeFault};

@@ -4,7 +4,8 @@ use Rattle.parse_go.specs.declared.tree.Expr.{Expr}
 use Rattle.parse_go.specs.Tree.{ex_of}
 use Rattle.types_go.specs.Least.{IsLeast}
 use Rattle.types_go.specs.Scope.{scope_of}
-use Rattle.types_go.specs.Typing.{operand, first_place}
+use Rattle.parse_go.specs.FirstBytes.{first_place}
+use Rattle.types_go.specs.Typing.{operand}
 use Rattle.types_go.specs.Faults.{Fails}
 use Rattle.types_go.specs.Passing.{operand_of}
 use Rattle.types_go.proofs.Parts.{unary_least, binary_least}
