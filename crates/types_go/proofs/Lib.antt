@@ -1,3 +1,5 @@
 pub mod Leasts
 pub mod Parts
 pub mod Lists
+pub mod Depth
+pub mod Sequences

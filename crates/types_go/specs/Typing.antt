@@ -112,6 +112,15 @@ abbrev pub compared_operands : Pos → CompareOp → Operand → Operand → Opt
 compared_operands at op (untyped y) (untyped z) = Some (constant (bool (compared op y z)))
 compared_operands at op a b = compared_ints at op (as_int a) (as_int b)
 
+abbrev pub assignment_of : Option ℕ → Option Ex → Option St
+assignment_of site x = option_and_then (λ v. option_map (λ y. assign (to (local v here) ∷ []) (more y none)) x) site
+
+abbrev pub choice_of : Option Ex → Option Sts → Option Sts → Option St
+choice_of c a b = option_and_then (λ x. option_and_then (λ y. option_map (choose x y) b) a) c
+
+abbrev pub loop_of : Option (Option Ex) → Option Sts → Option St
+loop_of c body = option_and_then (λ x. option_map (loop [] x done) body) c
+
 module _ (text : List ℕ) where
   -- what an expression gives in a scope, where no rule fails in it
   abbrev pub operand : Scope → TreeEx → Option Operand
@@ -162,15 +171,6 @@ module _ (text : List ℕ) where
 
   abbrev pub declaration_of : Scope → Name → Option Ex → Option St
   declaration_of s n x = if may_declare s (spelled text n) then option_map (λ y. assign (new (length s.sites) ∷ []) (more y none)) x else None
-
-  abbrev pub assignment_of : Option ℕ → Option Ex → Option St
-  assignment_of site x = option_and_then (λ v. option_map (λ y. assign (to (local v here) ∷ []) (more y none)) x) site
-
-  abbrev pub choice_of : Option Ex → Option Sts → Option Sts → Option St
-  choice_of c a b = option_and_then (λ x. option_and_then (λ y. option_map (choose x y) b) a) c
-
-  abbrev pub loop_of : Option (Option Ex) → Option Sts → Option St
-  loop_of c body = option_and_then (λ x. option_map (loop [] x done) body) c
 
   abbrev mutual
     pub statement : Scope → Stm → Option St

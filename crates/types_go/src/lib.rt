@@ -1,6 +1,7 @@
 //! The types.
 #![tactic(auto)]
 
+mod blocks;
 mod conditions;
 mod expressions;
 mod fault;

@@ -1,0 +1,103 @@
+-- The least fault of the statements of a block, from left to right, and their typed forms where all have one.
+use Rattle.std.proofs.Common.{◌≡◌, ℕ, suc, ◌+◌, ◌<◌, get_or, drop, List, [], ◌∷◌, ◌++◌, ◌⊎◌, inl, inr, Option, Some, None, refl, sym, ap, ◌∙◌, length, arith}
+use Rattle.std.specs.Prelude.{option_and_then}
+use Rattle.std.specs.Option.{option_map}
+use Rattle.typed.specs.declared.stmt.Stmt.{Stmt}
+use Rattle.typed.specs.View.{st_of, sts_of}
+use Rattle.typed.specs.Syntax.{St, Sts, done, next}
+use Rattle.std.proofs.Math.Seq.{drop-cons}
+use Rattle.parse_go.specs.declared.tree.Stmt.{Stmt as Tree}
+use Rattle.parse_go.specs.Tree.{Stm, Stms, nil, cons, stm_of, stms_of}
+use Rattle.types_go.specs.declared.fault.Fault.{Fault}
+use Rattle.types_go.specs.Least.{IsLeast, lesser}
+use Rattle.types_go.specs.Scope.{Scope}
+use Rattle.types_go.specs.Typing.{statement, statements, behind, behind_all}
+use Rattle.types_go.specs.Faults.{FailsInStatement, FailsInStatements}
+use Rattle.types_go.specs.Passing.{with_last}
+use Rattle.types_go.proofs.Depth.{depth}
+use Rattle.types_go.proofs.Leasts.{Covers, covers_left, covers_right, least_covers, Sound, sound_lesser, least_sound, is_least}
+
+-- the statements from one on
+pub split : (ss : List Tree) (i : ℕ) (s : Tree) → i < length ss → s ≡ get_or ss i s → stms_of (drop i ss) ≡ cons (stm_of s) (stms_of (drop (i + 1) ss))
+split ss i s l is =
+    let one : suc i ≡ i + 1 = omega arith in
+    ap stms_of (drop-cons ss i s l) ∙ ap (λ x. cons (stm_of x) (stms_of (drop (suc i) ss))) (sym is) ∙ ap (λ j. cons (stm_of s) (stms_of (drop j ss))) one
+
+-- typed statements, and more behind them
+abbrev pub joined : List Stmt → Sts → Sts
+joined [] r = r
+joined (x ∷ xs) r = next (st_of x) (joined xs r)
+
+joined-done : (xs : List Stmt) → joined xs done ≡ sts_of xs
+joined-done [] = refl
+joined-done (x ∷ xs) = ap (next (st_of x)) (joined-done xs)
+
+joined-push : (xs : List Stmt) (x : Stmt) (r : Sts) → joined (xs ++ x ∷ []) r ≡ joined xs (next (st_of x) r)
+joined-push [] x r = refl
+joined-push (y ∷ xs) x r = ap (next (st_of y)) (joined-push xs x r)
+
+-- What is kept is a fault of the whole; each fault of the whole is covered or still to come. The typed statements so far stand before
+-- those to come, and what is behind the whole is behind the rest.
+pub record KeptStatements (text : List ℕ) (start : Scope) (all rest : Stms) (s : Scope) (values : Option (List Stmt)) (least : Option Fault) : Type 0 where
+  pub sound : Sound (FailsInStatements text start all) least
+  pub covered : (g : Fault) → FailsInStatements text start all g → Covers least g ⊎ FailsInStatements text s rest g
+  pub ahead : (g : Fault) → FailsInStatements text s rest g → FailsInStatements text start all g
+  pub given : statements text start all ≡ option_and_then (λ v. option_map (joined v) (statements text s rest)) values
+  pub scope : behind_all text start all ≡ behind_all text s rest
+  pub inside : 0 < length s.blocks
+
+behind_none : (o : Option Sts) → o ≡ option_map (joined []) o
+behind_none None = refl
+behind_none (Some r) = refl
+
+pub at_start : (text : List ℕ) (s : Scope) (all : Stms) → 0 < length s.blocks → KeptStatements text s all all s (Some []) None
+at_start text s all inside = record {
+  sound = tt;
+  covered = λ g h. inr h;
+  ahead = λ g h. h;
+  given = behind_none (statements text s all);
+  scope = refl;
+  inside = inside;
+}
+
+pub at_end : (text : List ℕ) (start : Scope) (all : Stms) (s : Scope) (values : Option (List Stmt)) (least : Option Fault) → KeptStatements text start all nil s values least → IsLeast (FailsInStatements text start all) least
+at_end text start all s values least k = is_least (FailsInStatements text start all) least k.sound (λ g h. covers g (k.covered g h))
+  where
+    covers : (g : Fault) → Covers least g ⊎ FailsInStatements text s nil g → Covers least g
+    covers g (inl c) = c
+    covers g (inr n) = absurd n
+
+pub given_all : (text : List ℕ) (start : Scope) (all : Stms) (s : Scope) (values : Option (List Stmt)) (least : Option Fault) → KeptStatements text start all nil s values least → option_map sts_of values ≡ statements text start all
+given_all text start all s values least k = whole values ∙ sym k.given
+  where
+    whole : (o : Option (List Stmt)) → option_map sts_of o ≡ option_and_then (λ v. option_map (joined v) (statements text s nil)) o
+    whole None = refl
+    whole (Some v) = ap Some (sym (joined-done v))
+
+-- one more typed statement, before those to come
+further : (values : Option (List Stmt)) (line : Option Stmt) (t : Option St) (later : Option Sts) → option_map st_of line ≡ t
+    → option_and_then (λ v. option_map (joined v) (option_and_then (λ x. option_map (next x) later) t)) values ≡ option_and_then (λ v. option_map (joined v) later) (with_last values line)
+further None line t later e = refl
+further (Some v) None t later e = ap (λ i. option_map (joined v) (option_and_then (λ x. option_map (next x) later) i)) (sym e)
+further (Some v) (Some x) t later e = ap (λ i. option_map (joined v) (option_and_then (λ y. option_map (next y) later) i)) (sym e) ∙ by later
+  where
+    by : (o : Option Sts) → option_map (joined v) (option_map (next (st_of x)) o) ≡ option_map (joined (v ++ x ∷ [])) o
+    by None = refl
+    by (Some r) = ap Some (sym (joined-push v x r))
+
+pub one_more : (text : List ℕ) (start : Scope) (all : Stms) (m : Stm) (others : Stms) (s : Scope) (values : Option (List Stmt)) (line : Option Stmt) (least fault : Option Fault)
+    → KeptStatements text start all (cons m others) s values least → IsLeast (FailsInStatement text s m) fault → option_map st_of line ≡ statement text s m
+    → KeptStatements text start all others (behind text s m) (with_last values line) (lesser least fault)
+one_more text start all m others s values line least fault k found e = record {
+  sound = sound_lesser (FailsInStatements text start all) least fault k.sound (least_sound (FailsInStatement text s m) (FailsInStatements text start all) fault found (λ f h. k.ahead f (inl h)));
+  covered = λ g h. sorted g (k.covered g h);
+  ahead = λ g h. k.ahead g (inr h);
+  given = k.given ∙ further values line (statement text s m) (statements text (behind text s m) others) e;
+  scope = k.scope;
+  inside = omega (arith, k.inside, depth text s m);
+}
+  where
+    sorted : (g : Fault) → Covers least g ⊎ FailsInStatements text s (cons m others) g → Covers (lesser least fault) g ⊎ FailsInStatements text (behind text s m) others g
+    sorted g (inl c) = inl (covers_left least fault g c)
+    sorted g (inr (inl h)) = inl (covers_right least fault g (least_covers (FailsInStatement text s m) fault g found h))
+    sorted g (inr (inr h)) = inr h
