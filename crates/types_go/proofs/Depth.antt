@@ -38,3 +38,7 @@ module _ (text : List ℕ) where
     pub depth_all : (s : Scope) (ms : Stms) → length (behind_all text s ms).blocks ≡ length s.blocks
     depth_all s nil = refl
     depth_all s (cons m ms) = depth_all (behind text s m) ms ∙ depth s m
+
+  -- behind a block
+  pub inner_depth : (s : Scope) (ms : Stms) → length (closed (behind_all text (opened s) ms)).blocks ≡ length s.blocks
+  inner_depth s ms = outer_length (behind_all text (opened s) ms).blocks (length s.blocks) (depth_all (opened s) ms)

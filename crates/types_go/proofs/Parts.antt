@@ -4,7 +4,7 @@ use Rattle.base.specs.declared.pos.Pos.{Pos}
 use Rattle.parse_go.specs.declared.tree.BinOp.{BinOp}
 use Rattle.parse_go.specs.declared.tree.UnOp.{UnOp}
 use Rattle.parse_go.specs.declared.tree.Name.{Name}
-use Rattle.parse_go.specs.Tree.{Ex as TreeEx, Condition, compare, name, unary, binary, spelled}
+use Rattle.parse_go.specs.Tree.{Ex as TreeEx, Condition, Stms, Els, compare, name, unary, binary, spelled}
 use Rattle.parse_go.specs.declared.tree.CompareOp.{CompareOp}
 use Rattle.names.specs.declared.constants.Const.{Const}
 use Rattle.names.specs.declared.constants.Const.TheVariants.{Int}
@@ -15,10 +15,10 @@ use Rattle.types_go.specs.declared.fault.Fault.{Fault}
 use Rattle.types_go.specs.declared.fault.FaultKind.TheVariants.{ConstRange}
 use Rattle.types_go.specs.Least.{AtMost, IsLeast, lesser, kind_number}
 use Rattle.types_go.specs.Profile.{is_reserved}
-use Rattle.types_go.specs.Scope.{Scope, declaration}
+use Rattle.types_go.specs.Scope.{Scope, declaration, opened, closed}
 use Rattle.parse_go.specs.FirstBytes.{first_place}
-use Rattle.types_go.specs.Typing.{Operand, untyped, value, is_int, operand, target}
-use Rattle.types_go.specs.Faults.{fault, PrefixFails, PairFails, ComparisonFails, Fails, FailsAsInt, FailsInCondition, FailsInAssignment, FailsToTake}
+use Rattle.types_go.specs.Typing.{Operand, untyped, value, is_int, operand, target, behind_all}
+use Rattle.types_go.specs.Faults.{fault, PrefixFails, PairFails, ComparisonFails, Fails, FailsAsInt, FailsInCondition, FailsInTest, FailsInElse, FailsInStatements, FailsInAssignment, FailsToTake}
 use Rattle.types_go.specs.Passing.{overflow_fault, prefix_fault, int_fault, pair_fault, comparison_fault, taken_fault}
 use Rattle.types_go.proofs.Leasts.{least_join}
 
@@ -156,3 +156,14 @@ module _ (text : List ℕ) (s : Scope) where
       subst (λ (q : Option Operand). IsLeast (λ h. (Fails text s (name n) h ⊎ Fails text s e h) ⊎ FailsToTake text site q (first_place e) h) (lesser (lesser f g) (taken_fault site (first_place e) o))) is
       (least_join (λ h. Fails text s (name n) h ⊎ Fails text s e h) _ (lesser f g) (taken_fault site (first_place e) o)
       (least_join (Fails text s (name n)) (Fails text s e) f g left right) (taken_least text site (first_place e) o))
+
+  -- an `if`: its condition, its body, and what stands behind them
+  pub choice_least : (c : Condition) (body : Stms) (rest : Els) (f g h : Option Fault) → IsLeast (FailsInCondition text s c) f → IsLeast (FailsInStatements text (opened s) body) g
+      → IsLeast (FailsInElse text (closed (behind_all text (opened s) body)) rest) h
+      → IsLeast (λ e. (FailsInCondition text s c e ⊎ FailsInStatements text (opened s) body e) ⊎ FailsInElse text (closed (behind_all text (opened s) body)) rest e) (lesser (lesser f g) h)
+  choice_least c body rest f g h a b d = least_join _ _ (lesser f g) h (least_join _ _ f g a b) d
+
+  -- a loop: its condition and its body
+  pub loop_least : (c : Option Condition) (body : Stms) (f g : Option Fault) → IsLeast (FailsInTest text s c) f → IsLeast (FailsInStatements text (opened s) body) g
+      → IsLeast (λ e. FailsInTest text s c e ⊎ FailsInStatements text (opened s) body e) (lesser f g)
+  loop_least c body f g a b = least_join _ _ f g a b

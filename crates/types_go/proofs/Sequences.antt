@@ -1,7 +1,8 @@
 -- The least fault of the statements of a block, from left to right, and their typed forms where all have one.
-use Rattle.std.proofs.Common.{◌≡◌, ℕ, suc, ◌+◌, ◌<◌, get_or, drop, List, [], ◌∷◌, ◌++◌, ◌⊎◌, inl, inr, Option, Some, None, refl, sym, ap, ◌∙◌, length, arith}
+use Rattle.std.proofs.Common.{◌≡◌, ℕ, zero, suc, ◌+◌, ◌<◌, get_or, drop, List, [], ◌∷◌, ◌++◌, ◌⊎◌, inl, inr, Option, Some, None, refl, sym, ap, ◌∙◌, length, arith}
 use Rattle.std.specs.Prelude.{option_and_then}
 use Rattle.std.specs.Option.{option_map}
+use Rattle.std.specs.Global.{Vec}
 use Rattle.typed.specs.declared.stmt.Stmt.{Stmt}
 use Rattle.typed.specs.View.{st_of, sts_of}
 use Rattle.typed.specs.Syntax.{St, Sts, done, next}
@@ -22,6 +23,12 @@ pub split : (ss : List Tree) (i : ℕ) (s : Tree) → i < length ss → s ≡ ge
 split ss i s l is =
     let one : suc i ≡ i + 1 = omega arith in
     ap stms_of (drop-cons ss i s l) ∙ ap (λ x. cons (stm_of x) (stms_of (drop (suc i) ss))) (sym is) ∙ ap (λ j. cons (stm_of s) (stms_of (drop j ss))) one
+
+pub nothing_left : (ss : List Tree) (i : ℕ) → (i < length ss → ⊥) → stms_of (drop i ss) ≡ nil
+nothing_left [] zero h = refl
+nothing_left [] (suc i) h = refl
+nothing_left (s ∷ ss) zero h = absurd (h (omega arith))
+nothing_left (s ∷ ss) (suc i) h = nothing_left ss i (λ l. h (omega (arith, l)))
 
 -- typed statements, and more behind them
 abbrev pub joined : List Stmt → Sts → Sts
@@ -67,12 +74,13 @@ at_end text start all s values least k = is_least (FailsInStatements text start 
     covers g (inl c) = c
     covers g (inr n) = absurd n
 
-pub given_all : (text : List ℕ) (start : Scope) (all : Stms) (s : Scope) (values : Option (List Stmt)) (least : Option Fault) → KeptStatements text start all nil s values least → option_map sts_of values ≡ statements text start all
+pub given_all : (text : List ℕ) (start : Scope) (all : Stms) (s : Scope) (values : Option (Vec Stmt)) (least : Option Fault) → KeptStatements text start all nil s (option_map (λ v. v.items) values) least
+    → option_map (λ v. sts_of v.items) values ≡ statements text start all
 given_all text start all s values least k = whole values ∙ sym k.given
   where
-    whole : (o : Option (List Stmt)) → option_map sts_of o ≡ option_and_then (λ v. option_map (joined v) (statements text s nil)) o
+    whole : (o : Option (Vec Stmt)) → option_map (λ (v : Vec Stmt). sts_of v.items) o ≡ option_and_then (λ v. option_map (joined v) (statements text s nil)) (option_map (λ (v : Vec Stmt). v.items) o)
     whole None = refl
-    whole (Some v) = ap Some (sym (joined-done v))
+    whole (Some v) = ap Some (sym (joined-done v.items))
 
 -- one more typed statement, before those to come
 further : (values : Option (List Stmt)) (line : Option Stmt) (t : Option St) (later : Option Sts) → option_map st_of line ≡ t
