@@ -3,3 +3,4 @@ pub mod Parts
 pub mod Lists
 pub mod Depth
 pub mod Sequences
+pub mod Complete
