@@ -4,3 +4,7 @@ pub mod Lists
 pub mod Depth
 pub mod Sequences
 pub mod Complete
+pub mod Kept
+pub mod Visible
+pub mod InForm
+pub mod Answering

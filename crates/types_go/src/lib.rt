@@ -2,6 +2,7 @@
 #![tactic(auto)]
 
 mod blocks;
+mod checking;
 mod conditions;
 mod expressions;
 mod fault;
@@ -10,4 +11,5 @@ mod profile;
 mod scope;
 mod statements;
 
+pub use checking::check;
 pub use fault::{Fault, FaultKind, TypeFault};
