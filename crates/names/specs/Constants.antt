@@ -1,8 +1,10 @@
 -- Untyped constants: exact whole numbers within 128 bits.
 use Rattle.std.specs.Prelude.{ℕ, ℤ, pos, negsuc, ◌-◌, ◌^◌, ◌+ℤ◌, ◌-ℤ◌, Bool, ◌&&◌, if◌then◌else◌, Result, Ok, Err}
-use Rattle.std.specs.Prelude.{◌*ℤ◌, neg_ℤ, int_le}
+use Rattle.std.specs.Prelude.{◌*ℤ◌, neg_ℤ, int_le, int_lt, ◌||◌}
 use Rattle.parse_go.specs.declared.tree.BinOp.{BinOp}
 use Rattle.parse_go.specs.declared.tree.BinOp.TheVariants.{Add, Sub, Mul}
+use Rattle.parse_go.specs.declared.tree.CompareOp.{CompareOp}
+use Rattle.parse_go.specs.declared.tree.CompareOp.TheVariants.{Equal, NotEqual, Less, LessEqual, Greater, GreaterEqual}
 use Rattle.parse_go.specs.declared.tree.UnOp.{UnOp}
 use Rattle.parse_go.specs.declared.tree.UnOp.TheVariants.{Negate}
 use Rattle.names.specs.declared.constants.Const.{Const}
@@ -38,3 +40,12 @@ folded_one op NoConst = Err NotConstant
 abbrev pub fault_number : ConstFault → ℕ
 fault_number Overflow = 1
 fault_number NotConstant = 4
+
+-- whether a comparison of two numbers holds
+abbrev pub compared : CompareOp → ℤ → ℤ → Bool
+compared Equal x y = int_le x y && int_le y x
+compared NotEqual x y = int_lt x y || int_lt y x
+compared Less x y = int_lt x y
+compared LessEqual x y = int_le x y
+compared Greater x y = int_lt y x
+compared GreaterEqual x y = int_le y x

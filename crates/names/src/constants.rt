@@ -1,9 +1,9 @@
 //! Untyped constants.
 
 ghost use Rattle.std.specs.Prelude.{◌≡◌};
-ghost use Rattle.names.specs.Constants.{folded, folded_one};
+ghost use Rattle.names.specs.Constants.{folded, folded_one, compared};
 
-use parse_go::{BinOp, UnOp};
+use parse_go::{BinOp, CompareOp, UnOp};
 use thiserror::Error;
 
 /// The value of a constant expression: a whole number from -2^127 to 2^127 - 1, or none where the expression is not
@@ -24,7 +24,7 @@ pub enum ConstFault {
 }
 
 impl ConstFault {
-    ghost use Rattle.names.specs.Constants.{fault_number};
+    ghost use Rattle.names.specs.Constants.{fault_number, compared};
 
     /// The number of the fault.
     pub fn number(self) -> u32
@@ -69,5 +69,19 @@ pub fn fold_one(op: UnOp, a: Const) -> Result<Const, ConstFault>
     match exact {
         Some(z) => Ok(Const::Int(z)),
         None => Err(ConstFault::Overflow),
+    }
+}
+
+/// Whether a comparison of two constants holds, which is itself a constant.
+pub fn compare(op: CompareOp, x: i128, y: i128) -> bool
+    ensures { result ≡ compared op x y }
+{
+    match op {
+        CompareOp::Equal => x == y,
+        CompareOp::NotEqual => x != y,
+        CompareOp::Less => x < y,
+        CompareOp::LessEqual => x <= y,
+        CompareOp::Greater => x > y,
+        CompareOp::GreaterEqual => x >= y,
     }
 }

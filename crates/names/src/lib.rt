@@ -13,7 +13,7 @@ mod block;
 mod constants;
 
 pub use block::Block;
-pub use constants::{Const, ConstFault, fold, fold_one};
+pub use constants::{Const, ConstFault, compare, fold, fold_one};
 
 #[cfg(test)]
 mod tests;

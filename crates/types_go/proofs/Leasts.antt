@@ -1,5 +1,5 @@
 -- The least of two sets of faults.
-use Rattle.std.proofs.Common.{◌≡◌, Bool, true, false, cond, ltb, leb, eqb, ◌⊎◌, inl, inr, Option, Some, None, refl, sym, arith}
+use Rattle.std.proofs.Common.{◌≡◌, Bool, true, false, cond, ltb, leb, eqb, ◌⊎◌, inl, inr, Option, Some, None, Result, Ok, Err, IfOk, refl, sym, arith}
 use Rattle.std.specs.Prelude.{◌||◌, ◌&&◌}
 use Rattle.std.proofs.lemmas.Bool.{cases_Bool, ltb-true, ltb-false, eqb-true, eqb-false, leb-true, leb-false}
 use Rattle.types_go.specs.declared.fault.Fault.{Fault}
@@ -116,3 +116,8 @@ pub lesser_none : (a b : Option Fault) → lesser a b ≡ None → (a ≡ None) 
 lesser_none None b e = (refl, e)
 lesser_none (Some f) None e = let bad : None ≡ Some f = sym e in absurd cc
 lesser_none (Some f) (Some g) e = absurd (lesser_if f g (is_before f g) e)
+
+-- what is said of an answer that there is
+pub if_ok : {A E : Type 0} (P Q : A → Type 0) (r : Result A E) → ((x : A) → P x → Q x) → IfOk r P → IfOk r Q
+if_ok P Q (Ok x) f h = f x h
+if_ok P Q (Err e) f h = tt

@@ -1,19 +1,34 @@
--- The least fault of the statements, from left to right, and their typed forms where there is none.
-use Rattle.std.proofs.Common.{◌≡◌, ℕ, List, [], ◌∷◌, ◌++◌, ◌⊎◌, inl, inr, Option, Some, None, refl, sym, ap, ◌∙◌}
+-- The least fault of the statements of a block, from left to right, and their typed forms where all have one.
+use Rattle.std.proofs.Common.{◌≡◌, ℕ, zero, suc, ◌+◌, ◌<◌, get_or, drop, List, [], ◌∷◌, ◌++◌, ◌⊎◌, inl, inr, Option, Some, None, refl, sym, ap, ◌∙◌, length, arith}
 use Rattle.std.specs.Prelude.{option_and_then}
 use Rattle.std.specs.Option.{option_map}
+use Rattle.std.specs.Global.{Vec}
 use Rattle.typed.specs.declared.stmt.Stmt.{Stmt}
 use Rattle.typed.specs.View.{st_of, sts_of}
 use Rattle.typed.specs.Syntax.{St, Sts, done, next}
-use Rattle.parse_go.specs.Tree.{Stm}
+use Rattle.std.proofs.Math.Seq.{drop-cons}
+use Rattle.parse_go.specs.declared.tree.Stmt.{Stmt as Tree}
+use Rattle.parse_go.specs.Tree.{Stm, Stms, nil, cons, stm_of, stms_of}
 use Rattle.types_go.specs.declared.fault.Fault.{Fault}
 use Rattle.types_go.specs.Least.{IsLeast, lesser}
-use Rattle.types_go.specs.Scope.{Scope, beginning}
-use Rattle.types_go.specs.Typing.{statement, statements, behind}
+use Rattle.types_go.specs.Scope.{Scope}
+use Rattle.types_go.specs.Typing.{statement, statements, behind, behind_all}
 use Rattle.types_go.specs.Faults.{FailsInStatement, FailsInStatements}
-use Rattle.types_go.specs.Passing.{with_some}
-use Rattle.types_go.proofs.Leasts.{Covers, covers_left, covers_right, least_covers, Sound, sound_lesser, least_sound, is_least, lesser_none}
-use Rattle.types_go.proofs.Complete.{IsSettled, and_then_some, map_some, statement_or_fails, statement_sound, settled_behind}
+use Rattle.types_go.specs.Passing.{with_last}
+use Rattle.types_go.proofs.Depth.{depth}
+use Rattle.types_go.proofs.Leasts.{Covers, covers_left, covers_right, least_covers, Sound, sound_lesser, least_sound, is_least}
+
+-- the statements from one on
+pub split : (ss : List Tree) (i : ℕ) (s : Tree) → i < length ss → s ≡ get_or ss i s → stms_of (drop i ss) ≡ cons (stm_of s) (stms_of (drop (i + 1) ss))
+split ss i s l is =
+    let one : suc i ≡ i + 1 = omega arith in
+    ap stms_of (drop-cons ss i s l) ∙ ap (λ x. cons (stm_of x) (stms_of (drop (suc i) ss))) (sym is) ∙ ap (λ j. cons (stm_of s) (stms_of (drop j ss))) one
+
+pub nothing_left : (ss : List Tree) (i : ℕ) → (i < length ss → ⊥) → stms_of (drop i ss) ≡ nil
+nothing_left [] zero h = refl
+nothing_left [] (suc i) h = refl
+nothing_left (s ∷ ss) zero h = absurd (h (omega arith))
+nothing_left (s ∷ ss) (suc i) h = nothing_left ss i (λ l. h (omega (arith, l)))
 
 -- typed statements, and more behind them
 abbrev pub joined : List Stmt → Sts → Sts
@@ -28,82 +43,69 @@ joined-push : (xs : List Stmt) (x : Stmt) (r : Sts) → joined (xs ++ x ∷ []) 
 joined-push [] x r = refl
 joined-push (y ∷ xs) x r = ap (next (st_of y)) (joined-push xs x r)
 
--- What is kept is a fault of the whole; each fault of the whole is covered or still to come. While there is none, every variable has a
--- type, and the typed statements so far stand before those to come.
-pub record KeptStatements (text : List ℕ) (all rest : List Stm) (s : Scope) (body : List Stmt) (least : Option Fault) : Type 0 where
-  pub sound : Sound (FailsInStatements text beginning all) least
-  pub covered : (g : Fault) → FailsInStatements text beginning all g → Covers least g ⊎ FailsInStatements text s rest g
-  pub ahead : (g : Fault) → FailsInStatements text s rest g → FailsInStatements text beginning all g
-  pub settled : least ≡ None → IsSettled s
-  pub given : least ≡ None → statements text beginning all ≡ option_map (joined body) (statements text s rest)
-
-pub settled_beginning : IsSettled beginning
-settled_beginning = record { all = tt }
+-- What is kept is a fault of the whole; each fault of the whole is covered or still to come. The typed statements so far stand before
+-- those to come, and what is behind the whole is behind the rest.
+pub record KeptStatements (text : List ℕ) (start : Scope) (all rest : Stms) (s : Scope) (values : Option (List Stmt)) (least : Option Fault) : Type 0 where
+  pub sound : Sound (FailsInStatements text start all) least
+  pub covered : (g : Fault) → FailsInStatements text start all g → Covers least g ⊎ FailsInStatements text s rest g
+  pub ahead : (g : Fault) → FailsInStatements text s rest g → FailsInStatements text start all g
+  pub given : statements text start all ≡ option_and_then (λ v. option_map (joined v) (statements text s rest)) values
+  pub scope : behind_all text start all ≡ behind_all text s rest
+  pub inside : 0 < length s.blocks
 
 behind_none : (o : Option Sts) → o ≡ option_map (joined []) o
 behind_none None = refl
 behind_none (Some r) = refl
 
-pub at_start : (text : List ℕ) (all : List Stm) → KeptStatements text all all beginning [] None
-at_start text all = record {
+pub at_start : (text : List ℕ) (s : Scope) (all : Stms) → 0 < length s.blocks → KeptStatements text s all all s (Some []) None
+at_start text s all inside = record {
   sound = tt;
   covered = λ g h. inr h;
   ahead = λ g h. h;
-  settled = λ n. settled_beginning;
-  given = λ n. behind_none (statements text beginning all);
+  given = behind_none (statements text s all);
+  scope = refl;
+  inside = inside;
 }
 
-pub at_end : (text : List ℕ) (all : List Stm) (s : Scope) (body : List Stmt) (least : Option Fault) → KeptStatements text all [] s body least → IsLeast (FailsInStatements text beginning all) least
-at_end text all s body least k = is_least (FailsInStatements text beginning all) least k.sound (λ g h. covers g (k.covered g h))
+pub at_end : (text : List ℕ) (start : Scope) (all : Stms) (s : Scope) (values : Option (List Stmt)) (least : Option Fault) → KeptStatements text start all nil s values least → IsLeast (FailsInStatements text start all) least
+at_end text start all s values least k = is_least (FailsInStatements text start all) least k.sound (λ g h. covers g (k.covered g h))
   where
-    covers : (g : Fault) → Covers least g ⊎ FailsInStatements text s [] g → Covers least g
+    covers : (g : Fault) → Covers least g ⊎ FailsInStatements text s nil g → Covers least g
     covers g (inl c) = c
     covers g (inr n) = absurd n
 
-pub given_all : (text : List ℕ) (all : List Stm) (s : Scope) (body : List Stmt) (least : Option Fault) → KeptStatements text all [] s body least → least ≡ None → statements text beginning all ≡ Some (sts_of body)
-given_all text all s body least k none = k.given none ∙ ap Some (joined-done body)
+pub given_all : (text : List ℕ) (start : Scope) (all : Stms) (s : Scope) (values : Option (Vec Stmt)) (least : Option Fault) → KeptStatements text start all nil s (option_map (λ v. v.items) values) least
+    → option_map (λ v. sts_of v.items) values ≡ statements text start all
+given_all text start all s values least k = whole values ∙ sym k.given
+  where
+    whole : (o : Option (Vec Stmt)) → option_map (λ (v : Vec Stmt). sts_of v.items) o ≡ option_and_then (λ v. option_map (joined v) (statements text s nil)) (option_map (λ (v : Vec Stmt). v.items) o)
+    whole None = refl
+    whole (Some v) = ap Some (sym (joined-done v.items))
 
-module _ (text : List ℕ) (s : Scope) (m : Stm) (others : List Stm) where
-  -- one more typed statement, before those to come
-  further : (body : List Stmt) (line : Option Stmt) (t : St) → statement text s m ≡ Some t → option_map st_of line ≡ statement text s m
-      → option_map (joined body) (statements text s (m ∷ others)) ≡ option_map (joined (with_some body line)) (statements text (behind text s m) others)
-  further body line t is e =
-      let x = map_some st_of line t (e ∙ is) in
-      ap (λ o. option_map (joined body) (option_and_then (λ t1. option_map (next t1) (statements text (behind text s m) others)) o)) (is ∙ ap Some (sym x.2))
-      ∙ (by x.0 (statements text (behind text s m) others) ∙ ap (λ o. option_map (joined (with_some body o)) (statements text (behind text s m) others)) (sym x.1))
-    where
-      by : (x : Stmt) (o : Option Sts) → option_map (joined body) (option_map (next (st_of x)) o) ≡ option_map (joined (body ++ x ∷ [])) o
-      by x None = refl
-      by x (Some r) = ap Some (sym (joined-push body x r))
+-- one more typed statement, before those to come
+further : (values : Option (List Stmt)) (line : Option Stmt) (t : Option St) (later : Option Sts) → option_map st_of line ≡ t
+    → option_and_then (λ v. option_map (joined v) (option_and_then (λ x. option_map (next x) later) t)) values ≡ option_and_then (λ v. option_map (joined v) later) (with_last values line)
+further None line t later e = refl
+further (Some v) None t later e = ap (λ i. option_map (joined v) (option_and_then (λ x. option_map (next x) later) i)) (sym e)
+further (Some v) (Some x) t later e = ap (λ i. option_map (joined v) (option_and_then (λ y. option_map (next y) later) i)) (sym e) ∙ by later
+  where
+    by : (o : Option Sts) → option_map (joined v) (option_map (next (st_of x)) o) ≡ option_map (joined (v ++ x ∷ [])) o
+    by None = refl
+    by (Some r) = ap Some (sym (joined-push v x r))
 
-  no_fault : (fault : Option Fault) → IsLeast (FailsInStatement text s m) fault → fault ≡ None → (f : Fault) → FailsInStatement text s m f → ⊥
-  no_fault None least none f h = least f h
-  no_fault (Some g) least none f h = let bad : None ≡ Some g = sym none in cc
-
-  typed_where_none : (settled : IsSettled s) (fault : Option Fault) → IsLeast (FailsInStatement text s m) fault → fault ≡ None → (t : St) × (statement text s m ≡ Some t)
-  typed_where_none settled fault least none = elim (statement_or_fails text s settled m) [ inl t ↦ t | inr f ↦ absurd (no_fault fault least none f.0 f.1) ]
-
-  pub one_more : (all : List Stm) (body : List Stmt) (line : Option Stmt) (least fault : Option Fault)
-      → KeptStatements text all (m ∷ others) s body least → IsLeast (FailsInStatement text s m) fault → option_map st_of line ≡ statement text s m
-      → KeptStatements text all others (behind text s m) (with_some body line) (lesser least fault)
-  one_more all body line least fault k found e = record {
-    sound = sound_lesser (FailsInStatements text beginning all) least fault k.sound (least_sound (FailsInStatement text s m) (FailsInStatements text beginning all) fault found (λ f h. k.ahead f (inl h)));
-    covered = λ g h. sorted g (k.covered g h);
-    ahead = λ g h. k.ahead g (inr h);
-    settled = λ none. let both = lesser_none least fault none in let t = typed_where_none (k.settled both.0) fault found both.1 in settled_behind text s m t.0 (k.settled both.0) t.1;
-    given = λ none. let both = lesser_none least fault none in let t = typed_where_none (k.settled both.0) fault found both.1 in k.given both.0 ∙ further body line t.0 t.1 e;
-  }
-    where
-      sorted : (g : Fault) → Covers least g ⊎ FailsInStatements text s (m ∷ others) g → Covers (lesser least fault) g ⊎ FailsInStatements text (behind text s m) others g
-      sorted g (inl c) = inl (covers_left least fault g c)
-      sorted g (inr (inl h)) = inl (covers_right least fault g (least_covers (FailsInStatement text s m) fault g found h))
-      sorted g (inr (inr h)) = inr h
-
--- statements with typed forms have no failing rule
-pub statements_sound : (text : List ℕ) (s : Scope) (ms : List Stm) (b : Sts) (f : Fault) → statements text s ms ≡ Some b → FailsInStatements text s ms f → ⊥
-statements_sound text s [] b f is h = h
-statements_sound text s (m ∷ ms) b f is (inl h) = let r = and_then_some (λ t. option_map (next t) (statements text (behind text s m) ms)) (statement text s m) b is in statement_sound text s m r.0 f r.1 h
-statements_sound text s (m ∷ ms) b f is (inr h) =
-    let r = and_then_some (λ t. option_map (next t) (statements text (behind text s m) ms)) (statement text s m) b is in
-    let q = map_some (next r.0) (statements text (behind text s m) ms) b r.2 in
-    statements_sound text (behind text s m) ms q.0 f q.1 h
+pub one_more : (text : List ℕ) (start : Scope) (all : Stms) (m : Stm) (others : Stms) (s : Scope) (values : Option (List Stmt)) (line : Option Stmt) (least fault : Option Fault)
+    → KeptStatements text start all (cons m others) s values least → IsLeast (FailsInStatement text s m) fault → option_map st_of line ≡ statement text s m
+    → KeptStatements text start all others (behind text s m) (with_last values line) (lesser least fault)
+one_more text start all m others s values line least fault k found e = record {
+  sound = sound_lesser (FailsInStatements text start all) least fault k.sound (least_sound (FailsInStatement text s m) (FailsInStatements text start all) fault found (λ f h. k.ahead f (inl h)));
+  covered = λ g h. sorted g (k.covered g h);
+  ahead = λ g h. k.ahead g (inr h);
+  given = k.given ∙ further values line (statement text s m) (statements text (behind text s m) others) e;
+  scope = k.scope;
+  inside = omega (arith, k.inside, depth text s m);
+}
+  where
+    sorted : (g : Fault) → Covers least g ⊎ FailsInStatements text s (cons m others) g → Covers (lesser least fault) g ⊎ FailsInStatements text (behind text s m) others g
+    sorted g (inl c) = inl (covers_left least fault g c)
+    sorted g (inr (inl h)) = inl (covers_right least fault g (least_covers (FailsInStatement text s m) fault g found h))
+    sorted g (inr (inr h)) = inr h

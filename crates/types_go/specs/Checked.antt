@@ -1,7 +1,7 @@
 -- What the checker of types answers.
 use Rattle.std.specs.Prelude.{◌≡◌, pos, List, [], ◌∷◌, replicate, length, Some, Result, Ok, Err}
 use Rattle.base.specs.declared.pos.Pos.{Pos}
-use Rattle.parse_go.specs.Tree.{Stm, define, print, Syntax}
+use Rattle.parse_go.specs.Tree.{Syntax}
 use Rattle.typed.specs.Value.{int}
 use Rattle.typed.specs.Syntax.{Sts, Program, program}
 use Rattle.typed.specs.View.{program_of}
@@ -11,20 +11,18 @@ use Rattle.types_go.specs.declared.fault.TypeFault.{TypeFault}
 use Rattle.types_go.specs.declared.fault.TypeFault.TheVariants as type_fault
 use Rattle.types_go.specs.Least.{IsLeast}
 use Rattle.types_go.specs.Scope.{beginning}
-use Rattle.types_go.specs.Typing.{statements}
+use Rattle.types_go.specs.Typing.{statements, behind_all}
 use Rattle.types_go.specs.Faults.{FailsInStatements}
 
--- the places of the declared names, in the order of the text
-abbrev pub places_of : List Stm → List Pos
-places_of [] = []
-places_of (define n at e ∷ ms) = n.pos ∷ places_of ms
-places_of (print at es ∷ ms) = places_of ms
+-- the places of the declared variables, in the order of the text
+abbrev pub places_of : Syntax → List Pos
+places_of t = (behind_all t.text beginning t.body).sites
 
 -- the rules give a tree this typed program
 pub record Types (t : Syntax) (p : Program) : Type 0 where
   pub body : Sts
   pub statements : statements t.text beginning t.body ≡ Some body
-  pub is : p ≡ program (int (pos 0) ∷ []) (replicate (length (places_of t.body)) 0) body
+  pub is : p ≡ program (int (pos 0) ∷ []) (replicate (length (places_of t)) 0) body
 
 -- a rule fails in a tree
 abbrev pub FailsIn : Syntax → Fault → Type 0

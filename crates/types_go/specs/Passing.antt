@@ -2,7 +2,9 @@
 use Rattle.std.specs.Prelude.{ℕ, ◌^◌, pos, Bool, List, [], ◌∷◌, ◌++◌, nat_lt, Option, Some, None, Result, Ok, Err, if◌then◌else◌, option_and_then}
 use Rattle.base.specs.declared.pos.Pos.{Pos}
 use Rattle.parse_go.specs.declared.tree.BinOp.{BinOp}
+use Rattle.parse_go.specs.declared.tree.CompareOp.{CompareOp}
 use Rattle.parse_go.specs.declared.tree.UnOp.{UnOp}
+use Rattle.typed.specs.Syntax.{Ex}
 use Rattle.typed.specs.View.{ex_of}
 use Rattle.names.specs.declared.constants.Const.{Const}
 use Rattle.names.specs.declared.constants.Const.TheVariants.{Int}
@@ -14,7 +16,7 @@ use Rattle.types_go.specs.declared.fault.FaultKind.TheVariants.{ConstRange, OutO
 use Rattle.types_go.specs.declared.operand.Operand.{Operand as OperandData}
 use Rattle.types_go.specs.declared.operand.Operand.TheVariants.{Untyped, Value}
 use Rattle.types_go.specs.declared.scope.Declared.{Declared}
-use Rattle.types_go.specs.Typing.{Operand, untyped, value, is_int, combined, operand_of_name}
+use Rattle.types_go.specs.Typing.{Operand, untyped, value, is_int, combined, compared_operands, operand_of_name}
 use Rattle.types_go.specs.Faults.{fault}
 
 abbrev pub operand_of : OperandData → Operand
@@ -73,3 +75,20 @@ with_last xs x = None
 abbrev pub with_some : {A : Type 0} → List A → Option A → List A
 with_some xs None = xs
 with_some xs (Some x) = xs ++ x ∷ []
+
+-- the fault of a comparison between what its operands give
+abbrev pub comparison_fault : Pos → Pos → Option Operand → Option Operand → Option Fault
+comparison_fault at right None b = None
+comparison_fault at right (Some a) None = None
+comparison_fault at right (Some (untyped y)) (Some (untyped z)) = None
+comparison_fault at right (Some (untyped y)) (Some (value x)) = int_fault at (Some (untyped y))
+comparison_fault at right (Some (value x)) (Some (untyped z)) = int_fault right (Some (untyped z))
+comparison_fault at right (Some (value x)) (Some (value y)) = None
+
+abbrev pub comparison_of : Pos → CompareOp → Option Operand → Option Operand → Option Ex
+comparison_of at op a b = option_and_then (λ x. option_and_then (compared_operands at op x) b) a
+
+-- the fault of a value that is assigned
+abbrev pub taken_fault : Option ℕ → Pos → Option Operand → Option Fault
+taken_fault None at o = None
+taken_fault (Some v) at o = int_fault at o

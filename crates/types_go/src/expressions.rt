@@ -2,12 +2,13 @@
 
 ghost use Rattle.std.specs.Prelude.{◌≡◌, ◌<◌, ◌^◌, Option, Some, None, option_and_then, IfOk, pos};
 ghost use Rattle.std.specs.Option.{option_map};
-ghost use Rattle.parse_go.specs.Tree.{ex_of as tree_of, spelled};
+ghost use Rattle.parse_go.specs.FirstBytes.{first_place};
+ghost use Rattle.parse_go.specs.Tree.{ex_of as tree_of, name as name_of, spelled};
 ghost use Rattle.typed.specs.View.{ex_of};
 ghost use Rattle.types_go.specs.Least.{IsLeast, lesser};
 ghost use Rattle.types_go.specs.Scope.{scope_of, declaration};
 ghost use Rattle.types_go.specs.Profile.{is_reserved};
-ghost use Rattle.types_go.specs.Typing.{operand, int_of, first_byte, op_of, prefix_of, prefixed, as_int, constant_of, combined, both_ints};
+ghost use Rattle.types_go.specs.Typing.{operand, op_of, prefix_of, prefixed, as_int, constant_of, combined, both_ints};
 ghost use Rattle.types_go.specs.Faults.{Fails, FailsAsInt};
 ghost use Rattle.types_go.specs.Passing.{operand_of, prefix_fault, pair_fault, pair_of, literal_operand, literal_fault, name_operand, name_fault, overflow_fault, int_fault};
 
@@ -80,10 +81,12 @@ fn literal(pos: Pos, number: u128) -> Checked
     }
 }
 
-fn variable(text: &[u8], scope: &Scope, name: Name) -> Checked
+/// What is known of a name.
+pub fn variable(text: &[u8], scope: &Scope, name: Name) -> Checked
     ensures pos { result.pos ≡ name.pos }
     ensures operand { option_map operand_of result.operand ≡ name_operand (is_reserved (spelled text.now name)) (declaration (scope_of scope.now) (spelled text.now name)) }
     ensures fault { result.fault ≡ name_fault name.pos (is_reserved (spelled text.now name)) (declaration (scope_of scope.now) (spelled text.now name)) }
+    ensures least { IsLeast (Fails text.now (scope_of scope.now) (name_of name)) result.fault }
 {
     let pos = name.pos;
     let bytes = spelled(text, name);
@@ -254,7 +257,7 @@ fn pair(
 
 /// What is known of an expression in a scope.
 pub fn check_expr(alloc: Global, text: &[u8], scope: &Scope, e: &Expr) -> Result<Checked, NoMemory>
-    ensures pos { IfOk result (λ c. c.pos ≡ first_byte (tree_of e.now)) }
+    ensures pos { IfOk result (λ c. c.pos ≡ first_place (tree_of e.now)) }
 
     // What the rules say that it gives, and nothing where they say so.
     ensures operand { IfOk result (λ c. option_map operand_of c.operand ≡ operand text.now (scope_of scope.now) (tree_of e.now)) }

@@ -1,7 +1,9 @@
 //! The types.
 #![tactic(auto)]
 
+mod blocks;
 mod checking;
+mod conditions;
 mod expressions;
 mod fault;
 mod operand;

@@ -1,11 +1,13 @@
 //! What names stand for.
 
-ghost use Rattle.std.specs.Prelude.{◌≡◌, ◌≢◌, OnOk, OnErr};
-ghost use Rattle.types_go.specs.Scope.{scope_of, declaration, is_here, beginning, with_declaration};
+ghost use Rattle.std.specs.Prelude.{◌≡◌, ◌<◌, length, OnOk, IfOk};
+ghost use Rattle.types_go.specs.Scope.{scope_of, declaration, is_here, beginning, with_declaration, with_site, opened, closed};
+ghost use Rattle.types_go.specs.declared.scope.Declared.TheVariants.{Variable};
 
-use base::{NoMemory, SiteId};
+use base::{NoMemory, Pos, SiteId};
 use names::Block;
 use std::alloc::Global;
+use typed::Site;
 
 /// What a name stands for.
 #[derive(Clone, Copy, Debug, PartialEq, Eq)]
@@ -16,12 +18,12 @@ pub enum Declared {
     Untyped,
 }
 
-/// The declarations that are in scope: the open blocks number them. And the number of variables that have a site.
+/// The declarations that are in scope: the open blocks number them. And the sites of the variables that have a type.
 #[derive(Drop)]
 pub struct Scope {
     pub names: Block,
     pub declared: Vec<Declared>,
-    pub sites: u32,
+    pub sites: Vec<Site>,
 }
 
 /// Where no name is declared.
@@ -31,7 +33,7 @@ pub fn beginning(alloc: Global) -> Scope
     Scope {
         names: Block::new(alloc),
         declared: Vec::new(alloc),
-        sites: 0,
+        sites: Vec::new(alloc),
     }
 }
 
@@ -60,4 +62,33 @@ pub fn declare(scope: &mut Scope, name: &[u8], declared: Declared) -> Result<(),
     scope.names.insert(name, number)?;
     scope.declared.push(declared)?;
     Ok(())
+}
+
+/// Opens a block.
+pub fn open(scope: &mut Scope) -> Result<(), NoMemory>
+    ensures { OnOk result (scope_of scope.new ≡ opened (scope_of scope.old)) }
+{
+    scope.names.open()
+}
+
+/// Closes the innermost block, outside of which another one is open.
+pub fn close(scope: &mut Scope)
+    requires { 1 < length scope.old.names }
+    ensures { scope_of scope.new ≡ closed (scope_of scope.old) }
+{
+    scope.names.close();
+}
+
+/// Declares a variable with a type, which has a site of its own.
+pub fn declare_variable(scope: &mut Scope, name: &[u8], pos: Pos) -> Result<SiteId, NoMemory>
+    ensures scope { OnOk result (scope_of scope.new ≡ with_site (with_declaration (scope_of scope.old) name.now (Variable (record { 0 = length (scope_of scope.old).sites }))) pos) }
+    ensures site { IfOk result (λ site. site.0 ≡ length (scope_of scope.old).sites) }
+{
+    let Ok(number) = u32::try_from(scope.sites.len()) else {
+        return Err(NoMemory);
+    };
+    let site = SiteId(number);
+    declare(scope, name, Declared::Variable(site))?;
+    scope.sites.push(Site { pos })?;
+    Ok(site)
 }

@@ -1,25 +1,25 @@
 //! The types of statements, and what they declare.
 
-ghost use Rattle.std.specs.Prelude.{◌≡◌, Option, Some, None, IfOk, OnOk, List, map, option_and_then, if◌then◌else◌, [], ◌∷◌};
+ghost use Rattle.std.specs.Prelude.{◌≡◌, Option, Some, None, IfOk, OnOk, List, map, length, option_and_then, if◌then◌else◌, [], ◌∷◌};
 ghost use Rattle.std.specs.Option.{option_map};
 ghost use Rattle.base.specs.declared.pos.Pos.{Pos};
-ghost use Rattle.parse_go.specs.Tree.{ex_of as tree_of, exs_of as trees_of, stm_of, spelled, define, print};
+ghost use Rattle.parse_go.specs.Tree.{ex_of as tree_of, exs_of as trees_of, spelled, define, assign as assign_to, print};
 ghost use Rattle.typed.specs.View.{ex_of, pieces_of, st_of};
 ghost use Rattle.typed.specs.Syntax.{assign, new, more, none};
 ghost use Rattle.types_go.specs.Least.{IsLeast, lesser};
 ghost use Rattle.types_go.specs.Profile.{is_reserved};
-ghost use Rattle.types_go.specs.Scope.{scope_of, is_here};
-ghost use Rattle.types_go.specs.Typing.{int_of, pieces, may_declare, declared_by, statement, behind};
+ghost use Rattle.types_go.specs.Scope.{scope_of, is_here, declaration};
+ghost use Rattle.types_go.specs.Typing.{int_of, pieces, may_declare, declared_by, target, statement, behind};
 ghost use Rattle.types_go.specs.Faults.{FailsAsInt, FailsInOperands, FailsToDeclare, FailsInStatement};
-ghost use Rattle.types_go.specs.Passing.{with_last};
+ghost use Rattle.types_go.specs.Passing.{operand_of, taken_fault, with_last};
 
-use crate::expressions::{check_expr, spelled};
+use crate::expressions::{check_expr, spelled, variable};
 use crate::fault::{Fault, FaultKind, lesser};
-use crate::operand::{int_fault, int_of};
+use crate::operand::{Operand, int_fault, int_of};
 use crate::profile::is_reserved;
-use crate::scope::{Declared, Scope, declare, is_here};
+use crate::scope::{Declared, Scope, declaration, declare, declare_variable, is_here};
 use base::{NoMemory, Pos, SiteId};
-use parse_go::{Expr, Name, Stmt};
+use parse_go::{Expr, Name};
 use std::alloc::Global;
 
 /// What is known of an expression where an int is wanted: the int, and the fault that is reported.
@@ -119,19 +119,15 @@ fn may_declare(text: &[u8], scope: &Scope, name: Name) -> bool
 fn bind(
     scope: &mut Scope,
     name: &[u8],
+    pos: Pos,
     value: Option<typed::Expr>,
 ) -> Result<Option<typed::Stmt>, NoMemory>
-    ensures scope { OnOk result (scope_of scope.new ≡ declared_by (scope_of scope.old) name.now (option_map ex_of value)) }
-    ensures statement { IfOk result (λ o. option_map st_of o ≡ option_map (λ x. assign (new scope.old.sites ∷ []) (more x none)) (option_map ex_of value)) }
+    ensures scope { OnOk result (scope_of scope.new ≡ declared_by (scope_of scope.old) name.now pos (option_map ex_of value)) }
+    ensures statement { IfOk result (λ o. option_map st_of o ≡ option_map (λ x. assign (new (length (scope_of scope.old).sites) ∷ []) (more x none)) (option_map ex_of value)) }
 {
     match value {
         Some(value) => {
-            let site = SiteId(scope.sites);
-            let Some(sites) = scope.sites.checked_add(1) else {
-                return Err(NoMemory);
-            };
-            declare(scope, name, Declared::Variable(site))?;
-            scope.sites = sites;
+            let site = declare_variable(scope, name, pos)?;
             Ok(Some(typed::Stmt::Define(site, value)))
         }
         None => {
@@ -150,7 +146,7 @@ pub struct Line {
 
 /// A `:=`, which declares its name.
 #[tactic(auto, using(crate::proofs::Leasts::least_join))]
-fn check_define(
+pub fn check_define(
     alloc: Global,
     text: &[u8],
     scope: &mut Scope,
@@ -170,12 +166,62 @@ fn check_define(
             fault,
         });
     }
-    let statement = bind(scope, spelled(text, name), int.value)?;
+    let statement = bind(scope, spelled(text, name), name.pos, int.value)?;
     Ok(Line { statement, fault })
 }
 
+/// The variable that a name stands for, where a statement may give it a value.
+fn target(text: &[u8], scope: &Scope, name: Name) -> Option<SiteId>
+    ensures { option_map (λ site. site.0) result ≡ target (is_reserved (spelled text.now name)) (declaration (scope_of scope.now) (spelled text.now name)) }
+{
+    let bytes = spelled(text, name);
+    if is_reserved(bytes) {
+        return None;
+    }
+    match declaration(scope, bytes) {
+        Some(Declared::Variable(site)) => Some(site),
+        _ => None,
+    }
+}
+
+/// The fault of a value that a variable with a type gets.
+fn taken_fault(site: Option<SiteId>, pos: Pos, operand: &Option<Operand>) -> Option<Fault>
+    ensures { result ≡ taken_fault (option_map (λ s. s.0) site) pos (option_map operand_of operand.now) }
+{
+    match site {
+        None => None,
+        Some(_) => int_fault(pos, operand),
+    }
+}
+
+/// A `=` to a variable.
+pub fn check_assign(
+    alloc: Global,
+    text: &[u8],
+    scope: &Scope,
+    name: Name,
+    _pos: Pos,
+    e: &Expr,
+) -> Result<Line, NoMemory>
+    ensures statement { IfOk result (λ c. option_map st_of c.statement ≡ statement text.now (scope_of scope.now) (assign_to name _pos (tree_of e.now))) }
+    ensures fault { IfOk result (λ c. IsLeast (FailsInStatement text.now (scope_of scope.now) (assign_to name _pos (tree_of e.now))) c.fault) }
+{
+    let left = variable(text, scope, name);
+    let right = check_expr(alloc, text, scope, e)?;
+    let site = target(text, scope, name);
+    let own = taken_fault(site, right.pos, &right.operand);
+    let statement = match (site, int_of(right.operand)) {
+        (Some(site), Some(value)) => Some(typed::Stmt::Assign(site, value)),
+        _ => None,
+    };
+    Ok(Line {
+        statement,
+        fault: lesser(lesser(left.fault, right.fault), own),
+    })
+}
+
 /// A `println`.
-fn check_print(
+pub fn check_print(
     alloc: Global,
     text: &[u8],
     scope: &Scope,
@@ -190,14 +236,3 @@ fn check_print(
     Ok(Line { statement, fault })
 }
 
-/// A statement. The scope becomes the one behind it.
-pub fn check_stmt(alloc: Global, text: &[u8], scope: &mut Scope, s: &Stmt) -> Result<Line, NoMemory>
-    ensures statement { IfOk result (λ c. option_map st_of c.statement ≡ statement text.now (scope_of scope.old) (stm_of s.now)) }
-    ensures fault { IfOk result (λ c. IsLeast (FailsInStatement text.now (scope_of scope.old) (stm_of s.now)) c.fault) }
-    ensures scope { OnOk result (scope_of scope.new ≡ behind text.now (scope_of scope.old) (stm_of s.now)) }
-{
-    match s {
-        Stmt::Define(name, pos, e) => check_define(alloc, text, scope, *name, *pos, e),
-        Stmt::Print(pos, es) => check_print(alloc, text, scope, *pos, es),
-    }
-}

@@ -4,7 +4,8 @@ use Rattle.parse_go.specs.declared.tree.Expr.{Expr}
 use Rattle.parse_go.specs.Tree.{ex_of}
 use Rattle.types_go.specs.Least.{IsLeast}
 use Rattle.types_go.specs.Scope.{scope_of}
-use Rattle.types_go.specs.Typing.{operand, first_byte}
+use Rattle.parse_go.specs.FirstBytes.{first_place}
+use Rattle.types_go.specs.Typing.{operand}
 use Rattle.types_go.specs.Faults.{Fails}
 use Rattle.types_go.specs.Passing.{operand_of}
 use Rattle.types_go.proofs.Parts.{unary_least, binary_least}
@@ -36,7 +37,7 @@ returns-in_ok-own-in-Binary-clause-fault t c =
     let r : IsLeast (Fails text s (ex_of b)) right.fault = subst (λ (x : Expr). IsLeast (Fails text s (ex_of x)) right.fault) c.deref-right.ensures c.in_ok-right-in-Binary.ensures.fault in
     let o_is : o ≡ operand text s (ex_of a) = subst (λ (x : Expr). o ≡ operand text s (ex_of x)) c.deref-left.ensures c.in_ok-left-in-Binary.ensures.operand in
     let p_is : p ≡ operand text s (ex_of b) = subst (λ (x : Expr). p ≡ operand text s (ex_of x)) c.deref-right.ensures c.in_ok-right-in-Binary.ensures.operand in
-    let at : left.pos ≡ first_byte (ex_of a) = subst (λ (x : Expr). left.pos ≡ first_byte (ex_of x)) c.deref-left.ensures c.in_ok-left-in-Binary.ensures.pos in
-    let further : right.pos ≡ first_byte (ex_of b) = subst (λ (x : Expr). right.pos ≡ first_byte (ex_of x)) c.deref-right.ensures c.in_ok-right-in-Binary.ensures.pos in
+    let at : left.pos ≡ first_place (ex_of a) = subst (λ (x : Expr). left.pos ≡ first_place (ex_of x)) c.deref-left.ensures c.in_ok-left-in-Binary.ensures.pos in
+    let further : right.pos ≡ first_place (ex_of b) = subst (λ (x : Expr). right.pos ≡ first_place (ex_of x)) c.deref-right.ensures c.in_ok-right-in-Binary.ensures.pos in
     rw (c.in-Binary.is, c.lesser-in-Binary-2.ensures, c.lesser-in-Binary.ensures, c.in_ok-own-in-Binary.ensures.fault, at, further)
     (binary_least text s c.in-Binary.op (ex_of a) (ex_of b) left.fault right.fault o p l r o_is p_is)
