@@ -1,12 +1,12 @@
 -- What a run of the machine and the theorem give together.
-use Rattle.std.proofs.Common.{◌≡◌, ℕ, ◌*◌, List, [], ◌∷◌, ◌++◌, Option, Some, None, sym, refl, ap, ◌∙◌, subst, arith, length}
-use Rattle.std.specs.Prelude.{replicate}
-use Rattle.outside.specs.Took.{Took, TookPrefix}
+use Rattle.std.proofs.Common.{◌≡◌, ℕ, ◌/◌, List, [], ◌∷◌, ◌++◌, Option, Some, None, Bool, true, false, sym, refl, ap, ◌∙◌, subst, arith, append_assoc}
+use Rattle.std.specs.Prelude.{replicate, nat_le, if◌then◌else◌}
+use Rattle.outside.specs.Took.{Took}
+use Rattle.outside.proofs.Took.{Took-nothing}
 use Rattle.typed.specs.Syntax.{Program}
-use Rattle.meaning.specs.Trace.{Ending, Exit}
+use Rattle.meaning.specs.Trace.{Ending, Exit, Panic, Turns, StackLimit}
 use Rattle.meaning.specs.Meaning.{Answer}
 use Rattle.meaning.specs.Output.{source, output}
-use Rattle.meaning.specs.Turns.{turns_of}
 use Rattle.simulation.specs.Outcome.{Outcome, Gives, Ends, Unfinished, Below, events_in, ending_in}
 use Rattle.simulation.specs.Steps.{Stops, events_of, many, shown_by}
 use Rattle.simulation.proofs.Whole.{shows, events_shown, ending_giving}
@@ -14,69 +14,144 @@ use Rattle.isa.specs.Code.{Tables}
 use Rattle.machine.specs.Machine.{State, Does, Event, bytes_of, act}
 use Rattle.machine.specs.Answers.{Answers, printed_by, state_of}
 use Rattle.machine.specs.declared.place.Ending.{Ending as Stop}
-use Rattle.machine.specs.declared.place.Ending.TheVariants.{Exit as Stopped, WriteFault, WildReturn, WildLink}
-use Rattle.codegen.specs.Correct.{same_event, same_end, target, first_state, IsCodeOf, Prints, answer_to}
+use Rattle.machine.specs.declared.place.Ending.TheVariants.{Exit as Stopped, WriteFault, StackLimit as Limit, WildReturn, WildLink}
+use Rattle.codegen.specs.Correct.{same_event, same_end, limits, target, first_state, Simulated, Ran, answer_to}
 
-some_exit : (e f : Ending) → Some e ≡ Some f → e ≡ f
-some_exit e f h = cc
-
--- what has ended is met in full
-met : (o : Outcome (List ℕ) Ending) (p : Outcome Event Stop) → Below same_event same_end o p → ending_in o ≡ Some (Exit 0) → (ending_in p ≡ Some (Stopped 0)) × (bytes_of (events_in p) ≡ output o)
-met (Gives x o) (Gives y p) (e, b) h = let r = met o p b h in (r.0, ap (λ (v : Event). bytes_of (v ∷ events_in p)) e ∙ ap (λ l. x ++ l) r.1)
-met (Gives x o) (Ends f) b h = absurd b
-met (Gives x o) Unfinished b h = absurd b
-met (Ends e) p b h = ended e p b (some_exit e (Exit 0) h)
-  where
-    ended : (e : Ending) (p : Outcome Event Stop) → Below same_event same_end (Ends e) p → e ≡ Exit 0 → (ending_in p ≡ Some (Stopped 0)) × (bytes_of (events_in p) ≡ [])
-    ended e p b h = at_zero p (subst (λ x. Below same_event same_end (Ends x) p) h b)
-      where
-        at_zero : (p : Outcome Event Stop) → Below same_event same_end (Ends (Exit 0)) p → (ending_in p ≡ Some (Stopped 0)) × (bytes_of (events_in p) ≡ [])
-        at_zero (Ends (Stopped m)) b = (ap (λ n. Some (Stopped n)) (sym b), refl)
-        at_zero (Ends WriteFault) b = absurd b
-        at_zero (Ends (WildReturn x)) b = absurd b
-        at_zero (Ends (WildLink x)) b = absurd b
-        at_zero (Gives x p) b = absurd b
-        at_zero Unfinished b = absurd b
-met Unfinished p b h = absurd (nothing h)
-  where
-    nothing : {A : Type 0} {x : A} → None ≡ Some x → ⊥
-    nothing e = cc
+some_same : {A : Type 0} (x y : A) → Some x ≡ Some y → x ≡ y
+some_same x y e = cc
 
 none_some : {A : Type 0} {x : A} → None ≡ Some x → ⊥
 none_some e = cc
 
--- the steps' outcome, where it is known what they show
-module _ (text : List ℕ) (d : Does) (s : State) (old new : Option (List ℕ)) (before now : ℕ) (end : ending_in (shown_by d) ≡ Some (Stopped 0)) (bytes : bytes_of (events_in (shown_by d)) ≡ text) where
-  told : printed_by d ≡ text
-  told = ap bytes_of (sym (events_shown d)) ∙ bytes
+abbrev Within : Outcome Event Stop → Outcome (List ℕ) Ending → Type 0
+Within p o = Below (λ d e. same_event e d) (λ d e. same_end e d) p o
 
-  stops : (e : Stop) → (d ≡ Stops (events_of d) e) × Took old new (printed_by d) → Took old new text
-  stops e a = subst (λ x. Took old new x) told a.1
+-- what a run shows is a front of what the source shows
+part : (p : Outcome Event Stop) (o : Outcome (List ℕ) Ending) → Within p o → (rest : List ℕ) × (bytes_of (events_in p) ++ rest ≡ output o)
+part Unfinished o b = (output o, refl)
+part (Ends e) (Ends f) b = ([], refl)
+part (Ends e) (Gives x o) b = absurd b
+part (Ends e) Unfinished b = absurd b
+part (Gives y p) (Gives x o) (e, b) =
+    let r = part p o b in
+    (r.0, ap (λ (v : Event). bytes_of (v ∷ events_in p) ++ r.0) e ∙ append_assoc x (bytes_of (events_in p)) r.0 ∙ ap (λ l. x ++ l) r.1)
+part (Gives y p) (Ends f) b = absurd b
+part (Gives y p) Unfinished b = absurd b
 
-  prints : (e : Option Stop) → Answers d s e old new before now → Prints text (answer_to e) old new before now
-  prints None a = absurd (none_some (sym (ap (λ (x : Does). ending_in (shown_by x)) a.0 ∙ ending_giving (events_of d) Unfinished) ∙ end))
-  prints (Some WriteFault) a = (subst (λ x. TookPrefix old new x) told a.0, a.1)
-  prints (Some (Stopped n)) a = stops (Stopped n) a
-  prints (Some (WildReturn x)) a = stops (WildReturn x) a
-  prints (Some (WildLink x)) a = stops (WildLink x) a
+-- what has ended is all that the source shows
+record Met (y : Stop) (p : Outcome Event Stop) (o : Outcome (List ℕ) Ending) : Type 0 where
+  ending : Ending
+  ended : ending_in o ≡ Some ending
+  alike : same_end ending y
+  all : output o ≡ bytes_of (events_in p)
 
--- with sixteen steps for each instruction of the code nothing is left open
-composed : (p : Program) (code : Tables) (frame : ℕ) (item : List ℕ → Answer) (input : List ℕ) (k : ℕ) (s : State) (e : Option Stop) (old new : Option (List ℕ)) (before now : ℕ)
-    → IsCodeOf p code frame → k ≡ 16 * length code.instrs
-    → Answers (many (act code) k (first_state frame)) s e old new before now
-    → Prints (output (source item p input (turns_of p))) (answer_to e) old new before now
-composed p code frame item input k s e old new before now is steps a =
-    let room = is.room in
-    let m = met (source item p input (turns_of p)) (target code frame k) (is.simulated.at_least item input (turns_of p) k (omega arith)) (is.ends item input) in
-    let same = shows State Event Stop (act code) k (first_state frame) in
-    prints (output (source item p input (turns_of p))) (many (act code) k (first_state frame)) s old new before now
-    (sym (ap ending_in same) ∙ m.0) (ap (λ o. bytes_of (events_in o)) (sym same) ∙ m.1) e a
+met : (p : Outcome Event Stop) (o : Outcome (List ℕ) Ending) (y : Stop) → Within p o → ending_in p ≡ Some y → Met y p o
+met Unfinished o y b h = absurd (none_some h)
+met (Ends e) (Ends f) y b h = record { ending = f; ended = refl; alike = subst (λ z. same_end f z) (some_same e y h) b; all = refl }
+met (Ends e) (Gives x o) y b h = absurd b
+met (Ends e) Unfinished y b h = absurd b
+met (Gives d p) (Gives x o) y (e, b) h =
+    let r = met p o y b h in
+    record { ending = r.ending; ended = r.ended; alike = r.alike; all = ap (λ l. x ++ l) r.all ∙ sym (ap (λ (v : Event). bytes_of (v ∷ events_in p)) e) }
+met (Gives d p) (Ends f) y b h = absurd b
+met (Gives d p) Unfinished y b h = absurd b
 
--- the same, of a block of words that is the first frame
-pub composed_at : (p : Program) (code : Tables) (frame : ℕ) (item : List ℕ → Answer) (input : List ℕ) (k : ℕ) (block : List ℕ) (s : State) (e : Option Stop) (old new : Option (List ℕ)) (before now : ℕ)
-    → block ≡ replicate frame 0 → IsCodeOf p code frame → k ≡ 16 * length code.instrs
-    → Answers (many (act code) k (state_of block (record { pc = 0; base = 0 }))) s e old new before now
-    → Prints (output (source item p input (turns_of p))) (answer_to e) old new before now
-composed_at p code frame item input k block s e old new before now zeros is steps a =
-    composed p code frame item input k s e old new before now is steps
-    (subst (λ (ws : List ℕ). let s0 : State = record { pc = 0; words = ws } in Answers (many (act code) k s0) s e old new before now) zeros a)
+-- what has not ended shows at least what few turns show, and these have not ended
+open_yet : (o : Outcome (List ℕ) Ending) (p : Outcome Event Stop) → Below same_event same_end o p → ending_in p ≡ None → (ending_in o ≡ None) × ((rest : List ℕ) × (output o ++ rest ≡ bytes_of (events_in p)))
+open_yet Unfinished p b h = (refl, (bytes_of (events_in p), refl))
+open_yet (Ends e) (Ends f) b h = absurd (none_some (sym h))
+open_yet (Ends e) (Gives y p) b h = absurd b
+open_yet (Ends e) Unfinished b h = absurd b
+open_yet (Gives x o) (Gives y p) (e, b) h =
+    let r = open_yet o p b h in
+    (r.0, (r.1.0, append_assoc x (output o) r.1.0 ∙ ap (λ l. x ++ l) r.1.1 ∙ sym (ap (λ (v : Event). bytes_of (v ∷ events_in p)) e)))
+open_yet (Gives x o) (Ends f) b h = absurd b
+open_yet (Gives x o) Unfinished b h = absurd b
+
+exit_is : (e : Ending) (m : ℕ) → same_end e (Stopped m) → e ≡ Exit m
+exit_is (Exit n) m a = ap Exit a
+exit_is (StackLimit u k l) m a = absurd a
+exit_is Turns m a = absurd a
+exit_is (Panic at f) m a = absurd a
+
+limit_is : (e : Ending) (u k l : ℕ) → same_end e (Limit u k l) → e ≡ StackLimit u k l
+limit_is (StackLimit a b c) u k l (e, f, g) = ap (λ x. StackLimit x b c) e ∙ ap (λ x. StackLimit u x c) f ∙ ap (λ x. StackLimit u k x) g
+limit_is (Exit n) u k l a = absurd a
+limit_is Turns u k l a = absurd a
+limit_is (Panic at f) u k l a = absurd a
+
+none_is : (e : Ending) → same_end e WriteFault → ⊥
+none_is (Exit n) a = a
+none_is (StackLimit u k l) a = a
+none_is Turns a = a
+none_is (Panic at f) a = a
+
+place_is : (e : Ending) (x : ℕ) → same_end e (WildReturn x) → ⊥
+place_is (Exit n) x a = a
+place_is (StackLimit u k l) x a = a
+place_is Turns x a = a
+place_is (Panic at f) x a = a
+
+link_is : (e : Ending) (x : ℕ) → same_end e (WildLink x) → ⊥
+link_is (Exit n) x a = a
+link_is (StackLimit u k l) x a = a
+link_is Turns x a = a
+link_is (Panic at f) x a = a
+
+-- the steps' outcome against the source
+module _ (few many_turns : Outcome (List ℕ) Ending) (d : Does) (s : State) (old new : Option (List ℕ)) (before now : ℕ) (low : Below same_event same_end few (shown_by d)) (high : Within (shown_by d) many_turns) where
+  told : bytes_of (events_in (shown_by d)) ≡ printed_by d
+  told = ap bytes_of (events_shown d)
+
+  front : (rest : List ℕ) × (printed_by d ++ rest ≡ output many_turns)
+  front = let r = part (shown_by d) many_turns high in (r.0, ap (λ l. l ++ r.0) (sym told) ∙ r.1)
+
+  ends : (e : Stop) → d ≡ Stops (events_of d) e → Met e (shown_by d) many_turns
+  ends e is = met (shown_by d) many_turns e high (ap (λ (x : Does). ending_in (shown_by x)) is ∙ ending_giving (events_of d) (Ends e))
+
+  whole : (e : Stop) → Met e (shown_by d) many_turns → Took old new (printed_by d) → Took old new (output many_turns)
+  whole e m a = subst (λ x. Took old new x) (sym (m.all ∙ told)) a
+
+  ran : (e : Option Stop) → Answers d s e old new before now → Ran few many_turns (answer_to e) old new before now
+  ran None a =
+      let o = open_yet few (shown_by d) low (ap (λ (x : Does). ending_in (shown_by x)) a.0 ∙ ending_giving (events_of d) Unfinished) in
+      (o.0, record { bytes = printed_by d; took = a.1; begins = (o.1.0, o.1.1 ∙ told); within = front })
+  ran (Some WriteFault) (t, rose) =
+      let u = t.1 in
+      ((t.0 ++ front.0, record { done = u.done; splits = sym (append_assoc u.done t.0 front.0) ∙ ap (λ l. l ++ front.0) u.splits ∙ front.1; took = u.took }), rose)
+  ran (Some (Stopped n)) a = let m = ends (Stopped n) a.0 in (m.ended ∙ ap (λ x. Some x) (exit_is m.ending n m.alike), whole (Stopped n) m a.1)
+  ran (Some (Limit u k l)) a = let m = ends (Limit u k l) a.0 in (m.ended ∙ ap (λ x. Some x) (limit_is m.ending u k l m.alike), whole (Limit u k l) m a.1)
+  ran (Some (WildReturn x)) a = let m = ends (WildReturn x) a.0 in absurd (place_is m.ending x m.alike)
+  ran (Some (WildLink x)) a = let m = ends (WildLink x) a.0 in absurd (link_is m.ending x m.alike)
+
+gated : (b : Bool) (x y : Outcome Event Stop) → b ≡ true → (if b then x else y) ≡ x
+gated true x y e = refl
+gated false x y e = absurd (let f : false ≡ true = e in cc)
+
+shut : (b : Bool) (x y : Outcome Event Stop) → b ≡ false → (if b then x else y) ≡ y
+shut false x y e = refl
+shut true x y e = absurd (let f : true ≡ false = e in cc)
+
+module _ (p : Program) (code : Tables) (frame : ℕ) (is : Simulated p code frame) (item : List ℕ → Answer) (input : List ℕ) (max steps : ℕ) where
+  few_below : Below same_event same_end (source item p (limits p max) input (steps / 16)) (target code frame max steps)
+  few_below = is.at_least item input max (steps / 16) steps (omega arith)
+
+  -- of a block of words that is the first frame
+  pub composed : (block : List ℕ) (s : State) (e : Option Stop) (old new : Option (List ℕ)) (before now : ℕ) → nat_le frame max ≡ true → block ≡ replicate frame 0
+      → Answers (many (act code) steps (state_of block (record { pc = 0; base = 0 }))) s e old new before now
+      → Ran (source item p (limits p max) input (steps / 16)) (source item p (limits p max) input steps) (answer_to e) old new before now
+  composed block s e old new before now fits zeros a =
+      let d = many (act code) steps (first_state frame) in
+      let same : target code frame max steps ≡ shown_by d = gated (nat_le frame max) _ _ fits ∙ shows State Event Stop (act code) steps (first_state frame) in
+      ran (source item p (limits p max) input (steps / 16)) (source item p (limits p max) input steps) d s old new before now
+      (subst (λ o. Below same_event same_end (source item p (limits p max) input (steps / 16)) o) same few_below)
+      (subst (λ o. Within o (source item p (limits p max) input steps)) same (is.at_most item input max steps)) e
+      (subst (λ (ws : List ℕ). let s0 : State = record { pc = 0; words = ws } in Answers (many (act code) steps s0) s e old new before now) zeros a)
+
+  -- where the first frame passes the limit
+  pub refused : (old : Option (List ℕ)) (faults : ℕ) → nat_le frame max ≡ false
+      → Ran (source item p (limits p max) input (steps / 16)) (source item p (limits p max) input steps) (answer_to (Some (Limit 0 frame max))) old old faults faults
+  refused old faults passes =
+      let same : target code frame max steps ≡ Ends (Limit 0 frame max) = shut (nat_le frame max) _ _ passes in
+      let m = met (Ends (Limit 0 frame max)) (source item p (limits p max) input steps) (Limit 0 frame max) (subst (λ o. Within o (source item p (limits p max) input steps)) same (is.at_most item input max steps)) refl in
+      (m.ended ∙ ap (λ x. Some x) (limit_is m.ending 0 frame max m.alike), subst (λ x. Took old old x) (sym m.all) (Took-nothing old))

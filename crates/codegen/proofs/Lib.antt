@@ -1,8 +1,8 @@
 pub mod Sizes
 pub mod Suffice
 pub mod Follows
+pub mod Emitted
 pub mod IsCode
-pub mod Room
 pub mod Whole
 pub mod Composed
-mod Sample
+pub mod Sample

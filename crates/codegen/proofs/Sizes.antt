@@ -1,36 +1,12 @@
 -- The code of forms: its length, and where it stands.
 use Rattle.std.proofs.Common.{◌≡◌, ℕ, zero, suc, ◌+◌, true, false, List, [], ◌∷◌, ◌++◌, length, Some, refl, ap, subst, arith, length-append}
-use Rattle.std.specs.Prelude.{slice_get}
+use Rattle.std.specs.Prelude.{slice_get, None}
 use Rattle.isa.specs.Code.{Tables}
 use Rattle.isa.specs.declared.instr.Instr.{Instr}
-use Rattle.isa.specs.declared.instr.Instr.TheVariants.{Move, Bin}
+use Rattle.isa.specs.declared.instr.Instr.TheVariants.{Move, Bin, Jump, JumpZero}
 use Rattle.machine.specs.Machine.{frame_of, owner_of}
-use Rattle.typed.specs.Syntax.{Ex, Piece, St, Sts, constant, read, unary, binary, none, more, new, shown, assign, print}
-use Rattle.codegen.specs.Code.{operation, unary_code, ex_code, pieces_code, show_more, show_line, st_code, sts_code}
-
-abbrev pub size : Ex → ℕ
-size (constant v) = 1
-size (read p) = 1
-size (unary op a) = size a + 1
-size (binary at op a b) = size a + size b + 1
-
-abbrev pub pieces_size : List Piece → ℕ
-pieces_size [] = 0
-pieces_size (shown e ∷ ps) = size e + pieces_size ps
-
-abbrev pub more_size : List Piece → ℕ
-more_size [] = 1
-more_size (p ∷ ps) = suc (suc (more_size ps))
-
-abbrev pub shown_size : List Piece → ℕ
-shown_size [] = 1
-shown_size (p ∷ ps) = suc (more_size ps)
-
-abbrev pub st_size : St → ℕ
-st_size (assign (new site ∷ []) (more e none)) = size e + 1
-st_size (assign ls es) = 0
-st_size (print true ps) = pieces_size ps + shown_size ps
-st_size (print ln ps) = 0
+use Rattle.typed.specs.Syntax.{Ex, Piece, St, Sts, constant, read, unary, binary, none, more, new, to, shown, assign, block, choose, loop, print, done, next}
+use Rattle.codegen.specs.Code.{operation, unary_code, write_code, ex_code, pieces_code, show_more, show_line, st_code, sts_code, body_code, size, pieces_size, more_size, shown_size, st_size, sts_size}
 
 pub length_code : (t : ℕ) (e : Ex) (h : ℕ) → length (ex_code t e h) ≡ size e
 length_code t (constant v) h = refl
@@ -56,16 +32,46 @@ pub length_shown : (ps : List Piece) (h : ℕ) → length (show_line ps h) ≡ s
 length_shown [] h = refl
 length_shown (p ∷ ps) h = ap suc (length_more ps (h + 1))
 
-pub length_st : (t : ℕ) (s : St) → length (st_code t s) ≡ st_size s
-length_st t (assign (new v ∷ []) (more e none)) =
-    let i = Move (t + v) 0 in let one : length (i ∷ []) ≡ 1 = refl in
-    omega (arith, one, length-append (ex_code t e 0) (i ∷ []), length_code t e 0)
-length_st t (assign [] es) = refl
-length_st t (assign (new v ∷ []) none) = refl
-length_st t (assign (new v ∷ []) (more e (more e1 es))) = refl
-length_st t (assign (new v ∷ x ∷ ls) es) = refl
-length_st t (print true ps) = omega (arith, length-append (pieces_code t ps 0) (show_line ps 0), length_pieces t ps 0, length_shown ps 0)
-length_st t (print false ps) = refl
+length_last : (t : ℕ) (e : Ex) (i : Instr) → length (ex_code t e 0 ++ i ∷ []) ≡ size e + 1
+length_last t e i = let one : length (i ∷ []) ≡ 1 = refl in omega (arith, one, length-append (ex_code t e 0) (i ∷ []), length_code t e 0)
+
+mutual
+  pub length_st : (t : ℕ) (s : St) (pc : ℕ) → length (st_code t s pc) ≡ st_size s
+  length_st t (assign (new v ∷ []) (more e none)) pc = length_last t e (Move (t + v) 0)
+  length_st t (assign (to p ∷ []) (more e none)) pc = length_last t e (write_code t p 0)
+  length_st t (assign [] es) pc = refl
+  length_st t (assign (new v ∷ []) none) pc = refl
+  length_st t (assign (new v ∷ []) (more e (more e1 es))) pc = refl
+  length_st t (assign (to p ∷ []) none) pc = refl
+  length_st t (assign (to p ∷ []) (more e (more e1 es))) pc = refl
+  length_st t (assign (new v ∷ x ∷ ls) es) pc = refl
+  length_st t (assign (to p ∷ x ∷ ls) es) pc = refl
+  length_st t (block ss) pc = length_sts t ss pc
+  length_st t (choose e a b) pc =
+      let p1 = pc + size e + 1 in let p2 = p1 + sts_size a + 1 in
+      let ca = sts_code t a p1 in let cb = sts_code t b p2 in let j = Jump (p2 + sts_size b) in let z = JumpZero 0 p2 in
+      let one : length (j ∷ cb) ≡ suc (length cb) = refl in
+      let two : length (z ∷ (ca ++ j ∷ cb)) ≡ suc (length (ca ++ j ∷ cb)) = refl in
+      omega (arith, one, two, length-append (ex_code t e 0) (z ∷ (ca ++ j ∷ cb)), length-append ca (j ∷ cb), length_code t e 0, length_sts t a p1, length_sts t b p2)
+  length_st t (loop [] (Some e) done body) pc =
+      let p1 = pc + size e + 1 in
+      let cb = sts_code t body p1 in let z = JumpZero 0 (p1 + sts_size body + 1) in
+      let one : length (Jump pc ∷ []) ≡ 1 = refl in
+      let two : length (z ∷ (cb ++ Jump pc ∷ [])) ≡ suc (length (cb ++ Jump pc ∷ [])) = refl in
+      omega (arith, one, two, length-append (ex_code t e 0) (z ∷ (cb ++ Jump pc ∷ [])), length-append cb (Jump pc ∷ []), length_code t e 0, length_sts t body p1)
+  length_st t (loop [] (Some e) (next s ss) body) pc = refl
+  length_st t (loop [] None done body) pc =
+      let cb = sts_code t body pc in
+      let one : length (Jump pc ∷ []) ≡ 1 = refl in
+      omega (arith, one, length-append cb (Jump pc ∷ []), length_sts t body pc)
+  length_st t (loop [] None (next s ss) body) pc = refl
+  length_st t (loop (site ∷ sites) test post body) pc = refl
+  length_st t (print true ps) pc = omega (arith, length-append (pieces_code t ps 0) (show_line ps 0), length_pieces t ps 0, length_shown ps 0)
+  length_st t (print false ps) pc = refl
+
+  pub length_sts : (t : ℕ) (ss : Sts) (pc : ℕ) → length (sts_code t ss pc) ≡ sts_size ss
+  length_sts t done pc = refl
+  length_sts t (next s ss) pc = omega (arith, length-append (st_code t s pc) (sts_code t ss (pc + st_size s)), length_st t s pc, length_sts t ss (pc + st_size s))
 
 -- these instructions stand at this place
 abbrev pub HasAt : List Instr → ℕ → List Instr → Type 0
@@ -85,5 +91,5 @@ has_back code pc (suc n) (i ∷ a) b e h =
 
 -- the tables hold the code of these statements, and each place of it belongs to a frame of n sites and t temps
 pub record Compiled (n t : ℕ) (ss : Sts) (code : Tables) : Type 0 where
-  pub stands : HasAt code.instrs 0 (sts_code t ss)
+  pub stands : HasAt code.instrs 0 (body_code t ss)
   pub frame : (pc : ℕ) → frame_of code (owner_of code pc) ≡ 2 + n + t

@@ -1,54 +1,67 @@
 -- What the code of a program does, against what the program means.
-use Rattle.std.specs.Prelude.{◌≡◌, ℕ, ◌*◌, ◌≤◌, List, [], length, replicate, Option, Some, Result, Ok, Err}
+use Rattle.std.specs.Prelude.{◌≡◌, ℕ, ◌*◌, ◌≤◌, List, [], ◌++◌, replicate, Option, Some, None, Result, Ok, Err, nat_le, if◌then◌else◌}
 use Rattle.outside.specs.Causes.{Rose}
 use Rattle.outside.specs.Took.{Took, TookPrefix}
 use Rattle.typed.specs.Syntax.{Program}
-use Rattle.meaning.specs.Trace.{Ending, Exit}
+use Rattle.typed.specs.Frames.{frame_of}
+use Rattle.meaning.specs.Trace.{Ending, Exit, StackLimit}
 use Rattle.meaning.specs.Meaning.{Answer}
-use Rattle.meaning.specs.Output.{source}
-use Rattle.meaning.specs.Turns.{turns_of}
-use Rattle.simulation.specs.Outcome.{Outcome, Below, ending_in}
+use Rattle.meaning.specs.Output.{Limits, source, output}
+use Rattle.simulation.specs.Outcome.{Outcome, Ends, Below, ending_in}
 use Rattle.simulation.specs.Steps.{exec}
 use Rattle.isa.specs.Code.{Tables}
 use Rattle.machine.specs.Machine.{State, Event, Printed, act}
 use Rattle.machine.specs.declared.place.Ending.{Ending as Stop}
-use Rattle.machine.specs.declared.place.Ending.TheVariants.{Exit as Stopped, WriteFault as SinkFailed}
+use Rattle.machine.specs.declared.place.Ending.TheVariants as Machine
 use Rattle.codegen.specs.declared.running.RunFault.{RunFault}
-use Rattle.codegen.specs.declared.running.RunFault.TheVariants.{NoMemory, WriteFault}
+use Rattle.codegen.specs.declared.running.RunFault.TheVariants as Fault
 
 abbrev pub same_event : List ℕ → Event → Type 0
 same_event bytes e = e ≡ Printed bytes
 
 abbrev pub same_end : Ending → Stop → Type 0
-same_end (Exit n) (Stopped m) = n ≡ m
+same_end (Exit n) (Machine.Exit m) = n ≡ m
+same_end (StackLimit used asked max) (Machine.StackLimit u a m) = (used ≡ u) × (asked ≡ a) × (max ≡ m)
 same_end e f = ⊥
+
+-- the limits under which a program's source is taken
+abbrev pub limits : Program → ℕ → Limits
+limits p max = record { frame = λ f. frame_of p; stack_max = max }
 
 abbrev pub first_state : ℕ → State
 first_state frame = record { pc = 0; words = replicate frame 0 }
 
--- what the code shows in at most k instructions
-abbrev pub target : Tables → ℕ → ℕ → Outcome Event Stop
-target code frame k = exec (act code) k (first_state frame)
+-- what the code shows in at most k instructions, where the stack has at most so many words
+abbrev pub target : Tables → (frame max : ℕ) → ℕ → Outcome Event Stop
+target code frame max k = if nat_le frame max then exec (act code) k (first_state frame) else Ends (Machine.StackLimit 0 frame max)
 
 -- a turn is 1 to 16 instructions: what n turns show is shown by 16 * n instructions, and what k instructions show is
 -- shown by k turns
 pub record Simulated (p : Program) (code : Tables) (frame : ℕ) : Type 0 where
-  pub at_least : (item : List ℕ → Answer) (input : List ℕ) (n k : ℕ) → 16 * n ≤ k → Below same_event same_end (source item p input n) (target code frame k)
-  pub at_most : (item : List ℕ → Answer) (input : List ℕ) (k : ℕ) → Below (λ d e. same_event e d) (λ d e. same_end e d) (target code frame k) (source item p input k)
+  pub at_least : (item : List ℕ → Answer) (input : List ℕ) (max n k : ℕ) → 16 * n ≤ k → Below same_event same_end (source item p (limits p max) input n) (target code frame max k)
+  pub at_most : (item : List ℕ → Answer) (input : List ℕ) (max k : ℕ) → Below (λ d e. same_event e d) (λ d e. same_end e d) (target code frame max k) (source item p (limits p max) input k)
 
--- what a run to the end goes by: the program ends by itself within its turns, and there is an instruction for each
-pub record IsCodeOf (p : Program) (code : Tables) (frame : ℕ) : Type 0 where
-  pub simulated : Simulated p code frame
-  pub ends : (item : List ℕ → Answer) (input : List ℕ) → ending_in (source item p input (turns_of p)) ≡ Some (Exit 0)
-  pub room : turns_of p ≤ length code.instrs
+-- what was taken begins with the one text and is the beginning of the other
+pub record Between (few many : List ℕ) (old new : Option (List ℕ)) : Type 0 where
+  pub bytes : List ℕ
+  pub took : Took old new bytes
+  pub begins : (rest : List ℕ) × (few ++ rest ≡ bytes)
+  pub within : (rest : List ℕ) × (bytes ++ rest ≡ many)
 
--- a text was printed: out took it; or out failed and took a part of it; or memory was refused and nothing was taken
-abbrev pub Prints : {A : Type 0} → List ℕ → Result A RunFault → (old new : Option (List ℕ)) → (before now : ℕ) → Type 0
-Prints text (Ok x) old new before now = Took old new text
-Prints text (Err WriteFault) old new before now = TookPrefix old new text × Rose before now
-Prints text (Err NoMemory) old new before now = Took old new []
+-- how a run of so many steps answered, against what the source shows in few turns and in many: the ending of the many,
+-- with all its output; no ending in the few, and an output between both; or a fault outside
+abbrev pub Ran : (few many : Outcome (List ℕ) Ending) → Result ℕ RunFault → (old new : Option (List ℕ)) → (before now : ℕ) → Type 0
+Ran few many (Ok status) old new before now = (ending_in many ≡ Some (Exit status)) × Took old new (output many)
+Ran few many (Err (Fault.StackLimit used asked limit)) old new before now = (ending_in many ≡ Some (StackLimit used asked limit)) × Took old new (output many)
+Ran few many (Err Fault.Steps) old new before now = (ending_in few ≡ None) × Between (output few) (output many) old new
+Ran few many (Err Fault.WriteFault) old new before now = TookPrefix old new (output many) × Rose before now
+Ran few many (Err Fault.NoMemory) old new before now = Took old new []
 
 -- what a run answers where the machine ended so
-abbrev pub answer_to : Option Stop → Result (Unit {0}) RunFault
-answer_to (Some SinkFailed) = Err WriteFault
-answer_to e = Ok tt
+abbrev pub answer_to : Option Stop → Result ℕ RunFault
+answer_to None = Err Fault.Steps
+answer_to (Some (Machine.Exit status)) = Ok status
+answer_to (Some Machine.WriteFault) = Err Fault.WriteFault
+answer_to (Some (Machine.StackLimit used asked limit)) = Err (Fault.StackLimit used asked limit)
+answer_to (Some (Machine.WildReturn place)) = Err Fault.Steps
+answer_to (Some (Machine.WildLink place)) = Err Fault.Steps

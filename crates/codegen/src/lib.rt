@@ -12,12 +12,18 @@
 //! What such a lemma needs of the stack is that each variable's value stands in its slot, which is named by its
 //! distance from the stack's upper end.
 //!
-//! A straight line ends by itself, in as many turns as its nodes take, and has an instruction for each turn. So `run`
-//! takes 16 steps for each instruction, and then the program has ended: the sink has taken exactly what the program
-//! prints, unless it failed.
+//! A jump goes to a place that is known before the jump is emitted: the lengths of what it passes over are counted
+//! first, so nothing is patched afterwards. A loop's lemma is an induction on the fuel of the meaning, with the lemma of
+//! its body as a premise at every smaller bound on the turns.
+//!
+//! `run` stops after a number of steps, and refuses a first frame that passes the limit of the stack. Its contract
+//! says what that means for the program: an ending that is answered is the program's own, with all its output, and
+//! where the steps were used up, the program has not ended in a sixteenth of them as turns, and the output lies between
+//! what it shows in so many turns and in as many turns as there were steps.
 #![tactic(auto)]
 
 mod emitting;
+mod lengths;
 mod running;
 mod slots;
 #[cfg(test)]

@@ -1,11 +1,10 @@
 //! Runs of a code to its end.
-ghost use Rattle.std.specs.Prelude.{◌≡◌, ◌<◌, ◌^◌, ℕ, List, length};
+ghost use Rattle.std.specs.Prelude.{◌≡◌, ◌/◌, ◌<◌, ◌^◌, ℕ, List, length};
 ghost use Rattle.machine.specs.Inside.{Inside};
 ghost use Rattle.typed.specs.Syntax.{Program};
 ghost use Rattle.meaning.specs.Meaning.{Answer};
-ghost use Rattle.meaning.specs.Output.{source, output};
-ghost use Rattle.meaning.specs.Turns.{turns_of};
-ghost use Rattle.codegen.specs.Correct.{IsCodeOf, Prints, answer_to};
+ghost use Rattle.meaning.specs.Output.{source};
+ghost use Rattle.codegen.specs.Correct.{Simulated, Ran, answer_to, limits};
 
 use isa::Code;
 use machine::{Ending, Place};
@@ -22,6 +21,12 @@ pub enum RunFault {
     /// The sink failed, and took a part of the output.
     #[error("a write failed")]
     WriteFault,
+    /// The run was stopped after so many steps.
+    #[error("no more steps")]
+    Steps,
+    /// A frame would have passed the limit of the stack: the words in use, those asked for, and the limit.
+    #[error("stack used {used} asked {asked} limit {limit}")]
+    StackLimit { used: u64, asked: u64, limit: u64 },
 }
 
 impl From<AllocError> for RunFault {
@@ -34,27 +39,48 @@ impl From<AllocError> for RunFault {
     }
 }
 
-// The code of a program ends by its return or where the sink fails.
-fn answer(ending: Option<Ending>) -> Result<(), RunFault>
+// The code of a program meets no wild word, so it doesn't matter what stands for one here.
+fn answer(ending: Option<Ending>) -> Result<u8, RunFault>
     ensures { result ≡ answer_to ending }
 {
     match ending {
-        None => Ok(()),
+        None => Err(RunFault::Steps),
+        Some(Ending::Exit(status)) => Ok(status),
         Some(Ending::WriteFault) => Err(RunFault::WriteFault),
-        Some(Ending::Exit(_)) => Ok(()),
-        Some(Ending::WildReturn(_)) => Ok(()),
-        Some(Ending::WildLink(_)) => Ok(()),
+        Some(Ending::StackLimit { used, asked, limit }) => Err(RunFault::StackLimit {
+            used,
+            asked,
+            limit,
+        }),
+        Some(Ending::WildReturn(_)) => Err(RunFault::Steps),
+        Some(Ending::WildLink(_)) => Err(RunFault::Steps),
     }
 }
 
-/// Runs the code of a program from its first frame of so many words to its end.
-pub fn run<O: Sink>(alloc: Global, code: &Code, frame: u16, out: &mut O) -> Result<(), RunFault>
+/// Runs the code of a program from its first frame of so many words, for at most so many steps and with a stack of at
+/// most so many words. The answer is the status that the program ended with.
+pub fn run<O: Sink>(
+    alloc: Global,
+    code: &Code,
+    frame: u16,
+    stack_max: u64,
+    steps: u64,
+    out: &mut O,
+) -> Result<u8, RunFault>
     requires inside { Inside code.now frame 0 0 }
     requires small { length code.now.instrs < 2 ^ 40 }
-    ensures prints { (p : Program) → IsCodeOf p code.now frame → (item : List ℕ → Answer) (input : List ℕ)
-        → Prints (output (source item p input (turns_of p))) result (O.taken out.old) (O.taken out.new) (O.faults out.old) (O.faults out.new) }
+    ensures runs { (p : Program) → Simulated p code.now frame → (item : List ℕ → Answer) (input : List ℕ)
+        → Ran (source item p (limits p stack_max) input (steps / 16)) (source item p (limits p stack_max) input steps) result
+        (O.taken out.old) (O.taken out.new) (O.faults out.old) (O.faults out.new) }
 {
-    let steps = 16 * code.instrs().len() as u64;
+    let asked = frame as u64;
+    if asked > stack_max {
+        return Err(RunFault::StackLimit {
+            used: 0,
+            asked,
+            limit: stack_max,
+        });
+    }
     let mut words = vec![in alloc; 0; frame as usize]?;
     let next = machine::run(code, &mut words, Place { pc: 0, base: 0 }, out, steps);
     answer(next.ending)

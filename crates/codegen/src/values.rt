@@ -1,8 +1,8 @@
 //! The code of expressions.
 ghost use Rattle.std.specs.Prelude.{◌≡◌, ◌+◌, ◌≤◌, ◌++◌, ◌∷◌, [], OnOk};
-ghost use Rattle.typed.specs.View.{ex_of, pieces_of};
+ghost use Rattle.typed.specs.View.{ex_of, pieces_of, value_of};
 ghost use Rattle.codegen.specs.Temps.{Fits, AllFit};
-ghost use Rattle.codegen.specs.Code.{ex_code, pieces_code, operation as operation_of, unary_code};
+ghost use Rattle.codegen.specs.Code.{ex_code, pieces_code, operation as operation_of, unary_code, word_of};
 
 use crate::slots::Slots;
 use base::NoMemory;
@@ -24,6 +24,22 @@ fn operation(op: BinOp) -> isa::BinOp
         BinOp::Add => isa::BinOp::Add,
         BinOp::Sub => isa::BinOp::Sub,
         BinOp::Mul => isa::BinOp::Mul,
+        BinOp::Equal => isa::BinOp::Equal,
+        BinOp::NotEqual => isa::BinOp::NotEqual,
+        BinOp::Less => isa::BinOp::Less,
+        BinOp::LessEqual => isa::BinOp::LessEqual,
+        BinOp::Greater => isa::BinOp::Greater,
+        BinOp::GreaterEqual => isa::BinOp::GreaterEqual,
+    }
+}
+
+fn word(c: Const) -> u64
+    ensures { result ≡ word_of (value_of c) }
+{
+    match c {
+        Const::Int(z) => z.cast_unsigned(),
+        Const::Bool(true) => 1,
+        Const::Bool(false) => 0,
     }
 }
 
@@ -42,11 +58,11 @@ pub fn emit_expr(code: &mut Vec<Instr>, e: &Expr, slots: Slots, h: u16) -> Resul
     ensures { OnOk result (code.new.items ≡ code.old.items ++ ex_code slots.temps (ex_of e.now) h) }
 {
     match e {
-        Expr::Constant(Const::Int(z)) => put(
+        Expr::Constant(c) => put(
             code,
             Instr::Const {
                 a: h,
-                word: z.cast_unsigned(),
+                word: word(*c),
             },
         )?,
         Expr::Local(site) => put(

@@ -1,13 +1,19 @@
 //! Instructions.
 ghost use Rattle.std.specs.Prelude.{◌≡◌};
-ghost use Rattle.isa.specs.Bin.{bin_of, negated};
+ghost use Rattle.isa.specs.Bin.{bin_of, bit_of, negated};
 
-/// An operation on two words, which are read as numbers with a sign.
+/// An operation on two words, which are read as numbers with a sign. A comparison gives 1 where it holds, else 0.
 #[derive(Clone, Copy, Debug, PartialEq, Eq)]
 pub enum BinOp {
     Add,
     Sub,
     Mul,
+    Equal,
+    NotEqual,
+    Less,
+    LessEqual,
+    Greater,
+    GreaterEqual,
 }
 
 /// An instruction of 16 bytes. Its slots are words of the running frame, counted from the frame's lowest word, 0; they
@@ -22,6 +28,10 @@ pub enum Instr {
     Bin { op: BinOp, a: u16, b: u16, c: u16 },
     /// The slot a gets the negative of the word of b.
     Negate { a: u16, b: u16 },
+    /// Goes on at a place of the same function, counted over all code.
+    Jump { to: u32 },
+    /// Goes on there if the slot's word is 0.
+    JumpZero { a: u16, to: u32 },
     /// Prints the slot's number in decimal.
     PrintInt { a: u16 },
     /// Prints a space.
@@ -32,24 +42,30 @@ pub enum Instr {
     Return,
 }
 
-/// What an operation on two words gives, modulo 2^64.
+#[inline(always)]
+fn bit(holds: bool) -> u64
+    ensures { result ≡ bit_of holds }
+{
+    if holds { 1 } else { 0 }
+}
+
+/// What an operation on two words gives; sums, differences and products modulo 2^64.
 #[inline(always)]
 pub fn bin(op: BinOp, x: u64, y: u64) -> u64
     ensures { result ≡ bin_of op x y }
 {
+    let a = x.cast_signed();
+    let b = y.cast_signed();
     match op {
-        BinOp::Add => x
-            .cast_signed()
-            .wrapping_add(y.cast_signed())
-            .cast_unsigned(),
-        BinOp::Sub => x
-            .cast_signed()
-            .wrapping_sub(y.cast_signed())
-            .cast_unsigned(),
-        BinOp::Mul => x
-            .cast_signed()
-            .wrapping_mul(y.cast_signed())
-            .cast_unsigned(),
+        BinOp::Add => a.wrapping_add(b).cast_unsigned(),
+        BinOp::Sub => a.wrapping_sub(b).cast_unsigned(),
+        BinOp::Mul => a.wrapping_mul(b).cast_unsigned(),
+        BinOp::Equal => bit(a == b),
+        BinOp::NotEqual => bit(a != b),
+        BinOp::Less => bit(a < b),
+        BinOp::LessEqual => bit(a <= b),
+        BinOp::Greater => bit(b < a),
+        BinOp::GreaterEqual => bit(b <= a),
     }
 }
 

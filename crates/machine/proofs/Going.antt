@@ -13,7 +13,7 @@ use Rattle.machine.specs.Machine.{State, Does, Event, Printed, bytes_of, act}
 use Rattle.machine.specs.Inside.{Inside}
 use Rattle.machine.specs.Answers.{Answers, printed_by}
 use Rattle.machine.specs.declared.place.Ending.{Ending}
-use Rattle.machine.specs.declared.place.Ending.TheVariants.{Exit, WriteFault, WildReturn, WildLink}
+use Rattle.machine.specs.declared.place.Ending.TheVariants.{Exit, WriteFault, StackLimit, WildReturn, WildLink}
 
 -- a run that has come so far
 pub record Going (t : Tables) (steps : ℕ) (first : State) (left : ℕ) (s : State) (inside : Type 0) (old now : Option (List ℕ)) (before later : ℕ) : Type 0 where
@@ -107,6 +107,7 @@ module _ (t : Tables) (steps : ℕ) (first : State) (left : ℕ) (s new : State)
   pub ends : (e : Ending) → Answers (act t s) new (Some e) now late later last → Answers (many (act t) steps first) new (Some e) old late before last
   ends WriteFault a = failed a
   ends (Exit n) a = stopped (Exit n) a
+  ends (StackLimit used asked limit) a = stopped (StackLimit used asked limit) a
   ends (WildReturn n) a = stopped (WildReturn n) a
   ends (WildLink n) a = stopped (WildLink n) a
 

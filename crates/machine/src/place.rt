@@ -14,6 +14,8 @@ pub enum Ending {
     Exit(u8),
     /// The sink failed.
     WriteFault,
+    /// A frame would have passed the limit of the stack: the words in use, those asked for, and the limit.
+    StackLimit { used: u64, asked: u64, limit: u64 },
     /// A return met this return place, and it was not its frame's.
     WildReturn(u64),
     /// A return met this link to the frame above, and it was not its frame's.

@@ -86,6 +86,20 @@ fn on(at: Place) -> Next
     }
 }
 
+// The run goes on at a place.
+#[inline(always)]
+fn led(at: Place, to: u32) -> Next
+    ensures { result ≡ record { at = record { pc = to; base = at.base }; ending = None } }
+{
+    Next {
+        at: Place {
+            pc: to as usize,
+            base: at.base,
+        },
+        ending: None,
+    }
+}
+
 // The run ends at a place.
 #[inline(always)]
 fn ended(at: Place, ending: Ending) -> Next
@@ -183,6 +197,14 @@ pub fn step<O: Sink>(
             let word = negate(slot(words, base, b));
             set_slot(words, base, a, word);
             on(at)
+        }
+        Instr::Jump { to } => led(at, to),
+        Instr::JumpZero { a, to } => {
+            if slot(words, base, a) == 0 {
+                led(at, to)
+            } else {
+                on(at)
+            }
         }
         Instr::PrintInt { a } => put_slot(words, at, a, out),
         Instr::PrintSpace => {

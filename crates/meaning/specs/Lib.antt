@@ -3,5 +3,3 @@ pub mod Store
 pub mod Operators
 pub mod Meaning
 pub mod Output
-pub mod Turns
-pub mod Laws

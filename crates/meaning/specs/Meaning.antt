@@ -1,11 +1,11 @@
 -- What a typed program does.
-use Rattle.std.specs.Prelude.{ℕ, zero, suc, ℤ, Bool, true, false, List, [], ◌∷◌, ◌++◌, length, Option, Some, None, Result, Ok, Err, get_or, slice_get, if◌then◌else◌, nat_eq}
+use Rattle.std.specs.Prelude.{ℕ, zero, suc, ◌-◌, ℤ, Bool, true, false, List, [], ◌∷◌, ◌++◌, length, Option, Some, None, Result, Ok, Err, get_or, slice_get, if◌then◌else◌, nat_eq}
 use Rattle.std.specs.Fmt.{signed_decimal}
 use Rattle.base.specs.declared.pos.Pos.{Pos}
-use Rattle.typed.specs.Value.{Value, int, words}
-use Rattle.typed.specs.Syntax.{Ex, Exs, Pl, Steps, Left, Piece, St, Sts, Func, Program, constant, read, unary, binary, none, more, local, here, new, shown, assign, print, done, next}
-use Rattle.meaning.specs.Trace.{Entry, Call, Return, Born, Read, Print, Fault, Ending, Exit, Panic, World, Cell, Mark, state, entered, ended, Trace, Turn, Note, Seen, End, Cut}
-use Rattle.meaning.specs.Store.{read_at, born}
+use Rattle.typed.specs.Value.{Value, int, bool, words}
+use Rattle.typed.specs.Syntax.{Ex, Exs, Pl, Steps, Left, Piece, St, Sts, Func, Program, constant, read, unary, binary, none, more, local, here, new, to, shown, assign, block, choose, loop, print, done, next}
+use Rattle.meaning.specs.Trace.{Entry, Call, Return, Born, Read, Write, Print, Fault, Ending, Exit, Panic, World, Cell, Mark, state, entered, ended, copied, Trace, Turn, Note, Seen, End, Cut}
+use Rattle.meaning.specs.Store.{read_at, written, born}
 use Rattle.meaning.specs.Operators.{unary_of, binary_of}
 
 -- what goes on from a state, and what goes on with something
@@ -84,6 +84,9 @@ births k w = k (length w.store) w
 abbrev pub read_part : ℕ → List ℕ → Then Value → Go
 read_part v path k w = Note (Read v path (words (read_at w v path))) (k (read_at w v path) w)
 
+abbrev pub write_part : ℕ → List ℕ → Value → Go → Go
+write_part v path x g w = Note (Write v path (words x)) (g (written w v path x))
+
 abbrev pub new_cell : Setting → (call site : ℕ) → Value → Cell
 new_cell around call site x = record { site = site; call = call; type = get_or around.sites site 0; value = x }
 
@@ -106,6 +109,17 @@ give ws k v = see (v ∷ ws.held) (k v)
 abbrev pub or_panic : {A : Type 0} → Ways → Env → Pos → Result A Fault → Then A → Go
 or_panic ws env at (Ok a) k = k a
 or_panic ws env at (Err f) k = ws.panicked at f env
+
+abbrev pub when : Bool → Go → Go → Go
+when true g h = g
+when false g h = h
+
+abbrev pub is_true : Value → Bool
+is_true (bool b) = b
+is_true v = false
+
+abbrev pub branch : Value → Go → Go → Go
+branch v g h = when (is_true v) g h
 
 -- the operands of a place: where it begins, and the steps from there
 pub data Base : Type 0 where
@@ -155,21 +169,30 @@ module _ (around : Setting) (calls : Calls) where
 -- a left side whose operands are known
 pub data Landing : Type 0 where
   birth : ℕ → Landing
+  on : Aim → Landing
+
+-- the values that an aim keeps
+abbrev pub aim_values : Aim → List Value
+aim_values a = []
 
 abbrev pub landing_values : Landing → List Value
 landing_values (birth site) = []
+landing_values (on a) = aim_values a
 
-abbrev pub ready : Left → Ways → Env → Then Landing → Go
-ready (new site) ws env k = k (birth site)
+module _ (around : Setting) (calls : Calls) where
+  abbrev pub ready : Left → Ways → Env → Then Landing → Go
+  ready (new site) ws env k = k (birth site)
+  ready (to p) ws env k = aim around calls p ws env (λ a. k (on a))
 
--- the left sides' operands; what follows has the ways in which their values are held
-abbrev pub ready_all : List Left → Ways → Env → (List Landing → Ways → Go) → Go
-ready_all [] ws env k = k [] ws
-ready_all (l ∷ ls) ws env k = ready l ws env (λ x. ready_all ls (holding_all ws (landing_values x)) env (λ xs ws1. k (x ∷ xs) ws1))
+  -- the left sides' operands; what follows has the ways in which their values are held
+  abbrev pub ready_all : List Left → Ways → Env → (List Landing → Ways → Go) → Go
+  ready_all [] ws env k = k [] ws
+  ready_all (l ∷ ls) ws env k = ready l ws env (λ x. ready_all ls (holding_all ws (landing_values x)) env (λ xs ws1. k (x ∷ xs) ws1))
 
 module _ (around : Setting) where
   abbrev pub land : Landing → Value → Ways → Env → (Env → Go) → Go
   land (birth site) v ws env k = turn (bear around ws.call site v (λ x. k (with_home env site x)))
+  land (on a) v ws env k = settle a (λ q. write_part q.variable q.path v (k env))
 
   abbrev pub land_all : List Landing → List Value → Ways → Env → (Env → Go) → Go
   land_all [] vs ws env k = k env
@@ -179,6 +202,8 @@ module _ (around : Setting) where
 -- printed pieces
 abbrev pub shown_bytes : Value → List ℕ
 shown_bytes (int z) = signed_decimal z
+shown_bytes (bool true) = 116 ∷ 114 ∷ 117 ∷ 101 ∷ []
+shown_bytes (bool false) = 102 ∷ 97 ∷ 108 ∷ 115 ∷ 101 ∷ []
 
 -- the first has no space before it, and without a newline there is none at all
 abbrev pub emit_more : List (List ℕ) → Go → Go
@@ -203,14 +228,46 @@ module _ (around : Setting) (calls : Calls) where
   pieces [] ws env k = k []
   pieces (shown e ∷ ps) ws env k = ev around calls e ws env (λ v. pieces ps (holding ws v) env (λ r. k (shown_bytes v ∷ r)))
 
-module _ (around : Setting) (calls : Calls) (fuel : ℕ) where
-  abbrev pub exec : St → Ways → Env → (Env → Go) → Go
-  exec (assign ls es) ws env k = ready_all ls ws env (λ those ws1. evs around calls es ws1 env (λ vs. land_all around those vs ws env k))
-  exec (print ln ps) ws env k = pieces around calls ps ws env (λ bs. emit ln bs (k env))
+  -- without a condition none is evaluated and no turn is taken
+  abbrev pub test_of : Option Ex → Ways → Env → Then Value → Go
+  test_of None ws env k = k (bool true)
+  test_of (Some e) ws env k = ev around calls e ws env (λ v. turn (k v))
 
-  abbrev pub exec_all : Sts → Ways → Env → (Env → Go) → Go
-  exec_all done ws env k = see ws.held (k env)
-  exec_all (next s ss) ws env k = see ws.held (exec s ws env (λ env1. exec_all ss ws env1 k))
+-- a new round's variables, from the old ones
+abbrev pub renew : Setting → (call : ℕ) → List ℕ → Env → (Env → Go) → Go
+renew around call [] env k = k env
+renew around call (site ∷ sites) env k = turn (mark (copied (home env site)) (read_part (home env site) [] (λ v. bear around call site v (λ x. renew around call sites (with_home env site x) k))))
+
+-- the rounds of a loop, at most as many tests as there is fuel; a round goes by the number of variables at its beginning
+abbrev pub rounds : ℕ → (Env → Then Value → Go) → (ℕ → Env → (ℕ → Env → Go) → Go) → (ℕ → Env → Go) → ℕ → Env → Go
+rounds zero test body k n env = no_fuel
+rounds (suc fuel) test body k n env = test env (λ v. branch v (body n env (λ n1 env1. turn (rounds fuel test body k n1 env1))) (k n env))
+
+-- a body, which goes on by `again` at its end and at `continue`, and by `out` at `break`
+abbrev pub in_loop : (Ways → Env → (Env → Go) → Go) → Ways → (out again : Env → Go) → Env → Go
+in_loop body ws out again env = body (record { broken = out; continued = again; returned = ws.returned; panicked = ws.panicked; held = ws.held; call = ws.call }) env again
+
+-- behind a loop
+abbrev pub outside : (Env → Go) → ℕ → Env → Go
+outside k n env = mark (ended n) (k env)
+
+-- from the end of a body to the next round
+abbrev pub to_next : Setting → ℕ → List ℕ → (Ways → Env → (Env → Go) → Go) → Ways → (ℕ → Env → Go) → Env → Go
+to_next around n sites post ws j env = mark (ended n) (births (λ n1. renew around ws.call sites env (λ env1. post ws env1 (j n1))))
+
+module _ (around : Setting) (calls : Calls) (fuel : ℕ) where
+  abbrev mutual
+    pub exec : St → Ways → Env → (Env → Go) → Go
+    exec (assign ls es) ws env k = ready_all around calls ls ws env (λ those ws1. evs around calls es ws1 env (λ vs. land_all around those vs ws env k))
+    exec (block ss) ws env k = exec_all ss ws env k
+    exec (choose e a b) ws env k = ev around calls e ws env (λ v. turn (branch v (exec_all a ws env k) (exec_all b ws env k)))
+    exec (loop sites test post body) ws env k =
+        births (λ n. rounds fuel (test_of around calls test ws) (λ n1 env1 j. in_loop (exec_all body) ws (outside k n1) (to_next around n1 sites (exec_all post) ws j) env1) (outside k) (n - length sites) env)
+    exec (print ln ps) ws env k = pieces around calls ps ws env (λ bs. emit ln bs (k env))
+
+    pub exec_all : Sts → Ways → Env → (Env → Go) → Go
+    exec_all done ws env k = see ws.held (k env)
+    exec_all (next s ss) ws env k = see ws.held (exec s ws env (λ env1. exec_all ss ws env1 k))
 
 -- a return; the number is that of the variables at the call's entry
 abbrev pub leave : ℕ → Then (List Value) → List Value → Env → Go

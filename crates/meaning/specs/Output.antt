@@ -1,25 +1,41 @@
--- What a run shows to those outside: the printed pieces and the end.
-use Rattle.std.specs.Prelude.{ℕ, List, [], ◌++◌}
+-- What a run shows to those outside: the printed pieces and the end, under limits.
+use Rattle.std.specs.Prelude.{ℕ, ◌+◌, List, [], ◌∷◌, ◌++◌, nat_le, if◌then◌else◌}
 use Rattle.typed.specs.Syntax.{Program}
-use Rattle.meaning.specs.Trace.{Call, Return, Born, Read, Print, Ending, Trace, Turn, Note, Seen, End, Cut}
+use Rattle.meaning.specs.Trace.{Call, Return, Born, Read, Write, Print, Ending, StackLimit, Trace, Turn, Note, Seen, End, Cut}
 use Rattle.meaning.specs.Meaning.{Answer, trace}
 use Rattle.simulation.specs.Outcome as Run
 use Rattle.simulation.specs.Outcome.{Lines, Outcome, Gives, Ends, Unfinished, upto}
 
-abbrev pub out : Trace → Lines (List ℕ) Ending
-out (Turn t) = Run.Turn (out t)
-out (Seen m t) = out t
-out (End e) = Run.End e
-out Cut = Run.Cut
-out (Note (Print bytes) t) = Run.Line bytes (out t)
-out (Note (Call f) t) = out t
-out (Note Return t) = out t
-out (Note (Born site n) t) = out t
-out (Note (Read v path n) t) = out t
+-- the words of each function's frame, and the most words that the stack may have
+pub record Limits : Type 0 where
+  pub frame : ℕ → ℕ
+  pub stack_max : ℕ
+
+-- the words of running calls
+abbrev pub used_by : Limits → List ℕ → ℕ
+used_by l [] = 0
+used_by l (f ∷ calls) = l.frame f + used_by l calls
+
+abbrev pub tail_of : List ℕ → List ℕ
+tail_of [] = []
+tail_of (f ∷ calls) = calls
+
+-- cut before the first call for which the stack would have too many words
+abbrev pub out : Limits → List ℕ → Trace → Lines (List ℕ) Ending
+out l calls (Turn t) = Run.Turn (out l calls t)
+out l calls (Seen m t) = out l calls t
+out l calls (End e) = Run.End e
+out l calls Cut = Run.Cut
+out l calls (Note (Print bytes) t) = Run.Line bytes (out l calls t)
+out l calls (Note (Call f) t) = if nat_le (used_by l calls + l.frame f) l.stack_max then out l (f ∷ calls) t else Run.End (StackLimit (used_by l calls) (l.frame f) l.stack_max)
+out l calls (Note Return t) = out l (tail_of calls) t
+out l calls (Note (Born site n) t) = out l calls t
+out l calls (Note (Read v path n) t) = out l calls t
+out l calls (Note (Write v path n) t) = out l calls t
 
 -- what the source shows before turn n + 1, with this reading of an item of the input
-abbrev pub source : (List ℕ → Answer) → Program → List ℕ → ℕ → Outcome (List ℕ) Ending
-source item p input n = upto n (out (trace item p input n))
+abbrev pub source : (List ℕ → Answer) → Program → Limits → List ℕ → ℕ → Outcome (List ℕ) Ending
+source item p l input n = upto n (out l [] (trace item p input n))
 
 -- the bytes that a bounded run prints
 abbrev pub output : Outcome (List ℕ) Ending → List ℕ

@@ -9,6 +9,7 @@ pub data Entry : Type 0 where
   Return : Entry
   Born : (site words : ℕ) → Entry
   Read : (variable : ℕ) (path : List ℕ) (words : ℕ) → Entry
+  Write : (variable : ℕ) (path : List ℕ) (words : ℕ) → Entry
   Print : (bytes : List ℕ) → Entry
 
 -- why a program panics
@@ -20,6 +21,8 @@ pub data Ending : Type 0 where
   Turns : Ending
   Exit : (status : ℕ) → Ending
   Panic : Pos → Fault → Ending
+  -- the words of the stack in use, those asked for, and the most
+  StackLimit : (used asked max : ℕ) → Ending
 
 -- a variable: its site, the number of variables at the entry of the call that it was born in, its type and its value
 pub record Cell : Type 0 where
@@ -39,8 +42,10 @@ pub data Mark : Type 0 where
   state : World → List Value → Mark
   -- a call begins, with these variables and arguments
   entered : World → List Value → Mark
-  -- a call returns: the variables from this number on are not current any more
+  -- a round ends, a loop is left, or a call returns: the variables from this number on are not current any more
   ended : ℕ → Mark
+  -- the next entry is the read of an old header variable that the next round copies
+  copied : ℕ → Mark
 
 -- what a program does: a turn is marked where it is taken, Seen shows nothing, Cut is where the fuel is out
 pub data Trace : Type 0 where

@@ -8,14 +8,10 @@
 //! and where a panic leads. The values that running evaluations hold go along in it.
 //!
 //! The trace marks each turn where it is taken. How many turns there are is no matter of the evaluator: a run with a
-//! budget of n turns is the trace cut before turn n + 1, and with a greater budget a run only goes further. Calls take
-//! fuel, n + 1 for n turns, since each call inside another has taken a turn. Marks in the trace, which show nothing,
+//! budget of n turns is the trace cut before turn n + 1, and with a greater budget a run only goes further. Calls and
+//! loops take fuel, n + 1 for n turns, since each call inside another and each round has taken a turn. Marks in the trace, which show nothing,
 //! are the states in which evaluations begin and end, for the invariants that speak of all of them.
 //!
 //! The definitions stand in `specs/`: the trace and the journal's entries, the store, the operators, the evaluator,
-//! what a run shows, and the turns that a straight line takes.
+//! and what a run shows under limits.
 #![tactic(auto)]
-
-mod laws;
-
-pub use laws::straight_lines_end;

@@ -30,20 +30,26 @@ pub data Exs : Type 0 where
 pub data Left : Type 0 where
   -- a new variable of a site
   new : ℕ → Left
+  to : Pl → Left
 
 -- an operand of `println`
 pub data Piece : Type 0 where
   shown : Ex → Piece
 
-pub data St : Type 0 where
-  -- a declaration with values
-  assign : List Left → Exs → St
-  -- `println`, where true is said
-  print : Bool → List Piece → St
+mutual
+  pub data St : Type 0 where
+    -- a declaration with values, or an assignment
+    assign : List Left → Exs → St
+    block : Sts → St
+    choose : Ex → Sts → Sts → St
+    -- the variables of the header, the condition if there is one, the post statement and the body
+    loop : List ℕ → Option Ex → Sts → Sts → St
+    -- `println`, where true is said
+    print : Bool → List Piece → St
 
-pub data Sts : Type 0 where
-  done : Sts
-  next : St → Sts → Sts
+  pub data Sts : Type 0 where
+    done : Sts
+    next : St → Sts → Sts
 
 -- a function: the sites of its parameters (none for a blank one) and named results, and its body
 pub record Func : Type 0 where

@@ -7,6 +7,8 @@ use base::{Pos, SiteId};
 #[derive(Clone, Copy, Debug, PartialEq, Eq)]
 pub enum Const {
     Int(i64),
+    /// A comparison of constants.
+    Bool(bool),
 }
 
 /// An expression with one value. An operator that can panic has the place that a panic would name: the first byte of

@@ -6,6 +6,12 @@ pub enum BinOp {
     Add,
     Sub,
     Mul,
+    Equal,
+    NotEqual,
+    Less,
+    LessEqual,
+    Greater,
+    GreaterEqual,
 }
 
 /// An operator on one operand.
