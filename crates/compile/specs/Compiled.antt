@@ -4,7 +4,7 @@ use Rattle.machine.specs.Inside.{Inside}
 use Rattle.typed.specs.Syntax.{Program}
 use Rattle.typed.specs.View.{program_of}
 use Rattle.typed.specs.Frames.{frame_of}
-use Rattle.codegen.specs.Correct.{IsCodeOf}
+use Rattle.codegen.specs.Correct.{Simulated}
 use Rattle.compile.specs.declared.compiling.Compiled.{Compiled}
 use Rattle.compile.specs.declared.fault.CompileFault.{CompileFault}
 use Rattle.compile.specs.declared.fault.CompileFault.TheVariants.{NoMemory}
@@ -12,10 +12,10 @@ use Rattle.compile.specs.declared.fault.CompileFault.TheVariants.{NoMemory}
 abbrev pub compiled_program : Compiled → Program
 compiled_program c = program_of c.program
 
--- the code does what the program means, from a frame of these words
+-- the code does what the program means, turn by turn, from a frame of these words
 pub record Does (c : Compiled) : Type 0 where
   pub frame : c.layout.frame ≡ frame_of (compiled_program c)
-  pub code : IsCodeOf (compiled_program c) c.code (frame_of (compiled_program c))
+  pub code : Simulated (compiled_program c) c.code (frame_of (compiled_program c))
   pub starts : Inside c.code (frame_of (compiled_program c)) 0 0
   pub small : length c.code.instrs < 2 ^ 40
 

@@ -1,5 +1,5 @@
 -- What a layout is refused for.
-use Rattle.std.specs.Prelude.{◌≡◌, ℕ, ◌<◌}
+use Rattle.std.specs.Prelude.{◌≡◌, ◌<◌}
 use Rattle.typed.specs.View.{program_of}
 use Rattle.typed.specs.Frames.{frame_of}
 use Rattle.typed.specs.declared.program.Program.{Program}

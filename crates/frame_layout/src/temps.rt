@@ -52,17 +52,41 @@ pub fn row_temps(es: &[Expr]) -> Result<u64, NoMemory>
     Ok(temps.max(kept))
 }
 
+// The temps of a value on its own.
+fn value_temps(e: &Expr) -> Result<u64, NoMemory>
+    ensures { IfOk result (λ n. n ≡ max (need (ex_of e.now)) 1) }
+{
+    Ok(expr_temps(e)?.max(1))
+}
+
 /// The temps of a statement.
+#[cycle(temps)]
+#[tactic(auto, using(typed::proofs::Rows::stmt_rows))]
 pub fn stmt_temps(s: &Stmt) -> Result<u64, NoMemory>
     ensures { IfOk result (λ n. n ≡ st_need (st_of s.now)) }
 {
     match s {
-        Stmt::Define(_, e) => Ok(expr_temps(e)?.max(1)),
+        Stmt::Define(_, e) => value_temps(e),
+        Stmt::Assign(_, e) => value_temps(e),
+        Stmt::Block(ss) => body_temps(ss),
+        Stmt::If(e, a, b) => {
+            let test = expr_temps(e)?;
+            let first = body_temps(a)?;
+            let second = body_temps(b)?;
+            Ok(test.max(first.max(second)))
+        }
+        Stmt::Loop(None, body) => body_temps(body),
+        Stmt::Loop(Some(e), body) => {
+            let test = expr_temps(e)?;
+            let round = body_temps(body)?;
+            Ok(test.max(round))
+        }
         Stmt::Print(es) => row_temps(es),
     }
 }
 
 /// The temps of a body: the most that one of its statements wants.
+#[cycle(temps)]
 pub fn body_temps(body: &[Stmt]) -> Result<u64, NoMemory>
     ensures { IfOk result (λ n. n ≡ sts_need (sts_of body.now)) }
 {

@@ -1,4 +1,5 @@
 pub mod Answer
+pub mod Command
 pub mod Programs
 pub mod Refusal
 pub mod Rows

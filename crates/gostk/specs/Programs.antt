@@ -1,11 +1,14 @@
--- What a text is refused for, and what was printed of an accepted one.
-use Rattle.std.specs.Prelude.{◌≡◌, ℕ, List, Option, Some}
+-- What a text is refused for, and what a run shows of an accepted one.
+use Rattle.std.specs.Prelude.{◌≡◌, ℕ, ◌/◌, List, Option, Some, None}
+use Rattle.base.specs.Limits.{Bounds}
 use Rattle.outside.specs.Causes.{Rose}
 use Rattle.outside.specs.Took.{Took, TookPrefix}
+use Rattle.simulation.specs.Outcome.{Outcome, ending_in}
 use Rattle.typed.specs.Syntax.{Program}
+use Rattle.meaning.specs.Trace.{Ending}
 use Rattle.meaning.specs.Meaning.{Answer as Item}
 use Rattle.meaning.specs.Output.{source, output}
-use Rattle.meaning.specs.Turns.{turns_of}
+use Rattle.codegen.specs.Correct.{Between, limits}
 use Rattle.compile.specs.Accepted.{Refuses as HasFault}
 use Rattle.compile.specs.declared.fault.CompileFault.{CompileFault}
 use Rattle.gostk.specs.Refusal.{refusal_of}
@@ -17,11 +20,32 @@ pub record Refuses (text : List ℕ) (refusal : Refusal) : Type 0 where
   pub cause : HasFault text fault
   pub is : refusal_of fault ≡ Some refusal
 
--- out took exactly what the program prints, whatever input it is given
-pub record Printed (p : Program) (old new : Option (List ℕ)) : Type 0 where
-  pub took : (item : List ℕ → Item) (input : List ℕ) → Took old new (output (source item p input (turns_of p)))
+-- how an item of the input is read, and the input: each run is told for all of them, since no program of this part reads
+abbrev pub Reading : Type 0
+Reading = (List ℕ → Item) × List ℕ
 
--- out failed, and took a front part of what the program prints
-pub record PrintedPart (p : Program) (old new : Option (List ℕ)) (before now : ℕ) : Type 0 where
-  pub took : (item : List ℕ → Item) (input : List ℕ) → TookPrefix old new (output (source item p input (turns_of p)))
+-- what the source of a program shows in as many turns as steps are allowed, under the limit of the stack
+abbrev pub all_turns : Program → Bounds → Reading → Outcome (List ℕ) Ending
+all_turns p b r = source r.0 p (limits p b.stack_max) r.1 b.steps
+
+-- and in a sixteenth of them, rounded down
+abbrev pub few_turns : Program → Bounds → Reading → Outcome (List ℕ) Ending
+few_turns p b r = source r.0 p (limits p b.stack_max) r.1 (b.steps / 16)
+
+-- within the turns the source ends so, and out took exactly what it prints; where it ends in the sixteenth of them
+-- already, that is the same run
+pub record EndsBy (p : Program) (b : Bounds) (e : Ending) (old new : Option (List ℕ)) : Type 0 where
+  pub ends : (r : Reading) → ending_in (all_turns p b r) ≡ Some e
+  pub took : (r : Reading) → Took old new (output (all_turns p b r))
+  pub early : (r : Reading) (x : Ending) → ending_in (few_turns p b r) ≡ Some x → few_turns p b r ≡ all_turns p b r
+
+-- within the sixteenth of the turns the source has not ended; out took all that it prints in these, and nothing that it
+-- doesn't print within all of them
+pub record GoesOn (p : Program) (b : Bounds) (old new : Option (List ℕ)) : Type 0 where
+  pub goes_on : (r : Reading) → ending_in (few_turns p b r) ≡ None
+  pub took : (r : Reading) → Between (output (few_turns p b r)) (output (all_turns p b r)) old new
+
+-- out failed, and took a front part of what the source prints within the turns
+pub record PrintedPart (p : Program) (b : Bounds) (old new : Option (List ℕ)) (before now : ℕ) : Type 0 where
+  pub took : (r : Reading) → TookPrefix old new (output (all_turns p b r))
   pub rose : Rose before now

@@ -1,17 +1,24 @@
 -- The table of answers: when each comes, and what it leaves.
-use Rattle.std.specs.Prelude.{◌≡◌, ◌⊎◌, ℕ, true, false, List, [], ◌∷◌, ◌++◌, Option, Some, None, codes}
+use Rattle.std.specs.Prelude.{◌≡◌, ◌⊎◌, ℕ, ◌≤◌, List, [], ◌∷◌, ◌++◌, Option, Some, None, codes}
+use Rattle.base.specs.Limits.{Bounds}
+use Rattle.base.specs.declared.limits.LimitFault.{LimitFault}
 use Rattle.outside.specs.Causes.{Rose}
 use Rattle.outside.specs.Files.{Content, Call, ReadOf, ReadsAs, Missing, Holds}
 use Rattle.outside.specs.Took.{Took, TookPrefix}
+use Rattle.simulation.specs.Outcome.{ending_in}
 use Rattle.typed.specs.Syntax.{Program}
-use Rattle.gostk.specs.Answer.{status_of, line_of}
+use Rattle.meaning.specs.Trace as source
+use Rattle.meaning.specs.Output.{output}
+use Rattle.gostk.specs.Answer.{status_of, line_of, limits_line, steps_line, stack_line}
 use Rattle.compile.specs.Accepted.{Accepted}
-use Rattle.gostk.specs.Programs.{Printed, PrintedPart, Refuses}
+use Rattle.gostk.specs.Programs.{EndsBy, GoesOn, PrintedPart, Reading, Refuses, few_turns, all_turns}
 use Rattle.gostk.specs.Refusal.{refusal_line}
-use Rattle.gostk.specs.Words.{run_path, is_source}
+use Rattle.gostk.specs.Words.{bounds_of, Asks, IsUsage, IsOffLimits, IsNoSource}
 use Rattle.gostk.specs.declared.answer.Answer.{Answer}
-use Rattle.gostk.specs.declared.answer.Answer.TheVariants.{Done, Words, SourceOnly, Refused, ReadFault, WriteFault, NoMemory}
+use Rattle.gostk.specs.declared.answer.Answer.TheVariants.{Ended, Usage, Limits, SourceOnly, Refused, ReadFault, WriteFault, Steps, StackLimit, NoMemory}
 use Rattle.gostk.specs.declared.refusal.Refusal.{Refusal}
+use Rattle.gostk.specs.declared.words.WordsFault.{WordsFault}
+use Rattle.gostk.specs.declared.words.WordsFault.TheVariants as words
 
 -- what is seen of the files and of out
 pub record Seen : Type 0 where
@@ -22,11 +29,6 @@ pub record Seen : Type 0 where
 
 abbrev pub seen : (List ℕ → Content) → List Call → Option (List ℕ) → ℕ → Seen
 seen content failed taken faults = record { content = content; failed = failed; taken = taken; faults = faults }
-
--- the words run a file of source
-pub record Asks (words : List (List ℕ)) (path : List ℕ) : Type 0 where
-  pub run : run_path words ≡ Some path
-  pub source : is_source path ≡ true
 
 -- the words run a file of source, which reads as this text
 pub record Reads (content : List ℕ → Content) (words : List (List ℕ)) (path text : List ℕ) : Type 0 where
@@ -51,28 +53,31 @@ pub record IsUntouched (old new : Seen) : Type 0 where
 abbrev pub GainedRead : List Call → List Call → List (List ℕ) → Type 0
 GainedRead old new words = (path : List ℕ) × Asks words path × (new ≡ old ++ ReadOf path ∷ [])
 
--- the words run no file
-abbrev pub IsNoRun : List (List ℕ) → Type 0
-IsNoRun words = run_path words ≡ None
-
--- the words run a file that is not source
-abbrev pub IsNoSource : List (List ℕ) → Type 0
-IsNoSource words = (path : List ℕ) × (run_path words ≡ Some path) × (is_source path ≡ false)
+-- the words run a text that is accepted with this program, and no call on the files failed
+pub record IsRunOf (program : Program) (old new : Seen) (words : List (List ℕ)) : Type 0 where
+  pub path : List ℕ
+  pub text : List ℕ
+  pub reads : Reads old.content words path text
+  pub accepted : IsTextOf text program
+  pub files : new.failed ≡ old.failed
 
 -- what the call leaves with each answer, its report aside
 abbrev pub Allowed : Seen → Seen → List (List ℕ) → Answer → Type 0
-Allowed old new words Done =
-    (path : List ℕ) × (text : List ℕ) × (program : Program)
-    × Reads old.content words path text × IsTextOf text program × (new.failed ≡ old.failed) × Printed program old.taken new.taken
-Allowed old new words Words = IsNoRun words × IsUntouched old new
+Allowed old new words (Ended status) =
+    (p : Program) × IsRunOf p old new words × EndsBy p (bounds_of words) (source.Exit status) old.taken new.taken × (status ≤ 125)
+Allowed old new words (Usage text) = IsUsage words × IsUntouched old new
+Allowed old new words (Limits fault) = IsOffLimits words fault × IsUntouched old new
 Allowed old new words SourceOnly = IsNoSource words × IsUntouched old new
 Allowed old new words (Refused file refusal) =
     (text : List ℕ) × Reads old.content words file.now text × Refuses text refusal × IsNoText text × IsUntouched old new
 Allowed old new words ReadFault = GainedRead old.failed new.failed words × Took old.taken new.taken []
 Allowed old new words WriteFault =
-    (path : List ℕ) × (text : List ℕ) × (program : Program)
-    × Reads old.content words path text × IsTextOf text program × (new.failed ≡ old.failed) × PrintedPart program old.taken new.taken old.faults new.faults
-Allowed old new words NoMemory = (path : List ℕ) × Asks words path × IsUntouched old new
+    (p : Program) × IsRunOf p old new words × PrintedPart p (bounds_of words) old.taken new.taken old.faults new.faults
+Allowed old new words (Steps n) =
+    (p : Program) × IsRunOf p old new words × GoesOn p (bounds_of words) old.taken new.taken × (n ≡ (bounds_of words).steps)
+Allowed old new words (StackLimit used asked limit) =
+    (p : Program) × IsRunOf p old new words × EndsBy p (bounds_of words) (source.StackLimit used asked limit) old.taken new.taken
+Allowed old new words NoMemory = IsUntouched old new
 
 -- the status is the answer's and err took its line, or err failed and took a prefix of it
 abbrev pub Reported : Answer → ℕ → Option (List ℕ) → Option (List ℕ) → ℕ → ℕ → Type 0
@@ -80,21 +85,20 @@ Reported answer status err err' before now =
     ((status ≡ status_of answer) × Took err err' (line_of answer))
     ⊎ ((status ≡ 204) × Rose before now × TookPrefix err err' (line_of answer))
 
--- 0: the text is accepted, out took exactly what its program prints, and err nothing
-pub record Finished (old new : Seen) (words : List (List ℕ)) (err err' : Option (List ℕ)) : Type 0 where
-  pub path : List ℕ
-  pub text : List ℕ
+-- 0 to 125: the text is accepted, and within the turns its program ends with this status; out took exactly what it
+-- prints, and err nothing
+pub record Finished (status : ℕ) (old new : Seen) (words : List (List ℕ)) (err err' : Option (List ℕ)) : Type 0 where
   pub program : Program
-  pub reads : Reads old.content words path text
-  pub accepted : IsTextOf text program
-  pub out : Printed program old.taken new.taken
-  pub files : new.failed ≡ old.failed
+  pub run : IsRunOf program old new words
+  pub out : EndsBy program (bounds_of words) (source.Exit status) old.taken new.taken
   pub line : Took err err' []
 
--- 200: the words run no file, or one that is not source, and the line says which
+-- 200: clap refuses the words, and its text is shown; or the numbers of the options are no limits, or the file is not
+-- source, and the line says so
 pub record WordsRefused (old new : Seen) (words : List (List ℕ)) (err err' : Option (List ℕ)) : Type 0 where
-  pub reason : (IsNoRun words × Took err err' (codes "gostk: words\n"))
-      ⊎ (IsNoSource words × Took err err' (codes "gostk: source only\n"))
+  pub reason : (IsUsage words × ((text : List ℕ) × Took err err' text))
+      ⊎ (((fault : LimitFault) × IsOffLimits words fault × Took err err' (limits_line fault))
+      ⊎ (IsNoSource words × Took err err' (codes "gostk: source only\n")))
   pub untouched : IsUntouched old new
 
 -- 201: the text is not accepted, and the line shows the fault for which it is refused
@@ -116,13 +120,9 @@ pub record ReadFailed (old new : Seen) (words : List (List ℕ)) (err err' : Opt
 
 -- out failed: its count rose, and it took a front part of what the program of an accepted text prints
 pub record OutFailed (old new : Seen) (words : List (List ℕ)) (err err' : Option (List ℕ)) : Type 0 where
-  pub path : List ℕ
-  pub text : List ℕ
   pub program : Program
-  pub reads : Reads old.content words path text
-  pub accepted : IsTextOf text program
-  pub out : PrintedPart program old.taken new.taken old.faults new.faults
-  pub files : new.failed ≡ old.failed
+  pub run : IsRunOf program old new words
+  pub out : PrintedPart program (bounds_of words) old.taken new.taken old.faults new.faults
   pub line : Took err err' (codes "gostk: write fault\n")
 
 -- err failed: its count rose, and it took a prefix of the line of an answer that is allowed here
@@ -136,10 +136,27 @@ pub record ErrFailed (old new : Seen) (words : List (List ℕ)) (err err' : Opti
 abbrev pub WriteFailed : Seen → Seen → List (List ℕ) → Option (List ℕ) → Option (List ℕ) → ℕ → ℕ → Type 0
 WriteFailed old new words err err' before now = OutFailed old new words err err' ⊎ ErrFailed old new words err err' before now
 
--- 209: the words run a file of source, and nothing was written but the line
+-- 205: the program of an accepted text goes on beyond a sixteenth of the turns, and out took what it prints up to there
+-- or more, but nothing that it doesn't print within all of them
+pub record StepsPassed (old new : Seen) (words : List (List ℕ)) (err err' : Option (List ℕ)) : Type 0 where
+  pub program : Program
+  pub run : IsRunOf program old new words
+  pub out : GoesOn program (bounds_of words) old.taken new.taken
+  pub line : Took err err' (steps_line (bounds_of words).steps)
+
+-- 207: the program of an accepted text ends at the limit of the stack, counted by its source; the line has the words in
+-- use, those asked for, and the limit, and out took exactly what it prints up to there
+pub record StackPassed (old new : Seen) (words : List (List ℕ)) (err err' : Option (List ℕ)) : Type 0 where
+  pub program : Program
+  pub used : ℕ
+  pub asked : ℕ
+  pub limit : ℕ
+  pub run : IsRunOf program old new words
+  pub out : EndsBy program (bounds_of words) (source.StackLimit used asked limit) old.taken new.taken
+  pub line : Took err err' (stack_line used asked limit)
+
+-- 209: nothing was written but the line
 pub record MemoryRefused (old new : Seen) (words : List (List ℕ)) (err err' : Option (List ℕ)) : Type 0 where
-  pub path : List ℕ
-  pub asks : Asks words path
   pub untouched : IsUntouched old new
   pub line : Took err err' (codes "gostk: no memory\n")
 
@@ -147,7 +164,7 @@ pub record MemoryRefused (old new : Seen) (words : List (List ℕ)) (err err' : 
 abbrev pub Comes : ℕ → ℕ → ℕ → ℕ → Type 0
 Comes wanted status before now = (status ≡ wanted) ⊎ ((status ≡ 204) × Rose before now)
 
--- the words don't run a file of source
+-- the words don't run a file of source under limits
 abbrev pub IsWrong : List (List ℕ) → Type 0
 IsWrong words = (path : List ℕ) → Asks words path → ⊥
 
@@ -165,15 +182,53 @@ pub record IsCalm (old new : Seen) (before now : ℕ) : Type 0 where
   pub out : Rose old.faults new.faults → ⊥
   pub err : Rose before now → ⊥
 
--- where the text is accepted and nothing fails, out takes exactly what its program prints and the status is 0, or memory was refused
+-- the program ends in a sixteenth of the turns, so it does here: with its status, with all that it prints and no line
+abbrev pub EndsHere : Program → Bounds → Seen → Seen → ℕ → Option (List ℕ) → Option (List ℕ) → Type 0
+EndsHere p b old new status err err' =
+    (r : Reading) (n : ℕ) → ending_in (few_turns p b r) ≡ Some (source.Exit n)
+    → ((status ≡ n) × Took old.taken new.taken (output (few_turns p b r)) × Took err err' []) ⊎ (status ≡ 209)
+
+-- the program meets the limit of the stack in a sixteenth of the turns, so it does here
+abbrev pub MeetsLimit : Program → Bounds → Seen → Seen → ℕ → Option (List ℕ) → Option (List ℕ) → Type 0
+MeetsLimit p b old new status err err' =
+    (r : Reading) (used asked limit : ℕ) → ending_in (few_turns p b r) ≡ Some (source.StackLimit used asked limit)
+    → ((status ≡ 207) × Took old.taken new.taken (output (few_turns p b r)) × Took err err' (stack_line used asked limit)) ⊎ (status ≡ 209)
+
+-- the program goes on beyond all turns, so it is stopped here
+abbrev pub StopsHere : Program → Bounds → ℕ → Option (List ℕ) → Option (List ℕ) → Type 0
+StopsHere p b status err err' =
+    (r : Reading) → ending_in (all_turns p b r) ≡ None
+    → ((status ≡ 205) × Took err err' (steps_line b.steps)) ⊎ (status ≡ 209)
+
+-- what comes where a text is accepted and nothing fails
+pub record Does (p : Program) (b : Bounds) (old new : Seen) (status : ℕ) (err err' : Option (List ℕ)) : Type 0 where
+  pub ends : EndsHere p b old new status err err'
+  pub meets : MeetsLimit p b old new status err err'
+  pub stops : StopsHere p b status err err'
+
 abbrev pub Completes : Seen → Seen → List (List ℕ) → ℕ → Option (List ℕ) → Option (List ℕ) → ℕ → ℕ → Type 0
 Completes old new words status err err' before now =
     (path text : List ℕ) (program : Program) → Asks words path → old.content path ≡ Holds text → Accepted text program → IsCalm old new before now
-    → ((status ≡ 0) × Printed program old.taken new.taken × Took err err' []) ⊎ (status ≡ 209)
+    → Does program (bounds_of words) old new status err err'
 
 -- what a run of the program leaves, by its answer
-abbrev pub Ran : Program → Answer → Option (List ℕ) → Option (List ℕ) → ℕ → ℕ → Type 0
-Ran p Done old new before now = Printed p old new
-Ran p WriteFault old new before now = PrintedPart p old new before now
-Ran p NoMemory old new before now = Took old new []
-Ran p answer old new before now = ⊥
+abbrev pub Ran : Program → Bounds → Answer → Option (List ℕ) → Option (List ℕ) → ℕ → ℕ → Type 0
+Ran p b (Ended status) old new before now = EndsBy p b (source.Exit status) old new × (status ≤ 125)
+Ran p b (Steps n) old new before now = GoesOn p b old new × (n ≡ b.steps)
+Ran p b (StackLimit used asked limit) old new before now = EndsBy p b (source.StackLimit used asked limit) old new
+Ran p b WriteFault old new before now = PrintedPart p b old new before now
+Ran p b NoMemory old new before now = Took old new []
+Ran p b answer old new before now = ⊥
+
+-- what a run of a text leaves, by its answer
+abbrev pub RanText : (file text : List ℕ) → Bounds → Answer → Option (List ℕ) → Option (List ℕ) → ℕ → ℕ → Type 0
+RanText file text b (Refused name refusal) old new before now = (name.now ≡ file) × Refuses text refusal × IsNoText text × Took old new []
+RanText file text b NoMemory old new before now = Took old new []
+RanText file text b answer old new before now = (p : Program) × IsTextOf text p × Ran p b answer old new before now
+
+-- what words that are refused come to
+abbrev pub words_answer : WordsFault → Answer
+words_answer words.NoMemory = NoMemory
+words_answer (words.Usage text) = Usage text
+words_answer (words.Limits fault) = Limits fault
+words_answer words.SourceOnly = SourceOnly

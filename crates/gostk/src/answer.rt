@@ -3,14 +3,17 @@ ghost use Rattle.std.specs.Prelude.{◌≡◌};
 ghost use Rattle.gostk.specs.Answer.{status_of};
 
 use crate::refusal::Refusal;
+use base::LimitFault;
 
 /// What a call of the program comes to, a case for each row of the table of answers.
-#[derive(Clone, Copy, Debug, PartialEq, Eq)]
+#[derive(Debug, Drop)]
 pub enum Answer<'a> {
-    /// The text was accepted and ran to its end.
-    Done,
-    /// The words are no command.
-    Words,
+    /// The text was accepted, and its program ended with this status.
+    Ended(u8),
+    /// The words are no command, or ask for help: the text to show.
+    Usage(String),
+    /// The numbers of the options are no limits.
+    Limits(LimitFault),
     /// The file that is to run is not source.
     SourceOnly,
     /// The text of the file is refused.
@@ -19,6 +22,10 @@ pub enum Answer<'a> {
     ReadFault,
     /// The output was not written.
     WriteFault,
+    /// The program had not ended after so many instructions.
+    Steps(u64),
+    /// A call would have passed the limit of the stack: the words in use, those asked for, and the limit.
+    StackLimit { used: u64, asked: u64, limit: u64 },
     /// Memory was refused.
     NoMemory,
 }
@@ -29,11 +36,13 @@ impl Answer<'_> {
         ensures { result ≡ status_of self.now }
     {
         match self {
-            Answer::Done => 0,
-            Answer::Words | Answer::SourceOnly => 200,
+            Answer::Ended(status) => *status,
+            Answer::Usage(_) | Answer::Limits(_) | Answer::SourceOnly => 200,
             Answer::Refused { .. } => 201,
             Answer::ReadFault => 203,
             Answer::WriteFault => 204,
+            Answer::Steps(_) => 205,
+            Answer::StackLimit { .. } => 207,
             Answer::NoMemory => 209,
         }
     }

@@ -7,6 +7,7 @@
 #![tactic(auto)]
 
 mod answer;
+mod command;
 mod refusal;
 mod reporting;
 mod top;

@@ -2,12 +2,13 @@
 ghost use Rattle.std.specs.Prelude.{OnOk, OnErr};
 ghost use Rattle.outside.specs.Causes.{HasCause};
 ghost use Rattle.outside.specs.Took.{Took, TookPrefix};
-ghost use Rattle.gostk.specs.Answer.{line_of};
+ghost use Rattle.gostk.specs.Answer.{line_of, limits_line, steps_line, stack_line};
 ghost use Rattle.gostk.specs.Refusal.{refusal_line};
 ghost use Rattle.gostk.specs.Rows.{Reported};
 
 use crate::answer::Answer;
 use crate::refusal::Refusal;
+use base::LimitFault;
 use outside::{Piece, Sink, WriteFault, put_bytes, put_line};
 
 /// The status where the line can't be written.
@@ -31,14 +32,64 @@ fn put_answer<E: Sink>(answer: &Answer<'_>, err: &mut E) -> Result<(), WriteFaul
     ensures cause { HasCause (E.faults err.old) (E.faults err.new) result }
 {
     match answer {
-        Answer::Done => put_bytes(err, b""),
-        Answer::Words => put_bytes(err, b"gostk: words\n"),
+        Answer::Ended(_) => put_bytes(err, b""),
+        Answer::Usage(text) => put_bytes(err, text.as_bytes()),
+        Answer::Limits(fault) => put_limits(*fault, err),
         Answer::SourceOnly => put_bytes(err, b"gostk: source only\n"),
         Answer::Refused { file, refusal } => put_refusal(file, refusal, err),
         Answer::ReadFault => put_bytes(err, b"gostk: read fault\n"),
         Answer::WriteFault => put_bytes(err, b"gostk: write fault\n"),
+        Answer::Steps(n) => put_steps(*n, err),
+        Answer::StackLimit { used, asked, limit } => put_stack(*used, *asked, *limit, err),
         Answer::NoMemory => put_bytes(err, b"gostk: no memory\n"),
     }
+}
+
+// Writes the line of limits that are refused.
+fn put_limits<E: Sink>(fault: LimitFault, err: &mut E) -> Result<(), WriteFault>
+    ensures whole { OnOk result (Took (E.taken err.old) (E.taken err.new) (limits_line fault)) }
+    ensures part { OnErr result (TookPrefix (E.taken err.old) (E.taken err.new) (limits_line fault)) }
+    ensures cause { HasCause (E.faults err.old) (E.faults err.new) result }
+{
+    let text = Piece::Text(b"gostk: limits kind ");
+    let kind = Piece::Number(u64::from(fault.number()));
+    put_line(err, &[text, kind, Piece::Text(b"\n")])
+}
+
+// Writes the line of a run that was stopped after so many instructions.
+fn put_steps<E: Sink>(n: u64, err: &mut E) -> Result<(), WriteFault>
+    ensures whole { OnOk result (Took (E.taken err.old) (E.taken err.new) (steps_line n)) }
+    ensures part { OnErr result (TookPrefix (E.taken err.old) (E.taken err.new) (steps_line n)) }
+    ensures cause { HasCause (E.faults err.old) (E.faults err.new) result }
+{
+    let text = Piece::Text(b"gostk: steps ");
+    put_line(err, &[text, Piece::Number(n), Piece::Text(b"\n")])
+}
+
+// Writes the line of a stack's limit.
+fn put_stack<E: Sink>(used: u64, asked: u64, limit: u64, err: &mut E) -> Result<(), WriteFault>
+    ensures whole { OnOk result (Took (E.taken err.old) (E.taken err.new) (stack_line used asked limit)) }
+    ensures part { OnErr result (TookPrefix (E.taken err.old) (E.taken err.new) (stack_line used asked limit)) }
+    ensures cause { HasCause (E.faults err.old) (E.faults err.new) result }
+{
+    let of_used = Piece::Text(b"gostk: stack used ");
+    let of_asked = Piece::Text(b" asked ");
+    let of_limit = Piece::Text(b" limit ");
+    let used = Piece::Number(used);
+    let asked = Piece::Number(asked);
+    let limit = Piece::Number(limit);
+    put_line(
+        err,
+        &[
+            of_used,
+            used,
+            of_asked,
+            asked,
+            of_limit,
+            limit,
+            Piece::Text(b"\n"),
+        ],
+    )
 }
 
 // Writes the line of a refusal.

@@ -56,15 +56,72 @@ fn run_on(
 #[test]
 fn words_and_files(rt: HostRuntime) -> Result<(), Fail> {
     let text = b"package main\nfunc main() { println(1+2*3) }\n";
-    let table: [(&[&str], u8, &str, &str); 8] = [
+    let table: [(&[&str], u8, &str, &str); 15] = [
         (&["gostk", "run", "a.go"], 0, "7\n", ""),
         (&["gostk", "run", "b.go"], 203, "", "gostk: read fault\n"),
         (&["gostk", "run", "a"], 200, "", "gostk: source only\n"),
-        (&["gostk", "run"], 200, "", "gostk: words\n"),
-        (&["gostk", "runs", "a.go"], 200, "", "gostk: words\n"),
-        (&["gostk", "run", "-a.go"], 200, "", "gostk: words\n"),
-        (&["gostk", "run", "a.go", "a.go"], 200, "", "gostk: words\n"),
-        (&[], 200, "", "gostk: words\n"),
+        (
+            &["gostk", "run", "--stack", "16", "a.go", "--max-stack", "16"],
+            0,
+            "7\n",
+            "",
+        ),
+        (
+            &["gostk", "run", "--stack", "15", "a.go"],
+            200,
+            "",
+            "gostk: limits kind 1\n",
+        ),
+        (
+            &["gostk", "run", "--stack", "15", "--max-stack", "14", "a"],
+            200,
+            "",
+            "gostk: limits kind 1\n",
+        ),
+        (
+            &["gostk", "run", "--max-stack", "63", "a.go"],
+            200,
+            "",
+            "gostk: limits kind 2\n",
+        ),
+        (
+            &["gostk", "run", "--max-stack", "63", "b.go"],
+            200,
+            "",
+            "gostk: limits kind 2\n",
+        ),
+        (
+            &["gostk", "run", "--max-stack=4294967297", "a.go"],
+            200,
+            "",
+            "gostk: limits kind 3\n",
+        ),
+        (
+            &["gostk", "run", "--max-stack=4294967296", "a.go"],
+            0,
+            "7\n",
+            "",
+        ),
+        (
+            &["gostk", "run", "--heap", "4294967297", "a.go"],
+            200,
+            "",
+            "gostk: limits kind 3\n",
+        ),
+        (&["gostk", "run", "--heap", "0", "a.go"], 0, "7\n", ""),
+        (
+            &["gostk", "run", "--steps", "0", "a.go"],
+            205,
+            "",
+            "gostk: steps 0\n",
+        ),
+        (
+            &["gostk", "run", "--steps=9223372036854775807", "a.go"],
+            0,
+            "7\n",
+            "",
+        ),
+        (&["gostk", "run", "--", "a.go"], 0, "7\n", ""),
     ];
     for (i, (words, status, out, err)) in table.iter().enumerate() {
         let got = run_on(rt.alloc(), words, text, 0, 0)?;
@@ -72,6 +129,137 @@ fn words_and_files(rt: HostRuntime) -> Result<(), Fail> {
         assert_eq!(rt; got.out.as_slice(), out.as_bytes(), "row {i}");
         assert_eq!(rt; got.err.as_slice(), err.as_bytes(), "row {i}");
     }
+    Ok(())
+}
+
+// The texts are those of the crate clap for Rust.
+#[test]
+fn words_that_clap_refuses(rt: HostRuntime) -> Result<(), Fail> {
+    let table: [(&[&str], &str); 13] = [
+        (
+            &[],
+            "error: 'gostk' requires a subcommand but one wasn't provided\n",
+        ),
+        (
+            &["gostk"],
+            "error: 'gostk' requires a subcommand but one wasn't provided\n",
+        ),
+        (
+            &["gostk", "runs", "a.go"],
+            "error: unrecognized subcommand 'runs'\n",
+        ),
+        (
+            &["gostk", "run"],
+            "error: the following required arguments were not provided:\n  <file>\n",
+        ),
+        (
+            &["gostk", "run", "a.go", "a.go"],
+            "error: unexpected argument 'a.go' found\n",
+        ),
+        (
+            &["gostk", "run", "-a.go"],
+            "error: unexpected argument '-a' found\n",
+        ),
+        (
+            &["gostk", "run", "--heaps", "1", "a.go"],
+            "error: unexpected argument '--heaps' found\n",
+        ),
+        (
+            &["gostk", "run", "--steps", "x", "a.go"],
+            "error: invalid value 'x' for '--steps <steps>'",
+        ),
+        (
+            &["gostk", "run", "--steps", "9223372036854775808", "a.go"],
+            "error: invalid value '9223372036854775808' for '--steps <steps>'",
+        ),
+        (
+            &["gostk", "run", "--steps=-1", "a.go"],
+            "error: invalid value '-1' for '--steps <steps>'",
+        ),
+        (
+            &["gostk", "run", "a.go", "--steps"],
+            "error: a value is required for '--steps <steps>' but none was supplied\n",
+        ),
+        (
+            &["gostk", "run", "--steps", "1", "--steps", "2", "a.go"],
+            "error: the argument '--steps <steps>' cannot be used multiple times\n",
+        ),
+        (&["gostk", "--help"], "Usage: gostk <COMMAND>\n"),
+    ];
+    for (i, (words, begins)) in table.iter().enumerate() {
+        let got = run_on(
+            rt.alloc(),
+            words,
+            b"package main\nfunc main() { println(1) }",
+            0,
+            0,
+        )?;
+        assert_eq!(rt; got.status, 200, "row {i}");
+        assert!(rt; got.out.is_empty(), "row {i}");
+        assert!(rt;
+            got.err.as_slice().starts_with(begins.as_bytes()),
+            "row {i}: {:?}",
+            got.err.as_slice()
+        );
+    }
+    Ok(())
+}
+
+// One program under each number of steps: what it prints is a beginning of what it prints under the next one, and it is
+// stopped under the first ones and ends under the others.
+#[test]
+fn steps(rt: HostRuntime) -> Result<(), Fail> {
+    let text = b"package main\nfunc main() { x := 3; println(x, x+1); println(2*x) }\n";
+    let mut before = Vec::new(rt.alloc());
+    let mut ended = 0;
+    for n in 0..41 {
+        let option = format!(in rt.alloc(); "--steps={n}")?;
+        let got = run_on(
+            rt.alloc(),
+            &["gostk", "run", option.as_str(), "a.go"],
+            text,
+            0,
+            0,
+        )?;
+        assert!(rt;
+            got.out.as_slice().starts_with(before.as_slice()),
+            "{n} steps"
+        );
+        if got.status == 0 {
+            ended += 1;
+            assert_eq!(rt; got.out.as_slice(), b"3 4\n6\n".as_slice(), "{n} steps");
+            assert!(rt; got.err.is_empty(), "{n} steps");
+        } else {
+            let line = format!(in rt.alloc(); "gostk: steps {n}\n")?;
+            assert_eq!(rt; got.status, 205, "{n} steps");
+            assert_eq!(rt; got.err.as_slice(), line.as_bytes(), "{n} steps");
+            assert_eq!(rt; ended, 0, "{n} steps");
+        }
+        before = got.out;
+    }
+    assert!(rt; ended > 0 && ended < 41, "{ended} of 41 ended");
+    Ok(())
+}
+
+// A frame of `main` has the link, the return place, and a word for each operand.
+#[test]
+fn stack_limit(rt: HostRuntime) -> Result<(), Fail> {
+    let words: &[&str] = &["gostk", "run", "--stack", "16", "--max-stack", "16", "a.go"];
+    let fifteen = b"package main\nfunc main() { println(1,2,3,4,5,6,7,8,9,10,11,12,13,14,15) }\n";
+    let got = run_on(rt.alloc(), words, fifteen, 0, 0)?;
+    assert_eq!(rt; got.status, 207);
+    assert!(rt; got.out.is_empty());
+    assert_eq!(rt;
+        got.err.as_slice(),
+        b"gostk: stack used 0 asked 17 limit 16\n".as_slice()
+    );
+    let fourteen = b"package main\nfunc main() { println(1,2,3,4,5,6,7,8,9,10,11,12,13,14) }\n";
+    let got = run_on(rt.alloc(), words, fourteen, 0, 0)?;
+    assert_eq!(rt; got.status, 0);
+    assert_eq!(rt;
+        got.out.as_slice(),
+        b"1 2 3 4 5 6 7 8 9 10 11 12 13 14\n".as_slice()
+    );
     Ok(())
 }
 

@@ -1,29 +1,77 @@
 //! The top call.
-ghost use Rattle.std.specs.Prelude.{◌≡◌, ◌⊎◌, ℕ, List};
+ghost use Rattle.std.specs.Prelude.{◌≡◌, ◌⊎◌, ℕ, ◌≤◌, List};
 ghost use Rattle.compile.specs.Compiled.{Does, compiled_program};
 ghost use Rattle.gostk.specs.Words.{texts_of};
-ghost use Rattle.gostk.specs.Rows.{seen, Allowed, Reported, Finished, WordsRefused, TextRefused, ReadFailed, WriteFailed, MemoryRefused, GainedRead, IsWrong, IsMissing, IsUnaccepted, Comes, Completes, Ran};
+ghost use Rattle.gostk.specs.Rows.{seen, Allowed, Reported, Finished, WordsRefused, TextRefused, ReadFailed, WriteFailed, StepsPassed, StackPassed, MemoryRefused, GainedRead, IsWrong, IsMissing, IsUnaccepted, Comes, Completes, Ran, RanText, words_answer};
 ghost use Rattle.gostk.specs.declared.answer.Answer.{Answer};
 
 use crate::answer::Answer;
 use crate::refusal::refusal_of;
 use crate::reporting::report;
-use crate::words::{is_source_path, path_of_run};
+use crate::words::{Request, WordsFault, read_words};
+use base::Limits;
 use codegen::{RunFault, run};
 use compile::{Compiled, compile};
 use outside::{FileFault, Files, Sink, Source};
 use std::alloc::Global;
 
-// Runs a compiled text to its end.
-fn run_compiled<O: Sink>(alloc: Global, compiled: &Compiled, out: &mut O) -> Answer<'static>
+// Runs a compiled text to its end or to its limits.
+fn run_compiled<O: Sink>(
+    alloc: Global,
+    compiled: &Compiled,
+    limits: &Limits,
+    out: &mut O,
+) -> Answer<'static>
     requires { Does compiled.now }
-    ensures { Ran (compiled_program compiled.now) result (O.taken out.old) (O.taken out.new) (O.faults out.old) (O.faults out.new) }
+    ensures { Ran (compiled_program compiled.now) limits.now result (O.taken out.old) (O.taken out.new) (O.faults out.old) (O.faults out.new) }
 {
-    match run(alloc, &compiled.code, compiled.layout.frame, out) {
-        Ok(()) => Answer::Done,
+    let steps = limits.steps();
+    let frame = compiled.layout.frame;
+    match run(alloc, &compiled.code, frame, limits.stack_max(), steps, out) {
+        Ok(status) => Answer::Ended(status),
+        Err(RunFault::Steps) => Answer::Steps(steps),
+        Err(RunFault::StackLimit { used, asked, limit }) => Answer::StackLimit {
+            used,
+            asked,
+            limit,
+        },
         Err(RunFault::WriteFault) => Answer::WriteFault,
         Err(RunFault::NoMemory) => Answer::NoMemory,
     }
+}
+
+// What words that are refused come to.
+fn refused_words(fault: WordsFault) -> Answer<'static>
+    ensures { result ≡ words_answer fault }
+{
+    match fault {
+        WordsFault::NoMemory => Answer::NoMemory,
+        WordsFault::Usage(text) => Answer::Usage(text),
+        WordsFault::Limits(fault) => Answer::Limits(fault),
+        WordsFault::SourceOnly => Answer::SourceOnly,
+    }
+}
+
+// Compiles and runs the text of a file.
+fn run_text<'a, O: Sink>(
+    alloc: Global,
+    file: &'a str,
+    text: &[u8],
+    limits: &Limits,
+    out: &mut O,
+) -> Answer<'a>
+    ensures { RanText file.now text.now limits.now result (O.taken out.old) (O.taken out.new) (O.faults out.old) (O.faults out.new) }
+{
+    let compiled = match compile(alloc, text) {
+        Ok(compiled) => compiled,
+        Err(fault) => {
+            return match refusal_of(fault) {
+                Some(refusal) => Answer::Refused { file, refusal },
+                None => Answer::NoMemory,
+            };
+        }
+    };
+    run_compiled(alloc, &compiled, limits, out)
 }
 
 // Does what the words ask for, and answers what it came to.
@@ -39,27 +87,16 @@ fn carry_out<'a, F: Files, O: Sink>(
         (texts_of words.now) result }
     ensures contents { (path : List ℕ) → F.content files.new path ≡ F.content files.old path }
 {
-    let Some(file) = path_of_run(words) else {
-        return Answer::Words;
+    let Request { file, limits } = match read_words(alloc, words) {
+        Ok(request) => request,
+        Err(fault) => return refused_words(fault),
     };
-    if !is_source_path(file) {
-        return Answer::SourceOnly;
-    }
     let text = match files.read_all(alloc, file) {
         Ok(text) => text,
         Err(FileFault::Failed) => return Answer::ReadFault,
         Err(FileFault::NoMemory) => return Answer::NoMemory,
     };
-    let compiled = match compile(alloc, &text) {
-        Ok(compiled) => compiled,
-        Err(fault) => {
-            return match refusal_of(fault) {
-                Some(refusal) => Answer::Refused { file, refusal },
-                None => Answer::NoMemory,
-            };
-        }
-    };
-    run_compiled(alloc, &compiled, out)
+    run_text(alloc, file, &text, &limits, out)
 }
 
 /// The program: does what the words ask for, with the files, the input and the output that are handed in, writes the
@@ -67,12 +104,15 @@ fn carry_out<'a, F: Files, O: Sink>(
 ///
 /// | Status | When | Line on `err` |
 /// |---|---|---|
-/// | 0 | the text is accepted and ran to its end | none |
-/// | 200 | the words are not those of a `run` | `gostk: words` |
+/// | 0 to 125 | the text is accepted, and its program ended with this status | none |
+/// | 200 | clap refuses the words or is asked for help | clap's text |
+/// | 200 | the numbers of the options are no limits | `gostk: limits kind N` |
 /// | 200 | the file does not end in `.go` | `gostk: source only` |
 /// | 201 | the text is refused | `FILE:L:C: STAGE kind N`, for a frame that is too large with ` words W` behind it |
 /// | 203 | the file was not read | `gostk: read fault` |
 /// | 204 | `out` or `err` failed | `gostk: write fault`; where `err` failed, a part of the line of another row |
+/// | 205 | so many instructions ran, and the program has not ended | `gostk: steps N` |
+/// | 207 | a call would have passed the limit of the stack | `gostk: stack used U asked A limit M` |
 /// | 209 | memory was refused | `gostk: no memory` |
 pub fn gostk<F: Files, I: Source, O: Sink, E: Sink>(
     alloc: Global,
@@ -89,7 +129,7 @@ pub fn gostk<F: Files, I: Source, O: Sink, E: Sink>(
         × Reported answer result (E.taken err.old) (E.taken err.new) (E.faults err.old) (E.faults err.new) }
 
     // The rows, each by its status.
-    ensures finished { result ≡ 0 → Finished
+    ensures finished { result ≤ 125 → Finished result
         (seen (F.content files.old) (F.failed files.old) (O.taken out.old) (O.faults out.old))
         (seen (F.content files.new) (F.failed files.new) (O.taken out.new) (O.faults out.new)) (texts_of words.now)
         (E.taken err.old) (E.taken err.new) }
@@ -109,13 +149,22 @@ pub fn gostk<F: Files, I: Source, O: Sink, E: Sink>(
         (seen (F.content files.old) (F.failed files.old) (O.taken out.old) (O.faults out.old))
         (seen (F.content files.new) (F.failed files.new) (O.taken out.new) (O.faults out.new)) (texts_of words.now)
         (E.taken err.old) (E.taken err.new) (E.faults err.old) (E.faults err.new) }
+    ensures steps_passed { result ≡ 205 → StepsPassed
+        (seen (F.content files.old) (F.failed files.old) (O.taken out.old) (O.faults out.old))
+        (seen (F.content files.new) (F.failed files.new) (O.taken out.new) (O.faults out.new)) (texts_of words.now)
+        (E.taken err.old) (E.taken err.new) }
+    ensures stack_passed { result ≡ 207 → StackPassed
+        (seen (F.content files.old) (F.failed files.old) (O.taken out.old) (O.faults out.old))
+        (seen (F.content files.new) (F.failed files.new) (O.taken out.new) (O.faults out.new)) (texts_of words.now)
+        (E.taken err.old) (E.taken err.new) }
     ensures memory_refused { result ≡ 209 → MemoryRefused
         (seen (F.content files.old) (F.failed files.old) (O.taken out.old) (O.faults out.old))
         (seen (F.content files.new) (F.failed files.new) (O.taken out.new) (O.faults out.new)) (texts_of words.now)
         (E.taken err.old) (E.taken err.new) }
 
     // Where a row has to come, unless `err` failed.
-    ensures wrong_words { IsWrong (texts_of words.now) → Comes 200 result (E.faults err.old) (E.faults err.new) }
+    ensures wrong_words { IsWrong (texts_of words.now) →
+        Comes 200 result (E.faults err.old) (E.faults err.new) ⊎ (result ≡ 209) }
     ensures missing_file { IsMissing (F.content files.old) (texts_of words.now) →
         Comes 203 result (E.faults err.old) (E.faults err.new) ⊎ (result ≡ 209) }
     ensures wrong_text { IsUnaccepted (F.content files.old) (texts_of words.now) →

@@ -1,7 +1,0 @@
-use Rattle.std.proofs.Common.{◌≡◌, max, drop}
-use Rattle.typed.specs.View.{sts_of}
-use Rattle.typed.specs.Frames.{sts_need}
-use Rattle.frame_layout.proofs.temps.body_temps.Given as goal
-
-abbrev pub invariant-loop-s : goal.invariant-loop-s
-invariant-loop-s l = sts_need (sts_of l.body) ≡ max l.temps (sts_need (sts_of (drop l.s-index l.body)))

@@ -1,0 +1,212 @@
+-- A program exits with a status that an exit can have.
+use Rattle.std.proofs.Common.{◌≡◌, ℕ, zero, suc, ◌+◌, ◌≤◌, Bool, true, false, List, [], ◌∷◌, Option, Some, None, Result, Ok, Err, subst, arith, slice_get, nat_le, if◌then◌else◌, length, ◌-◌}
+use Rattle.std.specs.Prelude.{⊤}
+use Rattle.base.specs.declared.pos.Pos.{Pos}
+use Rattle.typed.specs.Value.{Value}
+use Rattle.typed.specs.Syntax.{Ex, Exs, Left, Piece, St, Sts, Func, Program, constant, read, unary, binary, none, more, local, here, new, to, shown, assign, block, choose, loop, print, done, next}
+use Rattle.simulation.specs.Outcome.{Lines, Outcome, Gives, Ends, Unfinished, upto, ending_in}
+use Rattle.meaning.specs.Trace.{World, Call, Return, Born, Read, Write, Print, Fault, Ending, Turns, Exit, Panic, StackLimit, Trace, Turn, Note, Seen, End, Cut}
+use Rattle.meaning.specs.Operators.{unary_of, binary_of}
+use Rattle.meaning.specs.Meaning.{Go, Then, Env, Ways, Calls, Answer, Setting, give, or_panic, holding, holding_all, when, is_true, Step, fixed, Aim, Spot, settle_steps, settle, ev, evs, Landing, birth, on, landing_values, ready, ready_all, land, land_all, shown_bytes, emit_more, emit_plain, emit, pieces, test_of, renew, rounds, to_next, exec, exec_all, run_body, call_at, bear_globals, setting_of, at_top, beginning, trace}
+use Rattle.meaning.specs.Output.{Limits, out, source, used_by, tail_of}
+
+abbrev IsGood : Ending → Type 0
+IsGood Turns = ⊤
+IsGood (Exit status) = status ≤ 125
+IsGood (Panic at f) = ⊤
+IsGood (StackLimit used asked max) = ⊤
+
+-- each end of a trace is good
+abbrev EndsWell : Trace → Type 0
+EndsWell (Turn t) = EndsWell t
+EndsWell (Note e t) = EndsWell t
+EndsWell (Seen m t) = EndsWell t
+EndsWell (End e) = IsGood e
+EndsWell Cut = ⊤
+
+abbrev Good : Go → Type 0
+Good g = (w : World) → EndsWell (g w)
+
+abbrev GoodThen : {A : Type 0} → Then A → Type 0
+GoodThen {A} k = (a : A) → Good (k a)
+
+record GoodWays (ws : Ways) : Type 0 where
+  broken : (env : Env) → Good (ws.broken env)
+  continued : (env : Env) → Good (ws.continued env)
+  returned : (vs : List Value) (env : Env) → Good (ws.returned vs env)
+  panicked : (at : Pos) (f : Fault) (env : Env) → Good (ws.panicked at f env)
+
+good_holding : (ws : Ways) (v : Value) → GoodWays ws → GoodWays (holding ws v)
+good_holding ws v s = record { broken = s.broken; continued = s.continued; returned = s.returned; panicked = s.panicked }
+
+good_holding_all : (ws : Ways) (vs : List Value) → GoodWays ws → GoodWays (holding_all ws vs)
+good_holding_all ws vs s = record { broken = s.broken; continued = s.continued; returned = s.returned; panicked = s.panicked }
+
+good_or_panic : (ws : Ways) (env : Env) (at : Pos) (r : Result Value Fault) (k : Then Value) → GoodWays ws → GoodThen k → Good (or_panic ws env at r k)
+good_or_panic ws env at (Ok v) k s h = h v
+good_or_panic ws env at (Err f) k s h = s.panicked at f env
+
+good_steps : (steps : List Step) (v : ℕ) (path : List ℕ) (k : Then Spot) → GoodThen k → Good (settle_steps steps v path k)
+good_steps [] v path k h = h _
+good_steps (fixed i ∷ steps) v path k h = good_steps steps v _ k h
+
+good_settle : (a : Aim) (k : Then Spot) → GoodThen k → Good (settle a k)
+good_settle a k h = λ w. good_steps a.steps _ _ k h w
+
+good_when : (b : Bool) (g h : Go) → Good g → Good h → Good (when b g h)
+good_when true g h x y = x
+good_when false g h x y = y
+
+module _ (around : Setting) (calls : Calls) where
+  good_ev : (e : Ex) (ws : Ways) (env : Env) (k : Then Value) → GoodWays ws → GoodThen k → Good (ev around calls e ws env k)
+  good_ev (constant v) ws env k s h = λ w. h v w
+  good_ev (read (local site here)) ws env k s h = λ w. h _ w
+  good_ev (unary op e) ws env k s h = good_ev e ws env _ s (λ v w. h (unary_of op v) w)
+  good_ev (binary at op a b) ws env k s h =
+      good_ev a ws env _ s (λ v. good_ev b (holding ws v) env _ (good_holding ws v s) (λ u w. good_or_panic ws env at (binary_of op v u) (give ws k) s (λ x y. h x y) w))
+
+  good_evs : (es : Exs) (ws : Ways) (env : Env) (k : Then (List Value)) → GoodWays ws → GoodThen k → Good (evs around calls es ws env k)
+  good_evs none ws env k s h = h []
+  good_evs (more e es) ws env k s h = good_ev e ws env _ s (λ v. good_evs es (holding ws v) env _ (good_holding ws v s) (λ vs. h (v ∷ vs)))
+
+  good_ready : (l : Left) (ws : Ways) (env : Env) (k : Then Landing) → GoodWays ws → GoodThen k → Good (ready around calls l ws env k)
+  good_ready (new site) ws env k s h = h (birth site)
+  good_ready (to (local site here)) ws env k s h = h _
+
+  good_ready_all : (ls : List Left) (ws : Ways) (env : Env) (k : List Landing → Ways → Go) → GoodWays ws
+      → ((xs : List Landing) (ws1 : Ways) → GoodWays ws1 → Good (k xs ws1)) → Good (ready_all around calls ls ws env k)
+  good_ready_all [] ws env k s h = h [] ws s
+  good_ready_all (l ∷ ls) ws env k s h =
+      good_ready l ws env _ s (λ x. good_ready_all ls (holding_all ws (landing_values x)) env _ (good_holding_all ws _ s) (λ xs ws1 s1. h (x ∷ xs) ws1 s1))
+
+  good_pieces : (ps : List Piece) (ws : Ways) (env : Env) (k : Then (List (List ℕ))) → GoodWays ws → GoodThen k → Good (pieces around calls ps ws env k)
+  good_pieces [] ws env k s h = h []
+  good_pieces (shown e ∷ ps) ws env k s h = good_ev e ws env _ s (λ v. good_pieces ps (holding ws v) env _ (good_holding ws v s) (λ r. h (shown_bytes v ∷ r)))
+
+  good_test : (t : Option Ex) (ws : Ways) (env : Env) (k : Then Value) → GoodWays ws → GoodThen k → Good (test_of around calls t ws env k)
+  good_test None ws env k s h = h _
+  good_test (Some e) ws env k s h = good_ev e ws env _ s (λ v w. h v w)
+
+module _ (around : Setting) where
+  good_land : (l : Landing) (v : Value) (ws : Ways) (env : Env) (k : Env → Go) → ((env1 : Env) → Good (k env1)) → Good (land around l v ws env k)
+  good_land (birth site) v ws env k h = λ w. h _ _
+  good_land (on a) v ws env k h = good_settle a _ (λ q w. h env _)
+
+  good_land_all : (ls : List Landing) (vs : List Value) (ws : Ways) (env : Env) (k : Env → Go) → ((env1 : Env) → Good (k env1)) → Good (land_all around ls vs ws env k)
+  good_land_all [] vs ws env k h = h env
+  good_land_all (l ∷ ls) [] ws env k h = h env
+  good_land_all (l ∷ ls) (v ∷ vs) ws env k h = good_land l v ws env _ (λ env1. good_land_all ls vs ws env1 k h)
+
+good_emit_more : (bs : List (List ℕ)) (g : Go) → Good g → Good (emit_more bs g)
+good_emit_more [] g h = h
+good_emit_more (b ∷ bs) g h = λ w. good_emit_more bs g h w
+
+good_emit_plain : (bs : List (List ℕ)) (g : Go) → Good g → Good (emit_plain bs g)
+good_emit_plain [] g h = h
+good_emit_plain (b ∷ bs) g h = λ w. good_emit_plain bs g h w
+
+good_emit : (ln : Bool) (bs : List (List ℕ)) (g : Go) → Good g → Good (emit ln bs g)
+good_emit true [] g h = h
+good_emit true (b ∷ bs) g h = λ w. good_emit_more bs g h w
+good_emit false bs g h = good_emit_plain bs g h
+
+good_renew : (around : Setting) (call : ℕ) (sites : List ℕ) (env : Env) (k : Env → Go) → ((env1 : Env) → Good (k env1)) → Good (renew around call sites env k)
+good_renew around call [] env k h = h env
+good_renew around call (site ∷ sites) env k h = λ w. good_renew around call sites _ k h _
+
+good_rounds : (fuel : ℕ) (test : Env → Then Value → Go) (body : ℕ → Env → (ℕ → Env → Go) → Go) (k : ℕ → Env → Go)
+    → ((env : Env) (j : Then Value) → GoodThen j → Good (test env j))
+    → ((n : ℕ) (env : Env) (j : ℕ → Env → Go) → ((n1 : ℕ) (env1 : Env) → Good (j n1 env1)) → Good (body n env j))
+    → ((n : ℕ) (env : Env) → Good (k n env)) → (n : ℕ) (env : Env) → Good (rounds fuel test body k n env)
+good_rounds zero test body k t b h n env = λ w. tt
+good_rounds (suc fuel) test body k t b h n env =
+    t env _ (λ v. good_when (is_true v) _ _ (b n env _ (λ n1 env1 w. good_rounds fuel test body k t b h n1 env1 w)) (h n env))
+
+good_next : (around : Setting) (ws : Ways) (n : ℕ) (sites : List ℕ) (post : Ways → Env → (Env → Go) → Go) (j : ℕ → Env → Go)
+    → ((env : Env) (k : Env → Go) → ((env1 : Env) → Good (k env1)) → Good (post ws env k)) → ((n1 : ℕ) (env1 : Env) → Good (j n1 env1))
+    → (env : Env) → Good (to_next around n sites post ws j env)
+good_next around ws n sites post j p g env = λ w. good_renew around ws.call sites env _ (λ env1. p env1 _ (λ env2. g _ env2)) w
+
+module _ (around : Setting) (calls : Calls) (fuel : ℕ) where
+  mutual
+    good_exec : (st : St) (ws : Ways) (env : Env) (k : Env → Go) → GoodWays ws → ((env1 : Env) → Good (k env1)) → Good (exec around calls fuel st ws env k)
+    good_exec (assign ls es) ws env k s h =
+        good_ready_all around calls ls ws env _ s (λ xs ws1 s1. good_evs around calls es ws1 env _ s1 (λ vs. good_land_all around xs vs ws env k h))
+    good_exec (block ss) ws env k s h = good_exec_all ss ws env k s h
+    good_exec (choose e a b) ws env k s h =
+        good_ev around calls e ws env _ s (λ v w. good_when (is_true v) _ _ (good_exec_all a ws env k s h) (good_exec_all b ws env k s h) w)
+    good_exec (loop sites test post body) ws env k s h =
+        λ w. good_rounds fuel _ _ _ (λ env1 j g. good_test around calls test ws env1 j s g)
+        (λ n1 env1 j g. good_exec_all body _ env1 _
+        (record {
+          broken = λ env2 w2. h env2 w2;
+          continued = good_next around ws n1 sites (exec_all around calls fuel post) j (λ env3 k3 h3. good_exec_all post ws env3 k3 s h3) g;
+          returned = s.returned;
+          panicked = s.panicked;
+        })
+        (good_next around ws n1 sites (exec_all around calls fuel post) j (λ env3 k3 h3. good_exec_all post ws env3 k3 s h3) g))
+        (λ n1 env1 w1. h env1 w1) (length w.store - length sites) env w
+    good_exec (print ln ps) ws env k s h = good_pieces around calls ps ws env _ s (λ bs. good_emit ln bs _ (h env))
+
+    good_exec_all : (ss : Sts) (ws : Ways) (env : Env) (k : Env → Go) → GoodWays ws → ((env1 : Env) → Good (k env1)) → Good (exec_all around calls fuel ss ws env k)
+    good_exec_all done ws env k s h = λ w. h env w
+    good_exec_all (next st ss) ws env k s h = λ w. good_exec st ws env _ s (λ env1. good_exec_all ss ws env1 k s h) w
+
+module _ (around : Setting) (funcs : List Func) where
+  good_body : (calls : Calls) (fuel f : ℕ) (o : Option Func) (vs : List Value) (ws : Ways) (env : Env) (k : Then (List Value)) → GoodWays ws → GoodThen k
+      → Good (run_body around funcs calls fuel f o vs ws env k)
+  good_body calls fuel f None vs ws env k s h = h []
+  good_body calls fuel f (Some func) vs ws env k s h =
+      λ w. good_exec_all around calls fuel func.body _ _ _
+      (record { broken = λ env1 w1. h [] w1; continued = λ env1 w1. h [] w1; returned = λ us env1 w1. h us w1; panicked = λ at x env1. s.panicked at x env })
+      (λ env1 w1. h [] w1) w
+
+  good_call : (fuel f : ℕ) (vs : List Value) (ws : Ways) (env : Env) (k : Then (List Value)) → GoodWays ws → GoodThen k → Good (call_at around funcs fuel f vs ws env k)
+  good_call zero f vs ws env k s h = λ w. tt
+  good_call (suc fuel) f vs ws env k s h = good_body (call_at around funcs fuel) (suc fuel) f (slice_get funcs f) vs ws env k s h
+
+good_globals : (around : Setting) (gs : List (ℕ × Value)) (g : Go) → Good g → Good (bear_globals around gs g)
+good_globals around [] g h = h
+good_globals around ((site, v) ∷ gs) g h = λ w. good_globals around gs g h _
+
+good_top : GoodWays at_top
+good_top = record { broken = λ env w. omega arith; continued = λ env w. omega arith; returned = λ vs env w. omega arith; panicked = λ at f env w. tt }
+
+ends_well : (item : List ℕ → Answer) (p : Program) (input : List ℕ) (n : ℕ) → EndsWell (trace item p input n)
+ends_well item p input n =
+    good_globals (setting_of item p) p.globals _ (good_call (setting_of item p) p.funcs (suc n) p.main [] at_top (λ x. 0) _ good_top (λ rs w. omega arith)) (beginning input)
+
+-- what is shown ends well, too
+abbrev ShowsWell : Outcome (List ℕ) Ending → Type 0
+ShowsWell (Gives bytes o) = ShowsWell o
+ShowsWell (Ends e) = IsGood e
+ShowsWell Unfinished = ⊤
+
+called : (l : Limits) (calls : List ℕ) (f : ℕ) (t : Trace) (n : ℕ) (b : Bool) → ShowsWell (upto n (out l (f ∷ calls) t))
+    → ShowsWell (upto n (if b then out l (f ∷ calls) t else Rattle.simulation.specs.Outcome.End (StackLimit (used_by l calls) (l.frame f) l.stack_max)))
+called l calls f t n true h = h
+called l calls f t n false h = tt
+
+shows_well : (l : Limits) (calls : List ℕ) (t : Trace) (n : ℕ) → EndsWell t → ShowsWell (upto n (out l calls t))
+shows_well l calls (Turn t) zero h = tt
+shows_well l calls (Turn t) (suc n) h = shows_well l calls t n h
+shows_well l calls (Seen m t) n h = shows_well l calls t n h
+shows_well l calls (End e) n h = h
+shows_well l calls Cut n h = tt
+shows_well l calls (Note (Print bytes) t) n h = shows_well l calls t n h
+shows_well l calls (Note (Call f) t) n h = called l calls f t n (nat_le (used_by l calls + l.frame f) l.stack_max) (shows_well l (f ∷ calls) t n h)
+shows_well l calls (Note Return t) n h = shows_well l (tail_of calls) t n h
+shows_well l calls (Note (Born site k) t) n h = shows_well l calls t n h
+shows_well l calls (Note (Read v path k) t) n h = shows_well l calls t n h
+shows_well l calls (Note (Write v path k) t) n h = shows_well l calls t n h
+
+exits_well : (o : Outcome (List ℕ) Ending) → ShowsWell o → (status : ℕ) → ending_in o ≡ Some (Exit status) → status ≤ 125
+exits_well (Gives bytes o) h status e = exits_well o h status e
+exits_well (Ends x) h status e =
+    let is : x ≡ Exit status = cc in
+    subst IsGood is h
+exits_well Unfinished h status e = cc
+
+-- an exit's status is at most 125
+pub exit_status : (item : List ℕ → Answer) (p : Program) (l : Limits) (input : List ℕ) (n status : ℕ) → ending_in (source item p l input n) ≡ Some (Exit status) → status ≤ 125
+exit_status item p l input n status e = exits_well (source item p l input n) (shows_well l [] (trace item p input n) n (ends_well item p input n)) status e

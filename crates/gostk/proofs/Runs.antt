@@ -1,0 +1,56 @@
+-- What a run of a program's code leaves, in the words of the table of answers.
+use Rattle.std.proofs.Common.{◌≡◌, subst, ℕ, ◌/◌, [], List, Option, Some, Result, Ok, Err, arith}
+use Rattle.base.specs.Limits.{Bounds}
+use Rattle.isa.specs.Code.{Tables}
+use Rattle.simulation.specs.Outcome.{ending_in}
+use Rattle.typed.specs.Syntax.{Program}
+use Rattle.meaning.specs.Trace.{Ending}
+use Rattle.meaning.specs.Meaning.{Answer as Item}
+use Rattle.meaning.specs.Output.{source}
+use Rattle.codegen.specs.Correct.{Simulated, Ran as RanCode, limits, target}
+use Rattle.codegen.specs.declared.running.RunFault.{RunFault}
+use Rattle.codegen.specs.declared.running.RunFault.TheVariants as Fault
+use Rattle.gostk.specs.Programs.{Reading, few_turns, all_turns}
+use Rattle.gostk.specs.Rows.{Ran}
+use Rattle.gostk.specs.declared.answer.Answer.TheVariants as answer
+use Rattle.gostk.proofs.Early.{joined}
+use Rattle.gostk.proofs.Endings.{exit_status}
+use Rattle.gostk.proofs.Started.{some_item}
+
+-- what is told of a run under these limits
+abbrev pub Told : Program → (max steps : ℕ) → Result ℕ RunFault → Option (List ℕ) → Option (List ℕ) → ℕ → ℕ → Type 0
+Told p max steps result old new before now = (item : List ℕ → Item) (input : List ℕ)
+    → RanCode (source item p (limits p max) input (steps / 16)) (source item p (limits p max) input steps) result old new before now
+
+pub told : (p : Program) (b : Bounds) (max steps : ℕ) (result : Result ℕ RunFault) (old new : Option (List ℕ)) (before now : ℕ) → max ≡ b.stack_max → steps ≡ b.steps
+    → Told p max steps result old new before now → Told p b.stack_max b.steps result old new before now
+told p b max steps result old new before now m n h =
+    subst (λ (k : ℕ). Told p b.stack_max k result old new before now) n (subst (λ (k : ℕ). Told p k steps result old new before now) m h)
+
+some_reading : Reading
+some_reading = (some_item, [])
+
+module _ (p : Program) (code : Tables) (frame : ℕ) (b : Bounds) (s : Simulated p code frame) (old new : Option (List ℕ)) (before now : ℕ) where
+  early : (r : Reading) (x : Ending) → ending_in (few_turns p b r) ≡ Some x → few_turns p b r ≡ all_turns p b r
+  early r x e =
+      joined (few_turns p b r) (target code frame b.stack_max b.steps) (all_turns p b r)
+      (s.at_least r.0 r.1 b.stack_max (b.steps / 16) b.steps (omega arith)) (s.at_most r.0 r.1 b.stack_max b.steps) x e
+
+  pub ended : (status : ℕ) → Told p b.stack_max b.steps (Ok status) old new before now → Ran p b (answer.Ended status) old new before now
+  ended status h = (
+    record { ends = λ r. (h r.0 r.1).0; took = λ r. (h r.0 r.1).1; early = early },
+    exit_status some_item p (limits p b.stack_max) [] b.steps status (h some_item []).0,
+  )
+
+  pub met_limit : (used asked limit : ℕ) → Told p b.stack_max b.steps (Err (Fault.StackLimit used asked limit)) old new before now
+      → Ran p b (answer.StackLimit used asked limit) old new before now
+  met_limit used asked limit h = record { ends = λ r. (h r.0 r.1).0; took = λ r. (h r.0 r.1).1; early = early }
+
+  pub went_on : (n : ℕ) → n ≡ b.steps → Told p b.stack_max b.steps (Err Fault.Steps) old new before now → Ran p b (answer.Steps n) old new before now
+  went_on n is h = (record { goes_on = λ r. (h r.0 r.1).0; took = λ r. (h r.0 r.1).1 }, is)
+
+  pub failed : Told p b.stack_max b.steps (Err Fault.WriteFault) old new before now → Ran p b answer.WriteFault old new before now
+  failed h = record { took = λ r. (h r.0 r.1).0; rose = (h some_item []).1 }
+
+  pub not_begun : Told p b.stack_max b.steps (Err Fault.NoMemory) old new before now → Ran p b answer.NoMemory old new before now
+  not_begun h = h some_item []

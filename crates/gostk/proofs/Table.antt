@@ -1,0 +1,245 @@
+-- The table of answers, read by the status.
+use Rattle.std.proofs.Common.{◌≡◌, ◌∙◌, sym, ap, subst, ◌⊎◌, inl, inr, arith, ℕ, ◌++◌, true, false, List, [], ◌∷◌, length, Option, Some, None, length-append}
+use Rattle.base.specs.Limits.{Bounds, AreLimits, IsFirstFault}
+use Rattle.base.specs.declared.limits.LimitFault.{LimitFault}
+use Rattle.base.specs.declared.limits.LimitFault.TheVariants.{StartTooSmall, StartOverMax, OverTop}
+use Rattle.outside.specs.Causes.{Rose}
+use Rattle.outside.specs.Files.{Content, Call, ReadOf, ReadsAs, Missing, Holds}
+use Rattle.outside.specs.Took.{Took}
+use Rattle.simulation.specs.Outcome.{Outcome, ending_in}
+use Rattle.typed.specs.Syntax.{Program}
+use Rattle.meaning.specs.Trace as source
+use Rattle.meaning.specs.Output.{output}
+use Rattle.compile.specs.Accepted.{Accepted}
+use Rattle.gostk.specs.Answer.{status_of, line_of, steps_line, stack_line}
+use Rattle.gostk.specs.Programs.{EndsBy, GoesOn, Reading, few_turns}
+use Rattle.gostk.specs.Words.{bounds_of, is_source, path_of, Asks, IsOffLimits, IsNoSource}
+use Rattle.gostk.specs.Rows.{Seen, Reads, IsNoText, IsRunOf, GainedRead, Allowed, Reported, WriteFailed, StepsPassed, IsWrong, IsMissing, IsUnaccepted, Comes, IsCalm, Completes, Does}
+use Rattle.gostk.specs.declared.answer.Answer.{Answer}
+use Rattle.gostk.specs.declared.answer.Answer.TheVariants.{Ended, Usage, Limits, SourceOnly, Refused, ReadFault, WriteFault, Steps, StackLimit, NoMemory}
+
+-- words that are refused ask for nothing
+on_limits : (b : Bounds) (f : LimitFault) → AreLimits b → IsFirstFault b f → ⊥
+on_limits b StartTooSmall are h = omega (arith, are.least, h)
+on_limits b StartOverMax are h = omega (arith, are.within, h.1)
+on_limits b OverTop are h = elim h.2 [ inl x ↦ omega (arith, are.stack, x) | inr x ↦ omega (arith, are.heap, x) ]
+
+off_limits : (words : List (List ℕ)) (path : List ℕ) (f : LimitFault) → Asks words path → IsOffLimits words f → ⊥
+off_limits words path f asks off = on_limits (bounds_of words) f asks.limits off.first
+
+no_source : (words : List (List ℕ)) (path : List ℕ) → Asks words path → IsNoSource words → ⊥
+no_source words path asks other =
+    let is : is_source (path_of words) ≡ true = ap is_source asks.file ∙ asks.source in
+    let isnt : is_source (path_of words) ≡ false = other.source in
+    cc
+
+-- what the words ask for reads as one text
+same_text : (c : Content) (text other : List ℕ) → c ≡ Holds text → ReadsAs c other → text ≡ other
+same_text c text other holds reads =
+    let h : ReadsAs (Holds text) other = subst (λ (x : Content). ReadsAs x other) holds reads in
+    sym h
+
+not_missing : (c : Content) (other : List ℕ) → c ≡ Missing → ReadsAs c other → ⊥
+not_missing c other missing reads = subst (λ (x : Content). ReadsAs x other) missing reads
+
+module _ (content : List ℕ → Content) (words : List (List ℕ)) (path text : List ℕ) (asks : Asks words path) (holds : content path ≡ Holds text) where
+  here : (path1 text1 : List ℕ) → Reads content words path1 text1 → text ≡ text1
+  here path1 text1 reads =
+      let same : path1 ≡ path = sym reads.asks.file ∙ asks.file in
+      same_text (content path) text text1 holds (subst (λ (x : List ℕ). ReadsAs (content x) text1) same reads.read)
+
+no_growth : (calls : List Call) (call : Call) → calls ≡ calls ++ call ∷ [] → ⊥
+no_growth calls call e = omega (arith, ap length e, length-append calls (call ∷ []))
+
+-- what ends in the sixteenth of the turns ends so in all of them
+early_end : (p : Program) (b : Bounds) (x y : source.Ending) (old new : Option (List ℕ)) (r : Reading) → EndsBy p b x old new → ending_in (few_turns p b r) ≡ Some y
+    → (x ≡ y) × Took old new (output (few_turns p b r))
+early_end p b x y old new r ends e =
+    let same = ends.early r y e in
+    let is : Some x ≡ Some y = sym (ends.ends r) ∙ (ap ending_in (sym same) ∙ e) in
+    (cc, subst (λ (o : Outcome (List ℕ) source.Ending). Took old new (output o)) (sym same) (ends.took r))
+
+module _ (p : Program) (b : Bounds) (old new : Seen) (status : ℕ) (err err' : Option (List ℕ)) where
+  does_nothing : status ≡ 209 → Does p b old new status err err'
+  does_nothing h = record { ends = λ r n e. inr h; meets = λ r u a l e. inr h; stops = λ r e. inr h }
+
+  does_end : (n : ℕ) → EndsBy p b (source.Exit n) old.taken new.taken → status ≡ n → Took err err' [] → Does p b old new status err err'
+  does_end n ends is line = record {
+    ends = λ r m e. let h = early_end p b (source.Exit n) (source.Exit m) old.taken new.taken r ends e in inl (is ∙ same n m h.0, h.1, line);
+    meets = λ r u a l e. absurd (other n u a l (early_end p b (source.Exit n) (source.StackLimit u a l) old.taken new.taken r ends e).0);
+    stops = λ r e. absurd (none n (sym (ends.ends r) ∙ e));
+  }
+    where
+      same : (n m : ℕ) → source.Exit n ≡ source.Exit m → n ≡ m
+      same n m e = cc
+
+      other : (n u a l : ℕ) → source.Exit n ≡ source.StackLimit u a l → ⊥
+      other n u a l e = cc
+
+      none : (n : ℕ) → Some (source.Exit n) ≡ None → ⊥
+      none n e = cc
+
+  does_meet : (used asked limit : ℕ) → EndsBy p b (source.StackLimit used asked limit) old.taken new.taken → status ≡ 207 → Took err err' (stack_line used asked limit)
+      → Does p b old new status err err'
+  does_meet used asked limit ends is line = record {
+    ends = λ r m e. absurd (other m (early_end p b (source.StackLimit used asked limit) (source.Exit m) old.taken new.taken r ends e).0);
+    meets = λ r u a l e.
+        let h = early_end p b (source.StackLimit used asked limit) (source.StackLimit u a l) old.taken new.taken r ends e in
+        inl (is, h.1, subst (λ (t : List ℕ). Took err err' t) (same u a l h.0) line);
+    stops = λ r e. absurd (none (sym (ends.ends r) ∙ e));
+  }
+    where
+      same : (u a l : ℕ) → source.StackLimit used asked limit ≡ source.StackLimit u a l → stack_line used asked limit ≡ stack_line u a l
+      same u a l e = cc
+
+      other : (m : ℕ) → source.StackLimit used asked limit ≡ source.Exit m → ⊥
+      other m e = cc
+
+      none : Some (source.StackLimit used asked limit) ≡ None → ⊥
+      none e = cc
+
+  does_stop : (n : ℕ) → GoesOn p b old.taken new.taken → n ≡ b.steps → status ≡ 205 → Took err err' (steps_line n) → Does p b old new status err err'
+  does_stop n on steps is line = record {
+    ends = λ r m e. absurd (none (source.Exit m) (sym (on.goes_on r) ∙ e));
+    meets = λ r u a l e. absurd (none (source.StackLimit u a l) (sym (on.goes_on r) ∙ e));
+    stops = λ r e. inl (is, subst (λ (k : ℕ). Took err err' (steps_line k)) steps line);
+  }
+    where
+      none : (x : source.Ending) → None ≡ Some x → ⊥
+      none x e = cc
+
+module _ (old new : Seen) (words : List (List ℕ)) (status : ℕ) (err err' : Option (List ℕ)) (before now : ℕ) (path text : List ℕ) (program : Program)
+    (asks : Asks words path) (holds : old.content path ≡ Holds text) (accepted : Accepted text program) (calm : IsCalm old new before now) where
+  the_program : (p : Program) → IsRunOf p old new words → p ≡ program
+  the_program p run =
+      let same : text ≡ run.text = here old.content words path text asks holds run.path run.text run.reads in
+      run.accepted.only program (subst (λ (t : List ℕ). Accepted t program) same accepted)
+
+  of_program : (p : Program) → IsRunOf p old new words → Does p (bounds_of words) old new status err err' → Does program (bounds_of words) old new status err err'
+  of_program p run does = subst (λ (q : Program). Does q (bounds_of words) old new status err err') (the_program p run) does
+
+  by_answer : (a : Answer) → Allowed old new words a → status ≡ status_of a → Took err err' (line_of a) → Does program (bounds_of words) old new status err err'
+  by_answer (Ended n) h is line = of_program h.0 h.1 (does_end h.0 (bounds_of words) old new status err err' n h.2 is line)
+  by_answer (Usage t) h is line = absurd (h.0 asks.taken)
+  by_answer (Limits f) h is line = absurd (off_limits words path f asks h.0)
+  by_answer SourceOnly h is line = absurd (no_source words path asks h.0)
+  by_answer (Refused file refusal) h is line =
+      let same : text ≡ h.0 = here old.content words path text asks holds file.now h.0 h.1 in
+      absurd (h.3 program (subst (λ (t : List ℕ). Accepted t program) same accepted))
+  by_answer ReadFault h is line = absurd (no_growth old.failed (ReadOf h.0.0) (sym calm.files ∙ h.0.2))
+  by_answer WriteFault h is line = absurd (calm.out h.2.rose)
+  by_answer (Steps n) h is line = of_program h.0 h.1 (does_stop h.0 (bounds_of words) old new status err err' n h.2 h.3 is line)
+  by_answer (StackLimit u a l) h is line = of_program h.0 h.1 (does_meet h.0 (bounds_of words) old new status err err' u a l h.2 is line)
+  by_answer NoMemory h is line = does_nothing program (bounds_of words) old new status err err' is
+
+-- what comes where a text is accepted and nothing fails
+pub completes : (old new : Seen) (words : List (List ℕ)) (a : Answer) (status : ℕ) (err err' : Option (List ℕ)) (before now : ℕ)
+    → Allowed old new words a → Reported a status err err' before now → Completes old new words status err err' before now
+completes old new words a status err err' before now allowed reported = λ path text program asks holds accepted calm. elim reported [
+  | inl h ↦ by_answer old new words status err err' before now path text program asks holds accepted calm a allowed h.0 h.1
+  | inr h ↦ absurd (calm.err h.1)
+]
+
+module _ (old new : Seen) (words : List (List ℕ)) (status : ℕ) (before now : ℕ) where
+  abbrev Wanted : ℕ → Type 0
+  Wanted n = Comes n status before now ⊎ (status ≡ 209)
+
+  -- words that ask for nothing
+  wrong_by : (a : Answer) → Allowed old new words a → IsWrong words → (status ≡ status_of a) ⊎ ((status ≡ 204) × Rose before now) → Wanted 200
+  wrong_by a h wrong (inr r) = inl (inr r)
+  wrong_by (Ended n) h wrong (inl is) = absurd (wrong h.1.path h.1.reads.asks)
+  wrong_by (Usage t) h wrong (inl is) = inl (inl is)
+  wrong_by (Limits f) h wrong (inl is) = inl (inl is)
+  wrong_by SourceOnly h wrong (inl is) = inl (inl is)
+  wrong_by (Refused file refusal) h wrong (inl is) = absurd (wrong file.now h.1.asks)
+  wrong_by ReadFault h wrong (inl is) = absurd (wrong h.0.0 h.0.1)
+  wrong_by WriteFault h wrong (inl is) = absurd (wrong h.1.path h.1.reads.asks)
+  wrong_by (Steps n) h wrong (inl is) = absurd (wrong h.1.path h.1.reads.asks)
+  wrong_by (StackLimit u x l) h wrong (inl is) = absurd (wrong h.1.path h.1.reads.asks)
+  wrong_by NoMemory h wrong (inl is) = inr is
+
+  -- a file that is missing
+  no_file : (path : List ℕ) → Asks words path → old.content path ≡ Missing → (path1 text1 : List ℕ) → Reads old.content words path1 text1 → ⊥
+  no_file path asks missing path1 text1 reads =
+      let same : path1 ≡ path = sym reads.asks.file ∙ asks.file in
+      not_missing (old.content path) text1 missing (subst (λ (x : List ℕ). ReadsAs (old.content x) text1) same reads.read)
+
+  missing_by : (a : Answer) → Allowed old new words a → IsMissing old.content words → (status ≡ status_of a) ⊎ ((status ≡ 204) × Rose before now) → Wanted 203
+  missing_by a h m (inr r) = inl (inr r)
+  missing_by (Ended n) h m (inl is) = absurd (no_file m.0 m.1 m.2 h.1.path h.1.text h.1.reads)
+  missing_by (Usage t) h m (inl is) = absurd (h.0 m.1.taken)
+  missing_by (Limits f) h m (inl is) = absurd (off_limits words m.0 f m.1 h.0)
+  missing_by SourceOnly h m (inl is) = absurd (no_source words m.0 m.1 h.0)
+  missing_by (Refused file refusal) h m (inl is) = absurd (no_file m.0 m.1 m.2 file.now h.0 h.1)
+  missing_by ReadFault h m (inl is) = inl (inl is)
+  missing_by WriteFault h m (inl is) = absurd (no_file m.0 m.1 m.2 h.1.path h.1.text h.1.reads)
+  missing_by (Steps n) h m (inl is) = absurd (no_file m.0 m.1 m.2 h.1.path h.1.text h.1.reads)
+  missing_by (StackLimit u x l) h m (inl is) = absurd (no_file m.0 m.1 m.2 h.1.path h.1.text h.1.reads)
+  missing_by NoMemory h m (inl is) = inr is
+
+  -- a text that is not accepted
+  no_run : (path text : List ℕ) → Asks words path → old.content path ≡ Holds text → IsNoText text → (p : Program) → IsRunOf p old new words → ⊥
+  no_run path text asks holds none p run =
+      let same : text ≡ run.text = here old.content words path text asks holds run.path run.text run.reads in
+      none p (subst (λ (t : List ℕ). Accepted t p) (sym same) run.accepted.accepted)
+
+  unaccepted_by : (a : Answer) → Allowed old new words a → IsUnaccepted old.content words → (status ≡ status_of a) ⊎ ((status ≡ 204) × Rose before now)
+      → Comes 201 status before now ⊎ ((status ≡ 209) ⊎ GainedRead old.failed new.failed words)
+  unaccepted_by a h u (inr r) = inl (inr r)
+  unaccepted_by (Ended n) h u (inl is) = absurd (no_run u.0 u.1 u.2 u.3 u.4 h.0 h.1)
+  unaccepted_by (Usage t) h u (inl is) = absurd (h.0 u.2.taken)
+  unaccepted_by (Limits f) h u (inl is) = absurd (off_limits words u.0 f u.2 h.0)
+  unaccepted_by SourceOnly h u (inl is) = absurd (no_source words u.0 u.2 h.0)
+  unaccepted_by (Refused file refusal) h u (inl is) = inl (inl is)
+  unaccepted_by ReadFault h u (inl is) = inr (inr h.0)
+  unaccepted_by WriteFault h u (inl is) = absurd (no_run u.0 u.1 u.2 u.3 u.4 h.0 h.1)
+  unaccepted_by (Steps n) h u (inl is) = absurd (no_run u.0 u.1 u.2 u.3 u.4 h.0 h.1)
+  unaccepted_by (StackLimit x y z) h u (inl is) = absurd (no_run u.0 u.1 u.2 u.3 u.4 h.0 h.1)
+  unaccepted_by NoMemory h u (inl is) = inr (inl is)
+
+how : (a : Answer) (status : ℕ) (err err' : Option (List ℕ)) (before now : ℕ) → Reported a status err err' before now → (status ≡ status_of a) ⊎ ((status ≡ 204) × Rose before now)
+how a status err err' before now (inl h) = inl h.0
+how a status err err' before now (inr h) = inr (h.0, h.1)
+
+pub wrong_words : (old new : Seen) (words : List (List ℕ)) (a : Answer) (status : ℕ) (err err' : Option (List ℕ)) (before now : ℕ)
+    → Allowed old new words a → Reported a status err err' before now → IsWrong words → Comes 200 status before now ⊎ (status ≡ 209)
+wrong_words old new words a status err err' before now allowed reported wrong = wrong_by old new words status before now a allowed wrong (how a status err err' before now reported)
+
+pub missing_file : (old new : Seen) (words : List (List ℕ)) (a : Answer) (status : ℕ) (err err' : Option (List ℕ)) (before now : ℕ)
+    → Allowed old new words a → Reported a status err err' before now → IsMissing old.content words → Comes 203 status before now ⊎ (status ≡ 209)
+missing_file old new words a status err err' before now allowed reported m = missing_by old new words status before now a allowed m (how a status err err' before now reported)
+
+pub wrong_text : (old new : Seen) (words : List (List ℕ)) (a : Answer) (status : ℕ) (err err' : Option (List ℕ)) (before now : ℕ)
+    → Allowed old new words a → Reported a status err err' before now → IsUnaccepted old.content words
+    → Comes 201 status before now ⊎ ((status ≡ 209) ⊎ GainedRead old.failed new.failed words)
+wrong_text old new words a status err err' before now allowed reported u = unaccepted_by old new words status before now a allowed u (how a status err err' before now reported)
+
+-- by the status
+pub write_failed : (old new : Seen) (words : List (List ℕ)) (a : Answer) (status : ℕ) (err err' : Option (List ℕ)) (before now : ℕ)
+    → Allowed old new words a → Reported a status err err' before now → status ≡ 204 → WriteFailed old new words err err' before now
+write_failed old new words a status err err' before now al (inr h) is = inr (record { answer = a; allowed = al; rose = h.1; line = h.2 })
+write_failed old new words (Ended n) status err err' before now al (inl h) is = absurd (omega (arith, h.0, is, al.3))
+write_failed old new words (Usage t) status err err' before now al (inl h) is = absurd (omega (arith, h.0, is))
+write_failed old new words (Limits f) status err err' before now al (inl h) is = absurd (omega (arith, h.0, is))
+write_failed old new words SourceOnly status err err' before now al (inl h) is = absurd (omega (arith, h.0, is))
+write_failed old new words (Refused file refusal) status err err' before now al (inl h) is = absurd (omega (arith, h.0, is))
+write_failed old new words ReadFault status err err' before now al (inl h) is = absurd (omega (arith, h.0, is))
+write_failed old new words WriteFault status err err' before now al (inl h) is = inl (record { program = al.0; run = al.1; out = al.2; line = h.1 })
+write_failed old new words (Steps n) status err err' before now al (inl h) is = absurd (omega (arith, h.0, is))
+write_failed old new words (StackLimit u x l) status err err' before now al (inl h) is = absurd (omega (arith, h.0, is))
+write_failed old new words NoMemory status err err' before now al (inl h) is = absurd (omega (arith, h.0, is))
+
+pub steps_passed : (old new : Seen) (words : List (List ℕ)) (a : Answer) (status : ℕ) (err err' : Option (List ℕ)) (before now : ℕ)
+    → Allowed old new words a → Reported a status err err' before now → status ≡ 205 → StepsPassed old new words err err'
+steps_passed old new words a status err err' before now al (inr h) is = absurd (omega (arith, h.0, is))
+steps_passed old new words (Ended n) status err err' before now al (inl h) is = absurd (omega (arith, h.0, is, al.3))
+steps_passed old new words (Usage t) status err err' before now al (inl h) is = absurd (omega (arith, h.0, is))
+steps_passed old new words (Limits f) status err err' before now al (inl h) is = absurd (omega (arith, h.0, is))
+steps_passed old new words SourceOnly status err err' before now al (inl h) is = absurd (omega (arith, h.0, is))
+steps_passed old new words (Refused file refusal) status err err' before now al (inl h) is = absurd (omega (arith, h.0, is))
+steps_passed old new words ReadFault status err err' before now al (inl h) is = absurd (omega (arith, h.0, is))
+steps_passed old new words WriteFault status err err' before now al (inl h) is = absurd (omega (arith, h.0, is))
+steps_passed old new words (Steps n) status err err' before now al (inl h) is =
+    record { program = al.0; run = al.1; out = al.2; line = subst (λ (k : ℕ). Took err err' (steps_line k)) al.3 h.1 }
+steps_passed old new words (StackLimit u x l) status err err' before now al (inl h) is = absurd (omega (arith, h.0, is))
+steps_passed old new words NoMemory status err err' before now al (inl h) is = absurd (omega (arith, h.0, is))

@@ -1,0 +1,12 @@
+use Rattle.gostk.specs.Words.{texts_of}
+use Rattle.gostk.proofs.Table.{completes, write_failed, steps_passed}
+use Rattle.gostk.proofs.top.gostk.Goals as goal
+
+pub returns-clause-write_failed : goal.returns-clause-write_failed
+returns-clause-write_failed g c = write_failed _ _ (texts_of c.args.words.now) c.carry_out-answer.result c.report.result _ _ _ _ c.carry_out-answer.ensures.allowed c.report.ensures
+
+pub returns-clause-steps_passed : goal.returns-clause-steps_passed
+returns-clause-steps_passed g c = steps_passed _ _ (texts_of c.args.words.now) c.carry_out-answer.result c.report.result _ _ _ _ c.carry_out-answer.ensures.allowed c.report.ensures
+
+pub returns-clause-right_text : goal.returns-clause-right_text
+returns-clause-right_text g c = completes _ _ (texts_of c.args.words.now) c.carry_out-answer.result c.report.result _ _ _ _ c.carry_out-answer.ensures.allowed c.report.ensures
