@@ -1,16 +1,11 @@
 //! What every crate speaks of: places of a source text, the numbers by which functions, sites and types are
-//! named, the limits of a run, and the one answer for memory that was refused.
+//! named, and the one answer for memory that was refused.
 #![tactic(auto)]
 
 mod ids;
-mod limits;
 mod memory;
 mod pos;
 
 pub use ids::{FuncId, SiteId, TypeId};
-pub use limits::{LimitFault, Limits};
 pub use memory::NoMemory;
 pub use pos::Pos;
-
-#[cfg(test)]
-mod tests;
