@@ -1,5 +1,5 @@
 -- What the checker answers of a tree whose statements have typed forms, or in which a rule fails.
-use Rattle.std.proofs.Common.{◌≡◌, ℕ, pos, List, [], ◌∷◌, ◌⊎◌, inl, inr, Some, None, refl, sym, ap, ◌∙◌, arith, length, map, replicate}
+use Rattle.std.proofs.Common.{◌≡◌, ℕ, pos, List, [], ◌∷◌, inl, inr, Some, None, refl, sym, ap, ◌∙◌, arith, length, map, replicate}
 use Rattle.std.proofs.lemmas.List.{length-map}
 use Rattle.parse_go.specs.Tree.{Syntax}
 use Rattle.typed.specs.Value.{int}

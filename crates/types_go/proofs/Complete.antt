@@ -24,7 +24,7 @@ use Rattle.types_go.specs.declared.scope.Declared.{Declared}
 use Rattle.types_go.specs.declared.scope.Declared.TheVariants.{Variable, Untyped}
 use Rattle.types_go.specs.Profile.{is_reserved}
 use Rattle.types_go.specs.Scope.{Scope, declaration, is_here, with_declaration, with_site, opened, closed}
-use Rattle.types_go.specs.Typing.{Operand, untyped, value, is_int, as_int, constant_of, operand_of_name, prefixed, combined, both_ints, operand, int_of, pieces, may_declare, target, site_of, compared_ints, compared_operands, condition, test, declaration_of, assignment_of, choice_of, loop_of, statement, alternative, statements, behind, behind_else, behind_all, declared_by}
+use Rattle.types_go.specs.Typing.{Operand, untyped, value, is_int, as_int, constant_of, operand_of_name, prefixed, combined, both_ints, operand, int_of, pieces, may_declare, target, site_of, compared_ints, compared_operands, condition, test, assignment_of, choice_of, loop_of, statement, alternative, statements, behind, behind_else, behind_all, declared_by}
 use Rattle.types_go.specs.Faults.{fault, PrefixFails, PairFails, ComparisonFails, Fails, FailsAsInt, FailsToDeclare, FailsToTake, FailsInAssignment, FailsInCondition, FailsInTest, FailsInOperands, FailsInStatement, FailsInElse, FailsInStatements}
 
 -- a variable with a type, whose site is among the first n
@@ -445,8 +445,10 @@ module _ (text : List ℕ) (s : Scope) (settled : IsSettled s) where
   assignment_or_fails n e = elim (target_or_fails n) [
     | inl v ↦ elim (gives_or_fails text s settled e) [
       | inl x ↦ elim (taken_or e v.0 x.0 x.1) [
-        | inl y ↦ inl (assign (typed.to (typed.local v.0 typed.here) ∷ []) (more y.0 none),
-            ap (λ o. assignment_of o (int_of text s e)) v.1 ∙ ap (option_map (λ w. assign (typed.to (typed.local v.0 typed.here) ∷ []) (more w none))) y.1)
+        | inl y ↦ inl (
+          assign (typed.to (typed.local v.0 typed.here) ∷ []) (more y.0 none),
+          ap (λ o. assignment_of o (int_of text s e)) v.1 ∙ ap (option_map (λ w. assign (typed.to (typed.local v.0 typed.here) ∷ []) (more w none))) y.1,
+        )
         | inr f ↦ inr (f.0, inr (subst (λ o. FailsToTake text o (operand text s e) (first_place e) f.0) (sym v.1) f.1))
       ]
       | inr f ↦ inr (f.0, inl (inr f.1))
@@ -463,9 +465,11 @@ choice_or_fails : (text : List ℕ) (s : Scope) (c : Condition) (body : Stms) (r
 choice_or_fails text s c body rest settled inside behind1 = elim (condition_or_fails text s settled c) [
   | inl x ↦ elim inside [
     | inl y ↦ elim (behind1 y.0 y.1) [
-      | inl z ↦ inl (typed.choose x.0 y.0 z.0,
-          ap (λ o. choice_of o (statements text (opened s) body) (alternative text (closed (behind_all text (opened s) body)) rest)) x.1
-          ∙ (ap (λ o. choice_of (Some x.0) o (alternative text (closed (behind_all text (opened s) body)) rest)) y.1 ∙ ap (option_map (typed.choose x.0 y.0)) z.1))
+      | inl z ↦ inl (
+        typed.choose x.0 y.0 z.0,
+        ap (λ o. choice_of o (statements text (opened s) body) (alternative text (closed (behind_all text (opened s) body)) rest)) x.1
+            ∙ (ap (λ o. choice_of (Some x.0) o (alternative text (closed (behind_all text (opened s) body)) rest)) y.1 ∙ ap (option_map (typed.choose x.0 y.0)) z.1),
+      )
       | inr f ↦ inr (f.0, inr f.1)
     ]
     | inr f ↦ inr (f.0, inl (inr f.1))

@@ -1,5 +1,5 @@
 -- As many blocks are open behind a statement as before it.
-use Rattle.std.proofs.Common.{◌≡◌, ℕ, suc, Bool, true, false, cond, List, [], ◌∷◌, length, Option, Some, None, refl, ap, ◌∙◌}
+use Rattle.std.proofs.Common.{◌≡◌, ℕ, suc, Bool, true, false, cond, List, [], ◌∷◌, length, Option, Some, None, refl, ◌∙◌}
 use Rattle.names.specs.Blocks.{Blocks, insert}
 use Rattle.base.specs.declared.pos.Pos.{Pos}
 use Rattle.parse_go.specs.Tree.{Stm, Stms, Els, spelled, define, assign, print, choice, loop, block, no_else, else_block, else_if, nil, cons}

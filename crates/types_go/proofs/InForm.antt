@@ -1,8 +1,6 @@
 -- The typed program of a tree is in form: each site is born in its place and named in its scope, and constants are words.
 use Rattle.std.proofs.Common.{◌≡◌, ℕ, ◌+◌, ◌≤◌, ◌^◌, ℤ, pos, Bool, true, false, cond, List, [], ◌∷◌, ◌++◌, Option, Some, None, Result, Ok, Err, refl, sym, ap, ◌∙◌, subst, arith, length, length-append}
 use Rattle.std.specs.Prelude.{option_and_then, nat_lt}
-use Rattle.std.specs.Int.{w64}
-use Rattle.std.specs.Int.RustNames.{FitsSigned}
 use Rattle.std.specs.Option.{option_map}
 use Rattle.std.proofs.lemmas.Int.{ints}
 use Rattle.base.specs.declared.pos.Pos.{Pos}
@@ -26,10 +24,10 @@ use Rattle.names.specs.declared.constants.ConstFault.{ConstFault}
 use Rattle.types_go.specs.declared.scope.Declared.{Declared}
 use Rattle.types_go.specs.declared.scope.Declared.TheVariants.{Variable, Untyped}
 use Rattle.types_go.specs.Profile.{is_reserved}
-use Rattle.types_go.specs.Scope.{Scope, declaration, with_declaration, with_site, opened, closed}
-use Rattle.types_go.specs.Typing.{Operand, untyped, value, op_of, compare_of, is_int, as_int, constant_of, operand_of_name, prefixed, combined, both_ints, compared_ints, compared_operands, operand, int_of, pieces, condition, test, target, site_of, choice_of, statement, alternative, statements, behind, behind_else, behind_all}
+use Rattle.types_go.specs.Scope.{Scope, declaration, opened, closed}
+use Rattle.types_go.specs.Typing.{Operand, untyped, value, op_of, compare_of, is_int, as_int, constant_of, operand_of_name, prefixed, combined, both_ints, compared_ints, compared_operands, operand, int_of, pieces, condition, test, target, choice_of, statement, alternative, statements, behind, behind_else, behind_all}
 use Rattle.types_go.proofs.Complete.{and_then_some, map_some, none_some, define_some, behind_define, assignment_some, choice_some, loop_some}
-use Rattle.types_go.proofs.Kept.{tail_all, else_blocks, grows_all, grows_else, grows}
+use Rattle.types_go.proofs.Kept.{tail_all, else_blocks, grows_all, grows_else}
 use Rattle.types_go.proofs.Visible.{Visible, visible_opened, visible_kept, visible_with}
 
 is_word : (z : ℤ) → is_int z ≡ true → IsWord (int z)
@@ -272,10 +270,12 @@ module _ (text : List ℕ) where
         let r = choice_some (condition text s c) (statements text (opened s) body) (alternative text (closed (behind_all text (opened s) body)) rest) u.0 u.1 in
         let inner = closed (behind_all text (opened s) body) in
         let later = births_else text inner rest r.2 r.5 in
-        subst (StsFit scope (length s.sites) n) u.2
-        (choice_fits scope (length s.sites) (length inner.sites) n r.0 r.1 r.2 u.0 r.6 (births_in text (opened s) body r.1 r.4) (condition_fits text s scope v c r.0 r.3)
-        (all_fit (opened s) scope body r.1 n (visible_opened s scope v) r.4 (omega (arith, le, later)))
-        (else_fits inner scope rest r.2 n (inner_visible s scope body v) r.5 le), tt)
+        subst (StsFit scope (length s.sites) n) u.2 (
+          choice_fits scope (length s.sites) (length inner.sites) n r.0 r.1 r.2 u.0 r.6 (births_in text (opened s) body r.1 r.4) (condition_fits text s scope v c r.0 r.3)
+              (all_fit (opened s) scope body r.1 n (visible_opened s scope v) r.4 (omega (arith, le, later)))
+              (else_fits inner scope rest r.2 n (inner_visible s scope body v) r.5 le),
+          tt,
+        )
 
     pub all_fit : (s : Scope) (scope : List ℕ) (ms : Stms) (b : Sts) (n : ℕ) → Visible s scope → statements text s ms ≡ Some b → length (behind_all text s ms).sites ≤ n → StsFit scope (length s.sites) n b
     all_fit s scope nil b n v is le = let same : done ≡ b = cc is in subst (StsFit scope (length s.sites) n) same tt

@@ -7,7 +7,7 @@ use Rattle.base.specs.declared.pos.Pos.{Pos}
 use Rattle.names.specs.Blocks.{Names, Blocks, entry_of, or_else, lookup, with_entry, insert}
 use Rattle.typed.specs.Form.{InScope}
 use Rattle.types_go.specs.declared.scope.Declared.{Declared}
-use Rattle.types_go.specs.declared.scope.Declared.TheVariants.{Variable, Untyped}
+use Rattle.types_go.specs.declared.scope.Declared.TheVariants.{Variable}
 use Rattle.types_go.specs.Scope.{Scope, declaration, with_declaration, with_site, opened, beginning}
 use Rattle.types_go.proofs.Complete.{and_then_some, none_some}
 use Rattle.types_go.proofs.Kept.{Grown}

@@ -64,9 +64,9 @@ fn compared(
     ensures { IfOk result (λ o. option_map ex_of o ≡ compared_operands pos op (operand_of left) (operand_of right)) }
 {
     match (left, right) {
-        (Operand::Untyped(y), Operand::Untyped(z)) => Ok(
-            Some(Expr::Constant(Const::Bool(compare(op, y, z)))),
-        ),
+        (Operand::Untyped(y), Operand::Untyped(z)) => Ok(Some(Expr::Constant(Const::Bool(compare(
+            op, y, z,
+        ))))),
         (left, right) => int_comparison(alloc, pos, op, left, right),
     }
 }
@@ -126,7 +126,14 @@ pub fn check_cond(
 {
     let left = check_expr(alloc, text, scope, &c.left)?;
     let right = check_expr(alloc, text, scope, &c.right)?;
-    let own = comparison(alloc, c.op, left.pos, right.pos, left.operand, right.operand)?;
+    let own = comparison(
+        alloc,
+        c.op,
+        left.pos,
+        right.pos,
+        left.operand,
+        right.operand,
+    )?;
     Ok(Condition {
         value: own.value,
         fault: lesser(lesser(left.fault, right.fault), own.fault),

@@ -235,4 +235,3 @@ pub fn check_print(
     let statement = values.map(typed::Stmt::Print);
     Ok(Line { statement, fault })
 }
-

@@ -1,4 +1,4 @@
-use Rattle.std.proofs.Common.{◌≡◌, suc, ◌+◌, arith}
+use Rattle.std.proofs.Common.{arith}
 use Rattle.parse_go.proofs.Chains.{then_depth, else_depth}
 use Rattle.parse_go.proofs.statement.close.Goals as goal
 

@@ -1,10 +1,10 @@
-use Rattle.std.proofs.Common.{rules, ◌≡◌, ◌+◌, ◌<◌, ℕ, List, length, drop, ap, sym, subst, arith, ◌∙◌, IfOk}
+use Rattle.std.proofs.Common.{rules, ◌≡◌, ◌+◌, ◌<◌, List, length, drop, ap, sym, subst, arith, ◌∙◌, IfOk}
 use Rattle.std.specs.Option.{option_map}
 use Rattle.parse_go.specs.declared.tree.Stmt.{Stmt}
 use Rattle.parse_go.specs.declared.tree.Else.{Else}
 use Rattle.parse_go.specs.Tree.{Stms, stm_of, stms_of, els_of, condition_of, condition_in, choice, loop, else_if}
 use Rattle.parse_go.proofs.Rows.{stmt_rows}
-use Rattle.types_go.specs.Least.{IsLeast, lesser}
+use Rattle.types_go.specs.Least.{IsLeast}
 use Rattle.types_go.specs.Scope.{Scope, scope_of, opened, closed}
 use Rattle.types_go.specs.Typing.{behind_all}
 use Rattle.types_go.specs.Faults.{FailsInStatement, FailsInStatements, FailsInElse}

@@ -1,10 +1,10 @@
-use Rattle.std.proofs.Common.{◌≡◌, Some, None, Option, rules, map, subst, sym, ap, ◌∙◌}
+use Rattle.std.proofs.Common.{◌≡◌, Some, None, Option, rules, map, subst}
 use Rattle.parse_go.specs.Tree.{syntax_of}
 use Rattle.typed.specs.View.{program_of, sts_of}
 use Rattle.typed.specs.declared.program.Program.{Program as ProgramData}
 use Rattle.types_go.specs.declared.fault.Fault.{Fault}
 use Rattle.types_go.specs.Least.{IsLeast}
-use Rattle.types_go.specs.Scope.{Scope, beginning}
+use Rattle.types_go.specs.Scope.{beginning}
 use Rattle.types_go.specs.Typing.{statements}
 use Rattle.types_go.specs.Checked.{FailsIn, places_of}
 use Rattle.types_go.proofs.Answering.{typed, in_form, one_program, typed_or_fails, given}

@@ -1,10 +1,8 @@
-use Rattle.std.proofs.Common.{◌≡◌, ap, ◌∙◌}
+use Rattle.std.proofs.Common.{◌≡◌}
 use Rattle.std.specs.Option.{option_map}
 use Rattle.parse_go.specs.FirstBytes.{first_place}
-use Rattle.parse_go.specs.Tree.{ex_of, spelled}
-use Rattle.types_go.specs.Profile.{is_reserved}
-use Rattle.types_go.specs.Scope.{scope_of, declaration}
-use Rattle.types_go.specs.Typing.{target}
+use Rattle.parse_go.specs.Tree.{ex_of}
+use Rattle.types_go.specs.Scope.{scope_of}
 use Rattle.types_go.specs.Passing.{operand_of}
 use Rattle.types_go.proofs.Parts.{assignment_least}
 use Rattle.types_go.proofs.statements.check_assign.Goals as goal
