@@ -1,0 +1,2 @@
+package main
+func main() { println(1, 2, 3, 4, 5, 6, 7, 8, 9, 10, 11, 12, 13, 14) }
