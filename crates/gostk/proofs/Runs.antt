@@ -1,6 +1,6 @@
 -- What a run of a program's code leaves, in the words of the table of answers.
 use Rattle.std.proofs.Common.{◌≡◌, subst, ℕ, ◌/◌, [], List, Option, Some, Result, Ok, Err, arith}
-use Rattle.base.specs.Limits.{Bounds}
+use Rattle.limits.specs.Limits.{Bounds}
 use Rattle.isa.specs.Code.{Tables}
 use Rattle.simulation.specs.Outcome.{ending_in}
 use Rattle.typed.specs.Syntax.{Program}

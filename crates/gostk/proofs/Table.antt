@@ -1,8 +1,8 @@
 -- The table of answers, read by the status.
 use Rattle.std.proofs.Common.{◌≡◌, ◌∙◌, sym, ap, subst, ◌⊎◌, inl, inr, arith, ℕ, ◌++◌, true, false, List, [], ◌∷◌, length, Option, Some, None, length-append}
-use Rattle.base.specs.Limits.{Bounds, AreLimits, IsFirstFault}
-use Rattle.base.specs.declared.limits.LimitFault.{LimitFault}
-use Rattle.base.specs.declared.limits.LimitFault.TheVariants.{StartTooSmall, StartOverMax, OverTop}
+use Rattle.limits.specs.Limits.{Bounds, AreLimits, IsFirstFault}
+use Rattle.limits.specs.declared.limits.LimitFault.{LimitFault}
+use Rattle.limits.specs.declared.limits.LimitFault.TheVariants.{StartTooSmall, StartOverMax, OverTop}
 use Rattle.outside.specs.Causes.{Rose}
 use Rattle.outside.specs.Files.{Content, Call, ReadOf, ReadsAs, Missing, Holds}
 use Rattle.outside.specs.Took.{Took}

@@ -1,7 +1,7 @@
 -- The status and the line of each answer.
 use Rattle.std.specs.Prelude.{ℕ, List, [], ◌++◌, codes, decimal, string_bytes}
-use Rattle.base.specs.declared.limits.LimitFault.{LimitFault}
-use Rattle.base.specs.Limits.{fault_number}
+use Rattle.limits.specs.declared.limits.LimitFault.{LimitFault}
+use Rattle.limits.specs.Limits.{fault_number}
 use Rattle.gostk.specs.Refusal.{refusal_line}
 use Rattle.gostk.specs.declared.answer.Answer.{Answer}
 use Rattle.gostk.specs.declared.answer.Answer.TheVariants.{Ended, Usage, Limits, SourceOnly, Refused, ReadFault, WriteFault, Steps, StackLimit, NoMemory}

@@ -1,6 +1,6 @@
 -- What a text is refused for, and what a run shows of an accepted one.
 use Rattle.std.specs.Prelude.{◌≡◌, ℕ, ◌/◌, List, Option, Some, None}
-use Rattle.base.specs.Limits.{Bounds}
+use Rattle.limits.specs.Limits.{Bounds}
 use Rattle.outside.specs.Causes.{Rose}
 use Rattle.outside.specs.Took.{Took, TookPrefix}
 use Rattle.simulation.specs.Outcome.{Outcome, ending_in}

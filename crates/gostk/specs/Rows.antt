@@ -1,7 +1,7 @@
 -- The table of answers: when each comes, and what it leaves.
 use Rattle.std.specs.Prelude.{◌≡◌, ◌⊎◌, ℕ, ◌≤◌, List, [], ◌∷◌, ◌++◌, Option, Some, None, codes}
-use Rattle.base.specs.Limits.{Bounds}
-use Rattle.base.specs.declared.limits.LimitFault.{LimitFault}
+use Rattle.limits.specs.Limits.{Bounds}
+use Rattle.limits.specs.declared.limits.LimitFault.{LimitFault}
 use Rattle.outside.specs.Causes.{Rose}
 use Rattle.outside.specs.Files.{Content, Call, ReadOf, ReadsAs, Missing, Holds}
 use Rattle.outside.specs.Took.{Took, TookPrefix}

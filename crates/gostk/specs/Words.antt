@@ -5,8 +5,8 @@ use Rattle.std.specs.Option.{unwrap_or}
 use Rattle.std.specs.Char.{digit_value}
 use Rattle.std.specs.Str.Parse.{digits_value, without_leading_plus}
 use Rattle.std.specs.declared.alloc.Global.{Global}
-use Rattle.base.specs.Limits.{Bounds, bounds, AreLimits, IsFirstFault}
-use Rattle.base.specs.declared.limits.LimitFault.{LimitFault}
+use Rattle.limits.specs.Limits.{Bounds, bounds, AreLimits, IsFirstFault}
+use Rattle.limits.specs.declared.limits.LimitFault.{LimitFault}
 use Rattle.clap.specs.Words.{Row, Text, fault_of, first_of, one_of, subcommand_of}
 use Rattle.clap.specs.Kinds.{Kinds}
 use Rattle.gostk.specs.Command.{gostk_app}

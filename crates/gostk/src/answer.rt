@@ -3,7 +3,7 @@ ghost use Rattle.std.specs.Prelude.{◌≡◌};
 ghost use Rattle.gostk.specs.Answer.{status_of};
 
 use crate::refusal::Refusal;
-use base::LimitFault;
+use limits::LimitFault;
 
 /// What a call of the program comes to, a case for each row of the table of answers.
 #[derive(Debug, Drop)]

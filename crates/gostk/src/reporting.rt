@@ -8,7 +8,7 @@ ghost use Rattle.gostk.specs.Rows.{Reported};
 
 use crate::answer::Answer;
 use crate::refusal::Refusal;
-use base::LimitFault;
+use limits::LimitFault;
 use outside::{Piece, Sink, WriteFault, put_bytes, put_line};
 
 /// The status where the line can't be written.

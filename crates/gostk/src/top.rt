@@ -9,9 +9,9 @@ use crate::answer::Answer;
 use crate::refusal::refusal_of;
 use crate::reporting::report;
 use crate::words::{Request, WordsFault, read_words};
-use base::Limits;
 use codegen::{RunFault, run};
 use compile::{Compiled, compile};
+use limits::Limits;
 use outside::{FileFault, Files, Sink, Source};
 use std::alloc::Global;
 

@@ -1,14 +1,14 @@
 //! The words of the command line, by clap.
 ghost use Rattle.std.specs.Prelude.{◌≡◌, List, IfOk, IfErr, []};
-ghost use Rattle.base.specs.Limits.{AreLimits, IsFirstFault};
+ghost use Rattle.limits.specs.Limits.{AreLimits, IsFirstFault};
 ghost use Rattle.clap.specs.Words.{HasKind, Text, one_of, subcommand_rows_of};
 ghost use Rattle.gostk.specs.Words.{texts_of, refusals, arguments, path_in, bounds_in, bounds_of, number_of, is_source, rows_in, Asks, RefusesWords};
 ghost use Rattle.gostk.specs.declared.words.WordsFault.{WordsFault};
 
 use crate::command::command_line;
-use base::{LimitFault, Limits};
 use clap::error::ErrorKind;
 use clap::{ArgMatches, Error};
+use limits::{LimitFault, Limits};
 use std::alloc::{AllocError, Global};
 
 /// What the words ask for: the file of source that is to run, and the limits of the run.
