@@ -209,10 +209,11 @@ fn words_that_clap_refuses(rt: HostRuntime) -> Result<(), Fail> {
 // stopped under the first ones and ends under the others.
 #[test]
 fn steps(rt: HostRuntime) -> Result<(), Fail> {
-    let text = b"package main\nfunc main() { x := 3; println(x, x+1); println(2*x) }\n";
+    let text =
+        b"package main\nfunc main() { i := 0; for i < 3 { println(i); i = i + 1 }; println(9) }\n";
     let mut before = Vec::new(rt.alloc());
     let mut ended = false;
-    for n in 0..41 {
+    for n in 0..101 {
         let option = format!(in rt.alloc(); "--steps={n}")?;
         let got = run_on(
             rt.alloc(),
@@ -227,7 +228,7 @@ fn steps(rt: HostRuntime) -> Result<(), Fail> {
         );
         if got.status == 0 {
             ended = true;
-            assert_eq!(rt; got.out.as_slice(), b"3 4\n6\n".as_slice(), "{n} steps");
+            assert_eq!(rt; got.out.as_slice(), b"0\n1\n2\n9\n".as_slice(), "{n} steps");
             assert!(rt; got.err.is_empty(), "{n} steps");
         } else {
             let line = format!(in rt.alloc(); "gostk: steps {n}\n")?;
@@ -265,7 +266,7 @@ fn stack_limit(rt: HostRuntime) -> Result<(), Fail> {
 
 #[test]
 fn texts(rt: HostRuntime) -> Result<(), Fail> {
-    let table: [(&str, u8, &str, &str); 9] = [
+    let table: [(&str, u8, &str, &str); 14] = [
         (
             "package main\nfunc main() { x := 9223372036854775807; println(x + 1) }",
             0,
@@ -314,6 +315,36 @@ fn texts(rt: HostRuntime) -> Result<(), Fail> {
             201,
             "",
             "a.go:2:23: scan kind 10\n",
+        ),
+        (
+            "package main\nfunc main() { x := 2; if x == 1 { println(1) } else if x >= 2 { println(2) } else { println(3) } }",
+            0,
+            "2\n",
+            "",
+        ),
+        (
+            "package main\nfunc main() { x := 1; { x := 2; println(x) }; println(x) }",
+            0,
+            "2\n1\n",
+            "",
+        ),
+        (
+            "package main\nfunc main() { if 1 < 9223372036854775808 { println(1) } }",
+            0,
+            "1\n",
+            "",
+        ),
+        (
+            "package main\nfunc main() { x := 1; if x < 9223372036854775808 { println(1) } }",
+            201,
+            "",
+            "a.go:2:30: type kind 12\n",
+        ),
+        (
+            "package main\nfunc main() { for { y := 1; println(y) }; println(y) }",
+            201,
+            "",
+            "a.go:2:51: type kind 1\n",
         ),
     ];
     for (i, (text, status, out, err)) in table.iter().enumerate() {
