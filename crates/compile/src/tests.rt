@@ -28,7 +28,7 @@ fn fault_of(alloc: Global, text: &[u8]) -> Option<CompileFault> {
 // Each body stands behind `func main() {` on line 2, so a fault at the body's first byte stands at column 15.
 #[test]
 fn faults_of_each_stage(rt: HostRuntime) -> Result<(), Fail> {
-    let table: [(&str, CompileFault); 14] = [
+    let table: [(&str, CompileFault); 15] = [
         (
             "x := #",
             CompileFault::Scan(ScanFault::Fault(ScanKind::BadChar, pos(32, 2, 20))),
@@ -38,9 +38,10 @@ fn faults_of_each_stage(rt: HostRuntime) -> Result<(), Fail> {
             CompileFault::Scan(ScanFault::Fault(ScanKind::BadNumber, pos(32, 2, 20))),
         ),
         (
-            "x = 1",
+            "x + 1",
             CompileFault::Parse(ParseFault::Unexpected(pos(29, 2, 17))),
         ),
+        ("x = 1", type_fault(FaultKind::Unknown, pos(27, 2, 15))),
         ("println(y)", type_fault(FaultKind::Unknown, pos(35, 2, 23))),
         ("x := x", type_fault(FaultKind::Unknown, pos(32, 2, 20))),
         (
