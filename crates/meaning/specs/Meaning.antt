@@ -3,9 +3,9 @@ use Rattle.std.specs.Prelude.{ℕ, zero, suc, ◌-◌, ℤ, Bool, true, false, L
 use Rattle.std.specs.Fmt.{signed_decimal}
 use Rattle.base.specs.declared.pos.Pos.{Pos}
 use Rattle.typed.specs.Value.{Value, int, bool, words}
-use Rattle.typed.specs.Syntax.{Ex, Exs, Pl, Steps, Left, Piece, St, Sts, Func, Program, constant, read, unary, binary, none, more, local, here, new, to, shown, assign, block, choose, loop, print, done, next}
+use Rattle.typed.specs.Syntax.{Ex, Exs, Pl, Steps, Left, Piece, St, Sts, Func, Program, constant, read, unary, binary, call, none, more, results, local, here, blank, new, to, shown, assign, discard, block, choose, loop, give_back, print, done, next}
 use Rattle.meaning.specs.Trace.{Entry, Call, Return, Born, Read, Write, Print, Fault, Ending, Exit, Panic, World, Cell, Mark, state, entered, ended, copied, Trace, Turn, Note, Seen, End, Cut}
-use Rattle.meaning.specs.Store.{read_at, written, born}
+use Rattle.meaning.specs.Store.{no_value, read_at, written, born}
 use Rattle.meaning.specs.Operators.{unary_of, binary_of}
 
 -- what goes on from a state, and what goes on with something
@@ -87,12 +87,12 @@ read_part v path k w = Note (Read v path (words (read_at w v path))) (k (read_at
 abbrev pub write_part : ℕ → List ℕ → Value → Go → Go
 write_part v path x g w = Note (Write v path (words x)) (g (written w v path x))
 
-abbrev pub new_cell : Setting → (call site : ℕ) → Value → Cell
-new_cell around call site x = record { site = site; call = call; type = get_or around.sites site 0; value = x }
+abbrev pub new_cell : Setting → (entry site : ℕ) → Value → Cell
+new_cell around entry site x = record { site = site; call = entry; type = get_or around.sites site 0; value = x }
 
 -- a new variable of a site, in the call with this number
-abbrev pub bear : Setting → (call site : ℕ) → Value → Then ℕ → Go
-bear around call site x k w = Note (Born site (words x)) (k (length w.store) (born w (new_cell around call site x)))
+abbrev pub bear : Setting → (entry site : ℕ) → Value → Then ℕ → Go
+bear around entry site x k w = Note (Born site (words x)) (k (length w.store) (born w (new_cell around entry site x)))
 
 -- what stands above these
 
@@ -105,6 +105,15 @@ holding_all ws vs = record { broken = ws.broken; continued = ws.continued; retur
 -- the end of an evaluation
 abbrev pub give : Ways → Then Value → Then Value
 give ws k v = see (v ∷ ws.held) (k v)
+
+-- the end of an evaluation that gives several values
+abbrev pub give_all : Ways → Then (List Value) → Then (List Value)
+give_all ws k vs = see (vs ++ ws.held) (k vs)
+
+-- the value of a call with one result
+abbrev pub only_value : List Value → Value
+only_value [] = no_value
+only_value (v ∷ vs) = v
 
 abbrev pub or_panic : {A : Type 0} → Ways → Env → Pos → Result A Fault → Then A → Go
 or_panic ws env at (Ok a) k = k a
@@ -156,18 +165,22 @@ module _ (around : Setting) (calls : Calls) where
   abbrev pub aim : Pl → Ways → Env → Then Aim → Go
   aim (local site steps) ws env k = walk steps ws env (λ r. k (record { base = variable (home env site); steps = r }))
 
-  abbrev pub ev : Ex → Ways → Env → Then Value → Go
-  ev (constant v) ws env k = turn (give ws k v)
-  ev (read p) ws env k = aim p ws env (λ a. settle a (λ q. read_part q.variable q.path (give ws k)))
-  ev (unary op e) ws env k = ev e ws env (λ v. turn (give ws k (unary_of op v)))
-  ev (binary at op a b) ws env k = ev a ws env (λ v. ev b (holding ws v) env (λ u. turn (or_panic ws env at (binary_of op v u) (give ws k))))
+  abbrev mutual
+    pub ev : Ex → Ways → Env → Then Value → Go
+    ev (constant v) ws env k = turn (give ws k v)
+    ev (read p) ws env k = aim p ws env (λ a. settle a (λ q. read_part q.variable q.path (give ws k)))
+    ev (unary op e) ws env k = ev e ws env (λ v. turn (give ws k (unary_of op v)))
+    ev (binary at op a b) ws env k = ev a ws env (λ v. ev b (holding ws v) env (λ u. turn (or_panic ws env at (binary_of op v u) (give ws k))))
+    ev (call f es) ws env k = evs es ws env (λ vs. turn (calls f vs ws env (λ rs. give ws k (only_value rs))))
 
-  abbrev pub evs : Exs → Ways → Env → Then (List Value) → Go
-  evs none ws env k = k []
-  evs (more e es) ws env k = ev e ws env (λ v. evs es (holding ws v) env (λ vs. k (v ∷ vs)))
+    pub evs : Exs → Ways → Env → Then (List Value) → Go
+    evs none ws env k = k []
+    evs (more e es) ws env k = ev e ws env (λ v. evs es (holding ws v) env (λ vs. k (v ∷ vs)))
+    evs (results f es) ws env k = evs es ws env (λ vs. turn (calls f vs ws env (give_all ws k)))
 
 -- a left side whose operands are known
 pub data Landing : Type 0 where
+  nowhere : Landing
   birth : ℕ → Landing
   on : Aim → Landing
 
@@ -176,11 +189,13 @@ abbrev pub aim_values : Aim → List Value
 aim_values a = []
 
 abbrev pub landing_values : Landing → List Value
+landing_values nowhere = []
 landing_values (birth site) = []
 landing_values (on a) = aim_values a
 
 module _ (around : Setting) (calls : Calls) where
   abbrev pub ready : Left → Ways → Env → Then Landing → Go
+  ready blank ws env k = k nowhere
   ready (new site) ws env k = k (birth site)
   ready (to p) ws env k = aim around calls p ws env (λ a. k (on a))
 
@@ -191,6 +206,7 @@ module _ (around : Setting) (calls : Calls) where
 
 module _ (around : Setting) where
   abbrev pub land : Landing → Value → Ways → Env → (Env → Go) → Go
+  land nowhere v ws env k = k env
   land (birth site) v ws env k = turn (bear around ws.call site v (λ x. k (with_home env site x)))
   land (on a) v ws env k = settle a (λ q. write_part q.variable q.path v (k env))
 
@@ -234,9 +250,9 @@ module _ (around : Setting) (calls : Calls) where
   test_of (Some e) ws env k = ev around calls e ws env (λ v. turn (k v))
 
 -- a new round's variables, from the old ones
-abbrev pub renew : Setting → (call : ℕ) → List ℕ → Env → (Env → Go) → Go
-renew around call [] env k = k env
-renew around call (site ∷ sites) env k = turn (mark (copied (home env site)) (read_part (home env site) [] (λ v. bear around call site v (λ x. renew around call sites (with_home env site x) k))))
+abbrev pub renew : Setting → (entry : ℕ) → List ℕ → Env → (Env → Go) → Go
+renew around entry [] env k = k env
+renew around entry (site ∷ sites) env k = turn (mark (copied (home env site)) (read_part (home env site) [] (λ v. bear around entry site v (λ x. renew around entry sites (with_home env site x) k))))
 
 -- the rounds of a loop, at most as many tests as there is fuel; a round goes by the number of variables at its beginning
 abbrev pub rounds : ℕ → (Env → Then Value → Go) → (ℕ → Env → (ℕ → Env → Go) → Go) → (ℕ → Env → Go) → ℕ → Env → Go
@@ -259,29 +275,60 @@ module _ (around : Setting) (calls : Calls) (fuel : ℕ) where
   abbrev mutual
     pub exec : St → Ways → Env → (Env → Go) → Go
     exec (assign ls es) ws env k = ready_all around calls ls ws env (λ those ws1. evs around calls es ws1 env (λ vs. land_all around those vs ws env k))
+    exec (discard es) ws env k = evs around calls es ws env (λ vs. k env)
     exec (block ss) ws env k = exec_all ss ws env k
     exec (choose e a b) ws env k = ev around calls e ws env (λ v. turn (branch v (exec_all a ws env k) (exec_all b ws env k)))
     exec (loop sites test post body) ws env k =
         births (λ n. rounds fuel (test_of around calls test ws) (λ n1 env1 j. in_loop (exec_all body) ws (outside k n1) (to_next around n1 sites (exec_all post) ws j) env1) (outside k) (n - length sites) env)
+    exec (give_back es) ws env k = evs around calls es ws env (λ vs. ws.returned vs env)
     exec (print ln ps) ws env k = pieces around calls ps ws env (λ bs. emit ln bs (k env))
 
     pub exec_all : Sts → Ways → Env → (Env → Go) → Go
     exec_all done ws env k = see ws.held (k env)
     exec_all (next s ss) ws env k = see ws.held (exec s ws env (λ env1. exec_all ss ws env1 k))
 
--- a return; the number is that of the variables at the call's entry
-abbrev pub leave : ℕ → Then (List Value) → List Value → Env → Go
-leave n k vs env = turn (mark (ended n) (note Return (k vs)))
+-- a function's parameters with names, and its results with names, at its entry
+module _ (around : Setting) where
+  abbrev pub bear_params : (entry : ℕ) → List (Option ℕ) → List Value → Env → (Env → Go) → Go
+  bear_params entry [] vs env k = k env
+  bear_params entry (p ∷ ps) [] env k = k env
+  bear_params entry (None ∷ ps) (v ∷ vs) env k = bear_params entry ps vs env k
+  bear_params entry (Some site ∷ ps) (v ∷ vs) env k = turn (bear around entry site v (λ x. bear_params entry ps vs (with_home env site x) k))
+
+  abbrev pub zero_of : ℕ → Value
+  zero_of site = get_or around.zeros (get_or around.sites site 0) no_value
+
+  abbrev pub bear_zeros : (entry : ℕ) → List ℕ → Env → (Env → Go) → Go
+  bear_zeros entry [] env k = k env
+  bear_zeros entry (site ∷ sites) env k = turn (bear around entry site (zero_of site) (λ x. bear_zeros entry sites (with_home env site x) k))
+
+-- a return, with values or without: results with names are written, then read
+abbrev pub write_results : List ℕ → List Value → Env → Go → Go
+write_results [] vs env g = g
+write_results (site ∷ sites) [] env g = g
+write_results (site ∷ sites) (v ∷ vs) env g = turn (write_part (home env site) [] v (write_results sites vs env g))
+
+abbrev pub read_results : List ℕ → Env → Then (List Value) → Go
+read_results [] env k = k []
+read_results (site ∷ sites) env k = turn (read_part (home env site) [] (λ v. read_results sites env (λ vs. k (v ∷ vs))))
+
+-- the number is that of the variables at the call's entry
+abbrev pub leave_with : ℕ → Then (List Value) → List Value → Go
+leave_with n k vs = turn (mark (ended n) (note Return (k vs)))
+
+abbrev pub leave : (named : List ℕ) → ℕ → Then (List Value) → List Value → Env → Go
+leave [] n k vs env = leave_with n k vs
+leave (site ∷ sites) n k vs env = write_results (site ∷ sites) vs env (read_results (site ∷ sites) env (leave_with n k))
 
 -- from a function's entry to its return; a panic goes on in the caller
-abbrev pub ways_in : ℕ → Ways → Env → Then (List Value) → Ways
-ways_in n ws env k = record { broken = leave n k []; continued = leave n k []; returned = leave n k; panicked = λ at f env1. ws.panicked at f env; held = ws.held; call = n }
+abbrev pub ways_in : (named : List ℕ) → ℕ → Ways → Env → Then (List Value) → Ways
+ways_in named n ws env k = record { broken = leave named n k []; continued = leave named n k []; returned = leave named n k; panicked = λ at f env1. ws.panicked at f env; held = ws.held; call = n }
 
 module _ (around : Setting) (funcs : List Func) where
   abbrev pub run_body : Calls → ℕ → ℕ → Option Func → List Value → Ways → Env → Then (List Value) → Go
   run_body calls fuel f None vs ws env k = k []
   run_body calls fuel f (Some func) vs ws env k =
-      see_call vs (note (Call f) (births (λ n. exec_all around calls fuel func.body (ways_in n ws env k) (λ x. 0) (leave n k []))))
+      see_call vs (note (Call f) (births (λ n. bear_params around n func.params vs (λ x. 0) (λ env1. bear_zeros around n func.named env1 (λ env2. exec_all around calls fuel func.body (ways_in func.named n ws env k) env2 (leave func.named n k []))))))
 
   -- a call, with at most so many calls inside each other
   abbrev pub call_at : ℕ → Calls

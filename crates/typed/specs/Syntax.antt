@@ -1,5 +1,5 @@
 -- The typed program as abstract syntax, without vectors and pointers.
-use Rattle.std.specs.Prelude.{ℕ, Bool, List, [], ◌∷◌, Option, Some, None, slice_get}
+use Rattle.std.specs.Prelude.{ℕ, Bool, List, length, Option, Some, None, slice_get}
 use Rattle.base.specs.declared.pos.Pos.{Pos}
 use Rattle.typed.specs.Value.{Value}
 use Rattle.typed.specs.declared.operators.BinOp.{BinOp}
@@ -14,20 +14,25 @@ pub data Pl : Type 0 where
   -- a local variable, by its site
   local : ℕ → Steps → Pl
 
--- an expression with one value; a node that can panic has the place that the panic names
-pub data Ex : Type 0 where
-  constant : Value → Ex
-  read : Pl → Ex
-  unary : UnOp → Ex → Ex
-  binary : Pos → BinOp → Ex → Ex → Ex
+mutual
+  -- an expression with one value; a node that can panic has the place that the panic names
+  pub data Ex : Type 0 where
+    constant : Value → Ex
+    read : Pl → Ex
+    unary : UnOp → Ex → Ex
+    binary : Pos → BinOp → Ex → Ex → Ex
+    -- a function by its number, with one result
+    call : ℕ → Exs → Ex
 
--- some expressions
-pub data Exs : Type 0 where
-  none : Exs
-  more : Ex → Exs → Exs
+  -- some expressions, the last of which may be a call with any number of results
+  pub data Exs : Type 0 where
+    none : Exs
+    more : Ex → Exs → Exs
+    results : ℕ → Exs → Exs
 
 -- a left side
 pub data Left : Type 0 where
+  blank : Left
   -- a new variable of a site
   new : ℕ → Left
   to : Pl → Left
@@ -40,10 +45,14 @@ mutual
   pub data St : Type 0 where
     -- a declaration with values, or an assignment
     assign : List Left → Exs → St
+    -- a call whose results are not used
+    discard : Exs → St
     block : Sts → St
     choose : Ex → Sts → Sts → St
     -- the variables of the header, the condition if there is one, the post statement and the body
     loop : List ℕ → Option Ex → Sts → Sts → St
+    -- a return; without values, that of a function with named results gives these
+    give_back : Exs → St
     -- `println`, where true is said
     print : Bool → List Piece → St
 
@@ -51,10 +60,14 @@ mutual
     done : Sts
     next : St → Sts → Sts
 
--- a function: the sites of its parameters (none for a blank one) and named results, and its body
+-- a function: its first site and the number of its sites, the sites of its parameters (none for a blank one), the types
+-- of its results, their sites where they have names, and its body
 pub record Func : Type 0 where
+  pub first : ℕ
+  pub count : ℕ
   pub params : List (Option ℕ)
   pub results : List ℕ
+  pub named : List ℕ
   pub body : Sts
 
 -- the functions, the zero value of each type, the type of each site, the package variables with their first values,
@@ -66,14 +79,24 @@ pub record Program : Type 0 where
   pub globals : List (ℕ × Value)
   pub main : ℕ
 
-abbrev pub body_in : Option Func → Sts
-body_in None = done
-body_in (Some f) = f.body
+-- the words of a function's arguments, and of its results
+abbrev pub argument_words : Func → ℕ
+argument_words f = length f.params
 
--- the body of `main`
-abbrev pub main_body : Program → Sts
-main_body p = body_in (slice_get p.funcs p.main)
+abbrev pub result_words : Func → ℕ
+result_words f = length f.results
 
--- the program of one function, `main`
-abbrev pub program : List Value → List ℕ → Sts → Program
-program zeros sites body = record { funcs = (let main : Func = record { params = []; results = []; body = body } in main) ∷ []; zeros = zeros; sites = sites; globals = []; main = 0 }
+-- those of a function by its number
+abbrev pub arguments_in : Option Func → ℕ
+arguments_in None = 0
+arguments_in (Some f) = argument_words f
+
+abbrev pub results_in : Option Func → ℕ
+results_in None = 0
+results_in (Some f) = result_words f
+
+abbrev pub arguments_of : List Func → ℕ → ℕ
+arguments_of fs f = arguments_in (slice_get fs f)
+
+abbrev pub results_of : List Func → ℕ → ℕ
+results_of fs f = results_in (slice_get fs f)

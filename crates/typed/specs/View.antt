@@ -1,23 +1,47 @@
 -- The abstract syntax of typed programs.
-use Rattle.std.specs.Prelude.{pos, true, List, [], ◌∷◌, Option, Some, None, map}
+use Rattle.std.specs.Prelude.{ℕ, pos, true, List, [], ◌∷◌, Option, Some, None, map}
+use Rattle.base.specs.declared.ids.SiteId.{SiteId}
 use Rattle.typed.specs.declared.expr.Const.{Const}
 use Rattle.typed.specs.declared.expr.Const.TheVariants.{Int, Bool}
-use Rattle.typed.specs.declared.expr.Expr.{Expr}
-use Rattle.typed.specs.declared.expr.Expr.TheVariants.{Constant, Local, Unary', Binary'}
-use Rattle.typed.specs.declared.stmt.Stmt.{Stmt, Row_of-Stmt, end_of-Stmt, more_of-Stmt, Define, Assign, Block', If', Loop', Print}
+use Rattle.typed.specs.declared.expr.Expr.{Expr, Constant, Local, Unary', Binary', Call'}
+use Rattle.typed.specs.declared.expr.Values.{Values, Row_of-Expr, end_of-Expr, more_of-Expr, Each', Results'}
+use Rattle.typed.specs.declared.stmt.Left.{Left as LeftData}
+use Rattle.typed.specs.declared.stmt.Left.TheVariants.{Blank, New, To}
+use Rattle.typed.specs.declared.stmt.Stmt.{Stmt, Row_of-Stmt, end_of-Stmt, more_of-Stmt, Assign, Discard, Block', If', Loop', Return, Print}
+use Rattle.typed.specs.declared.program.Func.{Func as FuncData}
 use Rattle.typed.specs.declared.program.Program.{Program as ProgramData}
 use Rattle.typed.specs.Value.{Value, int, bool}
-use Rattle.typed.specs.Syntax.{Ex, Piece, St, Sts, Program, constant, read, unary, binary, local, here, none, more, new, to, shown, assign, block, choose, loop, print, done, next, program}
+use Rattle.typed.specs.Syntax.{Ex, Exs, Left, Piece, St, Sts, Func, Program, constant, read, unary, binary, call, local, here, none, more, results, blank, new, to, shown, assign, discard, block, choose, loop, give_back, print, done, next}
 
 abbrev pub value_of : Const → Value
 value_of (Int z) = int z
 value_of (Bool b) = bool b
 
-abbrev pub ex_of : Expr → Ex
-ex_of (Constant c) = constant (value_of c)
-ex_of (Local site) = read (local site.0 here)
-ex_of (Unary' op p a) = unary op (ex_of a)
-ex_of (Binary' at op p a q b) = binary at op (ex_of a) (ex_of b)
+abbrev mutual
+  pub ex_of : Expr → Ex
+  ex_of (Constant c) = constant (value_of c)
+  ex_of (Local site) = read (local site.0 here)
+  ex_of (Unary' op p a) = unary op (ex_of a)
+  ex_of (Binary' at op p a q b) = binary at op (ex_of a) (ex_of b)
+  ex_of (Call' f p vs) = call f.0 (exs_of_values vs)
+
+  pub exs_of_row : {m : _} → Row_of-Expr m → Exs
+  exs_of_row end_of-Expr = none
+  exs_of_row (more_of-Expr e rest) = more (ex_of e) (exs_of_row rest)
+
+  pub exs_of_values : Values → Exs
+  exs_of_values (Each' shape row) = exs_of_row row
+  exs_of_values (Results' f p vs) = results f.0 (exs_of_values vs)
+
+-- the same at lists
+abbrev pub exs_of : List Expr → Exs
+exs_of [] = none
+exs_of (e ∷ es) = more (ex_of e) (exs_of es)
+
+abbrev pub left_of : LeftData → Left
+left_of Blank = blank
+left_of (New site) = new site.0
+left_of (To site) = to (local site.0 here)
 
 abbrev pub pieces_of : List Expr → List Piece
 pieces_of [] = []
@@ -29,11 +53,12 @@ test_of (Some e) = Some (ex_of e)
 
 abbrev mutual
   pub st_of : Stmt → St
-  st_of (Define site e) = assign (new site.0 ∷ []) (more (ex_of e) none)
-  st_of (Assign site e) = assign (to (local site.0 here) ∷ []) (more (ex_of e) none)
+  st_of (Assign ls vs) = assign (map left_of ls.items) (exs_of_values vs)
+  st_of (Discard vs) = discard (exs_of_values vs)
   st_of (Block' shape row) = block (sts_of_row row)
   st_of (If' e shape row shape' row') = choose (ex_of e) (sts_of_row row) (sts_of_row row')
   st_of (Loop' test shape row) = loop [] (test_of test) done (sts_of_row row)
+  st_of (Return vs) = give_back (exs_of_values vs)
   st_of (Print es) = print true (pieces_of es.items)
 
   pub sts_of_row : {m : _} → Row_of-Stmt m → Sts
@@ -45,6 +70,27 @@ abbrev pub sts_of : List Stmt → Sts
 sts_of [] = done
 sts_of (s ∷ ss) = next (st_of s) (sts_of ss)
 
+-- the number of a site, where there is one
+abbrev pub site_in : Option SiteId → Option ℕ
+site_in None = None
+site_in (Some site) = Some site.0
+
+abbrev pub func_of : FuncData → Func
+func_of f = record {
+  first = f.first_site;
+  count = f.sites;
+  params = map site_in f.params.items;
+  results = map (λ t. t.0) f.results.items;
+  named = map (λ site. site.0) f.named.items;
+  body = sts_of f.body.items;
+}
+
 -- one type, number 0: whole numbers
 abbrev pub program_of : ProgramData → Program
-program_of p = program (int (pos 0) ∷ []) (map (λ site. 0) p.sites.items) (sts_of p.main.body.items)
+program_of p = record {
+  funcs = map func_of p.funcs.items;
+  zeros = int (pos 0) ∷ [];
+  sites = map (λ site. 0) p.sites.items;
+  globals = [];
+  main = p.main.0;
+}

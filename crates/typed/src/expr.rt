@@ -1,7 +1,7 @@
 //! Typed expressions.
 
 use crate::operators::{BinOp, UnOp};
-use base::{Pos, SiteId};
+use base::{FuncId, Pos, SiteId};
 
 /// A constant.
 #[derive(Clone, Copy, Debug, PartialEq, Eq)]
@@ -14,10 +14,23 @@ pub enum Const {
 /// An expression with one value. An operator that can panic has the place that a panic would name: the first byte of
 /// the whole expression.
 #[derive(Drop)]
+#[cycle(expression)]
 pub enum Expr {
     Constant(Const),
     /// A read of a local variable.
     Local(SiteId),
     Unary(UnOp, Box<Expr>),
     Binary(Pos, BinOp, Box<Expr>, Box<Expr>),
+    /// A call of a function with one result, and its arguments.
+    Call(FuncId, Box<Values>),
+}
+
+/// The values of a declaration, an assignment, a call or a return.
+#[derive(Drop)]
+#[cycle(expression)]
+pub enum Values {
+    /// One value of each expression.
+    Each(Vec<Expr>),
+    /// All results of a call, and its arguments.
+    Results(FuncId, Box<Values>),
 }

@@ -6,7 +6,7 @@ mod operators;
 mod program;
 mod stmt;
 
-pub use expr::{Const, Expr};
+pub use expr::{Const, Expr, Values};
 pub use operators::{BinOp, UnOp};
 pub use program::{Func, Program, Site};
-pub use stmt::Stmt;
+pub use stmt::{Left, Stmt};

@@ -1,7 +1,7 @@
 //! Typed programs.
 
 use crate::stmt::Stmt;
-use base::Pos;
+use base::{FuncId, Pos, SiteId, TypeId};
 
 /// A site: the place of the variable's name.
 #[derive(Clone, Copy, Debug, PartialEq, Eq)]
@@ -9,16 +9,29 @@ pub struct Site {
     pub pos: Pos,
 }
 
-/// A function: the place of its name, and its body.
+/// A function. Its sites stand together in the program's table, those of its parameters first, then those of its named
+/// results, then the others in the order of the text.
 #[derive(Drop)]
 pub struct Func {
+    /// The place of its name.
     pub pos: Pos,
+    /// The number of its first site, and how many it has.
+    pub first_site: u32,
+    pub sites: u32,
+    /// The site of each parameter; none for a blank or unnamed one.
+    pub params: Vec<Option<SiteId>>,
+    /// The type of each result.
+    pub results: Vec<TypeId>,
+    /// The sites of the results where they have names, else nothing.
+    pub named: Vec<SiteId>,
     pub body: Vec<Stmt>,
 }
 
-/// A program: its function `main`, and its sites in the order of the text, by which a `SiteId` counts.
+/// A program: its functions in the order of the text, the one that is `main`, and its sites in the order of the text, by
+/// which a `SiteId` counts.
 #[derive(Drop)]
 pub struct Program {
-    pub main: Func,
+    pub funcs: Vec<Func>,
+    pub main: FuncId,
     pub sites: Vec<Site>,
 }
