@@ -17,7 +17,9 @@ pub enum BinOp {
 }
 
 /// An instruction of 16 bytes. Its slots are words of the running frame, counted from the frame's lowest word, 0; they
-/// never name the frame's two highest words, the link and the return place. The result goes to slot a.
+/// never name the frame's two highest words, the link and the return place. The result goes to slot a. Incoming words
+/// are the arguments and results of the running function, which stand behind the end of its frame: word 0 is the first
+/// argument's, and behind the arguments come the results.
 #[derive(Clone, Copy, Debug, PartialEq, Eq)]
 pub enum Instr {
     /// The slot gets this word.
@@ -32,13 +34,19 @@ pub enum Instr {
     Jump { to: u32 },
     /// Goes on there if the slot's word is 0.
     JumpZero { a: u16, to: u32 },
+    /// Calls a function. Its arguments stand in the lowest slots, and behind them it leaves its results.
+    Call { func: u16 },
+    /// The slot a gets the incoming word b.
+    Argument { a: u16, b: u16 },
+    /// The incoming word b gets the word of the slot a.
+    SetResult { a: u16, b: u16 },
     /// Prints the slot's number in decimal.
     PrintInt { a: u16 },
     /// Prints a space.
     PrintSpace,
     /// Prints a newline.
     PrintLine,
-    /// Returns to the frame above; from the highest frame the run ends.
+    /// Returns to the frame above, behind the call; from the highest frame the run ends.
     Return,
 }
 

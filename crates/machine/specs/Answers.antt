@@ -1,12 +1,14 @@
--- Steps were done, and out took what they print; or out failed in one.
-use Rattle.std.specs.Prelude.{◌≡◌, ℕ, List, drop, Option, Some, None}
+-- Steps were done, and out took what they print; or out failed in one, or memory was refused to one.
+use Rattle.std.specs.Prelude.{◌≡◌, ℕ, ◌<◌, ⊤, List, [], drop, Option, Some, None, slice_get}
 use Rattle.outside.specs.Causes.{Rose}
 use Rattle.outside.specs.Took.{Took, TookPrefix}
-use Rattle.simulation.specs.Steps.{Goes, Stops, events_of}
-use Rattle.machine.specs.Machine.{State, Does, bytes_of}
+use Rattle.simulation.specs.Steps.{Goes, Stops, events_of, many}
+use Rattle.isa.specs.Code.{Tables}
+use Rattle.isa.specs.declared.instr.Instr.TheVariants.{Call}
+use Rattle.machine.specs.Machine.{State, Does, act, bytes_of, frame_of}
 use Rattle.machine.specs.declared.place.Place.{Place}
 use Rattle.machine.specs.declared.place.Ending.{Ending}
-use Rattle.machine.specs.declared.place.Ending.TheVariants.{WriteFault}
+use Rattle.machine.specs.declared.place.Ending.TheVariants.{WriteFault, NoMemory}
 
 -- the state whose frame begins at an index of a block of words
 abbrev pub state_of : List ℕ → Place → State
@@ -17,5 +19,21 @@ printed_by d = bytes_of (events_of d)
 
 abbrev pub Answers : Does → State → Option Ending → Option (List ℕ) → Option (List ℕ) → ℕ → ℕ → Type 0
 Answers d s (Some WriteFault) old new before now = TookPrefix old new (printed_by d) × Rose before now
+Answers d s (Some NoMemory) old new before now = TookPrefix old new (printed_by d)
 Answers d s None old new before now = (d ≡ Goes (events_of d) s) × Took old new (printed_by d)
 Answers d s (Some e) old new before now = (d ≡ Stops (events_of d) e) × Took old new (printed_by d)
+
+-- what comes of a step that prints nothing
+abbrev pub Comes : Does → State → Option Ending → Type 0
+Comes d s (Some WriteFault) = ⊥
+Comes d s (Some NoMemory) = ⊤
+Comes d s None = d ≡ Goes [] s
+Comes d s (Some e) = d ≡ Stops [] e
+
+-- only a call whose frame has no room below an index of the block asks for memory
+abbrev pub Asks : Tables → Place → Type 0
+Asks t at = (g : ℕ) × (slice_get t.instrs at.pc ≡ Some (Call g)) × (at.base < frame_of t g)
+
+-- memory was refused behind so many steps, and out took what they print
+abbrev pub Refused : Tables → ℕ → ℕ → State → Option (List ℕ) → Option (List ℕ) → Type 0
+Refused t max steps s old new = (k : ℕ) × (k < steps) × Took old new (printed_by (many (act t max) k s))

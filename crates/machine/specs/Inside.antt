@@ -2,7 +2,7 @@
 use Rattle.std.specs.Prelude.{◌≡◌, ℕ, ◌+◌, ◌<◌, ◌≤◌, ⊤, slice_get, Some}
 use Rattle.isa.specs.Code.{Tables}
 use Rattle.isa.specs.declared.instr.Instr.{Instr}
-use Rattle.isa.specs.declared.instr.Instr.TheVariants.{Const, Move, Bin, Negate, Jump, JumpZero, PrintInt, Return}
+use Rattle.isa.specs.declared.instr.Instr.TheVariants.{Const, Move, Bin, Negate, Jump, JumpZero, Call, Argument, SetResult, PrintInt, Return}
 use Rattle.isa.specs.declared.func.Func.{Func}
 
 pub record Inside (t : Tables) (long pc base : ℕ) : Type 0 where
@@ -12,19 +12,30 @@ pub record Inside (t : Tables) (long pc base : ℕ) : Type 0 where
   pub is : slice_get t.funcs f ≡ Some fn
   pub room : base + fn.frame ≤ long
 
--- where an instruction leads, the same frame lies inside
+-- where an instruction leads, but for returns, the same frame lies inside; a call comes back to it
 abbrev pub Leads : Tables → ℕ → ℕ → ℕ → Instr → Type 0
 Leads t long pc base Return = ⊤
 Leads t long pc base (Jump to) = Inside t long to base
 Leads t long pc base (JumpZero a to) = Inside t long to base × Inside t long (pc + 1) base
 Leads t long pc base _ = Inside t long (pc + 1) base
 
--- the slots that an instruction touches lie inside so many words
-abbrev pub Touches : ℕ → ℕ → Instr → Type 0
-Touches base long (Const a word) = base + a < long
-Touches base long (Move a b) = (base + a < long) × (base + b < long)
-Touches base long (Bin op a b c) = (base + a < long) × (base + b < long) × (base + c < long)
-Touches base long (Negate a b) = (base + a < long) × (base + b < long)
-Touches base long (JumpZero a to) = base + a < long
-Touches base long (PrintInt a) = base + a < long
-Touches base long _ = ⊤
+-- a function of the code that can be called from the frame at an index: its arguments and results lie inside so many words
+pub record Callable (t : Tables) (long base g : ℕ) : Type 0 where
+  pub fn : Func
+  pub is : slice_get t.funcs g ≡ Some fn
+  pub linked : 2 ≤ fn.frame
+  pub starts : slice_get t.owners fn.start ≡ Some g
+  pub room : base + (fn.arguments + fn.results) ≤ long
+
+-- the slots that an instruction touches lie inside so many words, and the function that it calls can be called
+abbrev pub Touches : Tables → ℕ → ℕ → Instr → Type 0
+Touches t long base (Const a word) = base + a < long
+Touches t long base (Move a b) = (base + a < long) × (base + b < long)
+Touches t long base (Bin op a b c) = (base + a < long) × (base + b < long) × (base + c < long)
+Touches t long base (Negate a b) = (base + a < long) × (base + b < long)
+Touches t long base (JumpZero a to) = base + a < long
+Touches t long base (Call g) = Callable t long base g
+Touches t long base (Argument a b) = base + a < long
+Touches t long base (SetResult a b) = base + a < long
+Touches t long base (PrintInt a) = base + a < long
+Touches t long base _ = ⊤

@@ -1,18 +1,29 @@
 //! The machine: one step, and a run of steps.
 //!
-//! One definition says what a step does: `act` takes the tables of a code and a state, the place of the next
-//! instruction and the words of the stack in use, and gives what comes of it, a line for each instruction. It goes on in a
-//! state or stops by an ending, each with the events that it tells. The contract of `step` speaks of `act`, the one of
-//! `run` of its iteration, and whoever has a theorem on the code has it on the iteration too, so the two meet there.
+//! One definition says what a step does: `act` takes the tables of a code, the most words that the stack may have, and a
+//! state, the place of the next instruction and the words of the stack in use, and gives what comes of it, a line for
+//! each instruction. It goes on in a state or stops by an ending, each with the events that it tells. The contract of
+//! `step` speaks of `act`, the one of `run` of its iteration, and whoever has a theorem on the code has it on the
+//! iteration too, so the two meet there.
 //!
 //! In the definition the stack is the list of its used words from the lowest address: the running frame comes first,
-//! and slot a is word a. In the program it is a block of words and an index, and slot a is `block[base + a]`; what lies
-//! below the index is not used and no definition sees it. `Inside` says that the frame lies within the block. It holds
-//! at the start, each step keeps it, and a well-formed code gives the rest, so that nothing is tested as a run goes on.
-//! What an instruction writes goes to the sink at once, so a fault ends the run at the very instruction that met it.
+//! and slot a is word a. A call puts a frame before them, a return takes its frame away. A place is named by its distance
+//! from the stack's upper end, and its address follows from that alone. A frame's two highest words are its links: the
+//! place behind the call, and the address behind the caller's frame. A return tests both, so words that a program wrote
+//! over are found out and not followed.
+//!
+//! In the program the stack stands at the upper end of a block of words, and its lowest word has an index: slot a is
+//! `block[base + a]`. What lies below the index is not used and no definition sees it. Where a call's frame has no room
+//! there, the block is doubled at its low end; nothing else takes memory. `Inside` says that the frame lies within the
+//! block. It holds at the start, each step keeps it (a return by its tests), and a well-formed code gives the rest, so
+//! that no slot is tested as a run goes on. What an instruction writes goes to the sink at once, so a fault ends the run
+//! at the very instruction that met it.
 #![tactic(auto)]
 
+mod block;
+mod links;
 mod place;
+mod slots;
 mod steps;
 mod whole;
 

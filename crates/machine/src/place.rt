@@ -1,4 +1,5 @@
 //! Where a run stands, and how it ends.
+ghost use Rattle.std.specs.Prelude.{◌≡◌, ◌+◌, ◌<◌, ◌^◌, Some, None};
 
 /// The place of the next instruction, counted over all code, and the index of the frame's lowest word.
 #[derive(Clone, Copy, Debug, PartialEq, Eq)]
@@ -14,8 +15,12 @@ pub enum Ending {
     Exit(u8),
     /// The sink failed.
     WriteFault,
+    /// A call needed a larger block of words, and memory for it was refused.
+    NoMemory,
     /// A frame would have passed the limit of the stack: the words in use, those asked for, and the limit.
     StackLimit { used: u64, asked: u64, limit: u64 },
+    /// An incoming word at this address lies past the end of the stack.
+    WildAddress(u64),
     /// A return met this return place, and it was not its frame's.
     WildReturn(u64),
     /// A return met this link to the frame above, and it was not its frame's.
@@ -27,4 +32,43 @@ pub enum Ending {
 pub struct Next {
     pub at: Place,
     pub ending: Option<Ending>,
+}
+
+impl Next {
+    // The run goes on at a place, with a frame at an index.
+    #[inline(always)]
+    pub(crate) fn to(pc: usize, base: usize) -> Next
+        ensures { result ≡ record { at = record { pc = pc; base = base }; ending = None } }
+    {
+        Next {
+            at: Place { pc, base },
+            ending: None,
+        }
+    }
+
+    // The run goes on at the next place.
+    #[inline(always)]
+    pub(crate) fn on(at: Place) -> Next
+        requires { at.pc < 2 ^ 40 }
+        ensures { result ≡ record { at = record { pc = at.pc + 1; base = at.base }; ending = None } }
+    {
+        Next {
+            at: Place {
+                pc: at.pc + 1,
+                base: at.base,
+            },
+            ending: None,
+        }
+    }
+
+    // The run ends at a place.
+    #[inline(always)]
+    pub(crate) fn ended(at: Place, ending: Ending) -> Next
+        ensures { result ≡ record { at = at; ending = Some ending } }
+    {
+        Next {
+            at,
+            ending: Some(ending),
+        }
+    }
 }

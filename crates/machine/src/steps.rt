@@ -3,26 +3,18 @@ ghost use Rattle.outside.specs.Causes.{Rose};
 ghost use Rattle.outside.specs.Took.{Took, TookPrefix};
 ghost use Rattle.std.specs.Fmt.{signed_decimal};
 ghost use Rattle.std.specs.Int.{w64, cast_signed};
-ghost use Rattle.std.specs.Prelude.{◌≡◌, ◌⊎◌, ◌≢◌, [], OnOk, OnErr, ◌+◌, ◌-◌, ◌<◌, ◌≤◌, ◌^◌, length, drop, slice_get, slice_index, slice_set, Some, None};
+ghost use Rattle.std.specs.Prelude.{◌≡◌, ◌⊎◌, ◌≢◌, [], OnOk, OnErr, IfOk, IfErr, ◌+◌, ◌-◌, ◌<◌, ◌≤◌, ◌^◌, length, drop, slice_get, slice_index, slice_set, Some, None};
 ghost use Rattle.isa.specs.Code.{Tables, IsCode};
-ghost use Rattle.simulation.specs.Steps.{Stops};
-ghost use Rattle.machine.specs.Machine.{act, act_on, returns, frame_of, owner_of, State};
-ghost use Rattle.machine.specs.Inside.{Inside, Touches, Leads};
-ghost use Rattle.machine.specs.Answers.{Answers, state_of};
+ghost use Rattle.machine.specs.Machine.{act, address_of, frame_of, owner_of};
+ghost use Rattle.machine.specs.Inside.{Inside, Callable, Touches, Leads};
+ghost use Rattle.machine.specs.Answers.{Answers, Asks, state_of};
 
+use crate::links::{address, call, frame_at, leave};
+use crate::slots::{set_slot, slot};
 use crate::{Ending, Next, Place};
 use isa::{Func, Instr, bin, negate};
 use outside::{Sink, WriteFault, put_bytes, put_int};
-
-// The word of a slot.
-#[inline(always)]
-#[tactic(auto, using(crate::proofs::Slots::slot_read))]
-fn slot(words: &Vec<u64>, base: usize, a: u16) -> u64
-    requires { base + a < length words.now.items }
-    ensures { result ≡ slice_index (drop base words.now.items) a }
-{
-    words[base + a as usize]
-}
+use std::alloc::Global;
 
 // Writes the number of a slot.
 #[inline(always)]
@@ -34,21 +26,10 @@ fn put_slot<O: Sink>(words: &Vec<u64>, at: Place, a: u16, out: &mut O) -> Next
     ensures later { O.faults out.old ≤ O.faults out.new }
     ensures which { (result.ending ≡ None) ⊎ (result.ending ≡ Some Ending.WriteFault) }
 {
-    match put_int(out, slot(words, at.base, a).cast_signed()) {
-        Ok(()) => on(at),
-        Err(_) => ended(at, Ending::WriteFault),
+    match put_int(out, slot(words, at.base, a as usize).cast_signed()) {
+        Ok(()) => Next::on(at),
+        Err(_) => Next::ended(at, Ending::WriteFault),
     }
-}
-
-// A slot gets a word.
-#[inline(always)]
-#[tactic(auto, using(crate::proofs::Slots::slot_written))]
-fn set_slot(words: &mut Vec<u64>, base: usize, a: u16, word: u64)
-    requires { base + a < length words.old.items }
-    ensures words { drop base words.new.items ≡ slice_set (drop base words.old.items) a word }
-    ensures length { length words.new.items ≡ length words.old.items }
-{
-    words[base + a as usize] = word;
 }
 
 // The words of the frame that stands inside the words.
@@ -64,71 +45,51 @@ fn own_frame(
     requires inside { Inside (record { instrs = instrs.now; owners = owners.now; funcs = funcs.now }) (length _words.now.items) at.pc at.base }
     requires place { at.pc < length instrs.now }
     ensures is { let t : Tables = record { instrs = instrs.now; owners = owners.now; funcs = funcs.now } in result ≡ frame_of t (owner_of t at.pc) }
+    ensures small { result < 2 ^ 16 }
     ensures linked { 2 ≤ result }
     ensures room { at.base + result ≤ length _words.now.items }
 {
-    let _ = instrs;
-    funcs[owners[at.pc] as usize].frame as usize
+    frame_at(instrs, owners, funcs, at.pc)
 }
 
-// The run goes on at the next place.
+// A function that can be called from the frame at an index.
 #[inline(always)]
-fn on(at: Place) -> Next
-    requires { at.pc < 2 ^ 40 }
-    ensures { result ≡ record { at = record { pc = at.pc + 1; base = at.base }; ending = None } }
+fn callee(
+    _instrs: &[Instr],
+    _owners: &[u16],
+    funcs: &[Func],
+    _words: &Vec<u64>,
+    _base: usize,
+    func: u16,
+) -> Func
+    requires { Callable (record { instrs = _instrs.now; owners = _owners.now; funcs = funcs.now }) (length _words.now.items) _base func }
+    ensures is { slice_get funcs.now func ≡ Some result }
+    ensures linked { 2 ≤ result.frame }
+    ensures starts { slice_get _owners.now result.start ≡ Some func }
+    ensures room { _base + (result.arguments + result.results) ≤ length _words.now.items }
 {
-    Next {
-        at: Place {
-            pc: at.pc + 1,
-            base: at.base,
-        },
-        ending: None,
-    }
+    funcs[func as usize]
 }
 
-// The run goes on at a place.
+// The index of an incoming word behind a frame of so many words that begins at an index of the block.
 #[inline(always)]
-fn led(at: Place, to: u32) -> Next
-    ensures { result ≡ record { at = record { pc = to; base = at.base }; ending = None } }
+fn incoming(
+    words: &Vec<u64>,
+    stack_max: u64,
+    base: usize,
+    frame: usize,
+    b: u16,
+) -> Result<usize, Ending>
+    requires words { (length words.now.items ≤ stack_max) × (stack_max ≤ 2 ^ 32) }
+    requires frame { (frame < 2 ^ 16) × (base + frame ≤ length words.now.items) }
+    ensures ok { IfOk result (λ i. (i ≡ frame + b) × (base + i < length words.now.items)) }
+    ensures wild { IfErr result (λ e. (e ≡ Ending.WildAddress (address_of stack_max (length words.now.items - base) + (frame + b))) × (length words.now.items ≤ base + (frame + b))) }
 {
-    Next {
-        at: Place {
-            pc: to as usize,
-            base: at.base,
-        },
-        ending: None,
+    let index = frame + b as usize;
+    if base + index < words.len() {
+        return Ok(index);
     }
-}
-
-// The run ends at a place.
-#[inline(always)]
-fn ended(at: Place, ending: Ending) -> Next
-    ensures { result ≡ record { at = at; ending = Some ending } }
-{
-    Next {
-        at,
-        ending: Some(ending),
-    }
-}
-
-// How a return from a frame of so many words ends.
-#[inline(always)]
-#[tactic(auto, using(crate::proofs::Slots::slot_read))]
-fn leave(words: &Vec<u64>, at: Place, frame: usize) -> Ending
-    requires { (2 ≤ frame) × (at.base + frame ≤ length words.now.items) }
-    ensures returns { returns (state_of words.now.items at) frame ≡ Stops [] result }
-    ensures writes { result ≢ Ending.WriteFault }
-{
-    let end = at.base + frame;
-    let ret = words[end - 1];
-    let link = words[end - 2];
-    if end != words.len() || ret != 0 {
-        return Ending::WildReturn(ret);
-    }
-    if link != 0 {
-        return Ending::WildLink(link);
-    }
-    Ending::Exit(0)
+    Err(Ending::WildAddress(address(stack_max, words.len() - base) + index as u64))
 }
 
 // The run goes on behind a piece, if it was written.
@@ -139,8 +100,8 @@ fn printed(at: Place, written: Result<(), WriteFault>) -> Next
     ensures err { OnErr written (result ≡ record { at = at; ending = Some Ending.WriteFault }) }
 {
     match written {
-        Ok(()) => on(at),
-        Err(_fault) => ended(at, Ending::WriteFault),
+        Ok(()) => Next::on(at),
+        Err(_fault) => Next::ended(at, Ending::WriteFault),
     }
 }
 
@@ -151,59 +112,94 @@ fn fetch(instrs: &[Instr], _owners: &[u16], _funcs: &[Func], _words: &Vec<u64>, 
     requires inside { Inside (record { instrs = instrs.now; owners = _owners.now; funcs = _funcs.now }) (length _words.now.items) at.pc at.base }
     requires place { at.pc < length instrs.now }
     ensures is { slice_get instrs.now at.pc ≡ Some result }
-    ensures touches { Touches at.base (length _words.now.items) result }
+    ensures touches { Touches (record { instrs = instrs.now; owners = _owners.now; funcs = _funcs.now }) (length _words.now.items) at.base result }
     ensures leads { Leads (record { instrs = instrs.now; owners = _owners.now; funcs = _funcs.now }) (length _words.now.items) at.pc at.base result }
 {
     instrs[at.pc]
 }
 
-/// Does one instruction. The place in the answer is that of the next one, or where the run ended.
+/// Does one instruction, where the stack may have at most so many words. The place in the answer is that of the next one,
+/// or where the run ended.
 #[inline(always)]
 pub fn step<O: Sink>(
+    alloc: Global,
     instrs: &[Instr],
     owners: &[u16],
     funcs: &[Func],
     words: &mut Vec<u64>,
+    stack_max: u64,
     at: Place,
     out: &mut O,
 ) -> Next
     requires code { IsCode (record { instrs = instrs.now; owners = owners.now; funcs = funcs.now }) }
-    requires words { length words.old.items ≤ 2 ^ 32 }
+    requires words { (length words.old.items ≤ stack_max) × (stack_max ≤ 2 ^ 32) }
     requires inside { Inside (record { instrs = instrs.now; owners = owners.now; funcs = funcs.now }) (length words.old.items) at.pc at.base }
     requires place { (at.pc < length instrs.now) × (length instrs.now < 2 ^ 40) }
-    ensures step { Answers (act (record { instrs = instrs.now; owners = owners.now; funcs = funcs.now }) (state_of words.old.items at)) (state_of words.new.items result.at) result.ending
+    ensures step { Answers (act (record { instrs = instrs.now; owners = owners.now; funcs = funcs.now }) stack_max (state_of words.old.items at)) (state_of words.new.items result.at) result.ending
         (O.taken out.old) (O.taken out.new) (O.faults out.old) (O.faults out.new) }
     ensures later { O.faults out.old ≤ O.faults out.new }
     ensures stays { result.ending ≡ None → Inside (record { instrs = instrs.now; owners = owners.now; funcs = funcs.now }) (length words.new.items) result.at.pc result.at.base }
-    ensures length { length words.new.items ≡ length words.old.items }
+    ensures length { length words.new.items ≤ stack_max }
+    ensures memory { result.ending ≡ Some Ending.NoMemory → Asks (record { instrs = instrs.now; owners = owners.now; funcs = funcs.now }) at × Took (O.taken out.old) (O.taken out.new) [] × (words.new ≡ words.old) }
 {
     let base = at.base;
     match fetch(instrs, owners, funcs, words, at) {
         Instr::Const { a, word } => {
-            set_slot(words, base, a, word);
-            on(at)
+            set_slot(words, base, a as usize, word);
+            Next::on(at)
         }
         Instr::Move { a, b } => {
-            let word = slot(words, base, b);
-            set_slot(words, base, a, word);
-            on(at)
+            let word = slot(words, base, b as usize);
+            set_slot(words, base, a as usize, word);
+            Next::on(at)
         }
         Instr::Bin { op, a, b, c } => {
-            let word = bin(op, slot(words, base, b), slot(words, base, c));
-            set_slot(words, base, a, word);
-            on(at)
+            let word = bin(
+                op,
+                slot(words, base, b as usize),
+                slot(words, base, c as usize),
+            );
+            set_slot(words, base, a as usize, word);
+            Next::on(at)
         }
         Instr::Negate { a, b } => {
-            let word = negate(slot(words, base, b));
-            set_slot(words, base, a, word);
-            on(at)
+            let word = negate(slot(words, base, b as usize));
+            set_slot(words, base, a as usize, word);
+            Next::on(at)
         }
-        Instr::Jump { to } => led(at, to),
+        Instr::Jump { to } => Next::to(to as usize, base),
         Instr::JumpZero { a, to } => {
-            if slot(words, base, a) == 0 {
-                led(at, to)
+            if slot(words, base, a as usize) == 0 {
+                Next::to(to as usize, base)
             } else {
-                on(at)
+                Next::on(at)
+            }
+        }
+        Instr::Call { func } => {
+            let frame = own_frame(instrs, owners, funcs, words, at);
+            let callee = callee(instrs, owners, funcs, words, base, func);
+            call(alloc, words, stack_max, at, frame, callee)
+        }
+        Instr::Argument { a, b } => {
+            let frame = own_frame(instrs, owners, funcs, words, at);
+            match incoming(words, stack_max, base, frame, b) {
+                Ok(index) => {
+                    let word = slot(words, base, index);
+                    set_slot(words, base, a as usize, word);
+                    Next::on(at)
+                }
+                Err(ending) => Next::ended(at, ending),
+            }
+        }
+        Instr::SetResult { a, b } => {
+            let frame = own_frame(instrs, owners, funcs, words, at);
+            match incoming(words, stack_max, base, frame, b) {
+                Ok(index) => {
+                    let word = slot(words, base, a as usize);
+                    set_slot(words, base, index, word);
+                    Next::on(at)
+                }
+                Err(ending) => Next::ended(at, ending),
             }
         }
         Instr::PrintInt { a } => put_slot(words, at, a, out),
@@ -217,7 +213,16 @@ pub fn step<O: Sink>(
         }
         Instr::Return => {
             let frame = own_frame(instrs, owners, funcs, words, at);
-            ended(at, leave(words, at, frame))
+            leave(
+                instrs,
+                owners,
+                funcs,
+                words,
+                stack_max,
+                at,
+                owners[at.pc],
+                frame,
+            )
         }
     }
 }

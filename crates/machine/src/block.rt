@@ -1,0 +1,55 @@
+//! The block of words that holds the stack at its upper end.
+ghost use Rattle.std.specs.Prelude.{◌≡◌, ◌+◌, ◌-◌, ◌<◌, ◌≤◌, ◌^◌, length, drop, IfOk, OnErr};
+
+use base::NoMemory;
+use std::alloc::Global;
+use std::cmp::{max, min};
+
+// Doubles a block at its low end, or more where so many words would not have room below an index, or less where the block
+// would have more than so many. The answer is where that index is then.
+#[inline(never)]
+fn extend(
+    alloc: Global,
+    block: &mut Vec<u64>,
+    base: usize,
+    need: usize,
+    stack_max: u64,
+) -> Result<usize, NoMemory>
+    requires sizes { (base ≤ length block.old.items) × (length block.old.items ≤ stack_max) × (stack_max ≤ 2 ^ 32) }
+    requires fits { length block.old.items - base + need ≤ stack_max }
+    ensures room { IfOk result (λ b. (need ≤ b) × (b ≤ length block.new.items) × (length block.new.items ≤ stack_max)) }
+    ensures words { IfOk result (λ b. drop b block.new.items ≡ drop base block.old.items) }
+    ensures same { OnErr result (block.new ≡ block.old) }
+{
+    let used = block.len() - base;
+    let long = min(max(2 * block.len(), used + need), stack_max as usize);
+    let below = long - used;
+    let mut wide = Vec::with_capacity(alloc, long)?;
+    wide.resize(below, 0)?;
+    wide.extend_from_slice(&block[base..])?;
+    *block = wide;
+    Ok(below)
+}
+
+/// Makes room for so many words below an index of a block that may have at most so many. The answer is where that index
+/// is then. Where memory is refused, the block is as it was.
+#[inline(always)]
+pub fn make_room(
+    alloc: Global,
+    block: &mut Vec<u64>,
+    base: usize,
+    need: usize,
+    stack_max: u64,
+) -> Result<usize, NoMemory>
+    requires sizes { (base ≤ length block.old.items) × (length block.old.items ≤ stack_max) × (stack_max ≤ 2 ^ 32) }
+    requires fits { length block.old.items - base + need ≤ stack_max }
+    ensures room { IfOk result (λ b. (need ≤ b) × (b ≤ length block.new.items) × (length block.new.items ≤ stack_max)) }
+    ensures words { IfOk result (λ b. drop b block.new.items ≡ drop base block.old.items) }
+    ensures same { OnErr result (block.new ≡ block.old) }
+    ensures refused { OnErr result (base < need) }
+{
+    if need <= base {
+        return Ok(base);
+    }
+    extend(alloc, block, base, need, stack_max)
+}

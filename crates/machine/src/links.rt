@@ -1,0 +1,186 @@
+//! Calls and returns.
+ghost use Rattle.std.specs.Prelude.{◌≡◌, ◌≢◌, ◌↔◌, ◌+◌, ◌-◌, ◌<◌, ◌≤◌, ◌^◌, length, drop, slice_get, IsTrue, Some, None, []};
+ghost use Rattle.simulation.specs.Steps.{Stops};
+ghost use Rattle.isa.specs.Code.{Tables, IsCode};
+ghost use Rattle.machine.specs.Machine.{address_of, zeroed, entered, calls, exits, returns, follows_call, frame_of, owner_of};
+ghost use Rattle.machine.specs.Inside.{Inside};
+ghost use Rattle.machine.specs.Answers.{Comes, state_of};
+
+use crate::block::make_room;
+use crate::place::{Ending, Next, Place};
+use crate::slots::{set_slot, slot};
+use isa::{Func, Instr};
+use std::alloc::Global;
+
+const STACK_START: u64 = 1 << 40;
+
+/// The address of the place that lies so many words below the upper end of a stack of at most so many words.
+#[inline(always)]
+pub fn address(stack_max: u64, distance: usize) -> u64
+    requires { (distance ≤ stack_max) × (stack_max ≤ 2 ^ 32) }
+    ensures { result ≡ address_of stack_max distance }
+{
+    STACK_START + stack_max - distance as u64
+}
+
+/// The words of the frame of a place's function.
+#[inline(always)]
+pub fn frame_at(instrs: &[Instr], owners: &[u16], funcs: &[Func], place: usize) -> usize
+    requires code { IsCode (record { instrs = instrs.now; owners = owners.now; funcs = funcs.now }) }
+    requires place { place < length instrs.now }
+    ensures is { let t : Tables = record { instrs = instrs.now; owners = owners.now; funcs = funcs.now } in result ≡ frame_of t (owner_of t place) }
+    ensures small { result < 2 ^ 16 }
+    ensures linked { 2 ≤ result }
+{
+    let _ = instrs;
+    funcs[owners[place] as usize].frame as usize
+}
+
+// So many words of the frame, from a slot on, are zero.
+#[inline(always)]
+fn clear(words: &mut Vec<u64>, base: usize, from: usize, count: usize)
+    requires { base + (from + count) ≤ length words.old.items }
+    ensures words { drop base words.new.items ≡ zeroed (drop base words.old.items) from count }
+    ensures length { length words.new.items ≡ length words.old.items }
+{
+    words[base + from..base + from + count].fill(0);
+}
+
+// A frame of so many words stands below an index, and the answer is its lowest word's.
+#[inline(always)]
+fn push(words: &mut Vec<u64>, base: usize, frame: usize, link: u64, ret: u64) -> usize
+    requires room { (2 ≤ frame) × (frame ≤ base) × (base ≤ length words.old.items) }
+    ensures is { result ≡ base - frame }
+    ensures words { drop (base - frame) words.new.items ≡ entered frame link ret (drop base words.old.items) }
+    ensures length { length words.new.items ≡ length words.old.items }
+{
+    let low = base - frame;
+    words[low..base - 2].fill(0);
+    set_slot(words, low, frame - 2, link);
+    set_slot(words, low, frame - 1, ret);
+    low
+}
+
+/// Calls a function from a frame of so many words.
+#[inline(always)]
+pub fn call(
+    alloc: Global,
+    words: &mut Vec<u64>,
+    stack_max: u64,
+    at: Place,
+    frame: usize,
+    callee: Func,
+) -> Next
+    requires words { (length words.old.items ≤ stack_max) × (stack_max ≤ 2 ^ 32) }
+    requires frame { at.base + frame ≤ length words.old.items }
+    requires callee { (2 ≤ callee.frame) × (at.base + (callee.arguments + callee.results) ≤ length words.old.items) }
+    requires place { at.pc < 2 ^ 40 }
+    ensures calls { Comes (calls stack_max frame (Some callee) (state_of words.old.items at)) (state_of words.new.items result.at) result.ending }
+    ensures entered { result.ending ≡ None → (result.at.pc ≡ callee.start) × (result.at.base + callee.frame ≤ length words.new.items) }
+    ensures length { length words.new.items ≤ stack_max }
+    ensures refused { result.ending ≡ Some Ending.NoMemory → (at.base < callee.frame) × (words.new ≡ words.old) }
+{
+    let asked = callee.frame as usize;
+    let used = words.len() - at.base;
+    if used + asked > stack_max as usize {
+        return Next::ended(
+            at,
+            Ending::StackLimit {
+                used: used as u64,
+                asked: asked as u64,
+                limit: stack_max,
+            },
+        );
+    }
+    match make_room(alloc, words, at.base, asked, stack_max) {
+        Ok(base) => {
+            clear(
+                words,
+                base,
+                callee.arguments as usize,
+                callee.results as usize,
+            );
+            let link = address(stack_max, used - frame);
+            let low = push(words, base, asked, link, (at.pc + 1) as u64);
+            Next::to(callee.start as usize, low)
+        }
+        Err(_) => Next::ended(at, Ending::NoMemory),
+    }
+}
+
+// Whether a place stands behind a call of a function.
+#[inline(always)]
+fn follows(instrs: &[Instr], _owners: &[u16], _funcs: &[Func], f: u16, ret: u64) -> bool
+    ensures is { result ≡ follows_call (record { instrs = instrs.now; owners = _owners.now; funcs = _funcs.now }) f ret }
+    ensures inside { IsTrue result → (0 < ret) × (ret ≤ length instrs.now) }
+    ensures named { IsTrue result → slice_get instrs.now (ret - 1) ≡ Some (Instr.Call f) }
+{
+    if ret == 0 || ret > instrs.len() as u64 {
+        return false;
+    }
+    match instrs[(ret - 1) as usize] {
+        Instr::Call { func } => func == f,
+        _ => false,
+    }
+}
+
+// How the first frame's return ends.
+#[inline(always)]
+fn exit(ret: u64, link: u64) -> Ending
+    ensures exits { exits ret link ≡ Stops [] result }
+    ensures memory { result ≢ Ending.NoMemory }
+    ensures write { result ≢ Ending.WriteFault }
+{
+    if ret != 0 {
+        return Ending::WildReturn(ret);
+    }
+    if link != 0 {
+        return Ending::WildLink(link);
+    }
+    Ending::Exit(0)
+}
+
+// Whether a link is the address behind a frame that ends at an index of the block.
+#[inline(always)]
+fn links(words: &Vec<u64>, stack_max: u64, outer: usize, link: u64) -> bool
+    requires { (length words.now.items ≤ stack_max) × (stack_max ≤ 2 ^ 32) }
+    ensures { IsTrue result ↔ (outer ≤ length words.now.items) × (link ≡ address_of stack_max (length words.now.items - outer)) }
+{
+    outer <= words.len() && link == address(stack_max, words.len() - outer)
+}
+
+/// Returns from a function whose frame has so many words.
+#[inline(always)]
+pub fn leave(
+    instrs: &[Instr],
+    owners: &[u16],
+    funcs: &[Func],
+    words: &Vec<u64>,
+    stack_max: u64,
+    at: Place,
+    f: u16,
+    frame: usize,
+) -> Next
+    requires code { IsCode (record { instrs = instrs.now; owners = owners.now; funcs = funcs.now }) }
+    requires words { (length words.now.items ≤ stack_max) × (stack_max ≤ 2 ^ 32) }
+    requires frame { (2 ≤ frame) × (at.base + frame ≤ length words.now.items) }
+    requires own { frame ≡ frame_of (record { instrs = instrs.now; owners = owners.now; funcs = funcs.now }) f }
+    ensures returns { Comes (returns (record { instrs = instrs.now; owners = owners.now; funcs = funcs.now }) stack_max f (state_of words.now.items at)) (state_of words.now.items result.at) result.ending }
+    ensures stays { result.ending ≡ None → Inside (record { instrs = instrs.now; owners = owners.now; funcs = funcs.now }) (length words.now.items) result.at.pc result.at.base }
+    ensures memory { result.ending ≢ Some Ending.NoMemory }
+{
+    let ret = slot(words, at.base, frame - 1);
+    let link = slot(words, at.base, frame - 2);
+    let end = at.base + frame;
+    if end == words.len() {
+        return Next::ended(at, exit(ret, link));
+    }
+    if !follows(instrs, owners, funcs, f, ret) {
+        return Next::ended(at, Ending::WildReturn(ret));
+    }
+    let above = frame_at(instrs, owners, funcs, (ret - 1) as usize);
+    if !links(words, stack_max, end + above, link) {
+        return Next::ended(at, Ending::WildLink(link));
+    }
+    Next::to(ret as usize, end)
+}
