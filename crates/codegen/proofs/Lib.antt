@@ -1,3 +1,4 @@
+pub mod Compiled
 pub mod Sizes
 pub mod Suffice
 pub mod Follows

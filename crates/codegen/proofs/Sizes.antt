@@ -72,24 +72,3 @@ mutual
   pub length_sts : (t : ℕ) (ss : Sts) (pc : ℕ) → length (sts_code t ss pc) ≡ sts_size ss
   length_sts t done pc = refl
   length_sts t (next s ss) pc = omega (arith, length-append (st_code t s pc) (sts_code t ss (pc + st_size s)), length_st t s pc, length_sts t ss (pc + st_size s))
-
--- these instructions stand at this place
-abbrev pub HasAt : List Instr → ℕ → List Instr → Type 0
-HasAt code pc [] = Unit {0}
-HasAt code pc (i ∷ is) = (slice_get code pc ≡ Some i) × HasAt code (pc + 1) is
-
-pub has_front : (code : List Instr) (pc : ℕ) (a b : List Instr) → HasAt code pc (a ++ b) → HasAt code pc a
-has_front code pc [] b h = tt
-has_front code pc (i ∷ a) b h = (h.0, has_front code (pc + 1) a b h.1)
-
-pub has_back : (code : List Instr) (pc n : ℕ) (a b : List Instr) → length a ≡ n → HasAt code pc (a ++ b) → HasAt code (pc + n) b
-has_back code pc n [] b e h = let f : pc ≡ pc + n = omega arith in subst (λ n. HasAt code n b) f h
-has_back code pc zero (i ∷ a) b e h = absurd (omega arith)
-has_back code pc (suc n) (i ∷ a) b e h =
-    let f : pc + 1 + n ≡ pc + suc n = omega arith in
-    subst (λ n. HasAt code n b) f (has_back code (pc + 1) n a b (omega arith) h.1)
-
--- the tables hold the code of these statements, and each place of it belongs to a frame of n sites and t temps
-pub record Compiled (n t : ℕ) (ss : Sts) (code : Tables) : Type 0 where
-  pub stands : HasAt code.instrs 0 (body_code t ss)
-  pub frame : (pc : ℕ) → frame_of code (owner_of code pc) ≡ 2 + n + t
