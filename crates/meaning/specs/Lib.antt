@@ -3,3 +3,5 @@ pub mod Store
 pub mod Operators
 pub mod Meaning
 pub mod Output
+pub mod Journal
+pub mod Laws

@@ -13,5 +13,8 @@
 //! are the states in which evaluations begin and end, for the invariants that speak of all of them.
 //!
 //! The definitions stand in `specs/`: the trace and the journal's entries, the store, the operators, the evaluator,
-//! and what a run shows under limits.
+//! the journal of a bounded run, and what a run shows to those outside, both alone and under limits. `laws` has what holds of
+//! every run: its proofs are instances of one induction over the syntax, for any family of relations of two traces.
 #![tactic(auto)]
+
+pub mod laws;

@@ -1,0 +1,4 @@
+pub mod Later
+pub mod Family
+pub mod Holding
+pub mod Runs

@@ -1,0 +1,28 @@
+//! Laws of the meaning. Each function carries one as its clause, and does nothing.
+
+ghost use Rattle.meaning.specs.Laws.{FuelIsEnough, LongerCappedExtend, LongerRunsExtend, SourceShowsJournal, VariablesStay};
+
+/// A longer budget only extends the journal, and an ending other than by turns is kept.
+pub fn longer_runs_extend()
+    ensures { LongerRunsExtend }
+{}
+
+/// The same under limits.
+pub fn longer_capped_extend()
+    ensures { LongerCappedExtend }
+{}
+
+/// Only turns end a run early: more fuel changes nothing.
+pub fn fuel_is_enough()
+    ensures { FuelIsEnough }
+{}
+
+/// What those outside see is what the journal prints, under the same limits and with the same ending.
+pub fn source_shows_journal()
+    ensures { SourceShowsJournal }
+{}
+
+/// No variable dies or moves.
+pub fn variables_stay()
+    ensures { VariablesStay }
+{}
