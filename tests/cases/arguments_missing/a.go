@@ -1,0 +1,3 @@
+package main
+func f(a, b int) int { return a }
+func main() { println(f(1)) }

@@ -1,0 +1,3 @@
+package main
+func f(a int, b) {}
+func main() {}
