@@ -1,6 +1,7 @@
 -- What each stage's clauses give the compiler's.
-use Rattle.std.proofs.Common.{◌≡◌, ℕ, ◌≤◌, List, Result, Ok, Err, refl, sym, ap, ◌∙◌, subst, arith}
-use Rattle.std.specs.Prelude.{IfErr}
+use Rattle.std.proofs.Common.{◌≡◌, ℕ, zero, suc, ◌≤◌, Bool, true, false, List, [], ◌∷◌, map, Option, Some, None, Result, Ok, Err, refl, sym, ap, ◌∙◌, subst, arith}
+use Rattle.std.specs.Prelude.{IfErr, nat_lt, slice_get, if◌then◌else◌}
+use Rattle.std.proofs.lemmas.Bool.{le-ltb, ltb-false}
 use Rattle.std.specs.Result.{IsErrAnd}
 use Rattle.compile.specs.Compiled.{OnlyCompiled}
 use Rattle.compile.specs.declared.compiling.Compiled.{Compiled}
@@ -17,17 +18,47 @@ use Rattle.parse_go.specs.Faults.{GivesTree}
 use Rattle.types_go.specs.declared.fault.TypeFault.{TypeFault}
 use Rattle.types_go.specs.declared.fault.TypeFault.TheVariants as typing
 use Rattle.types_go.specs.Checked.{Types, Reports, OnlyProgram}
-use Rattle.typed.specs.Syntax.{Program}
-use Rattle.typed.specs.View.{program_of}
+use Rattle.typed.specs.Syntax.{Func, Program}
+use Rattle.typed.specs.View.{func_of, program_of}
 use Rattle.typed.specs.Frames.{frame_of}
+use Rattle.typed.specs.declared.program.Func.{Func as FuncData}
 use Rattle.typed.specs.declared.program.Program.{Program as ProgramData}
 use Rattle.frame_layout.specs.declared.fault.LayoutFault.{LayoutFault}
 use Rattle.frame_layout.specs.declared.fault.LayoutFault.TheVariants as layout
-use Rattle.frame_layout.specs.Layout.{IsTooLarge}
-use Rattle.compile.specs.Accepted.{HasTree, HasProgram, Accepted, Refuses}
+use Rattle.frame_layout.specs.Layout.{Large, or_else, first_too_large, IsTooLarge}
+use Rattle.compile.specs.Accepted.{HasTree, HasProgram, Accepted, StandAtNames, Refuses}
 use Rattle.compile.specs.Faults.{of_scan, of_parse, of_typing, of_layout}
 use Rattle.compile.specs.declared.fault.CompileFault.{CompileFault}
 use Rattle.compile.specs.declared.fault.CompileFault.TheVariants.{NoMemory}
+
+-- all frames keep the size
+record Fits (fs gs : List Func) : Type 0 where
+  all : (f : ℕ) (func : Func) → slice_get gs f ≡ Some func → frame_of fs func ≤ 65535
+
+none_large : (fs : List Func) (gs : List FuncData) → ((f : ℕ) (func : Func) → slice_get (map func_of gs) f ≡ Some func → frame_of fs func ≤ 65535) → first_too_large fs gs ≡ None
+none_large fs [] fits = refl
+none_large fs (g ∷ gs) fits =
+    let small : nat_lt 65535 (frame_of fs (func_of g)) ≡ false = le-ltb 65535 (frame_of fs (func_of g)) (fits 0 (func_of g) refl) in
+    ap (λ (b : Bool). or_else (if b then Some (record { pos = g.pos; words = frame_of fs (func_of g) }) else None) (first_too_large fs gs)) small
+    ∙ none_large fs gs (λ f func is. fits (suc f) func is)
+
+or_none : (k l : Option Large) → or_else k l ≡ None → (k ≡ None) × (l ≡ None)
+or_none None l h = (refl, h)
+or_none (Some k) l h = absurd cc
+
+not_large : (test : Bool) (k : Large) → (if test then Some k else None) ≡ None → test ≡ false
+not_large true k h = absurd cc
+not_large false k h = refl
+
+-- where no frame is too large, all keep the size
+pub fits_all : (fs : List Func) (gs : List FuncData) → first_too_large fs gs ≡ None → (f : ℕ) (func : Func) → slice_get (map func_of gs) f ≡ Some func → frame_of fs func ≤ 65535
+fits_all fs [] none f func is = absurd cc
+fits_all fs (g ∷ gs) none zero func is =
+    let both = or_none _ (first_too_large fs gs) none in
+    let small = not_large (nat_lt 65535 (frame_of fs (func_of g))) _ both.0 in
+    let same : func_of g ≡ func = cc in
+    subst (λ (h : Func). frame_of fs h ≤ 65535) same (ltb-false 65535 (frame_of fs (func_of g)) small)
+fits_all fs (g ∷ gs) none (suc f) func is = fits_all fs gs (or_none _ (first_too_large fs gs) none).1 f func is
 
 module _ (text : List ℕ) where
   -- the scanner: an accepted text has tokens
@@ -64,13 +95,14 @@ module _ (text : List ℕ) where
       pub program_only : (q : ProgramData) → ((p : Program) → Types tree p → program_of q ≡ p) → (p : Program) → Accepted text p → program_of q ≡ p
       program_only q only p a = only p (same_types p a.program)
 
-      -- the layout: an accepted text's frame fits
-      pub layout_only : (q : ProgramData) (f : LayoutFault) → ((p : Program) → Types tree p → program_of q ≡ p) → IsTooLarge q f → (p : Program) → Accepted text p → of_layout f ≡ NoMemory
+      -- the layout: an accepted text's frames fit
+      pub layout_only : (q : ProgramData) (f : LayoutFault) → ((p : Program) → Types tree p → program_of q ≡ p) → IsTooLarge (first_too_large (program_of q).funcs q.funcs.items) f → (p : Program) → Accepted text p → of_layout f ≡ NoMemory
       layout_only q layout.NoMemory only large p a = refl
       layout_only q (layout.FrameTooLarge at words) only large p a =
           let is : program_of q ≡ p = program_only q only p a in
-          let fits : frame_of p ≤ 65535 = a.fits in
-          absurd (omega (arith, ap frame_of is, large.0))
+          let fits : Fits (program_of q).funcs (program_of q).funcs = subst (λ (r : Program). Fits r.funcs r.funcs) (sym is) (record { all = a.fits }) in
+          let none = none_large (program_of q).funcs q.funcs.items fits.all in
+          absurd (let e = sym none ∙ large in cc)
 
   -- what the checker refuses
   pub type_refuses : (tree : Syntax) (f : TypeFault) → HasTree text tree → Reports tree f → Refuses text (of_typing f)
@@ -78,9 +110,9 @@ module _ (text : List ℕ) where
   type_refuses tree (typing.Fault f) has least = record { tree = tree; has = has; least = least; fault = λ e. cc e }
 
   -- what the layout refuses
-  pub layout_refuses : (tree : Syntax) (q : ProgramData) (f : LayoutFault) → HasTree text tree → Types tree (program_of q) → q.main.pos ≡ tree.main → IsTooLarge q f → Refuses text (of_layout f)
-  layout_refuses tree q layout.NoMemory has types main large = tt
-  layout_refuses tree q (layout.FrameTooLarge at words) has types main large = record { tree = tree; has = has; program = q; types = types; main = main; large = large; fault = λ e. cc e }
+  pub layout_refuses : (tree : Syntax) (q : ProgramData) (f : LayoutFault) → HasTree text tree → Types tree (program_of q) → StandAtNames q tree → IsTooLarge (first_too_large (program_of q).funcs q.funcs.items) f → Refuses text (of_layout f)
+  layout_refuses tree q layout.NoMemory has types names large = tt
+  layout_refuses tree q (layout.FrameTooLarge at words) has types names large = record { tree = tree; has = has; program = q; types = types; names = names; large = large; fault = λ e. cc e }
 
 -- a stage's fault that came through, as the compiler's answer
 pub only_err : (r : Result Compiled CompileFault) (e : CompileFault) → IsErrAnd r (λ x. x ≡ e) → (p : Program) → e ≡ NoMemory → OnlyCompiled r p

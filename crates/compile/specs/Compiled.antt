@@ -12,11 +12,11 @@ use Rattle.compile.specs.declared.fault.CompileFault.TheVariants.{NoMemory}
 abbrev pub compiled_program : Compiled → Program
 compiled_program c = program_of c.program
 
--- the code does what the program means, turn by turn, from a frame of these words
+-- the layouts are the program's, and the code does what the program means, turn by turn, from the entry of `main`
 pub record Does (c : Compiled) : Type 0 where
-  pub frame : c.layout.frame ≡ frame_of (compiled_program c)
-  pub code : Simulated (compiled_program c) c.code (frame_of (compiled_program c))
-  pub starts : Inside c.code (frame_of (compiled_program c)) 0 0
+  pub layouts : c.layouts ≡ layouts (compiled_program c)
+  pub code : Simulated (compiled_program c) c.code
+  pub starts : Starts c.code (compiled_program c).main
   pub small : length c.code.instrs < 2 ^ 40
 
 -- this program was answered, or memory was refused

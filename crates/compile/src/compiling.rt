@@ -7,7 +7,7 @@ ghost use Rattle.compile.specs.Compiled.{Does, OnlyCompiled, compiled_program};
 
 use crate::fault::CompileFault;
 use codegen::emit;
-use frame_layout::{Layout, layout_of};
+use frame_layout::{Layouts, layout_of};
 use isa::Code;
 use parse_go::parse;
 use scan_go::scan;
@@ -15,11 +15,11 @@ use std::alloc::Global;
 use typed::Program;
 use types_go::check;
 
-/// A compiled text: its typed program, the words of its frame, and its code.
+/// A compiled text: its typed program, the words of its frames, and its code.
 #[derive(Drop)]
 pub struct Compiled {
     pub program: Program,
-    pub layout: Layout,
+    pub layouts: Layouts,
     pub code: Code,
 }
 
@@ -38,11 +38,11 @@ pub fn compile(alloc: Global, text: &[u8]) -> Result<Compiled, CompileFault>
     let tokens = scan(alloc, text)?;
     let tree = parse(alloc, &tokens)?;
     let program = check(alloc, &tree)?;
-    let layout = layout_of(&program)?;
-    let code = emit(alloc, &program, layout.temps)?;
+    let layouts = layout_of(alloc, &program)?;
+    let code = emit(alloc, &program, &layouts)?;
     Ok(Compiled {
         program,
-        layout,
+        layouts,
         code,
     })
 }

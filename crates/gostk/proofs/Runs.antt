@@ -30,10 +30,10 @@ told p b max steps result old new before now m n h =
 some_reading : Reading
 some_reading = (some_item, [])
 
-module _ (p : Program) (code : Tables) (frame : ℕ) (b : Bounds) (s : Simulated p code frame) (old new : Option (List ℕ)) (before now : ℕ) where
+module _ (p : Program) (code : Tables) (b : Bounds) (s : Simulated p code) (old new : Option (List ℕ)) (before now : ℕ) where
   early : (r : Reading) (x : Ending) → ending_in (few_turns p b r) ≡ Some x → few_turns p b r ≡ all_turns p b r
   early r x e =
-      joined (few_turns p b r) (target code frame b.stack_max b.steps) (all_turns p b r)
+      joined (few_turns p b r) (target code p.main b.stack_max b.steps) (all_turns p b r)
       (s.at_least r.0 r.1 b.stack_max (b.steps / 16) b.steps (omega arith)) (s.at_most r.0 r.1 b.stack_max b.steps) x e
 
   pub ended : (status : ℕ) → Told p b.stack_max b.steps (Ok status) old new before now → Ran p b (answer.Ended status) old new before now
@@ -52,5 +52,5 @@ module _ (p : Program) (code : Tables) (frame : ℕ) (b : Bounds) (s : Simulated
   pub failed : Told p b.stack_max b.steps (Err Fault.WriteFault) old new before now → Ran p b answer.WriteFault old new before now
   failed h = record { took = λ r. (h r.0 r.1).0; rose = (h some_item []).1 }
 
-  pub not_begun : Told p b.stack_max b.steps (Err Fault.NoMemory) old new before now → Ran p b answer.NoMemory old new before now
-  not_begun h = h some_item []
+  pub refused : Told p b.stack_max b.steps (Err Fault.NoMemory) old new before now → Ran p b answer.NoMemory old new before now
+  refused h = record { took = λ r. h r.0 r.1 }

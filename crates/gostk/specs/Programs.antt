@@ -45,6 +45,10 @@ pub record GoesOn (p : Program) (b : Bounds) (old new : Option (List ℕ)) : Typ
   pub goes_on : (r : Reading) → ending_in (few_turns p b r) ≡ None
   pub took : (r : Reading) → Between (output (few_turns p b r)) (output (all_turns p b r)) old new
 
+-- out took a front part of what the source prints within the turns
+pub record PrintedFront (p : Program) (b : Bounds) (old new : Option (List ℕ)) : Type 0 where
+  pub took : (r : Reading) → TookPrefix old new (output (all_turns p b r))
+
 -- out failed, and took a front part of what the source prints within the turns
 pub record PrintedPart (p : Program) (b : Bounds) (old new : Option (List ℕ)) (before now : ℕ) : Type 0 where
   pub took : (r : Reading) → TookPrefix old new (output (all_turns p b r))

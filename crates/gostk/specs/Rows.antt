@@ -11,7 +11,7 @@ use Rattle.meaning.specs.Trace as source
 use Rattle.meaning.specs.Output.{output}
 use Rattle.gostk.specs.Answer.{status_of, line_of, limits_line, steps_line, stack_line}
 use Rattle.compile.specs.Accepted.{Accepted}
-use Rattle.gostk.specs.Programs.{EndsBy, GoesOn, PrintedPart, Reading, Refuses, few_turns, all_turns}
+use Rattle.gostk.specs.Programs.{EndsBy, GoesOn, PrintedFront, PrintedPart, Reading, Refuses, few_turns, all_turns}
 use Rattle.gostk.specs.Refusal.{refusal_line}
 use Rattle.gostk.specs.Words.{bounds_of, Asks, IsUsage, IsOffLimits, IsNoSource}
 use Rattle.gostk.specs.declared.answer.Answer.{Answer}
@@ -77,7 +77,8 @@ Allowed old new words (Steps n) =
     (p : Program) × IsRunOf p old new words × GoesOn p (bounds_of words) old.taken new.taken × (n ≡ (bounds_of words).steps)
 Allowed old new words (StackLimit used asked limit) =
     (p : Program) × IsRunOf p old new words × EndsBy p (bounds_of words) (source.StackLimit used asked limit) old.taken new.taken
-Allowed old new words NoMemory = IsUntouched old new
+Allowed old new words NoMemory =
+    IsUntouched old new ⊎ ((p : Program) × IsRunOf p old new words × PrintedFront p (bounds_of words) old.taken new.taken)
 
 -- the status is the answer's and err took its line, or err failed and took a prefix of it
 abbrev pub Reported : Answer → ℕ → Option (List ℕ) → Option (List ℕ) → ℕ → ℕ → Type 0
@@ -155,9 +156,9 @@ pub record StackPassed (old new : Seen) (words : List (List ℕ)) (err err' : Op
   pub out : EndsBy program (bounds_of words) (source.StackLimit used asked limit) old.taken new.taken
   pub line : Took err err' (stack_line used asked limit)
 
--- 209: nothing was written but the line
+-- 209: nothing was written but the line; or the text is accepted, and out took a front part of what its program prints
 pub record MemoryRefused (old new : Seen) (words : List (List ℕ)) (err err' : Option (List ℕ)) : Type 0 where
-  pub untouched : IsUntouched old new
+  pub when : IsUntouched old new ⊎ ((p : Program) × IsRunOf p old new words × PrintedFront p (bounds_of words) old.taken new.taken)
   pub line : Took err err' (codes "gostk: no memory\n")
 
 -- the status is this one, or err failed
@@ -217,13 +218,13 @@ Ran p b (Ended status) old new before now = EndsBy p b (source.Exit status) old 
 Ran p b (Steps n) old new before now = GoesOn p b old new × (n ≡ b.steps)
 Ran p b (StackLimit used asked limit) old new before now = EndsBy p b (source.StackLimit used asked limit) old new
 Ran p b WriteFault old new before now = PrintedPart p b old new before now
-Ran p b NoMemory old new before now = Took old new []
+Ran p b NoMemory old new before now = PrintedFront p b old new
 Ran p b answer old new before now = ⊥
 
 -- what a run of a text leaves, by its answer
 abbrev pub RanText : (file text : List ℕ) → Bounds → Answer → Option (List ℕ) → Option (List ℕ) → ℕ → ℕ → Type 0
 RanText file text b (Refused name refusal) old new before now = (name.now ≡ file) × Refuses text refusal × IsNoText text × Took old new []
-RanText file text b NoMemory old new before now = Took old new []
+RanText file text b NoMemory old new before now = Took old new [] ⊎ ((p : Program) × IsTextOf text p × PrintedFront p b old new)
 RanText file text b answer old new before now = (p : Program) × IsTextOf text p × Ran p b answer old new before now
 
 -- what words that are refused come to

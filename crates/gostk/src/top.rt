@@ -26,8 +26,8 @@ fn run_compiled<O: Sink>(
     ensures { Ran (compiled_program compiled.now) limits.now result (O.taken out.old) (O.taken out.new) (O.faults out.old) (O.faults out.new) }
 {
     let steps = limits.steps();
-    let frame = compiled.layout.frame;
-    match run(alloc, &compiled.code, frame, limits.stack_max(), steps, out) {
+    let main = compiled.program.main;
+    match run(alloc, &compiled.code, main, limits.stack_max(), steps, out) {
         Ok(status) => Answer::Ended(status),
         Err(RunFault::Steps) => Answer::Steps(steps),
         Err(RunFault::StackLimit { used, asked, limit }) => Answer::StackLimit {
