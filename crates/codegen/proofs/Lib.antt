@@ -1,5 +1,8 @@
 pub mod Compiled
 pub mod Sizes
+pub mod Changes
+pub mod Frames
+pub mod Distances
 pub mod Suffice
 pub mod Follows
 pub mod Emitted
