@@ -8,7 +8,7 @@ use Rattle.std.proofs.lemmas.Bool.{eq-eqb}
 use Rattle.std.proofs.lemmas.Bool.Decides.{eqb_tells}
 use Rattle.typed.specs.Value.{Value, int, bool}
 use Rattle.typed.specs.Syntax.{Func}
-use Rattle.typed.specs.Form.{InScope}
+use Rattle.typed.specs.Form.{InScope, FuncFits}
 use Rattle.typed.specs.Frames.{outgoing_of, temps_of, frame_of}
 use Rattle.meaning.specs.Trace.{World, Cell}
 use Rattle.meaning.specs.Store.{no_value, no_cell, value_of, written, change, born}
@@ -17,13 +17,16 @@ use Rattle.meaning.specs.Output.{Limits}
 use Rattle.isa.specs.Code.{Tables}
 use Rattle.machine.specs.Machine.{address_of, put_words, entered}
 use Rattle.codegen.specs.Code.{temp, site_slot, slots_of}
+use Rattle.codegen.proofs.Compiled.{Compiled}
 use Rattle.codegen.proofs.Distances.{word_at, word_slot, word_other, word_same, put_length, put_other, put_same, entered_length, entered_link, entered_return, entered_keeps, dropped_length, dropped}
 
--- a program's functions, their code, and the most words that the stack may have
+-- a program's functions in form, their code, and the most words that the stack may have
 pub record Built : Type 0 where
   pub funcs : List Func
   pub code : Tables
   pub max : ℕ
+  pub fits : (f : ℕ) (func : Func) → slice_get funcs f ≡ Some func → FuncFits funcs func
+  pub compiled : Compiled funcs code
 
 -- a value stands as a word
 abbrev pub Stands : Value → ℕ → Type 0

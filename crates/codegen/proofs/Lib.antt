@@ -1,5 +1,7 @@
 pub mod Compiled
 pub mod Sizes
+pub mod Crossing
+pub mod Places
 pub mod Changes
 pub mod Frames
 pub mod Distances
