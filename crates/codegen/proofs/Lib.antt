@@ -1,5 +1,7 @@
 pub mod Compiled
 pub mod Sizes
+pub mod Moves
+pub mod Numbers
 pub mod Crossing
 pub mod Places
 pub mod Changes
