@@ -1,5 +1,6 @@
 pub mod Compiled
 pub mod Sizes
+pub mod Evaluations
 pub mod Moves
 pub mod Numbers
 pub mod Crossing
