@@ -40,7 +40,7 @@ pub one_more : (held : List Value) (v : Value) (h : ℕ) → length held ≡ h �
 one_more held v h e = let one : length (v ∷ []) ≡ 1 = refl in omega (arith, one, length-append held (v ∷ []))
 
 module _ (m : Built) where
-  some_need : (scope : List ℕ) (e : Ex) → ExFits m.funcs scope e → 0 < need m.funcs e
+  pub some_need : (scope : List ℕ) (e : Ex) → ExFits m.funcs scope e → 0 < need m.funcs e
   some_need scope (constant (int z)) fit = omega arith
   some_need scope (constant (bool b)) fit = omega arith
   some_need scope (read p) fit = omega arith

@@ -67,6 +67,10 @@ with_sites c env scope = record { fn = c.fn; func = c.func; place = c.place; ent
 abbrev pub grown : Frame → (site v : ℕ) → Frame
 grown c site v = with_sites c (with_home c.env site v) (site ∷ c.scope)
 
+-- the call with these variables, sites in scope and values held
+abbrev pub during : Frame → Env → List ℕ → List Value → Frame
+during c env scope held = record { fn = c.fn; func = c.func; place = c.place; entry = c.entry; env = env; scope = scope; held = held }
+
 -- a call begins
 abbrev pub fresh : ℕ → Func → ℕ → Frame
 fresh f func entry = record { fn = f; func = func; place = 0; entry = entry; env = λ x. 0; scope = []; held = [] }

@@ -1,5 +1,9 @@
 pub mod Compiled
 pub mod Sizes
+pub mod Returning
+pub mod Landings
+pub mod Printing
+pub mod Conditions
 pub mod Evaluations
 pub mod Moves
 pub mod Numbers
