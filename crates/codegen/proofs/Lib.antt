@@ -1,5 +1,6 @@
 pub mod Compiled
 pub mod Sizes
+pub mod Entering
 pub mod Statements
 pub mod Returning
 pub mod Landings
