@@ -12,10 +12,10 @@ use Rattle.typed.specs.Frames.{outgoing_of, temps_of, frame_of}
 use Rattle.meaning.specs.Trace.{World, Cell}
 use Rattle.meaning.specs.Store.{no_value, no_cell, value_of, written, change, born}
 use Rattle.meaning.specs.Meaning.{Env, with_home}
-use Rattle.machine.specs.Machine.{put_words, words_at, entered}
+use Rattle.machine.specs.Machine.{put_words, entered}
 use Rattle.codegen.specs.Code.{temp, site_slot, slots_of}
 use Rattle.codegen.proofs.Distances.{word_at, word_slot, word_other, word_same, put_length, put_other, put_same, entered_length, entered_link, entered_return, entered_keeps, dropped_length, dropped}
-use Rattle.codegen.proofs.Frames.{Built, Stands, stands_same, AreAt, Frame, hold, placed, with_sites, grown, fresh, numbers, back_of, depth, room_of, steady, depth_is, link_of, Level, Stack, Good, level_keeps, stack_keeps, good_keeps}
+use Rattle.codegen.proofs.Frames.{Built, Stands, stands_same, AreAt, Frame, hold, grown, fresh, back_of, depth, depth_is, link_of, Good, stack_keeps, good_keeps}
 
 pub home_same : (env : Env) (site v : ℕ) → with_home env site v site ≡ v
 home_same env site v = ap (λ b. if b then v else env site) (eq-eqb site site refl)
@@ -23,11 +23,8 @@ home_same env site v = ap (λ b. if b then v else env site) (eq-eqb site site re
 pub home_other : (env : Env) (site v x : ℕ) → x ≢ site → with_home env site v x ≡ env x
 home_other env site v x ne = elim (eqb_tells x site) [ inl p ↦ absurd (ne p.1) | inr p ↦ ap (λ b. if b then v else env x) p.0 ]
 
-get_earlier : (cs : List Cell) (c d : Cell) (v : ℕ) → v < length cs → get_or (cs ++ c ∷ []) v d ≡ get_or cs v d
-get_earlier cs c d v l = get_or_append_left cs (c ∷ []) d v l
-
 pub born_earlier : (w : World) (c : Cell) (v : ℕ) → v < length w.store → value_of (born w c) v ≡ value_of w v
-born_earlier w c v l = ap (λ (x : Cell). x.value) (get_earlier w.store c no_cell v l)
+born_earlier w c v l = ap (λ (x : Cell). x.value) (get_or_append_left w.store (c ∷ []) no_cell v l)
 
 pub born_value : (w : World) (c : Cell) → value_of (born w c) (length w.store) ≡ c.value
 born_value w c = ap (λ (x : Cell). x.value) (get_or-append_seam w.store c [] no_cell)
@@ -155,10 +152,6 @@ module _ (m : Built) where
     );
   }
 
-  -- a slot's word, by its number
-  pub slot_word : (c : Frame) (calls : List Frame) (w : World) (words : List ℕ) (a : ℕ) → a ≤ depth m (c ∷ calls) → Good m (c ∷ calls) w words → word_at words (depth m (c ∷ calls) - a) ≡ slice_index words a
-  slot_word c calls w words a le g = word_slot words (depth m (c ∷ calls)) a g.long le
-
   -- a temp's value
   pub held_word : (c : Frame) (calls : List Frame) (w : World) (words : List ℕ) (held more : List Value) (v : Value) (h : ℕ) → length held ≡ h → Good m (hold c (held ++ v ∷ more) ∷ calls) w words → Stands v (slice_index words (temp (slots_of m.funcs c.func) h))
   held_word c calls w words held more v h hh g =
@@ -273,7 +266,7 @@ module _ (m : Built) where
         link = let n = s.among v i in other (depth m calls + 2) (omega arith) ∙ s.link;
       },
       stack_keeps m c.entry c.entry calls w (written w (c.env v) [] y) words (slice_set words slot x) (omega arith)
-      (λ u l. change_other w.store (c.env v) u y (λ k. let h = s.homes v i in absurd (omega arith))) (λ d l. let n = s.among v i in let k = depth_is m calls in other d (omega arith)) g.stack.1,
+          (λ u l. change_other w.store (c.env v) u y (λ k. let h = s.homes v i in absurd (omega arith))) (λ d l. let n = s.among v i in let k = depth_is m calls in other d (omega arith)) g.stack.1,
     );
   }
     where

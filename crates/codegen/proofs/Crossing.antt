@@ -1,32 +1,29 @@
 -- The rules of a call and of a return.
-use Rattle.std.proofs.Common.{◌≡◌, ◌≢◌, inl, inr, ◌⊎◌, ℕ, zero, suc, ◌+◌, ◌-◌, ◌<◌, ◌≤◌, Bool, true, false, List, [], ◌∷◌, ◌++◌, length, replicate, Some, refl, sym, ap, ◌∙◌, subst, arith, get_or}
-use Rattle.std.specs.Prelude.{slice_get, slice_index, slice_set, if◌then◌else◌, nat_le, nat_lt, ◌==◌, ◌&&◌, not, drop, Option}
+use Rattle.std.proofs.Common.{◌≡◌, ◌≢◌, inl, inr, ℕ, suc, ◌+◌, ◌-◌, ◌<◌, ◌≤◌, Bool, true, false, List, [], ◌∷◌, length, replicate, Some, refl, sym, ap, ◌∙◌, subst, arith}
+use Rattle.std.specs.Prelude.{slice_get, slice_index, if◌then◌else◌, nat_le, nat_lt, ◌==◌, ◌&&◌, not, drop, Option}
 use Rattle.std.proofs.lemmas.Bool.{eq-eqb, le-leb, le-ltb, lt-ltb}
 use Rattle.std.proofs.lemmas.Bool.Decides.{eqb_tells, leb_tells}
 use Rattle.std.proofs.lemmas.List.{length-replicate}
 use Rattle.typed.specs.Value.{Value}
 use Rattle.typed.specs.Syntax.{Func, argument_words, result_words}
 use Rattle.typed.specs.Frames.{frame_in, frame_of, outgoing_of}
-use Rattle.meaning.specs.Trace.{Call as Called, Return as Returned, Ending, Exit, StackLimit, World, Trace, Note, End}
-use Rattle.meaning.specs.Store.{no_value}
-use Rattle.meaning.specs.Output.{Limits, out, used_by}
+use Rattle.meaning.specs.Trace.{Call as Called, Ending, Exit, StackLimit, World, Trace, Note, End}
+use Rattle.meaning.specs.Output.{out, used_by}
 use Rattle.simulation.specs.Outcome as Run
 use Rattle.simulation.specs.Outcome.{Lines}
 use Rattle.simulation.specs.Steps.{Goes, Stops, exec}
 use Rattle.simulation.specs.Follows.{Follows}
 use Rattle.simulation.proofs.Rules
 use Rattle.isa.specs.Code.{Tables}
-use Rattle.isa.specs.declared.func.Func.{Func as Entry}
 use Rattle.isa.specs.declared.instr.Instr.{Instr}
 use Rattle.isa.specs.declared.instr.Instr.TheVariants.{Call, Return}
-use Rattle.machine.specs.Machine.{Event, State, Does, act, act_on, slot, put_words, zeroed, entered, address_of, calls as calling, exits, calls_function, follows_call, goes_back, owner_of, frame_of as code_frame}
+use Rattle.machine.specs.Machine.{Event, State, Does, act, act_on, slot, zeroed, entered, address_of, calls as calling, exits, calls_function, follows_call, goes_back, owner_of, frame_of as code_frame}
 use Rattle.machine.specs.declared.place.Ending.{Ending as Stop}
-use Rattle.machine.specs.declared.place.Ending.TheVariants.{Exit as Stopped, StackLimit as Limit, WildReturn, WildLink}
-use Rattle.codegen.specs.Code.{entry_of}
+use Rattle.machine.specs.declared.place.Ending.TheVariants.{StackLimit as Limit, WildReturn, WildLink}
 use Rattle.codegen.specs.Correct.{same_event, same_end}
 use Rattle.codegen.proofs.Compiled.{Placed}
 use Rattle.codegen.proofs.Distances.{word_at, word_slot, put_length, put_other, entered_keeps}
-use Rattle.codegen.proofs.Frames.{Built, AreAt, Frame, placed, fresh, numbers, back_of, depth, room_of, steady, depth_is, link_of, Stack, Good, moved}
+use Rattle.codegen.proofs.Frames.{Built, AreAt, Frame, placed, fresh, numbers, back_of, depth, link_of, Stack, Good, moved}
 use Rattle.codegen.proofs.Changes.{are_kept, outgoing_put, entered_frame}
 use Rattle.codegen.proofs.Places.{words_limits, At, frame_here, stepped, stopped}
 

@@ -1,37 +1,35 @@
 -- The machine follows a program.
-use Rattle.std.proofs.Common.{◌≡◌, ◌≢◌, ◌⊎◌, inl, inr, ℕ, zero, suc, ◌+◌, ◌*◌, ◌-◌, ◌<◌, ◌≤◌, pos, ℤ, Bool, true, false, List, [], ◌∷◌, ◌++◌, length, Option, Some, None, refl, sym, ap, ◌∙◌, subst, arith, get_or}
-use Rattle.std.specs.Prelude.{slice_get, slice_index, nat_le, if◌then◌else◌, replicate}
+use Rattle.std.proofs.Common.{◌≡◌, inl, inr, ℕ, zero, suc, ◌+◌, ◌-◌, ◌<◌, ◌≤◌, pos, Bool, true, false, List, [], ◌∷◌, ◌++◌, length, Option, Some, None, refl, sym, ap, ◌∙◌, subst, arith, get_or}
+use Rattle.std.specs.Prelude.{slice_get, nat_le, if◌then◌else◌, replicate}
 use Rattle.typed.specs.Value.{Value, int}
 use Rattle.typed.specs.Syntax.{Func, Program, argument_words, result_words}
-use Rattle.typed.specs.Form.{InScope, FuncFits, IsInForm, ParamsFit, NamedFit, named_params, params_scope, named_scope, scope_in, body_first, births_all, ends_all}
-use Rattle.typed.specs.Frames.{frame_in, frame_of, named_need, sts_need, sts_reach, outgoing_of, temps_of}
-use Rattle.meaning.specs.Trace.{Call as Called, Ending, Exit, StackLimit, World, Trace, Note, Seen, Mark, End, state, entered as began}
+use Rattle.typed.specs.Form.{InScope, FuncFits, IsInForm, ParamsFit, NamedFit, named_params, params_scope, named_scope, scope_in, body_first, ends_all}
+use Rattle.typed.specs.Frames.{frame_in, frame_of, named_need, temps_of}
+use Rattle.meaning.specs.Trace.{Ending, Exit, StackLimit, World}
 use Rattle.meaning.specs.Store.{no_value, born}
 use Rattle.meaning.specs.Meaning
 use Rattle.meaning.specs.Meaning.{Env, Go, Then, Ways, Calls, Setting, Answer}
 use Rattle.meaning.specs.Output.{Limits, out}
 use Rattle.simulation.specs.Outcome as Run
 use Rattle.simulation.specs.Outcome.{Lines, Outcome}
-use Rattle.simulation.specs.Steps.{exec}
 use Rattle.simulation.specs.Follows.{Follows}
 use Rattle.isa.specs.Code.{Tables}
-use Rattle.isa.specs.declared.func.Func.{Func as Entry}
 use Rattle.isa.specs.declared.instr.Instr.{Instr}
-use Rattle.machine.specs.Machine.{Event, act, owner_of}
+use Rattle.machine.specs.Machine.{Event, owner_of}
 use Rattle.machine.specs.declared.place.Ending.{Ending as Stop}
 use Rattle.machine.specs.declared.place.Ending.TheVariants.{StackLimit as Limit}
-use Rattle.codegen.specs.Code.{slots_of, params_code, zeros_code, params_size, entry_code, entry_size, sts_code, sts_size, leave_code, values_code, func_code, entry_of}
-use Rattle.codegen.specs.Correct.{same_event, same_end, limits, first_state, entered, target, Simulated}
+use Rattle.codegen.specs.Code.{slots_of, params_code, zeros_code, params_size, entry_code, entry_size, sts_code, sts_size, leave_code, values_code, func_code}
+use Rattle.codegen.specs.Correct.{same_event, same_end, limits, entered, target, Simulated}
 use Rattle.codegen.proofs.Sizes.{length_params, length_entry, length_sts, length_func}
 use Rattle.codegen.proofs.Compiled.{Placed, Compiled}
-use Rattle.codegen.proofs.Frames.{Built, AreAt, Frame, during, placed, fresh, numbers, depth, room_of, Good, moved_back}
+use Rattle.codegen.proofs.Frames.{Built, AreAt, Frame, placed, fresh, numbers, depth, room_of, Good, moved_back}
 use Rattle.codegen.proofs.Changes.{first_frame}
-use Rattle.codegen.proofs.Places.{words_limits, Standing, front, back, standing, At, later, place_is, none_asked, seen, bore}
+use Rattle.codegen.proofs.Places.{Standing, front, back, standing, At, place_is, none_asked, seen}
 use Rattle.codegen.proofs.Crossing.{Behind, Linked, called}
 use Rattle.codegen.proofs.Moves.{CallsFollow}
-use Rattle.codegen.proofs.Returning.{Home, Returns, home_returns}
-use Rattle.codegen.proofs.Statements.{Scoped, all_follow}
-use Rattle.codegen.proofs.Entering.{params_follow, zeros_follow}
+use Rattle.codegen.proofs.ReturnsFollow.{Home, Returns, home_returns}
+use Rattle.codegen.proofs.StatementsFollow.{Scoped, all_follow}
+use Rattle.codegen.proofs.EntriesFollow.{params_follow, zeros_follow}
 
 -- the scope at the beginning of a body
 named_has : (scope sites : List ℕ) (v : ℕ) → InScope v scope → InScope v (named_scope scope sites)

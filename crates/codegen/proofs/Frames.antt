@@ -1,24 +1,19 @@
 -- The running calls, and what the stack's words stand for.
-use Rattle.std.proofs.Common.{◌≡◌, ◌≢◌, ◌⊎◌, inl, inr, ℕ, zero, suc, ◌+◌, ◌-◌, ◌<◌, ◌≤◌, List, [], ◌∷◌, ◌++◌, length, Some, refl, sym, ap, ◌∙◌, subst, arith, length-append, length-set, get_or}
-use Rattle.std.specs.Prelude.{slice_get, slice_index, slice_set, if◌then◌else◌, drop}
+use Rattle.std.proofs.Common.{◌≡◌, ℕ, ◌+◌, ◌-◌, ◌<◌, ◌≤◌, List, [], ◌∷◌, length, Some, refl, sym, ◌∙◌, subst, arith, get_or}
+use Rattle.std.specs.Prelude.{slice_get}
 use Rattle.std.specs.Int.{w64, cast_signed}
-use Rattle.std.proofs.Math.Seq.{get_or-append_seam}
-use Rattle.std.proofs.lemmas.List.{get_or_append_left, get_or-append_right}
-use Rattle.std.proofs.lemmas.Bool.{eq-eqb}
-use Rattle.std.proofs.lemmas.Bool.Decides.{eqb_tells}
 use Rattle.typed.specs.Value.{Value, int, bool}
 use Rattle.typed.specs.Syntax.{Func}
 use Rattle.typed.specs.Form.{InScope, FuncFits}
 use Rattle.typed.specs.Frames.{outgoing_of, temps_of, frame_of}
-use Rattle.meaning.specs.Trace.{World, Cell}
-use Rattle.meaning.specs.Store.{no_value, no_cell, value_of, written, change, born}
+use Rattle.meaning.specs.Trace.{World}
+use Rattle.meaning.specs.Store.{no_value, value_of}
 use Rattle.meaning.specs.Meaning.{Env, with_home}
-use Rattle.meaning.specs.Output.{Limits}
 use Rattle.isa.specs.Code.{Tables}
-use Rattle.machine.specs.Machine.{address_of, put_words, entered}
-use Rattle.codegen.specs.Code.{temp, site_slot, slots_of}
+use Rattle.machine.specs.Machine.{address_of}
+use Rattle.codegen.specs.Code.{site_slot, slots_of}
 use Rattle.codegen.proofs.Compiled.{Compiled}
-use Rattle.codegen.proofs.Distances.{word_at, word_slot, word_other, word_same, put_length, put_other, put_same, entered_length, entered_link, entered_return, entered_keeps, dropped_length, dropped}
+use Rattle.codegen.proofs.Distances.{word_at}
 
 -- a program's functions in form, their code, and the most words that the stack may have
 pub record Built : Type 0 where

@@ -1,5 +1,5 @@
 -- Arguments go to the outgoing area, and results come from it.
-use Rattle.std.proofs.Common.{◌≡◌, inl, inr, ℕ, zero, suc, ◌+◌, ◌-◌, ◌<◌, ◌≤◌, List, [], ◌∷◌, ◌++◌, length, Some, refl, sym, ap, ◌∙◌, subst, arith, length-append, get_or}
+use Rattle.std.proofs.Common.{◌≡◌, ℕ, zero, suc, ◌+◌, ◌-◌, ◌<◌, ◌≤◌, List, [], ◌∷◌, ◌++◌, length, Some, refl, sym, ap, ◌∙◌, subst, arith, length-append, get_or}
 use Rattle.std.specs.Prelude.{slice_get, slice_index}
 use Rattle.std.proofs.lemmas.List.{get_or-append-add}
 use Rattle.typed.specs.Value.{Value}
@@ -12,7 +12,7 @@ use Rattle.isa.specs.declared.instr.Instr.TheVariants.{MoveWords, Call}
 use Rattle.machine.specs.Machine.{put_words, words_at, owner_of}
 use Rattle.codegen.specs.Code.{temp, slots_of, move_code, move_size, call_code, call_size}
 use Rattle.codegen.proofs.Sizes.{length_move}
-use Rattle.codegen.proofs.Distances.{word_at, word_slot, put_length, put_same, read_length, read_index}
+use Rattle.codegen.proofs.Distances.{word_at, word_slot, put_same, read_length, read_index}
 use Rattle.codegen.proofs.Frames.{Built, Stands, stands_same, AreAt, Frame, hold, numbers, depth, Good}
 use Rattle.codegen.proofs.Changes.{held_more, temps_put, fewer, outgoing_put, are_none}
 use Rattle.codegen.proofs.Places.{Standing, front, back, At, later, place_is, turned_less, stepped}
@@ -48,8 +48,8 @@ module _ (m : Built) where
       stepped m {lo = lo} {hi = 1} (MoveWords 0 a (suc k)) has.0.0 refl
       (post (put_words words 0 xs)
       (λ j l. stands_same (get_or vs j no_value) (get_or vs j no_value) (slice_index words (a + j)) (word_at (put_words words 0 xs) (depth m (c ∷ calls) - (0 + j))) refl
-          (put_same words 0 xs j (depth m (c ∷ calls) - (0 + j)) (omega (arith, put)) (omega (arith, put)) (omega arith) ∙ read_index words a (suc k) j (omega arith))
-          (held_words c calls w words c.held vs h j hh l g))
+      (put_same words 0 xs j (depth m (c ∷ calls) - (0 + j)) (omega (arith, put)) (omega (arith, put)) (omega arith) ∙ read_index words a (suc k) j (omega arith))
+      (held_words c calls w words c.held vs h j hh l g))
       (outgoing_put m c calls w words xs 0 (omega (arith, put)) (fewer m c calls w words c.held vs g)))
 
   pub results_moved : (count h a : ℕ) (c : Frame) (calls : List Frame) (w : World) (words : List ℕ) (rs : List Value) (running : List ℕ) (pc lo b : ℕ) (t : Trace) → Standing m.code c.fn pc (move_code count (temp (slots_of m.funcs c.func) h) a)
@@ -68,7 +68,7 @@ module _ (m : Built) where
       (post (put_words words to xs)
       (temps_put m c calls w words xs h rs hh (omega (arith, put)) (omega arith)
       (λ j l. stands_same (get_or rs j no_value) (get_or rs j no_value) (word_at words (depth m (c ∷ calls) - (a + j))) (slice_index xs j) refl
-          (read_index words a (suc k) j (omega arith) ∙ sym (word_slot words (depth m (c ∷ calls)) (a + j) long (omega arith))) (are j l)) g)))
+      (read_index words a (suc k) j (omega arith) ∙ sym (word_slot words (depth m (c ∷ calls)) (a + j) long (omega arith))) (are j l)) g)))
 
   -- what a call does, where it is known for as many turns
   pub record CallsFollow (callees : Calls) (n : ℕ) : Type 0 where

@@ -2,7 +2,7 @@
 use Rattle.std.proofs.Common.{◌≡◌, ℕ, ◌<◌, ◌^◌, ◌%◌, ℤ, Bool, Ok, refl, ap, ◌∙◌, arith, mod-lt}
 use Rattle.std.specs.Int.{w64, cast_signed, cast_unsigned, int_wrapping_neg}
 use Rattle.std.proofs.lemmas.Int.{of_z-to_z}
-use Rattle.typed.specs.Value.{Value, int, bool}
+use Rattle.typed.specs.Value.{int, bool}
 use Rattle.typed.specs.declared.operators.BinOp.{BinOp}
 use Rattle.typed.specs.declared.operators.BinOp.TheVariants.{Add, Sub, Mul, Equal, NotEqual, Less, LessEqual, Greater, GreaterEqual}
 use Rattle.typed.specs.Form.{IsArithmetic, IsComparison}

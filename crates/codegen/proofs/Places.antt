@@ -1,8 +1,7 @@
 -- A place of the code that a trace has come to, and the rules of a step.
-use Rattle.std.proofs.Common.{◌≡◌, ℕ, zero, suc, ◌+◌, ◌-◌, ◌<◌, ◌≤◌, List, [], ◌∷◌, ◌++◌, length, Some, refl, sym, ap, ◌∙◌, subst, arith, get_or}
-use Rattle.std.specs.Prelude.{slice_get, slice_index, slice_set, if◌then◌else◌, nat_le}
+use Rattle.std.proofs.Common.{◌≡◌, ℕ, zero, suc, ◌+◌, ◌-◌, ◌<◌, ◌≤◌, List, [], ◌∷◌, ◌++◌, length, Some, refl, sym, ap, ◌∙◌, subst, arith}
+use Rattle.std.specs.Prelude.{slice_get, slice_index, slice_set, if◌then◌else◌}
 use Rattle.std.proofs.lemmas.Bool.{le-leb}
-use Rattle.std.proofs.lemmas.Option.{slice_get-get_or}
 use Rattle.typed.specs.Syntax.{Func}
 use Rattle.typed.specs.Frames.{frame_in, frame_of}
 use Rattle.meaning.specs.Trace.{Born, Read, Write, Print, Ending, Exit, Mark, Trace, Turn, Note, Seen, End, Cut}
@@ -45,9 +44,10 @@ slice_is (y ∷ xs) (suc i) x e = slice_is xs i x e
 pub standing : (code : Tables) (f pc : ℕ) (is : List Instr) → HasAt code.instrs pc is → ((i : ℕ) → i < length is → slice_get code.owners (pc + i) ≡ Some f) → Standing code f pc is
 standing code f pc [] h own = tt
 standing code f pc (i ∷ is) h own =
-    let here : pc + 0 ≡ pc = omega arith in
-    ((h.0, ap (λ p. slice_index code.owners p) (sym here) ∙ slice_is code.owners (pc + 0) f (own 0 (omega arith))),
-    standing code f (pc + 1) is h.1 (λ j l. let e : pc + suc j ≡ pc + 1 + j = omega arith in ap (slice_get code.owners) (sym e) ∙ own (suc j) (omega arith)))
+    let here : pc + 0 ≡ pc = omega arith in (
+      (h.0, ap (λ p. slice_index code.owners p) (sym here) ∙ slice_is code.owners (pc + 0) f (own 0 (omega arith))),
+      standing code f (pc + 1) is h.1 (λ j l. let e : pc + suc j ≡ pc + 1 + j = omega arith in ap (slice_get code.owners) (sym e) ∙ own (suc j) (omega arith)),
+    )
 
 module _ (m : Built) where
   abbrev pub words_limits : Limits

@@ -1,19 +1,19 @@
 -- The machine follows the writing of left sides.
-use Rattle.std.proofs.Common.{◌≡◌, ◌≢◌, inl, inr, ℕ, zero, suc, ◌+◌, ◌<◌, ◌≤◌, List, [], ◌∷◌, ◌++◌, length, Some, refl, sym, ap, ◌∙◌, subst, arith, append_assoc}
+use Rattle.std.proofs.Common.{◌≡◌, inr, ℕ, suc, ◌+◌, ◌<◌, ◌≤◌, List, [], ◌∷◌, ◌++◌, length, refl, sym, ◌∙◌, subst, arith, append_assoc}
 use Rattle.std.specs.Prelude.{slice_index, slice_set}
 use Rattle.typed.specs.Value.{Value}
 use Rattle.typed.specs.Syntax.{Left, blank, new, to, local, here as itself}
 use Rattle.typed.specs.Form.{InScope, LeftsFit, scope_behind}
-use Rattle.meaning.specs.Trace.{World, Cell}
+use Rattle.meaning.specs.Trace.{World}
 use Rattle.meaning.specs.Store.{written, born}
 use Rattle.meaning.specs.Meaning
 use Rattle.meaning.specs.Meaning.{Env, Go, Ways, Calls, Setting, Landing, nowhere, birth, on, Aim, variable, with_home}
 use Rattle.isa.specs.declared.instr.Instr.TheVariants.{Move}
 use Rattle.codegen.specs.Code.{temp, site_slot, slots_of, lefts_code, lefts_size}
-use Rattle.codegen.proofs.Frames.{Built, Stands, Frame, hold, during, numbers, Good}
+use Rattle.codegen.proofs.Frames.{Built, Frame, during, numbers, Good}
 use Rattle.codegen.proofs.Changes.{home_other, born_site, written_site, held_word}
 use Rattle.codegen.proofs.Places.{Standing, At, place_is, turned, bore, write_of, stepped}
-use Rattle.codegen.proofs.Evaluations.{one_more}
+use Rattle.codegen.proofs.EvaluationsFollow.{one_more}
 
 -- where left sides lead
 abbrev pub landings : Env → List Left → List Landing
@@ -48,7 +48,7 @@ module _ (m : Built) (around : Setting) where
       let here = fit.0 in let among = fit.1 in
       let good1 = born_site m (during c env scope all) calls w words cell site x (omega arith) (omega arith) stands good in
       let kept1 : Kept before (site ∷ scope) first (with_home env site (length w.store)) (suc n) =
-          λ u i. (inr (kept u i).0, home_other env site (length w.store) u (λ q. let l = (kept u i).2 in absurd (omega arith)) ∙ (kept u i).1, (let l = (kept u i).2 in omega arith)) in
+      λ u i. (inr (kept u i).0, home_other env site (length w.store) u (λ q. let l = (kept u i).2 in absurd (omega arith)) ∙ (kept u i).1, (let l = (kept u i).2 in omega arith)) in
       turned m {lo1 = suc lo} (omega arith) (bore m _ _ (stepped m {lo = lo} {hi = 0} (Move (site_slot s site) (temp s h)) has.0.0 refl
       (lefts_follow ls vs (gone ++ v ∷ []) all c first (with_home env site (length w.store)) before (site ∷ scope) calls ws k (born w cell) words1 (suc n) (h + 1) (pc + 1) lo b (omega arith) (one_more gone v h hg) (e ∙ sym (append_assoc gone (v ∷ []) vs)) has.1 fit.2 (omega arith) kept1 good1
       (λ env1 w1 words2 g2. place_is m (let q : pc + suc (lefts_size ls) ≡ pc + 1 + lefts_size ls = omega arith in q) (post env1 w1 words2 g2)))))

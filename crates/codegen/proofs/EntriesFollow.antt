@@ -1,17 +1,16 @@
 -- The machine follows the entry of a function.
-use Rattle.std.proofs.Common.{◌≡◌, ◌≢◌, ◌⊎◌, inl, inr, ℕ, zero, suc, ◌+◌, ◌-◌, ◌<◌, ◌≤◌, pos, List, [], ◌∷◌, ◌++◌, length, Option, Some, None, refl, sym, ap, ◌∙◌, subst, arith, length-set, get_or}
+use Rattle.std.proofs.Common.{◌≡◌, ℕ, suc, ◌+◌, ◌-◌, ◌≤◌, pos, List, [], ◌∷◌, length, Option, Some, None, refl, sym, subst, arith}
 use Rattle.std.specs.Prelude.{slice_index, slice_set}
 use Rattle.typed.specs.Value.{Value, int}
-use Rattle.typed.specs.Syntax.{argument_words}
-use Rattle.typed.specs.Form.{InScope, ParamsFit, NamedFit, named_params, params_scope, named_scope}
+use Rattle.typed.specs.Form.{ParamsFit, NamedFit, named_params, params_scope, named_scope}
 use Rattle.typed.specs.Frames.{frame_of}
-use Rattle.meaning.specs.Trace.{World, Cell}
-use Rattle.meaning.specs.Store.{no_value, born}
+use Rattle.meaning.specs.Trace.{World}
+use Rattle.meaning.specs.Store.{born}
 use Rattle.meaning.specs.Meaning
 use Rattle.meaning.specs.Meaning.{Env, Go, Setting, with_home}
-use Rattle.isa.specs.declared.instr.Instr.TheVariants.{Const, Argument}
-use Rattle.codegen.specs.Code.{temp, site_slot, slots_of, params_code, params_size, zeros_code}
-use Rattle.codegen.proofs.Distances.{word_at, word_slot, word_other}
+use Rattle.isa.specs.declared.instr.Instr.TheVariants.{Const}
+use Rattle.codegen.specs.Code.{site_slot, slots_of, params_code, params_size, zeros_code}
+use Rattle.codegen.proofs.Distances.{word_other}
 use Rattle.codegen.proofs.Frames.{Built, Stands, AreAt, Frame, during, numbers, depth, room_of, depth_is, Good}
 use Rattle.codegen.proofs.Changes.{are_first, are_rest, are_kept, born_site}
 use Rattle.codegen.proofs.Places.{Standing, At, place_is, frame_here, turned, bore, stepped, argument}

@@ -1,29 +1,29 @@
 -- The machine follows an evaluation.
-use Rattle.std.proofs.Common.{◌≡◌, inl, inr, ℕ, zero, suc, ◌+◌, ◌-◌, ◌<◌, ◌≤◌, ℤ, true, false, List, [], ◌∷◌, ◌++◌, length, Some, Ok, refl, sym, ap, ◌∙◌, subst, arith, length-append, append_assoc, get_or}
+use Rattle.std.proofs.Common.{◌≡◌, ℕ, suc, ◌+◌, ◌<◌, ◌≤◌, List, [], ◌∷◌, ◌++◌, length, Some, refl, sym, ap, ◌∙◌, subst, arith, length-append, append_assoc}
 use Rattle.std.specs.Prelude.{slice_get, slice_index, slice_set}
-use Rattle.std.specs.Int.{w64, cast_signed, cast_unsigned, int_wrapping_neg}
+use Rattle.std.specs.Int.{w64, cast_unsigned, int_wrapping_neg}
 use Rattle.std.proofs.lemmas.Int.{to_z-of_z}
 use Rattle.base.specs.declared.pos.Pos.{Pos}
 use Rattle.typed.specs.Value.{Value, int, bool}
 use Rattle.typed.specs.declared.operators.BinOp.{BinOp}
 use Rattle.typed.specs.declared.operators.UnOp.{UnOp}
 use Rattle.typed.specs.declared.operators.UnOp.TheVariants as One
-use Rattle.typed.specs.Syntax.{Ex, Exs, Piece, Func, constant, read, unary, binary, call, local, here as itself, none, more, results, shown, argument_words, result_words, results_in, results_of}
-use Rattle.typed.specs.Form.{InScope, IsArithmetic, ExFits, ExsFit, PiecesFit, values_of}
+use Rattle.typed.specs.Syntax.{Ex, Exs, Piece, constant, read, unary, binary, call, local, here as itself, none, more, results, shown, results_in}
+use Rattle.typed.specs.Form.{IsArithmetic, ExFits, ExsFit, PiecesFit, values_of}
 use Rattle.typed.specs.Frames.{need, need_all, need_pieces, reach, reach_all, reach_pieces, outgoing_of, temps_of}
-use Rattle.meaning.specs.Trace.{World, Trace, Turn}
+use Rattle.meaning.specs.Trace.{World, Turn}
 use Rattle.meaning.specs.Store.{value_of}
-use Rattle.meaning.specs.Operators.{of_ints, binary_of, unary_of}
+use Rattle.meaning.specs.Operators.{binary_of, unary_of}
 use Rattle.meaning.specs.Meaning
 use Rattle.meaning.specs.Meaning.{Env, Then, Ways, Calls, Setting, only_value, shown_bytes}
 use Rattle.isa.specs.Bin.{bin_of, negated}
 use Rattle.isa.specs.declared.instr.Instr.TheVariants.{Const, Move, Bin, Negate}
-use Rattle.codegen.specs.Code.{temp, site_slot, slots_of, operation, unary_code, word_of, ex_code, exs_code, pieces_code, size, exs_size, pieces_size, call_code, call_size}
+use Rattle.codegen.specs.Code.{temp, site_slot, slots_of, operation, unary_code, ex_code, exs_code, pieces_code, size, exs_size, pieces_size, call_code, call_size}
 use Rattle.codegen.proofs.Sizes.{length_code, length_exs}
 use Rattle.codegen.proofs.Frames.{Built, Stands, Frame, hold, numbers, Good}
 use Rattle.codegen.proofs.Changes.{temp_set, fewer, held_word, site_word}
 use Rattle.codegen.proofs.Numbers.{adds, negs}
-use Rattle.codegen.proofs.Places.{Standing, front, back, At, later, place_is, turned, seen, read_of, stepped}
+use Rattle.codegen.proofs.Places.{Standing, front, back, At, place_is, turned, seen, read_of, stepped}
 use Rattle.codegen.proofs.Moves.{held_none, CallsFollow, call_end}
 
 -- the texts of values

@@ -1,10 +1,9 @@
 -- The machine follows statements.
-use Rattle.std.proofs.Common.{◌≡◌, ◌≢◌, ◌⊎◌, inl, inr, ℕ, zero, suc, ◌+◌, ◌-◌, ◌<◌, ◌≤◌, Bool, true, false, List, [], ◌∷◌, ◌++◌, length, Some, None, refl, sym, ap, ◌∙◌, subst, arith}
+use Rattle.std.proofs.Common.{◌≡◌, inl, inr, ℕ, zero, suc, ◌+◌, ◌-◌, ◌<◌, ◌≤◌, Bool, true, false, List, [], ◌∷◌, ◌++◌, length, Some, None, refl, sym, ap, ◌∙◌, subst, arith}
 use Rattle.std.specs.Prelude.{slice_get, ◌&&◌}
-use Rattle.typed.specs.Value.{Value}
-use Rattle.typed.specs.Syntax.{Ex, Exs, Left, Piece, St, Sts, Func, none, more, results, blank, new, to, assign, discard, block, choose, loop, give_back, print, done, next, argument_words, result_words}
+use Rattle.typed.specs.Syntax.{Ex, Exs, Left, St, Sts, Func, none, more, results, blank, new, to, assign, discard, block, choose, loop, give_back, print, done, next, argument_words, result_words}
 use Rattle.typed.specs.Form.{InScope, TestFits, births, births_all, new_sites, scope_behind, scope_after, ends, ends_all, LeftsFit, ReturnFits, values_of, StFits, StsFit}
-use Rattle.typed.specs.Frames.{need, reach, named_need, st_need, sts_need, st_reach, sts_reach, outgoing_of, temps_of}
+use Rattle.typed.specs.Frames.{need, reach, st_need, sts_need, st_reach, sts_reach, outgoing_of, temps_of}
 use Rattle.meaning.specs.Trace.{World}
 use Rattle.meaning.specs.Meaning
 use Rattle.meaning.specs.Meaning.{Env, Go, Ways, Calls, Setting, Landing}
@@ -13,13 +12,13 @@ use Rattle.codegen.specs.Code.{temp, slots_of, count_of, ex_code, exs_code, piec
 use Rattle.codegen.proofs.Sizes.{length_code, length_exs, length_pieces, length_st, length_sts}
 use Rattle.codegen.proofs.Frames.{Built, Frame, hold, during, numbers, Good, narrowed}
 use Rattle.codegen.proofs.Changes.{fewer}
-use Rattle.codegen.proofs.Places.{Standing, front, back, At, later, place_is, none_asked, turned_less, turned, seen, stepped}
+use Rattle.codegen.proofs.Places.{Standing, front, back, At, later, place_is, none_asked, turned_less, seen, stepped}
 use Rattle.codegen.proofs.Moves.{CallsFollow}
-use Rattle.codegen.proofs.Evaluations.{evs_follow, pieces_follow}
-use Rattle.codegen.proofs.Conditions.{test_follows}
-use Rattle.codegen.proofs.Printing.{line_follows}
-use Rattle.codegen.proofs.Landings.{landings, ready_is, lefts_follow}
-use Rattle.codegen.proofs.Returning.{Gives, Returns, returns_later}
+use Rattle.codegen.proofs.EvaluationsFollow.{evs_follow, pieces_follow}
+use Rattle.codegen.proofs.ConditionsFollow.{test_follows}
+use Rattle.codegen.proofs.LinesFollow.{line_follows}
+use Rattle.codegen.proofs.LeftsFollow.{landings, ready_is, lefts_follow}
+use Rattle.codegen.proofs.ReturnsFollow.{Gives, Returns, returns_later}
 
 -- a scope behind left sides has the one before them, and its new sites are the next ones
 behind_has : (scope : List ℕ) (ls : List Left) (v : ℕ) → InScope v scope → InScope v (scope_behind scope ls)
@@ -90,8 +89,8 @@ module _ (m : Built) where
       loop_follows : (body : ℕ → Env → (ℕ → Env → Go) → Go) (k : ℕ → Env → Go) (lo b : ℕ) → b ≤ suc n →
           ((v : ℕ) (env : Env) (w : World) (words : List ℕ) → Good m (during c env scope [] ∷ calls) w words → At m (numbers (c ∷ calls)) lo 0 b (k v env w) (pc + size m.funcs e + 1 + len + 1) words) →
           ((v : ℕ) (env : Env) (w : World) (words : List ℕ) (j : ℕ → Env → Go) (d : ℕ) → d ≤ b → Good m (during c env scope [] ∷ calls) w words
-              → ((v1 : ℕ) (env1 : Env) (w1 : World) (words1 : List ℕ) → Good m (during c env1 scope [] ∷ calls) w1 words1 → At m (numbers (c ∷ calls)) lo 0 d (j v1 env1 w1) (pc + size m.funcs e + 1 + len) words1)
-              → At m (numbers (c ∷ calls)) lo 0 d (body v env j w) (pc + size m.funcs e + 1) words) →
+          → ((v1 : ℕ) (env1 : Env) (w1 : World) (words1 : List ℕ) → Good m (during c env1 scope [] ∷ calls) w1 words1 → At m (numbers (c ∷ calls)) lo 0 d (j v1 env1 w1) (pc + size m.funcs e + 1 + len) words1)
+          → At m (numbers (c ∷ calls)) lo 0 d (body v env j w) (pc + size m.funcs e + 1) words) →
           (j d : ℕ) → d ≤ b → d ≤ j → (v : ℕ) (env : Env) (w : World) (words : List ℕ) → Good m (during c env scope [] ∷ calls) w words → At m (numbers (c ∷ calls)) lo 0 d (Meaning.rounds j (Meaning.test_of around callees (Some e) ws) body k v env w) pc words
       loop_follows body k lo b le post turn_of zero d db dj v env w words g = none_asked m (omega arith)
       loop_follows body k lo b le post turn_of (suc j) d db dj v env w words g =
@@ -104,8 +103,8 @@ module _ (m : Built) where
     module _ (len pc : ℕ) (ws : Ways) (scope : List ℕ) (back : slice_get m.code.instrs (pc + len) ≡ Some (Jump pc)) where
       endless_follows : (body : ℕ → Env → (ℕ → Env → Go) → Go) (k : ℕ → Env → Go) (lo b : ℕ) →
           ((v : ℕ) (env : Env) (w : World) (words : List ℕ) (j : ℕ → Env → Go) (d : ℕ) → d ≤ b → Good m (during c env scope [] ∷ calls) w words
-              → ((v1 : ℕ) (env1 : Env) (w1 : World) (words1 : List ℕ) → Good m (during c env1 scope [] ∷ calls) w1 words1 → At m (numbers (c ∷ calls)) lo 0 d (j v1 env1 w1) (pc + len) words1)
-              → At m (numbers (c ∷ calls)) lo 0 d (body v env j w) pc words) →
+          → ((v1 : ℕ) (env1 : Env) (w1 : World) (words1 : List ℕ) → Good m (during c env1 scope [] ∷ calls) w1 words1 → At m (numbers (c ∷ calls)) lo 0 d (j v1 env1 w1) (pc + len) words1)
+          → At m (numbers (c ∷ calls)) lo 0 d (body v env j w) pc words) →
           (j d : ℕ) → d ≤ b → d ≤ j → (v : ℕ) (env : Env) (w : World) (words : List ℕ) → Good m (during c env scope [] ∷ calls) w words → At m (numbers (c ∷ calls)) lo 0 d (Meaning.rounds j (Meaning.test_of around callees None ws) body k v env w) pc words
       endless_follows body k lo b turn_of zero d db dj v env w words g = none_asked m (omega arith)
       endless_follows body k lo b turn_of (suc j) d db dj v env w words g =

@@ -1,5 +1,5 @@
 -- The machine follows the printing of a line.
-use Rattle.std.proofs.Common.{◌≡◌, ℕ, zero, suc, ◌+◌, ◌<◌, ◌≤◌, List, [], ◌∷◌, ◌++◌, length, Some, refl, sym, ap, ◌∙◌, subst, arith, append_assoc}
+use Rattle.std.proofs.Common.{◌≡◌, ℕ, suc, ◌+◌, List, [], ◌∷◌, ◌++◌, length, refl, sym, ap, ◌∙◌, subst, arith, append_assoc}
 use Rattle.std.specs.Fmt.{signed_decimal}
 use Rattle.typed.specs.Value.{Value, int, bool}
 use Rattle.typed.specs.Syntax.{Piece}
@@ -10,10 +10,10 @@ use Rattle.simulation.specs.Steps.{Goes}
 use Rattle.isa.specs.declared.instr.Instr.TheVariants.{PrintInt, PrintSpace, PrintLine}
 use Rattle.machine.specs.Machine.{State, Printed}
 use Rattle.codegen.specs.Code.{temp, slots_of, show_more, show_line, more_size, shown_size}
-use Rattle.codegen.proofs.Frames.{Built, Stands, Frame, hold, numbers, Good}
+use Rattle.codegen.proofs.Frames.{Built, Frame, hold, numbers, Good}
 use Rattle.codegen.proofs.Changes.{held_word}
 use Rattle.codegen.proofs.Places.{Standing, At, place_is, turned, printing}
-use Rattle.codegen.proofs.Evaluations.{texts, one_more}
+use Rattle.codegen.proofs.EvaluationsFollow.{texts, one_more}
 
 module _ (m : Built) where
   more_follows : (ps : List Piece) (vs before all : List Value) (g : Go) (c : Frame) (calls : List Frame) (w : World) (words : List ℕ) (h pc lo b : ℕ) → length vs ≡ length ps → length before ≡ h → all ≡ before ++ vs → Standing m.code c.fn pc (show_more (slots_of m.funcs c.func) ps h)

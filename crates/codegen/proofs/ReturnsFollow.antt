@@ -1,27 +1,27 @@
 -- The machine follows a return.
-use Rattle.std.proofs.Common.{◌≡◌, ◌≢◌, ◌⊎◌, inl, inr, ℕ, zero, suc, ◌+◌, ◌-◌, ◌<◌, ◌≤◌, List, [], ◌∷◌, ◌++◌, length, Some, refl, sym, ap, ◌∙◌, subst, arith, length-append, append_assoc, get_or}
+use Rattle.std.proofs.Common.{◌≡◌, ◌⊎◌, inl, inr, ℕ, zero, suc, ◌+◌, ◌-◌, ◌<◌, ◌≤◌, List, [], ◌∷◌, ◌++◌, length, Some, refl, sym, ap, ◌∙◌, subst, arith, length-append, append_assoc, get_or}
 use Rattle.std.specs.Prelude.{slice_get, slice_index, slice_set, drop}
 use Rattle.std.proofs.Math.Seq.{get_or-append_seam}
 use Rattle.std.proofs.lemmas.List.{get_or_append_left}
 use Rattle.typed.specs.Value.{Value}
 use Rattle.typed.specs.Syntax.{Func, argument_words, result_words}
 use Rattle.typed.specs.Form.{InScope}
-use Rattle.typed.specs.Frames.{named_need, frame_of, outgoing_of, temps_of}
-use Rattle.meaning.specs.Trace.{Return as Returned, Exit, World, Trace, Note, End}
+use Rattle.typed.specs.Frames.{named_need, frame_of, temps_of}
+use Rattle.meaning.specs.Trace.{Exit, World, End}
 use Rattle.meaning.specs.Store.{no_value, value_of, written}
 use Rattle.meaning.specs.Meaning
 use Rattle.meaning.specs.Meaning.{Env, Go, Then}
-use Rattle.isa.specs.declared.instr.Instr.TheVariants.{Move, SetResults, Return}
+use Rattle.isa.specs.declared.instr.Instr.TheVariants.{Move, Return}
 use Rattle.machine.specs.Machine.{put_words, words_at, owner_of}
-use Rattle.codegen.specs.Code.{temp, site_slot, slots_of, result_code, move_size, named_write_code, named_read_code, named_read_size, values_code, values_size, leave_code}
-use Rattle.codegen.proofs.Sizes.{length_result, length_named_write, length_named_read, length_values}
-use Rattle.codegen.proofs.Distances.{word_at, word_slot, word_other, put_length, put_other, put_same, read_length, read_index, dropped}
-use Rattle.codegen.proofs.Frames.{Built, Stands, stands_same, AreAt, Frame, hold, during, numbers, depth, room_of, steady, depth_is, Level, Stack, Good, level_keeps, stack_keeps}
+use Rattle.codegen.specs.Code.{temp, site_slot, slots_of, result_code, named_write_code, named_read_code, named_read_size, values_code, leave_code}
+use Rattle.codegen.proofs.Sizes.{length_named_write, length_named_read}
+use Rattle.codegen.proofs.Distances.{word_at, word_other, put_length, put_other, put_same, read_length, read_index, dropped}
+use Rattle.codegen.proofs.Frames.{Built, Stands, stands_same, AreAt, Frame, hold, during, numbers, depth, room_of, depth_is, Good, level_keeps, stack_keeps}
 use Rattle.codegen.proofs.Changes.{less_or, are_kept, are_none, temp_set, fewer, held_word, site_word, written_site, left}
 use Rattle.codegen.proofs.Crossing.{Linked, first_returns, returned}
-use Rattle.codegen.proofs.Places.{Standing, front, back, At, later, place_is, frame_here, turned, seen, read_of, write_of, stepped, results_set}
+use Rattle.codegen.proofs.Places.{Standing, front, back, At, later, place_is, frame_here, turned, read_of, write_of, stepped, results_set}
 use Rattle.codegen.proofs.Moves.{held_words}
-use Rattle.codegen.proofs.Evaluations.{one_more}
+use Rattle.codegen.proofs.EvaluationsFollow.{one_more}
 
 module _ (m : Built) where
   -- what goes on behind a return to these calls, with the results in the outgoing area
@@ -71,13 +71,15 @@ module _ (m : Built) where
       let long = g.long in let r = g.stack.0.room in let e = depth_is m calls in
       let put : length xs ≡ suc i = read_length words t (suc i) (omega arith) in
       let g1 = incoming_put (hold c rs) calls w words xs a (omega (arith, put)) g in
-      turned m {lo1 = suc (suc lo)} (omega arith) (record { at = (
-        results_set m {lo = suc lo} {hi = 1} t a (suc i) fr has.0.0 (frame_here m c.fn pc c.func g.stack.0.named has.0.1) (omega arith)
-        (goes_home (hold c rs) calls k w words1 rs (pc + 1) lo b has.1.0.0 has.1.0.1 from room home (many ∙ all)
-        (λ j l. stands_same (get_or rs j no_value) (get_or rs j no_value) (slice_index words (t + j)) (word_at words1 (depth m calls - (a + j))) refl
+      turned m {lo1 = suc (suc lo)} (omega arith) (record {
+        at = (
+            results_set m {lo = suc lo} {hi = 1} t a (suc i) fr has.0.0 (frame_here m c.fn pc c.func g.stack.0.named has.0.1) (omega arith)
+            (goes_home (hold c rs) calls k w words1 rs (pc + 1) lo b has.1.0.0 has.1.0.1 from room home (many ∙ all)
+            (λ j l. stands_same (get_or rs j no_value) (get_or rs j no_value) (slice_index words (t + j)) (word_at words1 (depth m calls - (a + j))) refl
             (put_same words (fr + a) xs j (depth m calls - (a + j)) (omega (arith, put)) (omega (arith, put)) (omega arith) ∙ read_index words t (suc i) j (omega arith))
             (held_words m c calls w words [] rs 0 j refl l g)) g1)
-      ).at })
+            ).at;
+      })
 
   -- results with names: they are written
   named_writes : (sites : List ℕ) (vs gone all : List Value) (c : Frame) (env : Env) (scope : List ℕ) (calls : List Frame) (g : Go) (w : World) (words : List ℕ) (h pc lo b : ℕ) → length sites ≡ length vs → length gone ≡ h → all ≡ gone ++ vs
@@ -103,7 +105,7 @@ module _ (m : Built) where
   named_reads [] gone c env scope calls k w words i pc lo b ei room some has sub are good post =
       place_is m (let q : pc + 0 ≡ pc = omega arith in q)
       (post [] words refl (λ j l. let n = length-append gone [] in
-          subst (λ v. Stands v (word_at words (depth m calls - (argument_words c.func + j)))) (sym (get_or_append_left gone [] no_value j (omega (arith, n)))) (are j (omega (arith, n)))) good)
+      subst (λ v. Stands v (word_at words (depth m calls - (argument_words c.func + j)))) (sym (get_or_append_left gone [] no_value j (omega (arith, n)))) (are j (omega (arith, n)))) good)
   named_reads (site ∷ sites) gone c env scope calls k w words i pc lo b ei room some has sub are good post =
       let s = slots_of m.funcs c.func in let fr = frame_of m.funcs c.func in let a = argument_words c.func in
       let v = value_of w (env site) in let x = slice_index words (site_slot s site) in

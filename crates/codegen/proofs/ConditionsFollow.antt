@@ -1,5 +1,5 @@
 -- The machine follows a condition.
-use Rattle.std.proofs.Common.{◌≡◌, ℕ, zero, suc, ◌+◌, ◌-◌, ◌<◌, ◌≤◌, Bool, true, false, List, [], ◌∷◌, ◌++◌, length, Some, refl, sym, ap, ◌∙◌, subst, arith, get_or-set_same}
+use Rattle.std.proofs.Common.{◌≡◌, ℕ, suc, ◌+◌, ◌<◌, ◌≤◌, Bool, true, false, List, [], ◌∷◌, ◌++◌, length, Some, refl, sym, ap, ◌∙◌, subst, arith, get_or-set_same}
 use Rattle.std.specs.Prelude.{slice_get, slice_index, slice_set, if◌then◌else◌, ◌==◌}
 use Rattle.std.specs.Int.{w64, cast_signed}
 use Rattle.typed.specs.Value.{Value, int, bool}
@@ -8,8 +8,8 @@ use Rattle.typed.specs.Syntax.{Ex, constant, read, unary, binary, call}
 use Rattle.typed.specs.Form.{IsComparison, TestFits}
 use Rattle.typed.specs.Frames.{need, reach, outgoing_of, temps_of}
 use Rattle.base.specs.declared.pos.Pos.{Pos}
-use Rattle.meaning.specs.Trace.{World, Trace, Turn}
-use Rattle.meaning.specs.Operators.{of_ints, binary_of}
+use Rattle.meaning.specs.Trace.{World, Turn}
+use Rattle.meaning.specs.Operators.{binary_of}
 use Rattle.meaning.specs.Meaning
 use Rattle.meaning.specs.Meaning.{Env, Go, Then, Ways, Calls, Setting}
 use Rattle.simulation.specs.Steps.{Goes}
@@ -23,7 +23,7 @@ use Rattle.codegen.proofs.Changes.{temp_set, fewer, held_word}
 use Rattle.codegen.proofs.Numbers.{compares}
 use Rattle.codegen.proofs.Places.{Standing, front, back, At, place_is, turned, seen, stepped}
 use Rattle.codegen.proofs.Moves.{CallsFollow}
-use Rattle.codegen.proofs.Evaluations.{one_more, some_need, ev_follows}
+use Rattle.codegen.proofs.EvaluationsFollow.{one_more, some_need, ev_follows}
 
 module _ (m : Built) where
   -- a truth value decides
