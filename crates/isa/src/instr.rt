@@ -26,6 +26,8 @@ pub enum Instr {
     Const { a: u16, word: u64 },
     /// The slot a gets the word of b.
     Move { a: u16, b: u16 },
+    /// The n slots from a on get the words of the slots from b on, as through a copy.
+    MoveWords { a: u16, b: u16, n: u16 },
     /// The slot a gets what the operation gives of the words of b and c.
     Bin { op: BinOp, a: u16, b: u16, c: u16 },
     /// The slot a gets the negative of the word of b.
@@ -38,8 +40,8 @@ pub enum Instr {
     Call { func: u16 },
     /// The slot a gets the incoming word b.
     Argument { a: u16, b: u16 },
-    /// The incoming word b gets the word of the slot a.
-    SetResult { a: u16, b: u16 },
+    /// The n incoming words from b on get the words of the slots from a on.
+    SetResults { a: u16, b: u16, n: u16 },
     /// Prints the slot's number in decimal.
     PrintInt { a: u16 },
     /// Prints a space.

@@ -1,10 +1,70 @@
--- Slots of a frame in a block of words.
-use Rattle.std.proofs.Common.{◌≡◌, ℕ, ◌+◌, List, drop}
+-- Lists of words that a block and its frames are made of.
+use Rattle.std.proofs.Common.{◌≡◌, ℕ, ◌+◌, ◌-◌, ◌≤◌, List, ◌∷◌, ◌++◌, length, take, drop, replicate, get_or, ap, sym, ◌∙◌, arith, append_assoc}
 use Rattle.std.specs.Prelude.{slice_index, slice_set}
 use Rattle.std.proofs.Math.Seq.{drop-set-add, get_or-drop}
+use Rattle.std.proofs.lemmas.List.{drop-append-le, drop-take, drop-drop, drop_at, drop_more, set_at, set-append_right, length-take-le, length-replicate}
+use Rattle.machine.specs.Machine.{put_words, words_at, zeroed, entered}
 
 pub slot_read : (words : List ℕ) (base a : ℕ) → slice_index (drop base words) a ≡ slice_index words (base + a)
 slot_read words base a = get_or-drop base words a 0
 
 pub slot_written : (words : List ℕ) (base a word : ℕ) → drop base (slice_set words (base + a) word) ≡ slice_set (drop base words) a word
 slot_written words base a word = drop-set-add base words a word
+
+-- words that are replaced behind an index, seen from the index
+pub put_behind : (words put : List ℕ) (base from : ℕ) → base + from ≤ length words → drop base (put_words words (base + from) put) ≡ put_words (drop base words) from put
+put_behind words put base from room =
+    let front : length (take (base + from) words) ≡ base + from = length-take-le (base + from) words room in
+    let same : base + from + length put ≡ base + (from + length put) = omega arith in
+    let rest : drop (base + from + length put) words ≡ drop (from + length put) (drop base words) =
+    ap (λ n. drop n words) same ∙ sym (drop-drop (from + length put) base words) in
+    drop-append-le base (take (base + from) words) (put ++ drop (base + from + length put) words) (omega arith)
+    ∙ ap (λ l. l ++ (put ++ drop (base + from + length put) words)) (drop-take base from words)
+    ∙ ap (λ l. take from (drop base words) ++ (put ++ l)) rest
+
+-- a copy of words behind an index, seen from the index
+pub copied : (words : List ℕ) (base from to count : ℕ) → base + to ≤ length words
+    → drop base (put_words words (base + to) (words_at words (base + from) count)) ≡ put_words (drop base words) to (words_at (drop base words) from count)
+copied words base from to count room =
+    put_behind words (words_at words (base + from) count) base to room ∙ ap (λ l. put_words (drop base words) to (take count l)) (sym (drop-drop from base words))
+
+-- zeros behind an index, seen from the index
+pub cleared : (words : List ℕ) (base from count : ℕ) → base + from + count ≤ length words
+    → drop base (take (base + from) words ++ replicate count 0 ++ drop (base + from + count) words) ≡ zeroed (drop base words) from count
+cleared words base from count room =
+    let zeros : List ℕ = replicate count 0 in
+    let long : length zeros ≡ count = length-replicate count 0 in
+    ap (λ l. drop base l) (append_assoc (take (base + from) words) zeros (drop (base + from + count) words)
+      ∙ ap (λ n. take (base + from) words ++ (zeros ++ drop (base + from + n) words)) (sym long))
+    ∙ put_behind words zeros base from (omega arith)
+
+-- two words behind a list of so many
+set_two : (zeros rest : List ℕ) (x y link ret n m : ℕ) → length zeros ≡ n → m ≡ n + 1
+    → slice_set (slice_set (zeros ++ (x ∷ (y ∷ rest))) n link) m ret ≡ zeros ++ (link ∷ (ret ∷ rest))
+set_two zeros rest x y link ret n m long next =
+    let one = set_at zeros x (y ∷ rest) link n long in
+    let two = set-append_right zeros (link ∷ (y ∷ rest)) n m ret long (omega arith) in
+    let at : m - n ≡ 1 = omega arith in
+    ap (λ l. slice_set l m ret) one ∙ two ∙ ap (λ k. zeros ++ slice_set (link ∷ (y ∷ rest)) k ret) at
+
+-- a frame below an index, seen from its lowest word
+pub pushed : (words : List ℕ) (base frame low link ret count : ℕ) → 2 ≤ frame → frame ≤ base → base ≤ length words → low ≡ base - frame → count ≡ base - 2 - low
+    → slice_set (slice_set (drop low (take low words ++ replicate count 0 ++ drop (base - 2) words)) (frame - 2) link) (frame - 1) ret ≡ entered frame link ret (drop base words)
+pushed words base frame low link ret count two room inside is counts =
+    let zeros : List ℕ = replicate count 0 in
+    let many : count ≡ frame - 2 = omega arith in
+    let front : length (take low words) ≡ low = length-take-le low words (omega arith) in
+    let next : base - 2 + 1 ≡ base - 1 = omega arith in
+    let last : base - 1 + 1 ≡ base = omega arith in
+    let one = drop_more words (base - 2) 0 (omega arith) ∙ ap (λ n. get_or words (base - 2) 0 ∷ drop n words) next in
+    let more = drop_more words (base - 1) 0 (omega arith) ∙ ap (λ n. get_or words (base - 1) 0 ∷ drop n words) last in
+    let below : drop (base - 2) words ≡ get_or words (base - 2) 0 ∷ (get_or words (base - 1) 0 ∷ drop base words) = one ∙ ap (λ l. get_or words (base - 2) 0 ∷ l) more in
+    let seen : drop low (take low words ++ zeros ++ drop (base - 2) words) ≡ zeros ++ (get_or words (base - 2) 0 ∷ (get_or words (base - 1) 0 ∷ drop base words)) =
+    ap (λ l. drop low l) (append_assoc (take low words) zeros (drop (base - 2) words)) ∙ drop_at (take low words) (zeros ++ drop (base - 2) words) low front ∙ ap (λ l. zeros ++ l) below in
+    ap (λ l. slice_set (slice_set l (frame - 2) link) (frame - 1) ret) seen
+    ∙ set_two zeros (drop base words) _ _ link ret (frame - 2) (frame - 1) (length-replicate count 0 ∙ many) (omega arith)
+    ∙ ap (λ n. replicate n 0 ++ (link ∷ (ret ∷ drop base words))) many
+
+-- zeros before the used words
+pub behind_zeros : (below : ℕ) (used : List ℕ) → drop below (replicate below 0 ++ used) ≡ used
+behind_zeros below used = drop_at (replicate below 0) used below (length-replicate below 0)

@@ -2,7 +2,7 @@
 use Rattle.std.specs.Prelude.{◌≡◌, ℕ, ◌+◌, ◌<◌, ◌≤◌, ⊤, slice_get, Some}
 use Rattle.isa.specs.Code.{Tables}
 use Rattle.isa.specs.declared.instr.Instr.{Instr}
-use Rattle.isa.specs.declared.instr.Instr.TheVariants.{Const, Move, Bin, Negate, Jump, JumpZero, Call, Argument, SetResult, PrintInt, Return}
+use Rattle.isa.specs.declared.instr.Instr.TheVariants.{Const, Move, MoveWords, Bin, Negate, Jump, JumpZero, Call, Argument, SetResults, PrintInt, Return}
 use Rattle.isa.specs.declared.func.Func.{Func}
 
 pub record Inside (t : Tables) (long pc base : ℕ) : Type 0 where
@@ -31,11 +31,12 @@ pub record Callable (t : Tables) (long base g : ℕ) : Type 0 where
 abbrev pub Touches : Tables → ℕ → ℕ → Instr → Type 0
 Touches t long base (Const a word) = base + a < long
 Touches t long base (Move a b) = (base + a < long) × (base + b < long)
+Touches t long base (MoveWords a b n) = (base + (a + n) ≤ long) × (base + (b + n) ≤ long)
 Touches t long base (Bin op a b c) = (base + a < long) × (base + b < long) × (base + c < long)
 Touches t long base (Negate a b) = (base + a < long) × (base + b < long)
 Touches t long base (JumpZero a to) = base + a < long
 Touches t long base (Call g) = Callable t long base g
 Touches t long base (Argument a b) = base + a < long
-Touches t long base (SetResult a b) = base + a < long
+Touches t long base (SetResults a b n) = base + (a + n) ≤ long
 Touches t long base (PrintInt a) = base + a < long
 Touches t long base _ = ⊤

@@ -1,9 +1,20 @@
 //! The block of words that holds the stack at its upper end.
-ghost use Rattle.std.specs.Prelude.{◌≡◌, ◌+◌, ◌-◌, ◌<◌, ◌≤◌, ◌^◌, length, drop, IfOk, OnErr};
+ghost use Rattle.std.specs.Prelude.{◌≡◌, ◌+◌, ◌-◌, ◌<◌, ◌≤◌, ◌^◌, ◌++◌, length, drop, replicate, IfOk, OnErr};
 
 use base::NoMemory;
 use std::alloc::Global;
 use std::cmp::{max, min};
+
+// Zeros, so many, and these words behind them.
+fn behind_zeros(alloc: Global, below: usize, words: &[u64]) -> Result<Vec<u64>, NoMemory>
+    requires { below + length words.now ≤ 2 ^ 33 }
+    ensures { IfOk result (λ v. v.items ≡ replicate below 0 ++ words.now) }
+{
+    let mut block = Vec::with_capacity(alloc, below + words.len())?;
+    block.resize(below, 0)?;
+    block.extend_from_slice(words)?;
+    Ok(block)
+}
 
 // Doubles a block at its low end, or more where so many words would not have room below an index, or less where the block
 // would have more than so many. The answer is where that index is then.
@@ -24,9 +35,7 @@ fn extend(
     let used = block.len() - base;
     let long = min(max(2 * block.len(), used + need), stack_max as usize);
     let below = long - used;
-    let mut wide = Vec::with_capacity(alloc, long)?;
-    wide.resize(below, 0)?;
-    wide.extend_from_slice(&block[base..])?;
+    let wide = behind_zeros(alloc, below, &block[base..])?;
     *block = wide;
     Ok(below)
 }

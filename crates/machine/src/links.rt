@@ -1,5 +1,5 @@
 //! Calls and returns.
-ghost use Rattle.std.specs.Prelude.{◌≡◌, ◌≢◌, ◌↔◌, ◌+◌, ◌-◌, ◌<◌, ◌≤◌, ◌^◌, length, drop, slice_get, IsTrue, Some, None, []};
+ghost use Rattle.std.specs.Prelude.{◌≡◌, ◌≢◌, ◌↔◌, ◌+◌, ◌-◌, ◌<◌, ◌≤◌, ◌^◌, ◌++◌, length, take, drop, replicate, slice_get, IsTrue, Some, None, []};
 ghost use Rattle.simulation.specs.Steps.{Stops};
 ghost use Rattle.isa.specs.Code.{Tables, IsCode};
 ghost use Rattle.machine.specs.Machine.{address_of, zeroed, entered, calls, exits, returns, follows_call, frame_of, owner_of};
@@ -36,6 +36,26 @@ pub fn frame_at(instrs: &[Instr], owners: &[u16], funcs: &[Func], place: usize) 
     funcs[owners[place] as usize].frame as usize
 }
 
+// The words from one index up to another are zero.
+#[inline(always)]
+fn zero_words(words: &mut [u64], from: usize, to: usize)
+    requires { (from ≤ to) × (to ≤ length words.old) }
+    ensures is { words.new ≡ take from words.old ++ replicate (to - from) 0 ++ drop to words.old }
+    ensures length { length words.new ≡ length words.old }
+{
+    words[from..to].fill(0);
+}
+
+// The words of a block from one index up to another are zero.
+#[inline(always)]
+fn zero(words: &mut Vec<u64>, from: usize, to: usize)
+    requires { (from ≤ to) × (to ≤ length words.old.items) }
+    ensures is { words.new.items ≡ take from words.old.items ++ replicate (to - from) 0 ++ drop to words.old.items }
+    ensures length { length words.new.items ≡ length words.old.items }
+{
+    zero_words(words.as_mut_slice(), from, to);
+}
+
 // So many words of the frame, from a slot on, are zero.
 #[inline(always)]
 fn clear(words: &mut Vec<u64>, base: usize, from: usize, count: usize)
@@ -43,7 +63,7 @@ fn clear(words: &mut Vec<u64>, base: usize, from: usize, count: usize)
     ensures words { drop base words.new.items ≡ zeroed (drop base words.old.items) from count }
     ensures length { length words.new.items ≡ length words.old.items }
 {
-    words[base + from..base + from + count].fill(0);
+    zero(words, base + from, base + from + count);
 }
 
 // A frame of so many words stands below an index, and the answer is its lowest word's.
@@ -55,7 +75,7 @@ fn push(words: &mut Vec<u64>, base: usize, frame: usize, link: u64, ret: u64) ->
     ensures length { length words.new.items ≡ length words.old.items }
 {
     let low = base - frame;
-    words[low..base - 2].fill(0);
+    zero(words, low, base - 2);
     set_slot(words, low, frame - 2, link);
     set_slot(words, low, frame - 1, ret);
     low

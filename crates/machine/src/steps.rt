@@ -10,7 +10,7 @@ ghost use Rattle.machine.specs.Inside.{Inside, Callable, Touches, Leads};
 ghost use Rattle.machine.specs.Answers.{Answers, Asks, state_of};
 
 use crate::links::{address, call, frame_at, leave};
-use crate::slots::{set_slot, slot};
+use crate::slots::{copy_slots, set_slot, slot};
 use crate::{Ending, Next, Place};
 use isa::{Func, Instr, bin, negate};
 use outside::{Sink, WriteFault, put_bytes, put_int};
@@ -71,7 +71,7 @@ fn callee(
     funcs[func as usize]
 }
 
-// The index of an incoming word behind a frame of so many words that begins at an index of the block.
+// The index of incoming words, so many, behind a frame of so many words; counted from the frame's lowest word.
 #[inline(always)]
 fn incoming(
     words: &Vec<u64>,
@@ -79,14 +79,15 @@ fn incoming(
     base: usize,
     frame: usize,
     b: u16,
+    n: u16,
 ) -> Result<usize, Ending>
     requires words { (length words.now.items ≤ stack_max) × (stack_max ≤ 2 ^ 32) }
     requires frame { (frame < 2 ^ 16) × (base + frame ≤ length words.now.items) }
-    ensures ok { IfOk result (λ i. (i ≡ frame + b) × (base + i < length words.now.items)) }
-    ensures wild { IfErr result (λ e. (e ≡ Ending.WildAddress (address_of stack_max (length words.now.items - base) + (frame + b))) × (length words.now.items ≤ base + (frame + b))) }
+    ensures ok { IfOk result (λ i. (i ≡ frame + b) × (base + (i + n) ≤ length words.now.items)) }
+    ensures wild { IfErr result (λ e. (e ≡ Ending.WildAddress (address_of stack_max (length words.now.items - base) + (frame + b))) × (length words.now.items < base + (frame + b + n))) }
 {
     let index = frame + b as usize;
-    if base + index < words.len() {
+    if base + index + n as usize <= words.len() {
         return Ok(index);
     }
     Err(Ending::WildAddress(address(stack_max, words.len() - base) + index as u64))
@@ -153,6 +154,10 @@ pub fn step<O: Sink>(
             set_slot(words, base, a as usize, word);
             Next::on(at)
         }
+        Instr::MoveWords { a, b, n } => {
+            copy_slots(words, base, b as usize, a as usize, n as usize);
+            Next::on(at)
+        }
         Instr::Bin { op, a, b, c } => {
             let word = bin(
                 op,
@@ -182,7 +187,7 @@ pub fn step<O: Sink>(
         }
         Instr::Argument { a, b } => {
             let frame = own_frame(instrs, owners, funcs, words, at);
-            match incoming(words, stack_max, base, frame, b) {
+            match incoming(words, stack_max, base, frame, b, 1) {
                 Ok(index) => {
                     let word = slot(words, base, index);
                     set_slot(words, base, a as usize, word);
@@ -191,12 +196,11 @@ pub fn step<O: Sink>(
                 Err(ending) => Next::ended(at, ending),
             }
         }
-        Instr::SetResult { a, b } => {
+        Instr::SetResults { a, b, n } => {
             let frame = own_frame(instrs, owners, funcs, words, at);
-            match incoming(words, stack_max, base, frame, b) {
+            match incoming(words, stack_max, base, frame, b, n) {
                 Ok(index) => {
-                    let word = slot(words, base, a as usize);
-                    set_slot(words, base, index, word);
+                    copy_slots(words, base, a as usize, index, n as usize);
                     Next::on(at)
                 }
                 Err(ending) => Next::ended(at, ending),

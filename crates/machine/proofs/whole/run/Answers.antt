@@ -1,4 +1,4 @@
-use Rattle.machine.proofs.Going.{on_by, ends_by, runs_out, shown, below}
+use Rattle.machine.proofs.Going.{on_by, ends_by, refused, runs_out, shown, below}
 use Rattle.machine.proofs.whole.run.Goals as goal
 
 pub step-next-requires-clause-code : goal.step-next-requires-clause-code
@@ -13,15 +13,19 @@ step-next-requires-clause-place g c =
 pub returns-in-Some-clause-runs : goal.returns-in-Some-clause-runs
 returns-in-Some-clause-runs g c =
     let same = shown c.args.code.now _ _ _ c.instrs-instrs.ensures.value c.owners-owners.ensures c.funcs-funcs.ensures in
-    ends_by _ _ _ _ _ _ _ _ _ _ _ _ _ _ _ _ c.steps.invariant.0 c.steps-test.true same c.in-Some.is c.step-next.ensures.step
+    ends_by _ _ _ _ _ _ _ _ _ _ _ _ _ _ _ _ _ c.steps.invariant.0 c.steps-test.true same c.in-Some.is c.step-next.ensures.step
 
 pub steps-preserved : goal.steps-preserved
 steps-preserved g c =
     let same = shown c.args.code.now _ _ _ c.instrs-instrs.ensures.value c.owners-owners.ensures c.funcs-funcs.ensures in (
-      on_by _ _ _ _ _ _ _ _ _ _ _ _ _ _ _ _ c.steps.invariant.0 c.steps-test.true same c.in-None.is c.step-next.ensures.step
+      on_by _ _ _ _ _ _ _ _ _ _ _ _ _ _ _ _ _ c.steps.invariant.0 c.steps-test.true same c.in-None.is c.step-next.ensures.step
           c.step-next.ensures.later (rw same at (c.step-next.ensures.stays c.in-None.is)),
-      rw c.step-next.ensures.length c.steps.invariant.1,
+      c.step-next.ensures.length,
     )
 
 pub returns-clause-runs : goal.returns-clause-runs
-returns-clause-runs g c = runs_out _ _ _ _ _ _ _ _ _ _ c.steps.invariant.0 c.steps-test.false
+returns-clause-runs g c = runs_out _ _ _ _ _ _ _ _ _ _ _ c.steps.invariant.0 c.steps-test.false
+
+pub returns-in-Some-clause-memory : goal.returns-in-Some-clause-memory
+returns-in-Some-clause-memory g c refusal =
+    refused _ _ _ _ _ _ _ _ _ _ _ _ c.steps.invariant.0 c.steps-test.true (c.step-next.ensures.memory refusal).1
