@@ -35,7 +35,7 @@ cleared words base from count room =
     let zeros : List ℕ = replicate count 0 in
     let long : length zeros ≡ count = length-replicate count 0 in
     ap (λ l. drop base l) (append_assoc (take (base + from) words) zeros (drop (base + from + count) words)
-      ∙ ap (λ n. take (base + from) words ++ (zeros ++ drop (base + from + n) words)) (sym long))
+    ∙ ap (λ n. take (base + from) words ++ (zeros ++ drop (base + from + n) words)) (sym long))
     ∙ put_behind words zeros base from (omega arith)
 
 -- two words behind a list of so many

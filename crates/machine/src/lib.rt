@@ -25,6 +25,8 @@ mod links;
 mod place;
 mod slots;
 mod steps;
+#[cfg(test)]
+mod tests;
 mod whole;
 
 pub use place::{Ending, Next, Place};
