@@ -21,6 +21,7 @@
 #![tactic(auto)]
 
 mod block;
+mod functions;
 mod links;
 mod place;
 mod slots;
