@@ -1,5 +1,5 @@
 -- Steps were done, and out took what they print; or out failed in one, or memory was refused to one.
-use Rattle.std.specs.Prelude.{◌≡◌, ℕ, ◌<◌, ⊤, List, [], drop, Option, Some, None, slice_get}
+use Rattle.std.specs.Prelude.{◌≡◌, ℕ, ◌+◌, ◌-◌, ◌<◌, ◌≤◌, ⊤, List, [], drop, Option, Some, None, slice_get}
 use Rattle.outside.specs.Causes.{Rose}
 use Rattle.outside.specs.Took.{Took, TookPrefix}
 use Rattle.simulation.specs.Steps.{Goes, Stops, events_of, many}
@@ -30,9 +30,9 @@ Comes d s (Some NoMemory) = ⊤
 Comes d s None = d ≡ Goes [] s
 Comes d s (Some e) = d ≡ Stops [] e
 
--- only a call whose frame has no room below an index of the block asks for memory
-abbrev pub Asks : Tables → Place → Type 0
-Asks t at = (g : ℕ) × (slice_get t.instrs at.pc ≡ Some (Call g)) × (at.base < frame_of t g)
+-- only a call whose frame the limit allows, and which has no room below an index of a block of so many words, asks for memory
+abbrev pub Asks : Tables → ℕ → ℕ → Place → Type 0
+Asks t max long at = (g : ℕ) × (slice_get t.instrs at.pc ≡ Some (Call g)) × (at.base < frame_of t g) × (long - at.base + frame_of t g ≤ max)
 
 -- memory was refused behind so many steps, and out took what they print
 abbrev pub Refused : Tables → ℕ → ℕ → State → Option (List ℕ) → Option (List ℕ) → Type 0

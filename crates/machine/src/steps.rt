@@ -103,7 +103,7 @@ pub fn step<O: Sink>(
     ensures later { O.faults out.old ≤ O.faults out.new }
     ensures stays { result.ending ≡ None → Inside (record { instrs = instrs.now; owners = owners.now; funcs = funcs.now }) (length words.new.items) result.at.pc result.at.base }
     ensures length { length words.new.items ≤ stack_max }
-    ensures memory { result.ending ≡ Some Ending.NoMemory → Asks (record { instrs = instrs.now; owners = owners.now; funcs = funcs.now }) at × Took (O.taken out.old) (O.taken out.new) [] × (words.new ≡ words.old) }
+    ensures memory { result.ending ≡ Some Ending.NoMemory → Asks (record { instrs = instrs.now; owners = owners.now; funcs = funcs.now }) stack_max (length words.old.items) at × Took (O.taken out.old) (O.taken out.new) [] × (words.new ≡ words.old) }
 {
     let base = at.base;
     match fetch(instrs, owners, funcs, words, at) {
