@@ -56,7 +56,7 @@ pub fn call(
     ensures calls { Comes (calls stack_max frame (Some callee) (state_of words.old.items at)) (state_of words.new.items result.at) result.ending }
     ensures entered { result.ending ≡ None → (result.at.pc ≡ callee.start) × (result.at.base + callee.frame ≤ length words.new.items) }
     ensures length { length words.new.items ≤ stack_max }
-    ensures refused { result.ending ≡ Some Ending.NoMemory → (at.base < callee.frame) × (length words.old.items - at.base + callee.frame ≤ stack_max) × (words.new ≡ words.old) }
+    ensures refused { result.ending ≡ Some Ending.NoMemory → (at.base < callee.frame) × (length (drop at.base words.old.items) + callee.frame ≤ stack_max) × (words.new ≡ words.old) }
 {
     let asked = callee.frame as usize;
     let used = words.len() - at.base;

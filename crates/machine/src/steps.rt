@@ -7,7 +7,7 @@ ghost use Rattle.std.specs.Prelude.{◌≡◌, ◌⊎◌, ◌≢◌, [], OnOk, O
 ghost use Rattle.isa.specs.Code.{Tables, IsCode};
 ghost use Rattle.machine.specs.Machine.{act, address_of, frame_of, owner_of};
 ghost use Rattle.machine.specs.Inside.{Inside, Callable, Touches, Leads};
-ghost use Rattle.machine.specs.Answers.{Answers, Asks, state_of};
+ghost use Rattle.machine.specs.Answers.{Answers, CallFits, NoRoom, state_of};
 
 use crate::functions::{callee, own_frame};
 use crate::links::{address, call, leave};
@@ -103,7 +103,8 @@ pub fn step<O: Sink>(
     ensures later { O.faults out.old ≤ O.faults out.new }
     ensures stays { result.ending ≡ None → Inside (record { instrs = instrs.now; owners = owners.now; funcs = funcs.now }) (length words.new.items) result.at.pc result.at.base }
     ensures length { length words.new.items ≤ stack_max }
-    ensures memory { result.ending ≡ Some Ending.NoMemory → Asks (record { instrs = instrs.now; owners = owners.now; funcs = funcs.now }) stack_max (length words.old.items) at × Took (O.taken out.old) (O.taken out.new) [] × (words.new ≡ words.old) }
+    ensures memory { result.ending ≡ Some Ending.NoMemory → CallFits (record { instrs = instrs.now; owners = owners.now; funcs = funcs.now }) stack_max (state_of words.old.items at) × Took (O.taken out.old) (O.taken out.new) [] × (words.new ≡ words.old) }
+    ensures room { result.ending ≡ Some Ending.NoMemory → NoRoom (record { instrs = instrs.now; owners = owners.now; funcs = funcs.now }) at }
 {
     let base = at.base;
     match fetch(instrs, owners, funcs, words, at) {
