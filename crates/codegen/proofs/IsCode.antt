@@ -1,237 +1,292 @@
 -- The code of a program is a code.
-use Rattle.std.proofs.Common.{◌≡◌, ◌⊎◌, inl, inr, ℕ, zero, suc, ◌+◌, ◌-◌, ◌<◌, true, false, List, [], ◌∷◌, ◌++◌, length, replicate, Some, None, refl, sym, ap, ◌∙◌, subst, arith, length-append}
-use Rattle.std.specs.Prelude.{slice_get, slice_index, ⊤}
-use Rattle.std.proofs.lemmas.List.{length-replicate}
+use Rattle.std.proofs.Common.{◌≡◌, ◌⊎◌, inl, inr, ℕ, zero, suc, ◌+◌, ◌-◌, ◌<◌, ◌≤◌, true, false, List, [], ◌∷◌, ◌++◌, length, replicate, Some, refl, sym, ap, ◌∙◌, subst, arith, length-append, append_assoc}
+use Rattle.std.specs.Prelude.{Option, None, slice_get, ⊤}
 use Rattle.std.proofs.lemmas.Option.{slice_get_within}
-use Rattle.isa.specs.Code.{Tables, Fits as FitsAt, IsCode, IsLinked}
-use Rattle.isa.specs.declared.func.Func.{Func}
+use Rattle.isa.specs.Code.{Tables, CanCall, Fits as FitsAt, FitsPlace, IsCode, IsLinked}
+use Rattle.isa.specs.declared.func.Func.{Func as Entry}
 use Rattle.isa.specs.declared.instr.Instr.{Instr}
-use Rattle.isa.specs.declared.instr.Instr.TheVariants.{Const, Move, Bin, Negate, Jump, JumpZero, PrintInt, PrintSpace, PrintLine, Return}
-use Rattle.machine.specs.Machine.{frame_of}
+use Rattle.isa.specs.declared.instr.Instr.TheVariants.{Const, Move, MoveWords, Bin, Negate, Jump, JumpZero, Call, Argument, SetResults, PrintInt, PrintSpace, PrintLine, Return}
 use Rattle.machine.specs.Inside.{Inside}
 use Rattle.typed.specs.declared.operators.UnOp.TheVariants as One
-use Rattle.typed.specs.Syntax.{Ex, Piece, St, Sts, constant, read, unary, binary, local, here, none, more, new, to, shown, assign, block, choose, loop, print, done, next}
-use Rattle.codegen.specs.Temps.{Fits, AllFit, StFitsIn, StsFitIn}
-use Rattle.codegen.specs.Code.{operation, ex_code, pieces_code, show_more, show_line, size, st_size, sts_size, st_code, sts_code, body_code, first_func, tables}
-use Rattle.codegen.proofs.Sizes.{HasAt, Compiled, length_sts}
+use Rattle.typed.specs.Syntax.{Ex, Exs, Left, Piece, St, Sts, Func, Program, constant, read, unary, binary, call, local, here, none, more, results, blank, new, to, shown, assign, discard, block, choose, loop, give_back, print, done, next, arguments_in, results_in, argument_words, result_words, arguments_of, results_of}
+use Rattle.typed.specs.Form.{IsInForm}
+use Rattle.typed.specs.Frames.{frame_of, outgoing_of, temps_of}
+use Rattle.codegen.specs.Temps.{SiteFits, SitesFit, ParamsFitIn, LeftsFitIn, ValuesFit, CallFits, Fits, ExsFitIn, PiecesFitIn, StFitsIn, StsFitIn, FuncFitsIn}
+use Rattle.codegen.specs.Code.{Slots, temp, site_slot, operation, move_code, result_code, call_code, count_of, ex_code, exs_code, pieces_code, show_more, show_line, lefts_code, named_write_code, named_read_code, leave_code, leave_size, values_code, params_code, zeros_code, size, st_size, sts_size, st_code, sts_code, slots_of, entry_code, entry_size, func_code, func_size, entry_of, funcs_code, funcs_owners, funcs_entries, code_of}
+use Rattle.codegen.proofs.Sizes.{length_func, length_entry, length_sts}
+use Rattle.codegen.proofs.Stands.{same_some, start_of, some_size, length_owners, Stands, stands, Located, located, entered_from, exists}
+use Rattle.codegen.proofs.Suffice.{func_fits}
 
--- an instruction of a body: no return, slots below s, and jumps below e
-abbrev Ok : (s e : ℕ) → Instr → Type 0
-Ok s e (Const a w) = a < s
-Ok s e (Move a b) = (a < s) × (b < s)
-Ok s e (Bin o a b c) = (a < s) × (b < s) × (c < s)
-Ok s e (Negate a b) = (a < s) × (b < s)
-Ok s e (Jump goal) = goal < e
-Ok s e (JumpZero a goal) = (a < s) × (goal < e)
-Ok s e (PrintInt a) = a < s
-Ok s e PrintSpace = ⊤
-Ok s e PrintLine = ⊤
-Ok s e Return = ⊥
+-- an instruction of a function with so many slots and incoming words: its jumps lead to places of the function
+abbrev Ok : List Entry → (slots incoming start end : ℕ) → Instr → Type 0
+Ok fns slots incoming start end (Const a w) = a < slots
+Ok fns slots incoming start end (Move a b) = (a < slots) × (b < slots)
+Ok fns slots incoming start end (MoveWords a b n) = (1 ≤ n) × (a + n ≤ slots) × (b + n ≤ slots)
+Ok fns slots incoming start end (Bin o a b c) = (a < slots) × (b < slots) × (c < slots)
+Ok fns slots incoming start end (Negate a b) = (a < slots) × (b < slots)
+Ok fns slots incoming start end (Jump goal) = (start ≤ goal) × (goal < end)
+Ok fns slots incoming start end (JumpZero a goal) = (a < slots) × ((start ≤ goal) × (goal < end))
+Ok fns slots incoming start end (Call g) = CanCall fns slots g
+Ok fns slots incoming start end (Argument a b) = (a < slots) × (b < incoming)
+Ok fns slots incoming start end (SetResults a b n) = (1 ≤ n) × (a + n ≤ slots) × (b + n ≤ incoming)
+Ok fns slots incoming start end (PrintInt a) = a < slots
+Ok fns slots incoming start end PrintSpace = ⊤
+Ok fns slots incoming start end PrintLine = ⊤
+Ok fns slots incoming start end Return = ⊤
 
-abbrev Body : (s e : ℕ) → List Instr → Type 0
-Body s e [] = ⊤
-Body s e (i ∷ is) = Ok s e i × Body s e is
+abbrev All : List Entry → (slots incoming start end : ℕ) → List Instr → Type 0
+All fns slots incoming start end [] = ⊤
+All fns slots incoming start end (i ∷ is) = Ok fns slots incoming start end i × All fns slots incoming start end is
 
-body_join : (s e : ℕ) (a b : List Instr) → Body s e a → Body s e b → Body s e (a ++ b)
-body_join s e [] b f g = g
-body_join s e (i ∷ a) b f g = (f.0, body_join s e a b f.1 g)
+module _ (fs : List Func) (s : Slots) (n : ℕ) (fns : List Entry) (arguments wanted start end : ℕ)
+    (can : (f : ℕ) → f < length fs → arguments_of fs f + results_of fs f ≤ s.outgoing → CanCall fns (s.outgoing + s.temps + n) f) where
+  abbrev Are : List Instr → Type 0
+  Are is = All fns (s.outgoing + s.temps + n) (arguments + wanted) start end is
 
-module _ (n t end : ℕ) where
-  ex_body : (e : Ex) (h : ℕ) → Fits n t h e → Body (n + t) end (ex_code t e h)
-  ex_body (constant v) h f = (omega arith, tt)
-  ex_body (read (local v here)) h f = (((let k = f.0 in omega arith), (let k = f.1 in omega arith)), tt)
-  ex_body (unary One.Negate a) h f =
-      let k = f.0 in body_join (n + t) end (ex_code t a h) (Negate h h ∷ []) (ex_body a h f.1) ((omega arith, omega arith), tt)
-  ex_body (binary at o a b) h f =
-      let k = f.0 in let i = Bin (operation o) h h (h + 1) in
-      body_join (n + t) end (ex_code t a h) (ex_code t b (h + 1) ++ i ∷ []) (ex_body a h f.1) (body_join (n + t) end (ex_code t b (h + 1)) (i ∷ []) (ex_body b (h + 1) f.2) ((omega arith, omega arith, omega arith), tt))
+  join : (a b : List Instr) → Are a → Are b → Are (a ++ b)
+  join [] b f g = g
+  join (i ∷ a) b f g = (f.0, join a b f.1 g)
 
-  all_body : (es : List Piece) (h : ℕ) → AllFit n t h es → Body (n + t) end (pieces_code t es h)
-  all_body [] h f = tt
-  all_body (shown e ∷ es) h f = body_join (n + t) end (ex_code t e h) (pieces_code t es (h + 1)) (ex_body e h f.1) (all_body es (h + 1) f.2)
+  site_in : (site : ℕ) → SiteFits s n site → site_slot s site < s.outgoing + s.temps + n
+  site_in site f = let a = f.0 in let b = f.1 in omega (arith, a, b)
 
-  more_body : (es : List Piece) (h : ℕ) → AllFit n t h es → Body (n + t) end (show_more es h)
-  more_body [] h f = (tt, tt)
-  more_body (shown e ∷ es) h f = (tt, ((let k = f.0 in omega arith), more_body es (h + 1) f.2))
+  temp_in : (site : ℕ) → SiteFits s n site → temp s 0 < s.outgoing + s.temps + n
+  temp_in site f = let a = f.0 in let b = f.1 in omega (arith, a, b)
 
-  shown_body : (es : List Piece) (h : ℕ) → AllFit n t h es → Body (n + t) end (show_line es h)
-  shown_body [] h f = (tt, tt)
-  shown_body (shown e ∷ es) h f = ((let k = f.0 in omega arith), more_body es (h + 1) f.2)
+  move_ok : (m a b : ℕ) → a + m ≤ s.outgoing + s.temps + n → b + m ≤ s.outgoing + s.temps + n → Are (move_code m a b)
+  move_ok zero a b f g = tt
+  move_ok (suc m) a b f g = ((omega arith, f, g), tt)
+
+  result_ok : (m a b : ℕ) → a + m ≤ s.outgoing + s.temps + n → b + m ≤ arguments + wanted → Are (result_code m a b)
+  result_ok zero a b f g = tt
+  result_ok (suc m) a b f g = ((omega arith, f, g), tt)
+
+  call_ok : (f h : ℕ) → CallFits fs s n h f → Are (call_code fs s f h)
+  call_ok f h (there, few, room, ins, outs) =
+      let given = arguments_of fs f in let gets = results_of fs f in
+      join (move_code given 0 (temp s h)) (Call f ∷ move_code gets (temp s h) given) (move_ok given 0 (temp s h) (omega arith) (omega arith))
+      (can f there room, move_ok gets (temp s h) given (omega arith) (omega arith))
 
   mutual
-    st_body : (s : St) (pc : ℕ) → StFitsIn n t s → pc + st_size s < end → Body (n + t) end (st_code t s pc)
-    st_body (assign (new v ∷ []) (more e none)) pc f l =
-        let v_in = f.0 in let k = f.1 in
-        body_join (n + t) end (ex_code t e 0) (Move (t + v) 0 ∷ []) (ex_body e 0 f.2) ((omega arith, omega arith), tt)
-    st_body (assign (to (local v here) ∷ []) (more e none)) pc f l =
-        let v_in = f.0 in let k = f.1 in
-        body_join (n + t) end (ex_code t e 0) (Move (t + v) 0 ∷ []) (ex_body e 0 f.2) ((omega arith, omega arith), tt)
-    st_body (assign [] es) pc f l = absurd f
-    st_body (assign (new v ∷ []) none) pc f l = absurd f
-    st_body (assign (new v ∷ []) (more e (more e1 es))) pc f l = absurd f
-    st_body (assign (to (local v here) ∷ []) none) pc f l = absurd f
-    st_body (assign (to (local v here) ∷ []) (more e (more e1 es))) pc f l = absurd f
-    st_body (assign (new v ∷ x ∷ ls) es) pc f l = absurd f
-    st_body (assign (to (local v here) ∷ x ∷ ls) es) pc f l = absurd f
-    st_body (block ss) pc f l = sts_body ss pc f l
-    st_body (choose e a b) pc f l =
-        let k = f.0 in let pa = pc + size e + 1 in let pb = pa + sts_size a + 1 in
-        body_join (n + t) end (ex_code t e 0) (JumpZero 0 pb ∷ (sts_code t a pa ++ Jump (pb + sts_size b) ∷ sts_code t b pb)) (ex_body e 0 f.1)
-        ((omega arith, omega arith), body_join (n + t) end (sts_code t a pa) (Jump (pb + sts_size b) ∷ sts_code t b pb) (sts_body a pa f.2 (omega arith)) (omega arith, sts_body b pb f.3 (omega arith)))
-    st_body (loop [] (Some e) done body) pc f l =
-        let k = f.0 in let pa = pc + size e + 1 in
-        body_join (n + t) end (ex_code t e 0) (JumpZero 0 (pa + sts_size body + 1) ∷ (sts_code t body pa ++ Jump pc ∷ [])) (ex_body e 0 f.1)
-        ((omega arith, omega arith), body_join (n + t) end (sts_code t body pa) (Jump pc ∷ []) (sts_body body pa f.2 (omega arith)) (omega arith, tt))
-    st_body (loop [] (Some e) (next s ss) body) pc f l = absurd f
-    st_body (loop [] None done body) pc f l =
-        body_join (n + t) end (sts_code t body pc) (Jump pc ∷ []) (sts_body body pc f (omega arith)) (omega arith, tt)
-    st_body (loop [] None (next s ss) body) pc f l = absurd f
-    st_body (loop (site ∷ sites) test post body) pc f l = absurd f
-    st_body (print true ps) pc f l = body_join (n + t) end (pieces_code t ps 0) (show_line ps 0) (all_body ps 0 f) (shown_body ps 0 f)
-    st_body (print false ps) pc f l = absurd f
+    ex_ok : (e : Ex) (h : ℕ) → Fits fs s n h e → Are (ex_code fs s e h)
+    ex_ok (constant v) h f = (omega arith, tt)
+    ex_ok (read (local v here)) h f = (((let k = f.0 in omega arith), site_in v f.1), tt)
+    ex_ok (unary One.Negate a) h f =
+        let k = f.0 in join (ex_code fs s a h) (Negate (temp s h) (temp s h) ∷ []) (ex_ok a h f.1) ((omega arith, omega arith), tt)
+    ex_ok (binary at o a b) h f =
+        let k = f.0 in let i = Bin (operation o) (temp s h) (temp s h) (temp s (h + 1)) in
+        join (ex_code fs s a h) (ex_code fs s b (h + 1) ++ i ∷ []) (ex_ok a h f.1) (join (ex_code fs s b (h + 1)) (i ∷ []) (ex_ok b (h + 1) f.2) ((omega arith, omega arith, omega arith), tt))
+    ex_ok (call g es) h f = join (exs_code fs s es h) (call_code fs s g h) (exs_ok es h f.1) (call_ok g h f.0)
 
-    sts_body : (ss : Sts) (pc : ℕ) → StsFitIn n t ss → pc + sts_size ss < end → Body (n + t) end (sts_code t ss pc)
-    sts_body done pc f l = tt
-    sts_body (next s ss) pc f l = body_join (n + t) end (st_code t s pc) (sts_code t ss (pc + st_size s)) (st_body s pc f.0 (omega arith)) (sts_body ss (pc + st_size s) f.1 (omega arith))
+    exs_ok : (es : Exs) (h : ℕ) → ExsFitIn fs s n h es → Are (exs_code fs s es h)
+    exs_ok none h f = tt
+    exs_ok (more e es) h f = join (ex_code fs s e h) (exs_code fs s es (h + 1)) (ex_ok e h f.1) (exs_ok es (h + 1) f.2)
+    exs_ok (results g es) h f = join (exs_code fs s es h) (call_code fs s g h) (exs_ok es h f.1) (call_ok g h f.0)
 
--- with the return at its end
-abbrev Each : (s e : ℕ) → List Instr → Type 0
-Each s e [] = ⊥
-Each s e (Return ∷ is) = is ≡ []
-Each s e (i ∷ is) = Ok s e i × Each s e is
+  pieces_ok : (ps : List Piece) (h : ℕ) → PiecesFitIn fs s n h ps → Are (pieces_code fs s ps h)
+  pieces_ok [] h f = tt
+  pieces_ok (shown e ∷ ps) h f = join (ex_code fs s e h) (pieces_code fs s ps (h + 1)) (ex_ok e h f.1) (pieces_ok ps (h + 1) f.2)
 
-each_join : (s e : ℕ) (a b : List Instr) → Body s e a → Each s e b → Each s e (a ++ b)
-each_join s e [] b f g = g
-each_join s e (Const x w ∷ a) b f g = (f.0, each_join s e a b f.1 g)
-each_join s e (Move x y ∷ a) b f g = (f.0, each_join s e a b f.1 g)
-each_join s e (Bin o x y z ∷ a) b f g = (f.0, each_join s e a b f.1 g)
-each_join s e (Negate x y ∷ a) b f g = (f.0, each_join s e a b f.1 g)
-each_join s e (Jump x ∷ a) b f g = (f.0, each_join s e a b f.1 g)
-each_join s e (JumpZero x y ∷ a) b f g = (f.0, each_join s e a b f.1 g)
-each_join s e (PrintInt x ∷ a) b f g = (f.0, each_join s e a b f.1 g)
-each_join s e (PrintSpace ∷ a) b f g = (f.0, each_join s e a b f.1 g)
-each_join s e (PrintLine ∷ a) b f g = (f.0, each_join s e a b f.1 g)
-each_join s e (Return ∷ a) b f g = absurd f.0
+  more_ok : (ps : List Piece) (h : ℕ) → PiecesFitIn fs s n h ps → Are (show_more s ps h)
+  more_ok [] h f = (tt, tt)
+  more_ok (shown e ∷ ps) h f = (tt, ((let k = f.0 in omega arith), more_ok ps (h + 1) f.2))
 
-zero_at : (long p : ℕ) → p < long → slice_get {X = ℕ} (replicate long 0) p ≡ Some 0
-zero_at zero p l = absurd (omega arith)
-zero_at (suc long) zero l = refl
-zero_at (suc long) (suc p) l = zero_at long p (omega arith)
+  shown_ok : (ps : List Piece) (h : ℕ) → PiecesFitIn fs s n h ps → Are (show_line s ps h)
+  shown_ok [] h f = (tt, tt)
+  shown_ok (shown e ∷ ps) h f = ((let k = f.0 in omega arith), more_ok ps (h + 1) f.2)
 
-zero_read : (long p : ℕ) → slice_index (replicate long 0) p ≡ 0
-zero_read zero p = refl
-zero_read (suc long) zero = refl
-zero_read (suc long) (suc p) = zero_read long p
+  lefts_ok : (ls : List Left) (h : ℕ) → LeftsFitIn s n h ls → Are (lefts_code s ls h)
+  lefts_ok [] h f = tt
+  lefts_ok (blank ∷ ls) h f = lefts_ok ls (h + 1) f.1
+  lefts_ok (new site ∷ ls) h f = ((site_in site f.1, (let k = f.0 in omega arith)), lefts_ok ls (h + 1) f.2)
+  lefts_ok (to (local site here) ∷ ls) h f = ((site_in site f.1, (let k = f.0 in omega arith)), lefts_ok ls (h + 1) f.2)
 
-some_one : (s e : ℕ) (xs : List Instr) → Each s e xs → 0 < length xs
-some_one s e [] f = absurd f
-some_one s e (i ∷ is) f = omega arith
+  named_write_ok : (sites : List ℕ) (h : ℕ) → SitesFit s n sites → h + length sites ≤ s.temps → Are (named_write_code s sites h)
+  named_write_ok [] h f l = tt
+  named_write_ok (site ∷ sites) h f l = ((site_in site f.0, omega arith), named_write_ok sites (h + 1) f.1 (omega arith))
 
-last_or : (s e : ℕ) (i : Instr) (is : List Instr) → Each s e (i ∷ is) → ((i ≡ Return) × (is ≡ [])) ⊎ (Ok s e i × Each s e is)
-last_or s e (Const x w) is f = inr f
-last_or s e (Move x y) is f = inr f
-last_or s e (Bin o x y z) is f = inr f
-last_or s e (Negate x y) is f = inr f
-last_or s e (Jump x) is f = inr f
-last_or s e (JumpZero x y) is f = inr f
-last_or s e (PrintInt x) is f = inr f
-last_or s e PrintSpace is f = inr f
-last_or s e PrintLine is f = inr f
-last_or s e Return is f = inl (refl, f)
+  named_read_ok : (sites : List ℕ) (i : ℕ) → SitesFit s n sites → i + length sites ≤ arguments + wanted → Are (named_read_code s sites i)
+  named_read_ok [] i f l = tt
+  named_read_ok (site ∷ sites) i f l =
+      let t = temp_in site f.0 in
+      ((t, site_in site f.0), ((omega arith, omega (arith, t), omega arith), named_read_ok sites (i + 1) f.1 (omega arith)))
 
-same_some : {A : Type 0} (x y : A) → Some x ≡ Some y → x ≡ y
-same_some x y e = cc
+  leave_ok : (named : List ℕ) → SitesFit s n named → length named ≤ wanted → Are (leave_code s arguments named)
+  leave_ok named f l = join (named_read_code s named arguments) (Return ∷ []) (named_read_ok named arguments f (omega arith)) (tt, tt)
 
-no_item : (p : ℕ) (xs : List Instr) (i : Instr) → xs ≡ [] → slice_get xs p ≡ Some i → ⊥
-no_item p xs i e h = let l = slice_get_within xs p i h in let m : length xs ≡ 0 = ap length e in omega arith
+  values_ok : (named : List ℕ) (k : ℕ) → SitesFit s n named → ValuesFit s.temps wanted k named → Are (values_code s arguments k named)
+  values_ok [] k f v = let a = v.0 in let b = v.1 in result_ok k (temp s 0) arguments (omega arith) (omega arith)
+  values_ok (site ∷ sites) zero f v = tt
+  values_ok (site ∷ sites) (suc k) f v = named_write_ok (site ∷ sites) 0 f (omega (arith, v))
 
-placed : (s e : ℕ) (xs : List Instr) (p : ℕ) (i : Instr) → Each s e xs → slice_get xs p ≡ Some i → (i ≡ Return) ⊎ (Ok s e i × (p + 1 < length xs))
-placed s e [] p i f h = absurd f
-placed s e (x ∷ xs) zero i f h = elim (last_or s e x xs f) [
-  | inl q ↦ inl (sym (same_some x i h) ∙ q.0)
-  | inr q ↦ inr (subst (λ y. Ok s e y) (same_some x i h) q.0, (let l = some_one s e xs q.1 in omega arith))
-]
-placed s e (x ∷ xs) (suc p) i f h = elim (last_or s e x xs f) [
-  | inl q ↦ absurd (no_item p xs i q.1 h)
-  | inr q ↦ elim (placed s e xs p i q.1 h) [ inl r ↦ inl r | inr r ↦ inr (r.0, (let l = r.1 in omega arith)) ]
-]
+  params_ok : (ps : List (Option ℕ)) (i : ℕ) → ParamsFitIn s n ps → i + length ps ≤ arguments → Are (params_code s ps i)
+  params_ok [] i f l = tt
+  params_ok (None ∷ ps) i f l = params_ok ps (i + 1) f (omega arith)
+  params_ok (Some site ∷ ps) i f l = ((site_in site f.0, omega arith), params_ok ps (i + 1) f.1 (omega arith))
 
-module _ (owners : List ℕ) (end : ℕ) (own : (p : ℕ) → p < end → slice_get owners p ≡ Some 0) (funcs : List Func) where
-  fits_at : (place slots given : ℕ) (i : Instr) → Ok slots end i → slice_get owners (place + 1) ≡ Some 0 → FitsAt owners funcs place 0 slots given i
-  fits_at place slots given (Const a w) k f = (k, f)
-  fits_at place slots given (Move a b) k f = (k.0, k.1, f)
-  fits_at place slots given (Bin o a b c) k f = (k.0, k.1, k.2, f)
-  fits_at place slots given (Negate a b) k f = (k.0, k.1, f)
-  fits_at place slots given (Jump goal) k f = own goal k
-  fits_at place slots given (JumpZero a goal) k f = (k.0, own goal k.1, f)
-  fits_at place slots given (PrintInt a) k f = (k, f)
-  fits_at place slots given PrintSpace k f = f
-  fits_at place slots given PrintLine k f = f
-  fits_at place slots given Return k f = tt
+  zeros_ok : (sites : List ℕ) → SitesFit s n sites → Are (zeros_code s sites)
+  zeros_ok [] f = tt
+  zeros_ok (site ∷ sites) f = (site_in site f.0, zeros_ok sites f.1)
 
-module _ (n t : ℕ) (ss : Sts) (fit : StsFitIn n t ss) where
-  abbrev end : ℕ
-  end = length (body_code t ss)
+  module _ (named : List ℕ) (sites : SitesFit s n named) (names : length named ≤ wanted) where
+    abbrev st_len : St → ℕ
+    st_len t = st_size fs arguments named t
 
-  each : Each (n + t) end (body_code t ss)
-  each =
-      let one : length (Return ∷ []) ≡ 1 = refl in
-      each_join (n + t) end (sts_code t ss 0) (Return ∷ []) (sts_body n t end ss 0 fit (omega (arith, one, length-append (sts_code t ss 0) (Return ∷ []), length_sts t ss 0))) refl
+    abbrev sts_len : Sts → ℕ
+    sts_len ss = sts_size fs arguments named ss
 
-  linked : (f : ℕ) (fn : Func) → slice_get (first_func (2 + n + t) ∷ []) f ≡ Some fn → IsLinked (replicate (length (body_code t ss)) 0) f fn
-  linked zero fn e = subst (λ (g : Func). IsLinked (replicate (length (body_code t ss)) 0) 0 g) (same_some (first_func (2 + n + t)) fn e)
-      (record { frame = omega arith; start = zero_at (length (body_code t ss)) 0 (some_one (n + t) end (body_code t ss) each) })
-  linked (suc f) fn e = absurd (none e)
-    where
-      none : {A : Type 0} {x : A} → None ≡ Some x → ⊥
-      none e = cc
+    abbrev code : Sts → ℕ → List Instr
+    code ss pc = sts_code fs arguments named s ss pc
 
-  pub is_code : IsCode (tables (2 + n + t) (body_code t ss))
-  is_code = record {
-    same = length-replicate (length (body_code t ss)) 0;
-    fits = λ place i h. record {
-      f = 0;
-      fn = first_func (2 + n + t);
-      owner = zero_at (length (body_code t ss)) place (slice_get_within (body_code t ss) place i h);
-      is = refl;
-      fits = at place i (placed (n + t) end (body_code t ss) place i each h);
-    };
-    linked = linked;
-  }
-    where
-      at : (place : ℕ) (i : Instr) → (i ≡ Return) ⊎ (Ok (n + t) end i × (place + 1 < length (body_code t ss))) → FitsAt (replicate (length (body_code t ss)) 0) (first_func (2 + n + t) ∷ []) place 0 (2 + n + t - 2) 0 i
-      at place i (inl e) = subst (λ j. FitsAt (replicate (length (body_code t ss)) 0) (first_func (2 + n + t) ∷ []) place 0 (2 + n + t - 2) 0 j) (sym e) tt
-      at place i (inr q) =
-          let s : n + t ≡ 2 + n + t - 2 = omega arith in
-          fits_at (replicate (length (body_code t ss)) 0) end (zero_at end) (first_func (2 + n + t) ∷ []) place (2 + n + t - 2) 0 i (subst (λ m. Ok m end i) s q.0) (zero_at (length (body_code t ss)) (place + 1) q.1)
+    mutual
+      st_ok : (t : St) (pc : ℕ) → StFitsIn fs s n wanted named t → start ≤ pc → pc + st_len t < end → Are (st_code fs arguments named s t pc)
+      st_ok (assign ls es) pc f a l = join (exs_code fs s es 0) (lefts_code s ls 0) (exs_ok es 0 f.0) (lefts_ok ls 0 f.1)
+      st_ok (discard es) pc f a l = exs_ok es 0 f
+      st_ok (block ss) pc f a l = sts_ok ss pc f a l
+      st_ok (choose e x y) pc f a l =
+          let k = f.0 in let pa = pc + size fs e + 1 in let pb = pa + sts_len x + 1 in
+          join (ex_code fs s e 0) (JumpZero (temp s 0) pb ∷ (code x pa ++ Jump (pb + sts_len y) ∷ code y pb)) (ex_ok e 0 f.1)
+          ((omega arith, (omega arith, omega arith)), join (code x pa) (Jump (pb + sts_len y) ∷ code y pb) (sts_ok x pa f.2 (omega arith) (omega arith)) ((omega arith, omega arith), sts_ok y pb f.3 (omega arith) (omega arith)))
+      st_ok (loop [] (Some e) done body) pc f a l =
+          let k = f.0 in let pa = pc + size fs e + 1 in
+          join (ex_code fs s e 0) (JumpZero (temp s 0) (pa + sts_len body + 1) ∷ (code body pa ++ Jump pc ∷ [])) (ex_ok e 0 f.1)
+          ((omega arith, (omega arith, omega arith)), join (code body pa) (Jump pc ∷ []) (sts_ok body pa f.2 (omega arith) (omega arith)) ((omega arith, omega arith), tt))
+      st_ok (loop [] (Some e) (next x xs) body) pc f a l = absurd f
+      st_ok (loop [] None done body) pc f a l = join (code body pc) (Jump pc ∷ []) (sts_ok body pc f a (omega arith)) ((omega arith, omega arith), tt)
+      st_ok (loop [] None (next x xs) body) pc f a l = absurd f
+      st_ok (loop (site ∷ sites) test post body) pc f a l = absurd f
+      st_ok (give_back es) pc f a l =
+          let values = values_code s arguments (count_of fs es) named in let leave = leave_code s arguments named in
+          join (exs_code fs s es 0) (values ++ leave) (exs_ok es 0 f.0) (join values leave (values_ok named (count_of fs es) sites f.1) (leave_ok named sites names))
+      st_ok (print true ps) pc f a l = join (pieces_code fs s ps 0) (show_line s ps 0) (pieces_ok ps 0 f) (shown_ok ps 0 f)
+      st_ok (print false ps) pc f a l = absurd f
 
-  has_all : (whole : List Instr) (pc : ℕ) (xs : List Instr) → ((k : ℕ) (i : Instr) → slice_get xs k ≡ Some i → slice_get whole (pc + k) ≡ Some i) → HasAt whole pc xs
-  has_all whole pc [] h = tt
-  has_all whole pc (i ∷ is) h =
-      let z : pc + 0 ≡ pc = omega arith in (
-        subst (λ p. slice_get whole p ≡ Some i) z (h 0 i refl),
-        has_all whole (pc + 1) is (λ k j e. let m : pc + suc k ≡ pc + 1 + k = omega arith in subst (λ p. slice_get whole p ≡ Some j) m (h (suc k) j e)),
-      )
+      sts_ok : (ss : Sts) (pc : ℕ) → StsFitIn fs s n wanted named ss → start ≤ pc → pc + sts_len ss < end → Are (code ss pc)
+      sts_ok done pc f a l = tt
+      sts_ok (next x xs) pc f a l = join (st_code fs arguments named s x pc) (code xs (pc + st_len x)) (st_ok x pc f.0 a (omega arith)) (sts_ok xs (pc + st_len x) f.1 (omega arith) (omega arith))
 
-  pub compiled : Compiled n t ss (tables (2 + n + t) (body_code t ss))
-  compiled = record {
-    stands = has_all (body_code t ss) 0 (body_code t ss) (λ k i e. let m : k ≡ 0 + k = omega arith in subst (λ p. slice_get (body_code t ss) p ≡ Some i) m e);
-    frame = λ pc. ap (frame_of (tables (2 + n + t) (body_code t ss))) (zero_read (length (body_code t ss)) pc);
-  }
+all_at : (fns : List Entry) (slots incoming start end : ℕ) (xs : List Instr) (p : ℕ) (i : Instr) → All fns slots incoming start end xs → slice_get xs p ≡ Some i → Ok fns slots incoming start end i
+all_at fns slots incoming start end [] p i f h = absurd (no h)
+  where
+    no : {A : Type 0} {x : A} → None ≡ Some x → ⊥
+    no e = cc
+all_at fns slots incoming start end (x ∷ xs) zero i f h = subst (λ y. Ok fns slots incoming start end y) (same_some h) f.0
+all_at fns slots incoming start end (x ∷ xs) (suc p) i f h = all_at fns slots incoming start end xs p i f.1 h
 
-  pub inside : Inside (tables (2 + n + t) (body_code t ss)) (2 + n + t) 0 0
-  inside = record {
-    f = 0;
-    fn = first_func (2 + n + t);
-    owner = zero_at (length (body_code t ss)) 0 (some_one (n + t) end (body_code t ss) each);
-    is = refl;
-    room = omega arith;
-  }
+-- behind each instruction but the last one, which returns, there is another
+before_last : (xs : List Instr) (p : ℕ) (i : Instr) → slice_get (xs ++ Return ∷ []) p ≡ Some i → (i ≡ Return) ⊎ (p + 1 < length (xs ++ Return ∷ []))
+before_last [] zero i h = inl (sym (same_some h))
+before_last [] (suc p) i h = absurd (no h)
+  where
+    no : {A : Type 0} {x : A} → None ≡ Some x → ⊥
+    no e = cc
+before_last (x ∷ xs) zero i h = inr (let one : length (Return ∷ []) ≡ 1 = refl in omega (arith, one, length-append xs (Return ∷ [])))
+before_last (x ∷ xs) (suc p) i h = elim (before_last xs p i h) [ inl r ↦ inl r | inr l ↦ inr (omega (arith, l)) ]
 
--- tables by their parts
-pub tables_are : (frame : ℕ) (code instrs : List Instr) (owners : List ℕ) (funcs : List Func) → instrs ≡ code → owners ≡ replicate (length instrs) 0 → funcs ≡ first_func frame ∷ [] →
-    (let r : Tables = record { instrs = instrs; owners = owners; funcs = funcs } in r) ≡ tables frame code
-tables_are frame code instrs owners funcs a b c =
-    ap (λ (f : List Func). let r : Tables = record { instrs = instrs; owners = owners; funcs = f } in r) c
-    ∙ ap (λ (o : List ℕ). let r : Tables = record { instrs = instrs; owners = o; funcs = first_func frame ∷ [] } in r) b
-    ∙ ap (λ (i : List Instr). tables frame i) a
+ends_so : (a b c : List Instr) (p : ℕ) (i : Instr) → slice_get (a ++ (b ++ (c ++ Return ∷ []))) p ≡ Some i → (i ≡ Return) ⊎ (p + 1 < length (a ++ (b ++ (c ++ Return ∷ []))))
+ends_so a b c p i h =
+    let same : a ++ (b ++ (c ++ Return ∷ [])) ≡ (a ++ (b ++ c)) ++ Return ∷ [] = sym (simp append_assoc) in
+    elim (before_last (a ++ (b ++ c)) p i (subst (λ l. slice_get l p ≡ Some i) same h)) [ inl r ↦ inl r | inr l ↦ inr (subst (λ xs. p + 1 < length xs) (sym same) l) ]
+
+module _ (owners : List ℕ) (f start end : ℕ) (own : (p : ℕ) → start ≤ p → p < end → slice_get owners p ≡ Some f) (fns : List Entry) where
+  fits_at : (place slots incoming : ℕ) (i : Instr) → Ok fns slots incoming start end i → (i ≡ Return) ⊎ (slice_get owners (place + 1) ≡ Some f) → FitsAt owners fns place f slots incoming i
+  fits_at place slots incoming i k (inl e) = subst (λ j. FitsAt owners fns place f slots incoming j) (sym e) tt
+  fits_at place slots incoming (Const a w) k (inr g) = (k, g)
+  fits_at place slots incoming (Move a b) k (inr g) = (k.0, k.1, g)
+  fits_at place slots incoming (MoveWords a b n) k (inr g) = (k.0, k.1, k.2, g)
+  fits_at place slots incoming (Bin o a b c) k (inr g) = (k.0, k.1, k.2, g)
+  fits_at place slots incoming (Negate a b) k (inr g) = (k.0, k.1, g)
+  fits_at place slots incoming (Jump goal) k (inr g) = own goal k.0 k.1
+  fits_at place slots incoming (JumpZero a goal) k (inr g) = (k.0, own goal k.1.0 k.1.1, g)
+  fits_at place slots incoming (Call c) k (inr g) = (k, g)
+  fits_at place slots incoming (Argument a b) k (inr g) = (k.0, k.1, g)
+  fits_at place slots incoming (SetResults a b n) k (inr g) = (k.0, k.1, k.2, g)
+  fits_at place slots incoming (PrintInt a) k (inr g) = (k, g)
+  fits_at place slots incoming PrintSpace k (inr g) = g
+  fits_at place slots incoming PrintLine k (inr g) = g
+  fits_at place slots incoming Return k (inr g) = tt
+
+module _ (fs : List Func) (fit : (f : ℕ) (func : Func) → slice_get fs f ≡ Some func → FuncFitsIn fs func) where
+  abbrev instrs : List Instr
+  instrs = funcs_code fs fs 0
+
+  abbrev owners : List ℕ
+  owners = funcs_owners fs fs 0
+
+  abbrev fns : List Entry
+  fns = funcs_entries fs fs 0
+
+  can : (slots outgoing : ℕ) → outgoing ≤ slots → (f : ℕ) → f < length fs → arguments_of fs f + results_of fs f ≤ outgoing → CanCall fns slots f
+  can slots outgoing wide f there room =
+      let (func, is) = exists fs fs f there in
+      let r = stands fs fs 0 0 f func is in
+      let a : arguments_of fs f ≡ argument_words func = ap arguments_in is in
+      let b : results_of fs f ≡ result_words func = ap results_in is in
+      record { fn = entry_of fs func (0 + start_of fs fs f); is = r.entry; room = omega (arith, a, b, room, wide) }
+
+  func_ok : (func : Func) (pc : ℕ) → FuncFitsIn fs func → All fns (frame_of fs func - 2) (argument_words func + result_words func) pc (pc + func_size fs func) (func_code fs func pc)
+  func_ok func pc ok =
+      let s = slots_of fs func in let n = func.count in let m = argument_words func in
+      let slots : s.outgoing + s.temps + n ≡ frame_of fs func - 2 = omega arith in
+      let end = pc + func_size fs func in
+      let can_call = can (s.outgoing + s.temps + n) s.outgoing (omega arith) in
+      let body = sts_code fs m func.named s func.body (pc + entry_size fs func) in let leave = leave_code s m func.named in
+      let params = params_code s func.params 0 in let zeros = zeros_code s func.named in
+      let entry = join fs s n fns m (result_words func) pc end can_call params zeros
+          (params_ok fs s n fns m (result_words func) pc end can_call func.params 0 ok.params (omega arith))
+          (zeros_ok fs s n fns m (result_words func) pc end can_call func.named ok.named) in
+      let inner = sts_ok fs s n fns m (result_words func) pc end can_call func.named ok.named ok.names func.body (pc + entry_size fs func) ok.body (omega arith) (omega arith) in
+      let last = leave_ok fs s n fns m (result_words func) pc end can_call func.named ok.named ok.names in
+      subst (λ k. All fns k (m + result_words func) pc end (func_code fs func pc)) slots
+      (join fs s n fns m (result_words func) pc end can_call (params ++ zeros) (body ++ leave) entry (join fs s n fns m (result_words func) pc end can_call body leave inner last))
+
+  own : (f : ℕ) (func : Func) → slice_get fs f ≡ Some func → (p : ℕ) → start_of fs fs f ≤ p → p < start_of fs fs f + func_size fs func → slice_get owners p ≡ Some f
+  own f func is p a b =
+      let r = stands fs fs 0 0 f func is in
+      let z : start_of fs fs f + (p - start_of fs fs f) ≡ p = omega (arith, a) in
+      let y : 0 + f ≡ f = omega arith in
+      ap (λ q. slice_get owners q) (sym z) ∙ r.owned (p - start_of fs fs f) (omega (arith, a, b)) ∙ ap (λ q. Some q) y
+
+  fits_place : (place : ℕ) (i : Instr) → slice_get instrs place ≡ Some i → FitsPlace owners fns place i
+  fits_place place i h =
+      let r = located fs fs 0 place (slice_get_within instrs place i h) in
+      let start = start_of fs fs r.k in
+      let st = stands fs fs 0 0 r.k r.func r.is in
+      let z : 0 + start ≡ start = omega arith in
+      let there : slice_get (func_code fs r.func start) r.p ≡ Some i =
+          ap (λ q. slice_get (func_code fs r.func q) r.p) (sym z) ∙ sym (st.code r.p r.within) ∙ ap (λ q. slice_get instrs q) (sym r.at) ∙ h in
+      let s = slots_of fs r.func in
+      let next = ends_so (entry_code fs r.func) (sts_code fs (argument_words r.func) r.func.named s r.func.body (start + entry_size fs r.func)) (named_read_code s r.func.named (argument_words r.func)) r.p i there in
+      record {
+        f = r.k;
+        fn = entry_of fs r.func start;
+        owner = own r.k r.func r.is place (let e = r.at in omega (arith, e)) (let e = r.at in let w = r.within in omega (arith, e, w));
+        is = st.entry ∙ ap (λ q. Some (entry_of fs r.func q)) z;
+        fits = fits_at owners r.k start (start + func_size fs r.func) (own r.k r.func r.is) fns place (frame_of fs r.func - 2) (argument_words r.func + result_words r.func) i
+            (all_at fns (frame_of fs r.func - 2) (argument_words r.func + result_words r.func) start (start + func_size fs r.func) (func_code fs r.func start) r.p i (func_ok r.func start (fit r.k r.func r.is)) there)
+            (elim next [
+              | inl e ↦ inl e
+              | inr l ↦ inr (own r.k r.func r.is (place + 1) (let e = r.at in omega (arith, e)) (let e = r.at in omega (arith, e, l, length_func fs r.func start)))
+            ]);
+      }
+
+  linked : (f : ℕ) (fn : Entry) → slice_get fns f ≡ Some fn → IsLinked owners f fn
+  linked f fn e =
+      let (func, is) = entered_from fs fs 0 f fn e in
+      let start = start_of fs fs f in
+      let r = stands fs fs 0 0 f func is in
+      let z : 0 + start ≡ start = omega arith in
+      let same : entry_of fs func start ≡ fn = same_some (ap (λ q. Some (entry_of fs func q)) (sym z) ∙ sym r.entry ∙ e) in
+      subst (λ (g : Entry). IsLinked owners f g) same
+      (record { frame = omega arith; start = own f func is start (omega arith) (let l = some_size fs func in omega (arith, l)) })
+
+  pub is_code : IsCode (record { instrs = instrs; owners = owners; funcs = fns })
+  is_code = record { same = length_owners fs fs 0 0; fits = fits_place; linked = linked }
+
+-- the frame of a function lies inside so many words where it is entered
+  pub inside : (f : ℕ) (func : Func) (fn : Entry) → slice_get fs f ≡ Some func → slice_get fns f ≡ Some fn → Inside (record { instrs = instrs; owners = owners; funcs = fns }) fn.frame fn.start 0
+  inside f func fn is e =
+      record { f = f; fn = fn; owner = (linked f fn e).start; is = e; room = omega arith }
+
+pub all_fit : (p : Program) → IsInForm p → (f : ℕ) (func : Func) → slice_get p.funcs f ≡ Some func → FuncFitsIn p.funcs func
+all_fit p form f func is = func_fits p.funcs func form.few (form.fits f func is)

@@ -1,12 +1,38 @@
--- What a layout is refused for.
-use Rattle.std.specs.Prelude.{◌≡◌, ◌<◌}
-use Rattle.typed.specs.View.{program_of}
-use Rattle.typed.specs.Frames.{frame_of}
-use Rattle.typed.specs.declared.program.Program.{Program}
+-- The words of each frame, and what a layout is refused for.
+use Rattle.std.specs.Prelude.{◌≡◌, ℕ, nat_lt, if◌then◌else◌, List, [], ◌∷◌, Option, Some, None, map}
+use Rattle.base.specs.declared.pos.Pos.{Pos}
+use Rattle.typed.specs.Syntax.{Func, Program}
+use Rattle.typed.specs.View.{func_of}
+use Rattle.typed.specs.Frames.{outgoing_of, temps_of, frame_of}
+use Rattle.typed.specs.declared.program.Func.{Func as FuncData}
+use Rattle.frame_layout.specs.declared.layout.FrameLayout.{FrameLayout}
 use Rattle.frame_layout.specs.declared.fault.LayoutFault.{LayoutFault}
 use Rattle.frame_layout.specs.declared.fault.LayoutFault.TheVariants as fault
 
--- the frame has more words than a frame may have; these are they, and this is the place of the function's name
-abbrev pub IsTooLarge : Program → LayoutFault → Type 0
-IsTooLarge p fault.NoMemory = Unit {0}
-IsTooLarge p (fault.FrameTooLarge pos words) = (65535 < frame_of (program_of p)) × (words ≡ frame_of (program_of p)) × (pos ≡ p.main.pos)
+abbrev pub layout_in : List Func → Func → FrameLayout
+layout_in fs f = record { outgoing = outgoing_of fs f; temps = temps_of fs f; frame = frame_of fs f }
+
+-- the frames of a program's functions, by their numbers
+abbrev pub layouts : Program → List FrameLayout
+layouts p = map (layout_in p.funcs) p.funcs
+
+-- a frame that has more words than a frame may have: the place of the function's name, and the words
+pub record Large : Type 0 where
+  pub pos : Pos
+  pub words : ℕ
+
+abbrev pub is_large : List Func → FuncData → Option Large
+is_large fs f = if nat_lt 65535 (frame_of fs (func_of f)) then Some (record { pos = f.pos; words = frame_of fs (func_of f) }) else None
+
+abbrev pub or_else : Option Large → Option Large → Option Large
+or_else None l = l
+or_else (Some k) l = Some k
+
+-- the first of some functions whose frame is one
+abbrev pub first_too_large : List Func → List FuncData → Option Large
+first_too_large fs [] = None
+first_too_large fs (f ∷ gs) = or_else (is_large fs f) (first_too_large fs gs)
+
+abbrev pub IsTooLarge : Option Large → LayoutFault → Type 0
+IsTooLarge large fault.NoMemory = Unit {0}
+IsTooLarge large (fault.FrameTooLarge pos words) = large ≡ Some (record { pos = pos; words = words })

@@ -4,6 +4,7 @@ ghost use Rattle.std.specs.Prelude.{◌≡◌};
 ghost use Rattle.frame_layout.specs.declared.fault.LayoutFault.TheVariants.{NoMemory as OutOfMemory};
 
 use base::{NoMemory, Pos};
+use std::alloc::AllocFailed;
 use thiserror::Error;
 
 /// Why a program has no layout.
@@ -20,6 +21,14 @@ impl From<NoMemory> for LayoutFault {
     ghost from_gives = { λ _ e. e ≡ OutOfMemory };
 
     fn from(_: NoMemory) -> LayoutFault {
+        LayoutFault::NoMemory
+    }
+}
+
+impl<T: Drop> From<AllocFailed<T>> for LayoutFault {
+    ghost from_gives = { λ _ e. e ≡ OutOfMemory };
+
+    fn from(_: AllocFailed<T>) -> LayoutFault {
         LayoutFault::NoMemory
     }
 }

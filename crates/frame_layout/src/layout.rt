@@ -1,45 +1,97 @@
-//! The layout of a program.
+//! The layout of each function's frame.
 
-ghost use Rattle.std.specs.Prelude.{◌≡◌, ◌+◌, ◌<◌, ◌≤◌, IfOk, IfErr, length};
-ghost use Rattle.typed.specs.View.{program_of};
-ghost use Rattle.typed.specs.Frames.{temps_of, frame_of};
-ghost use Rattle.frame_layout.specs.Layout.{IsTooLarge};
+ghost use Rattle.std.specs.Prelude.{◌≡◌, ◌+◌, map, IfOk, IfErr, None};
+ghost use Rattle.typed.specs.View.{func_of, program_of};
+ghost use Rattle.typed.specs.Frames.{outgoing_of, temps_of};
+ghost use Rattle.frame_layout.specs.Layout.{first_too_large, is_large, layout_in, layouts, IsTooLarge};
 
 use crate::fault::LayoutFault;
+use crate::outgoing::body_reach;
 use crate::temps::body_temps;
-use typed::Program;
+use base::NoMemory;
+use std::alloc::Global;
+use std::marker::Model;
+use typed::{Func, Program};
 
-/// The temps of the frame of `main`, and all of its words.
+/// The words of a frame: the outgoing area, the temps, and all of them.
 #[derive(Clone, Copy, Debug, PartialEq, Eq)]
-pub struct Layout {
+pub struct FrameLayout {
+    pub outgoing: u16,
     pub temps: u16,
     pub frame: u16,
+}
+
+/// The frames of a program's functions, by their numbers.
+#[derive(Drop)]
+pub struct Layouts {
+    frames: Vec<FrameLayout>,
+}
+
+impl Model for Layouts {
+    ghost use Rattle.std.specs.Prelude.{List};
+    ghost use Rattle.frame_layout.specs.declared.layout.FrameLayout.{FrameLayout};
+
+    ghost Value = { List FrameLayout };
+
+    ghost view = { λ l. l.frames.items };
+}
+
+impl Layouts {
+    /// The frames, by the numbers of the functions.
+    pub fn frames(&self) -> &[FrameLayout]
+        ensures { result.now ≡ self.now }
+    {
+        &self.frames
+    }
 }
 
 /// The most words of a frame.
 const MOST_WORDS: u64 = 65_535;
 
-/// The layout of a program.
-pub fn layout_of(program: &Program) -> Result<Layout, LayoutFault>
-    ensures temps { IfOk result (λ l. l.temps ≡ temps_of (program_of program.now)) }
-    ensures frame { IfOk result (λ l. l.frame ≡ frame_of (program_of program.now)) }
-
-    // Refused is a frame of more than 65,535 words, with its words and the place of the function's name.
-    ensures fault { IfErr result (IsTooLarge program.now) }
+/// The words of a frame with so much outgoing area, so many temps and sites.
+fn words_of(outgoing: u64, temps: u64, sites: u32) -> Result<u64, NoMemory>
+    ensures { IfOk result (λ n. n ≡ 2 + sites + temps + outgoing) }
 {
-    let temps = body_temps(&program.main.body)?;
-    let sites = program.sites.len() as u64;
-    let Some(words) = temps.checked_add(2 + sites) else {
-        return Err(LayoutFault::NoMemory);
-    };
+    let below = temps.checked_add(outgoing).ok_or(NoMemory)?;
+    below.checked_add(2 + sites as u64).ok_or(NoMemory)
+}
+
+/// The layout of a function's frame.
+fn frame_layout(funcs: &[Func], func: &Func) -> Result<FrameLayout, LayoutFault>
+    ensures layout { IfOk result (λ l. l ≡ layout_in (map func_of funcs.now) (func_of func.now)) }
+    ensures small { IfOk result (λ l. is_large (map func_of funcs.now) func.now ≡ None) }
+    ensures fault { IfErr result (IsTooLarge (is_large (map func_of funcs.now) func.now)) }
+{
+    let outgoing = body_reach(funcs, &func.body)?;
+    let temps = body_temps(funcs, func.named.len() as u64, &func.body)?;
+    let words = words_of(outgoing, temps, func.sites)?;
     if words > MOST_WORDS {
         return Err(LayoutFault::FrameTooLarge {
-            pos: program.main.pos,
+            pos: func.pos,
             words,
         });
     }
-    Ok(Layout {
+    Ok(FrameLayout {
+        outgoing: outgoing as u16,
         temps: temps as u16,
         frame: words as u16,
     })
+}
+
+/// The layouts of a program's functions.
+pub fn layout_of(alloc: Global, program: &Program) -> Result<Layouts, LayoutFault>
+    // Each function's words are the definition's, and none has a frame of more than 65,535.
+    ensures layouts { IfOk result (λ l. l ≡ layouts (program_of program.now)) }
+    ensures small { IfOk result (λ l. first_too_large (program_of program.now).funcs program.now.funcs.items ≡ None) }
+
+    // Refused is the first function whose frame has more, with the words and the place of its name.
+    ensures fault { IfErr result (IsTooLarge (first_too_large (program_of program.now).funcs program.now.funcs.items)) }
+{
+    let funcs = program.funcs.as_slice();
+    let mut frames = Vec::new(alloc);
+    for func in funcs {
+        let layout = frame_layout(funcs, func)?;
+        frames.push(layout)?;
+    }
+    Ok(Layouts { frames })
 }

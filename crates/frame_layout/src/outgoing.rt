@@ -1,0 +1,122 @@
+//! The words that calls want in the outgoing area. A number that passes 64 bits counts as want of memory.
+
+ghost use Rattle.std.specs.Prelude.{◌≡◌, ◌+◌, max, map, IfOk};
+ghost use Rattle.typed.specs.Syntax.{arguments_of as arguments, results_of as results};
+ghost use Rattle.typed.specs.View.{ex_of, exs_of, exs_of_values, pieces_of, st_of, sts_of, func_of};
+ghost use Rattle.typed.specs.Frames.{reach, reach_all, reach_pieces, st_reach, sts_reach};
+
+use crate::words::{arguments_of, results_of};
+use base::{FuncId, NoMemory};
+use typed::{Expr, Func, Stmt, Values};
+
+/// The words of the arguments and results of a call.
+fn call_reach(funcs: &[Func], f: FuncId) -> Result<u64, NoMemory>
+    ensures { IfOk result (λ n. n ≡ arguments (map func_of funcs.now) f.0 + results (map func_of funcs.now) f.0) }
+{
+    let words = arguments_of(funcs, f);
+    words.checked_add(results_of(funcs, f)).ok_or(NoMemory)
+}
+
+/// The most words that a call inside of an expression wants.
+#[cycle(values)]
+pub fn expr_reach(funcs: &[Func], e: &Expr) -> Result<u64, NoMemory>
+    ensures { IfOk result (λ n. n ≡ reach (map func_of funcs.now) (ex_of e.now)) }
+{
+    match e {
+        Expr::Constant(_) => Ok(0),
+        Expr::Local(_) => Ok(0),
+        Expr::Unary(_, a) => {
+            let a: &Expr = a;
+            expr_reach(funcs, a)
+        }
+        Expr::Binary(_, _, a, b) => {
+            let a: &Expr = a;
+            let b: &Expr = b;
+            let first = expr_reach(funcs, a)?;
+            let second = expr_reach(funcs, b)?;
+            Ok(first.max(second))
+        }
+        Expr::Call(f, inner) => {
+            let inner: &Values = inner;
+            let words = values_reach(funcs, inner)?;
+            let own = call_reach(funcs, *f)?;
+            Ok(words.max(own))
+        }
+    }
+}
+
+/// The most words that a call inside of values wants.
+#[cycle(values)]
+#[tactic(auto, using(typed::proofs::Rows::expr_rows))]
+pub fn values_reach(funcs: &[Func], values: &Values) -> Result<u64, NoMemory>
+    ensures { IfOk result (λ n. n ≡ reach_all (map func_of funcs.now) (exs_of_values values.now)) }
+{
+    match values {
+        Values::Each(es) => row_reach(funcs, es),
+        Values::Results(f, inner) => {
+            let inner: &Values = inner;
+            let words = values_reach(funcs, inner)?;
+            let own = call_reach(funcs, *f)?;
+            Ok(words.max(own))
+        }
+    }
+}
+
+/// The most words that a call inside of some expressions wants.
+#[cycle(values)]
+fn row_reach(funcs: &[Func], es: &[Expr]) -> Result<u64, NoMemory>
+    ensures { IfOk result (λ n. n ≡ reach_all (map func_of funcs.now) (exs_of es.now)) }
+{
+    let mut words: u64 = 0;
+    for e in es {
+        words = words.max(expr_reach(funcs, e)?);
+    }
+    Ok(words)
+}
+
+/// The most words that a call inside of the operands of a line wants.
+#[tactic(auto, using(crate::proofs::Pieces::reaches))]
+fn line_reach(funcs: &[Func], es: &[Expr]) -> Result<u64, NoMemory>
+    ensures { IfOk result (λ n. n ≡ reach_pieces (map func_of funcs.now) (pieces_of es.now)) }
+{
+    row_reach(funcs, es)
+}
+
+/// The most words that a call inside of a statement wants.
+#[cycle(reach)]
+#[tactic(auto, using(typed::proofs::Rows::stmt_rows))]
+pub fn stmt_reach(funcs: &[Func], s: &Stmt) -> Result<u64, NoMemory>
+    ensures { IfOk result (λ n. n ≡ st_reach (map func_of funcs.now) (st_of s.now)) }
+{
+    match s {
+        Stmt::Assign(_, values) => values_reach(funcs, values),
+        Stmt::Discard(values) => values_reach(funcs, values),
+        Stmt::Block(ss) => body_reach(funcs, ss),
+        Stmt::If(e, a, b) => {
+            let test = expr_reach(funcs, e)?;
+            let first = body_reach(funcs, a)?;
+            let second = body_reach(funcs, b)?;
+            Ok(test.max(first.max(second)))
+        }
+        Stmt::Loop(None, body) => body_reach(funcs, body),
+        Stmt::Loop(Some(e), body) => {
+            let test = expr_reach(funcs, e)?;
+            let round = body_reach(funcs, body)?;
+            Ok(test.max(round))
+        }
+        Stmt::Return(values) => values_reach(funcs, values),
+        Stmt::Print(es) => line_reach(funcs, es),
+    }
+}
+
+/// The most words that a call inside of a body wants.
+#[cycle(reach)]
+pub fn body_reach(funcs: &[Func], body: &[Stmt]) -> Result<u64, NoMemory>
+    ensures { IfOk result (λ n. n ≡ sts_reach (map func_of funcs.now) (sts_of body.now)) }
+{
+    let mut words: u64 = 0;
+    for s in body {
+        words = words.max(stmt_reach(funcs, s)?);
+    }
+    Ok(words)
+}
