@@ -2,3 +2,5 @@ pub mod Pieces
 pub mod Reading
 pub mod Took
 pub mod Written
+pub mod ItemKnown
+pub mod Turns

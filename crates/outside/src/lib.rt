@@ -14,19 +14,22 @@
 mod disk;
 mod fault;
 mod files;
+mod item;
 mod line;
 mod memory;
 mod put;
+mod reader;
 mod sink;
 mod source;
 mod standard;
 
 pub use disk::DiskFiles;
-pub use fault::{Failed, FileFault, WriteFault};
+pub use fault::{Failed, FileFault, ReadFault, WriteFault};
 pub use files::{Files, MAX_FILE_LEN};
 pub use line::{Piece, put_line};
 pub use memory::{CleanFiles, CleanSink, CleanSource, MemFiles, MemSink, MemSource};
-pub use put::{put_bytes, put_int, put_number};
+pub use put::{put_bool, put_bytes, put_int, put_number};
+pub use reader::IntReader;
 pub use sink::Sink;
 pub use source::Source;
 pub use standard::{StdSink, StdSource};
