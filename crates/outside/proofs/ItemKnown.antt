@@ -1,10 +1,10 @@
 -- What the reader knows of an item is what the item is.
-use Rattle.std.proofs.Common.{◌≡◌, ◌≢◌, ◌⊎◌, inl, inr, ℕ, ◌+◌, ◌-◌, ◌*◌, ◌^◌, ◌≤◌, ◌<◌, Bool, true, false, cond, eqb, ltb, leb, ◌&&◌, ◌||◌, List, [], ◌∷◌, ◌++◌, length, Option, Some, None, ℤ, arith, refl, ap, sym, ◌∙◌, subst, length-append}
-use Rattle.std.specs.Prelude.{pos, neg_ℤ, nat_lt, nat_le, not, ◌==◌, if◌then◌else◌}
+use Rattle.std.proofs.Common.{◌≡◌, ◌⊎◌, inl, inr, ℕ, ◌+◌, ◌-◌, ◌*◌, ◌^◌, ◌≤◌, ◌<◌, Bool, true, false, ltb, leb, ◌&&◌, ◌||◌, List, [], ◌∷◌, ◌++◌, length, Option, Some, None, ℤ, arith, refl, sym, ◌∙◌, length-append}
+use Rattle.std.specs.Prelude.{pos, neg_ℤ, nat_lt, nat_le, ◌==◌, if◌then◌else◌}
 use Rattle.std.specs.Char.{is_ascii_digit, digit_value}
 use Rattle.std.specs.List.{list_all}
 use Rattle.std.specs.Str.Parse.{digits_value}
-use Rattle.std.proofs.lemmas.Bool.{cases_Bool, ltb-true, ltb-false, lt-ltb, le-ltb, leb-true, leb-false, and_parts, and_cases, and_left, and_from, both_ways}
+use Rattle.std.proofs.lemmas.Bool.{cases_Bool, lt-ltb, le-ltb, leb-true, leb-false, and_parts, and_cases, and_left}
 use Rattle.std.proofs.lemmas.Int.Digits.{digits_value_push}
 use Rattle.std.proofs.lemmas.List.Folds.{list_all-append}
 use Rattle.std.proofs.lemmas.Str.{digit_value_digit}
@@ -66,20 +66,20 @@ grown i ds b k =
             bad = λ worse. bad_more ds b (k.bad worse);
           })
       | inr not_so ↦ rw not_so (record {
-            digits = λ good. absurd cc;
-            all = λ good. absurd cc;
-            value = λ good. absurd cc;
-            bad = λ _. elim (cases_Bool i.good) [
-              | inl good ↦ elim (and_cases (is_ascii_digit b) (nat_le (10 * i.value + (b - 48)) (2 ^ 63)) not_so) [
-                | inl other_byte ↦ inl (other_bad ds b other_byte)
-                | inr large ↦ elim (cases_Bool (is_ascii_digit b)) [
-                  | inl is ↦ inr (too_large ds b i.value (k.value good) is large)
-                  | inr other_byte ↦ inl (other_bad ds b other_byte)
-                ]
-              ]
-              | inr worse ↦ bad_more ds b (k.bad worse)
-            ];
-          })
+        digits = λ good. absurd cc;
+        all = λ good. absurd cc;
+        value = λ good. absurd cc;
+        bad = λ _. elim (cases_Bool i.good) [
+          | inl good ↦ elim (and_cases (is_ascii_digit b) (nat_le (10 * i.value + (b - 48)) (2 ^ 63)) not_so) [
+            | inl other_byte ↦ inl (other_bad ds b other_byte)
+            | inr large ↦ elim (cases_Bool (is_ascii_digit b)) [
+              | inl is ↦ inr (too_large ds b i.value (k.value good) is large)
+              | inr other_byte ↦ inl (other_bad ds b other_byte)
+            ]
+          ]
+          | inr worse ↦ bad_more ds b (k.bad worse)
+        ];
+      })
     ]
 
 pub knows_start : Knows start []
@@ -91,21 +91,21 @@ knows_start = record {
 
 grow_any : (i : Item) (b : ℕ) → (grow i b).any ≡ true
 grow_any i b = elim (cases_Bool (is_ascii_digit b && nat_le (10 * i.value + (b - 48)) (2 ^ 63))) [
-      | inl is ↦ rw is refl
-      | inr is ↦ rw is refl
-    ]
+  | inl is ↦ rw is refl
+  | inr is ↦ rw is refl
+]
 
 grow_negative : (i : Item) (b : ℕ) → (grow i b).negative ≡ i.negative
 grow_negative i b = elim (cases_Bool (is_ascii_digit b && nat_le (10 * i.value + (b - 48)) (2 ^ 63))) [
-      | inl is ↦ rw is refl
-      | inr is ↦ rw is refl
-    ]
+  | inl is ↦ rw is refl
+  | inr is ↦ rw is refl
+]
 
 magnitude_more : (c : ℕ) (cs : List ℕ) (b : ℕ) → magnitude ((c ∷ cs) ++ (b ∷ [])) ≡ magnitude (c ∷ cs) ++ (b ∷ [])
 magnitude_more c cs b = elim (cases_Bool (c == 45)) [
-      | inl is ↦ rw is refl
-      | inr is ↦ rw is refl
-    ]
+  | inl is ↦ rw is refl
+  | inr is ↦ rw is refl
+]
 
 no_magnitude : (b : ℕ) → (b == 45) ≡ true → magnitude (b ∷ []) ≡ []
 no_magnitude b is = rw is refl
@@ -118,15 +118,15 @@ knows_more i [] b k =
     let none : i.any ≡ false = k.any in
     elim (cases_Bool (b == 45)) [
       | inl minus ↦ rw (none, minus) (record {
-            any = refl;
-            negative = sym minus;
-            magnitude = rw (no_magnitude b minus) (record { digits = λ _. refl; all = λ _. refl; value = λ _. refl; bad = λ worse. absurd cc });
-          })
+        any = refl;
+        negative = sym minus;
+        magnitude = rw (no_magnitude b minus) (record { digits = λ _. refl; all = λ _. refl; value = λ _. refl; bad = λ worse. absurd cc });
+      })
       | inr other ↦ rw (none, other) (record {
-            any = grow_any i b;
-            negative = grow_negative i b ∙ k.negative ∙ sym other;
-            magnitude = rw (whole_magnitude b other) (grown i [] b k.magnitude);
-          })
+        any = grow_any i b;
+        negative = grow_negative i b ∙ k.negative ∙ sym other;
+        magnitude = rw (whole_magnitude b other) (grown i [] b k.magnitude);
+      })
     ]
 knows_more i (c ∷ cs) b k =
     let some : i.any ≡ true = k.any ∙ lt-ltb 0 (length (c ∷ cs)) (omega arith) in
@@ -150,9 +150,9 @@ signed : (negative digits : Bool) (value : ℕ) → value ≤ 2 ^ 63
 signed true true value le = rw (below_one_more value le) refl
 signed true false value le = refl
 signed false true value le = elim (cases_Bool (ltb value (2 ^ 63))) [
-      | inl is ↦ rw is refl
-      | inr is ↦ rw is refl
-    ]
+  | inl is ↦ rw is refl
+  | inr is ↦ rw is refl
+]
 signed false false value le = refl
 
 none_if : (negative a b : Bool) (v w : Option ℤ) → a ≡ false → b ≡ false → None ≡ (if negative then (if a then v else None) else (if b then w else None))
@@ -179,13 +179,13 @@ numeral_is ds digits some all = rw (all, ← some) (last digits)
 
 pub number_known : (i : Item) (text : List ℕ) → Knows i text → i.value ≤ 2 ^ 63 → number_so_far i ≡ number_of text
 number_known i text k small = elim (cases_Bool i.good) [
-      | inl good ↦
-          let m = k.magnitude in
-          rw good (signed i.negative i.digits i.value small ∙ sym (number_is text i.negative i.digits i.value (sym k.negative) (numeral_is (magnitude text) i.digits (m.digits good) (m.all good)) (sym (m.value good))))
-      | inr worse ↦
-          rw worse (elim (k.magnitude.bad worse) [
-            | inl other_byte ↦ none_if (is_negative text) _ _ _ _ (not_numeral (magnitude text) _ other_byte) (not_numeral (magnitude text) _ other_byte)
-            | inr far ↦ let v = digits_value 10 (magnitude text) in
-                none_if (is_negative text) _ _ _ _ (too_far (is_numeral (magnitude text)) v (2 ^ 63 + 1) (omega arith)) (too_far (is_numeral (magnitude text)) v (2 ^ 63) (omega arith))
-          ])
-    ]
+  | inl good ↦
+      let m = k.magnitude in
+      rw good (signed i.negative i.digits i.value small ∙ sym (number_is text i.negative i.digits i.value (sym k.negative) (numeral_is (magnitude text) i.digits (m.digits good) (m.all good)) (sym (m.value good))))
+  | inr worse ↦
+      rw worse (elim (k.magnitude.bad worse) [
+        | inl other_byte ↦ none_if (is_negative text) _ _ _ _ (not_numeral (magnitude text) _ other_byte) (not_numeral (magnitude text) _ other_byte)
+        | inr far ↦ let v = digits_value 10 (magnitude text) in
+            none_if (is_negative text) _ _ _ _ (too_far (is_numeral (magnitude text)) v (2 ^ 63 + 1) (omega arith)) (too_far (is_numeral (magnitude text)) v (2 ^ 63) (omega arith))
+      ])
+]

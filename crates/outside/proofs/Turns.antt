@@ -1,5 +1,5 @@
 -- A call of the reader so far.
-use Rattle.std.proofs.Common.{◌≡◌, ◌≢◌, ◌⊎◌, inl, inr, ℕ, ◌+◌, ◌-◌, ◌^◌, ◌≤◌, ◌<◌, Bool, true, false, ◌&&◌, ◌||◌, List, [], ◌∷◌, ◌++◌, length, Option, Some, None, ℤ, arith, refl, ap, sym, ◌∙◌, subst, append_assoc, append-nil, length-append, IfSome, Result, Ok, Err}
+use Rattle.std.proofs.Common.{◌≡◌, ◌≢◌, ℕ, ◌+◌, ◌^◌, ◌≤◌, ◌<◌, true, false, List, [], ◌∷◌, ◌++◌, length, Option, Some, None, ℤ, arith, refl, ap, sym, ◌∙◌, subst, append_assoc, append-nil, length-append, Ok}
 use Rattle.std.specs.Prelude.{nat_lt}
 use Rattle.std.proofs.lemmas.Bool.{true≢false, lt-ltb}
 use Rattle.std.specs.List.{list_all, list_any}
@@ -8,9 +8,10 @@ use Rattle.std.proofs.KnownBytes.{Consumes-nil, Consumes-trans, Consumes-kept}
 use Rattle.std.proofs.lemmas.List.Folds.{list_all-append, list_any-append}
 use Rattle.outside.specs.Pending.{Gives}
 use Rattle.outside.specs.declared.fault.ReadFault.{ReadFault}
-use Rattle.outside.specs.Items.{Takes, Reads, Loses, bound, is_separator, number_of}
+use Rattle.outside.specs.Items.{Reads, Loses, bound, is_separator}
 use Rattle.outside.specs.ItemSoFar.{start, push, number_so_far}
 use Rattle.outside.specs.declared.item.Item.{Item}
+use Rattle.outside.proofs.FirstItem.{reads_to_separator, reads_to_end, reads_to_bound}
 use Rattle.outside.proofs.ItemKnown.{Knows, knows_start, knows_more, number_known}
 
 -- so many bytes came: separators, and then the front of an item
@@ -79,69 +80,35 @@ skip_more old now next i count b t gave outer idle =
       small = t.small;
     }
 
-taken : (old now : Option (List ℕ)) (i : Item) (count : ℕ) (t : Turns old now i count) → Takes old now t.skipped t.text []
-taken old now i count t = record { came = rw append-nil t.came; apart = t.apart; whole = t.whole }
-
 -- an item with its separator
 pub by_separator : (old now next : Option (List ℕ)) (i : Item) (count b : ℕ) (answer : Option ℤ) → Turns old now i count → Consumes now next (b ∷ [])
     → is_separator b ≡ true → i.any ≡ true → answer ≡ number_so_far i → count < bound → Reads old next answer
-by_separator old now next i count b answer t gave outer any is few = record {
-  skipped = t.skipped;
-  item = t.text;
-  behind = b ∷ [];
-  takes = record {
-    came = rw (← append_assoc t.skipped t.text (b ∷ [])) (Consumes-trans old now next (t.skipped ++ t.text) (b ∷ []) t.came gave);
-    apart = t.apart;
-    whole = t.whole;
-  };
-  ends = inl (record {
-    some = some_text i t.text t.known any;
-    few = let c = t.counted in omega arith;
-    separator = (b, outer, refl);
-    number = is ∙ number_known i t.text t.known t.small;
-  });
-}
-
-kept : (old now next : Option (List ℕ)) (x : List ℕ) → Consumes old now x → IsAtEnd now → Keeps now next → Consumes old next x × IfSome old (λ _. IsAtEnd next)
-kept None now next x came end keeps = (tt, tt)
-kept (Some xs) None next x came end keeps = absurd came
-kept (Some xs) (Some ys) None x came end keeps = absurd keeps
-kept (Some xs) (Some ys) (Some zs) x came end keeps = (rw keeps came, keeps ∙ end)
+by_separator old now next i count b answer t gave outer any is few =
+    let came : Consumes old next (t.skipped ++ (t.text ++ (b ∷ []))) =
+    rw (← append_assoc t.skipped t.text (b ∷ [])) (Consumes-trans old now next (t.skipped ++ t.text) (b ∷ []) t.came gave) in
+    reads_to_separator old next t.skipped t.text b answer came t.apart t.whole (some_text i t.text t.known any) outer
+    (let c = t.counted in omega arith) (is ∙ number_known i t.text t.known t.small)
 
 -- the end of input
 pub by_end : (old now next : Option (List ℕ)) (i : Item) (count : ℕ) (answer : Option ℤ) → Turns old now i count → IsAtEnd now → Keeps now next
     → answer ≡ number_so_far i → count < bound → Reads old next answer
 by_end old now next i count answer t end keeps is few =
-    let both = kept old now next (t.skipped ++ t.text) t.came end keeps in
-    record {
-      skipped = t.skipped;
-      item = t.text;
-      behind = [];
-      takes = record { came = rw append-nil both.0; apart = t.apart; whole = t.whole };
-      ends = inr (inl (record {
-        few = let c = t.counted in omega arith;
-        nothing = refl;
-        end = both.1;
-        number = is ∙ number_known i t.text t.known t.small;
-      }));
-    }
+    reads_to_end old now next t.skipped t.text answer t.came end keeps
+    t.apart t.whole (let c = t.counted in omega arith) (is ∙ number_known i t.text t.known t.small)
 
 -- as many bytes as one call takes
 pub by_bound : (old now : Option (List ℕ)) (i : Item) (count : ℕ) (answer : Option ℤ) → Turns old now i count → count ≡ bound → answer ≡ None → Reads old now answer
-by_bound old now i count answer t all is = record {
-  skipped = t.skipped;
-  item = t.text;
-  behind = [];
-  takes = taken old now i count t;
-  ends = inr (inr (record { all = t.counted ∙ all; nothing = refl; none = is }));
-}
+by_bound old now i count answer t all is =
+    reads_to_bound old now t.skipped t.text answer (rw append-nil t.came) t.apart t.whole (t.counted ∙ all) is
 
 -- a fault
 pub by_fault : (old now next : Option (List ℕ)) (i : Item) (count : ℕ) → Turns old now i count → Keeps now next → count < bound → Loses old next
 by_fault old now next i count t keeps few = record {
   skipped = t.skipped;
   item = t.text;
-  takes = record { came = rw append-nil (Consumes-kept old now next (t.skipped ++ t.text) t.came keeps); apart = t.apart; whole = t.whole };
+  came = Consumes-kept old now next (t.skipped ++ t.text) t.came keeps;
+  apart = t.apart;
+  whole = t.whole;
   few = let c = t.counted in omega arith;
 }
 

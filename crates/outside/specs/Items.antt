@@ -1,9 +1,9 @@
 -- Whole numbers in a stream of bytes, between separators.
-use Rattle.std.specs.Prelude.{◌≡◌, ◌⊎◌, ◌≢◌, ℕ, ◌+◌, ◌^◌, ◌<◌, ◌==◌, ◌&&◌, ◌||◌, nat_lt, Bool, true, false, if◌then◌else◌, List, [], ◌∷◌, ◌++◌, length, Option, Some, None, IfSome, ℤ, pos, neg_ℤ}
-use Rattle.std.specs.List.{list_all, list_any}
+use Rattle.std.specs.Prelude.{◌≡◌, ⊤, ℕ, ◌+◌, ◌^◌, ◌<◌, ◌==◌, ◌&&◌, ◌||◌, not, nat_lt, Bool, true, false, if◌then◌else◌, List, [], ◌∷◌, ◌++◌, length, take, drop, Option, Some, None, ℤ, pos, neg_ℤ}
+use Rattle.std.specs.List.{list_all, list_any, prefix_len}
 use Rattle.std.specs.Char.{is_ascii_digit}
 use Rattle.std.specs.Str.Parse.{digits_value}
-use Rattle.std.specs.Io.KnownBytes.{Consumes, IsAtEnd}
+use Rattle.std.specs.Io.KnownBytes.{Consumes}
 
 -- the most bytes of one call
 abbrev pub bound : ℕ
@@ -35,43 +35,38 @@ number_of item =
     then (if is_numeral (magnitude item) && nat_lt value (2 ^ 63 + 1) then Some (neg_ℤ (pos value)) else None)
     else (if is_numeral (magnitude item) && nat_lt value (2 ^ 63) then Some (pos value) else None)
 
--- the bytes that a call takes: separators, an item, and what ended it
-pub record Takes (old new : Option (List ℕ)) (skipped item behind : List ℕ) : Type 0 where
-  pub came : Consumes old new (skipped ++ (item ++ behind))
-  pub apart : list_all is_separator skipped ≡ true
-  pub whole : list_any is_separator item ≡ false
+-- a byte of an item
+abbrev pub is_inner : ℕ → Bool
+is_inner b = not (is_separator b)
 
--- an item that a separator ends, which is taken too
-pub record EndsBySeparator (skipped item behind : List ℕ) (answer : Option ℤ) : Type 0 where
-  pub some : item ≢ []
-  pub few : length skipped + length item < bound
-  pub separator : (b : ℕ) × (is_separator b ≡ true) × (behind ≡ b ∷ [])
-  pub number : answer ≡ number_of item
+-- the bytes behind the separators in front
+abbrev pub behind_separators : List ℕ → List ℕ
+behind_separators bytes = drop (prefix_len is_separator bytes) bytes
 
--- an item that the end of input ends, or the end of input before an item
-pub record EndsByInput (old new : Option (List ℕ)) (skipped item behind : List ℕ) (answer : Option ℤ) : Type 0 where
-  pub few : length skipped + length item < bound
-  pub nothing : behind ≡ []
-  pub end : IfSome old (λ _. IsAtEnd new)
-  pub number : answer ≡ number_of item
+-- the first item: the longest run of bytes behind the separators that has none
+abbrev pub first_item : List ℕ → List ℕ
+first_item bytes = take (prefix_len is_inner (behind_separators bytes)) (behind_separators bytes)
 
--- as many bytes as one call takes, and no separator behind an item
-pub record EndsByBound (skipped item behind : List ℕ) (answer : Option ℤ) : Type 0 where
-  pub all : length skipped + length item ≡ bound
-  pub nothing : behind ≡ []
-  pub none : answer ≡ None
+-- how many bytes there are up to the end of the first item
+abbrev pub item_end : List ℕ → ℕ
+item_end bytes = prefix_len is_separator bytes + prefix_len is_inner (behind_separators bytes)
 
--- the answer of one call, between the bytes to come before it and after it
-pub record Reads (old new : Option (List ℕ)) (answer : Option ℤ) : Type 0 where
-  pub skipped : List ℕ
-  pub item : List ℕ
-  pub behind : List ℕ
-  pub takes : Takes old new skipped item behind
-  pub ends : EndsBySeparator skipped item behind answer ⊎ (EndsByInput old new skipped item behind answer ⊎ EndsByBound skipped item behind answer)
+-- What a call answers of the bytes to come, and what it leaves of them: the first item and the separator behind it are
+-- taken. Where so many bytes as one call takes have no place for what ends the item, they are taken, and nothing more.
+abbrev pub read_int : List ℕ → Option ℤ × List ℕ
+read_int bytes = if nat_lt (item_end bytes) bound then (number_of (first_item bytes), drop (item_end bytes + 1) bytes) else (None, drop bound bytes)
+
+-- a call that finds the bytes `old` gives the answer and leaves the bytes `new`, where they are told
+abbrev pub Reads : Option (List ℕ) → Option (List ℕ) → Option ℤ → Type 0
+Reads None new answer = ⊤
+Reads (Some bytes) None answer = ⊥
+Reads (Some bytes) (Some rest) answer = (answer ≡ (read_int bytes).0) × (rest ≡ (read_int bytes).1)
 
 -- separators, and the front of an item, are gone
 pub record Loses (old new : Option (List ℕ)) : Type 0 where
   pub skipped : List ℕ
   pub item : List ℕ
-  pub takes : Takes old new skipped item []
+  pub came : Consumes old new (skipped ++ item)
+  pub apart : list_all is_separator skipped ≡ true
+  pub whole : list_any is_separator item ≡ false
   pub few : length skipped + length item < bound

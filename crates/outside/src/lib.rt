@@ -7,6 +7,9 @@
 //! that very call. So a caller who hands an object in can see from the object itself whether a reported fault is true,
 //! and what came before it.
 //!
+//! Whole numbers come from a source through a reader with a buffer. What it answers is said of the bytes that are still
+//! to come, those in the buffer among them: the first item between separators, if it is a number of 64 bits.
+//!
 //! A device may take less than it is given. The `put_` calls write a whole piece over any sink, and say after a fault
 //! exactly how much of it went out.
 #![tactic(auto)]

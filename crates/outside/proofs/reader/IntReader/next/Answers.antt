@@ -1,5 +1,5 @@
-use Rattle.std.proofs.Common.{rules, arith, ◌≡◌, ◌∙◌, sym, refl, true, false}
-use Rattle.outside.proofs.Turns.{at_first, item_more, skip_more, by_separator, by_end, by_bound, by_fault, gives_byte, gives_end}
+use Rattle.std.proofs.Common.{arith, ◌∙◌, sym, refl}
+use Rattle.outside.proofs.Turns.{at_first, item_more, skip_more, by_separator, by_end, by_bound, gives_byte, gives_end}
 use Rattle.outside.proofs.reader.IntReader.next.Goals as goal
 use Rattle.outside.proofs.reader.IntReader.next.Goals.{then-not-is_separator, else-not-is_separator+else-item}
 
@@ -27,10 +27,10 @@ bytes-preserved g c =
     record {
       turns = elim c.if-not-is_separator.branch [
         | then-not-is_separator w ↦
-          rw w.item-is (item_more _ _ _ _ _ _ _ c.bytes.invariant.turns gave (sym c.is_separator.ensures ∙ w.if-not-is_separator.true)
-          w.pushed-item.ensures.push w.pushed-item.ensures.small)
+            rw w.item-is (item_more _ _ _ _ _ _ _ c.bytes.invariant.turns gave (sym c.is_separator.ensures ∙ w.if-not-is_separator.true)
+            w.pushed-item.ensures.push w.pushed-item.ensures.small)
         | else-not-is_separator+else-item w ↦
-          rw w.item-is (skip_more _ _ _ _ _ _ c.bytes.invariant.turns gave (sym c.is_separator.ensures ∙ w.if-not-is_separator.false) w.if-item.false)
+            rw w.item-is (skip_more _ _ _ _ _ _ c.bytes.invariant.turns gave (sym c.is_separator.ensures ∙ w.if-not-is_separator.false) w.if-item.false)
       ];
       knows = λ known. c.byte.ensures.knows (c.bytes.invariant.knows known);
       remembers = λ ended.
@@ -39,3 +39,6 @@ bytes-preserved g c =
           (now.0, now.1 ∙ before.1);
       later = let later = c.byte.ensures.cause.later in omega (arith, c.bytes.invariant.later);
     }
+
+pub returns-clause-reads : goal.returns-clause-reads
+returns-clause-reads g c = by_bound _ _ _ _ _ c.bytes.invariant.turns (omega (arith, c.bytes-test.false, c.bytes.auto._turn-end)) refl
