@@ -1,5 +1,5 @@
 -- The bytes that a call has taken are the first item of those that were to come.
-use Rattle.std.proofs.Common.{◌≡◌, ◌≢◌, ℕ, ◌+◌, ◌≤◌, ◌<◌, Bool, true, false, List, [], ◌∷◌, ◌++◌, length, take, drop, Option, Some, None, ℤ, arith, refl, ap, sym, ◌∙◌, subst, append_assoc}
+use Rattle.std.proofs.Common.{◌≡◌, ◌≢◌, ℕ, ◌+◌, ◌≤◌, ◌<◌, Bool, true, false, List, [], ◌∷◌, ◌++◌, length, length-append, IfSome, take, drop, Option, Some, None, ℤ, arith, refl, ap, sym, ◌∙◌, subst, append_assoc}
 use Rattle.std.specs.Prelude.{not}
 use Rattle.std.specs.List.{list_all, list_any, prefix_len}
 use Rattle.std.specs.Io.KnownBytes.{Consumes, IsAtEnd, Keeps}
@@ -7,7 +7,7 @@ use Rattle.std.proofs.lemmas.Bool.{and_parts, or_parts, cond-true, cond-false, l
 use Rattle.std.proofs.lemmas.List.{drop-drop}
 use Rattle.std.proofs.lemmas.List.Prefix.{front_rest}
 use lib.Seq.{take-append_seam}
-use Rattle.outside.specs.Items.{Reads, bound, is_separator, is_inner, behind_separators, first_item, item_end, read_int, number_of}
+use Rattle.outside.specs.Items.{Reads, bound, is_separator, is_inner, behind_separators, first_item, item_end, read_int, number_of, MeetsEnd}
 
 run : (p : ℕ → Bool) (s t : List ℕ) → list_all p s ≡ true → prefix_len p (s ++ t) ≡ length s + prefix_len p t
 run p [] t all = omega arith
@@ -79,6 +79,13 @@ cut_item s i t answer apart whole count is =
     let behind : t ≡ drop bound all = sym (ap (λ (n : ℕ). drop n all) (sym count) ∙ drop_two s i t) in
     rw (le-ltb (item_end all) bound (omega (arith, far_end s i t apart whole))) (is, behind)
 
+-- where one byte more or the bound ended it, the call has not met the end
+no_end_behind : (s i t : List ℕ) (b : ℕ) → list_all is_separator s ≡ true → list_any is_separator i ≡ false → prefix_len is_separator (i ++ (b ∷ t)) ≡ 0
+    → is_separator b ≡ true → MeetsEnd (s ++ (i ++ (b ∷ t))) → ⊥
+no_end_behind s i t b apart whole stops outer meets =
+    let last : prefix_len is_inner (b ∷ t) ≡ 0 = cond-false (is_inner b) (1 + prefix_len is_inner t) 0 (ap not outer) in
+    omega (arith, meets.0, end s i (b ∷ t) apart whole stops, last, length-append s (i ++ (b ∷ t)), length-append i (b ∷ t))
+
 -- ---- the same of bytes that are told or not
 
 joined : (xs s i h ys : List ℕ) → xs ≡ (s ++ (i ++ h)) ++ ys → xs ≡ s ++ (i ++ (h ++ ys))
@@ -121,3 +128,17 @@ reads_to_bound None new s i answer came apart whole count is = tt
 reads_to_bound (Some xs) None s i answer came apart whole count is = absurd came
 reads_to_bound (Some xs) (Some ys) s i answer came apart whole count is =
     subst (λ (l : List ℕ). Step answer ys l) (sym (joined xs s i [] ys came)) (cut_item s i ys answer apart whole count is)
+
+pub separator_no_end : (old new : Option (List ℕ)) (s i : List ℕ) (b : ℕ) → Consumes old new (s ++ (i ++ (b ∷ [])))
+    → list_all is_separator s ≡ true → list_any is_separator i ≡ false → i ≢ [] → is_separator b ≡ true → IfSome old (λ bytes. MeetsEnd bytes → ⊥)
+separator_no_end None new s i b came apart whole some outer = tt
+separator_no_end (Some xs) None s i b came apart whole some outer = absurd came
+separator_no_end (Some xs) (Some ys) s i b came apart whole some outer =
+    subst (λ (l : List ℕ). MeetsEnd l → ⊥) (sym (joined xs s i (b ∷ []) ys came)) (no_end_behind s i ys b apart whole (no_separators i (b ∷ ys) whole some) outer)
+
+pub bound_no_end : (old new : Option (List ℕ)) (s i : List ℕ) → Consumes old new (s ++ (i ++ []))
+    → list_all is_separator s ≡ true → list_any is_separator i ≡ false → length s + length i ≡ bound → IfSome old (λ bytes. MeetsEnd bytes → ⊥)
+bound_no_end None new s i came apart whole count = tt
+bound_no_end (Some xs) None s i came apart whole count = absurd came
+bound_no_end (Some xs) (Some ys) s i came apart whole count =
+    subst (λ (l : List ℕ). MeetsEnd l → ⊥) (sym (joined xs s i [] ys came)) (λ meets. omega (arith, meets.1, far_end s i ys apart whole))

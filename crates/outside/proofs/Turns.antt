@@ -1,5 +1,5 @@
 -- A call of the reader so far.
-use Rattle.std.proofs.Common.{◌≡◌, ◌≢◌, ℕ, ◌+◌, ◌^◌, ◌≤◌, ◌<◌, true, false, List, [], ◌∷◌, ◌++◌, length, Option, Some, None, ℤ, arith, refl, ap, sym, ◌∙◌, subst, append_assoc, append-nil, length-append, Ok}
+use Rattle.std.proofs.Common.{Bool, IfSome, ◌≡◌, ◌≢◌, ℕ, ◌+◌, ◌^◌, ◌≤◌, ◌<◌, true, false, List, [], ◌∷◌, ◌++◌, length, Option, Some, None, ℤ, arith, refl, ap, sym, ◌∙◌, subst, append_assoc, append-nil, length-append, Ok}
 use Rattle.std.specs.Prelude.{nat_lt}
 use Rattle.std.proofs.lemmas.Bool.{true≢false, lt-ltb}
 use Rattle.std.specs.List.{list_all, list_any}
@@ -8,10 +8,10 @@ use Rattle.std.proofs.KnownBytes.{Consumes-nil, Consumes-trans, Consumes-kept}
 use Rattle.std.proofs.lemmas.List.Folds.{list_all-append, list_any-append}
 use Rattle.outside.specs.Pending.{Gives}
 use Rattle.outside.specs.declared.fault.ReadFault.{ReadFault}
-use Rattle.outside.specs.Items.{Reads, Loses, bound, is_separator}
+use Rattle.outside.specs.Items.{Reads, MeetsEnd, Loses, bound, is_separator}
 use Rattle.outside.specs.ItemSoFar.{start, push, number_so_far}
 use Rattle.outside.specs.declared.item.Item.{Item}
-use Rattle.outside.proofs.FirstItem.{reads_to_separator, reads_to_end, reads_to_bound}
+use Rattle.outside.proofs.FirstItem.{reads_to_separator, reads_to_end, reads_to_bound, separator_no_end, bound_no_end}
 use Rattle.outside.proofs.ItemKnown.{Knows, knows_start, knows_more, number_known}
 
 -- so many bytes came: separators, and then the front of an item
@@ -117,3 +117,23 @@ gives_byte r b old new is gave = subst (λ (x : Option ℕ). Gives {E = ReadFaul
 
 pub gives_end : (r : Option ℕ) (old new : Option (List ℕ)) → r ≡ None → Gives {E = ReadFault} (Ok r) old new → IsAtEnd old × Keeps old new
 gives_end r old new is gave = subst (λ (x : Option ℕ). Gives {E = ReadFault} (Ok x) old new) is gave
+
+-- ---- what is remembered
+
+pub end_is_met : (old : Option (List ℕ)) (ended : Bool) → ended ≡ true → IfSome old (λ bytes. MeetsEnd bytes → ended ≡ true)
+end_is_met None ended is = tt
+end_is_met (Some xs) ended is = λ _. is
+
+not_met : (old : Option (List ℕ)) (ended : Bool) → IfSome old (λ bytes. MeetsEnd bytes → ⊥) → IfSome old (λ bytes. MeetsEnd bytes → ended ≡ true)
+not_met None ended never = tt
+not_met (Some xs) ended never = λ meets. absurd (never meets)
+
+pub separator_not_met : (old now next : Option (List ℕ)) (i : Item) (count b : ℕ) (ended : Bool) → Turns old now i count → Consumes now next (b ∷ [])
+    → is_separator b ≡ true → i.any ≡ true → IfSome old (λ bytes. MeetsEnd bytes → ended ≡ true)
+separator_not_met old now next i count b ended t gave outer any =
+    let came : Consumes old next (t.skipped ++ (t.text ++ (b ∷ []))) =
+    rw (← append_assoc t.skipped t.text (b ∷ [])) (Consumes-trans old now next (t.skipped ++ t.text) (b ∷ []) t.came gave) in
+    not_met old ended (separator_no_end old next t.skipped t.text b came t.apart t.whole (some_text i t.text t.known any) outer)
+
+pub bound_not_met : (old now : Option (List ℕ)) (i : Item) (count : ℕ) (ended : Bool) → Turns old now i count → count ≡ bound → IfSome old (λ bytes. MeetsEnd bytes → ended ≡ true)
+bound_not_met old now i count ended t all = not_met old ended (bound_no_end old now t.skipped t.text (rw append-nil t.came) t.apart t.whole (t.counted ∙ all))

@@ -1,5 +1,5 @@
 -- Whole numbers in a stream of bytes, between separators.
-use Rattle.std.specs.Prelude.{◌≡◌, ⊤, ℕ, ◌+◌, ◌^◌, ◌<◌, ◌==◌, ◌&&◌, ◌||◌, not, nat_lt, Bool, true, false, if◌then◌else◌, List, [], ◌∷◌, ◌++◌, length, take, drop, Option, Some, None, ℤ, pos, neg_ℤ}
+use Rattle.std.specs.Prelude.{◌≡◌, ⊤, ℕ, ◌+◌, ◌^◌, ◌<◌, ◌≤◌, ◌==◌, ◌&&◌, ◌||◌, not, nat_lt, Bool, true, false, if◌then◌else◌, List, [], ◌∷◌, ◌++◌, length, take, drop, Option, Some, None, ℤ, pos, neg_ℤ}
 use Rattle.std.specs.List.{list_all, list_any, prefix_len}
 use Rattle.std.specs.Char.{is_ascii_digit}
 use Rattle.std.specs.Str.Parse.{digits_value}
@@ -61,6 +61,10 @@ abbrev pub Reads : Option (List ℕ) → Option (List ℕ) → Option ℤ → Ty
 Reads None new answer = ⊤
 Reads (Some bytes) None answer = ⊥
 Reads (Some bytes) (Some rest) answer = (answer ≡ (read_int bytes).0) × (rest ≡ (read_int bytes).1)
+
+-- the bytes end before a separator behind the first item, and one call gets there
+abbrev pub MeetsEnd : List ℕ → Type 0
+MeetsEnd bytes = (length bytes ≤ item_end bytes) × (item_end bytes < bound)
 
 -- separators, and the front of an item, are gone
 pub record Loses (old new : Option (List ℕ)) : Type 0 where

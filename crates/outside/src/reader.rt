@@ -1,7 +1,7 @@
 //! Whole numbers from a source.
-ghost use Rattle.std.specs.Prelude.{◌≡◌, [], false, true, IfOk, OnErr};
+ghost use Rattle.std.specs.Prelude.{◌≡◌, [], None, false, true, IfOk, IfSome, OnErr};
 ghost use Rattle.outside.specs.Causes.{HasCause};
-ghost use Rattle.outside.specs.Items.{Reads, Loses};
+ghost use Rattle.outside.specs.Items.{Reads, MeetsEnd, Loses};
 ghost use Rattle.outside.specs.Pending.{to_come, KnowsEnd, Gives};
 
 use crate::item::{Item, is_separator};
@@ -52,6 +52,7 @@ impl IntReader {
         ensures gives { Gives result (to_come self.old (S.left src.old)) (to_come self.new (S.left src.new)) }
         ensures knows { KnowsEnd self.old (S.left src.old) → KnowsEnd self.new (S.left src.new) }
         ensures remembers { self.old.ended ≡ true → (self.new.ended ≡ true) × (src.new ≡ src.old) }
+        ensures ended { IfOk result (λ b. b ≡ None → self.new.ended ≡ true) }
         ensures cause { HasCause (S.faults src.old) (S.faults src.new) result }
     {
         if self.at == self.len {
@@ -79,6 +80,9 @@ impl IntReader {
     /// where 1,048,576 bytes hold no separator behind an item; a later call goes on behind them.
     pub fn next<S: Source>(&mut self, src: &mut S) -> Result<Option<i64>, ReadFault>
         ensures reads { IfOk result (Reads (to_come self.old (S.left src.old)) (to_come self.new (S.left src.new))) }
+
+        // An end of input that the call has met is remembered.
+        ensures ended { IfOk result (λ _. IfSome (to_come self.old (S.left src.old)) (λ bytes. MeetsEnd bytes → self.new.ended ≡ true)) }
 
         // After a fault the bytes of the item that came before it are gone.
         ensures lost { OnErr result (Loses (to_come self.old (S.left src.old)) (to_come self.new (S.left src.new))) }

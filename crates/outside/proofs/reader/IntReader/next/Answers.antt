@@ -1,5 +1,5 @@
 use Rattle.std.proofs.Common.{arith, ◌∙◌, sym, refl}
-use Rattle.outside.proofs.Turns.{at_first, item_more, skip_more, by_separator, by_end, by_bound, gives_byte, gives_end}
+use Rattle.outside.proofs.Turns.{at_first, item_more, skip_more, by_separator, by_end, by_bound, end_is_met, separator_not_met, bound_not_met, gives_byte, gives_end}
 use Rattle.outside.proofs.reader.IntReader.next.Goals as goal
 use Rattle.outside.proofs.reader.IntReader.next.Goals.{then-not-is_separator, else-not-is_separator+else-item}
 
@@ -42,3 +42,14 @@ bytes-preserved g c =
 
 pub returns-clause-reads : goal.returns-clause-reads
 returns-clause-reads g c = by_bound _ _ _ _ _ c.bytes.invariant.turns (omega (arith, c.bytes-test.false, c.bytes.auto._turn-end)) refl
+
+pub returns-in_default-clause-ended : goal.returns-in_default-clause-ended
+returns-in_default-clause-ended g c = end_is_met _ _ (c.in_ok-b.ensures.ended c.in_default.is)
+
+pub returns-then-item-clause-ended : goal.returns-then-item-clause-ended
+returns-then-item-clause-ended g c =
+    separator_not_met _ _ _ _ _ _ _ c.bytes.invariant.turns (gives_byte _ _ _ _ c.in-Some.is c.in_ok-b.ensures.gives)
+    (sym c.is_separator.ensures ∙ c.if-not-is_separator.false) c.if-item.true
+
+pub returns-clause-ended : goal.returns-clause-ended
+returns-clause-ended g c = bound_not_met _ _ _ _ _ c.bytes.invariant.turns (omega (arith, c.bytes-test.false, c.bytes.auto._turn-end))
