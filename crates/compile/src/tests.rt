@@ -34,7 +34,7 @@ fn faults_of_each_stage(rt: HostRuntime) -> Result<(), Fail> {
             CompileFault::Scan(ScanFault::Fault(ScanKind::BadChar, pos(32, 2, 20))),
         ),
         (
-            "x := 007",
+            "x := 08",
             CompileFault::Scan(ScanFault::Fault(ScanKind::BadNumber, pos(32, 2, 20))),
         ),
         (

@@ -311,7 +311,7 @@ fn texts(rt: HostRuntime) -> Result<(), Fail> {
             "a.go:2:15: type kind 20\n",
         ),
         (
-            "package main\nfunc main() { println(\"a\") }",
+            "package main\nfunc main() { println('a') }",
             201,
             "",
             "a.go:2:23: scan kind 10\n",

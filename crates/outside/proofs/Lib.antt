@@ -2,3 +2,6 @@ pub mod Pieces
 pub mod Reading
 pub mod Took
 pub mod Written
+pub mod FirstItem
+pub mod ItemKnown
+pub mod Turns

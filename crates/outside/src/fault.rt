@@ -24,3 +24,8 @@ pub struct WriteFault {
     /// How many bytes of the piece were taken.
     pub gone: u64,
 }
+
+/// The source failed. The bytes that were read of the item are gone.
+#[derive(Clone, Copy, Debug, PartialEq, Eq, Error)]
+#[error("read fault")]
+pub struct ReadFault;

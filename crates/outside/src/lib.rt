@@ -7,6 +7,9 @@
 //! that very call. So a caller who hands an object in can see from the object itself whether a reported fault is true,
 //! and what came before it.
 //!
+//! Whole numbers come from a source through a reader with a buffer. What it answers is said of the bytes that are still
+//! to come, those in the buffer among them: the first item between separators, if it is a number of 64 bits.
+//!
 //! A device may take less than it is given. The `put_` calls write a whole piece over any sink, and say after a fault
 //! exactly how much of it went out.
 #![tactic(auto)]
@@ -14,19 +17,22 @@
 mod disk;
 mod fault;
 mod files;
+mod item;
 mod line;
 mod memory;
 mod put;
+mod reader;
 mod sink;
 mod source;
 mod standard;
 
 pub use disk::DiskFiles;
-pub use fault::{Failed, FileFault, WriteFault};
+pub use fault::{Failed, FileFault, ReadFault, WriteFault};
 pub use files::{Files, MAX_FILE_LEN};
 pub use line::{Piece, put_line};
 pub use memory::{CleanFiles, CleanSink, CleanSource, MemFiles, MemSink, MemSource};
-pub use put::{put_bytes, put_int, put_number};
+pub use put::{put_bool, put_bytes, put_int, put_number};
+pub use reader::IntReader;
 pub use sink::Sink;
 pub use source::Source;
 pub use standard::{StdSink, StdSource};

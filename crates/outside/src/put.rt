@@ -1,5 +1,6 @@
 //! Whole pieces, over sinks that take less than they are given.
 ghost use Rattle.std.specs.Fmt.{decimal, signed_decimal};
+ghost use Rattle.std.specs.Prelude.{codes, if◌then◌else◌};
 ghost use Rattle.outside.specs.Causes.{HasCause};
 ghost use Rattle.outside.specs.Puts.{Puts};
 
@@ -37,4 +38,12 @@ pub fn put_number<S: Sink>(out: &mut S, n: u64) -> Result<(), WriteFault>
 {
     let mut buffer = Buffer::new();
     put_bytes(out, buffer.format(n).as_bytes())
+}
+
+/// Writes `true` or `false`.
+pub fn put_bool<S: Sink>(out: &mut S, b: bool) -> Result<(), WriteFault>
+    ensures puts { Puts (S.taken out.old) (S.taken out.new) (S.number out.old) (S.number out.new) result (if b then codes "true" else codes "false") }
+    ensures cause { HasCause (S.faults out.old) (S.faults out.new) result }
+{
+    put_bytes(out, if b { b"true" } else { b"false" })
 }

@@ -90,7 +90,7 @@ fn clean_files(rt: HostRuntime) -> Result<(), Fail> {
 
 #[test]
 fn real_files(rt: HostRuntime) -> Result<(), Fail> {
-    let name = "/tmp/outside_carries_bytes";
+    let name = "outside_carries_bytes";
     let mut files = DiskFiles::new(rt.alloc(), rt.clone()?);
     files.write_all(rt.alloc(), name, b"a\0\xff\n")?;
     assert_eq!(rt;
@@ -98,13 +98,11 @@ fn real_files(rt: HostRuntime) -> Result<(), Fail> {
         b"a\0\xff\n".as_slice()
     );
     assert_eq!(rt;
-        files.read_all(rt.alloc(), "/tmp/outside_missing/x").err(),
+        files.read_all(rt.alloc(), "outside_missing/x").err(),
         Some(FileFault::Failed)
     );
     assert_eq!(rt;
-        files
-            .write_all(rt.alloc(), "/tmp/outside_missing/x", b"")
-            .err(),
+        files.write_all(rt.alloc(), "outside_missing/x", b"").err(),
         Some(FileFault::Failed)
     );
     Ok(fs::remove_file(&rt, name)?)
@@ -173,5 +171,123 @@ fn numbers_in_decimal(rt: HostRuntime) -> Result<(), Fail> {
         sink.bytes(),
         b"0 -1 9223372036854775807 -9223372036854775808 18446744073709551615".as_slice()
     );
+    Ok(())
+}
+
+#[test]
+fn booleans(rt: HostRuntime) -> Result<(), Fail> {
+    let mut sink = MemSink::new(rt.alloc(), Vec::new(rt.alloc()));
+    put_bool(&mut sink, true)?;
+    put_bool(&mut sink, false)?;
+    assert_eq!(rt; sink.bytes(), b"truefalse".as_slice());
+    Ok(())
+}
+
+// A source that gives one byte at a time.
+#[derive(Drop)]
+struct Slow {
+    source: MemSource,
+}
+
+impl Source for Slow {
+    ghost use Rattle.std.specs.Prelude.{Some};
+
+    ghost left = { λ s. Some s.source.left };
+
+    ghost faults = { λ s. s.source.faults };
+
+    fn read(&mut self, buf: &mut [u8]) -> Result<usize, Failed> {
+        let mut one = [0u8; 1];
+        if buf.is_empty() {
+            return Ok(0);
+        }
+        let count = self.source.read(&mut one)?;
+        buf[0] = one[0];
+        Ok(count)
+    }
+}
+
+fn one_by_one(alloc: Global, text: &[u8], fails: &[u64]) -> Result<Slow, Fail> {
+    let fails = Vec::from_slice(alloc, fails)?;
+    Ok(Slow {
+        source: MemSource::new(bytes(alloc, text)?, fails),
+    })
+}
+
+#[test]
+fn numbers_between_separators(rt: HostRuntime) -> Result<(), Fail> {
+    let text = b"5 -7 x 99999999999999999999";
+    let want = [Some(5), Some(-7), None, None, None, None];
+    let mut short = one_by_one(rt.alloc(), text, &[])?;
+    let mut whole = CleanSource::new(bytes(rt.alloc(), text)?);
+    let (mut by_bytes, mut by_buffer) = (IntReader::new(), IntReader::new());
+    for number in want {
+        assert_eq!(rt; by_bytes.next(&mut short), Ok(number));
+        assert_eq!(rt; by_buffer.next(&mut whole), Ok(number));
+    }
+    Ok(())
+}
+
+#[test]
+fn forms_of_numbers(rt: HostRuntime) -> Result<(), Fail> {
+    let rows: [(&[u8], Option<i64>); 16] = [
+        (b"", None),
+        (b" \t\r\n", None),
+        (b"\r\n12\r\n", Some(12)),
+        (b"\t0", Some(0)),
+        (b"-0", Some(0)),
+        (b"007", Some(7)),
+        (b"+1", None),
+        (b"-", None),
+        (b"--1", None),
+        (b"1-2", None),
+        (b"1\0", None),
+        (b"0x1", None),
+        (b"9223372036854775807", Some(i64::MAX)),
+        (b"9223372036854775808", None),
+        (b"-9223372036854775808", Some(i64::MIN)),
+        (b"-9223372036854775809", None),
+    ];
+    for (text, want) in rows {
+        let mut source = CleanSource::new(bytes(rt.alloc(), text)?);
+        assert_eq!(rt; IntReader::new().next(&mut source), Ok(want));
+    }
+    Ok(())
+}
+
+// The third read fails, within the number 123; what came of it is gone, and the rest is read as a number of its own.
+#[test]
+fn a_read_fails_within_a_number(rt: HostRuntime) -> Result<(), Fail> {
+    let mut source = one_by_one(rt.alloc(), b"123 4", &[3])?;
+    let mut reader = IntReader::new();
+    assert_eq!(rt; reader.next(&mut source), Err(ReadFault));
+    for number in [Some(3), Some(4), None] {
+        assert_eq!(rt; reader.next(&mut source), Ok(number));
+    }
+    Ok(())
+}
+
+#[test]
+fn a_call_takes_so_many_bytes(rt: HostRuntime) -> Result<(), Fail> {
+    let rows: [(usize, &[u8], &[Option<i64>]); 5] = [
+        (1048574, b"5\n6", &[Some(5), Some(6), None]),
+        (1048575, b"5", &[None, None]),
+        (1048575, b"57", &[None, Some(7), None]),
+        (1048575, b"5 7", &[None, Some(7), None]),
+        (1048576, b"5", &[None, Some(5), None]),
+    ];
+    for (spaces, item, want) in rows {
+        let mut text = vec![in rt.alloc(); b' '; spaces]?;
+        text.extend_from_slice(item)?;
+        let mut source = CleanSource::new(text);
+        let mut reader = IntReader::new();
+        for number in want {
+            assert_eq!(rt;
+                reader.next(&mut source),
+                Ok(*number),
+                "behind {spaces} spaces"
+            );
+        }
+    }
     Ok(())
 }

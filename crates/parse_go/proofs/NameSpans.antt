@@ -108,6 +108,7 @@ module _ (n : ℕ) where
   kind_span : (text : List ℕ) (k : Kind) (place : Pos) (behind : ℕ) → place.offset ≤ behind → behind ≤ n → HasSpan n (terminal_at text k place behind)
   kind_span text kind.Name place behind le within = (le, within)
   kind_span text (kind.Number i) place behind le within = tt
+  kind_span text kind.String place behind le within = tt
   kind_span text (kind.Keyword keyword.Package) place behind le within = tt
   kind_span text (kind.Keyword keyword.Func) place behind le within = tt
   kind_span text (kind.Keyword k) place behind le within = tt

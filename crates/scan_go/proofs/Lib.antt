@@ -1,5 +1,8 @@
 pub mod CommentEnd
-pub mod DecimalValue
+pub mod FirstCharacter
+pub mod NumberValue
+pub mod StringEnd
+pub mod WordEnd
 pub mod Whole
 pub mod LongestOperator
 pub mod LinesSoFar

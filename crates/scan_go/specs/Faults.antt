@@ -12,6 +12,8 @@ kind_number fault.BadChar = 4
 kind_number fault.BadNumber = 5
 kind_number fault.NumberTooBig = 6
 kind_number fault.OpenComment = 7
+kind_number fault.OpenString = 8
+kind_number fault.BadEscape = 9
 kind_number fault.OutOfProfile = 10
 
 -- none where memory ran out, which is no fault of the text

@@ -4,6 +4,7 @@ pub mod Comments
 pub mod Words
 pub mod Operators
 pub mod Numbers
+pub mod Strings
 pub mod Pieces
 pub mod Tokens
 pub mod Lines

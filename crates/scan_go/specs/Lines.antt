@@ -32,6 +32,7 @@ pos_at text n = pos_after text_start (take n text)
 abbrev pub closes_line : Kind → Bool
 closes_line kind.Name = true
 closes_line (kind.Number n) = true
+closes_line kind.String = true
 closes_line (kind.Keyword keyword.Break) = true
 closes_line (kind.Keyword keyword.Continue) = true
 closes_line (kind.Keyword keyword.Fallthrough) = true

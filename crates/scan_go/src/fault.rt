@@ -7,7 +7,7 @@ use std::alloc::AllocError;
 use thiserror::Error;
 
 /// What is wrong at a place of a text. Each stands at the first byte of its token, but for `Nul` and `BadChar`, which
-/// stand at the character.
+/// stand at the character, and `BadEscape`, which stands at the backslash.
 #[derive(Clone, Copy, Debug, PartialEq, Eq, Error)]
 pub enum FaultKind {
     #[error("the character 0")]
@@ -20,6 +20,10 @@ pub enum FaultKind {
     NumberTooBig,
     #[error("a comment that is not closed")]
     OpenComment,
+    #[error("a string that is not closed")]
+    OpenString,
+    #[error("a backslash that begins no escape")]
+    BadEscape,
     #[error("a literal that is not supported")]
     OutOfProfile,
 }
@@ -37,6 +41,8 @@ impl FaultKind {
             FaultKind::BadNumber => 5,
             FaultKind::NumberTooBig => 6,
             FaultKind::OpenComment => 7,
+            FaultKind::OpenString => 8,
+            FaultKind::BadEscape => 9,
             FaultKind::OutOfProfile => 10,
         }
     }

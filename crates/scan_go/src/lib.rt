@@ -1,8 +1,8 @@
 //! The tokens of a Go text.
 //!
-//! The lexical grammar is that of the Go specification ("Lexical elements"), with all keywords, operators, comments
-//! and inserted semicolons. Names are ASCII, numbers are decimal and below 2^127, and there are no strings, runes or
-//! numbers of other forms: a text that has one is refused.
+//! The lexical grammar is that of the Go specification ("Lexical elements"), with all keywords, operators, names,
+//! comments and inserted semicolons. Numbers are integer literals below 2^127, strings stand in double quotes, and a
+//! text that has a number of another form, a rune or a raw string is refused.
 //!
 //! A text is cut in two passes. The first goes over its bytes from left to right. At each place stands a piece: a gap
 //! (a space or a comment), a token, or a fault, and which one it is, each class of pieces says by itself from the
@@ -19,10 +19,12 @@ mod lexeme;
 mod lexing;
 mod lines;
 mod number;
+mod number_base;
 mod operator;
 mod piece;
 mod scanning;
 mod spelling;
+mod string;
 mod token;
 mod tokens;
 mod word;

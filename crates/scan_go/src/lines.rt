@@ -70,7 +70,7 @@ fn closes_line(kind: Kind) -> bool
     ensures { result ≡ closes_line kind }
 {
     match kind {
-        Kind::Name | Kind::Number(_) => true,
+        Kind::Name | Kind::Number(_) | Kind::String => true,
         Kind::Keyword(keyword) => match keyword {
             Keyword::Break | Keyword::Continue | Keyword::Fallthrough | Keyword::Return => true,
             _ => false,

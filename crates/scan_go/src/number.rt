@@ -1,14 +1,16 @@
-//! Decimal integer literals.
+//! Integer literals.
 
-ghost use Rattle.std.specs.Prelude.{◌≡◌, ◌<◌, ◌^◌, length, slice_index, IsTrue};
+ghost use Rattle.std.specs.Prelude.{◌≡◌, ◌+◌, ◌<◌, ◌≤◌, ◌^◌, length, slice_index, IsTrue, IfSome};
 ghost use Rattle.std.specs.Option.{SomeIff};
-ghost use Rattle.std.specs.Char.{is_ascii_digit};
+ghost use Rattle.std.specs.Char.{is_ascii_digit, is_digit};
 ghost use Rattle.std.specs.List.{prefix_len};
-ghost use Rattle.scan_go.specs.Numbers.{is_digit_or_mark, begins_digit, marks_fit, decimal, begins_other_form, number_kind, number_piece, begins_fraction};
+ghost use Rattle.scan_go.specs.declared.number_base.Base.{Base};
+ghost use Rattle.scan_go.specs.Numbers.{is_digit_or_mark, begins_digit, digits_fit, add_digit, value, begins_other_form, literal, base_named, prefix_base, plain_base, plain_number, prefixed_number, number_piece, begins_fraction};
 ghost use Rattle.scan_go.specs.Pieces.{PieceFits};
 
-use crate::character::is_letter;
+use crate::character::is_digit;
 use crate::fault::FaultKind;
+use crate::number_base::Base;
 use crate::piece::Piece;
 use crate::token::Kind;
 
@@ -16,53 +18,68 @@ use crate::token::Kind;
 const MOST: u128 = 170141183460469231731687303715884105727;
 
 /// Whether the byte is a digit, or the mark `_` between digits.
-fn is_digit_or_mark(b: u8) -> bool
-    ensures { result ≡ is_digit_or_mark b }
+fn is_digit_or_mark(base: Base, b: u8) -> bool
+    ensures { result ≡ is_digit_or_mark base b }
 {
-    b.is_ascii_digit() || b == b'_'
+    is_digit(b, base.writing_radix()) || b == b'_'
 }
 
 /// How many bytes from the front on are digits and marks.
-fn run_len(rest: &[u8]) -> usize
-    ensures { result ≡ prefix_len is_digit_or_mark rest.now }
+fn run_len(base: Base, rest: &[u8]) -> usize
+    ensures value { result ≡ prefix_len (λ c. is_digit_or_mark base c) rest.now }
+    ensures within { result ≤ length rest.now }
 {
-    rest.iter().take_while(|b| is_digit_or_mark(**b)).count()
+    rest.iter()
+        .take_while(|b| is_digit_or_mark(base, **b))
+        .count()
 }
 
-fn begins_digit(run: &[u8]) -> bool
-    ensures { result ≡ begins_digit run.now }
+fn begins_digit(base: Base, run: &[u8]) -> bool
+    ensures { result ≡ begins_digit base run.now }
 {
     match run.first() {
-        Some(b) => b.is_ascii_digit(),
+        Some(b) => is_digit(*b, base.radix()),
         None => false,
     }
 }
 
-/// Whether a digit stands behind each mark.
-fn marks_fit(run: &[u8]) -> bool
-    ensures { result ≡ marks_fit run.now }
+/// Whether there are digits of the base, and marks behind each of which stands such a digit.
+fn digits_fit(base: Base, run: &[u8]) -> bool
+    ensures { result ≡ digits_fit base run.now }
 {
     for i in 0..run.len() {
-        if !run[i].is_ascii_digit() && !begins_digit(&run[i + 1..]) {
+        let fits = is_digit(run[i], base.radix())
+            || (run[i] == b'_' && begins_digit(base, &run[i + 1..]));
+        if !fits {
             return false;
         }
     }
     true
 }
 
+/// The value before it and one digit more, if it is below 2^127.
+fn add_digit(base: Base, value: u128, b: u8) -> Option<u128>
+    requires { value < 2 ^ 127 }
+    ensures { SomeIff result (add_digit base value b < 2 ^ 127) (add_digit base value b) }
+{
+    match char::from(b).to_digit(base.radix()) {
+        Some(digit) => {
+            let grown = value
+                .checked_mul(u128::from(base.radix()))?
+                .checked_add(u128::from(digit))?;
+            if grown <= MOST { Some(grown) } else { None }
+        }
+        None => Some(value),
+    }
+}
+
 /// The value of the digits, if it is below 2^127.
-fn decimal(run: &[u8]) -> Option<u128>
-    ensures { SomeIff result (decimal run.now < 2 ^ 127) (decimal run.now) }
+pub fn value(base: Base, run: &[u8]) -> Option<u128>
+    ensures { SomeIff result (value base run.now < 2 ^ 127) (value base run.now) }
 {
     let mut value: u128 = 0;
     for b in run {
-        if b.is_ascii_digit() {
-            let digit = u128::from(*b - b'0');
-            if value > (MOST - digit) / 10 {
-                return None;
-            }
-            value = 10 * value + digit;
-        }
+        value = add_digit(base, value, *b)?;
     }
     Some(value)
 }
@@ -74,37 +91,97 @@ fn begins_other_form(b: u8) -> bool
     b == b'.' || b == b'e' || b == b'E' || b == b'p' || b == b'P' || b == b'i'
 }
 
-/// A number by its run of digits and marks, and by the byte behind it.
-#[tactic(auto, unfolding(crate::specs::Numbers::number_kind))]
-fn number_kind(run: &[u8], next: u8) -> Piece
-    requires { 0 < length run.now }
-    ensures value { result ≡ number_kind run.now next }
-    ensures within { PieceFits (length run.now) result }
+/// A number by the bytes of its prefix, by its run of digits and marks, and by the byte behind it.
+#[tactic(auto, unfolding(crate::specs::Numbers::literal))]
+fn literal(base: Base, front: usize, run: &[u8], next: u8) -> Piece
+    requires some { 0 < front + length run.now }
+    requires room { front ≤ 2 }
+    ensures value { result ≡ literal base front run.now next }
+    ensures within { PieceFits (front + length run.now) result }
 {
-    if run[0] == b'0' && (run.len() > 1 || is_letter(next)) {
-        return Piece::Fault(FaultKind::BadNumber, 0);
-    }
     if begins_other_form(next) {
         return Piece::Fault(FaultKind::OutOfProfile, 0);
     }
-    if !marks_fit(run) {
+    if run.is_empty() || !digits_fit(base, run) {
         return Piece::Fault(FaultKind::BadNumber, 0);
     }
-    match decimal(run) {
-        Some(value) => Piece::Token(Kind::Number(value), run.len()),
+    match value(base, run) {
+        Some(value) => Piece::Token(Kind::Number(value), front + run.len()),
         None => Piece::Fault(FaultKind::NumberTooBig, 0),
     }
 }
 
-/// A number: the longest run of digits and marks.
+/// The base that the second byte of a prefix names.
+fn base_named(b: u8) -> Option<Base>
+    ensures { result ≡ base_named b }
+{
+    match b {
+        b'x' | b'X' => Some(Base::Hexadecimal),
+        b'b' | b'B' => Some(Base::Binary),
+        b'o' | b'O' => Some(Base::Octal),
+        _ => None,
+    }
+}
+
+/// The base of a prefix `0x`, `0b` or `0o`.
+fn prefix_base(rest: &[u8]) -> Option<Base>
+    ensures value { result ≡ prefix_base rest.now }
+    ensures within { IfSome result (λ _. 2 ≤ length rest.now) }
+{
+    if rest.len() > 1 && rest[0] == b'0' {
+        base_named(rest[1])
+    } else {
+        None
+    }
+}
+
+/// The base of a number without such a prefix: octal by a leading 0.
+fn plain_base(run: &[u8]) -> Base
+    requires { 0 < length run.now }
+    ensures { result ≡ plain_base run.now }
+{
+    if run[0] == b'0' && run.len() > 1 {
+        Base::Octal
+    } else {
+        Base::Decimal
+    }
+}
+
+fn byte_at(rest: &[u8], place: usize) -> u8
+    ensures { result ≡ slice_index rest.now place }
+{
+    rest.get(place).copied().unwrap_or(0)
+}
+
+fn plain_number(rest: &[u8]) -> Piece
+    requires { IsTrue (is_ascii_digit (slice_index rest.now 0)) }
+    ensures value { result ≡ plain_number rest.now }
+    ensures within { PieceFits (length rest.now) result }
+{
+    let len = run_len(Base::Decimal, rest);
+    let run = &rest[..len];
+    literal(plain_base(run), 0, run, byte_at(rest, len))
+}
+
+/// A number from behind its prefix on.
+fn prefixed_number(base: Base, rest: &[u8]) -> Piece
+    ensures value { result ≡ prefixed_number base rest.now }
+    ensures within { PieceFits (2 + length rest.now) result }
+{
+    let len = run_len(base, rest);
+    literal(base, 2, &rest[..len], byte_at(rest, len))
+}
+
+/// A number: the longest run of digits and marks, behind a prefix or not.
 pub fn number_piece(rest: &[u8]) -> Piece
     requires { IsTrue (is_ascii_digit (slice_index rest.now 0)) }
     ensures value { result ≡ number_piece rest.now }
     ensures within { PieceFits (length rest.now) result }
 {
-    let len = run_len(rest);
-    let next = rest.get(len).copied().unwrap_or(0);
-    number_kind(&rest[..len], next)
+    match prefix_base(rest) {
+        Some(base) => prefixed_number(base, &rest[2..]),
+        None => plain_number(rest),
+    }
 }
 
 /// Whether the text begins with a point before a digit.

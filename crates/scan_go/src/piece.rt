@@ -3,11 +3,12 @@
 ghost use Rattle.std.specs.Prelude.{◌≡◌, ◌<◌, length};
 ghost use Rattle.scan_go.specs.Pieces.{piece_at, PieceFits};
 
-use crate::character::{is_letter, is_quote, is_space};
+use crate::character::{begins_other_literal, char_at, is_letter, is_space};
 use crate::comment::{general_comment, line_comment};
 use crate::fault::FaultKind;
 use crate::number::{begins_fraction, number_piece};
 use crate::operator::operator_piece;
+use crate::string::string_piece;
 use crate::token::Kind;
 use crate::word::word_piece;
 
@@ -38,11 +39,13 @@ pub fn piece_at(rest: &[u8]) -> Piece
         line_comment(rest)
     } else if rest.starts_with(b"/*") {
         general_comment(rest)
-    } else if is_letter(first) {
+    } else if is_letter(char_at(rest)) {
         word_piece(rest)
     } else if first.is_ascii_digit() {
         number_piece(rest)
-    } else if is_quote(first) || begins_fraction(rest) {
+    } else if first == b'"' {
+        string_piece(rest)
+    } else if begins_other_literal(first) || begins_fraction(rest) {
         Piece::Fault(FaultKind::OutOfProfile, 0)
     } else {
         operator_piece(rest)

@@ -8,6 +8,8 @@ use base::Pos;
 pub enum Kind {
     Name,
     Number(u128),
+    /// A string in double quotes. The bytes at its span say which one.
+    String,
     Keyword(Keyword),
     Op(Op),
 }

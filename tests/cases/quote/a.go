@@ -1,2 +1,2 @@
 package main
-func main() { println("a") }
+func main() { println('a') }
