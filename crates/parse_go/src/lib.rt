@@ -22,6 +22,10 @@
 #![tactic(auto)]
 
 mod fault;
+mod frame;
+mod outer;
+mod signature;
+mod state;
 mod terminal;
 mod tree;
 
