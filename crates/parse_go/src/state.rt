@@ -35,6 +35,14 @@ pub struct Reading {
     ghost small: { depth ≤ 202 },
 }
 
+/// An argument of a call or its closing parenthesis is wanted: what is open outside of the call, and the call so far.
+#[derive(Drop)]
+pub struct Arguments {
+    pub reading: Reading,
+    pub call: Call,
+    ghost shallow: { reading.depth ≤ 200 },
+}
+
 /// What was read, and what is wanted next.
 #[derive(Drop)]
 pub enum State {
@@ -75,7 +83,7 @@ pub enum State {
     /// An operand is wanted.
     Operand(Reading),
     /// An argument of a call or its closing parenthesis is wanted, behind the opening one or a comma.
-    Argument(Reading, Call),
+    Argument(Arguments),
     /// Behind an operand: an operator, a call, or what ends the expression.
     Operator(Reading, Part),
     /// Behind the first body of an `if`, the else of these branches, the innermost last.
