@@ -1,5 +1,5 @@
 -- A terminal behind an operand, or behind the names that a statement begins with, divides the texts by it from the left.
-use Rattle.std.proofs.Common.{◌≡◌, ℕ, suc, max, ◌≤◌, List, [], ◌∷◌, inl, inr, refl, sym, ap, subst, ◌∙◌, arith}
+use Rattle.std.proofs.Common.{◌≡◌, ℕ, suc, max, ◌≤◌, List, [], ◌∷◌, inl, inr, refl, sym, ap, subst, arith}
 use Rattle.base.specs.declared.pos.Pos.{Pos}
 use Rattle.parse_go.specs.declared.tree.BinOp.{BinOp}
 use Rattle.parse_go.specs.declared.tree.CompareOp.{CompareOp}
@@ -10,10 +10,10 @@ use Rattle.parse_go.specs.Tree.{Ex, name, Exs, none, some, compare, express, Fil
 use Rattle.parse_go.specs.Heights.{precedence, height}
 use Rattle.parse_go.specs.Grammar.{ReadsEx, ReadsMore, Mark, inside}
 use Rattle.parse_go.specs.Lists.{appended, with_ex}
-use Rattle.parse_go.specs.Frames.{Frame, prefixed, enclosed, calling, awaiting, Opener, opens_for, Listed, to_define, to_assign, listed_statement, Head, expressing, listing, comparing, compared, opener_depth, head_depth, open_depth}
-use Rattle.parse_go.specs.Machine.{Blocks, State, at_package, at_package_name, at_package_end, at_function, at_function_name, at_opening, at_param, at_param_names, at_param_type, at_results, at_body, at_statement, at_named, at_next_name, at_names, at_return, at_for, at_operand, at_argument, at_operator, at_then, at_else, at_stop, at_last, with_statement, opened, operand, reduce, ends, closes, behind_operand, step, statement_depth, nesting, nesting_at_ends, nesting_at_closes, nesting_behind_operand}
+use Rattle.parse_go.specs.Frames.{Frame, prefixed, enclosed, calling, awaiting, Opener, Listed, to_define, to_assign, listed_statement, Head, expressing, listing, comparing, compared, opener_depth, head_depth, open_depth}
+use Rattle.parse_go.specs.Machine.{Blocks, State, at_package, at_package_name, at_package_end, at_function, at_function_name, at_opening, at_param, at_param_names, at_param_type, at_results, at_body, at_statement, at_named, at_next_name, at_names, at_return, at_for, at_operand, at_argument, at_operator, at_then, at_else, at_stop, at_last, with_statement, opened, reduce, ends, closes, behind_operand, step, statement_depth, nesting, nesting_at_ends, nesting_at_closes, nesting_behind_operand}
 use Rattle.parse_go.proofs.Growth.{tightness, precedence_small}
-use Rattle.parse_go.proofs.OpenFrames.{Iff, iff_trans, level, Valid, level_small, Have, Wants, Argument, Weak, paren_closes, paren_only, argument_comma, call_closes, argument_only, none_open, argument_paren, argument_other, call_read, operator_read, reduced, IsOpen, reduce_valid}
+use Rattle.parse_go.proofs.OpenFrames.{Iff, iff_trans, level, Valid, level_small, Have, Wants, Weak, paren_closes, paren_only, argument_comma, call_closes, argument_only, none_open, argument_paren, argument_other, call_read, operator_read, reduced, IsOpen, reduce_valid}
 use Rattle.parse_go.proofs.ListEnds.{appended_assoc}
 use Rattle.parse_go.proofs.NameLists.{names_comma, names_other, name_joins, wanted_first}
 use Rattle.parse_go.proofs.Following.{BehindStm, InBody, EndsCondition, Ends, WantsValues, ThenValues, Rest, Follows, ValidState}

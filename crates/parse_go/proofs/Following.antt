@@ -5,10 +5,10 @@ use Rattle.base.specs.declared.pos.Pos.{Pos}
 use Rattle.parse_go.specs.declared.tree.CompareOp.{CompareOp}
 use Rattle.parse_go.specs.declared.tree.Name.{Name}
 use Rattle.parse_go.specs.declared.tree.Param.{Param}
-use Rattle.parse_go.specs.declared.terminal.Terminal.TheVariants.{Package, Func, Identifier, Else, Define, Assign, Compare, Comma, Semicolon, LeftParen, RightParen, LeftBrace, RightBrace}
-use Rattle.parse_go.specs.Tree.{Ex, name, Exs, none, some, Condition, compare, Stm, express, give_back, loop, block, Stms, nil, Els, else_block, Function, File}
+use Rattle.parse_go.specs.declared.terminal.Terminal.TheVariants.{Package, Identifier, Else, Define, Assign, Compare, Comma, Semicolon, LeftParen, RightParen, LeftBrace, RightBrace}
+use Rattle.parse_go.specs.Tree.{Ex, name, Exs, none, some, Condition, compare, express, give_back, loop, block, Stms, nil, Els, else_block, Function, File}
 use Rattle.parse_go.specs.Heights.{height}
-use Rattle.parse_go.specs.Grammar.{ReadsEx, ReadsMore, ReadsLoopCondition, ClosesList, unnamed, named, AreNamed, AreParams, AreResults, AreFunctions, IsStm, IsElse, IsBody, Mark, inside}
+use Rattle.parse_go.specs.Grammar.{ReadsEx, ReadsMore, ReadsLoopCondition, ClosesList, unnamed, named, AreNamed, AreParams, AreResults, AreFunctions, IsElse, IsBody, Mark, inside}
 use Rattle.parse_go.specs.Lists.{appended}
 use Rattle.parse_go.specs.Outer.{joined, one, Outer, in_block, in_loop, in_then, in_else, chain_depth, brace_depth, whole_if}
 use Rattle.parse_go.specs.Signatures.{Signature, with_function, Owner, of_params, of_results, Before, nothing, with_names}

@@ -5,7 +5,7 @@ use Rattle.parse_go.specs.declared.tree.Name.{Name}
 use Rattle.parse_go.specs.declared.terminal.Terminal.{Terminal}
 use Rattle.parse_go.specs.declared.terminal.Terminal.TheVariants.{Identifier, Comma}
 use Rattle.parse_go.specs.Grammar.{ReadsMoreNames, ReadsNames, Mark, inside}
-use Rattle.parse_go.proofs.OpenFrames.{Iff, iff_trans}
+use Rattle.parse_go.proofs.OpenFrames.{Iff}
 
 -- what may follow behind the last of the names xs, to which others may join; K follows the whole list
 abbrev pub NamesThen : (List Name → List Mark → Type 0) → ℕ → List Name → List Mark → Type 0

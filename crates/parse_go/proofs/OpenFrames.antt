@@ -12,7 +12,7 @@ use Rattle.parse_go.specs.declared.terminal.Terminal.{Terminal}
 use Rattle.parse_go.specs.declared.terminal.Terminal.TheVariants.{Identifier, Number, Operator, Comma, LeftParen, RightParen}
 use Rattle.parse_go.specs.Tree.{Ex, number, name, unary, binary, paren, call, Exs, none, some}
 use Rattle.parse_go.specs.Heights.{precedence, height}
-use Rattle.parse_go.specs.Grammar.{ReadsEx, ReadsMore, ReadsArguments, ClosesList, closing, Mark, inside}
+use Rattle.parse_go.specs.Grammar.{ReadsEx, ReadsMore, ReadsArguments, ClosesList, Mark, inside}
 use Rattle.parse_go.specs.Lists.{appended, with_ex}
 use Rattle.parse_go.specs.Frames.{Frame, prefixed, enclosed, calling, awaiting, open_depth}
 use Rattle.parse_go.specs.Machine.{reduce}

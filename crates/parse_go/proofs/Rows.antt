@@ -1,5 +1,5 @@
 -- Lists in memory as abstract syntax: the elements in a row are those of its vector, and one more at the end.
-use Rattle.std.proofs.Common.{◌≡◌, suc, max, List, [], ◌∷◌, ◌++◌, refl, ap, ◌∙◌, arith}
+use Rattle.std.proofs.Common.{◌≡◌, max, List, [], ◌∷◌, ◌++◌, refl, ap, arith}
 use Rattle.std.proofs.lemmas.List.{map-append}
 use Rattle.parse_go.specs.declared.tree.Expr.{Expr, Row_of-Expr, end_of-Expr, more_of-Expr, items-the_row-Expr}
 use Rattle.parse_go.specs.declared.tree.Func.{Func}

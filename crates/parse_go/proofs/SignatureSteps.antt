@@ -49,6 +49,7 @@ func_begins f j w tree = (λ h. to h.0 h.1 h.2, λ h. back h.0 h.1)
         let body : InBody (around (record { file = f; name = g.name; params = g.params; results = g.results }) [] nil) i.3 tree = (g.body, g.end, inside Semicolon 0 ∷ r.0, i.7, (r.0, refl, (gs, r.2, whole))) in
         let behind : FromResults f g.name g.params i.2 tree = (g.results, inside LeftBrace 0 ∷ i.3, i.6, (i.3, refl, body)) in
         (cc (i.4), (g.name, inside (LeftParen i.0) 0 ∷ i.1, cc (i.4), (i.0, i.1, refl, (g.params, i.2, i.5, behind))))
+
     back : j ≡ 0 → FromFunctionName f w tree → FromFunctions f (inside Func j ∷ w) tree
     back is h =
         let o = h.3 in
@@ -103,6 +104,7 @@ named_wanted o ps w tree = (λ h. to h.0 h.1 h.2 h.3, λ h. back h.0 h.1 h.2 h.3
     to others m (more_names {others = later} {m = k} xs t r a is) cl =
         let grouped : ps ++ others ≡ (ps ++ map (named t) xs) ++ later = ap (λ (l : List Param). ps ++ l) is ∙ sym (append_assoc ps (map (named t) xs) later) in
         (xs, inside (Identifier t) 1 ∷ inside Comma 1 ∷ k, r, (t, inside Comma 1 ∷ k, refl, inr (k, refl, later, m, a, subst (λ (l : List Param). Closed o l m tree) grouped cl)))
+
     back : (xs : List Name) (m : List Mark) → ReadsNames 1 xs w m → ThenType o tree ps xs m → (others : List Param) × (k : List Mark) × AreNamed others w k × Closed o (ps ++ others) k tree
     back xs m r (t, k, is, inl (l, c, cl)) = (map (named t) xs, l, last_names xs t (subst (λ (ts : List Mark). ReadsNames 1 xs w ts) is r) c refl, cl)
     back xs m r (t, k, is, inr (n, is_n, later, l, a, cl)) =

@@ -5,7 +5,7 @@ use Rattle.parse_go.specs.declared.tree.BinOp.TheVariants.{Sub}
 use Rattle.parse_go.specs.declared.tree.Name.{Name}
 use Rattle.parse_go.specs.declared.terminal.Terminal.{Terminal}
 use Rattle.parse_go.specs.declared.terminal.Terminal.TheVariants.{Identifier, Number, If, Else, For, Return, Define, Assign, Compare, Operator, Semicolon, LeftParen, LeftBrace, RightBrace}
-use Rattle.parse_go.specs.Tree.{Ex, name, Exs, none, some, Condition, compare, Stm, define, assign, express, give_back, choice, loop, block, Stms, nil, cons, Els, no_else, else_block, else_if, File}
+use Rattle.parse_go.specs.Tree.{Ex, Exs, none, some, Condition, compare, Stm, define, assign, express, give_back, choice, loop, block, Stms, nil, cons, Els, no_else, else_block, else_if, File}
 use Rattle.parse_go.specs.Heights.{height}
 use Rattle.parse_go.specs.Grammar.{ReadsEx, ReadsExs, ReadsNames, ReadsCondition, ReadsLoopCondition, IsStm, defines, assigns, expresses, returns, returns_values, chooses, repeats, blocks, IsElse, absent, otherwise, otherwise_if, IsBody, close, empty, last, next, Mark, inside}
 use Rattle.parse_go.specs.Outer.{joined, one, Branch, Outer, in_block, in_loop, in_then, in_else, chain_depth, brace_depth, whole_if}
@@ -481,4 +481,3 @@ pub else_step : (b : Blocks) (bs : List Branch) (l : Branch) (t : Terminal) (j :
 else_step b bs l LeftBrace j w tree = else_brace b bs l j w tree
 else_step b bs l (If q) j w tree = iff_trans _ _ _ (else_if_step b bs l q j w tree) (and_then _ _ _ (condition_wants b (opens_if (l ∷ bs) q) w tree))
 else_step b bs l t j w tree = (λ h. absurd (else_other b bs l t j w tree (λ e. cc) (λ q e. cc) h), λ h. absurd h.1)
-

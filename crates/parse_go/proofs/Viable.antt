@@ -13,17 +13,17 @@ use Rattle.parse_go.specs.declared.terminal.Terminal.TheVariants.{Package, Func,
 use Rattle.parse_go.specs.Tree.{Ex, number, name, unary, binary, paren, call, Exs, none, some, Condition, compare, Stm, express, give_back, loop, block, Stms, nil, Els, no_else, else_block, Function, File}
 use Rattle.parse_go.specs.Terminals.{name_at}
 use Rattle.parse_go.specs.Heights.{precedence, height}
-use Rattle.parse_go.specs.Grammar.{ReadsNames, ReadsMore, ReadsCondition, ReadsLoopCondition, ClosesList, closing, unnamed, named, AreResults, no_results, AreParams, no_params, IsElse, absent, otherwise, IsStm, defines, assigns, expresses, IsBody, close, last, next, AreFunctions, Mark, inside}
+use Rattle.parse_go.specs.Grammar.{ReadsNames, ReadsMore, ReadsCondition, ReadsLoopCondition, closing, unnamed, named, AreResults, no_results, no_params, IsElse, absent, otherwise, IsStm, defines, assigns, expresses, IsBody, close, last, next, AreFunctions, Mark, inside}
 use Rattle.parse_go.specs.Lists.{appended, with_ex}
 use Rattle.parse_go.specs.Outer.{joined, one, Branch, Outer, in_block, in_loop, in_then, in_else, chain_depth, brace_depth, whole_if}
-use Rattle.parse_go.specs.Signatures.{Signature, with_function, Owner, of_params, of_results, Before, nothing, with_names, typed}
+use Rattle.parse_go.specs.Signatures.{Signature, with_function, Owner, of_params, of_results, Before, nothing, with_names}
 use Rattle.parse_go.specs.Frames.{Frame, prefixed, enclosed, calling, awaiting, Opener, opens_for, Listed, to_define, to_return, listed_statement, Head, expressing, listing, comparing, compared, opener_depth, head_depth, open_depth}
-use Rattle.parse_go.specs.Machine.{Blocks, State, at_package, at_package_name, at_package_end, at_function, at_function_name, at_opening, at_param, at_param_names, at_param_type, at_results, at_body, at_statement, at_named, at_next_name, at_names, at_return, at_for, at_operand, at_argument, at_operator, at_then, at_else, at_stop, at_last, around, with_statement, opened, up, closed, close_params, operand, reduce, stop, ends, closes, behind_operand, behind_name, step, statement_depth}
+use Rattle.parse_go.specs.Machine.{Blocks, State, at_package, at_package_name, at_package_end, at_function, at_function_name, at_opening, at_param, at_param_names, at_param_type, at_results, at_body, at_statement, at_named, at_next_name, at_names, at_return, at_for, at_operand, at_argument, at_operator, at_then, at_else, at_stop, at_last, around, with_statement, opened, up, closed, operand, reduce, stop, ends, closes, behind_operand, behind_name, step, statement_depth}
 use Rattle.parse_go.proofs.Growth.{tightness, Grows, same, only_same, operand_some, precedence_small}
-use Rattle.parse_go.proofs.OpenFrames.{Close, level, Valid, level_small, reduce_valid, Have, Wants, Argument}
+use Rattle.parse_go.proofs.OpenFrames.{Close, level, Valid, level_small, reduce_valid, Have, Wants}
 use Rattle.parse_go.proofs.ListEnds.{end_some, more_some}
-use Rattle.parse_go.proofs.NameLists.{NamesThen, NameWanted, names_some}
-use Rattle.parse_go.proofs.Following.{FromFunctions, FromLast, FromBody, FromResults, Closed, FromParams, BehindType, ThenType, ThenClosed, BehindNames, ParamsEnd, FromOpening, FromFunctionName, FromPackageEnd, FromPackageName, FromPackage, Tail, brace, Up, BehindStm, InBody, EndsCondition, Ends, WantsValues, ThenValues, Rest, IsSomeName, ValidState, ValidNext}
+use Rattle.parse_go.proofs.NameLists.{names_some}
+use Rattle.parse_go.proofs.Following.{FromFunctions, FromLast, FromBody, FromResults, Closed, BehindType, BehindNames, ParamsEnd, FromOpening, FromPackageEnd, FromPackageName, Tail, brace, Up, BehindStm, InBody, EndsCondition, Ends, ThenValues, Rest, IsSomeName, ValidState, ValidNext}
 
 -- ---- what each state keeps
 

@@ -80,13 +80,17 @@ opened b (opens_for place) c = within b (in_loop b.done place (Some c))
 abbrev pub around : Signature → List Outer → Stms → Blocks
 around sig os done = record { signature = sig; outer = os; done = done }
 
--- behind the closing brace of the innermost block, which stands at the place end, and whose statements are ss
+-- behind the closing brace of the block of an outer construct, whose statements are ss
+abbrev pub behind_block : Signature → List Outer → Outer → Stms → State
+behind_block sig os (in_block done) ss = at_stop (around sig os (joined done (one (block ss))))
+behind_block sig os (in_loop done place c) ss = at_stop (around sig os (joined done (one (loop place c ss))))
+behind_block sig os (in_then done bs place c) ss = at_then (around sig os done) bs (record { place = place; condition = c; body = ss })
+behind_block sig os (in_else done bs b) ss = at_stop (around sig os (joined done (one (whole_if bs b (else_block ss)))))
+
+-- behind the closing brace of the innermost block, which stands at the place end
 abbrev pub up : Signature → List Outer → Stms → Pos → State
 up sig [] ss end = at_last (with_function sig ss end)
-up sig (in_block done ∷ os) ss end = at_stop (around sig os (joined done (one (block ss))))
-up sig (in_loop done place c ∷ os) ss end = at_stop (around sig os (joined done (one (loop place c ss))))
-up sig (in_then done bs place c ∷ os) ss end = at_then (around sig os done) bs (record { place = place; condition = c; body = ss })
-up sig (in_else done bs b ∷ os) ss end = at_stop (around sig os (joined done (one (whole_if bs b (else_block ss)))))
+up sig (o ∷ os) ss end = behind_block sig os o ss
 
 -- behind the closing parenthesis of parameters or results
 abbrev pub closed : Owner → List Param → State

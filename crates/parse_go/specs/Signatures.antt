@@ -9,7 +9,7 @@ use Rattle.parse_go.specs.declared.signature.Owner.{Owner as CodeOwner}
 use Rattle.parse_go.specs.declared.signature.Owner.TheVariants as owner
 use Rattle.parse_go.specs.declared.signature.Before.{Before as CodeBefore}
 use Rattle.parse_go.specs.declared.signature.Before.TheVariants as before
-use Rattle.parse_go.specs.Tree.{Stms, Function, File, functions_of}
+use Rattle.parse_go.specs.Tree.{Stms, File, functions_of}
 use Rattle.parse_go.specs.Grammar.{named}
 
 -- a function up to its body, behind the functions before it

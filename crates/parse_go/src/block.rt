@@ -5,7 +5,7 @@ ghost use Rattle.parse_go.specs.Tree.{nil, condition_of, stm_of, stms_of};
 ghost use Rattle.parse_go.specs.Outer.{outer_of, outers_of, brace_depth};
 ghost use Rattle.parse_go.specs.Signatures.{signature_of};
 ghost use Rattle.parse_go.specs.Frames.{opener_depth, opener_of};
-ghost use Rattle.parse_go.specs.Machine.{with_statement, at_statement, around, opened, statement_depth, up, stop, nesting_at_stop};
+ghost use Rattle.parse_go.specs.Machine.{with_statement, at_statement, around, opened, statement_depth, behind_block, up, stop, nesting_at_stop};
 ghost use Rattle.parse_go.specs.States.{blocks_of, state_of, Steps};
 
 use crate::expression::{MOST, limited};
@@ -55,8 +55,8 @@ fn around(signature: Signature, outer: Vec<Outer>, done: Vec<Stmt>, depth: usize
     }
 }
 
-/// The innermost block is closed, at a place.
-#[tactic(auto, using(crate::proofs::Chains::code_chain_depth))]
+/// The innermost block, whose closing brace stands at a place, is closed.
+#[tactic(auto, using(crate::proofs::Chains::popped))]
 fn close(alloc: Global, blocks: Blocks, end: Pos) -> Result<State, AllocError>
     ensures { IfOk result
         (λ s. let b = blocks_of blocks in state_of s ≡ up b.signature b.outer b.done end) }
@@ -69,20 +69,40 @@ fn close(alloc: Global, blocks: Blocks, end: Pos) -> Result<State, AllocError>
     } = blocks;
     match outer.pop() {
         None => Ok(State::Last(with_function(signature, body, end)?)),
-        Some(Outer::Block(done)) => {
+        Some(inner) => behind_block(alloc, signature, outer, inner, body, depth),
+    }
+}
+
+/// The block of an outer construct is closed, in which a statement has this nesting.
+#[tactic(auto, using(crate::proofs::Chains::code_chain_depth))]
+fn behind_block(
+    alloc: Global,
+    signature: Signature,
+    outer: Vec<Outer>,
+    inner: Outer,
+    body: Vec<Stmt>,
+    depth: usize,
+) -> Result<State, AllocError>
+    requires is_depth { depth ≡ suc (brace_depth (outer_of inner ∷ outers_of outer.items)) }
+    requires small { depth ≤ 201 }
+    ensures { IfOk result (λ s. state_of s
+        ≡ behind_block (signature_of signature) (outers_of outer.items) (outer_of inner) (stms_of body.items)) }
+{
+    match inner {
+        Outer::Block(done) => {
             let blocks = around(signature, outer, done, depth - 1);
             Ok(State::Stop(with_statement(blocks, block(body))?))
         }
-        Some(Outer::For(done, pos, cond)) => {
+        Outer::For(done, pos, cond) => {
             let blocks = around(signature, outer, done, depth - 1);
             Ok(State::Stop(with_statement(blocks, repetition(pos, cond, body))?))
         }
-        Some(Outer::Then(done, branches, pos, cond)) => {
+        Outer::Then(done, branches, pos, cond) => {
             let before = depth - 1 - branches.len();
             let blocks = around(signature, outer, done, before);
             Ok(State::Then(blocks, branches, Branch { pos, cond, body }))
         }
-        Some(Outer::Else(done, branches, last)) => {
+        Outer::Else(done, branches, last) => {
             let before = depth - 1 - branches.len();
             let blocks = around(signature, outer, done, before);
             let whole = whole_if(alloc, branches, last, else_block(body))?;
@@ -156,6 +176,12 @@ pub fn enter_body(
                 depth,
             )
         }
-        Opener::For(pos) => enter(alloc, signature, outer, Outer::For(done, pos, Some(cond)), depth),
+        Opener::For(pos) => enter(
+            alloc,
+            signature,
+            outer,
+            Outer::For(done, pos, Some(cond)),
+            depth,
+        ),
     }
 }

@@ -4,14 +4,14 @@ ghost use Rattle.std.specs.Prelude.{◌≡◌, ℕ, ◌≤◌, ◌+◌, ◌∷�
 ghost use Rattle.parse_go.specs.Tree.{none, ex_of, exs_of, unary, binary, paren, call};
 ghost use Rattle.parse_go.specs.Heights.{precedence, height};
 ghost use Rattle.parse_go.specs.Lists.{with_ex};
-ghost use Rattle.parse_go.specs.Frames.{Frame as AnyFrame, calling, awaiting, open_depth, head_of, frame_of};
-ghost use Rattle.parse_go.specs.Machine.{reduce, closes, step, nesting, nesting_at_closes};
+ghost use Rattle.parse_go.specs.Frames.{Frame as AnyFrame, calling, awaiting, open_depth, head_depth, head_of, frame_of, frames_of};
+ghost use Rattle.parse_go.specs.Machine.{reduce, closes, step, nesting, nesting_at_closes, statement_depth};
 ghost use Rattle.parse_go.specs.States.{blocks_of, frames_in, depth_in, wanting, having, in_call, state_of, Steps};
 
 use crate::fault::StepFault;
-use crate::frame::{Call, Frame, Part};
+use crate::frame::{Call, Frame, Head, Part};
 use crate::nodes::{call, with_value};
-use crate::state::{Arguments, Reading, State};
+use crate::state::{Arguments, Blocks, Reading, State};
 use crate::statement::ends;
 use crate::terminal::Terminal;
 use crate::tree::{BinOp, Expr, UnOp};
@@ -162,13 +162,37 @@ fn with_argument(call: Call, argument: Part) -> Result<Call, AllocError>
 }
 
 /// The whole call.
-fn whole_call(alloc: Global, open: Call) -> Result<Part, AllocError>
+fn whole_call(alloc: Global, pending: Call) -> Result<Part, AllocError>
     ensures { IfOk result
-        (λ r. ex_of r.expr ≡ call (ex_of open.function) (exs_of open.arguments.items)) }
+        (λ r. ex_of r.expr ≡ call (ex_of pending.function) (exs_of pending.arguments.items)) }
 {
-    let height = open.height;
-    let expr = call(alloc, open.function, open.arguments)?;
+    let height = pending.height;
+    let expr = call(alloc, pending.function, pending.arguments)?;
     Ok(Part { expr, height })
+}
+
+/// A construct that was taken from the open ones stays open.
+fn stays_open(
+    blocks: Blocks,
+    head: Head,
+    mut frames: Vec<Frame>,
+    depth: usize,
+    frame: Frame,
+) -> Result<Reading, AllocError>
+    requires is_depth { let d = head_depth (statement_depth (blocks_of blocks)) (head_of head) in
+        depth ≡ open_depth d (frame_of frame ∷ frames_of frames.items) }
+    requires small { depth ≤ 202 }
+    ensures frames { IfOk result (λ r. frames_in r ≡ frame_of frame ∷ frames_of frames.items) }
+    ensures blocks { IfOk result (λ r. r.blocks ≡ blocks) }
+    ensures head { IfOk result (λ r. r.head ≡ head) }
+{
+    frames.push(frame)?;
+    Ok(Reading {
+        blocks,
+        head,
+        frames,
+        depth,
+    })
 }
 
 /// Closes all that binds at least as tightly as `p`.
@@ -191,35 +215,36 @@ fn reduce(
     } = reading;
     loop {
         match frames.pop() {
-            None => break,
+            None => {
+                let reading = Reading {
+                    blocks,
+                    head,
+                    frames,
+                    depth,
+                };
+                return Ok((reading, part));
+            }
             Some(Frame::Prefix(pos, op)) => {
                 depth -= 1;
                 part = prefixed(alloc, pos, op, part)?;
             }
             Some(Frame::Paren(pos)) => {
-                frames.push(Frame::Paren(pos))?;
-                break;
+                let reading = stays_open(blocks, head, frames, depth, Frame::Paren(pos))?;
+                return Ok((reading, part));
             }
             Some(Frame::Call(call)) => {
-                frames.push(Frame::Call(call))?;
-                break;
+                let reading = stays_open(blocks, head, frames, depth, Frame::Call(call))?;
+                return Ok((reading, part));
             }
             Some(Frame::Right(left, op)) => {
                 if p > precedence(op) {
-                    frames.push(Frame::Right(left, op))?;
-                    break;
+                    let reading = stays_open(blocks, head, frames, depth, Frame::Right(left, op))?;
+                    return Ok((reading, part));
                 }
                 part = joined(alloc, left, op, part)?;
             }
         }
     }
-    let reading = Reading {
-        blocks,
-        head,
-        frames,
-        depth,
-    };
-    Ok((reading, part))
 }
 
 /// A binary operator behind its left operand.
@@ -341,11 +366,7 @@ fn within_call(reading: Reading, call: Call) -> Result<Reading, AllocError>
 }
 
 /// A token where an argument or the closing parenthesis of a call is wanted.
-pub fn argument(
-    alloc: Global,
-    arguments: Arguments,
-    token: Terminal,
-) -> Result<State, StepFault>
+pub fn argument(alloc: Global, arguments: Arguments, token: Terminal) -> Result<State, StepFault>
     ensures { let s = state_of (State.Argument arguments) in
         Steps result (step s token) (nesting s token) }
 {

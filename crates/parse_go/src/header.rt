@@ -80,12 +80,7 @@ fn opened(alloc: Global, owner: Owner) -> State
 }
 
 /// A token behind the name of a function.
-pub fn opening(
-    alloc: Global,
-    file: File,
-    name: Name,
-    token: Terminal,
-) -> Result<State, StepFault>
+pub fn opening(alloc: Global, file: File, name: Name, token: Terminal) -> Result<State, StepFault>
     ensures { let s = at_opening (file_in file) name in
         Steps result (step s token) (nesting s token) }
 {

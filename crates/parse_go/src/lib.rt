@@ -39,3 +39,6 @@ mod tree;
 pub use fault::ParseFault;
 pub use parsing::parse;
 pub use tree::{BinOp, CompareOp, Cond, Else, Expr, Func, Name, Param, Stmt, Tree, UnOp};
+
+#[cfg(test)]
+mod tests;

@@ -5,7 +5,7 @@ ghost use Rattle.parse_go.specs.Tree.{none, ex_of, exs_of};
 ghost use Rattle.parse_go.specs.Heights.{height};
 ghost use Rattle.parse_go.specs.Outer.{branch_of, branches_of, chain_depth};
 ghost use Rattle.parse_go.specs.Frames.{listing, compared, opener_depth, head_depth, opener_of, listed_of, head_of};
-ghost use Rattle.parse_go.specs.Machine.{at_operand, at_statement, at_named, at_next_name, at_names, at_return, at_for, at_then, at_else, statement_depth, ends, step, nesting, nesting_at_ends};
+ghost use Rattle.parse_go.specs.Machine.{operand, at_operand, at_statement, at_named, at_next_name, at_names, at_return, at_for, at_then, at_else, statement_depth, ends, step, nesting, nesting_at_ends};
 ghost use Rattle.parse_go.specs.States.{blocks_of, state_of, Steps};
 
 use crate::block::{enter, enter_body, stop, with_statement};
@@ -32,6 +32,23 @@ fn begin(alloc: Global, blocks: Blocks, head: Head, depth: usize) -> Reading
         frames: Vec::new(alloc),
         depth,
     }
+}
+
+/// The first operand of the expression of a statement, at this nesting.
+fn first_operand(
+    alloc: Global,
+    blocks: Blocks,
+    head: Head,
+    depth: usize,
+    token: Terminal,
+) -> Result<State, StepFault>
+    requires is_depth { depth ≡ head_depth (statement_depth (blocks_of blocks)) (head_of head) }
+    requires small { depth ≤ 202 }
+    ensures { let b = blocks_of blocks in
+        Steps result (operand b (head_of head) [] token)
+        (head_depth (statement_depth b) (head_of head)) }
+{
+    operand(begin(alloc, blocks, head, depth), token)
 }
 
 /// The nesting of an `if` that is the else of these branches.
@@ -160,17 +177,12 @@ pub fn statement(alloc: Global, blocks: Blocks, token: Terminal) -> Result<State
             )
         }
         Terminal::Semicolon | Terminal::RightBrace(_) => stop(alloc, blocks, token),
-        _ => operand(begin(alloc, blocks, Head::Express, depth), token),
+        _ => first_operand(alloc, blocks, Head::Express, depth, token),
     }
 }
 
 /// A token behind the name that a statement begins with.
-pub fn named(
-    alloc: Global,
-    blocks: Blocks,
-    name: Name,
-    token: Terminal,
-) -> Result<State, StepFault>
+pub fn named(alloc: Global, blocks: Blocks, name: Name, token: Terminal) -> Result<State, StepFault>
     ensures { let s = at_named (blocks_of blocks) name in
         Steps result (step s token) (nesting s token) }
 {
@@ -191,11 +203,7 @@ pub fn named(
 }
 
 /// A token behind names and a comma.
-pub fn next_name(
-    blocks: Blocks,
-    mut before: Vec<Name>,
-    token: Terminal,
-) -> Result<State, StepFault>
+pub fn next_name(blocks: Blocks, mut before: Vec<Name>, token: Terminal) -> Result<State, StepFault>
     ensures { let s = at_next_name (blocks_of blocks) before.items in
         Steps result (step s token) (nesting s token) }
 {
@@ -254,7 +262,7 @@ pub fn returned(
         _ => {
             let depth = blocks.depth;
             let head = Head::Values(Listed::Return(pos), Vec::new(alloc));
-            operand(begin(alloc, blocks, head, depth), token)
+            first_operand(alloc, blocks, head, depth, token)
         }
     }
 }
@@ -280,10 +288,10 @@ pub fn loop_header(
                 depth,
             )
         }
-        _ => operand(
-            begin(alloc, blocks, Head::Left(Opener::For(pos)), depth),
-            token,
-        ),
+        _ => {
+            let head = Head::Left(Opener::For(pos));
+            first_operand(alloc, blocks, head, depth, token)
+        }
     }
 }
 
