@@ -3,17 +3,32 @@ use Rattle.std.proofs.Common.{◌≡◌, ℕ, zero, suc, ◌+◌, ◌<◌, ◌�
 use Rattle.std.proofs.lemmas.List.{append-nil, take_all, take-append-drop, take_at, map-append, length-map}
 use Rattle.std.proofs.lemmas.Bool.{cases_lt}
 use Rattle.parse_go.specs.declared.terminal.Terminal.{Terminal}
-use Rattle.parse_go.specs.declared.state.Stage.TheVariants as stage
-use Rattle.parse_go.specs.Grammar.{Mark, inside, terminal_in, nesting_of, terminals_in, Function, IsMarked, IsShallow, IsProgram}
+use Rattle.parse_go.specs.declared.terminal.Terminal.TheVariants.{Package, Identifier, Semicolon}
+use Rattle.parse_go.specs.declared.tree.Name.{Name}
+use Rattle.parse_go.specs.Tree.{Function, File}
+use Rattle.parse_go.specs.Grammar.{Mark, inside, terminal_in, nesting_of, terminals_in, AreFunctions, IsMarked, IsShallow, IsProgram}
 use Rattle.parse_go.specs.Faults.{Begins, InEachText, IsUnexpected, LastIsDeep, IsTooDeep}
-use Rattle.parse_go.specs.Machine.{State, at_header, at_end, step, nesting}
-use Rattle.parse_go.specs.States.{HasOneFunction}
-use Rattle.parse_go.proofs.Following.{Rest, Follows, ValidState, ValidNext, from_marked, to_marked}
+use Rattle.parse_go.specs.Machine.{State, at_package, at_function, step, nesting}
+use Rattle.parse_go.specs.States.{HasOneFile}
+use Rattle.parse_go.proofs.Following.{Rest, Follows, ValidState, ValidNext}
 use Rattle.parse_go.proofs.ExpressionSteps.{quotient}
 use Rattle.parse_go.proofs.Viable.{valid_step, viable, unfinished}
 
+from_marked : (ms : List Mark) (tree : File) → IsMarked ms tree → Rest at_package ms tree
+from_marked ms tree (m, is, are) = (inside (Identifier tree.package_name) 0 ∷ inside Semicolon 0 ∷ m, is, (tree.package_name, inside Semicolon 0 ∷ m, refl, (m, refl, (tree.funcs, are, refl))))
+
+to_marked : (ms : List Mark) (tree : File) → Rest at_package ms tree → IsMarked ms tree
+to_marked ms tree h =
+    let a = h.2 in
+    let b = a.3 in
+    let c = b.2 in
+    let name_is : tree.package_name ≡ a.0 = ap (λ (f : File). f.package_name) c.2 in
+    let funcs_are : tree.funcs ≡ c.0 = ap (λ (f : File). f.funcs) c.2 in
+    let marks = h.1 ∙ ap (λ (l : List Mark). inside Package 0 ∷ l) (a.2 ∙ ap (λ (l : List Mark). inside (Identifier a.0) 0 ∷ l) b.1) in
+    (b.0, marks ∙ ap (λ (x : Name). inside Package 0 ∷ inside (Identifier x) 0 ∷ inside Semicolon 0 ∷ b.0) (sym name_is), subst (λ (fs : List Function). AreFunctions fs b.0) (sym funcs_are) c.1)
+
 -- a text that begins with the terminals read so far: their nestings, and what follows
-pub record Parted (front : List Mark) (s : State) (ms : List Mark) (w : List Terminal) (tree : Function) : Type 0 where
+pub record Parted (front : List Mark) (s : State) (ms : List Mark) (w : List Terminal) (tree : File) : Type 0 where
   pub rest : List Mark
   pub parts : ms ≡ front ++ rest
   pub terminals : terminals_in rest ≡ w
@@ -22,10 +37,10 @@ pub record Parted (front : List Mark) (s : State) (ms : List Mark) (w : List Ter
 -- The texts that begin with the terminals of front are those that may follow in the state, and in each of them these terminals have these nestings.
 pub record Reached (front : List Mark) (s : State) : Type 0 where
   pub valid : ValidState s
-  pub parted : (ms : List Mark) (w : List Terminal) (tree : Function) → terminals_in ms ≡ terminals_in front ++ w → IsMarked ms tree → Parted front s ms w tree
-  pub whole : (rest : List Mark) (tree : Function) → Rest s rest tree → IsMarked (front ++ rest) tree
+  pub parted : (ms : List Mark) (w : List Terminal) (tree : File) → terminals_in ms ≡ terminals_in front ++ w → IsMarked ms tree → Parted front s ms w tree
+  pub whole : (rest : List Mark) (tree : File) → Rest s rest tree → IsMarked (front ++ rest) tree
 
-pub at_start : Reached [] (at_header stage.Package)
+pub at_start : Reached [] at_package
 at_start = record {
   valid = tt;
   parted = λ ms w tree is h. record { rest = ms; parts = refl; terminals = is; follows = from_marked ms tree h };
@@ -42,7 +57,7 @@ module _ (front : List Mark) (s : State) (t : Terminal) (r : Reached front s) wh
   terminals_grow w = ap (λ (l : List Terminal). l ++ w) (map-append terminal_in front (inside t (nesting s t) ∷ [])) ∙ append_assoc (terminals_in front) (t ∷ []) w
 
   -- one terminal more of a text that begins so
-  one_more : (ms : List Mark) (w : List Terminal) (tree : Function) → terminals_in ms ≡ terminals_in front ++ t ∷ w → IsMarked ms tree
+  one_more : (ms : List Mark) (w : List Terminal) (tree : File) → terminals_in ms ≡ terminals_in front ++ t ∷ w → IsMarked ms tree
       → (u : List Mark) × (ms ≡ (front ++ inside t (nesting s t) ∷ []) ++ u) × (terminals_in u ≡ w) × Follows (step s t) u tree
   one_more ms w tree is h =
       let p = r.parted ms (t ∷ w) tree is h in
@@ -78,10 +93,14 @@ in_each_text P front s r holds ms tree w is h =
     let e : take (length (terminals_in front)) ms ≡ front = ap (take (length (terminals_in front))) p.parts ∙ take_at front p.rest (length (terminals_in front)) (sym (length-map front terminal_in)) in
     subst P (sym e) holds
 
-pub is_program : (front : List Mark) (f : Function) → Reached front (at_end f) → IsShallow front → IsProgram (terminals_in front) f
-is_program front f r shallow = (front, refl, subst (λ (l : List Mark). IsMarked l f) (append-nil front) (r.whole [] f (refl, refl)), shallow)
+-- no function follows
+whole_again : (f : File) → f ≡ record { package_name = f.package_name; funcs = f.funcs ++ [] }
+whole_again f = ap (λ (fs : List Function). record { package_name = f.package_name; funcs = fs }) (sym (append-nil f.funcs))
 
-pub only_program : (front : List Mark) (s : State) (ms : List Mark) (tree : Function) → Reached front s → terminals_in ms ≡ terminals_in front → IsMarked ms tree → (f : Function) × (s ≡ at_end f) × (tree ≡ f)
+pub is_program : (front : List Mark) (f : File) → Reached front (at_function f) → IsShallow front → IsProgram (terminals_in front) f
+is_program front f r shallow = (front, refl, subst (λ (l : List Mark). IsMarked l f) (append-nil front) (r.whole [] f ([], refl, whole_again f)), shallow)
+
+pub only_program : (front : List Mark) (s : State) (ms : List Mark) (tree : File) → Reached front s → terminals_in ms ≡ terminals_in front → IsMarked ms tree → (f : File) × (s ≡ at_function f) × (tree ≡ f)
 only_program front s ms tree r is h =
     let p = r.parted ms [] tree (is ∙ sym (append-nil (terminals_in front))) h in
     unfinished s tree (nothing p.rest p.terminals p.follows)
@@ -98,7 +117,7 @@ pub record ReachedAt (ts : List Terminal) (i : ℕ) (s : State) : Type 0 where
   pub reached : Reached marks s
   pub shallow : IsShallow marks
 
-pub from_start : (ts : List Terminal) → ReachedAt ts 0 (at_header stage.Package)
+pub from_start : (ts : List Terminal) → ReachedAt ts 0 at_package
 from_start ts = record { marks = []; terminals = refl; reached = at_start; shallow = tt }
 
 shallow_more : (ms : List Mark) (m : Mark) → IsShallow ms → nesting_of m ≤ 200 → IsShallow (ms ++ m ∷ [])
@@ -149,7 +168,7 @@ module _ (ts : List Terminal) (i : ℕ) (t : Terminal) (s : State) (lt : i < len
         deep = subst (λ (l : List Terminal). InEachText l LastIsDeep) terminals (in_each_text LastIsDeep m n reached (last_deep r.marks (inside t (nesting s t)) r.shallow deep));
       }
 
-pub ended : (ts : List Terminal) (i : ℕ) (s : State) → i ≤ length ts → length ts ≤ i → ReachedAt ts i s → ((f : Function) → s ≡ at_end f → ⊥) → IsUnexpected ts i
+pub ended : (ts : List Terminal) (i : ℕ) (s : State) → i ≤ length ts → length ts ≤ i → ReachedAt ts i s → ((f : File) → s ≡ at_function f → ⊥) → IsUnexpected ts i
 ended ts i s within le r other = record {
   within = within;
   before = subst Begins r.terminals (begins r.marks s r.reached);
@@ -160,28 +179,28 @@ ended ts i s within le r other = record {
       other u.0 u.1;
 }
 
-pub found_program : (ts : List Terminal) (i : ℕ) (s : State) (f : Function) → length ts ≤ i → s ≡ at_end f → ReachedAt ts i s → IsProgram ts f
+pub found_program : (ts : List Terminal) (i : ℕ) (s : State) (f : File) → length ts ≤ i → s ≡ at_function f → ReachedAt ts i s → IsProgram ts f
 found_program ts i s f le is r = subst (λ (l : List Terminal). IsProgram l f) (r.terminals ∙ take_all i ts le) (is_program r.marks f (subst (Reached r.marks) is r.reached) r.shallow)
 
-end_same : (a b : Function) → at_end a ≡ at_end b → a ≡ b
+end_same : (a b : File) → at_function a ≡ at_function b → a ≡ b
 end_same a b e = cc
 
-pub found_only : (ts : List Terminal) (i : ℕ) (s : State) (f : Function) → length ts ≤ i → s ≡ at_end f → ReachedAt ts i s → HasOneFunction ts f
+pub found_only : (ts : List Terminal) (i : ℕ) (s : State) (f : File) → length ts ≤ i → s ≡ at_function f → ReachedAt ts i s → HasOneFile ts f
 found_only ts i s f le is r other h =
     let u = only_program r.marks s h.0 other r.reached (h.1 ∙ sym (r.terminals ∙ take_all i ts le)) h.2 in
     end_same f u.0 (sym is ∙ u.1) ∙ sym u.2
 
 -- ---- a fault rules a tree out
 
-all_begins : (ts : List Terminal) (i : ℕ) (f : Function) → IsProgram ts f → Begins (take i ts)
+all_begins : (ts : List Terminal) (i : ℕ) (f : File) → IsProgram ts f → Begins (take i ts)
 all_begins ts i f h = (h.0, f, drop i ts, h.1 ∙ sym (take-append-drop i ts), h.2)
 
-pub unexpected_none : (ts : List Terminal) (i : ℕ) (f : Function) → IsUnexpected ts i → IsProgram ts f → ⊥
+pub unexpected_none : (ts : List Terminal) (i : ℕ) (f : File) → IsUnexpected ts i → IsProgram ts f → ⊥
 unexpected_none ts i f fault h =
     elim (cases_lt i (length ts)) [
       | inl lt ↦ fault.terminal lt (all_begins ts (i + 1) f h)
       | inr le ↦ fault.ends le h.0 f h.1 h.2
     ]
 
-pub deep_none : (ts : List Terminal) (i : ℕ) (f : Function) → IsTooDeep ts i → IsProgram ts f → ⊥
+pub deep_none : (ts : List Terminal) (i : ℕ) (f : File) → IsTooDeep ts i → IsProgram ts f → ⊥
 deep_none ts i f fault h = deep_not_shallow (length (take (i + 1) ts)) h.0 (fault.deep h.0 f (drop (i + 1) ts) (h.1 ∙ sym (take-append-drop (i + 1) ts)) h.2) h.3

@@ -2,8 +2,10 @@ pub mod Tree
 pub mod FirstBytes
 pub mod Terminals
 pub mod Heights
+pub mod Lists
 pub mod Grammar
 pub mod Outer
+pub mod Signatures
 pub mod Frames
 pub mod Machine
 pub mod States

@@ -1,15 +1,17 @@
 //! The steps of the machine inside the expression of a statement.
 
 ghost use Rattle.std.specs.Prelude.{◌≡◌, ℕ, ◌≤◌, ◌+◌, ◌∷◌, [], List, max, min, suc, Some, IfOk};
-ghost use Rattle.parse_go.specs.Tree.{ex_of, unary, binary, paren};
+ghost use Rattle.parse_go.specs.Tree.{none, ex_of, exs_of, unary, binary, paren, call};
 ghost use Rattle.parse_go.specs.Heights.{precedence, height};
-ghost use Rattle.parse_go.specs.Frames.{Frame as AnyFrame, awaiting, open_depth, head_of, frame_of};
-ghost use Rattle.parse_go.specs.Machine.{reduce, closes, step, nesting, nesting_at_closes};
-ghost use Rattle.parse_go.specs.States.{blocks_of, frames_in, depth_in, wanting, having, state_of, Steps};
+ghost use Rattle.parse_go.specs.Lists.{with_ex};
+ghost use Rattle.parse_go.specs.Frames.{Frame as AnyFrame, calling, awaiting, open_depth, head_depth, head_of, frame_of, frames_of};
+ghost use Rattle.parse_go.specs.Machine.{reduce, closes, step, nesting, nesting_at_closes, statement_depth};
+ghost use Rattle.parse_go.specs.States.{blocks_of, frames_in, depth_in, wanting, having, in_call, state_of, Steps};
 
 use crate::fault::StepFault;
-use crate::frame::{Frame, Part};
-use crate::state::{Reading, State};
+use crate::frame::{Call, Frame, Head, Part};
+use crate::nodes::{call, with_value};
+use crate::state::{Arguments, Blocks, Reading, State};
 use crate::statement::ends;
 use crate::terminal::Terminal;
 use crate::tree::{BinOp, Expr, UnOp};
@@ -84,7 +86,7 @@ pub fn operand(reading: Reading, token: Terminal) -> Result<State, StepFault>
 {
     match token {
         Terminal::Number(pos, n) => leaf(reading, Expr::Int(pos, n)),
-        Terminal::Identifier(name, _) => leaf(reading, Expr::Name(name)),
+        Terminal::Identifier(name) => leaf(reading, Expr::Name(name)),
         Terminal::Operator(pos, BinOp::Sub) => deeper(reading, Frame::Prefix(pos, UnOp::Negate)),
         Terminal::LeftParen(pos) => deeper(reading, Frame::Paren(pos)),
         _ => Err(StepFault::Unexpected),
@@ -125,6 +127,74 @@ fn in_parens(alloc: Global, pos: Pos, part: Part) -> Result<Part, AllocError>
     Ok(Part { expr, height })
 }
 
+/// A call without arguments so far.
+fn opened_call(alloc: Global, function: Part) -> Call
+    ensures function { result.function ≡ function.expr }
+    ensures arguments { result.arguments.items ≡ [] }
+{
+    let height = one_higher(function.height);
+    Call {
+        function: function.expr,
+        arguments: Vec::new(alloc),
+        height,
+    }
+}
+
+/// One argument more.
+#[tactic(auto, using(crate::proofs::Rows::higher_push))]
+fn with_argument(call: Call, argument: Part) -> Result<Call, AllocError>
+    ensures function { IfOk result (λ r. r.function ≡ call.function) }
+    ensures arguments { IfOk result (λ r. exs_of r.arguments.items
+        ≡ with_ex (exs_of call.arguments.items) (ex_of argument.expr)) }
+{
+    let Call {
+        function,
+        arguments,
+        height,
+    } = call;
+    let height = height.max(one_higher(argument.height));
+    let arguments = with_value(arguments, argument.expr)?;
+    Ok(Call {
+        function,
+        arguments,
+        height,
+    })
+}
+
+/// The whole call.
+fn whole_call(alloc: Global, pending: Call) -> Result<Part, AllocError>
+    ensures { IfOk result
+        (λ r. ex_of r.expr ≡ call (ex_of pending.function) (exs_of pending.arguments.items)) }
+{
+    let height = pending.height;
+    let expr = call(alloc, pending.function, pending.arguments)?;
+    Ok(Part { expr, height })
+}
+
+/// A construct that was taken from the open ones stays open.
+fn stays_open(
+    blocks: Blocks,
+    head: Head,
+    mut frames: Vec<Frame>,
+    depth: usize,
+    frame: Frame,
+) -> Result<Reading, AllocError>
+    requires is_depth { let d = head_depth (statement_depth (blocks_of blocks)) (head_of head) in
+        depth ≡ open_depth d (frame_of frame ∷ frames_of frames.items) }
+    requires small { depth ≤ 202 }
+    ensures frames { IfOk result (λ r. frames_in r ≡ frame_of frame ∷ frames_of frames.items) }
+    ensures blocks { IfOk result (λ r. r.blocks ≡ blocks) }
+    ensures head { IfOk result (λ r. r.head ≡ head) }
+{
+    frames.push(frame)?;
+    Ok(Reading {
+        blocks,
+        head,
+        frames,
+        depth,
+    })
+}
+
 /// Closes all that binds at least as tightly as `p`.
 fn reduce(
     alloc: Global,
@@ -145,31 +215,36 @@ fn reduce(
     } = reading;
     loop {
         match frames.pop() {
-            None => break,
+            None => {
+                let reading = Reading {
+                    blocks,
+                    head,
+                    frames,
+                    depth,
+                };
+                return Ok((reading, part));
+            }
             Some(Frame::Prefix(pos, op)) => {
                 depth -= 1;
                 part = prefixed(alloc, pos, op, part)?;
             }
             Some(Frame::Paren(pos)) => {
-                frames.push(Frame::Paren(pos))?;
-                break;
+                let reading = stays_open(blocks, head, frames, depth, Frame::Paren(pos))?;
+                return Ok((reading, part));
+            }
+            Some(Frame::Call(call)) => {
+                let reading = stays_open(blocks, head, frames, depth, Frame::Call(call))?;
+                return Ok((reading, part));
             }
             Some(Frame::Right(left, op)) => {
                 if p > precedence(op) {
-                    frames.push(Frame::Right(left, op))?;
-                    break;
+                    let reading = stays_open(blocks, head, frames, depth, Frame::Right(left, op))?;
+                    return Ok((reading, part));
                 }
                 part = joined(alloc, left, op, part)?;
             }
         }
     }
-    let reading = Reading {
-        blocks,
-        head,
-        frames,
-        depth,
-    };
-    Ok((reading, part))
 }
 
 /// A binary operator behind its left operand.
@@ -213,7 +288,95 @@ fn closes(alloc: Global, reading: Reading, part: Part, token: Terminal) -> Resul
             }
             _ => Err(StepFault::Unexpected),
         },
+        Some(Frame::Call(call)) => {
+            let reading = Reading {
+                blocks,
+                head,
+                frames,
+                depth: depth - 1,
+            };
+            behind_argument(alloc, reading, call, part, token)
+        }
         Some(_) => Err(StepFault::Unexpected),
+    }
+}
+
+/// A token behind the whole of an argument.
+fn behind_argument(
+    alloc: Global,
+    reading: Reading,
+    call: Call,
+    part: Part,
+    token: Terminal,
+) -> Result<State, StepFault>
+    requires { reading.depth ≤ 201 }
+    ensures { let b = blocks_of reading.blocks in
+        let h = head_of reading.head in
+        let fs = calling (ex_of call.function) (exs_of call.arguments.items) ∷ frames_in reading in
+        Steps result (closes b h fs (ex_of part.expr) token)
+        (nesting_at_closes b h fs (ex_of part.expr) token) }
+{
+    match token {
+        Terminal::Comma => {
+            if reading.depth >= MOST {
+                return Err(StepFault::TooDeep);
+            }
+            let call = with_argument(call, part)?;
+            Ok(State::Argument(Arguments { reading, call }))
+        }
+        Terminal::RightParen => {
+            let part = whole_call(alloc, with_argument(call, part)?)?;
+            limited(reading.depth, State::Operator(reading, part))
+        }
+        _ => Err(StepFault::Unexpected),
+    }
+}
+
+/// The opening parenthesis of a call behind its function.
+fn calls(alloc: Global, reading: Reading, function: Part) -> Result<State, StepFault>
+    ensures { Steps result (Some (in_call reading (ex_of function.expr) none))
+        (max (depth_in reading) (suc (height (ex_of function.expr)))) }
+{
+    if reading.depth > MOST || function.height >= 200 {
+        return Err(StepFault::TooDeep);
+    }
+    let call = opened_call(alloc, function);
+    Ok(State::Argument(Arguments { reading, call }))
+}
+
+/// An argument of a call begins.
+fn within_call(reading: Reading, call: Call) -> Result<Reading, AllocError>
+    requires { reading.depth ≤ 200 }
+    ensures { IfOk result (λ r. state_of (State.Operand r)
+        ≡ wanting reading (calling (ex_of call.function) (exs_of call.arguments.items) ∷ frames_in reading)) }
+{
+    let Reading {
+        blocks,
+        head,
+        mut frames,
+        depth,
+    } = reading;
+    frames.push(Frame::Call(call))?;
+    Ok(Reading {
+        blocks,
+        head,
+        frames,
+        depth: depth + 1,
+    })
+}
+
+/// A token where an argument or the closing parenthesis of a call is wanted.
+pub fn argument(alloc: Global, arguments: Arguments, token: Terminal) -> Result<State, StepFault>
+    ensures { let s = state_of (State.Argument arguments) in
+        Steps result (step s token) (nesting s token) }
+{
+    let Arguments { reading, call } = arguments;
+    match token {
+        Terminal::RightParen => {
+            let part = whole_call(alloc, call)?;
+            limited(reading.depth, State::Operator(reading, part))
+        }
+        _ => operand(within_call(reading, call)?, token),
     }
 }
 
@@ -232,6 +395,7 @@ pub fn behind_operand(
             let (reading, part) = reduce(alloc, precedence(op), reading, part)?;
             operator(reading, part, op)
         }
+        Terminal::LeftParen(_) => calls(alloc, reading, part),
         _ => {
             let (reading, part) = reduce(alloc, 0, reading, part)?;
             closes(alloc, reading, part, token)

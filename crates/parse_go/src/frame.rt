@@ -1,7 +1,7 @@
 //! What is open inside the expression of a statement.
 
 ghost use Rattle.std.specs.Prelude.{◌≡◌, ◌≤◌};
-ghost use Rattle.parse_go.specs.Tree.{ex_of};
+ghost use Rattle.parse_go.specs.Tree.{call, ex_of, exs_of};
 ghost use Rattle.parse_go.specs.Heights.{capped_height};
 
 use crate::outer::Branch;
@@ -16,6 +16,16 @@ pub struct Part {
     ghost is_height: { height ≡ capped_height (ex_of expr) },
 }
 
+/// A call that is not closed: the function, the arguments so far, and the height of the call with these, which counts
+/// to 201.
+#[derive(Drop)]
+pub struct Call {
+    pub function: Expr,
+    pub arguments: Vec<Expr>,
+    pub height: u8,
+    ghost is_height: { height ≡ capped_height (call (ex_of function) (exs_of arguments.items)) },
+}
+
 /// A construct that is open inside an expression.
 #[derive(Drop)]
 pub enum Frame {
@@ -23,6 +33,8 @@ pub enum Frame {
     Prefix(Pos, UnOp),
     /// Parentheses that are not closed.
     Paren(Pos),
+    /// A call that is not closed.
+    Call(Call),
     /// A left operand and its operator, without the right operand.
     Right(Part, BinOp),
 }
@@ -36,15 +48,24 @@ pub enum Opener {
     For(Pos),
 }
 
+/// A statement with a list of values.
+#[derive(Drop)]
+pub enum Listed {
+    /// The names, and the place of the `:=`.
+    Define(Vec<Name>, Pos),
+    /// The names, and the place of the `=`.
+    Assign(Vec<Name>, Pos),
+    /// The place of the `return`.
+    Return(Pos),
+}
+
 /// The statement whose expression is read.
 #[derive(Drop)]
 pub enum Head {
-    /// The name, and the place of the `:=`.
-    Define(Name, Pos),
-    /// The name, and the place of the `=`.
-    Assign(Name, Pos),
-    /// The place of the word `println`, and the operands before this one.
-    Print(Pos, Vec<Expr>),
+    /// The expression is the statement.
+    Express,
+    /// One of its values is read, behind the ones before.
+    Values(Listed, Vec<Expr>),
     /// The left operand of a condition is read.
     Left(Opener),
     /// The right operand of a condition is read, behind the left one and the comparison.

@@ -21,13 +21,16 @@
 //! nestings, so the bound is a fact of a text and not a second grammar.
 #![tactic(auto)]
 
+mod block;
 mod expression;
 mod fault;
 mod frame;
+mod header;
 mod machine;
 mod nodes;
 mod outer;
 mod parsing;
+mod signature;
 mod state;
 mod statement;
 mod terminal;
@@ -35,7 +38,7 @@ mod tree;
 
 pub use fault::ParseFault;
 pub use parsing::parse;
-pub use tree::{BinOp, CompareOp, Cond, Else, Expr, Name, Stmt, Tree, UnOp};
+pub use tree::{BinOp, CompareOp, Cond, Else, Expr, Func, Name, Param, Stmt, Tree, UnOp};
 
 #[cfg(test)]
 mod tests;

@@ -1,13 +1,44 @@
-//! Statements from their parts.
+//! Expressions, statements and functions from their parts.
 
 ghost use Rattle.std.specs.Prelude.{◌≡◌, IfOk};
-ghost use Rattle.parse_go.specs.Tree.{block, loop, choice, else_block, else_if, condition_in, stm_of, els_of, stms_of};
+ghost use Rattle.parse_go.specs.Tree.{call, block, loop, choice, else_block, else_if, ex_of, exs_of, condition_in, stm_of, els_of, stms_of};
+ghost use Rattle.parse_go.specs.Lists.{with_ex};
+ghost use Rattle.parse_go.specs.Frames.{listed_of, listed_statement};
+ghost use Rattle.parse_go.specs.Signatures.{signature_of, file_in, with_function};
 ghost use Rattle.parse_go.specs.Outer.{joined, one, branch_of, branches_of, whole_if};
 
+use crate::frame::Listed;
 use crate::outer::Branch;
-use crate::tree::{Cond, Else, Stmt};
+use crate::signature::{File, Signature};
+use crate::tree::{Cond, Else, Expr, Func, Stmt};
 use base::Pos;
 use std::alloc::{AllocError, Global};
+
+pub fn call(alloc: Global, function: Expr, arguments: Vec<Expr>) -> Result<Expr, AllocError>
+    ensures { IfOk result (λ e. ex_of e ≡ call (ex_of function) (exs_of arguments.items)) }
+{
+    Ok(Expr::Call(Box::new(alloc, function)?, arguments))
+}
+
+/// The expressions of a list, and one more.
+#[tactic(auto, using(crate::proofs::Rows::exs_push))]
+pub fn with_value(mut values: Vec<Expr>, value: Expr) -> Result<Vec<Expr>, AllocError>
+    ensures { IfOk result (λ v. exs_of v.items ≡ with_ex (exs_of values.items) (ex_of value)) }
+{
+    values.push(value)?;
+    Ok(values)
+}
+
+/// The statement with these values.
+pub fn listed_statement(listed: Listed, values: Vec<Expr>) -> Stmt
+    ensures { stm_of result ≡ listed_statement (listed_of listed) (exs_of values.items) }
+{
+    match listed {
+        Listed::Define(names, pos) => Stmt::Define(names, pos, values),
+        Listed::Assign(names, pos) => Stmt::Assign(names, pos, values),
+        Listed::Return(pos) => Stmt::Return(pos, values),
+    }
+}
 
 /// The statements of a block, and one more.
 pub fn append(mut done: Vec<Stmt>, stmt: Stmt) -> Result<Vec<Stmt>, AllocError>
@@ -65,4 +96,33 @@ pub fn whole_if(
         last = before;
     }
     Ok(choice(last, otherwise))
+}
+
+/// The whole function, behind the ones before it.
+#[tactic(auto, using(crate::proofs::Rows::functions_push))]
+pub fn with_function(signature: Signature, body: Vec<Stmt>, end: Pos) -> Result<File, AllocError>
+    ensures { IfOk result
+        (λ f. file_in f ≡ with_function (signature_of signature) (stms_of body.items) end) }
+{
+    let Signature {
+        file,
+        name,
+        params,
+        results,
+    } = signature;
+    let File {
+        package_name,
+        mut funcs,
+    } = file;
+    funcs.push(Func {
+        name,
+        params,
+        results,
+        body,
+        end,
+    })?;
+    Ok(File {
+        package_name,
+        funcs,
+    })
 }

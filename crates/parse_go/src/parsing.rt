@@ -2,27 +2,29 @@
 
 ghost use Rattle.std.specs.Prelude.{◌≡◌, List, length, IfOk, IfErr};
 ghost use Rattle.scan_go.specs.Lines.{pos_at};
-ghost use Rattle.parse_go.specs.Tree.{Syntax, stms_of, syntax_of};
+ghost use Rattle.parse_go.specs.Tree.{Syntax, syntax_of, file_of};
 ghost use Rattle.parse_go.specs.Terminals.{terminals_of};
 ghost use Rattle.parse_go.specs.Grammar.{IsProgram, IsText};
 ghost use Rattle.parse_go.specs.Faults.{IsFirstFault, GivesTree};
-ghost use Rattle.parse_go.specs.Spans.{StmsSpans};
-ghost use Rattle.parse_go.specs.States.{function_in, state_of, fault_at, Finishes, HasOneFunction};
+ghost use Rattle.parse_go.specs.Signatures.{file_in};
+ghost use Rattle.parse_go.specs.Spans.{FileSpans};
+ghost use Rattle.parse_go.specs.States.{state_of, fault_at, Finishes, HasOneFile};
 
 use crate::fault::{ParseFault, StepFault};
 use crate::machine::step;
-use crate::state::{Function, Stage, State};
+use crate::signature::File;
+use crate::state::State;
 use crate::terminal::terminal_of;
 use crate::tree::Tree;
 use base::Pos;
 use scan_go::{Token, Tokens};
 use std::alloc::Global;
 
-fn finish(state: State) -> Option<Function>
+fn finish(state: State) -> Option<File>
     ensures { Finishes result (state_of state) }
 {
     match state {
-        State::End(function) => Some(function),
+        State::Function(file) => Some(file),
         _ => None,
     }
 }
@@ -37,33 +39,26 @@ fn fault_at(fault: StepFault, pos: Pos) -> ParseFault
     }
 }
 
-/// The function of the tokens of a text that ends at a place.
-fn function_of(
-    alloc: Global,
-    text: &[u8],
-    tokens: &[Token],
-    behind: Pos,
-) -> Result<Function, ParseFault>
-    ensures found { IfOk result
-        (λ f. IsProgram (terminals_of text.now tokens.now) (function_in f)) }
-    ensures one { IfOk result
-        (λ f. HasOneFunction (terminals_of text.now tokens.now) (function_in f)) }
-    ensures fault { IfErr result (IsFirstFault text.now tokens.now behind) }
+/// The functions of the tokens of a text that ends at a place.
+fn file_of(alloc: Global, tokens: &[Token], behind: Pos) -> Result<File, ParseFault>
+    ensures found { IfOk result (λ f. IsProgram (terminals_of tokens.now) (file_in f)) }
+    ensures one { IfOk result (λ f. HasOneFile (terminals_of tokens.now) (file_in f)) }
+    ensures fault { IfErr result (IsFirstFault tokens.now behind) }
 {
-    let mut state = State::Header(Stage::Package);
+    let mut state = State::Package;
     for token in tokens {
-        match step(alloc, state, terminal_of(text, *token)) {
+        match step(alloc, state, terminal_of(*token)) {
             Ok(next) => state = next,
             Err(fault) => return Err(fault_at(fault, token.pos)),
         }
     }
     match finish(state) {
-        Some(function) => Ok(function),
+        Some(file) => Ok(file),
         None => Err(ParseFault::Unexpected(behind)),
     }
 }
 
-/// The tree of the tokens of a text [Go specification, Source file organization, Statements, Expressions].
+/// The tree of the tokens of a text [Go specification, Source file organization, Function declarations, Statements, Expressions].
 pub fn parse(alloc: Global, tokens: &Tokens) -> Result<Tree, ParseFault>
     // What is answered is the tree of these tokens, with their text.
     ensures found { IfOk result (λ tree. IsText tokens.now.text tokens.now.list (syntax_of tree)) }
@@ -74,18 +69,17 @@ pub fn parse(alloc: Global, tokens: &Tokens) -> Result<Tree, ParseFault>
 
     // The span of each name lies in the text.
     ensures spans { IfOk result
-        (λ tree. StmsSpans (length tokens.now.text) (stms_of tree.body.items)) }
+        (λ tree. FileSpans (length tokens.now.text) (file_of (syntax_of tree))) }
 
     // The first token with which no text begins, or the first whose nesting passes the limit.
     ensures fault { let behind = pos_at tokens.now.text (length tokens.now.text) in
-        IfErr result (IsFirstFault tokens.now.text tokens.now.list behind) }
+        IfErr result (IsFirstFault tokens.now.list behind) }
 {
-    let text = tokens.text();
-    let function = function_of(alloc, text, tokens.list(), tokens.end())?;
-    let copy = Vec::from_slice(alloc, text)?;
+    let file = file_of(alloc, tokens.list(), tokens.end())?;
+    let text = Vec::from_slice(alloc, tokens.text())?;
     Ok(Tree {
-        text: copy,
-        main: function.main,
-        body: function.body,
+        text,
+        package: file.package_name,
+        funcs: file.funcs,
     })
 }

@@ -1,23 +1,24 @@
 //! The steps of the machine between the expressions of a statement, and at its end.
 
-ghost use Rattle.std.specs.Prelude.{◌≡◌, ◌≤◌, ◌∷◌, [], max, suc, IfOk, Some};
-ghost use Rattle.parse_go.specs.Tree.{nil, ex_of, exs_of, condition_of, stm_of, stms_of, els_of};
+ghost use Rattle.std.specs.Prelude.{◌≡◌, ◌≤◌, [], max, suc, Some};
+ghost use Rattle.parse_go.specs.Tree.{none, ex_of, exs_of};
 ghost use Rattle.parse_go.specs.Heights.{height};
-ghost use Rattle.parse_go.specs.Outer.{branch_of, branches_of, outer_of, outers_of, chain_depth, brace_depth, whole_if};
-ghost use Rattle.parse_go.specs.Frames.{compared, printing, opener_depth, head_depth, opener_of, head_of};
-ghost use Rattle.parse_go.specs.Machine.{with_statement, at_operand, at_statement, at_named, at_operands, at_for, at_then, at_else, around, opened, statement_depth, up, stop, ends, step, nesting, nesting_at_stop, nesting_at_ends};
+ghost use Rattle.parse_go.specs.Outer.{branch_of, branches_of, chain_depth};
+ghost use Rattle.parse_go.specs.Frames.{listing, compared, opener_depth, head_depth, opener_of, listed_of, head_of};
+ghost use Rattle.parse_go.specs.Machine.{operand, at_operand, at_statement, at_named, at_next_name, at_names, at_return, at_for, at_then, at_else, statement_depth, ends, step, nesting, nesting_at_ends};
 ghost use Rattle.parse_go.specs.States.{blocks_of, state_of, Steps};
 
-use crate::expression::{MOST, limited, operand};
+use crate::block::{enter, enter_body, stop, with_statement};
+use crate::expression::{MOST, behind_operand, limited, operand};
 use crate::fault::StepFault;
-use crate::frame::{Head, Opener, Part};
-use crate::nodes::{append, block, else_block, repetition, whole_if};
+use crate::frame::{Head, Listed, Opener, Part};
+use crate::nodes::{listed_statement, whole_if, with_value};
 use crate::outer::{Branch, Outer};
-use crate::state::{Blocks, Function, Reading, State};
-use crate::terminal::{Terminal, Word};
+use crate::state::{Blocks, Reading, State};
+use crate::terminal::Terminal;
 use crate::tree::{CompareOp, Cond, Else, Expr, Name, Stmt};
 use base::Pos;
-use std::alloc::{AllocError, Global};
+use std::alloc::Global;
 
 /// The expression of a statement begins, at this nesting.
 fn begin(alloc: Global, blocks: Blocks, head: Head, depth: usize) -> Reading
@@ -33,6 +34,23 @@ fn begin(alloc: Global, blocks: Blocks, head: Head, depth: usize) -> Reading
     }
 }
 
+/// The first operand of the expression of a statement, at this nesting.
+fn first_operand(
+    alloc: Global,
+    blocks: Blocks,
+    head: Head,
+    depth: usize,
+    token: Terminal,
+) -> Result<State, StepFault>
+    requires is_depth { depth ≡ head_depth (statement_depth (blocks_of blocks)) (head_of head) }
+    requires small { depth ≤ 202 }
+    ensures { let b = blocks_of blocks in
+        Steps result (operand b (head_of head) [] token)
+        (head_depth (statement_depth b) (head_of head)) }
+{
+    operand(begin(alloc, blocks, head, depth), token)
+}
+
 /// The nesting of an `if` that is the else of these branches.
 #[tactic(auto, using(crate::proofs::Chains::code_chain_depth))]
 fn chain_depth(blocks: &Blocks, branches: &[Branch]) -> usize
@@ -40,146 +58,6 @@ fn chain_depth(blocks: &Blocks, branches: &[Branch]) -> usize
         ≡ chain_depth (branches_of branches.now) (statement_depth (blocks_of blocks.now)) }
 {
     blocks.depth + branches.len()
-}
-
-/// One statement more in the innermost block.
-fn with_statement(blocks: Blocks, stmt: Stmt) -> Result<Blocks, AllocError>
-    ensures blocks { IfOk result
-        (λ b. blocks_of b ≡ with_statement (blocks_of blocks) (stm_of stmt)) }
-    ensures depth { IfOk result (λ b. b.depth ≡ blocks.depth) }
-{
-    let Blocks {
-        main,
-        outer,
-        done,
-        depth,
-    } = blocks;
-    let done = append(done, stmt)?;
-    Ok(Blocks {
-        main,
-        outer,
-        done,
-        depth,
-    })
-}
-
-/// The blocks around the innermost one, where a statement has this nesting.
-fn around(main: Pos, outer: Vec<Outer>, done: Vec<Stmt>, depth: usize) -> Blocks
-    requires is_depth { depth ≡ suc (brace_depth (outers_of outer.items)) }
-    requires small { depth ≤ 201 }
-    ensures { blocks_of result ≡ around main (outers_of outer.items) (stms_of done.items) }
-{
-    Blocks {
-        main,
-        outer,
-        done,
-        depth,
-    }
-}
-
-/// The innermost block is closed.
-#[tactic(auto, using(crate::proofs::Chains::code_chain_depth))]
-fn close(alloc: Global, blocks: Blocks) -> Result<State, AllocError>
-    ensures { IfOk result
-        (λ s. let b = blocks_of blocks in state_of s ≡ up b.main b.outer b.done) }
-{
-    let Blocks {
-        main,
-        mut outer,
-        done: body,
-        depth,
-    } = blocks;
-    match outer.pop() {
-        None => Ok(State::Last(Function { main, body })),
-        Some(Outer::Block(done)) => {
-            let blocks = around(main, outer, done, depth - 1);
-            Ok(State::Stop(with_statement(blocks, block(body))?))
-        }
-        Some(Outer::For(done, pos, cond)) => {
-            let blocks = around(main, outer, done, depth - 1);
-            Ok(State::Stop(with_statement(blocks, repetition(pos, cond, body))?))
-        }
-        Some(Outer::Then(done, branches, pos, cond)) => {
-            let before = depth - 1 - branches.len();
-            let blocks = around(main, outer, done, before);
-            Ok(State::Then(blocks, branches, Branch { pos, cond, body }))
-        }
-        Some(Outer::Else(done, branches, last)) => {
-            let before = depth - 1 - branches.len();
-            let blocks = around(main, outer, done, before);
-            let whole = whole_if(alloc, branches, last, else_block(body))?;
-            Ok(State::Stop(with_statement(blocks, whole)?))
-        }
-    }
-}
-
-/// A token behind a statement.
-pub fn stop(alloc: Global, blocks: Blocks, token: Terminal) -> Result<State, StepFault>
-    ensures { let b = blocks_of blocks in
-        Steps result (stop b token) (nesting_at_stop b token) }
-{
-    match token {
-        Terminal::Semicolon => limited(blocks.depth, State::Statement(blocks)),
-        Terminal::RightBrace => Ok(close(alloc, blocks)?),
-        _ => Err(StepFault::Unexpected),
-    }
-}
-
-/// A block opens, whose braces have this nesting.
-fn enter(
-    alloc: Global,
-    main: Pos,
-    mut outer: Vec<Outer>,
-    inner: Outer,
-    depth: usize,
-) -> Result<State, StepFault>
-    requires { depth ≡ brace_depth (outer_of inner ∷ outers_of outer.items) }
-    ensures { Steps result
-        (Some (at_statement (around main (outer_of inner ∷ outers_of outer.items) nil))) depth }
-{
-    if depth > MOST {
-        return Err(StepFault::TooDeep);
-    }
-    outer.push(inner)?;
-    Ok(State::Statement(Blocks {
-        main,
-        outer,
-        done: Vec::new(alloc),
-        depth: depth + 1,
-    }))
-}
-
-/// The block behind a condition opens.
-fn enter_body(
-    alloc: Global,
-    blocks: Blocks,
-    opener: Opener,
-    cond: Cond,
-    depth: usize,
-) -> Result<State, StepFault>
-    requires { depth ≡ opener_depth (statement_depth (blocks_of blocks)) (opener_of opener) }
-    ensures { Steps result
-        (Some (at_statement (opened (blocks_of blocks) (opener_of opener) (condition_of cond))))
-        depth }
-{
-    let Blocks {
-        main,
-        outer,
-        done,
-        ..
-    } = blocks;
-    match opener {
-        Opener::If(branches, pos) => {
-            enter(
-                alloc,
-                main,
-                outer,
-                Outer::Then(done, branches, pos, cond),
-                depth,
-            )
-        }
-        Opener::For(pos) => enter(alloc, main, outer, Outer::For(done, pos, Some(cond)), depth),
-    }
 }
 
 /// A token behind the whole expression of a statement.
@@ -197,16 +75,12 @@ pub fn ends(
         (nesting_at_ends (blocks_of blocks) (head_of head) (ex_of part.expr) token) }
 {
     match head {
-        Head::Define(name, pos) => {
-            let blocks = with_statement(blocks, Stmt::Define(name, pos, part.expr))?;
+        Head::Express => {
+            let blocks = with_statement(blocks, Stmt::Express(part.expr))?;
             stop(alloc, blocks, token)
         }
-        Head::Assign(name, pos) => {
-            let blocks = with_statement(blocks, Stmt::Assign(name, pos, part.expr))?;
-            stop(alloc, blocks, token)
-        }
-        Head::Print(pos, operands) => {
-            ends_operand(alloc, blocks, pos, operands, depth, part.expr, token)
+        Head::Values(listed, values) => {
+            ends_value(alloc, blocks, listed, values, depth, part.expr, token)
         }
         Head::Left(opener) => match token {
             Terminal::Compare(op) => compares(alloc, blocks, opener, depth, part, op),
@@ -226,33 +100,32 @@ pub fn ends(
     }
 }
 
-/// A token behind an operand of `println`.
-fn ends_operand(
+/// A token behind a value of a statement.
+fn ends_value(
     alloc: Global,
     blocks: Blocks,
-    pos: Pos,
-    mut operands: Vec<Expr>,
+    listed: Listed,
+    values: Vec<Expr>,
     depth: usize,
-    operand: Expr,
+    value: Expr,
     token: Terminal,
 ) -> Result<State, StepFault>
-    requires is_depth { depth ≡ suc (statement_depth (blocks_of blocks)) }
+    requires is_depth { depth ≡ statement_depth (blocks_of blocks) }
     requires small { depth ≤ 202 }
     ensures { let b = blocks_of blocks in
-        let h = printing pos (exs_of operands.items) in
-        Steps result (ends b h (ex_of operand) token) (nesting_at_ends b h (ex_of operand) token) }
+        let h = listing (listed_of listed) (exs_of values.items) in
+        Steps result (ends b h (ex_of value) token) (nesting_at_ends b h (ex_of value) token) }
 {
-    operands.push(operand)?;
+    let values = with_value(values, value)?;
     match token {
         Terminal::Comma => {
-            let head = Head::Print(pos, operands);
+            let head = Head::Values(listed, values);
             limited(depth, State::Operand(begin(alloc, blocks, head, depth)))
         }
-        Terminal::RightParen => {
-            let blocks = with_statement(blocks, Stmt::Print(pos, operands))?;
-            limited(blocks.depth, State::Stop(blocks))
+        _ => {
+            let blocks = with_statement(blocks, listed_statement(listed, values))?;
+            stop(alloc, blocks, token)
         }
-        _ => Err(StepFault::Unexpected),
     }
 }
 
@@ -287,72 +160,109 @@ pub fn statement(alloc: Global, blocks: Blocks, token: Terminal) -> Result<State
 {
     let depth = blocks.depth;
     match token {
-        Terminal::Identifier(name, word) => limited(depth, State::Named(blocks, name, word)),
+        Terminal::Identifier(name) => limited(depth, State::Named(blocks, name)),
         Terminal::If(pos) => {
             let head = Head::Left(Opener::If(Vec::new(alloc), pos));
             limited(depth, State::Operand(begin(alloc, blocks, head, depth)))
         }
         Terminal::For(pos) => limited(depth, State::For(blocks, pos)),
+        Terminal::Return(pos) => limited(depth, State::Return(blocks, pos)),
         Terminal::LeftBrace => {
             enter(
                 alloc,
-                blocks.main,
+                blocks.signature,
                 blocks.outer,
                 Outer::Block(blocks.done),
                 depth,
             )
         }
-        _ => stop(alloc, blocks, token),
+        Terminal::Semicolon | Terminal::RightBrace(_) => stop(alloc, blocks, token),
+        _ => first_operand(alloc, blocks, Head::Express, depth, token),
     }
 }
 
 /// A token behind the name that a statement begins with.
-pub fn named(
-    alloc: Global,
-    blocks: Blocks,
-    name: Name,
-    word: Word,
-    token: Terminal,
-) -> Result<State, StepFault>
-    ensures { let s = at_named (blocks_of blocks) name word in
+pub fn named(alloc: Global, blocks: Blocks, name: Name, token: Terminal) -> Result<State, StepFault>
+    ensures { let s = at_named (blocks_of blocks) name in
         Steps result (step s token) (nesting s token) }
 {
-    let depth = blocks.depth;
-    match (word, token) {
-        (_, Terminal::Define(pos)) => {
-            let head = Head::Define(name, pos);
-            limited(depth, State::Operand(begin(alloc, blocks, head, depth)))
+    match token {
+        Terminal::Comma | Terminal::Define(_) | Terminal::Assign(_) => {
+            names(alloc, blocks, vec![in alloc; name]?, token)
         }
-        (_, Terminal::Assign(pos)) => {
-            let head = Head::Assign(name, pos);
-            limited(depth, State::Operand(begin(alloc, blocks, head, depth)))
+        _ => {
+            let depth = blocks.depth;
+            let part = Part {
+                expr: Expr::Name(name),
+                height: 0,
+            };
+            let reading = begin(alloc, blocks, Head::Express, depth);
+            behind_operand(alloc, reading, part, token)
         }
-        (Word::Println, Terminal::LeftParen(_)) => {
-            limited(depth, State::Operands(blocks, name.pos))
+    }
+}
+
+/// A token behind names and a comma.
+pub fn next_name(blocks: Blocks, mut before: Vec<Name>, token: Terminal) -> Result<State, StepFault>
+    ensures { let s = at_next_name (blocks_of blocks) before.items in
+        Steps result (step s token) (nesting s token) }
+{
+    match token {
+        Terminal::Identifier(name) => {
+            before.push(name)?;
+            limited(blocks.depth, State::Names(blocks, before))
         }
         _ => Err(StepFault::Unexpected),
     }
 }
 
-/// A token behind `println(`.
-pub fn operands(
+/// The first value of a statement is wanted.
+fn first_value(alloc: Global, blocks: Blocks, listed: Listed) -> Result<State, StepFault>
+    ensures { let b = blocks_of blocks in
+        Steps result (Some (at_operand b (listing (listed_of listed) none) [])) (statement_depth b) }
+{
+    let depth = blocks.depth;
+    let head = Head::Values(listed, Vec::new(alloc));
+    limited(depth, State::Operand(begin(alloc, blocks, head, depth)))
+}
+
+/// A token behind the names that a statement begins with.
+pub fn names(
+    alloc: Global,
+    blocks: Blocks,
+    list: Vec<Name>,
+    token: Terminal,
+) -> Result<State, StepFault>
+    ensures { let s = at_names (blocks_of blocks) list.items in
+        Steps result (step s token) (nesting s token) }
+{
+    match token {
+        Terminal::Comma => limited(blocks.depth, State::NextName(blocks, list)),
+        Terminal::Define(pos) => first_value(alloc, blocks, Listed::Define(list, pos)),
+        Terminal::Assign(pos) => first_value(alloc, blocks, Listed::Assign(list, pos)),
+        _ => Err(StepFault::Unexpected),
+    }
+}
+
+/// A token behind `return`.
+pub fn returned(
     alloc: Global,
     blocks: Blocks,
     pos: Pos,
     token: Terminal,
 ) -> Result<State, StepFault>
-    ensures { let s = at_operands (blocks_of blocks) pos in
+    ensures { let s = at_return (blocks_of blocks) pos in
         Steps result (step s token) (nesting s token) }
 {
-    let depth = blocks.depth;
     match token {
-        Terminal::RightParen => {
-            let blocks = with_statement(blocks, Stmt::Print(pos, Vec::new(alloc)))?;
-            limited(depth, State::Stop(blocks))
+        Terminal::Semicolon | Terminal::RightBrace(_) => {
+            let blocks = with_statement(blocks, Stmt::Return(pos, Vec::new(alloc)))?;
+            stop(alloc, blocks, token)
         }
         _ => {
-            let head = Head::Print(pos, Vec::new(alloc));
-            operand(begin(alloc, blocks, head, depth + 1), token)
+            let depth = blocks.depth;
+            let head = Head::Values(Listed::Return(pos), Vec::new(alloc));
+            first_operand(alloc, blocks, head, depth, token)
         }
     }
 }
@@ -372,16 +282,16 @@ pub fn loop_header(
         Terminal::LeftBrace => {
             enter(
                 alloc,
-                blocks.main,
+                blocks.signature,
                 blocks.outer,
                 Outer::For(blocks.done, pos, None),
                 depth,
             )
         }
-        _ => operand(
-            begin(alloc, blocks, Head::Left(Opener::For(pos)), depth),
-            token,
-        ),
+        _ => {
+            let head = Head::Left(Opener::For(pos));
+            first_operand(alloc, blocks, head, depth, token)
+        }
     }
 }
 
@@ -423,7 +333,7 @@ pub fn behind_else(
     match token {
         Terminal::LeftBrace => {
             let inner = Outer::Else(blocks.done, branches, last);
-            enter(alloc, blocks.main, blocks.outer, inner, depth)
+            enter(alloc, blocks.signature, blocks.outer, inner, depth)
         }
         Terminal::If(pos) => {
             if depth >= MOST {
