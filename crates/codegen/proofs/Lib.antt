@@ -1,9 +1,9 @@
 pub mod Compiled
 pub mod Sizes
 pub mod Suffice
-pub mod Follows
-pub mod Emitted
+pub mod Stands
 pub mod IsCode
-pub mod Whole
+pub mod Pieces
+pub mod Emitted
 pub mod Composed
-pub mod Sample
+pub mod Whole
