@@ -3,7 +3,7 @@ use Rattle.std.proofs.Common.{◌≡◌, ℕ, ◌+◌, ◌-◌, ◌≤◌, List,
 use Rattle.std.specs.Prelude.{slice_index, slice_set}
 use Rattle.std.proofs.Math.Seq.{drop-set-add, get_or-drop}
 use Rattle.std.proofs.lemmas.List.{drop-append-le, drop-take, drop-drop, drop_at, drop_more, set_at, set-append_right, length-take-le, length-replicate}
-use Rattle.machine.specs.Machine.{zeroed, entered}
+use Rattle.machine.specs.Machine.{put_words, words_at, zeroed, entered}
 
 pub slot_read : (words : List ℕ) (base a : ℕ) → slice_index (drop base words) a ≡ slice_index words (base + a)
 slot_read words base a = get_or-drop base words a 0
@@ -11,18 +11,32 @@ slot_read words base a = get_or-drop base words a 0
 pub slot_written : (words : List ℕ) (base a word : ℕ) → drop base (slice_set words (base + a) word) ≡ slice_set (drop base words) a word
 slot_written words base a word = drop-set-add base words a word
 
+-- words that are replaced behind an index, seen from the index
+pub put_behind : (words put : List ℕ) (base from : ℕ) → base + from ≤ length words → drop base (put_words words (base + from) put) ≡ put_words (drop base words) from put
+put_behind words put base from room =
+    let front : length (take (base + from) words) ≡ base + from = length-take-le (base + from) words room in
+    let same : base + from + length put ≡ base + (from + length put) = omega arith in
+    let rest : drop (base + from + length put) words ≡ drop (from + length put) (drop base words) =
+    ap (λ n. drop n words) same ∙ sym (drop-drop (from + length put) base words) in
+    drop-append-le base (take (base + from) words) (put ++ drop (base + from + length put) words) (omega arith)
+    ∙ ap (λ l. l ++ (put ++ drop (base + from + length put) words)) (drop-take base from words)
+    ∙ ap (λ l. take from (drop base words) ++ (put ++ l)) rest
+
+-- a copy of words behind an index, seen from the index
+pub copied : (words : List ℕ) (base from to count : ℕ) → base + to ≤ length words
+    → drop base (put_words words (base + to) (words_at words (base + from) count)) ≡ put_words (drop base words) to (words_at (drop base words) from count)
+copied words base from to count room =
+    put_behind words (words_at words (base + from) count) base to room ∙ ap (λ l. put_words (drop base words) to (take count l)) (sym (drop-drop from base words))
+
 -- zeros behind an index, seen from the index
-pub cleared : (words : List ℕ) (base from count to : ℕ) → to ≡ base + from + count → to ≤ length words
-    → drop base (take (base + from) words ++ replicate count 0 ++ drop to words) ≡ zeroed (drop base words) from count
-cleared words base from count to is room =
-    let front : length (take (base + from) words) ≡ base + from = length-take-le (base + from) words (omega arith) in
-    let one : drop base (take (base + from) words ++ (replicate count 0 ++ drop to words)) ≡ drop base (take (base + from) words) ++ (replicate count 0 ++ drop to words) =
-    drop-append-le base (take (base + from) words) _ (omega arith) in
-    let same : to ≡ base + (from + count) = omega arith in
-    let rest : drop to words ≡ drop (from + count) (drop base words) = ap (λ n. drop n words) same ∙ sym (drop-drop (from + count) base words) in
-    ap (λ l. drop base l) (append_assoc (take (base + from) words) (replicate count 0) (drop to words)) ∙ one
-    ∙ ap (λ l. l ++ (replicate count 0 ++ drop to words)) (drop-take base from words)
-    ∙ ap (λ l. take from (drop base words) ++ (replicate count 0 ++ l)) rest
+pub cleared : (words : List ℕ) (base from count : ℕ) → base + from + count ≤ length words
+    → drop base (take (base + from) words ++ replicate count 0 ++ drop (base + from + count) words) ≡ zeroed (drop base words) from count
+cleared words base from count room =
+    let zeros : List ℕ = replicate count 0 in
+    let long : length zeros ≡ count = length-replicate count 0 in
+    ap (λ l. drop base l) (append_assoc (take (base + from) words) zeros (drop (base + from + count) words)
+      ∙ ap (λ n. take (base + from) words ++ (zeros ++ drop (base + from + n) words)) (sym long))
+    ∙ put_behind words zeros base from (omega arith)
 
 -- two words behind a list of so many
 set_two : (zeros rest : List ℕ) (x y link ret n m : ℕ) → length zeros ≡ n → m ≡ n + 1

@@ -1,0 +1,193 @@
+-- The running calls, and what the stack's words stand for.
+use Rattle.std.proofs.Common.{◌≡◌, ℕ, ◌+◌, ◌-◌, ◌<◌, ◌≤◌, List, [], ◌∷◌, length, Some, refl, sym, ◌∙◌, subst, arith, get_or}
+use Rattle.std.specs.Prelude.{slice_get}
+use Rattle.std.specs.Int.{w64, cast_signed}
+use Rattle.typed.specs.Value.{Value, int, bool}
+use Rattle.typed.specs.Syntax.{Func}
+use Rattle.typed.specs.Form.{InScope, FuncFits}
+use Rattle.typed.specs.Frames.{outgoing_of, temps_of, frame_of}
+use Rattle.meaning.specs.Trace.{World}
+use Rattle.meaning.specs.Store.{no_value, value_of}
+use Rattle.meaning.specs.Meaning.{Env, with_home}
+use Rattle.isa.specs.Code.{Tables}
+use Rattle.machine.specs.Machine.{address_of}
+use Rattle.codegen.specs.Code.{site_slot, slots_of}
+use Rattle.codegen.proofs.Compiled.{Compiled}
+use Rattle.codegen.proofs.Distances.{word_at}
+
+-- a program's functions in form, their code, and the most words that the stack may have
+pub record Built : Type 0 where
+  pub funcs : List Func
+  pub code : Tables
+  pub max : ℕ
+  pub fits : (f : ℕ) (func : Func) → slice_get funcs f ≡ Some func → FuncFits funcs func
+  pub compiled : Compiled funcs code
+
+-- a value stands as a word
+abbrev pub Stands : Value → ℕ → Type 0
+Stands (int z) word = cast_signed w64 word ≡ z
+Stands (bool b) word = ⊥
+
+pub stands_same : (v u : Value) (x y : ℕ) → u ≡ v → y ≡ x → Stands v x → Stands u y
+stands_same v u x y ev ex s = subst (λ a. Stands a y) (sym ev) (subst (λ b. Stands v b) (sym ex) s)
+
+-- values stand in slots from a on of a frame whose lowest word is d words from the stack's upper end
+abbrev pub AreAt : List Value → (d a : ℕ) → List ℕ → Type 0
+AreAt vs d a words = (j : ℕ) → j < length vs → Stands (get_or vs j no_value) (word_at words (d - (a + j)))
+
+-- a running call: its function, the place that its own call returns to, the number of variables at its entry, the
+-- variable of each site, the sites in scope, and the values that its temps hold
+pub record Frame : Type 0 where
+  pub fn : ℕ
+  pub func : Func
+  pub place : ℕ
+  pub entry : ℕ
+  pub env : Env
+  pub scope : List ℕ
+  pub held : List Value
+
+-- other values are held
+abbrev pub hold : Frame → List Value → Frame
+hold c held = record c { held = held }
+
+-- it makes a call
+abbrev pub placed : Frame → ℕ → Frame
+placed c place = record c { place = place }
+
+-- other variables, and other sites in scope
+abbrev pub with_sites : Frame → Env → List ℕ → Frame
+with_sites c env scope = record { fn = c.fn; func = c.func; place = c.place; entry = c.entry; env = env; scope = scope; held = c.held }
+
+-- a site gets a variable
+abbrev pub grown : Frame → (site v : ℕ) → Frame
+grown c site v = with_sites c (with_home c.env site v) (site ∷ c.scope)
+
+-- the call with these variables, sites in scope and values held
+abbrev pub during : Frame → Env → List ℕ → List Value → Frame
+during c env scope held = record { fn = c.fn; func = c.func; place = c.place; entry = c.entry; env = env; scope = scope; held = held }
+
+-- a call begins
+abbrev pub fresh : ℕ → Func → ℕ → Frame
+fresh f func entry = record { fn = f; func = func; place = 0; entry = entry; env = λ x. 0; scope = []; held = [] }
+
+abbrev pub numbers : List Frame → List ℕ
+numbers [] = []
+numbers (c ∷ calls) = c.fn ∷ numbers calls
+
+-- where a call from these returns to
+abbrev pub back_of : List Frame → ℕ
+back_of [] = 0
+back_of (c ∷ calls) = c.place
+
+module _ (m : Built) where
+  -- the words of these calls
+  abbrev pub depth : List Frame → ℕ
+  depth [] = 0
+  depth (c ∷ calls) = frame_of m.funcs c.func + depth calls
+
+  -- the outgoing area of the last of them, and the words above it
+  abbrev pub room_of : List Frame → ℕ
+  room_of [] = 0
+  room_of (c ∷ calls) = outgoing_of m.funcs c.func
+
+  abbrev pub steady : List Frame → ℕ
+  steady [] = 0
+  steady (c ∷ calls) = 2 + c.func.count + temps_of m.funcs c.func + depth calls
+
+  pub depth_is : (calls : List Frame) → depth calls ≡ steady calls + room_of calls
+  depth_is [] = refl
+  depth_is (c ∷ calls) = omega arith
+
+  -- the link of a call from these: the address of the end of the caller's frame
+  abbrev pub link_of : List Frame → ℕ
+  link_of [] = 0
+  link_of (c ∷ calls) = address_of m.max (depth calls)
+
+  -- a frame below those of these calls; its variables are among those from its entry to the entry of the next inner call
+  pub record Level (top : ℕ) (c : Frame) (calls : List Frame) (w : World) (words : List ℕ) : Type 0 where
+    pub named : slice_get m.funcs c.fn ≡ Some c.func
+    pub room : length c.held ≤ temps_of m.funcs c.func
+    pub begins : c.entry ≤ top
+    pub among : (v : ℕ) → InScope v c.scope → (c.func.first ≤ v) × (v < c.func.first + c.func.count)
+    pub homes : (v : ℕ) → InScope v c.scope → (c.entry ≤ c.env v) × (c.env v < top)
+    pub sole : (u v : ℕ) → InScope u c.scope → InScope v c.scope → c.env u ≡ c.env v → u ≡ v
+    pub values : (v : ℕ) → InScope v c.scope → Stands (value_of w (c.env v)) (word_at words (depth (c ∷ calls) - site_slot (slots_of m.funcs c.func) v))
+    pub temps : AreAt c.held (depth (c ∷ calls)) (outgoing_of m.funcs c.func) words
+    pub back : word_at words (depth calls + 1) ≡ back_of calls
+    pub link : word_at words (depth calls + 2) ≡ link_of calls
+
+  abbrev pub Stack : (top : ℕ) → List Frame → World → List ℕ → Type 0
+  Stack top [] w words = Unit {0}
+  Stack top (c ∷ calls) w words = Level top c calls w words × Stack c.entry calls w words
+
+  -- the stack of these calls
+  pub record Good (calls : List Frame) (w : World) (words : List ℕ) : Type 0 where
+    pub long : length words ≡ depth calls
+    pub stack : Stack (length w.store) calls w words
+
+  -- what stays: the words above the outgoing area, and the values of the frames' variables
+  pub level_keeps : (top later : ℕ) (c : Frame) (calls : List Frame) (w w1 : World) (words words1 : List ℕ) → top ≤ later → ((x : ℕ) → c.entry ≤ x → x < top → value_of w1 x ≡ value_of w x)
+      → ((d : ℕ) → depth calls < d → d ≤ steady (c ∷ calls) → word_at words1 d ≡ word_at words d) → Level top c calls w words → Level later c calls w1 words1
+  level_keeps top later c calls w w1 words words1 le old same g = record {
+    named = g.named;
+    room = g.room;
+    begins = let b = g.begins in omega arith;
+    among = g.among;
+    homes = λ v i. (let h = g.homes v i in (h.0, omega arith));
+    sole = g.sole;
+    values = λ v i. (let h = g.homes v i in let a = g.among v i in
+        stands_same (value_of w (c.env v)) (value_of w1 (c.env v)) (word_at words (depth (c ∷ calls) - site_slot (slots_of m.funcs c.func) v)) (word_at words1 (depth (c ∷ calls) - site_slot (slots_of m.funcs c.func) v))
+        (old (c.env v) h.0 h.1) (same (depth (c ∷ calls) - site_slot (slots_of m.funcs c.func) v) (omega arith) (omega arith)) (g.values v i));
+    temps = λ j l. (let r = g.room in
+        subst (λ x. Stands (get_or c.held j no_value) x) (sym (same (depth (c ∷ calls) - (outgoing_of m.funcs c.func + j)) (omega arith) (omega arith))) (g.temps j l));
+    back = same (depth calls + 1) (omega arith) (omega arith) ∙ g.back;
+    link = same (depth calls + 2) (omega arith) (omega arith) ∙ g.link;
+  }
+
+  pub stack_keeps : (top later : ℕ) (calls : List Frame) (w w1 : World) (words words1 : List ℕ) → top ≤ later → ((x : ℕ) → x < top → value_of w1 x ≡ value_of w x)
+      → ((d : ℕ) → d ≤ steady calls → word_at words1 d ≡ word_at words d) → Stack top calls w words → Stack later calls w1 words1
+  stack_keeps top later [] w w1 words words1 le old same s = tt
+  stack_keeps top later (c ∷ calls) w w1 words words1 le old same s = (
+    level_keeps top later c calls w w1 words words1 le (λ x a l. old x l) (λ d a l. same d l) s.0,
+    stack_keeps c.entry c.entry calls w w1 words words1 (omega arith) (λ x l. old x (let b = s.0.begins in omega arith)) (λ d l. same d (let e = depth_is calls in omega arith)) s.1,
+  )
+
+  pub good_keeps : (calls : List Frame) (w : World) (words words1 : List ℕ) → length words1 ≡ length words → ((d : ℕ) → d ≤ steady calls → word_at words1 d ≡ word_at words d) → Good calls w words → Good calls w words1
+  good_keeps calls w words words1 long same g = record {
+    long = long ∙ g.long;
+    stack = stack_keeps (length w.store) (length w.store) calls w w words words1 (omega arith) (λ x l. refl) same g.stack;
+  }
+
+  -- the place to go on at is no matter of the words
+  pub moved : (c : Frame) (place : ℕ) (calls : List Frame) (w : World) (words : List ℕ) → Good (c ∷ calls) w words → Good (placed c place ∷ calls) w words
+  moved c place calls w words g = let s = g.stack.0 in record {
+    long = g.long;
+    stack = (record { named = s.named; room = s.room; begins = s.begins; among = s.among; homes = s.homes; sole = s.sole; values = s.values; temps = s.temps; back = s.back; link = s.link }, g.stack.1);
+  }
+
+  pub moved_back : (c : Frame) (place : ℕ) (calls : List Frame) (w : World) (words : List ℕ) → Good (placed c place ∷ calls) w words → Good (c ∷ calls) w words
+  moved_back c place calls w words g = let s = g.stack.0 in record {
+    long = g.long;
+    stack = (record { named = s.named; room = s.room; begins = s.begins; among = s.among; homes = s.homes; sole = s.sole; values = s.values; temps = s.temps; back = s.back; link = s.link }, g.stack.1);
+  }
+
+  -- fewer sites are in scope
+  pub narrowed : (c : Frame) (env : Env) (scope less : List ℕ) (calls : List Frame) (w : World) (words : List ℕ) → ((v : ℕ) → InScope v less → InScope v scope) → Good (with_sites c env scope ∷ calls) w words → Good (with_sites c env less ∷ calls) w words
+  narrowed c env scope less calls w words sub g = let s = g.stack.0 in record {
+    long = g.long;
+    stack = (
+      record {
+        named = s.named;
+        room = s.room;
+        begins = s.begins;
+        among = λ v i. s.among v (sub v i);
+        homes = λ v i. s.homes v (sub v i);
+        sole = λ u v i j. s.sole u v (sub u i) (sub v j);
+        values = λ v i. s.values v (sub v i);
+        temps = s.temps;
+        back = s.back;
+        link = s.link;
+      },
+      g.stack.1,
+    );
+  }

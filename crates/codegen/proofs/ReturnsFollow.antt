@@ -1,0 +1,181 @@
+-- The machine follows a return.
+use Rattle.std.proofs.Common.{◌≡◌, ◌⊎◌, inl, inr, ℕ, zero, suc, ◌+◌, ◌-◌, ◌<◌, ◌≤◌, List, [], ◌∷◌, ◌++◌, length, Some, refl, sym, ap, ◌∙◌, subst, arith, length-append, append_assoc, get_or}
+use Rattle.std.specs.Prelude.{slice_get, slice_index, slice_set, drop}
+use Rattle.std.proofs.Math.Seq.{get_or-append_seam}
+use Rattle.std.proofs.lemmas.List.{get_or_append_left}
+use Rattle.typed.specs.Value.{Value}
+use Rattle.typed.specs.Syntax.{Func, argument_words, result_words}
+use Rattle.typed.specs.Form.{InScope}
+use Rattle.typed.specs.Frames.{named_need, frame_of, temps_of}
+use Rattle.meaning.specs.Trace.{Exit, World, End}
+use Rattle.meaning.specs.Store.{no_value, value_of, written}
+use Rattle.meaning.specs.Meaning
+use Rattle.meaning.specs.Meaning.{Env, Go, Then}
+use Rattle.isa.specs.declared.instr.Instr.TheVariants.{Move, Return}
+use Rattle.machine.specs.Machine.{put_words, words_at, owner_of}
+use Rattle.codegen.specs.Code.{temp, site_slot, slots_of, result_code, named_write_code, named_read_code, named_read_size, values_code, leave_code}
+use Rattle.codegen.proofs.Sizes.{length_named_write, length_named_read}
+use Rattle.codegen.proofs.Distances.{word_at, word_other, put_length, put_other, put_same, read_length, read_index, dropped}
+use Rattle.codegen.proofs.Frames.{Built, Stands, stands_same, AreAt, Frame, hold, during, numbers, depth, room_of, depth_is, Good, level_keeps, stack_keeps}
+use Rattle.codegen.proofs.Changes.{less_or, are_kept, are_none, temp_set, fewer, held_word, site_word, written_site, left}
+use Rattle.codegen.proofs.Crossing.{Linked, first_returns, returned}
+use Rattle.codegen.proofs.Places.{Standing, front, back, At, later, place_is, frame_here, turned, read_of, write_of, stepped, results_set}
+use Rattle.codegen.proofs.Moves.{held_words}
+use Rattle.codegen.proofs.EvaluationsFollow.{one_more}
+
+module _ (m : Built) where
+  -- what goes on behind a return to these calls, with the results in the outgoing area
+  abbrev pub Home : (lo b : ℕ) → Func → List Frame → Then (List Value) → Type 0
+  Home lo b func [] k = (rs : List Value) (w : World) → k rs w ≡ End (Exit 0)
+  Home lo b func (up ∷ calls) k =
+      (rs : List Value) (w : World) (words : List ℕ) → length rs ≡ result_words func → AreAt rs (depth m (up ∷ calls)) (argument_words func) words → Good m (up ∷ calls) w words → At m (numbers (up ∷ calls)) lo 0 b (k rs w) up.place words
+
+  -- the words of the caller's outgoing area may change
+  pub incoming_put : (c : Frame) (calls : List Frame) (w : World) (words xs : List ℕ) (a : ℕ) → a + length xs ≤ room_of m calls → Good m (c ∷ calls) w words → Good m (c ∷ calls) w (put_words words (frame_of m.funcs c.func + a) xs)
+  incoming_put c calls w words xs a room g =
+      let fr = frame_of m.funcs c.func in let long = g.long in let e = depth_is m calls in
+      let words1 = put_words words (fr + a) xs in
+      record {
+        long = put_length words (fr + a) xs (omega arith) ∙ g.long;
+        stack = (
+          level_keeps m (length w.store) (length w.store) c calls w w words words1 (omega arith) (λ x i l. refl) (λ d l k. put_other words (fr + a) xs d (omega arith) (inl (omega arith))) g.stack.0,
+          stack_keeps m c.entry c.entry calls w w words words1 (omega arith) (λ x l. refl) (λ d l. put_other words (fr + a) xs d (omega arith) (inr (omega arith))) g.stack.1,
+        );
+      }
+
+  -- the results are there: the return
+  goes_home : (c : Frame) (calls : List Frame) (k : Then (List Value)) (w : World) (words : List ℕ) (rs : List Value) (pc lo b : ℕ) → slice_get m.code.instrs pc ≡ Some Return → owner_of m.code pc ≡ c.fn → Linked m c.fn calls → argument_words c.func + result_words c.func ≤ room_of m calls
+      → Home lo b c.func calls k → length rs ≡ result_words c.func → AreAt rs (depth m calls) (argument_words c.func) words → Good m (c ∷ calls) w words → At m (numbers calls) (suc lo) 1 b (k rs w) pc words
+  goes_home c [] k w words rs pc lo b here own from room home many are g =
+      subst (λ t. At m [] (suc lo) 1 b t pc words) (sym (home rs w)) (first_returns m c w words pc lo b [] here own g)
+  goes_home c (up ∷ calls) k w words rs pc lo b here own from room home many are g =
+      let fr = frame_of m.funcs c.func in let long = g.long in let words1 = drop fr words in
+      returned m c up calls w words pc lo b (numbers (up ∷ calls)) (k rs w) here own from g
+      (home rs w words1 many
+      (are_kept rs (depth m (up ∷ calls)) (argument_words c.func) words words1 (λ j l. dropped words fr (depth m (up ∷ calls) - (argument_words c.func + j)) (omega arith)) are)
+      (left m c (up ∷ calls) w words g))
+
+  leave_end : (c : Frame) (calls : List Frame) (k : Then (List Value)) (w : World) (words : List ℕ) (rs : List Value) (n pc lo b : ℕ) → slice_get m.code.instrs pc ≡ Some Return → owner_of m.code pc ≡ c.fn → Linked m c.fn calls → argument_words c.func + result_words c.func ≤ room_of m calls
+      → Home lo b c.func calls k → length rs ≡ result_words c.func → AreAt rs (depth m calls) (argument_words c.func) words → Good m (c ∷ calls) w words → At m (numbers (c ∷ calls)) lo 0 b (Meaning.leave_with n k rs w) pc words
+  leave_end c calls k w words rs n pc lo b here own from room home many are g =
+      turned m {lo1 = suc lo} (omega arith) (record { at = (goes_home c calls k w words rs pc lo b here own from room home many are g).at })
+
+  -- results without names
+  unnamed : (c : Frame) (calls : List Frame) (k : Then (List Value)) (w : World) (words : List ℕ) (rs : List Value) (count n pc lo b : ℕ) → Standing m.code c.fn pc (result_code count (temp (slots_of m.funcs c.func) 0) (argument_words c.func) ++ Return ∷ []) → Linked m c.fn calls → argument_words c.func + result_words c.func ≤ room_of m calls
+      → Home lo b c.func calls k → count ≡ result_words c.func → length rs ≡ count → Good m (hold c rs ∷ calls) w words → At m (numbers (c ∷ calls)) lo 0 b (Meaning.leave_with n k rs w) pc words
+  unnamed c calls k w words rs zero n pc lo b has from room home all many g =
+      leave_end (hold c rs) calls k w words rs n pc lo b has.0.0 has.0.1 from room home (many ∙ all) (λ j l. absurd (omega arith)) g
+  unnamed c calls k w words rs (suc i) n pc lo b has from room home all many g =
+      let fr = frame_of m.funcs c.func in let a = argument_words c.func in let t = temp (slots_of m.funcs c.func) 0 in
+      let xs = words_at words t (suc i) in let words1 = put_words words (fr + a) xs in
+      let long = g.long in let r = g.stack.0.room in let e = depth_is m calls in
+      let put : length xs ≡ suc i = read_length words t (suc i) (omega arith) in
+      let g1 = incoming_put (hold c rs) calls w words xs a (omega (arith, put)) g in
+      turned m {lo1 = suc (suc lo)} (omega arith) (record {
+        at = (
+            results_set m {lo = suc lo} {hi = 1} t a (suc i) fr has.0.0 (frame_here m c.fn pc c.func g.stack.0.named has.0.1) (omega arith)
+            (goes_home (hold c rs) calls k w words1 rs (pc + 1) lo b has.1.0.0 has.1.0.1 from room home (many ∙ all)
+            (λ j l. stands_same (get_or rs j no_value) (get_or rs j no_value) (slice_index words (t + j)) (word_at words1 (depth m calls - (a + j))) refl
+            (put_same words (fr + a) xs j (depth m calls - (a + j)) (omega (arith, put)) (omega (arith, put)) (omega arith) ∙ read_index words t (suc i) j (omega arith))
+            (held_words m c calls w words [] rs 0 j refl l g)) g1)
+            ).at;
+      })
+
+  -- results with names: they are written
+  named_writes : (sites : List ℕ) (vs gone all : List Value) (c : Frame) (env : Env) (scope : List ℕ) (calls : List Frame) (g : Go) (w : World) (words : List ℕ) (h pc lo b : ℕ) → length sites ≡ length vs → length gone ≡ h → all ≡ gone ++ vs
+      → Standing m.code c.fn pc (named_write_code (slots_of m.funcs c.func) sites h) → ((v : ℕ) → InScope v sites → InScope v scope) → Good m (during c env scope all ∷ calls) w words
+      → ((w1 : World) (words1 : List ℕ) → Good m (during c env scope all ∷ calls) w1 words1 → At m (numbers (c ∷ calls)) lo 0 b (g w1) (pc + length sites) words1)
+      → At m (numbers (c ∷ calls)) lo 0 b (Meaning.write_results sites vs env g w) pc words
+  named_writes [] vs gone all c env scope calls g w words h pc lo b many hg e has sub good post = place_is m (let q : pc + 0 ≡ pc = omega arith in q) (post w words good)
+  named_writes (site ∷ sites) [] gone all c env scope calls g w words h pc lo b many hg e has sub good post = absurd (omega arith)
+  named_writes (site ∷ sites) (v ∷ vs) gone all c env scope calls g w words h pc lo b many hg e has sub good post =
+      let s = slots_of m.funcs c.func in let x = slice_index words (temp s h) in
+      let stands = held_word m (during c env scope all) calls w words gone vs v h hg (subst (λ l. Good m (during c env scope l ∷ calls) w words) e good) in
+      let words1 = slice_set words (site_slot s site) x in
+      let good1 = written_site m (during c env scope all) calls w words v site x (sub site (inl refl)) stands good in
+      turned m {lo1 = suc lo} (omega arith) (write_of m _ _ _ (stepped m {lo = lo} {hi = 0} (Move (site_slot s site) (temp s h)) has.0.0 refl
+      (named_writes sites vs (gone ++ v ∷ []) all c env scope calls g (written w (env site) [] v) words1 (h + 1) (pc + 1) lo b (omega arith) (one_more gone v h hg) (e ∙ sym (append_assoc gone (v ∷ []) vs)) has.1 (λ u i. sub u (inr i)) good1
+      (λ w1 words2 g2. place_is m (let q : pc + suc (length sites) ≡ pc + 1 + length sites = omega arith in q) (post w1 words2 g2)))))
+
+  -- and read
+  named_reads : (sites : List ℕ) (gone : List Value) (c : Frame) (env : Env) (scope : List ℕ) (calls : List Frame) (k : Then (List Value)) (w : World) (words : List ℕ) (i pc lo b : ℕ) → i ≡ argument_words c.func + length gone → i + length sites ≤ room_of m calls → 0 < temps_of m.funcs c.func
+      → Standing m.code c.fn pc (named_read_code (slots_of m.funcs c.func) sites i) → ((v : ℕ) → InScope v sites → InScope v scope) → AreAt gone (depth m calls) (argument_words c.func) words → Good m (during c env scope [] ∷ calls) w words
+      → ((rs : List Value) (words1 : List ℕ) → length rs ≡ length sites → AreAt (gone ++ rs) (depth m calls) (argument_words c.func) words1 → Good m (during c env scope [] ∷ calls) w words1 → At m (numbers (c ∷ calls)) lo 0 b (k rs w) (pc + named_read_size sites) words1)
+      → At m (numbers (c ∷ calls)) lo 0 b (Meaning.read_results sites env k w) pc words
+  named_reads [] gone c env scope calls k w words i pc lo b ei room some has sub are good post =
+      place_is m (let q : pc + 0 ≡ pc = omega arith in q)
+      (post [] words refl (λ j l. let n = length-append gone [] in
+      subst (λ v. Stands v (word_at words (depth m calls - (argument_words c.func + j)))) (sym (get_or_append_left gone [] no_value j (omega (arith, n)))) (are j (omega (arith, n)))) good)
+  named_reads (site ∷ sites) gone c env scope calls k w words i pc lo b ei room some has sub are good post =
+      let s = slots_of m.funcs c.func in let fr = frame_of m.funcs c.func in let a = argument_words c.func in
+      let v = value_of w (env site) in let x = slice_index words (site_slot s site) in
+      let long = good.long in let e = depth_is m calls in
+      let c0 = during c env scope [] in
+      let words1 = slice_set words (temp s 0) x in
+      let g1 : Good m (during c env scope (v ∷ []) ∷ calls) w words1 = temp_set m c0 calls w words 0 x v refl some (site_word m c0 calls w words site (sub site (inl refl)) good) good in
+      let xs = words_at words1 (temp s 0) 1 in let words2 = put_words words1 (fr + i) xs in
+      let long1 = g1.long in
+      let put : length xs ≡ 1 = read_length words1 (temp s 0) 1 (omega arith) in
+      let g2 = incoming_put (during c env scope (v ∷ [])) calls w words1 xs i (omega (arith, put)) g1 in
+      let g3 = fewer m c0 calls w words2 [] (v ∷ []) g2 in
+      let shape : List Value = gone ++ v ∷ [] in
+      let longer : length shape ≡ length gone + 1 = one_more gone v (length gone) refl in
+      turned m {lo1 = suc (suc lo)} (omega arith) (read_of m _ _ _ (stepped m {lo = suc lo} {hi = 1} (Move (temp s 0) (site_slot s site)) has.0.0 refl
+      (results_set m {lo = lo} {hi = 0} (temp s 0) i 1 fr has.1.0.0 (frame_here m c.fn (pc + 1) c.func g1.stack.0.named has.1.0.1) (omega arith)
+      (named_reads sites shape c env scope calls _ w words2 (i + 1) (pc + 1 + 1) lo b (omega (arith, longer)) (omega arith) some has.1.1 (λ u z. sub u (inr z))
+      (λ j l. elim (less_or j (length gone)) [
+        | inl p ↦ stands_same (get_or gone j no_value) (get_or shape j no_value) (word_at words (depth m calls - (a + j))) (word_at words2 (depth m calls - (a + j))) (get_or_append_left gone (v ∷ []) no_value j p)
+            (put_other words1 (fr + i) xs (depth m calls - (a + j)) (omega (arith, put)) (inl (omega arith)) ∙ word_other words (temp s 0) x (depth m calls - (a + j)) (λ q. absurd (omega arith))) (are j p)
+        | inr p ↦ (let same : j ≡ length gone = omega (arith, longer) in
+            stands_same v (get_or shape j no_value) (slice_index words1 (temp s 0 + 0)) (word_at words2 (depth m calls - (a + j))) (ap (λ n. get_or shape n no_value) same ∙ get_or-append_seam gone v [] no_value)
+            (put_same words1 (fr + i) xs 0 (depth m calls - (a + j)) (omega (arith, put)) (omega (arith, put)) (omega arith) ∙ read_index words1 (temp s 0) 1 0 (omega arith))
+            (held_words m c0 calls w words1 [] (v ∷ []) 0 0 refl (omega arith) g1))
+      ])
+      g3
+      (λ rs words3 many are3 g4. place_is m (let q : pc + suc (suc (named_read_size sites)) ≡ pc + 1 + 1 + named_read_size sites = omega arith in q)
+      (post (v ∷ rs) words3 (ap suc many) (subst (λ l. AreAt l (depth m calls) a words3) (append_assoc gone (v ∷ []) rs) are3) g4))))))
+
+  -- a return with as many values as there are results, or with none where they have names
+  abbrev pub Gives : Func → ℕ → Type 0
+  Gives func count = (count ≡ result_words func) ⊎ ((count ≡ 0) × (result_words func ≡ length func.named))
+
+  -- what a return does
+  abbrev pub Returns : (lo b : ℕ) → Frame → List Frame → (List Value → Env → Go) → Type 0
+  Returns lo b c calls r =
+      (vs : List Value) (count : ℕ) (env : Env) (scope : List ℕ) (w : World) (words : List ℕ) (pc : ℕ) → Standing m.code c.fn pc (values_code (slots_of m.funcs c.func) (argument_words c.func) count c.func.named ++ leave_code (slots_of m.funcs c.func) (argument_words c.func) c.func.named)
+      → length vs ≡ count → Gives c.func count → named_need m.funcs (length c.func.named) ≤ temps_of m.funcs c.func → ((v : ℕ) → InScope v c.func.named → InScope v scope) → Good m (during c env scope vs ∷ calls) w words → At m (numbers (c ∷ calls)) lo 0 b (r vs env w) pc words
+
+  pub returns_later : (lo lo1 b b1 : ℕ) (c : Frame) (calls : List Frame) (r : List Value → Env → Go) → lo ≤ lo1 → b1 ≤ b → Returns lo b c calls r → Returns lo1 b1 c calls r
+  returns_later lo lo1 b b1 c calls r p q h vs count env scope w words pc has many gives room sub g = later m {lo = lo} {hi = 0} {b = b} p (omega arith) q (h vs count env scope w words pc has many gives room sub g)
+
+  -- by the names of the results
+  module _ (c : Frame) (calls : List Frame) (k : Then (List Value)) (n lo b : ℕ) (from : Linked m c.fn calls) (room : argument_words c.func + result_words c.func ≤ room_of m calls) (home : Home lo b c.func calls k) where
+    -- results that have been written are read, and the call returns
+    reads_all : (sites : List ℕ) (env : Env) (scope : List ℕ) (w : World) (words : List ℕ) (pc : ℕ) → length sites ≡ result_words c.func → 0 < temps_of m.funcs c.func → Standing m.code c.fn pc (leave_code (slots_of m.funcs c.func) (argument_words c.func) sites) → ((v : ℕ) → InScope v sites → InScope v scope)
+        → Good m (during c env scope [] ∷ calls) w words → At m (numbers (c ∷ calls)) lo 0 b (Meaning.read_results sites env (Meaning.leave_with n k) w) pc words
+    reads_all sites env scope w words pc all some has sub g =
+        let s = slots_of m.funcs c.func in let a = argument_words c.func in
+        let reads = named_read_code s sites a in
+        let has_r = back m.code c.fn pc (named_read_size sites) reads (Return ∷ []) (length_named_read s sites a) has in
+        named_reads sites [] c env scope calls (Meaning.leave_with n k) w words a pc lo b (omega arith) (omega arith) some (front m.code c.fn pc reads (Return ∷ []) has) sub (are_none (depth m calls) a words) g (λ rs words1 many are g1.
+        leave_end (during c env scope []) calls k w words1 rs n (pc + named_read_size sites) lo b has_r.0.0 has_r.0.1 from room home (many ∙ all) are g1)
+
+    leaves : (sites : List ℕ) (vs : List Value) (count : ℕ) (env : Env) (scope : List ℕ) (w : World) (words : List ℕ) (pc : ℕ) → (sites ≡ []) ⊎ (length sites ≡ result_words c.func) → Standing m.code c.fn pc (values_code (slots_of m.funcs c.func) (argument_words c.func) count sites ++ leave_code (slots_of m.funcs c.func) (argument_words c.func) sites)
+        → length vs ≡ count → (count ≡ result_words c.func) ⊎ ((count ≡ 0) × (result_words c.func ≡ length sites)) → named_need m.funcs (length sites) ≤ temps_of m.funcs c.func → ((v : ℕ) → InScope v sites → InScope v scope) → Good m (during c env scope vs ∷ calls) w words → At m (numbers (c ∷ calls)) lo 0 b (Meaning.leave sites n k vs env w) pc words
+    leaves [] vs count env scope w words pc names has many gives some sub g =
+        unnamed (during c env scope []) calls k w words vs count n pc lo b has from room home (elim gives [ inl e ↦ e | inr e ↦ (let zero_count = e.0 in let none = e.1 in omega arith) ]) many g
+    leaves (site ∷ sites) [] zero env scope w words pc names has many gives some sub g =
+        reads_all (site ∷ sites) env scope w words pc (elim names [ inl e ↦ absurd cc e | inr e ↦ e ]) (omega arith) has sub g
+    leaves (site ∷ sites) (v ∷ vs) zero env scope w words pc names has many gives some sub g = absurd (omega arith)
+    leaves (site ∷ sites) [] (suc i) env scope w words pc names has many gives some sub g = absurd (omega arith)
+    leaves (site ∷ sites) (v ∷ vs) (suc i) env scope w words pc names has many gives some sub g =
+        let s = slots_of m.funcs c.func in let a = argument_words c.func in
+        let all : length (site ∷ sites) ≡ result_words c.func = elim names [ inl e ↦ absurd cc e | inr e ↦ e ] in
+        let given : suc i ≡ result_words c.func = elim gives [ inl e ↦ e | inr e ↦ (let no = e.0 in absurd (omega arith)) ] in
+        let writes = named_write_code s (site ∷ sites) 0 in
+        let has_l = back m.code c.fn pc (length (site ∷ sites)) writes (leave_code s a (site ∷ sites)) (length_named_write s (site ∷ sites) 0) has in
+        named_writes (site ∷ sites) (v ∷ vs) [] (v ∷ vs) c env scope calls _ w words 0 pc lo b (all ∙ sym given ∙ sym many) refl refl (front m.code c.fn pc writes (leave_code s a (site ∷ sites)) has) sub g (λ w1 words1 g1.
+        reads_all (site ∷ sites) env scope w1 words1 (pc + length (site ∷ sites)) all (omega arith) has_l sub (fewer m (during c env scope []) calls w1 words1 [] (v ∷ vs) g1))
+
+    pub home_returns : (c.func.named ≡ []) ⊎ (length c.func.named ≡ result_words c.func) → Returns lo b c calls (Meaning.leave c.func.named n k)
+    home_returns names vs count env scope w words pc has many gives some sub g = leaves c.func.named vs count env scope w words pc names has many gives some sub g
