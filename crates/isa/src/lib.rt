@@ -2,8 +2,9 @@
 //!
 //! A code is three flat tables: the instructions of all functions one behind the other, for each instruction the number
 //! of the function that it belongs to, and the functions. A `Code` is known to be well formed: each instruction names
-//! slots of its own function's frame alone, and where it goes on, an instruction of the same function stands. So a run
-//! never leaves the tables or its frame, and the machine tests nothing of this as it runs.
+//! slots of its own function's frame and words of its arguments and results alone, a call names a function whose arguments
+//! and results have room in the caller's slots, and where an instruction goes on, an instruction of the same function
+//! stands. So a run never leaves the tables, and the machine tests none of this as it runs.
 #![tactic(auto)]
 
 mod code;

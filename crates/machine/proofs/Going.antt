@@ -10,7 +10,7 @@ use Rattle.isa.specs.declared.instr.Instr.{Instr}
 use Rattle.isa.specs.declared.func.Func.{Func}
 use Rattle.machine.specs.Machine.{State, Does, Event, Printed, bytes_of, act}
 use Rattle.machine.specs.Inside.{Inside}
-use Rattle.machine.specs.Answers.{Answers, Refused, printed_by}
+use Rattle.machine.specs.Answers.{Answers, CallFits, Refused, printed_by}
 use Rattle.machine.specs.declared.place.Ending.{Ending}
 use Rattle.machine.specs.declared.place.Ending.TheVariants.{Exit, WriteFault, NoMemory, StackLimit, WildAddress, WildReturn, WildLink}
 
@@ -145,11 +145,18 @@ ends_by t r max steps first left s new here old now late before later last e end
     let d : Answers (act t max s) new (Some ending) now late later last = subst (λ (x : Tables). Answers (act x max s) new (Some ending) now late later last) same b in
     subst (λ x. Answers (many (act t max) steps first) new x old late before last) (sym is) (ends t max steps first left s new here here old now late before later last g some ending d)
 
--- memory was refused behind the steps that were done
-pub refused : (t : Tables) (max steps : ℕ) (first : State) (left : ℕ) (s : State) (here : Type 0) (old now late : Option (List ℕ)) (before later : ℕ)
-    → Going t max steps first left s here old now before later → 0 < left → Took now late [] → Refused t max steps first old late
-refused t max steps first left s here old now late before later g some nothing =
+-- memory was refused to a call behind the steps that were done
+pub refused : (t r : Tables) (max steps : ℕ) (first : State) (left : ℕ) (s : State) (here : Type 0) (old now late : Option (List ℕ)) (before later : ℕ)
+    → Going t max steps first left s here old now before later → 0 < left → r ≡ t → CallFits r max s → Took now late [] → Refused t max steps first old late
+refused t r max steps first left s here old now late before later g some same call nothing =
     let within = g.within in
     let so_far : many (act t max) (steps - left) first ≡ Goes (g.done ++ []) s = g.whole 0 (steps - left) (omega arith) ∙ ap (behind g.done) (many_none State Event Ending (act t max) s) in
-    let told : printed_by (many (act t max) (steps - left) first) ≡ bytes_of g.done ++ [] = ap (λ (d : Does). printed_by d) so_far ∙ bytes_append g.done [] in
-    (steps - left, omega arith, rw told (Took-trans old now late _ _ g.took nothing))
+    record {
+      done = steps - left;
+      before = omega arith;
+      told = g.done ++ [];
+      state = s;
+      whole = so_far;
+      call = subst (λ (x : Tables). CallFits x max s) same call;
+      took = rw (bytes_append g.done []) (Took-trans old now late _ _ g.took nothing);
+    }

@@ -35,7 +35,7 @@ cleared words base from count room =
     let zeros : List ℕ = replicate count 0 in
     let long : length zeros ≡ count = length-replicate count 0 in
     ap (λ l. drop base l) (append_assoc (take (base + from) words) zeros (drop (base + from + count) words)
-      ∙ ap (λ n. take (base + from) words ++ (zeros ++ drop (base + from + n) words)) (sym long))
+    ∙ ap (λ n. take (base + from) words ++ (zeros ++ drop (base + from + n) words)) (sym long))
     ∙ put_behind words zeros base from (omega arith)
 
 -- two words behind a list of so many
@@ -48,22 +48,20 @@ set_two zeros rest x y link ret n m long next =
     ap (λ l. slice_set l m ret) one ∙ two ∙ ap (λ k. zeros ++ slice_set (link ∷ (y ∷ rest)) k ret) at
 
 -- a frame below an index, seen from its lowest word
-pub pushed : (words : List ℕ) (base frame low link ret count : ℕ) → 2 ≤ frame → frame ≤ base → base ≤ length words → low ≡ base - frame → count ≡ base - 2 - low
-    → slice_set (slice_set (drop low (take low words ++ replicate count 0 ++ drop (base - 2) words)) (frame - 2) link) (frame - 1) ret ≡ entered frame link ret (drop base words)
-pushed words base frame low link ret count two room inside is counts =
-    let zeros : List ℕ = replicate count 0 in
-    let many : count ≡ frame - 2 = omega arith in
-    let front : length (take low words) ≡ low = length-take-le low words (omega arith) in
+pub pushed : (words : List ℕ) (base frame low link ret : ℕ) → 2 ≤ frame → frame ≤ base → base ≤ length words → low ≡ base - frame
+    → slice_set (slice_set (zeroed (drop low words) 0 (frame - 2)) (frame - 2) link) (frame - 1) ret ≡ entered frame link ret (drop base words)
+pushed words base frame low link ret two room inside is =
+    let zeros : List ℕ = replicate (frame - 2) 0 in
+    let long : length zeros ≡ frame - 2 = length-replicate (frame - 2) 0 in
+    let start : low + (0 + length zeros) ≡ base - 2 = omega arith in
     let next : base - 2 + 1 ≡ base - 1 = omega arith in
     let last : base - 1 + 1 ≡ base = omega arith in
     let one = drop_more words (base - 2) 0 (omega arith) ∙ ap (λ n. get_or words (base - 2) 0 ∷ drop n words) next in
     let more = drop_more words (base - 1) 0 (omega arith) ∙ ap (λ n. get_or words (base - 1) 0 ∷ drop n words) last in
-    let below : drop (base - 2) words ≡ get_or words (base - 2) 0 ∷ (get_or words (base - 1) 0 ∷ drop base words) = one ∙ ap (λ l. get_or words (base - 2) 0 ∷ l) more in
-    let seen : drop low (take low words ++ zeros ++ drop (base - 2) words) ≡ zeros ++ (get_or words (base - 2) 0 ∷ (get_or words (base - 1) 0 ∷ drop base words)) =
-    ap (λ l. drop low l) (append_assoc (take low words) zeros (drop (base - 2) words)) ∙ drop_at (take low words) (zeros ++ drop (base - 2) words) low front ∙ ap (λ l. zeros ++ l) below in
-    ap (λ l. slice_set (slice_set l (frame - 2) link) (frame - 1) ret) seen
-    ∙ set_two zeros (drop base words) _ _ link ret (frame - 2) (frame - 1) (length-replicate count 0 ∙ many) (omega arith)
-    ∙ ap (λ n. replicate n 0 ++ (link ∷ (ret ∷ drop base words))) many
+    let below : drop (0 + length zeros) (drop low words) ≡ get_or words (base - 2) 0 ∷ (get_or words (base - 1) 0 ∷ drop base words) =
+    drop-drop (0 + length zeros) low words ∙ ap (λ n. drop n words) start ∙ one ∙ ap (λ l. get_or words (base - 2) 0 ∷ l) more in
+    ap (λ l. slice_set (slice_set (zeros ++ l) (frame - 2) link) (frame - 1) ret) below
+    ∙ set_two zeros (drop base words) _ _ link ret (frame - 2) (frame - 1) long (omega arith)
 
 -- zeros before the used words
 pub behind_zeros : (below : ℕ) (used : List ℕ) → drop below (replicate below 0 ++ used) ≡ used

@@ -1,11 +1,11 @@
 -- Steps were done, and out took what they print; or out failed in one, or memory was refused to one.
-use Rattle.std.specs.Prelude.{◌≡◌, ℕ, ◌<◌, ⊤, List, [], drop, Option, Some, None, slice_get}
+use Rattle.std.specs.Prelude.{◌≡◌, ℕ, ◌+◌, ◌<◌, ◌≤◌, ⊤, List, [], length, drop, Option, Some, None, slice_get}
 use Rattle.outside.specs.Causes.{Rose}
 use Rattle.outside.specs.Took.{Took, TookPrefix}
 use Rattle.simulation.specs.Steps.{Goes, Stops, events_of, many}
 use Rattle.isa.specs.Code.{Tables}
 use Rattle.isa.specs.declared.instr.Instr.TheVariants.{Call}
-use Rattle.machine.specs.Machine.{State, Does, act, bytes_of, frame_of}
+use Rattle.machine.specs.Machine.{State, Event, Does, act, bytes_of, frame_of}
 use Rattle.machine.specs.declared.place.Place.{Place}
 use Rattle.machine.specs.declared.place.Ending.{Ending}
 use Rattle.machine.specs.declared.place.Ending.TheVariants.{WriteFault, NoMemory}
@@ -30,10 +30,20 @@ Comes d s (Some NoMemory) = ⊤
 Comes d s None = d ≡ Goes [] s
 Comes d s (Some e) = d ≡ Stops [] e
 
--- only a call whose frame has no room below an index of the block asks for memory
-abbrev pub Asks : Tables → Place → Type 0
-Asks t at = (g : ℕ) × (slice_get t.instrs at.pc ≡ Some (Call g)) × (at.base < frame_of t g)
+-- the next instruction is a call whose frame the limit allows
+abbrev pub CallFits : Tables → ℕ → State → Type 0
+CallFits t max s = (g : ℕ) × (slice_get t.instrs s.pc ≡ Some (Call g)) × (length s.words + frame_of t g ≤ max)
 
--- memory was refused behind so many steps, and out took what they print
-abbrev pub Refused : Tables → ℕ → ℕ → State → Option (List ℕ) → Option (List ℕ) → Type 0
-Refused t max steps s old new = (k : ℕ) × (k < steps) × Took old new (printed_by (many (act t max) k s))
+-- it has no room below an index of the block
+abbrev pub NoRoom : Tables → Place → Type 0
+NoRoom t at = (g : ℕ) × (slice_get t.instrs at.pc ≡ Some (Call g)) × (at.base < frame_of t g)
+
+-- behind so many steps stands a call that fits, to which memory was refused, and out took what they print
+pub record Refused (t : Tables) (max steps : ℕ) (first : State) (old new : Option (List ℕ)) : Type 0 where
+  pub done : ℕ
+  pub before : done < steps
+  pub told : List Event
+  pub state : State
+  pub whole : many (act t max) done first ≡ Goes told state
+  pub call : CallFits t max state
+  pub took : Took old new (bytes_of told)

@@ -21,10 +21,13 @@
 #![tactic(auto)]
 
 mod block;
+mod functions;
 mod links;
 mod place;
 mod slots;
 mod steps;
+#[cfg(test)]
+mod tests;
 mod whole;
 
 pub use place::{Ending, Next, Place};

@@ -1,14 +1,15 @@
 //! Calls and returns.
-ghost use Rattle.std.specs.Prelude.{◌≡◌, ◌≢◌, ◌↔◌, ◌+◌, ◌-◌, ◌<◌, ◌≤◌, ◌^◌, ◌++◌, length, take, drop, replicate, slice_get, IsTrue, Some, None, []};
+ghost use Rattle.std.specs.Prelude.{◌≡◌, ◌≢◌, ◌↔◌, ◌+◌, ◌-◌, ◌<◌, ◌≤◌, ◌^◌, length, drop, slice_get, IsTrue, Some, None, []};
 ghost use Rattle.simulation.specs.Steps.{Stops};
 ghost use Rattle.isa.specs.Code.{Tables, IsCode};
-ghost use Rattle.machine.specs.Machine.{address_of, zeroed, entered, calls, exits, returns, follows_call, frame_of, owner_of};
+ghost use Rattle.machine.specs.Machine.{address_of, entered, calls, exits, returns, follows_call, owner_of};
 ghost use Rattle.machine.specs.Inside.{Inside};
 ghost use Rattle.machine.specs.Answers.{Comes, state_of};
 
 use crate::block::make_room;
+use crate::functions::{frame_at, own_frame};
 use crate::place::{Ending, Next, Place};
-use crate::slots::{set_slot, slot};
+use crate::slots::{set_slot, slot, zero_slots};
 use isa::{Func, Instr};
 use std::alloc::Global;
 
@@ -23,49 +24,6 @@ pub fn address(stack_max: u64, distance: usize) -> u64
     STACK_START + stack_max - distance as u64
 }
 
-/// The words of the frame of a place's function.
-#[inline(always)]
-pub fn frame_at(instrs: &[Instr], owners: &[u16], funcs: &[Func], place: usize) -> usize
-    requires code { IsCode (record { instrs = instrs.now; owners = owners.now; funcs = funcs.now }) }
-    requires place { place < length instrs.now }
-    ensures is { let t : Tables = record { instrs = instrs.now; owners = owners.now; funcs = funcs.now } in result ≡ frame_of t (owner_of t place) }
-    ensures small { result < 2 ^ 16 }
-    ensures linked { 2 ≤ result }
-{
-    let _ = instrs;
-    funcs[owners[place] as usize].frame as usize
-}
-
-// The words from one index up to another are zero.
-#[inline(always)]
-fn zero_words(words: &mut [u64], from: usize, to: usize)
-    requires { (from ≤ to) × (to ≤ length words.old) }
-    ensures is { words.new ≡ take from words.old ++ replicate (to - from) 0 ++ drop to words.old }
-    ensures length { length words.new ≡ length words.old }
-{
-    words[from..to].fill(0);
-}
-
-// The words of a block from one index up to another are zero.
-#[inline(always)]
-fn zero(words: &mut Vec<u64>, from: usize, to: usize)
-    requires { (from ≤ to) × (to ≤ length words.old.items) }
-    ensures is { words.new.items ≡ take from words.old.items ++ replicate (to - from) 0 ++ drop to words.old.items }
-    ensures length { length words.new.items ≡ length words.old.items }
-{
-    zero_words(words.as_mut_slice(), from, to);
-}
-
-// So many words of the frame, from a slot on, are zero.
-#[inline(always)]
-fn clear(words: &mut Vec<u64>, base: usize, from: usize, count: usize)
-    requires { base + (from + count) ≤ length words.old.items }
-    ensures words { drop base words.new.items ≡ zeroed (drop base words.old.items) from count }
-    ensures length { length words.new.items ≡ length words.old.items }
-{
-    zero(words, base + from, base + from + count);
-}
-
 // A frame of so many words stands below an index, and the answer is its lowest word's.
 #[inline(always)]
 fn push(words: &mut Vec<u64>, base: usize, frame: usize, link: u64, ret: u64) -> usize
@@ -75,7 +33,7 @@ fn push(words: &mut Vec<u64>, base: usize, frame: usize, link: u64, ret: u64) ->
     ensures length { length words.new.items ≡ length words.old.items }
 {
     let low = base - frame;
-    zero(words, low, base - 2);
+    zero_slots(words, low, 0, frame - 2);
     set_slot(words, low, frame - 2, link);
     set_slot(words, low, frame - 1, ret);
     low
@@ -98,7 +56,7 @@ pub fn call(
     ensures calls { Comes (calls stack_max frame (Some callee) (state_of words.old.items at)) (state_of words.new.items result.at) result.ending }
     ensures entered { result.ending ≡ None → (result.at.pc ≡ callee.start) × (result.at.base + callee.frame ≤ length words.new.items) }
     ensures length { length words.new.items ≤ stack_max }
-    ensures refused { result.ending ≡ Some Ending.NoMemory → (at.base < callee.frame) × (words.new ≡ words.old) }
+    ensures refused { result.ending ≡ Some Ending.NoMemory → (at.base < callee.frame) × (length (drop at.base words.old.items) + callee.frame ≤ stack_max) × (words.new ≡ words.old) }
 {
     let asked = callee.frame as usize;
     let used = words.len() - at.base;
@@ -114,7 +72,7 @@ pub fn call(
     }
     match make_room(alloc, words, at.base, asked, stack_max) {
         Ok(base) => {
-            clear(
+            zero_slots(
                 words,
                 base,
                 callee.arguments as usize,
@@ -169,7 +127,7 @@ fn links(words: &Vec<u64>, stack_max: u64, outer: usize, link: u64) -> bool
     outer <= words.len() && link == address(stack_max, words.len() - outer)
 }
 
-/// Returns from a function whose frame has so many words.
+/// Returns from the function of a place.
 #[inline(always)]
 pub fn leave(
     instrs: &[Instr],
@@ -178,24 +136,23 @@ pub fn leave(
     words: &Vec<u64>,
     stack_max: u64,
     at: Place,
-    f: u16,
-    frame: usize,
 ) -> Next
     requires code { IsCode (record { instrs = instrs.now; owners = owners.now; funcs = funcs.now }) }
     requires words { (length words.now.items ≤ stack_max) × (stack_max ≤ 2 ^ 32) }
-    requires frame { (2 ≤ frame) × (at.base + frame ≤ length words.now.items) }
-    requires own { frame ≡ frame_of (record { instrs = instrs.now; owners = owners.now; funcs = funcs.now }) f }
-    ensures returns { Comes (returns (record { instrs = instrs.now; owners = owners.now; funcs = funcs.now }) stack_max f (state_of words.now.items at)) (state_of words.now.items result.at) result.ending }
+    requires inside { Inside (record { instrs = instrs.now; owners = owners.now; funcs = funcs.now }) (length words.now.items) at.pc at.base }
+    requires place { at.pc < length instrs.now }
+    ensures returns { let t : Tables = record { instrs = instrs.now; owners = owners.now; funcs = funcs.now } in Comes (returns t stack_max (owner_of t at.pc) (state_of words.now.items at)) (state_of words.now.items result.at) result.ending }
     ensures stays { result.ending ≡ None → Inside (record { instrs = instrs.now; owners = owners.now; funcs = funcs.now }) (length words.now.items) result.at.pc result.at.base }
     ensures memory { result.ending ≢ Some Ending.NoMemory }
 {
+    let frame = own_frame(instrs, owners, funcs, words, at);
     let ret = slot(words, at.base, frame - 1);
     let link = slot(words, at.base, frame - 2);
     let end = at.base + frame;
     if end == words.len() {
         return Next::ended(at, exit(ret, link));
     }
-    if !follows(instrs, owners, funcs, f, ret) {
+    if !follows(instrs, owners, funcs, owners[at.pc], ret) {
         return Next::ended(at, Ending::WildReturn(ret));
     }
     let above = frame_at(instrs, owners, funcs, (ret - 1) as usize);

@@ -1,6 +1,6 @@
 //! Slots of the running frame, in the block of words.
-ghost use Rattle.std.specs.Prelude.{◌≡◌, ◌+◌, ◌<◌, ◌≤◌, length, drop, slice_index, slice_set};
-ghost use Rattle.machine.specs.Machine.{put_words, words_at};
+ghost use Rattle.std.specs.Prelude.{◌≡◌, ◌+◌, ◌-◌, ◌<◌, ◌≤◌, ◌++◌, length, take, drop, replicate, slice_index, slice_set};
+ghost use Rattle.machine.specs.Machine.{put_words, words_at, zeroed};
 
 /// The word of a slot.
 #[inline(always)]
@@ -51,4 +51,34 @@ pub fn copy_slots(words: &mut Vec<u64>, base: usize, from: usize, to: usize, cou
     ensures length { length words.new.items ≡ length words.old.items }
 {
     copy_block(words, base + from, base + to, count);
+}
+
+// The words from one index up to another are zero.
+#[inline(always)]
+fn zero_words(words: &mut [u64], from: usize, to: usize)
+    requires { (from ≤ to) × (to ≤ length words.old) }
+    ensures is { words.new ≡ take from words.old ++ replicate (to - from) 0 ++ drop to words.old }
+    ensures length { length words.new ≡ length words.old }
+{
+    words[from..to].fill(0);
+}
+
+// The words of a block from one index up to another are zero.
+#[inline(always)]
+fn zero(words: &mut Vec<u64>, from: usize, to: usize)
+    requires { (from ≤ to) × (to ≤ length words.old.items) }
+    ensures is { words.new.items ≡ take from words.old.items ++ replicate (to - from) 0 ++ drop to words.old.items }
+    ensures length { length words.new.items ≡ length words.old.items }
+{
+    zero_words(words.as_mut_slice(), from, to);
+}
+
+/// So many slots from one on get zeros.
+#[inline(always)]
+pub fn zero_slots(words: &mut Vec<u64>, base: usize, from: usize, count: usize)
+    requires { base + (from + count) ≤ length words.old.items }
+    ensures words { drop base words.new.items ≡ zeroed (drop base words.old.items) from count }
+    ensures length { length words.new.items ≡ length words.old.items }
+{
+    zero(words, base + from, base + from + count);
 }

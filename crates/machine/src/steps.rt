@@ -7,9 +7,10 @@ ghost use Rattle.std.specs.Prelude.{◌≡◌, ◌⊎◌, ◌≢◌, [], OnOk, O
 ghost use Rattle.isa.specs.Code.{Tables, IsCode};
 ghost use Rattle.machine.specs.Machine.{act, address_of, frame_of, owner_of};
 ghost use Rattle.machine.specs.Inside.{Inside, Callable, Touches, Leads};
-ghost use Rattle.machine.specs.Answers.{Answers, Asks, state_of};
+ghost use Rattle.machine.specs.Answers.{Answers, CallFits, NoRoom, state_of};
 
-use crate::links::{address, call, frame_at, leave};
+use crate::functions::{callee, own_frame};
+use crate::links::{address, call, leave};
 use crate::slots::{copy_slots, set_slot, slot};
 use crate::{Ending, Next, Place};
 use isa::{Func, Instr, bin, negate};
@@ -30,45 +31,6 @@ fn put_slot<O: Sink>(words: &Vec<u64>, at: Place, a: u16, out: &mut O) -> Next
         Ok(()) => Next::on(at),
         Err(_) => Next::ended(at, Ending::WriteFault),
     }
-}
-
-// The words of the frame that stands inside the words.
-#[inline(always)]
-fn own_frame(
-    instrs: &[Instr],
-    owners: &[u16],
-    funcs: &[Func],
-    _words: &Vec<u64>,
-    at: Place,
-) -> usize
-    requires code { IsCode (record { instrs = instrs.now; owners = owners.now; funcs = funcs.now }) }
-    requires inside { Inside (record { instrs = instrs.now; owners = owners.now; funcs = funcs.now }) (length _words.now.items) at.pc at.base }
-    requires place { at.pc < length instrs.now }
-    ensures is { let t : Tables = record { instrs = instrs.now; owners = owners.now; funcs = funcs.now } in result ≡ frame_of t (owner_of t at.pc) }
-    ensures small { result < 2 ^ 16 }
-    ensures linked { 2 ≤ result }
-    ensures room { at.base + result ≤ length _words.now.items }
-{
-    frame_at(instrs, owners, funcs, at.pc)
-}
-
-// A function that can be called from the frame at an index.
-#[inline(always)]
-fn callee(
-    _instrs: &[Instr],
-    _owners: &[u16],
-    funcs: &[Func],
-    _words: &Vec<u64>,
-    _base: usize,
-    func: u16,
-) -> Func
-    requires { Callable (record { instrs = _instrs.now; owners = _owners.now; funcs = funcs.now }) (length _words.now.items) _base func }
-    ensures is { slice_get funcs.now func ≡ Some result }
-    ensures linked { 2 ≤ result.frame }
-    ensures starts { slice_get _owners.now result.start ≡ Some func }
-    ensures room { _base + (result.arguments + result.results) ≤ length _words.now.items }
-{
-    funcs[func as usize]
 }
 
 // The index of incoming words, so many, behind a frame of so many words; counted from the frame's lowest word.
@@ -141,7 +103,8 @@ pub fn step<O: Sink>(
     ensures later { O.faults out.old ≤ O.faults out.new }
     ensures stays { result.ending ≡ None → Inside (record { instrs = instrs.now; owners = owners.now; funcs = funcs.now }) (length words.new.items) result.at.pc result.at.base }
     ensures length { length words.new.items ≤ stack_max }
-    ensures memory { result.ending ≡ Some Ending.NoMemory → Asks (record { instrs = instrs.now; owners = owners.now; funcs = funcs.now }) at × Took (O.taken out.old) (O.taken out.new) [] × (words.new ≡ words.old) }
+    ensures memory { result.ending ≡ Some Ending.NoMemory → CallFits (record { instrs = instrs.now; owners = owners.now; funcs = funcs.now }) stack_max (state_of words.old.items at) × Took (O.taken out.old) (O.taken out.new) [] × (words.new ≡ words.old) }
+    ensures room { result.ending ≡ Some Ending.NoMemory → NoRoom (record { instrs = instrs.now; owners = owners.now; funcs = funcs.now }) at }
 {
     let base = at.base;
     match fetch(instrs, owners, funcs, words, at) {
@@ -215,18 +178,6 @@ pub fn step<O: Sink>(
             let written = put_bytes(out, b"\n");
             printed(at, written)
         }
-        Instr::Return => {
-            let frame = own_frame(instrs, owners, funcs, words, at);
-            leave(
-                instrs,
-                owners,
-                funcs,
-                words,
-                stack_max,
-                at,
-                owners[at.pc],
-                frame,
-            )
-        }
+        Instr::Return => leave(instrs, owners, funcs, words, stack_max, at),
     }
 }

@@ -29,6 +29,7 @@ pub fn run<O: Sink>(
     ensures runs { Answers (many (act code.now stack_max) steps (state_of words.old.items at)) (state_of words.new.items result.at) result.ending
         (O.taken out.old) (O.taken out.new) (O.faults out.old) (O.faults out.new) }
     ensures stays { result.ending ≡ None → Inside code.now (length words.new.items) result.at.pc result.at.base }
+    ensures length { length words.new.items ≤ stack_max }
     ensures memory { result.ending ≡ Some Ending.NoMemory → Refused code.now stack_max steps (state_of words.old.items at) (O.taken out.old) (O.taken out.new) }
 {
     let instrs = code.instrs();

@@ -28,4 +28,6 @@ returns-clause-runs g c = runs_out _ _ _ _ _ _ _ _ _ _ _ c.steps.invariant.0 c.s
 
 pub returns-in-Some-clause-memory : goal.returns-in-Some-clause-memory
 returns-in-Some-clause-memory g c refusal =
-    refused _ _ _ _ _ _ _ _ _ _ _ _ c.steps.invariant.0 c.steps-test.true (c.step-next.ensures.memory refusal).1
+    let same = shown c.args.code.now _ _ _ c.instrs-instrs.ensures.value c.owners-owners.ensures c.funcs-funcs.ensures in
+    let step = c.step-next.ensures.memory refusal in
+    refused _ _ _ _ _ _ _ _ _ _ _ _ _ c.steps.invariant.0 c.steps-test.true same step.0 step.1

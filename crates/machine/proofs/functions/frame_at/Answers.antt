@@ -1,5 +1,5 @@
 use Rattle.machine.proofs.Placed.{placed, frame_read, frame_linked}
-use Rattle.machine.proofs.links.frame_at.Goals as goal
+use Rattle.machine.proofs.functions.frame_at.Goals as goal
 
 pub bounds-funcs-owners : goal.bounds-funcs-owners
 bounds-funcs-owners c = (placed _ c.args.place c.requires.code c.requires.place).inside

@@ -1,6 +1,6 @@
 use Rattle.std.proofs.Common.{◌-◌, ◌++◌, take, drop, replicate, ap, ◌∙◌}
 use Rattle.std.proofs.lemmas.List.{with_items_is}
-use Rattle.machine.proofs.links.zero.Goals as goal
+use Rattle.machine.proofs.slots.zero.Goals as goal
 
 pub returns-clause-is : goal.returns-clause-is
 returns-clause-is c =

@@ -1,6 +1,6 @@
 use Rattle.std.proofs.Common.{◌≡◌, ◌+◌, ◌-◌, ◌++◌, drop, take, replicate, arith, ap, ◌∙◌}
 use Rattle.machine.proofs.Words.{cleared}
-use Rattle.machine.proofs.links.clear.Goals as goal
+use Rattle.machine.proofs.slots.zero_slots.Goals as goal
 
 pub returns-clause-words : goal.returns-clause-words
 returns-clause-words c =
