@@ -1,8 +1,8 @@
 -- The code of a program, put together function by function.
-use Rattle.std.proofs.Common.{◌≡◌, ℕ, zero, suc, ◌+◌, ◌-◌, ◌<◌, List, [], ◌∷◌, ◌++◌, length, get_or, drop, map, replicate, Some, refl, sym, ap, ◌∙◌, subst, arith, length-append, append_assoc}
+use Rattle.std.proofs.Common.{◌≡◌, ℕ, zero, suc, ◌+◌, ◌-◌, ◌<◌, ◌≤◌, List, [], ◌∷◌, ◌++◌, length, get_or, drop, map, replicate, Some, refl, sym, ap, ◌∙◌, subst, arith, length-append, append_assoc}
 use Rattle.std.specs.Prelude.{slice_get, slice_index_or, option_map}
 use Rattle.std.proofs.Math.Seq.{drop-cons}
-use Rattle.std.proofs.lemmas.List.{length-map}
+use Rattle.std.proofs.lemmas.List.{append-nil, length-map}
 use Rattle.std.proofs.lemmas.Option.{slice_get_read, slice_get-map, slice_get_within, get_or_from_slice_get}
 use Rattle.isa.specs.Code.{Tables, IsCode}
 use Rattle.isa.specs.declared.func.Func.{Func as Entry}
@@ -111,12 +111,33 @@ own_next whole owners more (suc left) number l e1 e2 =
     e1 ∙ sym (append_assoc owners (number ∷ []) (replicate left number)) ∙ ap (λ k. (owners ++ number ∷ []) ++ replicate k number) n ∙ ap (λ x. x ++ replicate (suc left - 1) number) (sym e2)
 
 -- tables by their parts
-pub tables_are : (p : Program) (instrs : List Instr) (owners : List ℕ) (funcs : List Entry) → instrs ≡ funcs_code p.funcs p.funcs 0 → owners ≡ funcs_owners p.funcs p.funcs 0 → funcs ≡ funcs_entries p.funcs p.funcs 0
+tables_are : (p : Program) (instrs : List Instr) (owners : List ℕ) (funcs : List Entry) → instrs ≡ funcs_code p.funcs p.funcs 0 → owners ≡ funcs_owners p.funcs p.funcs 0 → funcs ≡ funcs_entries p.funcs p.funcs 0
     → (let r : Tables = record { instrs = instrs; owners = owners; funcs = funcs } in r) ≡ code_of p
 tables_are p instrs owners funcs a b c =
     ap (λ (f : List Entry). let r : Tables = record { instrs = instrs; owners = owners; funcs = f } in r) c
     ∙ ap (λ (o : List ℕ). let r : Tables = record { instrs = instrs; owners = o; funcs = funcs_entries p.funcs p.funcs 0 } in r) b
     ∙ ap (λ (i : List Instr). let r : Tables = record { instrs = i; owners = funcs_owners p.funcs p.funcs 0; funcs = funcs_entries p.funcs p.funcs 0 } in r) a
+
+past : (gs : List FuncData) (i : ℕ) → length gs ≤ i → drop i gs ≡ []
+past [] zero l = refl
+past [] (suc i) l = refl
+past (g ∷ gs) zero l = absurd (omega arith)
+past (g ∷ gs) (suc i) l = past gs i (omega arith)
+
+-- behind the last function the tables are the program's
+pub finished : (p : ProgramData) (gs : List FuncData) (i number : ℕ) (instrs : List Instr) (owners : List ℕ) (entries : List Entry) → gs ≡ p.funcs.items → length gs ≤ i
+    → funcs_code (map func_of gs) (map func_of gs) 0 ≡ instrs ++ funcs_code (map func_of gs) (map func_of (drop i gs)) (length instrs)
+    → funcs_owners (map func_of gs) (map func_of gs) 0 ≡ owners ++ funcs_owners (map func_of gs) (map func_of (drop i gs)) number
+    → funcs_entries (map func_of gs) (map func_of gs) 0 ≡ entries ++ funcs_entries (map func_of gs) (map func_of (drop i gs)) (length instrs)
+    → (let r : Tables = record { instrs = instrs; owners = owners; funcs = entries } in r) ≡ code_of (program_of p)
+finished p gs i number instrs owners entries same l a b c =
+    let fs = map func_of gs in
+    let none : map func_of (drop i gs) ≡ [] = ap (map func_of) (past gs i l) in
+    let all : fs ≡ map func_of p.funcs.items = ap (map func_of) same in
+    let x : instrs ≡ funcs_code fs fs 0 = sym (a ∙ ap (λ hs. instrs ++ funcs_code fs hs (length instrs)) none ∙ append-nil instrs) in
+    let y : owners ≡ funcs_owners fs fs 0 = sym (b ∙ ap (λ hs. owners ++ funcs_owners fs hs number) none ∙ append-nil owners) in
+    let z : entries ≡ funcs_entries fs fs 0 = sym (c ∙ ap (λ hs. entries ++ funcs_entries fs hs (length instrs)) none ∙ append-nil entries) in
+    tables_are (program_of p) instrs owners entries (x ∙ ap (λ hs. funcs_code hs hs 0) all) (y ∙ ap (λ hs. funcs_owners hs hs 0) all) (z ∙ ap (λ hs. funcs_entries hs hs 0) all)
 
 pub is_code : (p : Program) → IsInForm p → IsCode (code_of p)
 is_code p form = Tables.is_code p.funcs (all_fit p form)

@@ -1,5 +1,6 @@
 //! Runs of a code to its end.
-ghost use Rattle.std.specs.Prelude.{◌≡◌, ◌/◌, ◌<◌, ◌≤◌, ◌^◌, ℕ, List, length};
+ghost use Rattle.std.specs.Prelude.{◌≡◌, ◌/◌, ◌<◌, ◌≤◌, ◌^◌, ℕ, List, length, slice_get, Some};
+ghost use Rattle.machine.specs.Inside.{Inside};
 ghost use Rattle.typed.specs.Syntax.{Program};
 ghost use Rattle.meaning.specs.Meaning.{Answer};
 ghost use Rattle.meaning.specs.Output.{source};
@@ -59,6 +60,17 @@ fn answer(ending: Option<Ending>) -> Result<u8, RunFault>
     }
 }
 
+// The function by which a run begins: its frame and its first place lie inside the code.
+fn entry(code: &Code, main: FuncId) -> isa::Func
+    requires main { main.0 < length code.now.funcs }
+    ensures is { slice_get code.now.funcs main.0 ≡ Some result }
+    ensures inside { Inside code.now result.frame result.start 0 }
+{
+    // Its instructions say that a code is well formed.
+    let _ = code.instrs();
+    code.funcs()[main.0 as usize]
+}
+
 /// Runs the code of a program from the entry of its function `main`, for at most so many steps and with a stack of at most
 /// so many words. The answer is the status that the program ended with.
 pub fn run<O: Sink>(
@@ -76,7 +88,7 @@ pub fn run<O: Sink>(
         → Ran (source item p (limits p stack_max) input (steps / 16)) (source item p (limits p stack_max) input steps) result
         (O.taken out.old) (O.taken out.new) (O.faults out.old) (O.faults out.new) }
 {
-    let entry = code.funcs()[main.0 as usize];
+    let entry = entry(code, main);
     let asked = entry.frame as u64;
     if asked > stack_max {
         return Err(RunFault::StackLimit {

@@ -1,11 +1,11 @@
 use Rattle.std.proofs.Common.{rules, ◌≡◌, ◌+◌, ◌<◌, ◌∙◌, refl, sym, subst, length, map, arith}
 use Rattle.isa.specs.Code.{Tables, IsCode}
 use Rattle.typed.specs.View.{func_of, program_of}
-use Rattle.codegen.specs.Code.{code_of, funcs_code, funcs_owners, funcs_entries}
+use Rattle.codegen.specs.Code.{code_of}
 use Rattle.codegen.specs.Correct.{Simulated}
 use Rattle.codegen.proofs.Stands.{compiled}
 use Rattle.codegen.proofs.Follows.{simulated}
-use Rattle.codegen.proofs.Whole.{fits, layout_at, longer, code_next, owners_next, entries_next, tables_are, is_code, main_there}
+use Rattle.codegen.proofs.Whole.{fits, layout_at, longer, code_next, owners_next, entries_next, finished, is_code, main_there}
 use Rattle.codegen.proofs.program.emit.Goals as goal
 
 pub add-requires-clause-fits : goal.add-requires-clause-fits
@@ -28,22 +28,17 @@ loop-func-preserved c =
 
 pub made-requires : goal.made-requires
 made-requires c =
-    let p = program_of c.args.program.now in
-    let i : c.loop-func.parts.instrs.items ≡ funcs_code p.funcs p.funcs 0 = search rules in
-    let o : c.loop-func.parts.owners.items ≡ funcs_owners p.funcs p.funcs 0 = search rules in
-    let f : c.loop-func.parts.funcs.items ≡ funcs_entries p.funcs p.funcs 0 = search rules in
-    subst (λ (t : Tables). IsCode t) (sym (tables_are p _ _ _ i o f)) (is_code p c.requires.form)
+    let p = c.args.program.now in let parts = c.loop-func.parts in let done = c.loop-func.invariant in
+    let same = finished p c.as_slice-funcs.result.now c.loop-func.func-index c.loop-func.number parts.instrs.items parts.owners.items parts.funcs.items c.as_slice-funcs.ensures.value (omega (arith, c.loop-func-test.false)) done.0 done.1 done.2 in
+    subst (λ (t : Tables). IsCode t) (sym same) (is_code (program_of p) c.requires.form)
 
 pub returns : goal.returns
 returns c =
-    let p = program_of c.args.program.now in
-    let i : c.loop-func.parts.instrs.items ≡ funcs_code p.funcs p.funcs 0 = search rules in
-    let o : c.loop-func.parts.owners.items ≡ funcs_owners p.funcs p.funcs 0 = search rules in
-    let f : c.loop-func.parts.funcs.items ≡ funcs_entries p.funcs p.funcs 0 = search rules in
-    let same = c.made.ensures ∙ tables_are p _ _ _ i o f in
+    let p = c.args.program.now in let parts = c.loop-func.parts in let done = c.loop-func.invariant in
+    let same = c.made.ensures ∙ finished p c.as_slice-funcs.result.now c.loop-func.func-index c.loop-func.number parts.instrs.items parts.owners.items parts.funcs.items c.as_slice-funcs.ensures.value (omega (arith, c.loop-func-test.false)) done.0 done.1 done.2 in
     record {
       is = same;
-      simulates = subst (λ (t : Tables). Simulated p t) (sym same) (simulated p (code_of p) (compiled p) c.requires.form refl);
-      main = subst (λ (t : Tables). p.main < length t.funcs) (sym same) (main_there p c.requires.form);
+      simulates = subst (λ (t : Tables). Simulated (program_of p) t) (sym same) (simulated (program_of p) (code_of (program_of p)) (compiled (program_of p)) c.requires.form refl);
+      main = subst (λ (t : Tables). p.main.0 < length t.funcs) (sym same) (main_there (program_of p) c.requires.form);
       small = search rules;
     }
