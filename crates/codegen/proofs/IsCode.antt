@@ -283,10 +283,9 @@ module _ (fs : List Func) (fit : (f : ℕ) (func : Func) → slice_get fs f ≡ 
   pub is_code : IsCode (record { instrs = instrs; owners = owners; funcs = fns })
   is_code = record { same = length_owners fs fs 0 0; fits = fits_place; linked = linked }
 
--- the frame of a function lies inside so many words where it is entered
-  pub inside : (f : ℕ) (func : Func) (fn : Entry) → slice_get fs f ≡ Some func → slice_get fns f ≡ Some fn → Inside (record { instrs = instrs; owners = owners; funcs = fns }) fn.frame fn.start 0
-  inside f func fn is e =
-      record { f = f; fn = fn; owner = (linked f fn e).start; is = e; room = omega arith }
+-- the frame of a function lies inside its words where it is entered
+pub begins : (t : Tables) → IsCode t → (f : ℕ) (fn : Entry) → slice_get t.funcs f ≡ Some fn → Inside t fn.frame fn.start 0
+begins t is f fn e = record { f = f; fn = fn; owner = (is.linked f fn e).start; is = e; room = omega arith }
 
 pub all_fit : (p : Program) → IsInForm p → (f : ℕ) (func : Func) → slice_get p.funcs f ≡ Some func → FuncFitsIn p.funcs func
 all_fit p form f func is = func_fits p.funcs func form.few (form.fits f func is)

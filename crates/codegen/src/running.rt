@@ -88,8 +88,8 @@ pub fn run<O: Sink>(
         → Ran (source item p (limits p stack_max) input (steps / 16)) (source item p (limits p stack_max) input steps) result
         (O.taken out.old) (O.taken out.new) (O.faults out.old) (O.faults out.new) }
 {
-    let entry = entry(code, main);
-    let asked = entry.frame as u64;
+    let first = entry(code, main);
+    let asked = first.frame as u64;
     if asked > stack_max {
         return Err(RunFault::StackLimit {
             used: 0,
@@ -97,9 +97,9 @@ pub fn run<O: Sink>(
             limit: stack_max,
         });
     }
-    let mut words = vec![in alloc; 0; entry.frame as usize]?;
+    let mut words = vec![in alloc; 0; first.frame as usize]?;
     let at = Place {
-        pc: entry.start as usize,
+        pc: first.start as usize,
         base: 0,
     };
     let next = machine::run(alloc, code, &mut words, stack_max, at, out, steps);
