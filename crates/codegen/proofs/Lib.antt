@@ -22,3 +22,4 @@ pub mod Follows
 pub mod Emitted
 pub mod Composed
 pub mod Whole
+pub mod Sample

@@ -2,7 +2,7 @@
 use Rattle.std.proofs.Common.{◌≡◌, ℕ, zero, suc, ◌+◌, ◌-◌, ◌<◌, ◌≤◌, List, [], ◌∷◌, ◌++◌, length, get_or, drop, map, replicate, Some, refl, sym, ap, ◌∙◌, subst, arith, length-append, append_assoc}
 use Rattle.std.specs.Prelude.{slice_get, slice_index_or, option_map}
 use Rattle.std.proofs.Math.Seq.{drop-cons}
-use Rattle.std.proofs.lemmas.List.{append-nil, length-map}
+use Rattle.std.proofs.lemmas.List.{append-nil}
 use Rattle.std.proofs.lemmas.Option.{slice_get_read, slice_get-map, slice_get_within, get_or_from_slice_get}
 use Rattle.isa.specs.Code.{Tables, IsCode}
 use Rattle.isa.specs.declared.func.Func.{Func as Entry}
@@ -15,7 +15,7 @@ use Rattle.typed.specs.Form.{IsInForm}
 use Rattle.frame_layout.specs.declared.layout.FrameLayout.{FrameLayout}
 use Rattle.frame_layout.specs.Layout.{layout_in, layouts}
 use Rattle.codegen.specs.Temps.{FuncFitsIn}
-use Rattle.codegen.specs.Code.{Slots, slots_of, params_code, zeros_code, sts_code, leave_code, entry_size, entry_code, func_code, func_size, entry_of, funcs_code, funcs_owners, funcs_entries, code_of}
+use Rattle.codegen.specs.Code.{Slots, slots_of, params_code, zeros_code, sts_code, leave_code, entry_size, func_code, func_size, entry_of, funcs_code, funcs_owners, funcs_entries, code_of}
 use Rattle.codegen.proofs.Sizes.{length_entry, length_func}
 use Rattle.codegen.proofs.IsCode as Tables
 use Rattle.codegen.proofs.IsCode.{all_fit}
@@ -33,9 +33,9 @@ func_emitted fs f s old c1 c2 c3 c4 same e1 e2 e3 e4 =
     let n : length c2 ≡ here = ap length f2 ∙ omega (arith, length-append old (params ++ zeros), entry) in
     let f3 : c3 ≡ c2 ++ body = e3 ∙ ap (λ p. c2 ++ sts_code fs m f.named s f.body p) n in
     let all : c4 ≡ old ++ ((params ++ zeros) ++ (body ++ leave)) =
-        e4 ∙ ap (λ c. c ++ leave) (f3 ∙ ap (λ c. c ++ body) f2)
-        ∙ append_assoc (old ++ (params ++ zeros)) body leave
-        ∙ append_assoc old (params ++ zeros) (body ++ leave) in
+    e4 ∙ ap (λ c. c ++ leave) (f3 ∙ ap (λ c. c ++ body) f2)
+    ∙ append_assoc (old ++ (params ++ zeros)) body leave
+    ∙ append_assoc old (params ++ zeros) (body ++ leave) in
     all ∙ ap (λ (x : Slots). old ++ ((params_code x f.params 0 ++ zeros_code x f.named) ++ (sts_code fs m f.named x f.body here ++ leave_code x m f.named))) same
 
 split : (gs : List FuncData) (i : ℕ) (g : FuncData) → i < length gs → g ≡ get_or gs i g → map func_of (drop i gs) ≡ func_of g ∷ map func_of (drop (i + 1) gs)

@@ -17,7 +17,12 @@ use typed::{Expr, Func, Left, Stmt, Values};
 
 // The operands land in temps from 0 on.
 #[tactic(auto, using(crate::proofs::Pieces::codes, crate::proofs::Pieces::fits))]
-fn emit_operands(code: &mut Vec<Instr>, funcs: &[Func], frame: Frame, es: &[Expr]) -> Result<(), NoMemory>
+fn emit_operands(
+    code: &mut Vec<Instr>,
+    funcs: &[Func],
+    frame: Frame,
+    es: &[Expr],
+) -> Result<(), NoMemory>
     requires fits { PiecesFitIn (map func_of funcs.now) (slots_in frame) frame.sites 0 (pieces_of es.now) }
     requires frame { IsSmall frame }
     ensures { OnOk result (code.new.items ≡ code.old.items ++ pieces_code (map func_of funcs.now) (slots_in frame) (pieces_of es.now) 0) }
@@ -59,7 +64,12 @@ fn emit_shown(code: &mut Vec<Instr>, frame: Frame, es: &[Expr]) -> Result<(), No
 }
 
 #[tactic(auto, using(crate::proofs::Pieces::temps))]
-fn emit_print(code: &mut Vec<Instr>, funcs: &[Func], frame: Frame, es: &[Expr]) -> Result<(), NoMemory>
+fn emit_print(
+    code: &mut Vec<Instr>,
+    funcs: &[Func],
+    frame: Frame,
+    es: &[Expr],
+) -> Result<(), NoMemory>
     requires fits { PiecesFitIn (map func_of funcs.now) (slots_in frame) frame.sites 0 (pieces_of es.now) }
     requires frame { IsSmall frame }
     ensures { OnOk result (code.new.items ≡ code.old.items
@@ -96,7 +106,13 @@ fn emit_lefts(code: &mut Vec<Instr>, frame: Frame, ls: &[Left]) -> Result<(), No
 }
 
 // All values are there before the first left side gets its own.
-fn emit_assign(code: &mut Vec<Instr>, funcs: &[Func], frame: Frame, ls: &[Left], values: &Values) -> Result<(), NoMemory>
+fn emit_assign(
+    code: &mut Vec<Instr>,
+    funcs: &[Func],
+    frame: Frame,
+    ls: &[Left],
+    values: &Values,
+) -> Result<(), NoMemory>
     requires fits { ExsFitIn (map func_of funcs.now) (slots_in frame) frame.sites 0 (exs_of_values values.now) × LeftsFitIn (slots_in frame) frame.sites 0 (map left_of ls.now) }
     requires frame { IsSmall frame }
     ensures { OnOk result (code.new.items ≡ code.old.items
@@ -128,7 +144,13 @@ fn jump_over(code: &mut Vec<Instr>, len: u32) -> Result<(), NoMemory>
 
 #[cycle(emit)]
 #[tactic(auto, using(typed::proofs::Rows::stmt_rows))]
-fn emit_stmt(code: &mut Vec<Instr>, funcs: &[Func], frame: Frame, func: &Func, s: &Stmt) -> Result<(), NoMemory>
+fn emit_stmt(
+    code: &mut Vec<Instr>,
+    funcs: &[Func],
+    frame: Frame,
+    func: &Func,
+    s: &Stmt,
+) -> Result<(), NoMemory>
     requires fits { StFitsIn (map func_of funcs.now) (slots_in frame) frame.sites (result_words (func_of func.now)) (func_of func.now).named (st_of s.now) }
     requires returns { Returns frame (func_of func.now) }
     requires frame { IsSmall frame }
@@ -167,7 +189,13 @@ fn emit_stmt(code: &mut Vec<Instr>, funcs: &[Func], frame: Frame, func: &Func, s
 
 /// The code of statements.
 #[cycle(emit)]
-pub fn emit_stmts(code: &mut Vec<Instr>, funcs: &[Func], frame: Frame, func: &Func, ss: &[Stmt]) -> Result<(), NoMemory>
+pub fn emit_stmts(
+    code: &mut Vec<Instr>,
+    funcs: &[Func],
+    frame: Frame,
+    func: &Func,
+    ss: &[Stmt],
+) -> Result<(), NoMemory>
     requires fits { StsFitIn (map func_of funcs.now) (slots_in frame) frame.sites (result_words (func_of func.now)) (func_of func.now).named (sts_of ss.now) }
     requires returns { Returns frame (func_of func.now) }
     requires frame { IsSmall frame }

@@ -31,6 +31,8 @@ mod program;
 mod returning;
 mod running;
 mod slots;
+#[cfg(test)]
+mod tests;
 mod values;
 
 pub use program::emit;

@@ -27,7 +27,12 @@ struct Parts {
 }
 
 // A function's code stands behind the others'.
-fn emit_func(code: &mut Vec<Instr>, funcs: &[Func], frame: Frame, func: &Func) -> Result<(), NoMemory>
+fn emit_func(
+    code: &mut Vec<Instr>,
+    funcs: &[Func],
+    frame: Frame,
+    func: &Func,
+) -> Result<(), NoMemory>
     requires slots { slots_in frame ≡ slots_of (map func_of funcs.now) (func_of func.now) }
     requires sites { frame.sites ≡ func.now.sites }
     requires fits { FuncFitsIn (map func_of funcs.now) (func_of func.now) }
@@ -62,7 +67,13 @@ fn put_entry(entries: &mut Vec<isa::Func>, entry: isa::Func) -> Result<(), NoMem
 }
 
 // A function comes behind the others, with this number.
-fn add(parts: &mut Parts, funcs: &[Func], func: &Func, layout: FrameLayout, number: u16) -> Result<(), NoMemory>
+fn add(
+    parts: &mut Parts,
+    funcs: &[Func],
+    func: &Func,
+    layout: FrameLayout,
+    number: u16,
+) -> Result<(), NoMemory>
     requires fits { FuncFitsIn (map func_of funcs.now) (func_of func.now) }
     requires layout { layout ≡ layout_in (map func_of funcs.now) (func_of func.now) }
     ensures instrs { OnOk result (parts.new.instrs.items ≡ parts.old.instrs.items ++ func_code (map func_of funcs.now) (func_of func.now) (length parts.old.instrs.items)) }

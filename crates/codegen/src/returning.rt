@@ -14,7 +14,11 @@ use isa::Instr;
 use typed::{Func, Values};
 
 /// Parameters with sites get the incoming words.
-pub fn emit_params(code: &mut Vec<Instr>, frame: Frame, params: &[Option<SiteId>]) -> Result<(), NoMemory>
+pub fn emit_params(
+    code: &mut Vec<Instr>,
+    frame: Frame,
+    params: &[Option<SiteId>],
+) -> Result<(), NoMemory>
     requires fits { ParamsFitIn (slots_in frame) frame.sites (map site_in params.now) }
     requires small { length params.now ≤ 65535 }
     requires frame { IsSmall frame }
@@ -73,7 +77,12 @@ fn emit_results(code: &mut Vec<Instr>, frame: Frame, n: u16, word: u16) -> Resul
 }
 
 // Results with names are given back, from an incoming word on.
-fn emit_named_reads(code: &mut Vec<Instr>, frame: Frame, sites: &[SiteId], first: u16) -> Result<(), NoMemory>
+fn emit_named_reads(
+    code: &mut Vec<Instr>,
+    frame: Frame,
+    sites: &[SiteId],
+    first: u16,
+) -> Result<(), NoMemory>
     requires fits { SitesFit (slots_in frame) frame.sites (map (λ site. site.0) sites.now) }
     requires small { first + length sites.now ≤ 65535 }
     requires frame { IsSmall frame }
@@ -84,7 +93,14 @@ fn emit_named_reads(code: &mut Vec<Instr>, frame: Frame, sites: &[SiteId], first
     for site in sites {
         let b = frame.of_site(*site);
         put(code, Instr::Move { a: temp, b })?;
-        put(code, Instr::SetResults { a: temp, b: word as u16, n: 1 })?;
+        put(
+            code,
+            Instr::SetResults {
+                a: temp,
+                b: word as u16,
+                n: 1,
+            },
+        )?;
         word += 1;
     }
     Ok(())
@@ -118,7 +134,13 @@ fn emit_given(code: &mut Vec<Instr>, frame: Frame, func: &Func, count: u64) -> R
 }
 
 /// The function returns with values.
-pub fn emit_return(code: &mut Vec<Instr>, funcs: &[Func], frame: Frame, func: &Func, values: &Values) -> Result<(), NoMemory>
+pub fn emit_return(
+    code: &mut Vec<Instr>,
+    funcs: &[Func],
+    frame: Frame,
+    func: &Func,
+    values: &Values,
+) -> Result<(), NoMemory>
     requires fits { ExsFitIn (map func_of funcs.now) (slots_in frame) frame.sites 0 (exs_of_values values.now)
         × ValuesFit frame.temps (result_words (func_of func.now)) (count_of (map func_of funcs.now) (exs_of_values values.now)) (func_of func.now).named }
     requires returns { Returns frame (func_of func.now) }

@@ -1,4 +1,4 @@
-use Rattle.std.proofs.Common.{rules, ◌≡◌, ◌++◌, ◌-◌, ◌∙◌, ap, length, length-append, map, replicate, arith}
+use Rattle.std.proofs.Common.{◌≡◌, ◌++◌, ◌-◌, ◌∙◌, ap, length, length-append, map, replicate, arith}
 use Rattle.typed.specs.View.{func_of}
 use Rattle.codegen.specs.Code.{func_code, func_size}
 use Rattle.codegen.proofs.Sizes.{length_func}

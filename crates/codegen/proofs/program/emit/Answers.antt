@@ -1,4 +1,4 @@
-use Rattle.std.proofs.Common.{rules, ◌≡◌, ◌+◌, ◌<◌, ◌∙◌, refl, sym, subst, length, map, arith}
+use Rattle.std.proofs.Common.{rules, ◌+◌, ◌<◌, ◌∙◌, refl, sym, subst, length, map, arith}
 use Rattle.isa.specs.Code.{Tables, IsCode}
 use Rattle.typed.specs.View.{func_of, program_of}
 use Rattle.codegen.specs.Code.{code_of}
@@ -22,7 +22,7 @@ loop-func-preserved c =
       code_next fs gs i g l is _ c.loop-func.parts.instrs.items c.add.new.parts.instrs.items c.loop-func.invariant.0 c.in_ok-add.ensures.instrs,
       owners_next fs gs i g l is _ c.loop-func.parts.owners.items c.add.new.parts.owners.items c.loop-func.number (c.loop-func.number + 1) c.loop-func.invariant.1 c.in_ok-add.ensures.owners refl,
       entries_next fs gs i g l is _ c.loop-func.parts.funcs.items c.add.new.parts.funcs.items (length c.loop-func.parts.instrs.items) (length c.add.new.parts.instrs.items) c.loop-func.invariant.2 c.in_ok-add.ensures.funcs
-        (longer fs gs i g l is c.loop-func.parts.instrs.items c.add.new.parts.instrs.items c.in_ok-add.ensures.instrs),
+          (longer fs gs i g l is c.loop-func.parts.instrs.items c.add.new.parts.instrs.items c.in_ok-add.ensures.instrs),
       omega (arith, c.loop-func.invariant.3),
     )
 

@@ -1,6 +1,6 @@
 use Rattle.std.proofs.Common.{rules, ◌≡◌, ◌++◌, length, map}
 use Rattle.typed.specs.Syntax.{argument_words}
-use Rattle.typed.specs.View.{func_of, site_in}
+use Rattle.typed.specs.View.{func_of}
 use Rattle.codegen.specs.Code.{params_code, zeros_code, sts_code, leave_code}
 use Rattle.codegen.specs.Frame.{slots_in}
 use Rattle.codegen.proofs.Whole.{func_emitted}

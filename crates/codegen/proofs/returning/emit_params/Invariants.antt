@@ -1,4 +1,4 @@
-use Rattle.std.proofs.Common.{◌≡◌, ◌+◌, ◌≤◌, ◌++◌, drop, length, map}
+use Rattle.std.proofs.Common.{◌≡◌, ◌++◌, drop, map}
 use Rattle.typed.specs.View.{site_in}
 use Rattle.codegen.specs.Code.{params_code}
 use Rattle.codegen.specs.Frame.{slots_in}
