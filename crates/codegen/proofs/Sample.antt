@@ -38,7 +38,7 @@ pair at = record { first = 0; count = 3; params = Some 0 ∷ []; results = 0 ∷
 abbrev pub main_func : Func
 main_func = record { first = 3; count = 2; params = []; results = []; named = []; body = main_body }
 
-abbrev funcs : Pos → List Func
+abbrev pub funcs : Pos → List Func
 funcs at = pair at ∷ main_func ∷ []
 
 pair_fits : (at : Pos) → FuncFits (funcs at) (pair at)

@@ -1,10 +1,11 @@
 //! What no clause says: that the calls succeed where memory is ample.
-ghost use Rattle.std.specs.Prelude.{◌≡◌, ◌∷◌, [], pos, true, IfOk};
+ghost use Rattle.std.specs.Prelude.{◌≡◌, ◌∷◌, [], pos, true, Some, IfOk};
+ghost use Rattle.base.specs.declared.pos.Pos.{Pos};
+ghost use Rattle.typed.specs.declared.operators.BinOp.{BinOp};
 ghost use Rattle.typed.specs.Value.{int};
-ghost use Rattle.typed.specs.Syntax.{read, local, here, constant, binary, none, more, results, new, to, shown, assign, choose, give_back, print, done, next};
+ghost use Rattle.typed.specs.Syntax.{read, local, here, constant, binary, none, more, results, new, to, shown, assign, choose, give_back, print, done, next, Func as Function};
 ghost use Rattle.typed.specs.View.{ex_of, exs_of_values, func_of, st_of, sts_of, program_of};
 ghost use Rattle.typed.specs.Form.{IsInForm};
-ghost use Rattle.codegen.proofs.Sample.{number as number_of, variable as variable_of, pair_body as pair_body_of, main_body as main_body_of, pair as pair_of, main_func};
 
 use crate::{RunFault, emit, run};
 use base::{FuncId, Pos, SiteId, TypeId};
@@ -21,7 +22,7 @@ const AT: Pos = Pos {
 };
 
 fn variable(site: u32) -> Expr
-    ensures { ex_of result ≡ variable_of site }
+    ensures { ex_of result ≡ read (local site here) }
 {
     Expr::Local(SiteId(site))
 }
@@ -38,12 +39,14 @@ fn two_operands(alloc: Global, at: Pos, op: BinOp, a: Expr, b: Expr) -> Result<E
     Ok(Expr::Binary(at, op, Box::new(alloc, a)?, Box::new(alloc, b)?))
 }
 
+#[tactic(auto, using(typed::proofs::Rows::expr_rows))]
 fn one(alloc: Global, e: Expr) -> Result<Values, Fail>
     ensures { IfOk result (λ vs. exs_of_values vs ≡ more (ex_of e) none) }
 {
     Ok(Values::Each(vec![in alloc; e]?))
 }
 
+#[tactic(auto, using(typed::proofs::Rows::expr_rows))]
 fn two(alloc: Global, a: Expr, b: Expr) -> Result<Values, Fail>
     ensures { IfOk result (λ vs. exs_of_values vs ≡ more (ex_of a) (more (ex_of b) none)) }
 {
@@ -61,7 +64,7 @@ fn call(alloc: Global, argument: Expr) -> Result<Values, Fail>
 // if n <= 0 { return 1, 0 }
 #[tactic(auto, using(typed::proofs::Rows::stmt_rows))]
 fn base_case(alloc: Global, at: Pos) -> Result<Stmt, Fail>
-    ensures { IfOk result (λ s. st_of s ≡ choose (binary at BinOp.LessEqual (variable_of 0) (number_of 0)) (next (give_back (more (number_of 1) (more (number_of 0) none))) done) done) }
+    ensures { IfOk result (λ s. st_of s ≡ choose (binary at BinOp.LessEqual (read (local 0 here)) (constant (int (pos 0)))) (next (give_back (more (constant (int (pos 1))) (more (constant (int (pos 0))) none))) done) done) }
 {
     let test = two_operands(alloc, at, BinOp::LessEqual, variable(0), number(0))?;
     let values = two(alloc, number(1), number(0))?;
@@ -91,7 +94,11 @@ fn assigned(alloc: Global, a: u32, b: u32, first: Expr, second: Expr) -> Result<
 
 #[tactic(auto, using(typed::proofs::Rows::stmt_rows))]
 fn pair_body(alloc: Global, at: Pos) -> Result<Vec<Stmt>, Fail>
-    ensures { IfOk result (λ ss. sts_of ss.items ≡ pair_body_of at) }
+    ensures { IfOk result (λ ss. sts_of ss.items ≡
+        next (choose (binary at BinOp.LessEqual (read (local 0 here)) (constant (int (pos 0)))) (next (give_back (more (constant (int (pos 1))) (more (constant (int (pos 0))) none))) done) done)
+        (next (assign (new 1 ∷ new 2 ∷ []) (results 0 (more (binary at BinOp.Sub (read (local 0 here)) (constant (int (pos 1)))) none)))
+        (next (assign (to (local 1 here) ∷ to (local 2 here) ∷ []) (more (binary at BinOp.Add (read (local 1 here)) (read (local 2 here))) (more (read (local 1 here)) none)))
+        (next (give_back (more (read (local 1 here)) (more (read (local 2 here)) none))) done)))) }
 {
     let less = two_operands(alloc, at, BinOp::Sub, variable(0), number(1))?;
     let sum = two_operands(alloc, at, BinOp::Add, variable(1), variable(2))?;
@@ -104,7 +111,10 @@ fn pair_body(alloc: Global, at: Pos) -> Result<Vec<Stmt>, Fail>
 
 #[tactic(auto, using(typed::proofs::Rows::stmt_rows))]
 fn main_body(alloc: Global) -> Result<Vec<Stmt>, Fail>
-    ensures { IfOk result (λ ss. sts_of ss.items ≡ main_body_of) }
+    ensures { IfOk result (λ ss. sts_of ss.items ≡
+        next (assign (new 3 ∷ new 4 ∷ []) (results 0 (more (constant (int (pos 3))) none)))
+        (next (assign (to (local 3 here) ∷ to (local 4 here) ∷ []) (more (read (local 4 here)) (more (read (local 3 here)) none)))
+        (next (print true (shown (read (local 3 here)) ∷ shown (read (local 4 here)) ∷ [])) done))) }
 {
     let first = declared(alloc, 3, 4, number(3))?;
     let swapped = assigned(alloc, 3, 4, variable(4), variable(3))?;
@@ -113,40 +123,43 @@ fn main_body(alloc: Global) -> Result<Vec<Stmt>, Fail>
 }
 
 // func pair(n int) (int, int)
-fn pair(alloc: Global, at: Pos) -> Result<Func, Fail>
-    ensures { IfOk result (λ f. func_of f ≡ pair_of at) }
+fn pair(alloc: Global, body: Vec<Stmt>) -> Result<Func, Fail>
+    ensures { IfOk result (λ f. func_of f ≡ (let g : Function = record { first = 0; count = 3; params = Some 0 ∷ []; results = 0 ∷ 0 ∷ []; named = []; body = sts_of body.items } in g)) }
 {
     Ok(Func {
-        pos: at,
+        pos: AT,
         first_site: 0,
         sites: 3,
         params: vec![in alloc; Some(SiteId(0))]?,
         results: vec![in alloc; TypeId(0), TypeId(0)]?,
         named: Vec::new(alloc),
-        body: pair_body(alloc, at)?,
+        body,
     })
 }
 
-fn main(alloc: Global, at: Pos) -> Result<Func, Fail>
-    ensures { IfOk result (λ f. func_of f ≡ main_func) }
+fn main(alloc: Global, body: Vec<Stmt>) -> Func
+    ensures { func_of result ≡ (let g : Function = record { first = 3; count = 2; params = []; results = []; named = []; body = sts_of body.items } in g) }
 {
-    Ok(Func {
-        pos: at,
+    Func {
+        pos: AT,
         first_site: 3,
         sites: 2,
         params: Vec::new(alloc),
         results: Vec::new(alloc),
         named: Vec::new(alloc),
-        body: main_body(alloc)?,
-    })
+        body,
+    }
 }
 
-#[tactic(auto, using(crate::proofs::Sample::in_form))]
 fn program(alloc: Global, at: Pos) -> Result<Program, Fail>
-    ensures { IfOk result (λ p. IsInForm (program_of p)) }
-    ensures { IfOk result (λ p. p.main.0 ≡ 1) }
+    ensures form { IfOk result (λ p. IsInForm (program_of p)) }
+    ensures main { IfOk result (λ p. p.main.0 ≡ 1) }
 {
-    let funcs = vec![in alloc; pair(alloc, at)?, main(alloc, at)?]?;
+    let body = pair_body(alloc, at)?;
+    let first = pair(alloc, body)?;
+    let lines = main_body(alloc)?;
+    let second = main(alloc, lines);
+    let funcs = vec![in alloc; first, second]?;
     Ok(Program {
         funcs,
         main: FuncId(1),
