@@ -1,7 +1,7 @@
 -- What a run of the machine and the theorem give together.
 use Rattle.std.proofs.Common.{◌≡◌, ℕ, ◌/◌, List, [], ◌∷◌, ◌++◌, Option, Some, None, Bool, true, false, sym, refl, ap, ◌∙◌, subst, arith, append_assoc}
-use Rattle.std.specs.Prelude.{replicate, nat_le, if◌then◌else◌}
-use Rattle.outside.specs.Took.{Took}
+use Rattle.std.specs.Prelude.{replicate, nat_le, if◌then◌else◌, slice_get, Err}
+use Rattle.outside.specs.Took.{Took, TookPrefix}
 use Rattle.outside.proofs.Took.{Took-nothing}
 use Rattle.typed.specs.Syntax.{Program}
 use Rattle.meaning.specs.Trace.{Ending, Exit, Panic, Turns, StackLimit}
@@ -11,11 +11,13 @@ use Rattle.simulation.specs.Outcome.{Outcome, Gives, Ends, Unfinished, Below, ev
 use Rattle.simulation.specs.Steps.{Stops, events_of, many, shown_by}
 use Rattle.simulation.proofs.Whole.{shows, events_shown, ending_giving}
 use Rattle.isa.specs.Code.{Tables}
+use Rattle.isa.specs.declared.func.Func.{Func as Entry}
 use Rattle.machine.specs.Machine.{State, Does, Event, bytes_of, act}
 use Rattle.machine.specs.Answers.{Answers, printed_by, state_of}
 use Rattle.machine.specs.declared.place.Ending.{Ending as Stop}
-use Rattle.machine.specs.declared.place.Ending.TheVariants.{Exit as Stopped, WriteFault, StackLimit as Limit, WildReturn, WildLink}
-use Rattle.codegen.specs.Correct.{same_event, same_end, limits, target, first_state, Simulated, Ran, answer_to}
+use Rattle.machine.specs.declared.place.Ending.TheVariants.{Exit as Stopped, WriteFault, NoMemory, StackLimit as Limit, WildReturn, WildLink, WildAddress}
+use Rattle.codegen.specs.Correct.{same_event, same_end, limits, target, entered, first_state, Simulated, Ran, answer_to}
+use Rattle.codegen.specs.declared.running.RunFault.TheVariants as Fault
 
 some_same : {A : Type 0} (x y : A) → Some x ≡ Some y → x ≡ y
 some_same x y e = cc
@@ -92,6 +94,12 @@ place_is (StackLimit u k l) x a = a
 place_is Turns x a = a
 place_is (Panic at f) x a = a
 
+address_is : (e : Ending) (x : ℕ) → same_end e (WildAddress x) → ⊥
+address_is (Exit n) x a = a
+address_is (StackLimit u k l) x a = a
+address_is Turns x a = a
+address_is (Panic at f) x a = a
+
 link_is : (e : Ending) (x : ℕ) → same_end e (WildLink x) → ⊥
 link_is (Exit n) x a = a
 link_is (StackLimit u k l) x a = a
@@ -112,17 +120,23 @@ module _ (few many_turns : Outcome (List ℕ) Ending) (d : Does) (s : State) (ol
   whole : (e : Stop) → Met e (shown_by d) many_turns → Took old new (printed_by d) → Took old new (output many_turns)
   whole e m a = subst (λ x. Took old new x) (sym (m.all ∙ told)) a
 
+  -- a front of what is printed is one of what the source shows
+  widened : TookPrefix old new (printed_by d) → TookPrefix old new (output many_turns)
+  widened t =
+      let u = t.1 in
+      (t.0 ++ front.0, record { done = u.done; splits = sym (append_assoc u.done t.0 front.0) ∙ ap (λ l. l ++ front.0) u.splits ∙ front.1; took = u.took })
+
   ran : (e : Option Stop) → Answers d s e old new before now → Ran few many_turns (answer_to e) old new before now
   ran None a =
       let o = open_yet few (shown_by d) low (ap (λ (x : Does). ending_in (shown_by x)) a.0 ∙ ending_giving (events_of d) Unfinished) in
       (o.0, record { bytes = printed_by d; took = a.1; begins = (o.1.0, o.1.1 ∙ told); within = front })
-  ran (Some WriteFault) (t, rose) =
-      let u = t.1 in
-      ((t.0 ++ front.0, record { done = u.done; splits = sym (append_assoc u.done t.0 front.0) ∙ ap (λ l. l ++ front.0) u.splits ∙ front.1; took = u.took }), rose)
+  ran (Some WriteFault) (t, rose) = (widened t, rose)
+  ran (Some NoMemory) t = widened t
   ran (Some (Stopped n)) a = let m = ends (Stopped n) a.0 in (m.ended ∙ ap (λ x. Some x) (exit_is m.ending n m.alike), whole (Stopped n) m a.1)
   ran (Some (Limit u k l)) a = let m = ends (Limit u k l) a.0 in (m.ended ∙ ap (λ x. Some x) (limit_is m.ending u k l m.alike), whole (Limit u k l) m a.1)
   ran (Some (WildReturn x)) a = let m = ends (WildReturn x) a.0 in absurd (place_is m.ending x m.alike)
   ran (Some (WildLink x)) a = let m = ends (WildLink x) a.0 in absurd (link_is m.ending x m.alike)
+  ran (Some (WildAddress x)) a = let m = ends (WildAddress x) a.0 in absurd (address_is m.ending x m.alike)
 
 gated : (b : Bool) (x y : Outcome Event Stop) → b ≡ true → (if b then x else y) ≡ x
 gated true x y e = refl
@@ -132,26 +146,38 @@ shut : (b : Bool) (x y : Outcome Event Stop) → b ≡ false → (if b then x el
 shut false x y e = refl
 shut true x y e = absurd (let f : true ≡ false = e in cc)
 
-module _ (p : Program) (code : Tables) (frame : ℕ) (is : Simulated p code frame) (item : List ℕ → Answer) (input : List ℕ) (max steps : ℕ) where
-  few_below : Below same_event same_end (source item p (limits p max) input (steps / 16)) (target code frame max steps)
+module _ (p : Program) (code : Tables) (is : Simulated p code) (item : List ℕ → Answer) (input : List ℕ) (max steps : ℕ) (fn : Entry) (entry : slice_get code.funcs p.main ≡ Some fn) where
+  abbrev few : Outcome (List ℕ) Ending
+  few = source item p (limits p max) input (steps / 16)
+
+  abbrev turns : Outcome (List ℕ) Ending
+  turns = source item p (limits p max) input steps
+
+  few_below : Below same_event same_end few (target code p.main max steps)
   few_below = is.at_least item input max (steps / 16) steps (omega arith)
 
+  enters : target code p.main max steps ≡ entered code max (Some fn) steps
+  enters = ap (λ (f : Option Entry). entered code max f steps) entry
+
   -- of a block of words that is the first frame
-  pub composed : (block : List ℕ) (s : State) (e : Option Stop) (old new : Option (List ℕ)) (before now : ℕ) → nat_le frame max ≡ true → block ≡ replicate frame 0
-      → Answers (many (act code) steps (state_of block (record { pc = 0; base = 0 }))) s e old new before now
-      → Ran (source item p (limits p max) input (steps / 16)) (source item p (limits p max) input steps) (answer_to e) old new before now
+  pub composed : (block : List ℕ) (s : State) (e : Option Stop) (old new : Option (List ℕ)) (before now : ℕ) → nat_le fn.frame max ≡ true → block ≡ replicate fn.frame 0
+      → Answers (many (act code max) steps (state_of block (record { pc = fn.start; base = 0 }))) s e old new before now
+      → Ran few turns (answer_to e) old new before now
   composed block s e old new before now fits zeros a =
-      let d = many (act code) steps (first_state frame) in
-      let same : target code frame max steps ≡ shown_by d = gated (nat_le frame max) _ _ fits ∙ shows State Event Stop (act code) steps (first_state frame) in
-      ran (source item p (limits p max) input (steps / 16)) (source item p (limits p max) input steps) d s old new before now
-      (subst (λ o. Below same_event same_end (source item p (limits p max) input (steps / 16)) o) same few_below)
-      (subst (λ o. Within o (source item p (limits p max) input steps)) same (is.at_most item input max steps)) e
-      (subst (λ (ws : List ℕ). let s0 : State = record { pc = 0; words = ws } in Answers (many (act code) steps s0) s e old new before now) zeros a)
+      let d = many (act code max) steps (first_state fn) in
+      let same : target code p.main max steps ≡ shown_by d = enters ∙ gated (nat_le fn.frame max) _ _ fits ∙ shows State Event Stop (act code max) steps (first_state fn) in
+      ran few turns d s old new before now
+      (subst (λ o. Below same_event same_end few o) same few_below)
+      (subst (λ o. Within o turns) same (is.at_most item input max steps)) e
+      (subst (λ (ws : List ℕ). let s0 : State = record { pc = fn.start; words = ws } in Answers (many (act code max) steps s0) s e old new before now) zeros a)
 
   -- where the first frame passes the limit
-  pub refused : (old : Option (List ℕ)) (faults : ℕ) → nat_le frame max ≡ false
-      → Ran (source item p (limits p max) input (steps / 16)) (source item p (limits p max) input steps) (answer_to (Some (Limit 0 frame max))) old old faults faults
+  pub refused : (old : Option (List ℕ)) (faults : ℕ) → nat_le fn.frame max ≡ false → Ran few turns (answer_to (Some (Limit 0 fn.frame max))) old old faults faults
   refused old faults passes =
-      let same : target code frame max steps ≡ Ends (Limit 0 frame max) = shut (nat_le frame max) _ _ passes in
-      let m = met (Ends (Limit 0 frame max)) (source item p (limits p max) input steps) (Limit 0 frame max) (subst (λ o. Within o (source item p (limits p max) input steps)) same (is.at_most item input max steps)) refl in
-      (m.ended ∙ ap (λ x. Some x) (limit_is m.ending 0 frame max m.alike), subst (λ x. Took old old x) (sym m.all) (Took-nothing old))
+      let same : target code p.main max steps ≡ Ends (Limit 0 fn.frame max) = enters ∙ shut (nat_le fn.frame max) _ _ passes in
+      let m = met (Ends (Limit 0 fn.frame max)) turns (Limit 0 fn.frame max) (subst (λ o. Within o turns) same (is.at_most item input max steps)) refl in
+      (m.ended ∙ ap (λ x. Some x) (limit_is m.ending 0 fn.frame max m.alike), subst (λ x. Took old old x) (sym m.all) (Took-nothing old))
+
+  -- where there is no memory for the first frame
+  pub unready : (old : Option (List ℕ)) (faults : ℕ) → Ran few turns (Err Fault.NoMemory) old old faults faults
+  unready old faults = (output turns, record { done = []; splits = refl; took = Took-nothing old })

@@ -1,5 +1,5 @@
 -- The code of a program is a code.
-use Rattle.std.proofs.Common.{◌≡◌, ◌⊎◌, inl, inr, ℕ, zero, suc, ◌+◌, ◌-◌, ◌<◌, ◌≤◌, true, false, List, [], ◌∷◌, ◌++◌, length, replicate, Some, refl, sym, ap, ◌∙◌, subst, arith, length-append, append_assoc}
+use Rattle.std.proofs.Common.{◌≡◌, ◌⊎◌, inl, inr, ℕ, zero, suc, ◌+◌, ◌-◌, ◌<◌, ◌≤◌, true, false, List, [], ◌∷◌, ◌++◌, length, Some, refl, sym, ap, ◌∙◌, subst, arith, length-append, append_assoc}
 use Rattle.std.specs.Prelude.{Option, None, slice_get, ⊤}
 use Rattle.std.proofs.lemmas.Option.{slice_get_within}
 use Rattle.isa.specs.Code.{Tables, CanCall, Fits as FitsAt, FitsPlace, IsCode, IsLinked}
@@ -10,11 +10,11 @@ use Rattle.machine.specs.Inside.{Inside}
 use Rattle.typed.specs.declared.operators.UnOp.TheVariants as One
 use Rattle.typed.specs.Syntax.{Ex, Exs, Left, Piece, St, Sts, Func, Program, constant, read, unary, binary, call, local, here, none, more, results, blank, new, to, shown, assign, discard, block, choose, loop, give_back, print, done, next, arguments_in, results_in, argument_words, result_words, arguments_of, results_of}
 use Rattle.typed.specs.Form.{IsInForm}
-use Rattle.typed.specs.Frames.{frame_of, outgoing_of, temps_of}
+use Rattle.typed.specs.Frames.{frame_of}
 use Rattle.codegen.specs.Temps.{SiteFits, SitesFit, ParamsFitIn, LeftsFitIn, ValuesFit, CallFits, Fits, ExsFitIn, PiecesFitIn, StFitsIn, StsFitIn, FuncFitsIn}
-use Rattle.codegen.specs.Code.{Slots, temp, site_slot, operation, move_code, result_code, call_code, count_of, ex_code, exs_code, pieces_code, show_more, show_line, lefts_code, named_write_code, named_read_code, leave_code, leave_size, values_code, params_code, zeros_code, size, st_size, sts_size, st_code, sts_code, slots_of, entry_code, entry_size, func_code, func_size, entry_of, funcs_code, funcs_owners, funcs_entries, code_of}
-use Rattle.codegen.proofs.Sizes.{length_func, length_entry, length_sts}
-use Rattle.codegen.proofs.Stands.{same_some, start_of, some_size, length_owners, Stands, stands, Located, located, entered_from, exists}
+use Rattle.codegen.specs.Code.{Slots, temp, site_slot, operation, move_code, result_code, call_code, count_of, ex_code, exs_code, pieces_code, show_more, show_line, lefts_code, named_write_code, named_read_code, leave_code, values_code, params_code, zeros_code, size, st_size, sts_size, st_code, sts_code, slots_of, entry_code, entry_size, func_code, func_size, entry_of, funcs_code, funcs_owners, funcs_entries}
+use Rattle.codegen.proofs.Sizes.{length_func}
+use Rattle.codegen.proofs.Stands.{same_some, start_of, some_size, length_owners, stands, located, entered_from, exists}
 use Rattle.codegen.proofs.Suffice.{func_fits}
 
 -- an instruction of a function with so many slots and incoming words: its jumps lead to places of the function
@@ -233,8 +233,8 @@ module _ (fs : List Func) (fit : (f : ℕ) (func : Func) → slice_get fs f ≡ 
       let body = sts_code fs m func.named s func.body (pc + entry_size fs func) in let leave = leave_code s m func.named in
       let params = params_code s func.params 0 in let zeros = zeros_code s func.named in
       let entry = join fs s n fns m (result_words func) pc end can_call params zeros
-          (params_ok fs s n fns m (result_words func) pc end can_call func.params 0 ok.params (omega arith))
-          (zeros_ok fs s n fns m (result_words func) pc end can_call func.named ok.named) in
+      (params_ok fs s n fns m (result_words func) pc end can_call func.params 0 ok.params (omega arith))
+      (zeros_ok fs s n fns m (result_words func) pc end can_call func.named ok.named) in
       let inner = sts_ok fs s n fns m (result_words func) pc end can_call func.named ok.named ok.names func.body (pc + entry_size fs func) ok.body (omega arith) (omega arith) in
       let last = leave_ok fs s n fns m (result_words func) pc end can_call func.named ok.named ok.names in
       subst (λ k. All fns k (m + result_words func) pc end (func_code fs func pc)) slots
@@ -254,7 +254,7 @@ module _ (fs : List Func) (fit : (f : ℕ) (func : Func) → slice_get fs f ≡ 
       let st = stands fs fs 0 0 r.k r.func r.is in
       let z : 0 + start ≡ start = omega arith in
       let there : slice_get (func_code fs r.func start) r.p ≡ Some i =
-          ap (λ q. slice_get (func_code fs r.func q) r.p) (sym z) ∙ sym (st.code r.p r.within) ∙ ap (λ q. slice_get instrs q) (sym r.at) ∙ h in
+      ap (λ q. slice_get (func_code fs r.func q) r.p) (sym z) ∙ sym (st.code r.p r.within) ∙ ap (λ q. slice_get instrs q) (sym r.at) ∙ h in
       let s = slots_of fs r.func in
       let next = ends_so (entry_code fs r.func) (sts_code fs (argument_words r.func) r.func.named s r.func.body (start + entry_size fs r.func)) (named_read_code s r.func.named (argument_words r.func)) r.p i there in
       record {
@@ -283,10 +283,9 @@ module _ (fs : List Func) (fit : (f : ℕ) (func : Func) → slice_get fs f ≡ 
   pub is_code : IsCode (record { instrs = instrs; owners = owners; funcs = fns })
   is_code = record { same = length_owners fs fs 0 0; fits = fits_place; linked = linked }
 
--- the frame of a function lies inside so many words where it is entered
-  pub inside : (f : ℕ) (func : Func) (fn : Entry) → slice_get fs f ≡ Some func → slice_get fns f ≡ Some fn → Inside (record { instrs = instrs; owners = owners; funcs = fns }) fn.frame fn.start 0
-  inside f func fn is e =
-      record { f = f; fn = fn; owner = (linked f fn e).start; is = e; room = omega arith }
+-- the frame of a function lies inside its words where it is entered
+pub begins : (t : Tables) → IsCode t → (f : ℕ) (fn : Entry) → slice_get t.funcs f ≡ Some fn → Inside t fn.frame fn.start 0
+begins t is f fn e = record { f = f; fn = fn; owner = (is.linked f fn e).start; is = e; room = omega arith }
 
 pub all_fit : (p : Program) → IsInForm p → (f : ℕ) (func : Func) → slice_get p.funcs f ≡ Some func → FuncFitsIn p.funcs func
 all_fit p form f func is = func_fits p.funcs func form.few (form.fits f func is)

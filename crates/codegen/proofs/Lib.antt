@@ -1,6 +1,9 @@
 pub mod Compiled
 pub mod Sizes
 pub mod Suffice
+pub mod Stands
+pub mod IsCode
+pub mod Pieces
 pub mod Distances
 pub mod Frames
 pub mod Changes
@@ -17,7 +20,6 @@ pub mod StatementsFollow
 pub mod EntriesFollow
 pub mod Follows
 pub mod Emitted
-pub mod IsCode
-pub mod Whole
 pub mod Composed
+pub mod Whole
 pub mod Sample

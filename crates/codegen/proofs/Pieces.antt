@@ -1,6 +1,5 @@
 -- Expressions side by side, as values and as the operands of a line.
-use Rattle.std.proofs.Common.{◌≡◌, ℕ, suc, ◌+◌, ◌<◌, List, [], ◌∷◌, ◌++◌, length, map, refl, ap, ◌∙◌, arith}
-use Rattle.std.proofs.lemmas.List.{length-map}
+use Rattle.std.proofs.Common.{◌≡◌, ℕ, ◌+◌, ◌<◌, ◌≤◌, List, [], ◌∷◌, ◌++◌, length, map, refl, ap, arith}
 use Rattle.base.specs.declared.ids.SiteId.{SiteId}
 use Rattle.typed.specs.declared.expr.Expr.{Expr}
 use Rattle.typed.specs.Syntax.{Func}
@@ -37,3 +36,11 @@ shown_twice fs (e ∷ es) l = omega (arith, more_twice fs es)
 pub named_twice : (sites : List SiteId) → named_read_size (map (λ site. site.0) sites) ≡ length sites + length sites
 named_twice [] = refl
 named_twice (site ∷ sites) = omega (arith, named_twice sites)
+
+-- the operands of a line have temps
+above : (fs : List Func) (s : Slots) (n : ℕ) (es : List Expr) (h : ℕ) → h ≤ s.temps → PiecesFitIn fs s n h (pieces_of es) → h + length es ≤ s.temps
+above fs s n [] h l f = omega arith
+above fs s n (e ∷ es) h l f = let a = above fs s n es (h + 1) (let k = f.0 in omega arith) f.2 in omega (arith, a)
+
+pub temps : (fs : List Func) (s : Slots) (n : ℕ) (es : List Expr) → PiecesFitIn fs s n 0 (pieces_of es) → length es ≤ s.temps
+temps fs s n es f = let a = above fs s n es 0 (omega arith) f in omega (arith, a)

@@ -1,14 +1,13 @@
 -- Where a program's functions stand in the tables.
-use Rattle.std.proofs.Common.{◌≡◌, ◌⊎◌, inl, inr, ℕ, zero, suc, ◌+◌, ◌<◌, ◌≤◌, List, [], ◌∷◌, ◌++◌, length, replicate, Some, refl, sym, ap, ◌∙◌, subst, arith, length-append}
+use Rattle.std.proofs.Common.{◌≡◌, ◌⊎◌, inl, inr, ℕ, zero, suc, ◌+◌, ◌<◌, List, [], ◌∷◌, ◌++◌, length, replicate, Some, refl, ap, ◌∙◌, subst, arith, length-append}
 use Rattle.std.specs.Prelude.{slice_get, None}
 use Rattle.std.proofs.lemmas.List.{length-replicate}
-use Rattle.std.proofs.lemmas.Option.{slice_get_within}
 use Rattle.isa.specs.declared.func.Func.{Func as Entry}
 use Rattle.isa.specs.declared.instr.Instr.{Instr}
 use Rattle.typed.specs.Syntax.{Func, Program}
-use Rattle.codegen.specs.Code.{entry_size, leave_size, named_read_size, sts_size, func_code, func_size, entry_of, funcs_code, funcs_owners, funcs_entries, code_of}
+use Rattle.codegen.specs.Code.{func_code, func_size, entry_of, funcs_code, funcs_owners, funcs_entries, code_of}
 use Rattle.codegen.proofs.Sizes.{length_func}
-use Rattle.codegen.proofs.Compiled.{HasAt, Placed, Compiled}
+use Rattle.codegen.proofs.Compiled.{HasAt, Compiled}
 
 -- an item of two lists, one behind the other
 pub front_get : {X : Type 0} (a b : List X) (p : ℕ) → p < length a → slice_get (a ++ b) p ≡ slice_get a p

@@ -4,7 +4,7 @@ use Rattle.std.specs.Prelude.{Option, None, slice_get}
 use Rattle.std.proofs.lemmas.Option.{slice_get_within}
 use Rattle.typed.specs.Value.{int, bool}
 use Rattle.typed.specs.Syntax.{Ex, Exs, Left, Piece, St, Sts, Func, constant, read, unary, binary, call, local, here, none, more, results, blank, new, to, shown, assign, discard, block, choose, loop, give_back, print, done, next, arguments_in, results_in, argument_words, result_words, arguments_of, results_of}
-use Rattle.typed.specs.Form.{InScope, new_sites, births, births_all, scope_behind, scope_after, LeftsFit, values_of, ExFits, ExsFit, TestFits, PiecesFit, ReturnFits, StFits, StsFit, ParamsFit, NamedFit, named_params, params_scope, named_scope, scope_in, body_first, FuncFits}
+use Rattle.typed.specs.Form.{InScope, births, births_all, scope_behind, scope_after, LeftsFit, values_of, ExFits, ExsFit, TestFits, PiecesFit, ReturnFits, StFits, StsFit, ParamsFit, NamedFit, named_params, params_scope, named_scope, scope_in, body_first, FuncFits}
 use Rattle.typed.specs.Frames.{need, need_all, need_pieces, reach, reach_all, reach_pieces, st_need, sts_need, st_reach, sts_reach}
 use Rattle.codegen.specs.Code.{Slots, count_of, slots_of}
 use Rattle.codegen.specs.Temps.{SiteFits, SitesFit, ParamsFitIn, LeftsFitIn, ValuesFit, CallFits, Fits, ExsFitIn, PiecesFitIn, StFitsIn, StsFitIn, FuncFitsIn}

@@ -1,56 +1,143 @@
--- What the code of a program is and does.
-use Rattle.std.proofs.Common.{◌≡◌, ℕ, ◌+◌, List, [], ◌∷◌, length, replicate, ap, sym, subst, ◌∙◌, arith}
-use Rattle.std.proofs.lemmas.List.{length-map}
+-- The code of a program, put together function by function.
+use Rattle.std.proofs.Common.{◌≡◌, ℕ, zero, suc, ◌+◌, ◌-◌, ◌<◌, ◌≤◌, List, [], ◌∷◌, ◌++◌, length, get_or, drop, map, replicate, Some, refl, sym, ap, ◌∙◌, subst, arith, length-append, append_assoc}
+use Rattle.std.specs.Prelude.{slice_get, slice_index_or, option_map}
+use Rattle.std.proofs.Math.Seq.{drop-cons}
+use Rattle.std.proofs.lemmas.List.{append-nil}
+use Rattle.std.proofs.lemmas.Option.{slice_get_read, slice_get-map, slice_get_within, get_or_from_slice_get}
 use Rattle.isa.specs.Code.{Tables, IsCode}
-use Rattle.machine.specs.Inside.{Inside}
+use Rattle.isa.specs.declared.func.Func.{Func as Entry}
 use Rattle.isa.specs.declared.instr.Instr.{Instr}
-use Rattle.isa.specs.declared.func.Func.{Func}
+use Rattle.typed.specs.declared.program.Func.{Func as FuncData}
 use Rattle.typed.specs.declared.program.Program.{Program as ProgramData}
-use Rattle.typed.specs.View.{sts_of, program_of}
-use Rattle.typed.specs.Value.{Value}
-use Rattle.typed.specs.Syntax.{Sts, Program, program}
+use Rattle.typed.specs.Syntax.{Func, Program, argument_words}
+use Rattle.typed.specs.View.{func_of, program_of}
 use Rattle.typed.specs.Form.{IsInForm}
-use Rattle.typed.specs.Frames.{temps_of, frame_of}
-use Rattle.codegen.specs.Temps.{StsFitIn}
-use Rattle.codegen.specs.Code.{code_of, body_code, tables, first_func}
-use Rattle.codegen.specs.Correct.{Simulated}
-use Rattle.codegen.proofs.Suffice.{sts_fit}
-use Rattle.codegen.proofs.Follows.{simulated}
+use Rattle.frame_layout.specs.declared.layout.FrameLayout.{FrameLayout}
+use Rattle.frame_layout.specs.Layout.{layout_in, layouts}
+use Rattle.codegen.specs.Temps.{FuncFitsIn}
+use Rattle.codegen.specs.Code.{Slots, slots_of, params_code, zeros_code, sts_code, leave_code, entry_size, func_code, func_size, entry_of, funcs_code, funcs_owners, funcs_entries, code_of}
+use Rattle.codegen.proofs.Sizes.{length_entry, length_func}
 use Rattle.codegen.proofs.IsCode as Tables
+use Rattle.codegen.proofs.IsCode.{all_fit}
 
--- the tables as they are built
-pub built : (p : ProgramData) (frame temps : ℕ) (instrs : List Instr) (owners : List ℕ) (funcs : List Func) → frame ≡ frame_of (program_of p) → temps ≡ temps_of (program_of p)
-    → instrs ≡ body_code temps (sts_of p.main.body.items) → owners ≡ replicate (length instrs) 0 → funcs ≡ first_func frame ∷ []
-    → (let r : Tables = record { instrs = instrs; owners = owners; funcs = funcs } in r) ≡ code_of (program_of p)
-built p frame temps instrs owners funcs same_frame same_temps i o f =
-    let body = sts_of p.main.body.items in
-    Tables.tables_are frame (body_code temps body) instrs owners funcs i o f
-    ∙ ap (λ (n : ℕ). tables n (body_code temps body)) same_frame
-    ∙ ap (λ (t : ℕ). tables (frame_of (program_of p)) (body_code t body)) same_temps
+-- a function's parts, one behind the other
+pub func_emitted : (fs : List Func) (f : Func) (s : Slots) (old c1 c2 c3 c4 : List Instr) → s ≡ slots_of fs f → c1 ≡ old ++ params_code s f.params 0 → c2 ≡ c1 ++ zeros_code s f.named
+    → c3 ≡ c2 ++ sts_code fs (argument_words f) f.named s f.body (length c2) → c4 ≡ c3 ++ leave_code s (argument_words f) f.named → c4 ≡ old ++ func_code fs f (length old)
+func_emitted fs f s old c1 c2 c3 c4 same e1 e2 e3 e4 =
+    let m = argument_words f in
+    let params = params_code s f.params 0 in let zeros = zeros_code s f.named in let leave = leave_code s m f.named in
+    let here = length old + entry_size fs f in
+    let body = sts_code fs m f.named s f.body here in
+    let f2 : c2 ≡ old ++ (params ++ zeros) = e2 ∙ ap (λ c. c ++ zeros) e1 ∙ append_assoc old params zeros in
+    let entry : length (params ++ zeros) ≡ entry_size fs f = ap (λ (x : Slots). length (params_code x f.params 0 ++ zeros_code x f.named)) same ∙ length_entry fs f in
+    let n : length c2 ≡ here = ap length f2 ∙ omega (arith, length-append old (params ++ zeros), entry) in
+    let f3 : c3 ≡ c2 ++ body = e3 ∙ ap (λ p. c2 ++ sts_code fs m f.named s f.body p) n in
+    let all : c4 ≡ old ++ ((params ++ zeros) ++ (body ++ leave)) =
+    e4 ∙ ap (λ c. c ++ leave) (f3 ∙ ap (λ c. c ++ body) f2)
+    ∙ append_assoc (old ++ (params ++ zeros)) body leave
+    ∙ append_assoc old (params ++ zeros) (body ++ leave) in
+    all ∙ ap (λ (x : Slots). old ++ ((params_code x f.params 0 ++ zeros_code x f.named) ++ (sts_code fs m f.named x f.body here ++ leave_code x m f.named))) same
 
--- the frame that is counted in the data
-pub frame_is : (p : ProgramData) (temps sites : ℕ) → temps ≡ temps_of (program_of p) → sites ≡ length p.sites.items → 2 + sites + temps ≡ frame_of (program_of p)
-frame_is p temps sites t s = omega (arith, length-map {B = ℕ} p.sites.items (λ site. 0))
+split : (gs : List FuncData) (i : ℕ) (g : FuncData) → i < length gs → g ≡ get_or gs i g → map func_of (drop i gs) ≡ func_of g ∷ map func_of (drop (i + 1) gs)
+split gs i g l is =
+    let one : suc i ≡ i + 1 = omega arith in
+    ap (map func_of) (drop-cons gs i g l) ∙ ap (λ (y : FuncData). func_of y ∷ map func_of (drop (suc i) gs)) (sym is) ∙ ap (λ j. func_of g ∷ map func_of (drop j gs)) one
 
--- the slots of a program suffice
-pub suffices : (p : ProgramData) (sites temps : ℕ) → IsInForm (program_of p) → temps ≡ temps_of (program_of p) → sites ≡ length p.sites.items → StsFitIn sites temps (sts_of p.main.body.items)
-suffices p sites temps fit t s =
-    let n = length (program_of p).sites in
-    let same : n ≡ sites = length-map {B = ℕ} p.sites.items (λ site. 0) ∙ sym s in
-    subst (λ k. StsFitIn k temps (sts_of p.main.body.items)) same (sts_fit n temps 0 [] (sts_of p.main.body.items) (λ v i. absurd i) fit.body (omega (arith, t)))
+module _ (fs : List Func) (gs : List FuncData) (i : ℕ) (g : FuncData) (l : i < length gs) (is : g ≡ get_or gs i g) where
+  abbrev now : List Func
+  now = map func_of (drop i gs)
 
-module _ (zeros : List Value) (sites : List ℕ) (body : Sts) (fit : IsInForm (program zeros sites body)) where
-  abbrev p : Program
-  p = program zeros sites body
+  abbrev rest : List Func
+  rest = map func_of (drop (i + 1) gs)
 
-  fits : StsFitIn (length sites) (temps_of p) body
-  fits = sts_fit (length sites) (temps_of p) 0 [] body (λ v i. absurd i) fit.body (omega arith)
+  pub longer : (code more : List Instr) → more ≡ code ++ func_code fs (func_of g) (length code) → length code + func_size fs (func_of g) ≡ length more
+  longer code more e = omega (arith, length-append code (func_code fs (func_of g) (length code)), length_func fs (func_of g) (length code), ap length e)
 
-  pub is_code : IsCode (code_of p)
-  is_code = Tables.is_code (length sites) (temps_of p) body fits
+  pub code_next : (whole code more : List Instr) → whole ≡ code ++ funcs_code fs now (length code) → more ≡ code ++ func_code fs (func_of g) (length code) → whole ≡ more ++ funcs_code fs rest (length more)
+  code_next whole code more e1 e2 =
+      let c = func_code fs (func_of g) (length code) in
+      e1 ∙ ap (λ y. code ++ funcs_code fs y (length code)) (split gs i g l is)
+      ∙ sym (append_assoc code c (funcs_code fs rest (length code + func_size fs (func_of g))))
+      ∙ ap (λ p. (code ++ c) ++ funcs_code fs rest p) (longer code more e2)
+      ∙ ap (λ x. x ++ funcs_code fs rest (length more)) (sym e2)
 
-  pub starts : Inside (code_of p) (frame_of p) 0 0
-  starts = Tables.inside (length sites) (temps_of p) body fits
+  pub owners_next : (whole code more : List ℕ) (number after : ℕ) → whole ≡ code ++ funcs_owners fs now number → more ≡ code ++ replicate (func_size fs (func_of g)) number → after ≡ number + 1 → whole ≡ more ++ funcs_owners fs rest after
+  owners_next whole code more number after e1 e2 e3 =
+      let c : List ℕ = replicate (func_size fs (func_of g)) number in
+      e1 ∙ ap (λ y. code ++ funcs_owners fs y number) (split gs i g l is)
+      ∙ sym (append_assoc code c (funcs_owners fs rest (number + 1)))
+      ∙ ap (λ p. (code ++ c) ++ funcs_owners fs rest p) (sym e3)
+      ∙ ap (λ x. x ++ funcs_owners fs rest after) (sym e2)
 
-  pub simulates : Simulated p (code_of p) (frame_of p)
-  simulates = simulated zeros sites body (code_of p) (Tables.compiled (length sites) (temps_of p) body fits) fit.body
+  pub entries_next : (whole code more : List Entry) (pc after : ℕ) → whole ≡ code ++ funcs_entries fs now pc → more ≡ code ++ entry_of fs (func_of g) pc ∷ [] → pc + func_size fs (func_of g) ≡ after → whole ≡ more ++ funcs_entries fs rest after
+  entries_next whole code more pc after e1 e2 e3 =
+      let c : List Entry = entry_of fs (func_of g) pc ∷ [] in
+      e1 ∙ ap (λ y. code ++ funcs_entries fs y pc) (split gs i g l is)
+      ∙ sym (append_assoc code c (funcs_entries fs rest (pc + func_size fs (func_of g))))
+      ∙ ap (λ p. (code ++ c) ++ funcs_entries fs rest p) e3
+      ∙ ap (λ x. x ++ funcs_entries fs rest after) (sym e2)
+
+-- a function by its number
+pub there : (gs : List FuncData) (i : ℕ) (g : FuncData) → i < length gs → g ≡ get_or gs i g → slice_get (map func_of gs) i ≡ Some (func_of g)
+there gs i g l is = slice_get-map func_of gs i ∙ ap (option_map func_of) (slice_get_read gs (length gs) i g refl l is)
+
+module _ (p : ProgramData) (gs : List FuncData) (same : gs ≡ p.funcs.items) (i : ℕ) (g : FuncData) (l : i < length gs) (is : g ≡ get_or gs i g) where
+  pub fits : IsInForm (program_of p) → FuncFitsIn (map func_of gs) (func_of g)
+  fits form =
+      let at : slice_get (map func_of p.funcs.items) i ≡ Some (func_of g) = subst (λ hs. slice_get (map func_of hs) i ≡ Some (func_of g)) same (there gs i g l is) in
+      subst (λ hs. FuncFitsIn (map func_of hs) (func_of g)) (sym same) (all_fit (program_of p) form i (func_of g) at)
+
+  pub layout_at : (frames : List FrameLayout) (number : ℕ) (d : FrameLayout) → frames ≡ layouts (program_of p) → number ≡ i → slice_index_or frames number d ≡ layout_in (map func_of gs) (func_of g)
+  layout_at frames number d laid n =
+      let fs = map func_of gs in
+      let all : frames ≡ map (layout_in fs) fs = laid ∙ ap (λ hs. map (layout_in (map func_of hs)) (map func_of hs)) (sym same) in
+      get_or_from_slice_get frames number (layout_in fs (func_of g)) d
+      (ap (slice_get frames) n ∙ ap (λ (x : List FrameLayout). slice_get x i) all ∙ slice_get-map (layout_in fs) fs i ∙ ap (option_map (layout_in fs)) (there gs i g l is))
+
+pub length_entries : (fs gs : List Func) (pc : ℕ) → length (funcs_entries fs gs pc) ≡ length gs
+length_entries fs [] pc = refl
+length_entries fs (g ∷ gs) pc = ap suc (length_entries fs gs (pc + func_size fs g))
+
+pub main_there : (p : Program) → IsInForm p → p.main < length (code_of p).funcs
+main_there p form =
+    let l : p.main < length p.funcs = slice_get_within p.funcs p.main form.main.0 form.main.1 in
+    omega (arith, l, length_entries p.funcs p.funcs 0)
+
+-- one place less belongs to the function
+pub own_next : (whole owners more : List ℕ) (left number : ℕ) → 0 < left → whole ≡ owners ++ replicate left number → more ≡ owners ++ number ∷ [] → whole ≡ more ++ replicate (left - 1) number
+own_next whole owners more zero number l e1 e2 = absurd (omega (arith, l))
+own_next whole owners more (suc left) number l e1 e2 =
+    let n : left ≡ suc left - 1 = omega arith in
+    e1 ∙ sym (append_assoc owners (number ∷ []) (replicate left number)) ∙ ap (λ k. (owners ++ number ∷ []) ++ replicate k number) n ∙ ap (λ x. x ++ replicate (suc left - 1) number) (sym e2)
+
+-- tables by their parts
+tables_are : (p : Program) (instrs : List Instr) (owners : List ℕ) (funcs : List Entry) → instrs ≡ funcs_code p.funcs p.funcs 0 → owners ≡ funcs_owners p.funcs p.funcs 0 → funcs ≡ funcs_entries p.funcs p.funcs 0
+    → (let r : Tables = record { instrs = instrs; owners = owners; funcs = funcs } in r) ≡ code_of p
+tables_are p instrs owners funcs a b c =
+    ap (λ (f : List Entry). let r : Tables = record { instrs = instrs; owners = owners; funcs = f } in r) c
+    ∙ ap (λ (o : List ℕ). let r : Tables = record { instrs = instrs; owners = o; funcs = funcs_entries p.funcs p.funcs 0 } in r) b
+    ∙ ap (λ (i : List Instr). let r : Tables = record { instrs = i; owners = funcs_owners p.funcs p.funcs 0; funcs = funcs_entries p.funcs p.funcs 0 } in r) a
+
+past : (gs : List FuncData) (i : ℕ) → length gs ≤ i → drop i gs ≡ []
+past [] zero l = refl
+past [] (suc i) l = refl
+past (g ∷ gs) zero l = absurd (omega arith)
+past (g ∷ gs) (suc i) l = past gs i (omega arith)
+
+-- behind the last function the tables are the program's
+pub finished : (p : ProgramData) (gs : List FuncData) (i number : ℕ) (instrs : List Instr) (owners : List ℕ) (entries : List Entry) → gs ≡ p.funcs.items → length gs ≤ i
+    → funcs_code (map func_of gs) (map func_of gs) 0 ≡ instrs ++ funcs_code (map func_of gs) (map func_of (drop i gs)) (length instrs)
+    → funcs_owners (map func_of gs) (map func_of gs) 0 ≡ owners ++ funcs_owners (map func_of gs) (map func_of (drop i gs)) number
+    → funcs_entries (map func_of gs) (map func_of gs) 0 ≡ entries ++ funcs_entries (map func_of gs) (map func_of (drop i gs)) (length instrs)
+    → (let r : Tables = record { instrs = instrs; owners = owners; funcs = entries } in r) ≡ code_of (program_of p)
+finished p gs i number instrs owners entries same l a b c =
+    let fs = map func_of gs in
+    let none : map func_of (drop i gs) ≡ [] = ap (map func_of) (past gs i l) in
+    let all : fs ≡ map func_of p.funcs.items = ap (map func_of) same in
+    let x : instrs ≡ funcs_code fs fs 0 = sym (a ∙ ap (λ hs. instrs ++ funcs_code fs hs (length instrs)) none ∙ append-nil instrs) in
+    let y : owners ≡ funcs_owners fs fs 0 = sym (b ∙ ap (λ hs. owners ++ funcs_owners fs hs number) none ∙ append-nil owners) in
+    let z : entries ≡ funcs_entries fs fs 0 = sym (c ∙ ap (λ hs. entries ++ funcs_entries fs hs (length instrs)) none ∙ append-nil entries) in
+    tables_are (program_of p) instrs owners entries (x ∙ ap (λ hs. funcs_code hs hs 0) all) (y ∙ ap (λ hs. funcs_owners hs hs 0) all) (z ∙ ap (λ hs. funcs_entries hs hs 0) all)
+
+pub is_code : (p : Program) → IsInForm p → IsCode (code_of p)
+is_code p form = Tables.is_code p.funcs (all_fit p form)

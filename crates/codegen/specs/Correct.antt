@@ -1,5 +1,5 @@
 -- What the code of a program does, against what the program means.
-use Rattle.std.specs.Prelude.{◌≡◌, ℕ, ◌*◌, ◌≤◌, List, [], ◌++◌, replicate, slice_get, Option, Some, None, Result, Ok, Err, nat_le, if◌then◌else◌}
+use Rattle.std.specs.Prelude.{◌≡◌, ℕ, ◌*◌, ◌≤◌, List, ◌++◌, replicate, slice_get, Option, Some, None, Result, Ok, Err, nat_le, if◌then◌else◌}
 use Rattle.outside.specs.Causes.{Rose}
 use Rattle.outside.specs.Took.{Took, TookPrefix}
 use Rattle.typed.specs.Syntax.{Program}

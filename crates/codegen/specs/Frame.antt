@@ -1,5 +1,5 @@
 -- A frame as data.
-use Rattle.std.specs.Prelude.{ℕ, ◌+◌, ◌≤◌, length}
+use Rattle.std.specs.Prelude.{◌+◌, ◌≤◌, length}
 use Rattle.typed.specs.Syntax.{Func, argument_words, result_words}
 use Rattle.codegen.specs.Code.{Slots}
 use Rattle.codegen.specs.Temps.{SitesFit}

@@ -1,16 +1,19 @@
 //! The code of typed programs, and that it does what they mean.
 //!
-//! The code of a program is a definition, `code_of`, by recursion on the abstract syntax: each expression's value lands
-//! in a temp, its operands in the temps from there on, each variable has a slot of its own above the temps. `emit` gives
+//! The code of a program is a definition, `code_of`, by recursion on the abstract syntax: the functions one behind the
+//! other, each with the moves of its arguments, its body and its return. Each expression's value lands in a temp, its
+//! operands in the temps from there on, and each variable has a slot of its own above the temps. A call's arguments are
+//! worked out in temps, since further calls may be among them, and then moved to the outgoing area, the frame's lowest
+//! words, from where the callee takes them and behind which it leaves its results; these are moved to temps. `emit` gives
 //! just this code, and whatever is said of it is said of the definition.
 //!
-//! The theorem is `Simulated`: for every input and every budget of n turns, what the program means within n turns is
-//! what the machine does within 16 * n instructions, or the machine is further; and what the machine does within n
-//! instructions is what the program means within n turns, or the program is further. So neither side ever shows
-//! anything that the other wouldn't show, and both end alike. It is proved by one lemma for each form of syntax, each of
-//! which says of what goes on behind the form that it follows, and concludes it of the form and what goes on behind.
-//! What such a lemma needs of the stack is that each variable's value stands in its slot, which is named by its
-//! distance from the stack's upper end.
+//! The theorem is `Simulated`: for every input, every limit of the stack and every budget of n turns, what the program
+//! means within n turns is what the machine does within 16 * n instructions, or the machine is further; and what the
+//! machine does within n instructions is what the program means within n turns, or the program is further. So neither
+//! side ever shows anything that the other wouldn't show, and both end alike, at the same call where the stack's limit is
+//! met. It is proved by one lemma for each form of syntax, each of which says of what goes on behind the form that it
+//! follows, and concludes it of the form and what goes on behind. What such a lemma needs of the stack is that each
+//! variable's value stands in its slot, which is named by its distance from the stack's upper end.
 //!
 //! A jump goes to a place that is known before the jump is emitted: the lengths of what it passes over are counted
 //! first, so nothing is patched afterwards. A loop's lemma is an induction on the fuel of the meaning, with the lemma of
@@ -24,11 +27,13 @@
 
 mod emitting;
 mod lengths;
+mod program;
+mod returning;
 mod running;
 mod slots;
 #[cfg(test)]
 mod tests;
 mod values;
 
-pub use emitting::emit;
+pub use program::emit;
 pub use running::{RunFault, run};

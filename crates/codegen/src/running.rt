@@ -1,11 +1,12 @@
 //! Runs of a code to its end.
-ghost use Rattle.std.specs.Prelude.{◌≡◌, ◌/◌, ◌<◌, ◌^◌, ℕ, List, length};
+ghost use Rattle.std.specs.Prelude.{◌≡◌, ◌/◌, ◌<◌, ◌≤◌, ◌^◌, ℕ, List, length, slice_get, Some};
 ghost use Rattle.machine.specs.Inside.{Inside};
 ghost use Rattle.typed.specs.Syntax.{Program};
 ghost use Rattle.meaning.specs.Meaning.{Answer};
 ghost use Rattle.meaning.specs.Output.{source};
 ghost use Rattle.codegen.specs.Correct.{Simulated, Ran, answer_to, limits};
 
+use base::FuncId;
 use isa::Code;
 use machine::{Ending, Place};
 use outside::Sink;
@@ -15,7 +16,7 @@ use thiserror::Error;
 /// Why a program's run did not come to its end.
 #[derive(Clone, Copy, Debug, PartialEq, Eq, Error)]
 pub enum RunFault {
-    /// Memory for the first frame was refused. Nothing was written.
+    /// Memory for a frame was refused. What was written is a beginning of the program's output.
     #[error("no memory")]
     NoMemory,
     /// The sink failed, and took a part of the output.
@@ -47,33 +48,48 @@ fn answer(ending: Option<Ending>) -> Result<u8, RunFault>
         None => Err(RunFault::Steps),
         Some(Ending::Exit(status)) => Ok(status),
         Some(Ending::WriteFault) => Err(RunFault::WriteFault),
+        Some(Ending::NoMemory) => Err(RunFault::NoMemory),
         Some(Ending::StackLimit { used, asked, limit }) => Err(RunFault::StackLimit {
             used,
             asked,
             limit,
         }),
+        Some(Ending::WildAddress(_)) => Err(RunFault::Steps),
         Some(Ending::WildReturn(_)) => Err(RunFault::Steps),
         Some(Ending::WildLink(_)) => Err(RunFault::Steps),
     }
 }
 
-/// Runs the code of a program from its first frame of so many words, for at most so many steps and with a stack of at
-/// most so many words. The answer is the status that the program ended with.
+// The function by which a run begins: its frame and its first place lie inside the code.
+fn entry(code: &Code, main: FuncId) -> isa::Func
+    requires main { main.0 < length code.now.funcs }
+    ensures is { slice_get code.now.funcs main.0 ≡ Some result }
+    ensures inside { Inside code.now result.frame result.start 0 }
+{
+    // Its instructions say that a code is well formed.
+    let _ = code.instrs();
+    code.funcs()[main.0 as usize]
+}
+
+/// Runs the code of a program from the entry of its function `main`, for at most so many steps and with a stack of at most
+/// so many words. The answer is the status that the program ended with.
 pub fn run<O: Sink>(
     alloc: Global,
     code: &Code,
-    frame: u16,
+    main: FuncId,
     stack_max: u64,
     steps: u64,
     out: &mut O,
 ) -> Result<u8, RunFault>
-    requires inside { Inside code.now frame 0 0 }
+    requires main { main.0 < length code.now.funcs }
+    requires stack { stack_max ≤ 2 ^ 32 }
     requires small { length code.now.instrs < 2 ^ 40 }
-    ensures runs { (p : Program) → Simulated p code.now frame → (item : List ℕ → Answer) (input : List ℕ)
+    ensures runs { (p : Program) → p.main ≡ main.0 → Simulated p code.now → (item : List ℕ → Answer) (input : List ℕ)
         → Ran (source item p (limits p stack_max) input (steps / 16)) (source item p (limits p stack_max) input steps) result
         (O.taken out.old) (O.taken out.new) (O.faults out.old) (O.faults out.new) }
 {
-    let asked = frame as u64;
+    let first = entry(code, main);
+    let asked = first.frame as u64;
     if asked > stack_max {
         return Err(RunFault::StackLimit {
             used: 0,
@@ -81,7 +97,11 @@ pub fn run<O: Sink>(
             limit: stack_max,
         });
     }
-    let mut words = vec![in alloc; 0; frame as usize]?;
-    let next = machine::run(code, &mut words, Place { pc: 0, base: 0 }, out, steps);
+    let mut words = vec![in alloc; 0; first.frame as usize]?;
+    let at = Place {
+        pc: first.start as usize,
+        base: 0,
+    };
+    let next = machine::run(alloc, code, &mut words, stack_max, at, out, steps);
     answer(next.ending)
 }

@@ -64,7 +64,13 @@ fn emit_move(code: &mut Vec<Instr>, n: u16, a: u16, b: u16) -> Result<(), NoMemo
 }
 
 // A call whose arguments are in temps from h on; its results land there.
-fn emit_call(code: &mut Vec<Instr>, funcs: &[Func], frame: Frame, f: FuncId, h: u16) -> Result<(), NoMemory>
+fn emit_call(
+    code: &mut Vec<Instr>,
+    funcs: &[Func],
+    frame: Frame,
+    f: FuncId,
+    h: u16,
+) -> Result<(), NoMemory>
     requires fits { CallFits (map func_of funcs.now) (slots_in frame) frame.sites h f.0 }
     requires frame { IsSmall frame }
     ensures { OnOk result (code.new.items ≡ code.old.items ++ call_code (map func_of funcs.now) (slots_in frame) f.0 h) }
@@ -80,7 +86,13 @@ fn emit_call(code: &mut Vec<Instr>, funcs: &[Func], frame: Frame, f: FuncId, h: 
 
 /// The value lands in temp h.
 #[cycle(values)]
-pub fn emit_expr(code: &mut Vec<Instr>, funcs: &[Func], frame: Frame, e: &Expr, h: u16) -> Result<(), NoMemory>
+pub fn emit_expr(
+    code: &mut Vec<Instr>,
+    funcs: &[Func],
+    frame: Frame,
+    e: &Expr,
+    h: u16,
+) -> Result<(), NoMemory>
     requires fits { Fits (map func_of funcs.now) (slots_in frame) frame.sites h (ex_of e.now) }
     requires frame { IsSmall frame }
     ensures { OnOk result (code.new.items ≡ code.old.items ++ ex_code (map func_of funcs.now) (slots_in frame) (ex_of e.now) h) }
@@ -119,7 +131,13 @@ pub fn emit_expr(code: &mut Vec<Instr>, funcs: &[Func], frame: Frame, e: &Expr, 
 /// The values land in temps from h on.
 #[cycle(values)]
 #[tactic(auto, using(typed::proofs::Rows::expr_rows))]
-pub fn emit_values(code: &mut Vec<Instr>, funcs: &[Func], frame: Frame, values: &Values, h: u16) -> Result<(), NoMemory>
+pub fn emit_values(
+    code: &mut Vec<Instr>,
+    funcs: &[Func],
+    frame: Frame,
+    values: &Values,
+    h: u16,
+) -> Result<(), NoMemory>
     requires fits { ExsFitIn (map func_of funcs.now) (slots_in frame) frame.sites h (exs_of_values values.now) }
     requires frame { IsSmall frame }
     ensures { OnOk result (code.new.items ≡ code.old.items ++ exs_code (map func_of funcs.now) (slots_in frame) (exs_of_values values.now) h) }
@@ -137,7 +155,13 @@ pub fn emit_values(code: &mut Vec<Instr>, funcs: &[Func], frame: Frame, values: 
 
 /// The values of expressions land in temps from h on.
 #[cycle(values)]
-pub fn emit_row(code: &mut Vec<Instr>, funcs: &[Func], frame: Frame, es: &[Expr], h: u16) -> Result<(), NoMemory>
+pub fn emit_row(
+    code: &mut Vec<Instr>,
+    funcs: &[Func],
+    frame: Frame,
+    es: &[Expr],
+    h: u16,
+) -> Result<(), NoMemory>
     requires fits { ExsFitIn (map func_of funcs.now) (slots_in frame) frame.sites h (exs_of es.now) }
     requires frame { IsSmall frame }
     ensures { OnOk result (code.new.items ≡ code.old.items ++ exs_code (map func_of funcs.now) (slots_in frame) (exs_of es.now) h) }

@@ -1,0 +1,44 @@
+use Rattle.std.proofs.Common.{rules, ◌+◌, ◌<◌, ◌∙◌, refl, sym, subst, length, map, arith}
+use Rattle.isa.specs.Code.{Tables, IsCode}
+use Rattle.typed.specs.View.{func_of, program_of}
+use Rattle.codegen.specs.Code.{code_of}
+use Rattle.codegen.specs.Correct.{Simulated}
+use Rattle.codegen.proofs.Stands.{compiled}
+use Rattle.codegen.proofs.Follows.{simulated}
+use Rattle.codegen.proofs.Whole.{fits, layout_at, longer, code_next, owners_next, entries_next, finished, is_code, main_there}
+use Rattle.codegen.proofs.program.emit.Goals as goal
+
+pub add-requires-clause-fits : goal.add-requires-clause-fits
+add-requires-clause-fits c = fits c.args.program.now c.as_slice-funcs.result.now c.as_slice-funcs.ensures.value c.loop-func.func-index c.func-item.result c.loop-func-test.true c.func-item.is c.requires.form
+
+pub add-requires-clause-layout : goal.add-requires-clause-layout
+add-requires-clause-layout c =
+    layout_at c.args.program.now c.as_slice-funcs.result.now c.as_slice-funcs.ensures.value c.loop-func.func-index c.func-item.result c.loop-func-test.true c.func-item.is
+    c.frames-frames.result.now c.loop-func.number _ (c.frames-frames.ensures ∙ c.requires.layouts) c.loop-func.invariant.3
+
+pub loop-func-preserved : goal.loop-func-preserved
+loop-func-preserved c =
+    let gs = c.as_slice-funcs.result.now in let fs = map func_of gs in let i = c.loop-func.func-index in let g = c.func-item.result in let l = c.loop-func-test.true in let is = c.func-item.is in (
+      code_next fs gs i g l is _ c.loop-func.parts.instrs.items c.add.new.parts.instrs.items c.loop-func.invariant.0 c.in_ok-add.ensures.instrs,
+      owners_next fs gs i g l is _ c.loop-func.parts.owners.items c.add.new.parts.owners.items c.loop-func.number (c.loop-func.number + 1) c.loop-func.invariant.1 c.in_ok-add.ensures.owners refl,
+      entries_next fs gs i g l is _ c.loop-func.parts.funcs.items c.add.new.parts.funcs.items (length c.loop-func.parts.instrs.items) (length c.add.new.parts.instrs.items) c.loop-func.invariant.2 c.in_ok-add.ensures.funcs
+          (longer fs gs i g l is c.loop-func.parts.instrs.items c.add.new.parts.instrs.items c.in_ok-add.ensures.instrs),
+      omega (arith, c.loop-func.invariant.3),
+    )
+
+pub made-requires : goal.made-requires
+made-requires c =
+    let p = c.args.program.now in let parts = c.loop-func.parts in let done = c.loop-func.invariant in
+    let same = finished p c.as_slice-funcs.result.now c.loop-func.func-index c.loop-func.number parts.instrs.items parts.owners.items parts.funcs.items c.as_slice-funcs.ensures.value (omega (arith, c.loop-func-test.false)) done.0 done.1 done.2 in
+    subst (λ (t : Tables). IsCode t) (sym same) (is_code (program_of p) c.requires.form)
+
+pub returns : goal.returns
+returns c =
+    let p = c.args.program.now in let parts = c.loop-func.parts in let done = c.loop-func.invariant in
+    let same = c.made.ensures ∙ finished p c.as_slice-funcs.result.now c.loop-func.func-index c.loop-func.number parts.instrs.items parts.owners.items parts.funcs.items c.as_slice-funcs.ensures.value (omega (arith, c.loop-func-test.false)) done.0 done.1 done.2 in
+    record {
+      is = same;
+      simulates = subst (λ (t : Tables). Simulated (program_of p) t) (sym same) (simulated (program_of p) (code_of (program_of p)) (compiled (program_of p)) c.requires.form refl);
+      main = subst (λ (t : Tables). p.main.0 < length t.funcs) (sym same) (main_there (program_of p) c.requires.form);
+      small = search rules;
+    }

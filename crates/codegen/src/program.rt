@@ -1,0 +1,127 @@
+//! The code of a program: its tables, function by function.
+ghost use Rattle.std.specs.Prelude.{◌≡◌, ◌+◌, ◌<◌, ◌≤◌, ◌^◌, ◌++◌, ◌∷◌, [], IfOk, OnOk, length, map, replicate};
+ghost use Rattle.typed.specs.View.{func_of, program_of, site_in};
+ghost use Rattle.typed.specs.Form.{IsInForm};
+ghost use Rattle.frame_layout.specs.Layout.{layout_in, layouts as layouts_of};
+ghost use Rattle.codegen.specs.Frame.{slots_in, IsSmall, Returns};
+ghost use Rattle.codegen.specs.Temps.{FuncFitsIn, ParamsFitIn, SitesFit};
+ghost use Rattle.codegen.specs.Code.{code_of, entry_of, func_code, func_size, params_code, slots_of, zeros_code};
+ghost use Rattle.codegen.specs.Correct.{Simulated};
+
+use crate::emitting::emit_stmts;
+use crate::lengths::ahead;
+use crate::returning::{emit_leave, emit_params, emit_zeros};
+use crate::slots::Frame;
+use base::NoMemory;
+use frame_layout::{FrameLayout, Layouts};
+use isa::{Code, Instr};
+use std::alloc::Global;
+use typed::{Func, Program};
+
+// Tables that are being put together.
+#[derive(Drop)]
+struct Parts {
+    instrs: Vec<Instr>,
+    owners: Vec<u16>,
+    funcs: Vec<isa::Func>,
+}
+
+// A function's code stands behind the others'.
+fn emit_func(
+    code: &mut Vec<Instr>,
+    funcs: &[Func],
+    frame: Frame,
+    func: &Func,
+) -> Result<(), NoMemory>
+    requires slots { slots_in frame ≡ slots_of (map func_of funcs.now) (func_of func.now) }
+    requires sites { frame.sites ≡ func.now.sites }
+    requires fits { FuncFitsIn (map func_of funcs.now) (func_of func.now) }
+    requires frame { IsSmall frame }
+    ensures { OnOk result (code.new.items ≡ code.old.items ++ func_code (map func_of funcs.now) (func_of func.now) (length code.old.items)) }
+{
+    emit_params(code, frame, &func.params)?;
+    emit_zeros(code, frame, &func.named)?;
+    emit_stmts(code, funcs, frame, func, &func.body)?;
+    emit_leave(code, frame, func)?;
+    Ok(())
+}
+
+// So many places belong to a function.
+#[tactic(auto, using(crate::proofs::Whole::own_next))]
+fn own(owners: &mut Vec<u16>, number: u16, places: usize) -> Result<(), NoMemory>
+    ensures { OnOk result (owners.new.items ≡ owners.old.items ++ replicate places number) }
+{
+    let mut left = places;
+    'places: while left > 0 {
+        owners.push(number)?;
+        left -= 1;
+    }
+    Ok(())
+}
+
+fn put_entry(entries: &mut Vec<isa::Func>, entry: isa::Func) -> Result<(), NoMemory>
+    ensures { OnOk result (entries.new.items ≡ entries.old.items ++ entry ∷ []) }
+{
+    entries.push(entry)?;
+    Ok(())
+}
+
+// A function comes behind the others, with this number.
+fn add(
+    parts: &mut Parts,
+    funcs: &[Func],
+    func: &Func,
+    layout: FrameLayout,
+    number: u16,
+) -> Result<(), NoMemory>
+    requires fits { FuncFitsIn (map func_of funcs.now) (func_of func.now) }
+    requires layout { layout ≡ layout_in (map func_of funcs.now) (func_of func.now) }
+    ensures instrs { OnOk result (parts.new.instrs.items ≡ parts.old.instrs.items ++ func_code (map func_of funcs.now) (func_of func.now) (length parts.old.instrs.items)) }
+    ensures owners { OnOk result (parts.new.owners.items ≡ parts.old.owners.items ++ replicate (func_size (map func_of funcs.now) (func_of func.now)) number) }
+    ensures funcs { OnOk result (parts.new.funcs.items ≡ parts.old.funcs.items ++ entry_of (map func_of funcs.now) (func_of func.now) (length parts.old.instrs.items) ∷ []) }
+{
+    let start = ahead(&parts.instrs, 0, 0)?;
+    let frame = Frame {
+        outgoing: layout.outgoing,
+        temps: layout.temps,
+        first: func.first_site,
+        sites: func.sites as u16,
+    };
+    emit_func(&mut parts.instrs, funcs, frame, func)?;
+    let places = parts.instrs.len() - start as usize;
+    own(&mut parts.owners, number, places)?;
+    let entry = isa::Func {
+        frame: layout.frame,
+        arguments: func.params.len() as u16,
+        results: func.results.len() as u16,
+        start,
+    };
+    put_entry(&mut parts.funcs, entry)?;
+    Ok(())
+}
+
+/// The code of a program whose frames are laid out so. Memory counts as refused, too, where the code would have more than
+/// 2^32 - 1 instructions.
+pub fn emit(alloc: Global, program: &Program, layouts: &Layouts) -> Result<Code, NoMemory>
+    requires form { IsInForm (program_of program.now) }
+    requires layouts { layouts.now ≡ layouts_of (program_of program.now) }
+    ensures is { IfOk result (λ code. code ≡ code_of (program_of program.now)) }
+    ensures simulates { IfOk result (λ code. Simulated (program_of program.now) code) }
+    ensures main { IfOk result (λ code. program.now.main.0 < length code.funcs) }
+    ensures small { IfOk result (λ code. length code.instrs < 2 ^ 40) }
+{
+    let funcs = program.funcs.as_slice();
+    let frames = layouts.frames();
+    let mut parts = Parts {
+        instrs: Vec::new(alloc),
+        owners: Vec::new(alloc),
+        funcs: Vec::new(alloc),
+    };
+    let mut number: u16 = 0;
+    for func in funcs {
+        add(&mut parts, funcs, func, frames[number as usize], number)?;
+        number += 1;
+    }
+    ahead(&parts.instrs, 0, 0)?;
+    Ok(Code::made(parts.instrs, parts.owners, parts.funcs))
+}
