@@ -1,9 +1,8 @@
 -- What the compiler answers.
 use Rattle.std.specs.Prelude.{◌≡◌, ◌<◌, ◌^◌, length, Result, Ok, Err}
-use Rattle.machine.specs.Inside.{Inside}
 use Rattle.typed.specs.Syntax.{Program}
 use Rattle.typed.specs.View.{program_of}
-use Rattle.typed.specs.Frames.{frame_of}
+use Rattle.frame_layout.specs.Layout.{layouts}
 use Rattle.codegen.specs.Correct.{Simulated}
 use Rattle.compile.specs.declared.compiling.Compiled.{Compiled}
 use Rattle.compile.specs.declared.fault.CompileFault.{CompileFault}
@@ -16,7 +15,7 @@ compiled_program c = program_of c.program
 pub record Does (c : Compiled) : Type 0 where
   pub layouts : c.layouts ≡ layouts (compiled_program c)
   pub code : Simulated (compiled_program c) c.code
-  pub starts : Starts c.code (compiled_program c).main
+  pub main : (compiled_program c).main < length c.code.funcs
   pub small : length c.code.instrs < 2 ^ 40
 
 -- this program was answered, or memory was refused

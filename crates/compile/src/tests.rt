@@ -28,7 +28,7 @@ fn fault_of(alloc: Global, text: &[u8]) -> Option<CompileFault> {
 // Each body stands behind `func main() {` on line 2, so a fault at the body's first byte stands at column 15.
 #[test]
 fn faults_of_each_stage(rt: HostRuntime) -> Result<(), Fail> {
-    let table: [(&str, CompileFault); 15] = [
+    let table: [(&str, CompileFault); 17] = [
         (
             "x := #",
             CompileFault::Scan(ScanFault::Fault(ScanKind::BadChar, pos(32, 2, 20))),
@@ -38,9 +38,11 @@ fn faults_of_each_stage(rt: HostRuntime) -> Result<(), Fail> {
             CompileFault::Scan(ScanFault::Fault(ScanKind::BadNumber, pos(32, 2, 20))),
         ),
         (
-            "x + 1",
-            CompileFault::Parse(ParseFault::Unexpected(pos(29, 2, 17))),
+            "x + = 1",
+            CompileFault::Parse(ParseFault::Unexpected(pos(31, 2, 19))),
         ),
+        ("x + 1", type_fault(FaultKind::Unknown, pos(27, 2, 15))),
+        ("1 + 1", type_fault(FaultKind::NotUsedValue, pos(27, 2, 15))),
         ("x = 1", type_fault(FaultKind::Unknown, pos(27, 2, 15))),
         ("println(y)", type_fault(FaultKind::Unknown, pos(35, 2, 23))),
         ("x := x", type_fault(FaultKind::Unknown, pos(32, 2, 20))),
@@ -74,7 +76,7 @@ fn faults_of_each_stage(rt: HostRuntime) -> Result<(), Fail> {
         ),
         (
             "_ := y",
-            type_fault(FaultKind::OutOfProfile, pos(27, 2, 15)),
+            type_fault(FaultKind::NothingNew, pos(29, 2, 17)),
         ),
         (
             "x := y; println(x, 9223372036854775808)",
@@ -110,7 +112,7 @@ fn accepted_texts(rt: HostRuntime) -> Result<(), Fail> {
         let text = format!(in rt.alloc(); "package main\nfunc main() {{ {body} }}\n")?;
         match compile(rt.alloc(), text.as_bytes()) {
             Ok(compiled) => {
-                assert_eq!(rt; compiled.layout.frame, frame, "of {body}");
+                assert_eq!(rt; compiled.layouts.frames()[0].frame, frame, "of {body}");
                 assert_eq!(rt; compiled.code.instrs().len(), instructions, "of {body}");
             }
             Err(fault) => assert!(rt; false, "{body}: {fault:?}"),

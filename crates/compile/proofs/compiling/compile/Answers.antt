@@ -1,9 +1,9 @@
-use Rattle.std.proofs.Common.{◌≡◌, ℕ, List, Err, subst}
+use Rattle.std.proofs.Common.{◌≡◌, ◌∙◌, ℕ, List, Err, subst}
 use Rattle.parse_go.specs.Tree.{Syntax, syntax_of}
 use Rattle.parse_go.specs.Grammar.{IsText}
 use Rattle.parse_go.specs.Faults.{GivesTree}
 use Rattle.compile.specs.Faults.{of_scan, of_parse, of_typing, of_layout}
-use Rattle.compile.proofs.Stages.{only_err, refused_err, has_tree, scan_only, parse_only, type_only, program_only, layout_only, type_refuses, layout_refuses}
+use Rattle.compile.proofs.Stages.{only_err, refused_err, has_tree, scan_only, parse_only, type_only, program_only, layout_only, type_refuses, layout_refuses, names_in, fits_all}
 use Rattle.compile.proofs.compiling.compile.Goals as goal
 
 pub returns-in_err-tokens-clause-only : goal.returns-in_err-tokens-clause-only
@@ -38,25 +38,25 @@ returns-in_err-program-clause-only c =
     subst (λ (t : List ℕ). (other : Syntax) → IsText t tokens.list other → tree ≡ other) c.in_ok-tokens.ensures.text c.in_ok-tree.ensures.only in
     λ p a. only_err c.from_residual-in_err-program.result (of_typing f) c.from_residual-in_err-program.ensures.1 p (type_only text tokens.list c.in_ok-tokens.ensures.only tree one f c.in_err-program.ensures.only p a)
 
-pub returns-in_err-layout-clause-refused : goal.returns-in_err-layout-clause-refused
-returns-in_err-layout-clause-refused c =
+pub returns-in_err-layouts-clause-refused : goal.returns-in_err-layouts-clause-refused
+returns-in_err-layouts-clause-refused c =
     let text = c.args.text.now in
     let tree = syntax_of c.in_ok-tree.tree in
     let q = c.in_ok-program.program in
-    let f = c.in_err-layout.field-0.0 in
-    refused_err text _ (of_layout f) c.from_residual-in_err-layout.ensures.1
-    (layout_refuses text tree q f (has_tree text c.in_ok-tokens.tokens tree c.in_ok-tokens.ensures.exact c.in_ok-tokens.ensures.text c.in_ok-tree.ensures.found) c.in_ok-program.ensures.typed c.in_ok-program.ensures.main c.in_err-layout.ensures.fault)
+    let f = c.in_err-layouts.field-0.0 in
+    refused_err text _ (of_layout f) c.from_residual-in_err-layouts.ensures.1
+    (layout_refuses text tree q f (has_tree text c.in_ok-tokens.tokens tree c.in_ok-tokens.ensures.exact c.in_ok-tokens.ensures.text c.in_ok-tree.ensures.found) c.in_ok-program.ensures.typed (c.in_ok-program.ensures.places ∙ names_in c.in_ok-tree.tree.funcs.items) c.in_err-layouts.ensures.fault)
 
-pub returns-in_err-layout-clause-only : goal.returns-in_err-layout-clause-only
-returns-in_err-layout-clause-only c =
+pub returns-in_err-layouts-clause-only : goal.returns-in_err-layouts-clause-only
+returns-in_err-layouts-clause-only c =
     let text = c.args.text.now in
     let tokens = c.in_ok-tokens.tokens in
     let tree = syntax_of c.in_ok-tree.tree in
     let q = c.in_ok-program.program in
-    let f = c.in_err-layout.field-0.0 in
+    let f = c.in_err-layouts.field-0.0 in
     let one : (other : Syntax) → IsText text tokens.list other → tree ≡ other =
     subst (λ (t : List ℕ). (other : Syntax) → IsText t tokens.list other → tree ≡ other) c.in_ok-tokens.ensures.text c.in_ok-tree.ensures.only in
-    λ p a. only_err c.from_residual-in_err-layout.result (of_layout f) c.from_residual-in_err-layout.ensures.1 p (layout_only text tokens.list c.in_ok-tokens.ensures.only tree one q f c.in_ok-program.ensures.only c.in_err-layout.ensures.fault p a)
+    λ p a. only_err c.from_residual-in_err-layouts.result (of_layout f) c.from_residual-in_err-layouts.ensures.1 p (layout_only text tokens.list c.in_ok-tokens.ensures.only tree one q f c.in_ok-program.ensures.only c.in_err-layouts.ensures.fault p a)
 
 pub returns-clause-only : goal.returns-clause-only
 returns-clause-only c =

@@ -1,4 +1,4 @@
-use Rattle.std.proofs.Common.{Ok, Err}
+use Rattle.std.proofs.Common.{Ok, Err, refl}
 use Rattle.codegen.specs.declared.running.RunFault.TheVariants as Fault
 use Rattle.compile.specs.Compiled.{compiled_program}
 use Rattle.gostk.proofs.Runs.{told, ended, met_limit, went_on, failed, refused}
@@ -12,7 +12,7 @@ returns-in-Ok g c =
     (g.O.Sink.taken c.args.out.now) (g.O.Sink.taken c.run.new.out) (g.O.Sink.faults c.args.out.now) (g.O.Sink.faults c.run.new.out) c.in-Ok.status
     (told (compiled_program compiled) c.args.limits.now c.stack_max.result c.steps-steps.result (Ok c.in-Ok.status)
     (g.O.Sink.taken c.args.out.now) (g.O.Sink.taken c.run.new.out) (g.O.Sink.faults c.args.out.now) (g.O.Sink.faults c.run.new.out)
-    c.stack_max.ensures.is c.steps-steps.ensures (c.in-Ok.ensures.runs (compiled_program compiled) code))
+    c.stack_max.ensures.is c.steps-steps.ensures (c.in-Ok.ensures.runs (compiled_program compiled) refl code))
 
 pub returns-in-Err-Steps : goal.returns-in-Err-Steps
 returns-in-Err-Steps g c =
@@ -23,7 +23,7 @@ returns-in-Err-Steps g c =
     (g.O.Sink.taken c.args.out.now) (g.O.Sink.taken c.run.new.out) (g.O.Sink.faults c.args.out.now) (g.O.Sink.faults c.run.new.out) c.steps-steps.result c.steps-steps.ensures
     (told (compiled_program compiled) c.args.limits.now c.stack_max.result c.steps-steps.result (Err Fault.Steps)
     (g.O.Sink.taken c.args.out.now) (g.O.Sink.taken c.run.new.out) (g.O.Sink.faults c.args.out.now) (g.O.Sink.faults c.run.new.out)
-    c.stack_max.ensures.is c.steps-steps.ensures (runs (compiled_program compiled) code))
+    c.stack_max.ensures.is c.steps-steps.ensures (runs (compiled_program compiled) refl code))
 
 pub returns-in-Err-StackLimit : goal.returns-in-Err-StackLimit
 returns-in-Err-StackLimit g c =
@@ -34,7 +34,7 @@ returns-in-Err-StackLimit g c =
     (g.O.Sink.taken c.args.out.now) (g.O.Sink.taken c.run.new.out) (g.O.Sink.faults c.args.out.now) (g.O.Sink.faults c.run.new.out) c.in-Err-StackLimit.used c.in-Err-StackLimit.asked c.in-Err-StackLimit.limit
     (told (compiled_program compiled) c.args.limits.now c.stack_max.result c.steps-steps.result (Err (Fault.StackLimit c.in-Err-StackLimit.used c.in-Err-StackLimit.asked c.in-Err-StackLimit.limit))
     (g.O.Sink.taken c.args.out.now) (g.O.Sink.taken c.run.new.out) (g.O.Sink.faults c.args.out.now) (g.O.Sink.faults c.run.new.out)
-    c.stack_max.ensures.is c.steps-steps.ensures (runs (compiled_program compiled) code))
+    c.stack_max.ensures.is c.steps-steps.ensures (runs (compiled_program compiled) refl code))
 
 pub returns-in-Err-WriteFault : goal.returns-in-Err-WriteFault
 returns-in-Err-WriteFault g c =
@@ -45,7 +45,7 @@ returns-in-Err-WriteFault g c =
     (g.O.Sink.taken c.args.out.now) (g.O.Sink.taken c.run.new.out) (g.O.Sink.faults c.args.out.now) (g.O.Sink.faults c.run.new.out)
     (told (compiled_program compiled) c.args.limits.now c.stack_max.result c.steps-steps.result (Err Fault.WriteFault)
     (g.O.Sink.taken c.args.out.now) (g.O.Sink.taken c.run.new.out) (g.O.Sink.faults c.args.out.now) (g.O.Sink.faults c.run.new.out)
-    c.stack_max.ensures.is c.steps-steps.ensures (runs (compiled_program compiled) code))
+    c.stack_max.ensures.is c.steps-steps.ensures (runs (compiled_program compiled) refl code))
 
 pub returns-in-Err-NoMemory : goal.returns-in-Err-NoMemory
 returns-in-Err-NoMemory g c =
@@ -56,4 +56,4 @@ returns-in-Err-NoMemory g c =
     (g.O.Sink.taken c.args.out.now) (g.O.Sink.taken c.run.new.out) (g.O.Sink.faults c.args.out.now) (g.O.Sink.faults c.run.new.out)
     (told (compiled_program compiled) c.args.limits.now c.stack_max.result c.steps-steps.result (Err Fault.NoMemory)
     (g.O.Sink.taken c.args.out.now) (g.O.Sink.taken c.run.new.out) (g.O.Sink.faults c.args.out.now) (g.O.Sink.faults c.run.new.out)
-    c.stack_max.ensures.is c.steps-steps.ensures (runs (compiled_program compiled) code))
+    c.stack_max.ensures.is c.steps-steps.ensures (runs (compiled_program compiled) refl code))
