@@ -264,6 +264,54 @@ fn stack_limit(rt: HostRuntime) -> Result<(), Fail> {
     Ok(())
 }
 
+// The frames of `deep` and its `main` have 8 and 5 words, those of `down` and its `main` 6 and 4.
+#[test]
+fn functions(rt: HostRuntime) -> Result<(), Fail> {
+    let deep = "package main\nfunc deep(n int) int { if n == 0 { return 0 }; return 1 + deep(n-1) }\nfunc main() { println(deep(100)) }";
+    let down = "package main\nfunc down(n int) { if n > 0 { down(n - 1) } }\nfunc main() { down(10); println(1) }";
+    let two = "package main\nfunc two(n int) (q, r int) { q = n + 1; r = n * 2; return }\nfunc main() { a, b := two(5); a, b = b, a; println(a, b) }";
+    let order = "package main\nfunc show(n int) int { println(n); return n }\nfunc main() { x, y := show(1), show(2); x, y = show(y), show(x); println(x - y) }";
+    let table: [(&str, &str, &str, u8, &str, &str); 7] = [
+        (deep, "16", "813", 0, "100\n", ""),
+        (
+            deep,
+            "16",
+            "812",
+            207,
+            "",
+            "gostk: stack used 805 asked 8 limit 812\n",
+        ),
+        (down, "16", "70", 0, "1\n", ""),
+        (down, "70", "70", 0, "1\n", ""),
+        (
+            down,
+            "69",
+            "69",
+            207,
+            "",
+            "gostk: stack used 64 asked 6 limit 69\n",
+        ),
+        (two, "64", "64", 0, "10 6\n", ""),
+        (order, "64", "64", 0, "1\n2\n2\n1\n1\n", ""),
+    ];
+    for (text, start, most, status, out, err) in table {
+        let words: &[&str] = &[
+            "gostk",
+            "run",
+            "--stack",
+            start,
+            "--max-stack",
+            most,
+            "a.go",
+        ];
+        let got = run_on(rt.alloc(), words, text.as_bytes(), 0, 0)?;
+        assert_eq!(rt; got.status, status, "{text}");
+        assert_eq!(rt; got.out.as_slice(), out.as_bytes(), "{text}");
+        assert_eq!(rt; got.err.as_slice(), err.as_bytes(), "{text}");
+    }
+    Ok(())
+}
+
 #[test]
 fn texts(rt: HostRuntime) -> Result<(), Fail> {
     let table: [(&str, u8, &str, &str); 14] = [
