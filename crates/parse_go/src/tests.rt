@@ -80,6 +80,7 @@ fn shapes(rt: HostRuntime) -> Result<(), Fail> {
     for (text, want) in rows {
         let text = format!(in alloc; "package p; func f() {{ {text} }}")?;
         let tree = tree_of(&rt, alloc, text.as_str())?;
+        assert_eq!(rt; tree.funcs.len(), 1);
         let mut shape = String::new(alloc);
         for stmt in &tree.funcs[0].body {
             match stmt {
@@ -243,6 +244,7 @@ fn statements(rt: HostRuntime) -> Result<(), Fail> {
         "package m; func f() { if x <= -1 { x = 1; ; } else if (x) != 2 { } else { { }; g(x) }; for { }; \
         a, b = b, a; a, b, c := g(), 1; return; return 1, 2 }";
     let tree = tree_of(&rt, alloc, text)?;
+    assert_eq!(rt; tree.funcs.len(), 1);
     let body = &tree.funcs[0].body;
     assert_eq!(rt; body.len(), 6);
     match &body[0] {
@@ -275,7 +277,7 @@ fn statements(rt: HostRuntime) -> Result<(), Fail> {
             assert_eq!(rt; names.len(), 2);
             assert!(rt; names[0].pos.offset < names[1].pos.offset);
             assert!(rt; matches!(values.as_slice(), [Expr::Name(_), Expr::Name(_)]));
-            assert_eq!(rt; values[0].pos().offset, names[1].pos.offset + 4);
+            assert!(rt; names[1].pos.offset < values[0].pos().offset);
         }
         _ => panic!(rt; "no assignment"),
     }
@@ -318,6 +320,7 @@ fn signatures(rt: HostRuntime) -> Result<(), Fail> {
     for (signature, params, named, results, named_results) in rows {
         let text = format!(in alloc; "package m; func f{signature} {{ }}")?;
         let tree = tree_of(&rt, alloc, text.as_str())?;
+        assert_eq!(rt; tree.funcs.len(), 1);
         let func = &tree.funcs[0];
         assert_eq!(rt; func.params.len(), params, "{signature}");
         assert_eq!(rt;
@@ -333,7 +336,9 @@ fn signatures(rt: HostRuntime) -> Result<(), Fail> {
         );
     }
     let tree = tree_of(&rt, alloc, "package m; func f(a, b int, c int) { }")?;
+    assert_eq!(rt; tree.funcs.len(), 1);
     let params = &tree.funcs[0].params;
+    assert_eq!(rt; params.len(), 3);
     assert_eq!(rt; params[0].type_name, params[1].type_name);
     assert_eq!(rt; params[0].type_name.pos.offset, 23);
     assert_eq!(rt; params[2].type_name.pos.offset, 30);
@@ -367,6 +372,7 @@ fn places(rt: HostRuntime) -> Result<(), Fail> {
     let tree = tree_of(&rt, alloc, text)?;
     assert_eq!(rt; tree.text.as_slice(), text.as_bytes());
     assert_eq!(rt; tree.package.pos.offset, 8);
+    assert_eq!(rt; tree.funcs.len(), 1);
     let main = &tree.funcs[0];
     assert_eq!(rt;
         main.name.pos,
@@ -397,6 +403,7 @@ fn places(rt: HostRuntime) -> Result<(), Fail> {
         Stmt::Define(defined, pos, values) => {
             assert_eq!(rt; defined.len(), 1);
             assert_eq!(rt; defined[0], name);
+            assert_eq!(rt; values.len(), 1);
             assert_eq!(rt;
                 *pos,
                 Pos {
