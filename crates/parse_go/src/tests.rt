@@ -236,17 +236,16 @@ fn limits(rt: HostRuntime) -> Result<(), Fail> {
     Ok(())
 }
 
-/// What stands in an `if` with its elses, in a `for`, in a block and in lists.
+/// What stands in an `if` with its elses, in a `for` and in a block.
 #[test]
 fn statements(rt: HostRuntime) -> Result<(), Fail> {
     let alloc = rt.alloc();
     let text =
-        "package m; func f() { if x <= -1 { x = 1; ; } else if (x) != 2 { } else { { }; g(x) }; for { }; \
-        a, b = b, a; a, b, c := g(), 1; return; return 1, 2 }";
+        "package m; func f() { if x <= -1 { x = 1; ; } else if (x) != 2 { } else { { }; g(x) }; for { } }";
     let tree = tree_of(&rt, alloc, text)?;
     assert_eq!(rt; tree.funcs.len(), 1);
     let body = &tree.funcs[0].body;
-    assert_eq!(rt; body.len(), 6);
+    assert_eq!(rt; body.len(), 2);
     match &body[0] {
         Stmt::If(pos, cond, then, Else::If(second_pos, second, second_body, others)) => {
             assert_eq!(rt; pos.offset, 22);
@@ -272,7 +271,19 @@ fn statements(rt: HostRuntime) -> Result<(), Fail> {
         _ => panic!(rt; "no if with an else-if"),
     }
     assert!(rt; matches!(&body[1], Stmt::For(_, None, _)));
-    match &body[2] {
+    Ok(())
+}
+
+/// The names and values of statements.
+#[test]
+fn lists(rt: HostRuntime) -> Result<(), Fail> {
+    let alloc = rt.alloc();
+    let text = "package m; func f() { a, b = b, a; a, b, c := g(), 1; return; return 1, 2 }";
+    let tree = tree_of(&rt, alloc, text)?;
+    assert_eq!(rt; tree.funcs.len(), 1);
+    let body = &tree.funcs[0].body;
+    assert_eq!(rt; body.len(), 4);
+    match &body[0] {
         Stmt::Assign(names, _, values) => {
             assert_eq!(rt; names.len(), 2);
             assert!(rt; names[0].pos.offset < names[1].pos.offset);
@@ -281,18 +292,18 @@ fn statements(rt: HostRuntime) -> Result<(), Fail> {
         }
         _ => panic!(rt; "no assignment"),
     }
-    match &body[3] {
+    match &body[1] {
         Stmt::Define(names, _, values) => {
             assert_eq!(rt; names.len(), 3);
             assert!(rt; matches!(values.as_slice(), [Expr::Call(_, _), Expr::Int(_, 1)]));
         }
         _ => panic!(rt; "no definition"),
     }
-    match &body[4] {
+    match &body[2] {
         Stmt::Return(_, values) => assert_eq!(rt; values.len(), 0),
         _ => panic!(rt; "no return"),
     }
-    match &body[5] {
+    match &body[3] {
         Stmt::Return(_, values) => {
             assert!(rt; matches!(values.as_slice(), [Expr::Int(_, 1), Expr::Int(_, 2)]));
         }
