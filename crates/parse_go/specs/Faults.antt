@@ -6,17 +6,17 @@ use Rattle.parse_go.specs.declared.tree.Tree.{Tree}
 use Rattle.parse_go.specs.declared.terminal.Terminal.{Terminal}
 use Rattle.parse_go.specs.declared.fault.ParseFault.{ParseFault}
 use Rattle.parse_go.specs.declared.fault.ParseFault.TheVariants as fault
-use Rattle.parse_go.specs.Tree.{Syntax, syntax_of}
+use Rattle.parse_go.specs.Tree.{File, Syntax, syntax_of}
 use Rattle.parse_go.specs.Terminals.{terminals_of}
-use Rattle.parse_go.specs.Grammar.{Mark, nesting_of, terminals_in, Function, IsMarked, IsShallow}
+use Rattle.parse_go.specs.Grammar.{Mark, nesting_of, terminals_in, IsMarked, IsShallow}
 
 -- some text begins with these terminals, whatever its nestings
 abbrev pub Begins : List Terminal → Type 0
-Begins front = (ms : List Mark) × (f : Function) × (rest : List Terminal) × (terminals_in ms ≡ front ++ rest) × IsMarked ms f
+Begins front = (ms : List Mark) × (f : File) × (rest : List Terminal) × (terminals_in ms ≡ front ++ rest) × IsMarked ms f
 
 -- in each text that begins with these terminals their nestings are as P says
 abbrev pub InEachText : List Terminal → (List Mark → Type 0) → Type 0
-InEachText front P = (ms : List Mark) (f : Function) (rest : List Terminal) → terminals_in ms ≡ front ++ rest → IsMarked ms f → P (take (length front) ms)
+InEachText front P = (ms : List Mark) (f : File) (rest : List Terminal) → terminals_in ms ≡ front ++ rest → IsMarked ms f → P (take (length front) ms)
 
 -- The i-th terminal is the first with which no text begins; where i is their number, they end too early.
 pub record IsUnexpected (ts : List Terminal) (i : ℕ) : Type 0 where
@@ -24,7 +24,7 @@ pub record IsUnexpected (ts : List Terminal) (i : ℕ) : Type 0 where
   pub before : Begins (take i ts)
   pub shallow : InEachText (take i ts) IsShallow
   pub terminal : i < length ts → Begins (take (i + 1) ts) → ⊥
-  pub ends : length ts ≤ i → (ms : List Mark) (f : Function) → terminals_in ms ≡ ts → IsMarked ms f → ⊥
+  pub ends : length ts ≤ i → (ms : List Mark) (f : File) → terminals_in ms ≡ ts → IsMarked ms f → ⊥
 
 -- the last of some marks passes the limit, and it alone
 abbrev pub LastIsDeep : List Mark → Type 0
@@ -44,11 +44,11 @@ place_in [] behind i = behind
 place_in (t ∷ ts) behind zero = t.pos
 place_in (t ∷ ts) behind (suc i) = place_in ts behind i
 
--- The fault is the first of these tokens of the text, which ends at the place behind.
-abbrev pub IsFirstFault : List ℕ → List Token → Pos → ParseFault → Type 0
-IsFirstFault text tokens behind fault.NoMemory = Unit {0}
-IsFirstFault text tokens behind (fault.Unexpected place) = (i : ℕ) × (place ≡ place_in tokens behind i) × IsUnexpected (terminals_of text tokens) i
-IsFirstFault text tokens behind (fault.TooDeep place) = (i : ℕ) × (place ≡ place_in tokens behind i) × IsTooDeep (terminals_of text tokens) i
+-- The fault is the first of these tokens, whose text ends at the place behind.
+abbrev pub IsFirstFault : List Token → Pos → ParseFault → Type 0
+IsFirstFault tokens behind fault.NoMemory = Unit {0}
+IsFirstFault tokens behind (fault.Unexpected place) = (i : ℕ) × (place ≡ place_in tokens behind i) × IsUnexpected (terminals_of tokens) i
+IsFirstFault tokens behind (fault.TooDeep place) = (i : ℕ) × (place ≡ place_in tokens behind i) × IsTooDeep (terminals_of tokens) i
 
 -- the tree, unless memory ran out
 abbrev pub GivesTree : Result Tree ParseFault → Syntax → Type 0

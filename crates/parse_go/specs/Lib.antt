@@ -3,10 +3,6 @@ pub mod FirstBytes
 pub mod Terminals
 pub mod Heights
 pub mod Grammar
-pub mod Outer
-pub mod Frames
-pub mod Machine
-pub mod States
 pub mod Faults
 pub mod FaultNumbers
 pub mod Spans

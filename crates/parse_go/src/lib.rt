@@ -21,21 +21,9 @@
 //! nestings, so the bound is a fact of a text and not a second grammar.
 #![tactic(auto)]
 
-mod expression;
 mod fault;
-mod frame;
-mod machine;
-mod nodes;
-mod outer;
-mod parsing;
-mod state;
-mod statement;
 mod terminal;
 mod tree;
 
 pub use fault::ParseFault;
-pub use parsing::parse;
-pub use tree::{BinOp, CompareOp, Cond, Else, Expr, Name, Stmt, Tree, UnOp};
-
-#[cfg(test)]
-mod tests;
+pub use tree::{BinOp, CompareOp, Cond, Else, Expr, Func, Name, Param, Stmt, Tree, UnOp};

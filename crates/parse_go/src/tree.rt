@@ -33,6 +33,8 @@ pub enum Expr {
     Unary(Pos, UnOp, Box<Expr>),
     Binary(BinOp, Box<Expr>, Box<Expr>),
     Paren(Pos, Box<Expr>),
+    /// The function and the arguments. It begins where its function begins.
+    Call(Box<Expr>, Vec<Expr>),
 }
 
 impl Expr {
@@ -49,6 +51,7 @@ impl Expr {
             Expr::Unary(pos, _, _) => *pos,
             Expr::Binary(_, left, _) => left.pos(),
             Expr::Paren(pos, _) => *pos,
+            Expr::Call(function, _) => function.pos(),
         }
     }
 }
@@ -88,12 +91,14 @@ impl Cond {
 #[derive(Drop)]
 #[cycle(statement)]
 pub enum Stmt {
-    /// The name, the place of the `:=`, and the value.
-    Define(Name, Pos, Expr),
-    /// The name, the place of the `=`, and the value.
-    Assign(Name, Pos, Expr),
-    /// `println`: the place of the word, and the operands.
-    Print(Pos, Vec<Expr>),
+    /// The names, the place of the `:=`, and the values.
+    Define(Vec<Name>, Pos, Vec<Expr>),
+    /// The names, the place of the `=`, and the values.
+    Assign(Vec<Name>, Pos, Vec<Expr>),
+    /// An expression as a statement.
+    Express(Expr),
+    /// The place of the `return`, and the values.
+    Return(Pos, Vec<Expr>),
     /// The place of the `if`, its condition and body, and what stands behind them.
     If(Pos, Cond, Vec<Stmt>, Else),
     /// The place of the `for`, its condition, if it has one, and its body.
@@ -111,10 +116,27 @@ pub enum Else {
     If(Pos, Cond, Vec<Stmt>, Box<Else>),
 }
 
-/// The tree of a text, with a copy of the text: the place of the name `main`, and the statements of that function.
+/// A parameter or result, and the name of its type. Those that share a type stand apart, each with that type's name.
+#[derive(Clone, Copy, Debug, PartialEq, Eq)]
+pub struct Param {
+    pub name: Option<Name>,
+    pub type_name: Name,
+}
+
+/// A function, with the place of the closing brace of its body.
+#[derive(Drop)]
+pub struct Func {
+    pub name: Name,
+    pub params: Vec<Param>,
+    pub results: Vec<Param>,
+    pub body: Vec<Stmt>,
+    pub end: Pos,
+}
+
+/// The tree of a text, with a copy of the text.
 #[derive(Drop)]
 pub struct Tree {
     pub text: Vec<u8>,
-    pub main: Pos,
-    pub body: Vec<Stmt>,
+    pub package: Name,
+    pub funcs: Vec<Func>,
 }
