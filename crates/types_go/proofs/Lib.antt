@@ -1,10 +1,1 @@
-pub mod Leasts
-pub mod Parts
-pub mod Lists
-pub mod Depth
-pub mod Sequences
-pub mod Complete
-pub mod Kept
-pub mod Visible
-pub mod InForm
-pub mod Answering
+mod Leasts

@@ -1,27 +1,39 @@
 -- What the checker's pass works out of what it knows of the parts.
-use Rattle.std.specs.Prelude.{ℕ, ◌^◌, pos, Bool, List, [], ◌∷◌, ◌++◌, nat_lt, Option, Some, None, Result, Ok, Err, if◌then◌else◌, option_and_then}
+use Rattle.std.specs.Prelude.{ℕ, ◌^◌, ◌==◌, pos, Bool, true, false, List, [], ◌∷◌, ◌++◌, map, nat_lt, Option, Some, None, Result, Ok, Err, if◌then◌else◌}
+use Rattle.std.specs.Option.{option_map}
 use Rattle.base.specs.declared.pos.Pos.{Pos}
 use Rattle.parse_go.specs.declared.tree.BinOp.{BinOp}
-use Rattle.parse_go.specs.declared.tree.CompareOp.{CompareOp}
 use Rattle.parse_go.specs.declared.tree.UnOp.{UnOp}
-use Rattle.typed.specs.Syntax.{Ex}
-use Rattle.typed.specs.View.{ex_of}
+use Rattle.typed.specs.Syntax.{Ex, shown}
+use Rattle.typed.specs.View.{ex_of, exs_of_values}
 use Rattle.names.specs.declared.constants.Const.{Const}
 use Rattle.names.specs.declared.constants.Const.TheVariants.{Int}
 use Rattle.names.specs.declared.constants.ConstFault.{ConstFault}
 use Rattle.names.specs.declared.constants.ConstFault.TheVariants.{Overflow, NotConstant}
 use Rattle.names.specs.Constants.{folded, folded_one}
 use Rattle.types_go.specs.declared.fault.Fault.{Fault}
-use Rattle.types_go.specs.declared.fault.FaultKind.TheVariants.{ConstRange, OutOfProfile, Unknown}
+use Rattle.types_go.specs.declared.fault.FaultKind.TheVariants.{Unknown, NotAssignable, NotCallable, ResultCount, NotUsedValue, ConstRange, OutOfProfile}
 use Rattle.types_go.specs.declared.operand.Operand.{Operand as OperandData}
-use Rattle.types_go.specs.declared.operand.Operand.TheVariants.{Untyped, Value}
+use Rattle.types_go.specs.declared.operand.Operand.TheVariants.{Untyped as UntypedData, Value}
+use Rattle.types_go.specs.declared.operand.Gives.{Gives as GivesData}
+use Rattle.types_go.specs.declared.operand.Gives.TheVariants.{One, Called, Printed}
+use Rattle.types_go.specs.declared.operand.Item.{Item}
 use Rattle.types_go.specs.declared.scope.Declared.{Declared}
-use Rattle.types_go.specs.Typing.{Operand, untyped, value, is_int, combined, compared_operands, operand_of_name}
+use Rattle.types_go.specs.declared.scope.Declared.TheVariants.{Variable, Untyped, Function}
+use Rattle.types_go.specs.Typing.{Operand, untyped, value, Gives, one, called, printed, Seen, is_int}
 use Rattle.types_go.specs.Faults.{fault}
 
 abbrev pub operand_of : OperandData → Operand
-operand_of (Untyped z) = untyped z
+operand_of (UntypedData z) = untyped z
 operand_of (Value e) = value (ex_of e)
+
+abbrev pub gives_of : GivesData → Gives
+gives_of (One x) = one (operand_of x)
+gives_of (Called at n f values) = called at n f.0 (exs_of_values values.value)
+gives_of (Printed at es) = printed at (map (λ e. shown (ex_of e)) es.items)
+
+abbrev pub seen_of : Item → Seen
+seen_of item = record { at = item.pos; gives = option_map gives_of item.gives }
 
 abbrev pub overflow_fault : Pos → Result Const ConstFault → Option Fault
 overflow_fault at (Ok c) = None
@@ -46,36 +58,6 @@ pair_fault at right op (Some (untyped y)) (Some (value x)) = int_fault at (Some 
 pair_fault at right op (Some (value x)) (Some (untyped z)) = int_fault right (Some (untyped z))
 pair_fault at right op (Some (value x)) (Some (value y)) = None
 
--- both operands give something, and together they do
-abbrev pub pair_of : Pos → BinOp → Option Operand → Option Operand → Option Operand
-pair_of at op a b = option_and_then (λ x. option_and_then (combined at op x) b) a
-
-abbrev pub literal_operand : ℕ → Option Operand
-literal_operand n = if nat_lt n (2 ^ 127) then Some (untyped (pos n)) else None
-
-abbrev pub literal_fault : Pos → ℕ → Option Fault
-literal_fault at n = if nat_lt n (2 ^ 127) then None else Some (fault ConstRange at)
-
-abbrev pub name_operand : Bool → Option Declared → Option Operand
-name_operand reserved d = if reserved then None else operand_of_name d
-
-abbrev pub undeclared_fault : Pos → Option Declared → Option Fault
-undeclared_fault at None = Some (fault Unknown at)
-undeclared_fault at (Some d) = None
-
-abbrev pub name_fault : Pos → Bool → Option Declared → Option Fault
-name_fault at reserved d = if reserved then Some (fault OutOfProfile at) else undeclared_fault at d
-
--- one more operand, where all are some
-abbrev pub with_last : {A : Type 0} → Option (List A) → Option A → Option (List A)
-with_last (Some xs) (Some x) = Some (xs ++ x ∷ [])
-with_last xs x = None
-
--- one more, where there is one
-abbrev pub with_some : {A : Type 0} → List A → Option A → List A
-with_some xs None = xs
-with_some xs (Some x) = xs ++ x ∷ []
-
 -- the fault of a comparison between what its operands give
 abbrev pub comparison_fault : Pos → Pos → Option Operand → Option Operand → Option Fault
 comparison_fault at right None b = None
@@ -85,10 +67,66 @@ comparison_fault at right (Some (untyped y)) (Some (value x)) = int_fault at (So
 comparison_fault at right (Some (value x)) (Some (untyped z)) = int_fault right (Some (untyped z))
 comparison_fault at right (Some (value x)) (Some (value y)) = None
 
-abbrev pub comparison_of : Pos → CompareOp → Option Operand → Option Operand → Option Ex
-comparison_of at op a b = option_and_then (λ x. option_and_then (compared_operands at op x) b) a
+abbrev pub literal_operand : ℕ → Option Gives
+literal_operand n = if nat_lt n (2 ^ 127) then Some (one (untyped (pos n))) else None
 
--- the fault of a value that is assigned
-abbrev pub taken_fault : Option ℕ → Pos → Option Operand → Option Fault
-taken_fault None at o = None
-taken_fault (Some v) at o = int_fault at o
+abbrev pub literal_fault : Pos → ℕ → Option Fault
+literal_fault at n = if nat_lt n (2 ^ 127) then None else Some (fault ConstRange at)
+
+abbrev pub name_fault : (reserved : Bool) → Option Declared → Pos → Option Fault
+name_fault true d at = Some (fault OutOfProfile at)
+name_fault false None at = Some (fault Unknown at)
+name_fault false (Some (Variable site)) at = None
+name_fault false (Some Untyped) at = None
+name_fault false (Some (Function g)) at = Some (fault OutOfProfile at)
+
+abbrev pub callee_name_fault : (is_println reserved : Bool) → Option Declared → Pos → Option Fault
+callee_name_fault true reserved d at = None
+callee_name_fault false true d at = Some (fault OutOfProfile at)
+callee_name_fault false false None at = Some (fault Unknown at)
+callee_name_fault false false (Some (Variable site)) at = None
+callee_name_fault false false (Some Untyped) at = None
+callee_name_fault false false (Some (Function g)) at = None
+
+-- the fault of a call where one value is wanted
+abbrev pub single_fault : Option Gives → Option Fault
+single_fault None = None
+single_fault (Some (one x)) = None
+single_fault (Some (called at n g es)) = if n == 1 then None else Some (fault ResultCount at)
+single_fault (Some (printed at ps)) = Some (fault ResultCount at)
+
+abbrev pub count_fault : Option ℕ → ℕ → Fault → Option Fault
+count_fault None n own = None
+count_fault (Some m) n own = if m == n then None else Some own
+
+abbrev pub uncallable_fault : Option ℕ → Pos → Option Fault
+uncallable_fault None at = None
+uncallable_fault (Some n) at = Some (fault NotCallable at)
+
+abbrev pub use_fault : Option Gives → Pos → Option Fault
+use_fault None at = None
+use_fault (Some (one x)) at = Some (fault NotUsedValue at)
+use_fault (Some (called place n g es)) at = None
+use_fault (Some (printed place ps)) at = None
+
+abbrev pub fault_where : Bool → Fault → Option Fault
+fault_where b own = if b then Some own else None
+
+abbrev pub left_fault : (is_blank reserved : Bool) → Option Declared → Pos → Option Fault
+left_fault true reserved d at = None
+left_fault false true d at = Some (fault OutOfProfile at)
+left_fault false false None at = Some (fault Unknown at)
+left_fault false false (Some (Variable site)) at = None
+left_fault false false (Some Untyped) at = None
+left_fault false false (Some (Function g)) at = Some (fault NotAssignable at)
+
+abbrev pub new_name_fault : (is_blank reserved : Bool) → Pos → Option Fault
+new_name_fault true reserved at = None
+new_name_fault false true at = Some (fault OutOfProfile at)
+new_name_fault false false at = None
+
+-- one more, where all are some
+abbrev pub with_last : {A : Type 0} → Option (List A) → Option A → Option (List A)
+with_last (Some xs) (Some x) = Some (xs ++ x ∷ [])
+with_last (Some xs) None = None
+with_last None x = None
