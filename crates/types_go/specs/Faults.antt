@@ -4,6 +4,7 @@ use Rattle.std.specs.Prelude.{◌≡◌, ⊤, ℕ, ◌≤◌, ◌^◌, ◌==◌,
 use Rattle.base.specs.declared.pos.Pos.{Pos}
 use Rattle.parse_go.specs.declared.tree.BinOp.{BinOp}
 use Rattle.parse_go.specs.declared.tree.UnOp.{UnOp}
+use Rattle.parse_go.specs.declared.tree.Name.{Name}
 use Rattle.parse_go.specs.FirstBytes.{first_place}
 use Rattle.parse_go.specs.Tree.{Ex as TreeEx, Exs as TreeExs, number, name, unary, binary, paren, call, some, Condition, spelled}
 use Rattle.parse_go.specs.Tree as tree
@@ -17,7 +18,7 @@ use Rattle.types_go.specs.declared.scope.Declared.{Declared}
 use Rattle.types_go.specs.declared.scope.Declared.TheVariants.{Variable, Untyped, Function}
 use Rattle.types_go.specs.Profile.{is_println, is_reserved}
 use Rattle.types_go.specs.Scope.{Scope, declaration}
-use Rattle.types_go.specs.Typing.{Operand, untyped, value, Gives, one, called, printed, is_int, operand_in, Seen, Many, many, count, Callee, printer, function, no_function, nothing, callee, gives, seen}
+use Rattle.types_go.specs.Typing.{Operand, untyped, value, Gives, one, called, printed, is_int, operand_in, Seen, Many, many, count, Callee, printer, function, no_function, nothing, name_in, callee, gives, seen}
 
 abbrev pub fault : FaultKind → Pos → Fault
 fault kind at = record { kind = kind; pos = at }
@@ -115,19 +116,15 @@ AreGiven (Some n) = ⊤
 
 abbrev pub CallFails : Pos → Callee → List Seen → Fault → Type 0
 CallFails at printer os f = SinglesFail os f ⊎ RangeFails os f
-CallFails at (function g sig) os f = TakeFails (fault ArgCount at) (length sig.params) os f
+CallFails at (function g params wanted) os f = TakeFails (fault ArgCount at) params os f
 CallFails at no_function os f = ValuesFail (many os) os f ⊎ (AreGiven (count os) × (f ≡ fault NotCallable at))
 CallFails at nothing os f = ValuesFail (many os) os f
 
 module _ (text : List ℕ) where
   -- what is called is a name, or an expression with one value, in which this fails and which gives this
-  abbrev pub CalleeFails : Scope → TreeEx → (Fault → Type 0) → Option Gives → Fault → Type 0
-  CalleeFails s (name n) P o f = CalleeNameFails (is_println (spelled text n)) (is_reserved (spelled text n)) (declaration s (spelled text n)) n.pos f
-  CalleeFails s (paren at e) P o f = CalleeFails s e P o f
-  CalleeFails s (number at n) P o f = P f ⊎ SingleFails o f
-  CalleeFails s (unary at op e) P o f = P f ⊎ SingleFails o f
-  CalleeFails s (binary op a b) P o f = P f ⊎ SingleFails o f
-  CalleeFails s (call g es) P o f = P f ⊎ SingleFails o f
+  abbrev pub CalleeFails : Scope → Option Name → (Fault → Type 0) → Option Gives → Fault → Type 0
+  CalleeFails s (Some n) P o f = CalleeNameFails (is_println (spelled text n)) (is_reserved (spelled text n)) (declaration s (spelled text n)) n.pos f
+  CalleeFails s None P o f = P f ⊎ SingleFails o f
 
   -- a rule fails in an expression, and in one of some
   abbrev mutual
@@ -140,8 +137,8 @@ module _ (text : List ℕ) where
         ⊎ BothFail (PairFails (first_place a) (first_place b) op) (operand_in (gives text s a)) (operand_in (gives text s b)) f
     Fails s (paren at e) f = Fails s e f
     Fails s (call g es) f =
-        (CalleeFails s g (λ h. Fails s g h) (gives text s g) f ⊎ FailsInEach s es f)
-        ⊎ CallFails (first_place g) (callee text s g (gives text s g)) (seen text s es) f
+        (CalleeFails s (name_in g) (λ h. Fails s g h) (gives text s g) f ⊎ FailsInEach s es f)
+        ⊎ CallFails (first_place g) (callee text s (name_in g) (gives text s g)) (seen text s es) f
 
     pub FailsInEach : Scope → TreeExs → Fault → Type 0
     FailsInEach s tree.none f = ⊥

@@ -4,7 +4,7 @@ use Rattle.std.specs.Option.{option_map}
 use Rattle.base.specs.declared.pos.Pos.{Pos}
 use Rattle.parse_go.specs.declared.tree.BinOp.{BinOp}
 use Rattle.parse_go.specs.declared.tree.UnOp.{UnOp}
-use Rattle.typed.specs.Syntax.{Ex, shown}
+use Rattle.typed.specs.Syntax.{Ex, Exs, shown, results}
 use Rattle.typed.specs.View.{ex_of, exs_of_values}
 use Rattle.names.specs.declared.constants.Const.{Const}
 use Rattle.names.specs.declared.constants.Const.TheVariants.{Int}
@@ -18,9 +18,11 @@ use Rattle.types_go.specs.declared.operand.Operand.TheVariants.{Untyped as Untyp
 use Rattle.types_go.specs.declared.operand.Gives.{Gives as GivesData}
 use Rattle.types_go.specs.declared.operand.Gives.TheVariants.{One, Called, Printed}
 use Rattle.types_go.specs.declared.operand.Item.{Item}
+use Rattle.types_go.specs.declared.operand.Callee.{Callee as CalleeData}
+use Rattle.types_go.specs.declared.operand.Callee.TheVariants.{Printer, Function as FunctionData, NoFunction, Nothing}
 use Rattle.types_go.specs.declared.scope.Declared.{Declared}
 use Rattle.types_go.specs.declared.scope.Declared.TheVariants.{Variable, Untyped, Function}
-use Rattle.types_go.specs.Typing.{Operand, untyped, value, Gives, one, called, printed, Seen, is_int}
+use Rattle.types_go.specs.Typing.{Operand, untyped, value, Gives, one, called, printed, Seen, Many, Callee, printer, function, no_function, nothing, is_int}
 use Rattle.types_go.specs.Faults.{fault}
 
 abbrev pub operand_of : OperandData → Operand
@@ -30,10 +32,23 @@ operand_of (Value e) = value (ex_of e)
 abbrev pub gives_of : GivesData → Gives
 gives_of (One x) = one (operand_of x)
 gives_of (Called at n f values) = called at n f.0 (exs_of_values values.value)
-gives_of (Printed at es) = printed at (map (λ e. shown (ex_of e)) es.items)
+gives_of (Printed at es) = printed at (map shown (map ex_of es.items))
 
 abbrev pub seen_of : Item → Seen
 seen_of item = record { at = item.pos; gives = option_map gives_of item.gives }
+
+abbrev pub seens : List Item → List Seen
+seens items = map seen_of items
+
+abbrev pub callee_of : CalleeData → Callee
+callee_of Printer = printer
+callee_of (FunctionData f params wanted) = function f.0 params wanted
+callee_of NoFunction = no_function
+callee_of Nothing = nothing
+
+-- all results of a call
+abbrev pub results_of : Many → Exs
+results_of m = results m.function m.arguments
 
 abbrev pub overflow_fault : Pos → Result Const ConstFault → Option Fault
 overflow_fault at (Ok c) = None

@@ -9,6 +9,7 @@ use Rattle.parse_go.specs.declared.tree.UnOp.{UnOp}
 use Rattle.parse_go.specs.declared.tree.UnOp.TheVariants as tree_prefix
 use Rattle.parse_go.specs.declared.tree.CompareOp.{CompareOp}
 use Rattle.parse_go.specs.declared.tree.CompareOp.TheVariants as compare
+use Rattle.parse_go.specs.declared.tree.Name.{Name}
 use Rattle.parse_go.specs.FirstBytes.{first_place}
 use Rattle.parse_go.specs.Tree.{Ex as TreeEx, Exs as TreeExs, number, name, unary, binary, paren, call, some, Condition, spelled}
 use Rattle.parse_go.specs.Tree as tree
@@ -176,16 +177,17 @@ taken n os = taken_of n os (many os)
 
 -- ---- calls
 
--- what is called: `println`, a function with its signature, a value that is no function, or what has no type
+-- what is called: `println`, a function by its number with the numbers of its parameters and results, a value that is no function, or
+-- what has no type
 pub data Callee : Type 0 where
   printer : Callee
-  function : ℕ → Signature → Callee
+  function : ℕ → (params results : ℕ) → Callee
   no_function : Callee
   nothing : Callee
 
 abbrev pub function_with : ℕ → Option Signature → Callee
 function_with f None = nothing
-function_with f (Some sig) = function f sig
+function_with f (Some sig) = function f (length sig.params) (length sig.results)
 
 abbrev pub callee_declared : Scope → Option Declared → Callee
 callee_declared s None = nothing
@@ -202,19 +204,24 @@ callee_value (Some x) = no_function
 
 abbrev pub called_with : Pos → Callee → List Seen → Option Gives
 called_with at printer os = option_map (λ xs. printed at (map shown xs)) (ints os)
-called_with at (function f sig) os = option_map (λ es. called at (length sig.results) f es) (taken (length sig.params) os)
+called_with at (function f params wanted) os = option_map (λ es. called at wanted f es) (taken params os)
 called_with at no_function os = None
 called_with at nothing os = None
 
+-- the name that an expression is, in parentheses or not
+abbrev pub name_in : TreeEx → Option Name
+name_in (number at n) = None
+name_in (name n) = Some n
+name_in (unary at op e) = None
+name_in (binary op a b) = None
+name_in (paren at e) = name_in e
+name_in (call f es) = None
+
 module _ (text : List ℕ) where
-  -- what a function's expression stands for, which gives this as a value
-  abbrev pub callee : Scope → TreeEx → Option Gives → Callee
-  callee s (name n) o = callee_named s (spelled text n)
-  callee s (paren at e) o = callee s e o
-  callee s (number at n) o = callee_value (operand_in o)
-  callee s (unary at op e) o = callee_value (operand_in o)
-  callee s (binary op a b) o = callee_value (operand_in o)
-  callee s (call f es) o = callee_value (operand_in o)
+  -- what a name stands for where it is called, or else an expression that gives this
+  abbrev pub callee : Scope → Option Name → Option Gives → Callee
+  callee s None o = callee_value (operand_in o)
+  callee s (Some n) o = callee_named s (spelled text n)
 
   -- what an expression gives in a scope, where no rule fails in it
   abbrev mutual
@@ -224,7 +231,7 @@ module _ (text : List ℕ) where
     gives s (unary at op e) = option_map one (option_and_then (prefixed op) (operand_in (gives s e)))
     gives s (binary op a b) = option_map one (both (combined (first_place a) op) (operand_in (gives s a)) (operand_in (gives s b)))
     gives s (paren at e) = gives s e
-    gives s (call f es) = called_with (first_place f) (callee s f (gives s f)) (seen s es)
+    gives s (call f es) = called_with (first_place f) (callee s (name_in f) (gives s f)) (seen s es)
 
     pub seen : Scope → TreeExs → List Seen
     seen s tree.none = []

@@ -34,6 +34,19 @@ pub struct Item {
     pub gives: Option<Gives>,
 }
 
+/// What is called.
+#[derive(Clone, Copy, Debug, PartialEq, Eq)]
+pub enum Callee {
+    /// `println`.
+    Printer,
+    /// A function, and the numbers of its parameters and results.
+    Function(FuncId, usize, usize),
+    /// A value that is no function.
+    NoFunction,
+    /// What has no type.
+    Nothing,
+}
+
 /// The constant as an int, where one can hold it.
 fn int_constant(value: i128) -> Option<i64>
     ensures { result ≡ (if is_int value then Some value else None) }
