@@ -11,14 +11,19 @@ use Rattle.names.specs.declared.constants.ConstFault.{ConstFault}
 use Rattle.names.specs.declared.constants.ConstFault.TheVariants.{Overflow, NotConstant}
 use Rattle.names.specs.Constants.{folded, folded_one}
 use Rattle.types_go.specs.declared.fault.Fault.{Fault}
-use Rattle.types_go.specs.declared.fault.FaultKind.TheVariants.{ConstRange, ResultCount}
+use Rattle.types_go.specs.declared.fault.FaultKind.TheVariants.{Redeclared, ConstRange, ResultCount}
 use Rattle.types_go.specs.declared.scope.Declared.{Declared}
 use Rattle.types_go.specs.declared.scope.Declared.TheVariants.{Variable, Untyped, Function}
+use Rattle.types_go.specs.declared.entries.Role.{Role}
+use Rattle.types_go.specs.declared.entries.Role.TheVariants.{Parameter, NamedResult, UnnamedResult}
 use Rattle.types_go.specs.Least.{IsLeast}
+use Rattle.types_go.specs.Scope.{Signature}
+use Rattle.types_go.specs.Functions.{is_number}
+use Rattle.types_go.specs.FunctionFaults.{TypeFails, NumberFails, FunctionNameFails, SizeFails, UnnamedFails, BlankFails, VariableFails, NamedFails}
 use Rattle.types_go.specs.Typing.{Operand, untyped, value, Gives, one, called, printed, is_int}
 use Rattle.types_go.specs.Faults.{fault, NameFails, CalleeNameFails, SingleFails, PrefixFails, PairFails, ComparisonFails, OneFails, BothFail, OperandFails, CountFails, AreGiven}
 use Rattle.types_go.specs.StatementFaults.{FailsWhere, LeftFails, NewNameFails, UseFails}
-use Rattle.types_go.specs.Passing.{overflow_fault, prefix_fault, int_fault, pair_fault, comparison_fault, literal_fault, name_fault, callee_name_fault, single_fault, count_fault, uncallable_fault, use_fault, fault_where, left_fault, new_name_fault}
+use Rattle.types_go.specs.Passing.{overflow_fault, prefix_fault, int_fault, pair_fault, comparison_fault, literal_fault, name_fault, callee_name_fault, single_fault, count_fault, uncallable_fault, use_fault, fault_where, left_fault, new_name_fault, type_fault, number_fault, function_name_fault, size_fault, unnamed_fault, blank_fault, variable_fault, named_fault}
 use Rattle.types_go.proofs.Leasts.{same_fault, just, unless}
 
 pub name_least : (reserved : Bool) (d : Option Declared) (at : Pos) → IsLeast (NameFails reserved d at) (name_fault reserved d at)
@@ -107,7 +112,56 @@ left_least false false (Some (Variable site)) at = λ f h. h
 left_least false false (Some Untyped) at = λ f h. h
 left_least false false (Some (Function g)) at = just _
 
-pub new_name_least : (is_blank reserved : Bool) (at : Pos) → IsLeast (NewNameFails is_blank reserved at) (new_name_fault is_blank reserved at)
-new_name_least true reserved at = λ f h. h
-new_name_least false true at = just _
-new_name_least false false at = λ f h. h
+pub new_name_least : (is_blank reserved is_here : Bool) (d : Option Declared) (at : Pos) → IsLeast (NewNameFails is_blank reserved is_here d at) (new_name_fault is_blank reserved is_here d at)
+new_name_least true reserved is_here d at = λ f h. h
+new_name_least false true is_here d at = just _
+new_name_least false false true d at = left_least false false d at
+new_name_least false false false d at = λ f h. h
+
+pub type_least : (is_int is_type is_known : Bool) (at : Pos) → IsLeast (TypeFails is_int is_type is_known at) (type_fault is_int is_type is_known at)
+type_least true is_type is_known at = λ f h. h
+type_least false true is_known at = just _
+type_least false false true at = just _
+type_least false false false at = just _
+
+number_least : (i : ℕ) (d : Option Declared) (at : Pos) → IsLeast (NumberFails i d at) (number_fault (is_number i d) at)
+number_least i None at = λ f h. h
+number_least i (Some (Variable site)) at = λ f h. h
+number_least i (Some Untyped) at = λ f h. h
+number_least i (Some (Function g)) at = by (g.0 == i)
+  where
+    by : (b : Bool) → IsLeast (λ f. (b ≡ false) × (f ≡ fault Redeclared at)) (number_fault b at)
+    by true = λ f h. cc h.0
+    by false = ((refl, refl), λ g1 h. same_fault _ g1 h.1)
+
+pub function_name_least : (i : ℕ) (is_blank predeclared : Bool) (d : Option Declared) (at : Pos) → IsLeast (FunctionNameFails i is_blank predeclared d at) (function_name_fault i is_blank predeclared d at)
+function_name_least i true predeclared d at = λ f h. h
+function_name_least i false true d at = just _
+function_name_least i false false d at = number_least i d at
+
+pub size_least : (sig : Option Signature) (at : Pos) → IsLeast (SizeFails sig at) (size_fault sig at)
+size_least None at = λ f h. h
+size_least (Some sig) at = where_least _ _
+
+pub unnamed_least : (role : Role) (at : Pos) → IsLeast (UnnamedFails role at) (unnamed_fault role at)
+unnamed_least Parameter at = λ f h. h
+unnamed_least NamedResult at = just _
+unnamed_least UnnamedResult at = λ f h. h
+
+blank_least : (role : Role) (at : Pos) → IsLeast (BlankFails role at) (blank_fault role at)
+blank_least Parameter at = λ f h. h
+blank_least NamedResult at = just _
+blank_least UnnamedResult at = just _
+
+variable_least : (role : Role) (reserved is_here : Bool) (at : Pos) → IsLeast (VariableFails role reserved is_here at) (variable_fault role reserved is_here at)
+variable_least UnnamedResult reserved is_here at = just _
+variable_least Parameter true is_here at = just _
+variable_least Parameter false true at = just _
+variable_least Parameter false false at = λ f h. h
+variable_least NamedResult true is_here at = just _
+variable_least NamedResult false true at = just _
+variable_least NamedResult false false at = λ f h. h
+
+pub named_least : (role : Role) (is_blank reserved is_here : Bool) (at : Pos) → IsLeast (NamedFails role is_blank reserved is_here at) (named_fault role is_blank reserved is_here at)
+named_least role true reserved is_here at = blank_least role at
+named_least role false reserved is_here at = variable_least role reserved is_here at

@@ -1,7 +1,14 @@
 mod Decided
 mod DecidedValues
+mod Growth
 mod Items
 mod Leasts
 mod Leaves
+mod Names
 mod Nodes
+mod Sequences
+mod Settled
+mod SettledFunctions
+mod SettledStatements
 mod TreeRows
+mod Visible

@@ -8,9 +8,11 @@ use Rattle.types_go.specs.declared.fault.Fault.{Fault}
 use Rattle.types_go.specs.declared.fault.FaultKind.TheVariants.{Unknown, Redeclared, MissingReturn, BadOperand, NoMain, OutOfProfile, TooLarge}
 use Rattle.types_go.specs.declared.scope.Declared.{Declared}
 use Rattle.types_go.specs.declared.scope.Declared.TheVariants.{Variable, Untyped, Function}
+use Rattle.types_go.specs.declared.entries.Role.{Role}
+use Rattle.types_go.specs.declared.entries.Role.TheVariants.{Parameter as parameter, NamedResult as named_result, UnnamedResult as unnamed_result}
 use Rattle.types_go.specs.Profile.{is_blank, is_int_type, is_type_name, is_value_name, is_predeclared, is_reserved}
 use Rattle.types_go.specs.Scope.{Scope, Signature, declaration, is_here, opened}
-use Rattle.types_go.specs.Functions.{Role, parameter, named_result, unnamed_result, role_of, words, signature_in, behind_entry, behind_params, body_scope, behind_function, returns_of, may_end, package_scope, main_number}
+use Rattle.types_go.specs.Functions.{role_of, words, signature_in, behind_entry, behind_params, body_scope, behind_function, returns_of, may_end, package_scope, main_number}
 use Rattle.types_go.specs.Faults.{fault}
 use Rattle.types_go.specs.StatementFaults.{FailsWhere, FailsInStatements}
 
@@ -91,11 +93,11 @@ module _ (text : List ℕ) where
   abbrev pub FailsInParts : Scope → TreeFunction → Fault → Type 0
   FailsInParts s g f =
       (EntriesFail parameter (opened s) g.params f ⊎ EntriesFail (role_of g.results) (behind_params text s g) g.results f)
-      ⊎ FailsInStatements text (returns_of text g) (body_scope text s g) g.body f
+      ⊎ FailsInStatements text (returns_of g) (body_scope text s g) g.body f
 
   -- with results, a function ends in a terminating statement
   abbrev pub FailsInFunction : Scope → ℕ → TreeFunction → Fault → Type 0
-  FailsInFunction s i g f = (FailsInHead s i g f ⊎ FailsInTypes s g f) ⊎ (FailsInParts s g f ⊎ FailsWhere (not (may_end text g)) (fault MissingReturn g.end) f)
+  FailsInFunction s i g f = (FailsInHead s i g f ⊎ FailsInTypes s g f) ⊎ (FailsInParts s g f ⊎ FailsWhere (not (may_end g)) (fault MissingReturn g.end) f)
 
   abbrev pub FailsInFunctions : Scope → ℕ → List TreeFunction → Fault → Type 0
   FailsInFunctions s i [] f = ⊥

@@ -11,15 +11,12 @@ use Rattle.types_go.specs.declared.scope.ValueType.{ValueType}
 use Rattle.types_go.specs.declared.scope.ValueType.TheVariants.{Int}
 use Rattle.types_go.specs.declared.scope.Declared.{Declared}
 use Rattle.types_go.specs.declared.scope.Declared.TheVariants.{Variable, Untyped, Function}
+use Rattle.types_go.specs.declared.entries.Role.{Role}
+use Rattle.types_go.specs.declared.entries.Role.TheVariants.{Parameter as parameter, NamedResult as named_result, UnnamedResult as unnamed_result}
+use Rattle.types_go.specs.declared.statements.Returns.{Returns}
 use Rattle.types_go.specs.Profile.{is_blank, is_main, is_int_type, is_predeclared, is_reserved}
 use Rattle.types_go.specs.Scope.{Scope, Signature, declaration, is_here, with_declaration, with_variable, with_signature, opened, closed, beginning}
-use Rattle.types_go.specs.Statements.{Returns, behind_all, statements, ends_in_terminating}
-
--- where a name with a type stands: a parameter, or a result of a function whose results have names, or have none
-pub data Role : Type 0 where
-  parameter : Role
-  named_result : Role
-  unnamed_result : Role
+use Rattle.types_go.specs.Statements.{behind_all, statements, ends_in_terminating}
 
 -- the site of a parameter or result, and none where it has no variable: without a name, or blank; the one in the middle where the
 -- name may not stand there
@@ -59,6 +56,14 @@ sites_of (Some site ∷ es) = site ∷ sites_of es
 abbrev pub words : Signature → ℕ
 words sig = length sig.params + length sig.results
 
+abbrev pub is_small : Option Signature → Bool
+is_small None = false
+is_small (Some sig) = nat_le (words sig) 65535
+
+-- whether the package block declares a function of this name
+abbrev pub declares_function : Scope → List ℕ → Bool
+declares_function s n = not (is_blank n || is_predeclared n) && not (is_here s n)
+
 -- whether a function's name may stand for it: it is none of the language, and the first of its spelling is this one
 abbrev pub is_number : ℕ → Option Declared → Bool
 is_number i (Some (Function f)) = f.0 == i
@@ -83,6 +88,13 @@ abbrev pub is_plain : Option TreeFunction → Bool
 is_plain None = false
 is_plain (Some f) = (length f.params == 0) && (length f.results == 0)
 
+-- with results that have no names, a `return` gives some values
+abbrev pub returns_of : TreeFunction → Returns
+returns_of f = record { count = length f.results; may_be_bare = (length f.results == 0) || is_named (role_of f.results) }
+
+abbrev pub may_end : TreeFunction → Bool
+may_end f = (length f.results == 0) || ends_in_terminating f.body
+
 module _ (text : List ℕ) where
   abbrev pub type_of : Name → Option ValueType
   type_of n = if is_int_type (spelled text n) then Some Int else None
@@ -96,9 +108,6 @@ module _ (text : List ℕ) where
   signature_in f = option_and_then (λ ps. option_map (λ rs. record { params = ps; results = rs }) (types_of f.results)) (types_of f.params)
 
   -- ---- the package block: the first function of a name is declared
-
-  abbrev pub declares_function : Scope → List ℕ → Bool
-  declares_function s n = not (is_blank n || is_predeclared n) && not (is_here s n)
 
   abbrev pub with_function : Scope → TreeFunction → Scope
   with_function s f =
@@ -144,13 +153,6 @@ module _ (text : List ℕ) where
   abbrev pub behind_function : Scope → TreeFunction → Scope
   behind_function s f = closed (behind_all text (body_scope s f) f.body)
 
-  -- with results that have no names, a `return` gives some values
-  abbrev pub returns_of : TreeFunction → Returns
-  returns_of f = record { count = length f.results; may_be_bare = (length f.results == 0) || is_named (role_of f.results) }
-
-  abbrev pub may_end : TreeFunction → Bool
-  may_end f = (length f.results == 0) || ends_in_terminating f.body
-
   abbrev pub func : Scope → TreeFunction → List (Option ℕ) → List (Option ℕ) → Sts → Func
   func s f params results body = record {
     first = length s.sites;
@@ -169,10 +171,6 @@ module _ (text : List ℕ) where
   parts s f =
       option_and_then (λ ps. option_and_then (λ rs. option_map (func s f ps rs) (body_of s f)) (entries (role_of f.results) (behind_params s f) f.results))
       (entries parameter (opened s) f.params)
-
-  abbrev pub is_small : Option Signature → Bool
-  is_small None = false
-  is_small (Some sig) = nat_le (words sig) 65535
 
   -- its name, its number, its types and their words, its parts, and the end of its body
   abbrev pub function_head : Scope → ℕ → TreeFunction → Bool

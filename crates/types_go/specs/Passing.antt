@@ -1,10 +1,12 @@
 -- What the checker's pass works out of what it knows of the parts.
-use Rattle.std.specs.Prelude.{ℕ, ◌^◌, ◌==◌, pos, Bool, true, false, List, [], ◌∷◌, ◌++◌, map, nat_lt, Option, Some, None, Result, Ok, Err, if◌then◌else◌}
+use Rattle.std.specs.Prelude.{◌≡◌, ⊤, ◌-◌, option_and_then, ℕ, ◌^◌, ◌==◌, pos, Bool, true, false, List, [], ◌∷◌, ◌++◌, map, nat_lt, nat_le, not, Option, Some, None, Result, Ok, Err, if◌then◌else◌}
 use Rattle.std.specs.Option.{option_map}
 use Rattle.base.specs.declared.pos.Pos.{Pos}
 use Rattle.parse_go.specs.declared.tree.BinOp.{BinOp}
 use Rattle.parse_go.specs.declared.tree.UnOp.{UnOp}
-use Rattle.typed.specs.Syntax.{Ex, Exs, shown, results}
+use Rattle.typed.specs.Syntax.{Ex, Exs, Sts, Func, shown, results}
+use Rattle.typed.specs.declared.program.Func.{Func as FuncData}
+use Rattle.parse_go.specs.Tree.{Function as TreeFunction}
 use Rattle.typed.specs.View.{ex_of, exs_of_values}
 use Rattle.names.specs.declared.constants.Const.{Const}
 use Rattle.names.specs.declared.constants.Const.TheVariants.{Int}
@@ -12,7 +14,7 @@ use Rattle.names.specs.declared.constants.ConstFault.{ConstFault}
 use Rattle.names.specs.declared.constants.ConstFault.TheVariants.{Overflow, NotConstant}
 use Rattle.names.specs.Constants.{folded, folded_one}
 use Rattle.types_go.specs.declared.fault.Fault.{Fault}
-use Rattle.types_go.specs.declared.fault.FaultKind.TheVariants.{Unknown, NotAssignable, NotCallable, ResultCount, NotUsedValue, ConstRange, OutOfProfile}
+use Rattle.types_go.specs.declared.fault.FaultKind.TheVariants.{Unknown, Redeclared, NotAssignable, NotCallable, ResultCount, NotUsedValue, ConstRange, BadOperand, OutOfProfile, TooLarge}
 use Rattle.types_go.specs.declared.operand.Operand.{Operand as OperandData}
 use Rattle.types_go.specs.declared.operand.Operand.TheVariants.{Untyped as UntypedData, Value}
 use Rattle.types_go.specs.declared.operand.Gives.{Gives as GivesData}
@@ -23,6 +25,10 @@ use Rattle.types_go.specs.declared.operand.Callee.TheVariants.{Printer, Function
 use Rattle.types_go.specs.declared.scope.Declared.{Declared}
 use Rattle.types_go.specs.declared.scope.Declared.TheVariants.{Variable, Untyped, Function}
 use Rattle.types_go.specs.Typing.{Operand, untyped, value, Gives, one, called, printed, Seen, Many, Callee, printer, function, no_function, nothing, is_int}
+use Rattle.types_go.specs.Scope.{Signature}
+use Rattle.types_go.specs.Functions.{is_number, sites_of, words}
+use Rattle.types_go.specs.declared.entries.Role.{Role}
+use Rattle.types_go.specs.declared.entries.Role.TheVariants.{Parameter as parameter, NamedResult as named_result, UnnamedResult as unnamed_result}
 use Rattle.types_go.specs.Faults.{fault}
 
 abbrev pub operand_of : OperandData → Operand
@@ -135,10 +141,74 @@ left_fault false false (Some (Variable site)) at = None
 left_fault false false (Some Untyped) at = None
 left_fault false false (Some (Function g)) at = Some (fault NotAssignable at)
 
-abbrev pub new_name_fault : (is_blank reserved : Bool) → Pos → Option Fault
-new_name_fault true reserved at = None
-new_name_fault false true at = Some (fault OutOfProfile at)
-new_name_fault false false at = None
+abbrev pub new_name_fault : (is_blank reserved is_here : Bool) → Option Declared → Pos → Option Fault
+new_name_fault true reserved is_here d at = None
+new_name_fault false true is_here d at = Some (fault OutOfProfile at)
+new_name_fault false false true d at = left_fault false false d at
+new_name_fault false false false d at = None
+
+abbrev pub type_fault : (is_int is_type is_known : Bool) → Pos → Option Fault
+type_fault true is_type is_known at = None
+type_fault false true is_known at = Some (fault OutOfProfile at)
+type_fault false false true at = Some (fault BadOperand at)
+type_fault false false false at = Some (fault Unknown at)
+
+abbrev pub number_fault : Bool → Pos → Option Fault
+number_fault true at = None
+number_fault false at = Some (fault Redeclared at)
+
+abbrev pub function_name_fault : ℕ → (is_blank predeclared : Bool) → Option Declared → Pos → Option Fault
+function_name_fault i true predeclared d at = None
+function_name_fault i false true d at = Some (fault OutOfProfile at)
+function_name_fault i false false d at = number_fault (is_number i d) at
+
+abbrev pub size_fault : Option Signature → Pos → Option Fault
+size_fault None at = None
+size_fault (Some sig) at = fault_where (not (nat_le (words sig) 65535)) (fault TooLarge at)
+
+abbrev pub unnamed_fault : Role → Pos → Option Fault
+unnamed_fault parameter at = None
+unnamed_fault named_result at = Some (fault OutOfProfile at)
+unnamed_fault unnamed_result at = None
+
+abbrev pub blank_fault : Role → Pos → Option Fault
+blank_fault parameter at = None
+blank_fault named_result at = Some (fault OutOfProfile at)
+blank_fault unnamed_result at = Some (fault OutOfProfile at)
+
+abbrev pub variable_fault : Role → (reserved is_here : Bool) → Pos → Option Fault
+variable_fault unnamed_result reserved is_here at = Some (fault OutOfProfile at)
+variable_fault parameter true is_here at = Some (fault OutOfProfile at)
+variable_fault parameter false true at = Some (fault Redeclared at)
+variable_fault parameter false false at = None
+variable_fault named_result true is_here at = Some (fault OutOfProfile at)
+variable_fault named_result false true at = Some (fault Redeclared at)
+variable_fault named_result false false at = None
+
+abbrev pub named_fault : Role → (is_blank reserved is_here : Bool) → Pos → Option Fault
+named_fault role true reserved is_here at = blank_fault role at
+named_fault role false reserved is_here at = variable_fault role reserved is_here at
+
+-- a function of its parts, with the sites from one number on up to another
+abbrev pub assembled : TreeFunction → (first behind : ℕ) → Option (List (Option ℕ)) → Option (List (Option ℕ)) → Option Sts → Option Func
+assembled f first behind ps rs body =
+    option_and_then (λ params. option_and_then (λ results. option_map (λ b. record {
+      first = first;
+      count = behind - first;
+      params = params;
+      results = map (λ p. 0) f.results;
+      named = sites_of results;
+      body = b;
+    }) body) rs) ps
+
+-- a typed function stands at a place, and some at places
+abbrev pub IsAt : Pos → Option FuncData → Type 0
+IsAt at None = ⊤
+IsAt at (Some f) = f.pos ≡ at
+
+abbrev pub AreAt : List Pos → Option (List FuncData) → Type 0
+AreAt places None = ⊤
+AreAt places (Some fs) = map (λ f. f.pos) fs ≡ places
 
 -- one more, where all are some
 abbrev pub with_last : {A : Type 0} → Option (List A) → Option A → Option (List A)

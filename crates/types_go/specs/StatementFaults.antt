@@ -11,10 +11,11 @@ use Rattle.types_go.specs.declared.fault.Fault.{Fault}
 use Rattle.types_go.specs.declared.fault.FaultKind.TheVariants.{Unknown, Redeclared, NothingNew, NotAssignable, ArgCount, ResultCount, NotUsedValue, OutOfProfile}
 use Rattle.types_go.specs.declared.scope.Declared.{Declared}
 use Rattle.types_go.specs.declared.scope.Declared.TheVariants.{Variable, Untyped, Function}
+use Rattle.types_go.specs.declared.statements.Returns.{Returns}
 use Rattle.types_go.specs.Profile.{is_blank, is_reserved}
-use Rattle.types_go.specs.Scope.{Scope, declaration, opened, closed}
+use Rattle.types_go.specs.Scope.{Scope, declaration, is_here, opened, closed}
 use Rattle.types_go.specs.Typing.{Gives, one, called, printed, Seen, many, count, gives, seen}
-use Rattle.types_go.specs.Statements.{Returns, noted, is_noted, lefts, has_all, behind, behind_all}
+use Rattle.types_go.specs.Statements.{noted, is_noted, lefts, has_all, behind, behind_all}
 use Rattle.types_go.specs.Faults.{fault, ValuesFail, RangeFails, CountFails, TakeFails, Fails, FailsInEach, FailsInCondition, FailsInTest}
 
 -- a rule that fails where this holds
@@ -31,11 +32,12 @@ LeftFails false false (Some (Variable site)) at f = ⊥
 LeftFails false false (Some Untyped) at f = ⊥
 LeftFails false false (Some (Function g)) at f = f ≡ fault NotAssignable at
 
--- a name on the left of `:=` is blank, or not the language's own
-abbrev pub NewNameFails : (is_blank reserved : Bool) → Pos → Fault → Type 0
-NewNameFails true reserved at f = ⊥
-NewNameFails false true at f = f ≡ fault OutOfProfile at
-NewNameFails false false at f = ⊥
+-- a name on the left of `:=` is blank, or not the language's own; one that the block has is a variable
+abbrev pub NewNameFails : (is_blank reserved is_here : Bool) → Option Declared → Pos → Fault → Type 0
+NewNameFails true reserved is_here d at f = ⊥
+NewNameFails false true is_here d at f = f ≡ fault OutOfProfile at
+NewNameFails false false true d at f = LeftFails false false d at f
+NewNameFails false false false d at f = ⊥
 
 -- where a statement with names begins
 abbrev pub names_place : List Name → Pos → Pos
@@ -59,18 +61,15 @@ module _ (text : List ℕ) where
   LeftsFail s [] f = ⊥
   LeftsFail s (n ∷ ns) f = LeftFails (is_blank (spelled text n)) (is_reserved (spelled text n)) (declaration s (spelled text n)) n.pos f ⊎ LeftsFail s ns f
 
-  abbrev pub NewNamesFail : List Name → Fault → Type 0
-  NewNamesFail [] f = ⊥
-  NewNamesFail (n ∷ ns) f = NewNameFails (is_blank (spelled text n)) (is_reserved (spelled text n)) n.pos f ⊎ NewNamesFail ns f
+  abbrev pub NewNamesFail : Scope → List Name → Fault → Type 0
+  NewNamesFail s [] f = ⊥
+  NewNamesFail s (n ∷ ns) f =
+      NewNameFails (is_blank (spelled text n)) (is_reserved (spelled text n)) (is_here s (spelled text n)) (declaration s (spelled text n)) n.pos f ⊎ NewNamesFail s ns f
 
   -- a name stands twice
   abbrev pub TwiceFails : Blocks → List Name → Fault → Type 0
   TwiceFails names [] f = ⊥
   TwiceFails names (n ∷ ns) f = FailsWhere (is_noted names (spelled text n)) (fault Redeclared n.pos) f ⊎ TwiceFails (noted names (spelled text n)) ns f
-
-  -- the names of a `:=` at a place
-  abbrev pub DeclarationFails : Scope → List Name → Pos → Fault → Type 0
-  DeclarationFails s ns at f = (NewNamesFail ns f ⊎ TwiceFails ([] ∷ []) ns f) ⊎ FailsWhere (has_all text s ns) (fault NothingNew at) f
 
   -- the number of values is looked at where all left sides have types
   abbrev pub FailsInAssignment : Scope → List Name → Pos → TreeExs → Fault → Type 0
@@ -84,7 +83,8 @@ module _ (text : List ℕ) where
     abbrev mutual
       pub FailsInStatement : Scope → Stm → Fault → Type 0
       FailsInStatement s (tree.define ns at es) f =
-          (FailsInEach text s es f ⊎ TakeFails (fault ArgCount (names_place ns at)) (length ns) (seen text s es) f) ⊎ DeclarationFails s ns at f
+          ((FailsInEach text s es f ⊎ TakeFails (fault ArgCount (names_place ns at)) (length ns) (seen text s es) f) ⊎ NewNamesFail s ns f)
+          ⊎ (TwiceFails ([] ∷ []) ns f ⊎ FailsWhere (has_all text s ns) (fault NothingNew at) f)
       FailsInStatement s (tree.assign ns at es) f = FailsInAssignment s ns at es f
       FailsInStatement s (tree.express e) f = Fails text s e f ⊎ UseFails (gives text s e) (first_place e) f
       FailsInStatement s (tree.give_back at es) f = FailsInEach text s es f ⊎ ReturnFails at r (seen text s es) f

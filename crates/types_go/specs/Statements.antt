@@ -1,6 +1,6 @@
 -- The typed statements that the rules of the language give a tree (Go specification, "Short variable declarations", "Assignment
 -- statements", "Expression statements", "If statements", "For statements", "Return statements").
-use Rattle.std.specs.Prelude.{ℕ, length, Bool, true, false, not, ◌&&◌, ◌||◌, List, [], ◌∷◌, Option, Some, None, is_some, option_and_then, if◌then◌else◌}
+use Rattle.std.specs.Prelude.{ℕ, ◌+◌, length, Bool, true, false, not, ◌&&◌, ◌||◌, List, [], ◌∷◌, Option, Some, None, is_some, option_and_then, if◌then◌else◌}
 use Rattle.std.specs.Option.{option_map}
 use Rattle.base.specs.declared.pos.Pos.{Pos}
 use Rattle.names.specs.Blocks.{Blocks, innermost, insert}
@@ -10,6 +10,7 @@ use Rattle.parse_go.specs.Tree as tree
 use Rattle.typed.specs.Syntax.{Ex, Exs, Left, St, Sts, local, here, none, results, blank, new, to, assign, discard, block, choose, loop, give_back, print, done, next}
 use Rattle.types_go.specs.declared.scope.Declared.{Declared}
 use Rattle.types_go.specs.declared.scope.Declared.TheVariants.{Variable, Untyped, Function}
+use Rattle.types_go.specs.declared.statements.Returns.{Returns}
 use Rattle.types_go.specs.Profile.{is_blank, is_reserved}
 use Rattle.types_go.specs.Scope.{Scope, declaration, is_here, with_variable, opened, closed}
 use Rattle.types_go.specs.Typing.{Gives, one, called, printed, Seen, taken, gives, seen, condition, test}
@@ -33,9 +34,6 @@ new_left_of is_blank reserved is_here d site = if is_blank then Some blank else 
 abbrev pub declares : Scope → List ℕ → Bool
 declares s n = not (is_reserved n) && not (is_here s n)
 
-abbrev pub behind_name : Bool → Scope → List ℕ → Pos → Scope
-behind_name has_type s n at = if declares s n then with_variable has_type s n at else s
-
 -- the names so far as one block, apart from blank ones
 abbrev pub noted : Blocks → List ℕ → Blocks
 noted names n = if is_blank n then names else insert names n 0
@@ -55,11 +53,7 @@ expressed (one x) = None
 expressed (called at n f es) = Some (discard (results f es))
 expressed (printed at ps) = Some (print true ps)
 
--- what a function gives back: how many values, and whether a `return` may have none
-pub record Returns : Type 0 where
-  pub count : ℕ
-  pub may_be_bare : Bool
-
+-- the values of a `return`
 abbrev pub returned : Returns → List Seen → Option St
 returned r [] = if r.may_be_bare then Some (give_back none) else None
 returned r (o ∷ os) = option_map give_back (taken r.count (o ∷ os))
@@ -74,18 +68,23 @@ module _ (text : List ℕ) where
   lefts s [] = Some []
   lefts s (n ∷ ns) = option_and_then (λ l. option_map (λ ls. l ∷ ls) (lefts s ns)) (left_of (is_blank (spelled text n)) (is_reserved (spelled text n)) (declaration s (spelled text n)))
 
-  abbrev pub new_left : Scope → Name → Option Left
-  new_left s n = new_left_of (is_blank (spelled text n)) (is_reserved (spelled text n)) (is_here s (spelled text n)) (declaration s (spelled text n)) (length s.sites)
+  -- the names that a `:=` declares, where it begins
+  abbrev pub new_names : Scope → List Name → List Name
+  new_names s [] = []
+  new_names s (n ∷ ns) = if declares s (spelled text n) then n ∷ new_names s ns else new_names s ns
 
-  -- the left sides of `:=`, from left to right
-  abbrev pub new_lefts : Scope → List Name → Option (List Left)
-  new_lefts s [] = Some []
-  new_lefts s (n ∷ ns) = option_and_then (λ l. option_map (λ ls. l ∷ ls) (new_lefts (behind_name true s (spelled text n) n.pos) ns)) (new_left s n)
+  abbrev pub new_left : Scope → ℕ → Name → Option Left
+  new_left s site n = new_left_of (is_blank (spelled text n)) (is_reserved (spelled text n)) (is_here s (spelled text n)) (declaration s (spelled text n)) site
 
-  -- the scope behind the names of a `:=`, whose values have types, or some of which have none
-  abbrev pub behind_names : Bool → Scope → List Name → Scope
-  behind_names has_type s [] = s
-  behind_names has_type s (n ∷ ns) = behind_names has_type (behind_name has_type s (spelled text n) n.pos) ns
+  -- its left sides, the new ones of which have sites from one on
+  abbrev pub new_lefts : Scope → ℕ → List Name → Option (List Left)
+  new_lefts s site [] = Some []
+  new_lefts s site (n ∷ ns) = option_and_then (λ l. option_map (λ ls. l ∷ ls) (new_lefts s (if declares s (spelled text n) then 1 + site else site) ns)) (new_left s site n)
+
+  -- the scope behind new variables, with types or without
+  abbrev pub with_variables : Bool → Scope → List Name → Scope
+  with_variables has_type s [] = s
+  with_variables has_type s (n ∷ ns) = with_variables has_type (with_variable has_type s (spelled text n) n.pos) ns
 
   -- no name but the blank one stands twice
   abbrev pub are_distinct : Blocks → List Name → Bool
@@ -104,7 +103,7 @@ module _ (text : List ℕ) where
 
   abbrev mutual
     pub behind : Scope → Stm → Scope
-    behind s (tree.define ns at es) = behind_names (is_some (taken (length ns) (seen text s es))) s ns
+    behind s (tree.define ns at es) = with_variables (is_some (taken (length ns) (seen text s es))) s (new_names s ns)
     behind s (tree.assign ns at es) = s
     behind s (tree.express e) = s
     behind s (tree.give_back at es) = s
@@ -126,7 +125,7 @@ module _ (text : List ℕ) where
   module _ (r : Returns) where
     abbrev mutual
       pub statement : Scope → Stm → Option St
-      statement s (tree.define ns at es) = if may_define s ns then assignment (new_lefts s ns) (taken (length ns) (seen text s es)) else None
+      statement s (tree.define ns at es) = if may_define s ns then assignment (new_lefts s (length s.sites) ns) (taken (length ns) (seen text s es)) else None
       statement s (tree.assign ns at es) = assignment (lefts s ns) (taken (length ns) (seen text s es))
       statement s (tree.express e) = option_and_then expressed (gives text s e)
       statement s (tree.give_back at es) = returned r (seen text s es)
@@ -153,18 +152,19 @@ abbrev mutual
   is_terminating (tree.assign ns at es) = false
   is_terminating (tree.express e) = false
   is_terminating (tree.give_back at es) = true
-  is_terminating (tree.choice at c body rest) = ends_in_terminating body && is_terminating_else rest
-  is_terminating (tree.loop at None body) = true
-  is_terminating (tree.loop at (Some c) body) = false
-  is_terminating (tree.block ms) = ends_in_terminating ms
+  is_terminating (tree.choice at c body rest) = ends_after false body && is_terminating_else rest
+  is_terminating (tree.loop at c body) = not (is_some c)
+  is_terminating (tree.block ms) = ends_after false ms
 
   pub is_terminating_else : Els → Bool
   is_terminating_else tree.no_else = false
-  is_terminating_else (tree.else_block ms) = ends_in_terminating ms
-  is_terminating_else (tree.else_if at c body rest) = ends_in_terminating body && is_terminating_else rest
+  is_terminating_else (tree.else_block ms) = ends_after false ms
+  is_terminating_else (tree.else_if at c body rest) = ends_after false body && is_terminating_else rest
 
-  -- the last statement of a list decides
-  pub ends_in_terminating : Stms → Bool
-  ends_in_terminating tree.nil = false
-  ends_in_terminating (tree.cons m tree.nil) = is_terminating m
-  ends_in_terminating (tree.cons m (tree.cons k ms)) = ends_in_terminating (tree.cons k ms)
+  -- whether the last of some statements is terminating, behind one of which that is known
+  pub ends_after : Bool → Stms → Bool
+  ends_after ends tree.nil = ends
+  ends_after ends (tree.cons m ms) = ends_after (is_terminating m) ms
+
+abbrev pub ends_in_terminating : Stms → Bool
+ends_in_terminating ms = ends_after false ms

@@ -1,6 +1,6 @@
 //! What names stand for.
 
-ghost use Rattle.std.specs.Prelude.{◌≡◌, ◌<◌, length, OnOk, IfOk, Option, None, Some, if◌then◌else◌};
+ghost use Rattle.std.specs.Prelude.{◌≡◌, ◌<◌, length, OnOk, IfOk, Option, None, Some, if◌then◌else◌, ◌+◌};
 ghost use Rattle.std.specs.Option.{option_map};
 ghost use Rattle.types_go.specs.Scope.{scope_of, signature_of, declaration, is_here, signature, beginning, with_declaration, with_variable, with_signature, opened, closed};
 
@@ -110,6 +110,19 @@ pub fn next_site(scope: &Scope) -> Result<SiteId, NoMemory>
     ensures { IfOk result (λ site. site.0 ≡ length (scope_of scope.now).sites) }
 {
     match u32::try_from(scope.sites.len()) {
+        Ok(number) => Ok(SiteId(number)),
+        Err(_) => Err(NoMemory),
+    }
+}
+
+/// The number of the site behind the next so many.
+pub fn site_behind(scope: &Scope, before: usize) -> Result<SiteId, NoMemory>
+    ensures { IfOk result (λ site. site.0 ≡ length (scope_of scope.now).sites + before) }
+{
+    let Some(place) = scope.sites.len().checked_add(before) else {
+        return Err(NoMemory);
+    };
+    match u32::try_from(place) {
         Ok(number) => Ok(SiteId(number)),
         Err(_) => Err(NoMemory),
     }
