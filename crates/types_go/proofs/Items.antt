@@ -6,6 +6,8 @@ use Rattle.std.specs.Global.{Vec}
 use Rattle.std.proofs.Math.Seq.{drop-cons}
 use Rattle.base.specs.declared.pos.Pos.{Pos}
 use Rattle.std.proofs.lemmas.List.{map-append}
+use Rattle.parse_go.specs.declared.tree.Name.{Name}
+use Rattle.parse_go.specs.declared.tree.Param.{Param}
 use Rattle.typed.specs.declared.expr.Expr.{Expr}
 use Rattle.typed.specs.View.{ex_of, exs_of, pieces_of}
 use Rattle.typed.specs.Syntax.{Ex, more, shown}
@@ -95,3 +97,17 @@ pub pushed : (items : List Item) (item : Item) (g : Option Gives) (at : Pos) (al
     → all ≡ seens (items ++ item ∷ []) ++ others
 pushed items item g at all others same is =
     is ∙ ap (λ (o : Seen). seens items ++ (o ∷ others)) (sym same) ∙ sym (append_assoc (seens items) (seen_of item ∷ []) others) ∙ ap (λ l. l ++ others) (sym (map-append seen_of items (item ∷ [])))
+
+-- ---- elements that are copied out
+
+abbrev pub no_name : Name
+no_name = record { pos = record { offset = 0; line = 0; col = 0 }; end = 0 }
+
+abbrev pub no_param : Param
+no_param = record { name = None; type_name = no_name }
+
+-- the elements of a list from one on, which is there
+pub from_there : {A : Type 0} (xs : List A) (i : ℕ) (d : A) → i < length xs → drop i xs ≡ get_or xs i d ∷ drop (i + 1) xs
+from_there xs i d l =
+    let one : suc i ≡ i + 1 = omega arith in
+    drop-cons xs i d l ∙ ap (λ j. get_or xs i d ∷ drop j xs) one

@@ -9,6 +9,11 @@ ghost use Rattle.typed.specs.Syntax.{Program as ProgramOf};
 ghost use Rattle.types_go.specs.Profile.{is_main};
 ghost use Rattle.types_go.specs.Scope.{scope_of, declaration};
 ghost use Rattle.types_go.specs.Functions.{number_of, plain_number};
+ghost use Rattle.types_go.specs.Least.{IsLeast};
+ghost use Rattle.types_go.specs.Faults.{fault as fault_at};
+ghost use Rattle.types_go.specs.declared.fault.FaultKind.TheVariants.{NoMain};
+ghost use Rattle.types_go.specs.StatementFaults.{FailsWhere};
+ghost use Rattle.types_go.specs.FunctionFaults.{first_byte};
 ghost use Rattle.types_go.specs.Checked.{Types, Reports, OnlyProgram, places_of};
 
 use crate::declaring::fault_where;
@@ -54,6 +59,22 @@ fn main_number(text: &[u8], scope: &Scope, package_name: Name, funcs: &[Func]) -
     }
 }
 
+/// The fault of a package without a function `main`.
+#[tactic(auto, using(crate::proofs::Leaves::where_least))]
+fn no_main_fault(is_absent: bool) -> Option<Fault>
+    ensures { IsLeast (FailsWhere is_absent (fault_at NoMain first_byte)) result }
+{
+    let own = Fault {
+        kind: FaultKind::NoMain,
+        pos: Pos {
+            offset: 0,
+            line: 1,
+            col: 1,
+        },
+    };
+    fault_where(is_absent, own)
+}
+
 /// The typed program of a tree (Go specification, "Declarations and scope", "Constants", "Assignability", "Calls", "Statements"). A
 /// program of this part is one package of functions of ints.
 pub fn check(alloc: Global, tree: &Tree) -> Result<Program, TypeFault>
@@ -70,22 +91,18 @@ pub fn check(alloc: Global, tree: &Tree) -> Result<Program, TypeFault>
     // Where the rules give the tree a program it is answered, unless memory runs out.
     ensures only { (p : ProgramOf) → Types (syntax_of tree.now) p → OnlyProgram result p }
 {
+    let text: &[u8] = &tree.text;
+    let funcs: &[Func] = &tree.funcs;
     let mut scope = beginning(alloc);
-    add_functions(alloc, &tree.text, &mut scope, &tree.funcs)?;
-    let main = main_number(&tree.text, &scope, tree.package, &tree.funcs);
-    let checked = check_functions(alloc, &tree.text, &mut scope, &tree.funcs)?;
-    let own = Fault {
-        kind: FaultKind::NoMain,
-        pos: Pos {
-            offset: 0,
-            line: 1,
-            col: 1,
-        },
-    };
-    match lesser(fault_where(main.is_none(), own), checked.fault) {
+    add_functions(alloc, text, &mut scope, funcs)?;
+    let main = main_number(text, &scope, tree.package, funcs);
+    let checked = check_functions(alloc, text, &mut scope, funcs)?;
+    let main_fault = no_main_fault(main.is_none());
+    match lesser(main_fault, checked.fault) {
         Some(fault) => Err(TypeFault::Fault(fault)),
         None => {
-            let (Some(main), Some(funcs)) = (main, checked.funcs) else {
+            let Some(main) = main else { unreachable!() };
+            let Some(funcs) = checked.funcs else {
                 unreachable!()
             };
             Ok(Program {

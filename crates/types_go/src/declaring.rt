@@ -335,6 +335,12 @@ fn has_all(text: &[u8], scope: &Scope, names: &[Name]) -> bool
     all
 }
 
+fn neither(one: bool, other: bool) -> bool
+    ensures { result ≡ (not one && not other) }
+{
+    !one && !other
+}
+
 /// The names of a `:=` at a place.
 pub fn check_names(
     alloc: Global,
@@ -353,7 +359,7 @@ pub fn check_names(
         pos,
     };
     Ok(Declaration {
-        is_allowed: twice.is_none() && !all,
+        is_allowed: neither(twice.is_some(), all),
         fault: lesser(twice, fault_where(all, own)),
     })
 }

@@ -1,15 +1,19 @@
 //! Functions: their heads, their parts, and the end of their bodies.
 
-ghost use Rattle.std.specs.Prelude.{◌≡◌, ◌<◌, ◌⊎◌, Option, Some, None, IfOk, OnOk, List, map, length, is_some, not, ◌-◌, option_and_then};
+ghost use Rattle.std.specs.Prelude.{◌≡◌, ◌<◌, ◌⊎◌, Option, Some, None, IfOk, OnOk, List, map, length, is_some, not, ◌-◌, ◌++◌, ◌∷◌, [], ◌&&◌, nat_lt, option_and_then};
 ghost use Rattle.std.specs.Option.{option_map};
-ghost use Rattle.base.specs.declared.pos.Pos.{Pos};
+ghost use Rattle.base.specs.declared.pos.Pos.{Pos as Place};
 ghost use Rattle.parse_go.specs.Tree.{spelled, function_of, functions_of};
 ghost use Rattle.typed.specs.View.{site_in, func_of, sts_of};
 ghost use Rattle.types_go.specs.Passing.{assembled, IsAt, AreAt, with_last};
 ghost use Rattle.types_go.specs.Least.{IsLeast};
+ghost use Rattle.types_go.specs.Profile.{is_blank, is_predeclared};
+ghost use Rattle.types_go.specs.StatementFaults.{FailsWhere};
+ghost use Rattle.types_go.specs.Faults.{fault as fault_at};
+ghost use Rattle.types_go.specs.declared.fault.FaultKind.TheVariants.{TooLarge};
 ghost use Rattle.types_go.specs.Scope.{scope_of, declaration, is_here};
-ghost use Rattle.types_go.specs.Functions.{role_of, is_named, sites_of, allowed, returns_of, may_end, function_head, signature_in, is_small, parts, function, functions, behind_function, behind_functions};
-ghost use Rattle.types_go.specs.FunctionFaults.{FailsInHead, FailsInTypes, FailsInParts, FailsInFunction, FailsInFunctions};
+ghost use Rattle.types_go.specs.Functions.{role_of, may_be_named, is_named, sites_of, allowed, returns_of, may_end, function_head, signature_in, is_small, parts, function, functions, behind_function, behind_functions};
+ghost use Rattle.types_go.specs.FunctionFaults.{FunctionNameFails, FailsInHead, FailsInTypes, FailsInParts, FailsInFunction, FailsInFunctions};
 
 use crate::blocks::check_stmts;
 use crate::declaring::fault_where;
@@ -21,8 +25,8 @@ use crate::profile::{is_blank, is_predeclared};
 use crate::scope::{Scope, close, declaration, open};
 use crate::signatures::{function_name_fault, is_small, may_be_named, signature_in, size_fault, types_fault};
 use crate::statements::Returns;
-use base::{NoMemory, SiteId, TypeId};
-use parse_go::{Func, Param};
+use base::{NoMemory, Pos, SiteId, TypeId};
+use parse_go::{Func, Name, Param};
 use std::alloc::Global;
 
 /// What is known of a part of a function: whether it is as it must be, and the fault.
@@ -70,24 +74,56 @@ fn may_end(f: &Func) -> bool
     f.results.len() == 0 || ends_in_terminating(&f.body)
 }
 
-/// The name and the number of a function.
+/// The fault of the name of a function of a number.
 #[tactic(auto, using(crate::proofs::Leaves::function_name_least))]
+fn name_fault(text: &[u8], scope: &Scope, number: usize, name: Name) -> Option<Fault>
+    ensures { IsLeast (FunctionNameFails number (is_blank (spelled text.now name)) (is_predeclared (spelled text.now name)) (declaration (scope_of scope.now) (spelled text.now name)) name.pos) result }
+{
+    let bytes = spelled(text, name);
+    function_name_fault(
+        number,
+        is_blank(bytes),
+        is_predeclared(bytes),
+        declaration(scope, bytes),
+        name.pos,
+    )
+}
+
+/// The fault of a function behind too many others.
+#[tactic(auto, using(crate::proofs::Leaves::where_least))]
+fn number_fault(number: usize, pos: Pos) -> Option<Fault>
+    ensures { IsLeast (FailsWhere (not (nat_lt number 4096)) (fault_at TooLarge pos)) result }
+{
+    let own = Fault {
+        kind: FaultKind::TooLarge,
+        pos,
+    };
+    fault_where(!(number < 4096), own)
+}
+
+fn has_head(text: &[u8], scope: &Scope, number: usize, name: Name) -> bool
+    ensures { result ≡ (may_be_named number (is_blank (spelled text.now name)) (is_predeclared (spelled text.now name)) (declaration (scope_of scope.now) (spelled text.now name)) && nat_lt number 4096) }
+{
+    let bytes = spelled(text, name);
+    may_be_named(
+        number,
+        is_blank(bytes),
+        is_predeclared(bytes),
+        declaration(scope, bytes),
+    ) && number < 4096
+}
+
+/// The name and the number of a function.
 fn check_head(text: &[u8], scope: &Scope, number: usize, f: &Func) -> Part
     ensures is_allowed { result.is_allowed ≡ function_head text.now (scope_of scope.now) number (function_of f.now) }
     ensures fault { IsLeast (FailsInHead text.now (scope_of scope.now) number (function_of f.now)) result.fault }
 {
-    let bytes = spelled(text, f.name);
-    let blank = is_blank(bytes);
-    let predeclared = is_predeclared(bytes);
-    let declared = declaration(scope, bytes);
-    let own = Fault {
-        kind: FaultKind::TooLarge,
-        pos: f.name.pos,
-    };
-    let name_fault = function_name_fault(number, blank, predeclared, declared, f.name.pos);
     Part {
-        is_allowed: may_be_named(number, blank, predeclared, declared) && number < 4096,
-        fault: lesser(name_fault, fault_where(!(number < 4096), own)),
+        is_allowed: has_head(text, scope, number, f.name),
+        fault: lesser(
+            name_fault(text, scope, number, f.name),
+            number_fault(number, f.name.pos),
+        ),
     }
 }
 
@@ -124,15 +160,23 @@ fn result_types(alloc: Global, results: &[Param]) -> Result<Vec<TypeId>, NoMemor
     Ok(types)
 }
 
+fn with_entry(sites: Vec<SiteId>, entry: Option<SiteId>) -> Result<Vec<SiteId>, NoMemory>
+    ensures { IfOk result (λ v. map (λ site. site.0) v.items ≡ map (λ site. site.0) sites.items ++ sites_of (site_in entry ∷ [])) }
+{
+    let mut sites = sites;
+    if let Some(site) = entry {
+        sites.push(site)?;
+    }
+    Ok(sites)
+}
+
 /// The sites that there are.
 fn sites_of(alloc: Global, entries: &[Option<SiteId>]) -> Result<Vec<SiteId>, NoMemory>
     ensures { IfOk result (λ v. map (λ site. site.0) v.items ≡ sites_of (map site_in entries.now)) }
 {
     let mut sites = Vec::new(alloc);
     for entry in entries {
-        if let Some(site) = entry {
-            sites.push(*site)?;
-        }
+        sites = with_entry(sites, *entry)?;
     }
     Ok(sites)
 }
@@ -218,7 +262,7 @@ fn func_where(
     func: Option<typed::Func>,
 ) -> Option<typed::Func>
     ensures func { option_map func_of result ≡ allowed head (allowed types (allowed end (option_map func_of func))) }
-    ensures pos { (p : Pos) → IsAt p func → IsAt p result }
+    ensures pos { (p : Place) → IsAt p func → IsAt p result }
 {
     if head && types && end { func } else { None }
 }

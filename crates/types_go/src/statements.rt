@@ -203,6 +203,7 @@ fn bare_fault(may_be_bare: bool, own: Fault) -> Option<Fault>
 }
 
 /// A `return` without values, where there may be none.
+#[tactic(auto, using(typed::proofs::Rows::expr_rows))]
 fn bare(alloc: Global, may_be_bare: bool) -> Option<typed::Stmt>
     ensures { option_map st_of result ≡ (if may_be_bare then Some (given_back none) else None) }
 {

@@ -1,4 +1,4 @@
-use Rattle.std.proofs.Common.{◌≡◌, [], ◌∷◌, ◌++◌, ◌+◌, List, Bool, true, false, drop, map, Option, Some, None, sym, ap, ◌∙◌, subst, refl, arith, rules}
+use Rattle.std.proofs.Common.{◌≡◌, [], ◌∷◌, ◌++◌, ◌+◌, List, Bool, true, false, drop, map, get_or, Option, Some, None, sym, ap, ◌∙◌, subst, refl, arith, rules}
 use Rattle.std.specs.Prelude.{◌&&◌}
 use Rattle.std.specs.Option.{option_map}
 use Rattle.parse_go.specs.declared.tree.Name.{Name}
@@ -8,7 +8,7 @@ use Rattle.types_go.specs.Profile.{is_blank, is_reserved}
 use Rattle.types_go.specs.Scope.{scope_of, declaration}
 use Rattle.types_go.specs.Statements.{left_of, lefts}
 use Rattle.types_go.specs.StatementFaults.{LeftFails, LeftsFail}
-use Rattle.types_go.proofs.Items.{from_one, nothing_left, joined, joined_start, joined_more, joined_none}
+use Rattle.types_go.proofs.Items.{no_name, from_there, nothing_left, joined, joined_start, joined_more, joined_none}
 use Rattle.types_go.proofs.Leasts.{Kept, kept_start, kept_more, kept_end}
 use Rattle.types_go.proofs.declaring.check_lefts.Goals as goal
 
@@ -20,12 +20,12 @@ loop-name-preserved c =
     let text = c.args.text.now in
     let s = scope_of c.args.scope.now in
     let xs = c.args.names.now in
-    let n : Name = c.name-item.result in
+    let n : Name = get_or xs c.loop-name.name-index no_name in
     let bytes = spelled text n in
     let k = c.loop-name.name-index in
     let rest = drop (k + 1) xs in
     let so_far = option_map (λ v. map left_view v.items) c.loop-name.lefts in
-    let here : drop k xs ≡ n ∷ rest = from_one xs k n c.loop-name-test.true c.name-item.is in
+    let here : drop k xs ≡ n ∷ rest = from_there xs k no_name c.loop-name-test.true in
     let front = c.loop-name.invariant.0 ∙ ap (λ (l : List Name). joined so_far (lefts text s l)) here in
     let kept = subst (λ (l : List Name). Kept (LeftsFail text s xs) (LeftsFail text s l) c.loop-name.fault) here c.loop-name.invariant.1 in
     (rw (c.in_ok-lefts.ensures, c.left.ensures) (front ∙ joined_more so_far (left_of (is_blank bytes) (is_reserved bytes) (declaration s bytes)) (lefts text s rest)),

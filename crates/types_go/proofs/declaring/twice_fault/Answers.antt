@@ -1,4 +1,4 @@
-use Rattle.std.proofs.Common.{◌≡◌, [], ◌∷◌, ◌++◌, ◌+◌, ℕ, List, Bool, true, false, drop, map, Option, Some, None, sym, ap, ◌∙◌, subst, refl, arith, rules, length, append-nil, append_assoc}
+use Rattle.std.proofs.Common.{◌≡◌, [], ◌∷◌, ◌++◌, ◌+◌, ℕ, List, Bool, true, false, drop, map, get_or, Option, Some, None, sym, ap, ◌∙◌, subst, refl, arith, rules, length, append-nil, append_assoc}
 use Rattle.std.specs.Prelude.{◌&&◌}
 use Rattle.std.specs.Option.{option_map}
 use Rattle.parse_go.specs.declared.tree.Name.{Name}
@@ -7,16 +7,26 @@ use Rattle.types_go.specs.declared.fault.FaultKind.TheVariants.{Redeclared}
 use Rattle.types_go.specs.Statements.{noted, is_noted}
 use Rattle.types_go.specs.Faults.{fault}
 use Rattle.types_go.specs.StatementFaults.{FailsWhere, TwiceFails}
-use Rattle.types_go.proofs.Items.{from_one, nothing_left}
+use Rattle.types_go.proofs.Items.{no_name, from_there, nothing_left}
 use Rattle.types_go.proofs.Leasts.{Kept, kept_start, kept_more, kept_end}
 use Rattle.types_go.proofs.Leaves.{where_least}
 use Rattle.types_go.proofs.declaring.twice_fault.Goals as goal
 
 pub loop-name-init : goal.loop-name-init
-loop-name-init c = ?
+loop-name-init c = rw (c.new-noted.ensures) (kept_start _)
 
 pub loop-name-preserved : goal.loop-name-preserved
-loop-name-preserved c = ?
+loop-name-preserved c =
+    let text = c.args.text.now in
+    let xs = c.args.names.now in
+    let k = c.loop-name.name-index in
+    let n : Name = get_or xs k no_name in
+    let rest = drop (k + 1) xs in
+    let names = c.loop-name.noted in
+    let here : drop k xs ≡ n ∷ rest = from_there xs k no_name c.loop-name-test.true in
+    let kept = subst (λ (l : List Name). Kept (TwiceFails text ([] ∷ []) xs) (TwiceFails text names l) c.loop-name.fault) here c.loop-name.invariant in
+    rw (c.in_ok-note.ensures, c.lesser-fault.ensures, c.fault_where.ensures, c.is_noted.ensures, c.spelled-bytes.ensures)
+    (kept_more (TwiceFails text ([] ∷ []) xs) (FailsWhere (is_noted names (spelled text n)) (fault Redeclared n.pos)) (TwiceFails text (noted names (spelled text n)) rest) c.loop-name.fault _ kept (where_least (is_noted names (spelled text n)) (fault Redeclared n.pos)))
 
 pub returns : goal.returns
 returns c =

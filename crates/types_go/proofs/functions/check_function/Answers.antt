@@ -1,5 +1,17 @@
-use Rattle.std.proofs.Common.{◌≡◌}
+use Rattle.std.proofs.Common.{◌≡◌, [], ◌∷◌, ◌++◌, ◌+◌, ◌<◌, ◌⊎◌, ℕ, List, Bool, true, false, cond, drop, take, map, get_or, Option, Some, None, sym, ap, ◌∙◌, subst, refl, arith, rules, length, append-nil, append_assoc}
+use Rattle.std.specs.Prelude.{◌&&◌, option_and_then, not}
+use Rattle.std.specs.Option.{option_map}
+use Rattle.types_go.specs.declared.fault.Fault.{Fault}
+use Rattle.types_go.specs.Least.{IsLeast, lesser}
+use Rattle.types_go.proofs.Leasts.{least_join}
+use Rattle.types_go.proofs.Leaves.{where_least}
 use Rattle.types_go.proofs.functions.check_function.Goals as goal
 
 pub returns-clause-fault : goal.returns-clause-fault
-returns-clause-fault c = ?
+returns-clause-fault c =
+    rw (c.lesser.ensures, c.lesser-head_fault.ensures, c.lesser-body_fault.ensures, c.fault_where.ensures, c.may_end-ends.ensures)
+    (least_join _ _ _ _ (least_join _ _ c.check_head-head.result.fault c.in_ok-types.types.fault c.check_head-head.ensures.fault c.in_ok-types.ensures.fault)
+    (least_join _ _ c.in_ok-parts.parts.fault _ c.in_ok-parts.ensures.fault (where_least _ _)))
+
+pub returns-clause-pos : goal.returns-clause-pos
+returns-clause-pos c = c.func_where.ensures.pos c.args.f.now.name.pos c.in_ok-parts.ensures.pos

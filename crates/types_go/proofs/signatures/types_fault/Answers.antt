@@ -1,10 +1,10 @@
-use Rattle.std.proofs.Common.{◌≡◌, [], ◌∷◌, ◌++◌, ◌+◌, ℕ, List, Bool, true, false, drop, map, Option, Some, None, sym, ap, ◌∙◌, subst, refl, arith, rules, length, append-nil, append_assoc}
+use Rattle.std.proofs.Common.{◌≡◌, [], ◌∷◌, ◌++◌, ◌+◌, ℕ, List, Bool, true, false, drop, map, get_or, Option, Some, None, sym, ap, ◌∙◌, subst, refl, arith, rules, length, append-nil, append_assoc}
 use Rattle.std.specs.Prelude.{◌&&◌}
 use Rattle.std.specs.Option.{option_map}
 use Rattle.parse_go.specs.declared.tree.Param.{Param}
 use Rattle.types_go.specs.Scope.{scope_of}
 use Rattle.types_go.specs.FunctionFaults.{FailsAsType, TypesFail}
-use Rattle.types_go.proofs.Items.{from_one, nothing_left}
+use Rattle.types_go.proofs.Items.{no_param, from_there, nothing_left}
 use Rattle.types_go.proofs.Leasts.{Kept, kept_start, kept_more, kept_end}
 use Rattle.types_go.proofs.signatures.types_fault.Goals as goal
 
@@ -16,10 +16,10 @@ loop-param-preserved c =
     let text = c.args.text.now in
     let s = scope_of c.args.scope.now in
     let xs = c.args.params.now in
-    let p : Param = c.param-item.result in
+    let p : Param = get_or xs c.loop-param.param-index no_param in
     let k = c.loop-param.param-index in
     let rest = drop (k + 1) xs in
-    let here : drop k xs ≡ p ∷ rest = from_one xs k p c.loop-param-test.true c.param-item.is in
+    let here : drop k xs ≡ p ∷ rest = from_there xs k no_param c.loop-param-test.true in
     let kept = subst (λ (l : List Param). Kept (TypesFail text s xs) (TypesFail text s l) c.loop-param.fault) here c.loop-param.invariant in
     rw (c.lesser-fault.ensures) (kept_more (TypesFail text s xs) (FailsAsType text s p.type_name) (TypesFail text s rest) c.loop-param.fault c.type_fault.result kept c.type_fault.ensures)
 

@@ -1,5 +1,23 @@
-use Rattle.std.proofs.Common.{◌≡◌}
+use Rattle.std.proofs.Common.{◌≡◌, [], ◌∷◌, ◌++◌, ◌+◌, ◌<◌, ◌⊎◌, ℕ, List, Bool, true, false, cond, drop, take, map, get_or, Option, Some, None, sym, ap, ◌∙◌, subst, refl, arith, rules, length, append-nil, append_assoc}
+use Rattle.std.specs.Prelude.{◌&&◌, option_and_then, not}
+use Rattle.std.specs.Option.{option_map}
+use Rattle.types_go.specs.declared.fault.Fault.{Fault}
+use Rattle.types_go.specs.Least.{IsLeast, lesser}
+use Rattle.parse_go.specs.Tree.{exs_of}
+use Rattle.types_go.specs.Scope.{scope_of}
+use Rattle.types_go.specs.Typing.{Seen, seen}
+use Rattle.types_go.specs.Faults.{FailsInEach}
+use Rattle.types_go.specs.StatementFaults.{ReturnFails}
+use Rattle.types_go.specs.Passing.{seens}
+use Rattle.types_go.proofs.Leasts.{least_join}
 use Rattle.types_go.proofs.statements.check_return.Goals as goal
 
 pub returns-clause-fault : goal.returns-clause-fault
-returns-clause-fault c = ?
+returns-clause-fault c =
+    let text = c.args.text.now in
+    let s = scope_of c.args.scope.now in
+    let es = exs_of c.args.es.now in
+    let listed = c.in_ok-listed.listed in
+    let os : seens c.deref.result.now ≡ seen text s es = ap seens c.deref.ensures.value ∙ c.in_ok-listed.ensures.seen in
+    rw (c.lesser.ensures) (least_join (FailsInEach text s es) (ReturnFails c.args.pos c.args.returns (seen text s es)) listed.fault c.return_fault-own.result c.in_ok-listed.ensures.fault
+    (subst (λ (l : List Seen). IsLeast (ReturnFails c.args.pos c.args.returns l) c.return_fault-own.result) os c.return_fault-own.ensures))
