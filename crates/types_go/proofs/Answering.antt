@@ -3,7 +3,12 @@ use Rattle.std.proofs.Common.{◌≡◌, ℕ, pos, Bool, true, false, cond, List
 use Rattle.std.specs.Prelude.{is_some, not}
 use Rattle.std.specs.Option.{option_map}
 use Rattle.base.specs.declared.pos.Pos.{Pos}
-use Rattle.parse_go.specs.Tree.{Function as TreeFunction, Syntax, spelled}
+use Rattle.std.specs.Prelude.{codes}
+use Rattle.base.specs.declared.ids.FuncId.{FuncId}
+use Rattle.parse_go.specs.declared.tree.Func.{Func as TreeFunc}
+use Rattle.parse_go.specs.declared.tree.Tree.{Tree}
+use Rattle.parse_go.specs.Tree.{Function as TreeFunction, Syntax, spelled, functions_of, syntax_of}
+use Rattle.types_go.specs.Profile.{is_main}
 use Rattle.typed.specs.Syntax.{Func, Program}
 use Rattle.typed.specs.View.{func_of, program_of}
 use Rattle.typed.specs.declared.program.Program.{Program as ProgramData}
@@ -14,8 +19,8 @@ use Rattle.types_go.specs.Least.{IsLeast, lesser}
 use Rattle.names.specs.Blocks.{Blocks, insert}
 use Rattle.typed.specs.Value.{int}
 use Rattle.types_go.specs.declared.scope.Declared.TheVariants.{Function}
-use Rattle.types_go.specs.Scope.{Scope, with_declaration, with_signature}
-use Rattle.types_go.specs.Functions.{signature_in, declares_function, with_function, with_functions, functions, behind_functions, package_scope, main_number}
+use Rattle.types_go.specs.Scope.{Scope, declaration, with_declaration, with_signature, beginning}
+use Rattle.types_go.specs.Functions.{signature_in, number_of, plain_number, declares_function, with_function, with_functions, functions, behind_functions, package_scope, main_number}
 use Rattle.types_go.specs.Faults.{fault}
 use Rattle.types_go.specs.StatementFaults.{FailsWhere}
 use Rattle.types_go.specs.FunctionFaults.{FailsInFunctions, FailsIn, first_byte}
@@ -82,3 +87,40 @@ given_main t least is = least (fault NoMain first_byte) (inl (subst (λ o. Fails
 
 pub given_functions : (t : Syntax) → IsLeast (FailsIn t) None → functions t.text (package_scope t) 0 t.funcs ≡ None → ⊥
 given_functions t least is = let f = decided_given (functions t.text (package_scope t) 0 t.funcs) (FailsInFunctions t.text (package_scope t) 0 t.funcs) is (all_decided t.text t.funcs) in least f.0 (inr f.1)
+
+-- ---- what the pass has worked out, of the tree that it was given
+
+module _ (tree : Tree) where
+  abbrev syntax : Syntax
+  syntax = syntax_of tree
+
+  pub package_is : (text : List ℕ) (fs : List TreeFunc) (b r : Scope) → text ≡ tree.text.items → fs ≡ tree.funcs.items → b ≡ beginning → r ≡ with_functions text b (functions_of fs) → r ≡ package_scope syntax
+  package_is text fs b r text_is fs_is b_is r_is =
+      r_is ∙ ap (λ v. with_functions text v (functions_of fs)) b_is ∙ ap (λ x. with_functions x beginning (functions_of fs)) text_is ∙ ap (λ (l : List TreeFunc). with_functions tree.text.items beginning (functions_of l)) fs_is
+
+  pub main_number_is : (text : List ℕ) (fs : List TreeFunc) (r : Scope) (o : Option ℕ) → text ≡ tree.text.items → fs ≡ tree.funcs.items → r ≡ package_scope syntax
+      → o ≡ cond (is_main (spelled text tree.package)) (plain_number (functions_of fs) (number_of (declaration r (codes "main")))) None → o ≡ main_number syntax
+  main_number_is text fs r o text_is fs_is r_is is =
+      is ∙ ap (λ x. cond (is_main (spelled x tree.package)) (plain_number (functions_of fs) (number_of (declaration r (codes "main")))) None) text_is
+      ∙ ap (λ (l : List TreeFunc). cond (is_main (spelled tree.text.items tree.package)) (plain_number (functions_of l) (number_of (declaration r (codes "main")))) None) fs_is
+      ∙ ap (λ v. cond (is_main (spelled tree.text.items tree.package)) (plain_number syntax.funcs (number_of (declaration v (codes "main")))) None) r_is
+
+  pub functions_are : (text : List ℕ) (fs : List TreeFunc) (r : Scope) (o : Option (List Func)) → text ≡ tree.text.items → fs ≡ tree.funcs.items → r ≡ package_scope syntax
+      → o ≡ functions text r 0 (functions_of fs) → o ≡ functions syntax.text (package_scope syntax) 0 syntax.funcs
+  functions_are text fs r o text_is fs_is r_is is =
+      is ∙ ap (λ x. functions x r 0 (functions_of fs)) text_is ∙ ap (λ (l : List TreeFunc). functions tree.text.items r 0 (functions_of l)) fs_is ∙ ap (λ v. functions tree.text.items v 0 syntax.funcs) r_is
+
+  none_test : (o : Option FuncId) (absent : Bool) → is_some o ≡ not absent → absent ≡ not (is_some (option_map (λ (f : FuncId). f.0) o))
+  none_test None true is = refl
+  none_test None false is = cc is
+  none_test (Some f) true is = cc is
+  none_test (Some f) false is = refl
+
+  pub least_is : (text : List ℕ) (fs : List TreeFunc) (r : Scope) (main : Option FuncId) (absent : Bool) (mf cf : Option Fault) → text ≡ tree.text.items → fs ≡ tree.funcs.items → r ≡ package_scope syntax
+      → option_map (λ (f : FuncId). f.0) main ≡ main_number syntax → is_some main ≡ not absent → IsLeast (FailsWhere absent (fault NoMain first_byte)) mf → IsLeast (FailsInFunctions text r 0 (functions_of fs)) cf
+      → IsLeast (FailsIn syntax) (lesser mf cf)
+  least_is text fs r main absent mf cf text_is fs_is r_is main_is absent_is no_main all =
+      least_join (FailsWhere (not (is_some (main_number syntax))) (fault NoMain first_byte)) (FailsInFunctions syntax.text (package_scope syntax) 0 syntax.funcs) mf cf
+      (subst (λ o. IsLeast (FailsWhere (not (is_some o)) (fault NoMain first_byte)) mf) main_is (subst (λ b. IsLeast (FailsWhere b (fault NoMain first_byte)) mf) (none_test main absent absent_is) no_main))
+      (subst (λ v. IsLeast (FailsInFunctions tree.text.items v 0 syntax.funcs) cf) r_is
+      (subst (λ (l : List TreeFunc). IsLeast (FailsInFunctions tree.text.items r 0 (functions_of l)) cf) fs_is (subst (λ x. IsLeast (FailsInFunctions x r 0 (functions_of fs)) cf) text_is all)))

@@ -1,5 +1,5 @@
 -- A typed program is in form.
-use Rattle.std.proofs.Common.{◌≡◌, ℕ, zero, suc, ◌+◌, ◌-◌, ◌<◌, ◌≤◌, Bool, true, false, cond, List, [], ◌∷◌, ◌++◌, ◌⊎◌, inl, inr, map, Option, Some, None, refl, sym, ap, ◌∙◌, subst, arith, length, length-append, length-map}
+use Rattle.std.proofs.Common.{◌≡◌, ℕ, zero, suc, ◌+◌, ◌-◌, ◌<◌, ◌≤◌, Bool, true, false, cond, List, [], ◌∷◌, ◌++◌, ◌⊎◌, inl, inr, map, Option, Some, None, refl, sym, ap, ◌∙◌, subst, arith, length, length-append}
 use Rattle.std.specs.Prelude.{option_and_then, is_some, not, ◌&&◌, ◌||◌, ◌==◌, nat_lt, nat_le, slice_get, codes}
 use Rattle.std.specs.Option.{option_map}
 use Rattle.std.proofs.lemmas.Bool.{eqb-true, eqb-false, ltb-true, leb-true}
@@ -32,11 +32,11 @@ same_some e = cc
 
 -- ---- terminating statements are the same on both sides
 
-abbrev ends_last : Bool → Sts → Bool
+abbrev pub ends_last : Bool → Sts → Bool
 ends_last e done = e
 ends_last e (next t b) = ends_last (ends t) b
 
-ends_same : (b : Sts) → ends_last false b ≡ ends_all b
+pub ends_same : (b : Sts) → ends_last false b ≡ ends_all b
 ends_same done = refl
 ends_same (next t done) = refl
 ends_same (next t (next u b)) = ends_same (next u b)
@@ -85,7 +85,7 @@ module _ (text : List ℕ) (r : Returns) where
         let b1 = ends_else inner rest q.2 q.5 in
         ap ends_all (sym u.2) ∙ (ap ends (sym q.6) ∙ (ap (λ x. x && ends_all q.2) (sym (ends_same q.1) ∙ a) ∙ ap (λ x. ends_after false body && x) b1))
 
-    ends_list : (s : Scope) (ms : Stms) (b : Sts) → statements text r s ms ≡ Some b → (e : Bool) → ends_last e b ≡ ends_after e ms
+    pub ends_list : (s : Scope) (ms : Stms) (b : Sts) → statements text r s ms ≡ Some b → (e : Bool) → ends_last e b ≡ ends_after e ms
     ends_list s tree.nil b is e = ap (ends_last e) (sym (same_some is))
     ends_list s (tree.cons m ms) b is e =
         let q = and_then_some (λ t. option_map (next t) (statements text r (behind text s m) ms)) (statement text r s m) b is in
@@ -94,33 +94,33 @@ module _ (text : List ℕ) (r : Returns) where
 
 -- ---- parameters and results
 
-sites_long : (es : List (Option ℕ)) → length (sites_of es) ≡ named_params es
+pub sites_long : (es : List (Option ℕ)) → length (sites_of es) ≡ named_params es
 sites_long [] = refl
 sites_long (None ∷ es) = sites_long es
 sites_long (Some site ∷ es) = ap suc (sites_long es)
 
-named_of_params : (m : ℕ) (es : List (Option ℕ)) → ParamsFit m es → NamedFit m (sites_of es)
+pub named_of_params : (m : ℕ) (es : List (Option ℕ)) → ParamsFit m es → NamedFit m (sites_of es)
 named_of_params m [] fit = tt
 named_of_params m (None ∷ es) fit = named_of_params m es fit
 named_of_params m (Some site ∷ es) fit = (fit.0, named_of_params (suc m) es fit.1)
 
-named_scope_of : (scope : List ℕ) (es : List (Option ℕ)) → params_scope scope es ≡ named_scope scope (sites_of es)
+pub named_scope_of : (scope : List ℕ) (es : List (Option ℕ)) → params_scope scope es ≡ named_scope scope (sites_of es)
 named_scope_of scope [] = refl
 named_scope_of scope (None ∷ es) = named_scope_of scope es
 named_scope_of scope (Some site ∷ es) = named_scope_of (site ∷ scope) es
 
 -- all have a variable, or none has, by their role
-abbrev RoleFits : Role → List (Option ℕ) → Type 0
+abbrev pub RoleFits : Role → List (Option ℕ) → Type 0
 RoleFits Parameter es = Unit {0}
 RoleFits NamedResult es = length (sites_of es) ≡ length es
 RoleFits UnnamedResult es = sites_of es ≡ []
 
-record EntriesFit (text : List ℕ) (role : Role) (s : Scope) (scope : List ℕ) (ps : List Param) (es : List (Option ℕ)) : Type 0 where
-  fit : ParamsFit (length s.sites) es
-  visible : Visible (behind_entries text s ps) (params_scope scope es)
-  count : length s.sites + named_params es ≡ length (behind_entries text s ps).sites
-  long : length es ≡ length ps
-  role_fits : RoleFits role es
+pub record EntriesFit (text : List ℕ) (role : Role) (s : Scope) (scope : List ℕ) (ps : List Param) (es : List (Option ℕ)) : Type 0 where
+  pub fit : ParamsFit (length s.sites) es
+  pub visible : Visible (behind_entries text s ps) (params_scope scope es)
+  pub count : length s.sites + named_params es ≡ length (behind_entries text s ps).sites
+  pub long : length es ≡ length ps
+  pub role_fits : RoleFits role es
 
 role_none : (role : Role) (es : List (Option ℕ)) → Some None ≡ unnamed_entry role → RoleFits role es → RoleFits role (None ∷ es)
 role_none Parameter es is fits = tt
@@ -158,7 +158,7 @@ module _ (text : List ℕ) where
   role_empty NamedResult = refl
   role_empty UnnamedResult = refl
 
-  entries_fit : (role : Role) (s : Scope) (scope : List ℕ) (ps : List Param) (ts : List ValueType) (es : List (Option ℕ)) → Visible s scope → types_of text ps ≡ Some ts → entries text role s ps ≡ Some es → EntriesFit text role s scope ps es
+  pub entries_fit : (role : Role) (s : Scope) (scope : List ℕ) (ps : List Param) (ts : List ValueType) (es : List (Option ℕ)) → Visible s scope → types_of text ps ≡ Some ts → entries text role s ps ≡ Some es → EntriesFit text role s scope ps es
   entries_fit role s scope [] ts es visible types is =
       subst (λ (l : List (Option ℕ)). EntriesFit text role s scope [] l) (same_some is) (record { fit = tt; visible = visible; count = omega arith; long = refl; role_fits = role_empty role })
   entries_fit role s scope (p ∷ ps) ts es visible types is =

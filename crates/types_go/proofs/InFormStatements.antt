@@ -124,15 +124,15 @@ pub record ReturnsFit (r : Returns) (named : ℕ) : Type 0 where
   pub no_values : r.count ≡ 0 → named ≡ 0
 
 -- a typed form that is in form between two scopes
-record Formed (s r : Scope) (born : ℕ) (Fits : ℕ → ℕ → Type 0) : Type 0 where
-  count : length s.sites + born ≡ length r.sites
-  fit : (n : ℕ) → length r.sites ≤ n → Fits (length s.sites) n
+pub record Formed (s r : Scope) (born : ℕ) (Fits : ℕ → ℕ → Type 0) : Type 0 where
+  pub count : length s.sites + born ≡ length r.sites
+  pub fit : (n : ℕ) → length r.sites ≤ n → Fits (length s.sites) n
 
 module _ (text : List ℕ) (fs : List Func) (r : Returns) (named : ℕ) (goes : ReturnsFit r named) where
-  abbrev StFormed : Scope → List ℕ → Scope → St → Type 0
+  abbrev pub StFormed : Scope → List ℕ → Scope → St → Type 0
   StFormed s scope after t = Formed s after (births t) (λ m n. StFits fs r.count named scope m n t)
 
-  abbrev StsFormed : Scope → List ℕ → Scope → Sts → Type 0
+  abbrev pub StsFormed : Scope → List ℕ → Scope → Sts → Type 0
   StsFormed s scope after b = Formed s after (births_all b) (λ m n. StsFit fs r.count named scope m n b)
 
   return_fits : (scope : List ℕ) (os : List Seen) (t : St) (m n : ℕ) → ((k : ℕ) (es : Exs) → taken k os ≡ Some es → TakenFit fs scope k es) → returned r os ≡ Some t → (births t ≡ 0) × StFits fs r.count named scope m n t × (scope_after scope t ≡ scope)
@@ -168,11 +168,10 @@ module _ (text : List ℕ) (fs : List Func) (r : Returns) (named : ℕ) (goes : 
       let a = assignment_some (new_lefts text s (length s.sites) ns) v t w.1 in
       let news = new_names text s ns in
       let values = taken_fits fs scope (length ns) (seen text s es) a.1 (seen_fit fs scope text s visible agrees es) a.3 in
-      let fit = λ n le. new_lefts_fit text s scope visible n ns s scope a.0 visible a.2 le in
-      let whole = fit (length (with_variables text true s news).sites) (omega arith) in
+      let whole = new_lefts_fit text s scope visible (length (with_variables text true s news).sites) ns s scope a.0 visible a.2 (omega arith) in
       subst (λ (o : Option Exs). StFormed s scope (with_variables text (is_some o) s news) t × Visible (with_variables text (is_some o) s news) (scope_after scope t)) (sym a.3)
       (subst (λ (x : St). StFormed s scope (with_variables text true s news) x × Visible (with_variables text true s news) (scope_after scope x)) a.4
-      (record { count = whole.count; fit = λ n le. ((fit n le).length_is ∙ sym values.0, (fit n le).fit, values.1) }, whole.visible))
+      (record { count = whole.count; fit = λ n le. ((new_lefts_fit text s scope visible n ns s scope a.0 visible a.2 le).length_is ∙ sym values.0, (new_lefts_fit text s scope visible n ns s scope a.0 visible a.2 le).fit, values.1) }, whole.visible))
 
   assign_formed : (s : Scope) (scope : List ℕ) (ns : List Name) (at : Pos) (es : TreeExs) (t : St) → Visible s scope → Agrees s.signatures fs → statement text r s (tree.assign ns at es) ≡ Some t
       → (m n : ℕ) → (births t ≡ 0) × StFits fs r.count named scope m n t × (scope_after scope t ≡ scope)
@@ -189,8 +188,8 @@ module _ (text : List ℕ) (fs : List Func) (r : Returns) (named : ℕ) (goes : 
   }
 
   loop_formed : (s after : Scope) (scope : List ℕ) (x : Option Ex) (y : Sts) → OptionalFits fs scope x → StsFormed s scope after y → StFormed s scope after (loop [] x done y)
-  loop_formed s after scope None y test1 a = record { count = a.count; fit = λ n le. a.fit n le }
-  loop_formed s after scope (Some e) y test1 a = record { count = a.count; fit = λ n le. (test1, a.fit n le) }
+  loop_formed s after scope None y test1 a = record { count = omega (arith, a.count); fit = λ n le. a.fit n le }
+  loop_formed s after scope (Some e) y test1 a = record { count = omega (arith, a.count); fit = λ n le. (test1, a.fit n le) }
 
   -- a list of one statement
   alone_formed : (s after : Scope) (scope : List ℕ) (t : St) → StFormed s scope after t → StsFormed s scope after (next t done)
@@ -205,12 +204,12 @@ module _ (text : List ℕ) (fs : List Func) (r : Returns) (named : ℕ) (goes : 
           → StFormed s scope (behind text s m) t × Visible (behind text s m) (scope_after scope t)
       formed s scope (tree.define ns at es) t v g is = define_formed s scope ns at es t v (agreed s g) is
       formed s scope (tree.assign ns at es) t v g is =
-          let f = λ m n. assign_formed s scope ns at es t v (agreed s g) is m n in (still s scope t f, subst (λ w. Visible s w) (sym (f 0 0).2) v)
+          let f = λ (m n : ℕ). assign_formed s scope ns at es t v (agreed s g) is m n in (still s scope t f, subst (λ w. Visible s w) (sym (f 0 0).2) v)
       formed s scope (tree.express e) t v g is =
           let q = and_then_some expressed (gives text s e) t is in
-          let f = λ m n. express_fits scope q.0 t m n (gives_fit fs scope text s v (agreed s g) e q.0 q.1) q.2 in (still s scope t f, subst (λ w. Visible s w) (sym (f 0 0).2) v)
+          let f = λ (m n : ℕ). express_fits scope q.0 t m n (gives_fit fs scope text s v (agreed s g) e q.0 q.1) q.2 in (still s scope t f, subst (λ w. Visible s w) (sym (f 0 0).2) v)
       formed s scope (tree.give_back at es) t v g is =
-          let f = λ m n. return_fits scope (seen text s es) t m n (λ k xs found. taken_fits fs scope k (seen text s es) xs (seen_fit fs scope text s v (agreed s g) es) found) is in
+          let f = λ (m n : ℕ). return_fits scope (seen text s es) t m n (λ k xs found. taken_fits fs scope k (seen text s es) xs (seen_fit fs scope text s v (agreed s g) es) found) is in
           (still s scope t f, subst (λ w. Visible s w) (sym (f 0 0).2) v)
       formed s scope (tree.choice at c body rest) t v g is =
           let inner = closed (behind_all text (opened s) body) in

@@ -4,6 +4,7 @@ mod DecidedValues
 mod Growth
 mod InForm
 mod InFormFunctions
+mod InFormProgram
 mod InFormStatements
 mod Items
 mod Leasts

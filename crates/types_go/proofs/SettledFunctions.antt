@@ -99,7 +99,7 @@ parts_decided : {A B C D : Type 0} (a : Option A) (b : Option B) (c : Option C) 
     → Decided (option_and_then (λ x. option_and_then (λ y. option_map (k x y) c) b) a) (λ f. (P f ⊎ Q f) ⊎ R f)
 parts_decided a b c k P Q R p q r = both_decided a b (λ x y. option_map (k x y) c) P Q R p q (λ x y x_is y_is. mapped (k x y) c R r)
 
-small_signed : (sig : Option Signature) → is_small sig ≡ true → HasSignature sig
+pub small_signed : (sig : Option Signature) → is_small sig ≡ true → HasSignature sig
 small_signed None is = cc is
 small_signed (Some sig) is = tt
 
@@ -135,7 +135,7 @@ module _ (text : List ℕ) where
       by true = settled_with s (spelled text n) n.pos settled
       by false = settled
 
-  known : (ps : List Param) (p : Param) (ts : List ValueType) → types_of text (p ∷ ps) ≡ Some ts → (is_some (type_of text p.type_name) ≡ true) × ((us : List ValueType) × (types_of text ps ≡ Some us))
+  pub known : (ps : List Param) (p : Param) (ts : List ValueType) → types_of text (p ∷ ps) ≡ Some ts → (is_some (type_of text p.type_name) ≡ true) × ((us : List ValueType) × (types_of text ps ≡ Some us))
   known ps p ts is =
       let r = and_then_some (λ t. option_map (λ us. t ∷ us) (types_of text ps)) (type_of text p.type_name) ts is in
       let q = map_some (λ us. r.0 ∷ us) (types_of text ps) ts r.2 in
@@ -147,7 +147,7 @@ module _ (text : List ℕ) where
       let k = known ps p ts is in
       settled_entries (behind_entry text s p) ps k.1.0 k.1.1 (subst (λ b. IsSettled (behind_entry_name text b s p.name)) (sym k.0) (settled_entry s p.name settled))
 
-  signature_parts : (g : TreeFunction) → HasSignature (signature_in text g) → (ps rs : List ValueType) × (types_of text g.params ≡ Some ps) × (types_of text g.results ≡ Some rs)
+  pub signature_parts : (g : TreeFunction) → HasSignature (signature_in text g) → (ps rs : List ValueType) × (types_of text g.params ≡ Some ps) × (types_of text g.results ≡ Some rs)
   signature_parts g has = by (signature_in text g) refl has
     where
       by : (sig : Option Signature) → signature_in text g ≡ sig → HasSignature sig → (ps rs : List ValueType) × (types_of text g.params ≡ Some ps) × (types_of text g.results ≡ Some rs)

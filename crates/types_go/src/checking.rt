@@ -18,7 +18,7 @@ ghost use Rattle.types_go.specs.Checked.{Types, Reports, OnlyProgram, places_of}
 
 use crate::declaring::fault_where;
 use crate::fault::{Fault, FaultKind, TypeFault, lesser};
-use crate::functions::check_functions;
+use crate::functions::{Functions, check_functions};
 use crate::naming::spelled;
 use crate::profile::is_main;
 use crate::scope::{Declared, Scope, beginning, declaration};
@@ -96,13 +96,16 @@ pub fn check(alloc: Global, tree: &Tree) -> Result<Program, TypeFault>
     let mut scope = beginning(alloc);
     add_functions(alloc, text, &mut scope, funcs)?;
     let main = main_number(text, &scope, tree.package, funcs);
-    let checked = check_functions(alloc, text, &mut scope, funcs)?;
+    let Functions {
+        funcs: typed_funcs,
+        fault,
+    } = check_functions(alloc, text, &mut scope, funcs)?;
     let main_fault = no_main_fault(main.is_none());
-    match lesser(main_fault, checked.fault) {
+    match lesser(main_fault, fault) {
         Some(fault) => Err(TypeFault::Fault(fault)),
         None => {
             let Some(main) = main else { unreachable!() };
-            let Some(funcs) = checked.funcs else {
+            let Some(funcs) = typed_funcs else {
                 unreachable!()
             };
             Ok(Program {

@@ -241,6 +241,12 @@ fn new_name_fault(text: &[u8], scope: &Scope, name: Name) -> Option<Fault>
     )
 }
 
+fn how_many(names: &Vec<Name>) -> usize
+    ensures { result ≡ length names.now.items }
+{
+    names.len()
+}
+
 /// The left sides of a `:=`.
 pub fn check_new_lefts(
     alloc: Global,
@@ -257,7 +263,7 @@ pub fn check_new_lefts(
     let mut fault = None;
     for name in names {
         fault = lesser(fault, new_name_fault(text, scope, *name));
-        let left = new_left(text, scope, new_names.len(), *name)?;
+        let left = new_left(text, scope, how_many(&new_names), *name)?;
         lefts = with_left(lefts, left)?;
         new_names = with_new(text, scope, new_names, *name)?;
     }

@@ -22,7 +22,7 @@ use crate::entries::{Entries, Role, check_entries, role_of};
 use crate::fault::{Fault, FaultKind, lesser};
 use crate::naming::spelled;
 use crate::profile::{is_blank, is_predeclared};
-use crate::scope::{Scope, close, declaration, open};
+use crate::scope::{Scope, close, declaration, open, site_count};
 use crate::signatures::{function_name_fault, is_small, may_be_named, signature_in, size_fault, types_fault};
 use crate::statements::Returns;
 use base::{NoMemory, Pos, SiteId, TypeId};
@@ -236,7 +236,7 @@ fn check_parts(
     ensures fault { IfOk result (λ r. IsLeast (FailsInParts text.now (scope_of scope.old) (function_of f.now)) r.fault) }
     ensures scope { OnOk result (scope_of scope.new ≡ behind_function text.now (scope_of scope.old) (function_of f.now)) }
 {
-    let first = scope.sites.len();
+    let first = site_count(scope);
     open(scope)?;
     let params = check_entries(alloc, text, scope, Role::Parameter, &f.params)?;
     let results = check_entries(alloc, text, scope, role_of(&f.results), &f.results)?;
@@ -247,7 +247,7 @@ fn check_parts(
         alloc,
         f,
         first,
-        scope.sites.len(),
+        site_count(scope),
         params.entries,
         results.entries,
         body.statements,

@@ -105,6 +105,13 @@ pub fn close(scope: &mut Scope)
     scope.names.close();
 }
 
+/// How many sites there are.
+pub fn site_count(scope: &Scope) -> usize
+    ensures { result ≡ length (scope_of scope.now).sites }
+{
+    scope.sites.len()
+}
+
 /// The number of the next site.
 pub fn next_site(scope: &Scope) -> Result<SiteId, NoMemory>
     ensures { IfOk result (λ site. site.0 ≡ length (scope_of scope.now).sites) }

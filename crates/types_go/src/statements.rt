@@ -75,17 +75,17 @@ pub fn check_define(
     ensures fault { IfOk result (λ c. IsLeast (FailsInStatement text.now returns (scope_of scope.old) (define names.now pos (trees_of es.now))) c.fault) }
     ensures scope { OnOk result (scope_of scope.new ≡ behind text.now (scope_of scope.old) (define names.now pos (trees_of es.now))) }
 {
-    let listed = check_list(alloc, text, scope, es)?;
+    let right = check_list(alloc, text, scope, es)?;
     let own = Fault {
         kind: FaultKind::ArgCount,
         pos: names_pos(names, pos),
     };
-    let values_fault = take_fault(own, names.len(), &listed.items);
+    let values_fault = take_fault(own, names.len(), &right.items);
     let declaration = check_names(alloc, text, scope, names, pos)?;
-    let values = taken(alloc, names.len(), listed.items)?;
+    let values = taken(alloc, names.len(), right.items)?;
     let left = check_new_lefts(alloc, text, scope, names)?;
     declare_variables(text, scope, &left.new_names, values.is_some())?;
-    let before = lesser(lesser(listed.fault, values_fault), left.fault);
+    let before = lesser(lesser(right.fault, values_fault), left.fault);
     Ok(Line {
         statement: assignment_where(declaration.is_allowed, left.lefts, values),
         fault: lesser(before, declaration.fault),

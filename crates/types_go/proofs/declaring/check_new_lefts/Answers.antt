@@ -42,7 +42,7 @@ loop-name-preserved c =
     let front = c.loop-name.invariant.0 ∙ ap (λ (l : List Name). joined so_far (new_lefts text s site l)) here in
     let kept = subst (λ (l : List Name). Kept (NewNamesFail text s xs) (NewNamesFail text s l) c.loop-name.fault) here c.loop-name.invariant.1.1 in
     let site_is : cond b (1 + site) site ≡ length s.sites + length more = next_site b (length s.sites) names more n grown in
-    (rw (c.in_ok-lefts.ensures, c.in_ok-left.ensures) (front ∙ joined_more so_far (new_left text s site n) (new_lefts text s (cond b (1 + site) site) rest) ∙ ap (λ j. joined (with_last so_far (new_left text s site n)) (new_lefts text s j rest)) site_is),
+    (rw (c.in_ok-lefts.ensures, c.in_ok-left.ensures, c.how_many.ensures) (front ∙ joined_more so_far (new_left text s site n) (new_lefts text s (cond b (1 + site) site) rest) ∙ ap (λ j. joined (with_last so_far (new_left text s site n)) (new_lefts text s j rest)) site_is),
      (c.loop-name.invariant.1.0 ∙ ap (λ (l : List Name). names ++ new_names text s l) here ∙ next_names b names more (new_names text s rest) n grown,
       rw (c.lesser-fault.ensures) (kept_more (NewNamesFail text s xs) (NewNameFails (is_blank bytes) (is_reserved bytes) (is_here s bytes) (declaration s bytes) n.pos) (NewNamesFail text s rest) c.loop-name.fault c.new_name_fault.result kept c.new_name_fault.ensures)))
 

@@ -57,7 +57,7 @@ loop-f-preserved c =
      (rw (c.lesser-fault.ensures) (subst (λ j. Kept (FailsInFunctions text start 0 (functions_of xs)) (FailsInFunctions text s1 j gs) (lesser c.loop-f.fault checked.fault)) next1 kept1),
       (inv.1.1.0 ∙ ap (λ (l : List Func). behind_functions text s (functions_of l)) here,
        (rw (c.in_ok-funcs.ensures) (places_more (map (λ h. h.name.pos) xs) (option_map (λ v. v.items) c.loop-f.funcs) checked.func f.name.pos (map (λ h. h.name.pos) rest) places found.pos),
-        (omega (arith, inv.1.1.1.1.0), omega (arith, depth, inv.1.1.1.1.1))))))
+        (omega (arith, inv.1.1.1.1.0), omega (arith, depth, inv.1.1.1.1.1, ap (λ (v : Scope). length v.blocks) found.scope))))))
 
 pub returns-clause-funcs : goal.returns-clause-funcs
 returns-clause-funcs c =

@@ -57,10 +57,10 @@ returns-clause-func c =
         ∙ ap (λ v. statements text (returns_of g) v (stms_of c.deref-4.result.now)) behind2 ∙ ap (λ (l : List Stmt). statements text (returns_of g) (body_scope text s g) (stms_of l)) c.deref-4.ensures.value in
     let whole : scope_of c.close.new.scope ≡ behind_function text s g =
         c.close.ensures ∙ ap closed (c.in_ok-body.ensures.scope ∙ ap (λ v. behind_all text v (stms_of c.deref-4.result.now)) behind2 ∙ ap (λ (l : List Stmt). behind_all text (body_scope text s g) (stms_of l)) c.deref-4.ensures.value) in
-    let first : c.len-first.result ≡ length s.sites = search rules in
-    let last0 : c.len.result ≡ length (scope_of c.close.new.scope).sites = search rules in
-    let last : c.len.result ≡ length (behind_function text s g).sites = last0 ∙ ap (λ (v : Scope). length v.sites) whole in
-    c.in_ok-func.ensures.func ∙ parts_of text s g c.len-first.result c.len.result params results body first last ps rs typed
+    let first : c.site_count-first.result ≡ length s.sites = c.site_count-first.ensures in
+    let last0 : c.site_count.result ≡ length (scope_of c.close.new.scope).sites = c.site_count.ensures in
+    let last : c.site_count.result ≡ length (behind_function text s g).sites = last0 ∙ ap (λ (v : Scope). length v.sites) whole in
+    c.in_ok-func.ensures.func ∙ parts_of text s g c.site_count-first.result c.site_count.result params results body first last ps rs typed
 
 pub returns-clause-fault : goal.returns-clause-fault
 returns-clause-fault c =

@@ -20,10 +20,10 @@ returns-clause-fault c =
     let s = scope_of c.args.scope.now in
     let ns = c.args.names.now in
     let es = exs_of c.args.es.now in
-    let listed = c.in_ok-listed.listed in
-    let os : seens c.deref.result.now ≡ seen text s es = ap seens c.deref.ensures.value ∙ c.in_ok-listed.ensures.seen in
+    let listed = c.in_ok-right.right in
+    let os : seens c.deref.result.now ≡ seen text s es = ap seens c.deref.ensures.value ∙ c.in_ok-right.ensures.seen in
     let taken : IsLeast (TakeFails (fault ArgCount (names_place ns c.args.pos)) (length ns) (seens c.deref.result.now)) c.take_fault-values_fault.result =
         subst (λ (p : Pos). IsLeast (TakeFails (fault ArgCount p) (length ns) (seens c.deref.result.now)) c.take_fault-values_fault.result) c.names_pos.ensures c.take_fault-values_fault.ensures in
     rw (c.lesser-2.ensures, c.lesser-before.ensures, c.lesser.ensures)
     (define_least text c.args.returns s ns c.args.pos es (seens c.deref.result.now) listed.fault c.take_fault-values_fault.result c.in_ok-left.left.fault c.in_ok-declaration.declaration.fault os
-    c.in_ok-listed.ensures.fault taken c.in_ok-left.ensures.fault c.in_ok-declaration.ensures.fault)
+    c.in_ok-right.ensures.fault taken c.in_ok-left.ensures.fault c.in_ok-declaration.ensures.fault)
