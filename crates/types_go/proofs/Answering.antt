@@ -1,5 +1,5 @@
 -- What the checker answers of a tree that has a typed program, or in which a rule fails.
-use Rattle.std.proofs.Common.{◌≡◌, ℕ, pos, Bool, true, false, cond, List, [], ◌∷◌, ◌⊎◌, inl, inr, Option, Some, None, refl, sym, ap, ◌∙◌, subst, length, map}
+use Rattle.std.proofs.Common.{◌≡◌, ℕ, pos, Bool, true, false, cond, List, [], ◌∷◌, inl, inr, Option, Some, None, refl, sym, ap, ◌∙◌, subst, length, map}
 use Rattle.std.specs.Prelude.{is_some, not}
 use Rattle.std.specs.Option.{option_map}
 use Rattle.base.specs.declared.pos.Pos.{Pos}
@@ -20,7 +20,7 @@ use Rattle.names.specs.Blocks.{Blocks, insert}
 use Rattle.typed.specs.Value.{int}
 use Rattle.types_go.specs.declared.scope.Declared.TheVariants.{Function}
 use Rattle.types_go.specs.Scope.{Scope, declaration, with_declaration, with_signature, beginning}
-use Rattle.types_go.specs.Functions.{signature_in, number_of, plain_number, declares_function, with_function, with_functions, functions, behind_functions, package_scope, main_number}
+use Rattle.types_go.specs.Functions.{signature_in, number_of, plain_number, declares_function, with_function, with_functions, functions, package_scope, main_number}
 use Rattle.types_go.specs.Faults.{fault}
 use Rattle.types_go.specs.StatementFaults.{FailsWhere}
 use Rattle.types_go.specs.FunctionFaults.{FailsInFunctions, FailsIn, first_byte}

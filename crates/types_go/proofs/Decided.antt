@@ -1,5 +1,5 @@
 -- What the rules give is decided where they give something and no rule fails, or nothing and some rule fails.
-use Rattle.std.proofs.Common.{◌≡◌, Bool, true, false, cond, ◌⊎◌, inl, inr, Option, Some, None, refl}
+use Rattle.std.proofs.Common.{◌≡◌, Bool, true, false, ◌⊎◌, inl, inr, Option, Some, None, refl}
 use Rattle.std.specs.Prelude.{option_and_then, ◌&&◌}
 use Rattle.std.specs.Option.{option_map}
 use Rattle.types_go.specs.declared.fault.Fault.{Fault}

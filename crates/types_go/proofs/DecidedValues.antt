@@ -2,15 +2,15 @@
 use Rattle.std.proofs.Common.{◌≡◌, ℕ, zero, suc, Bool, true, false, cond, List, [], ◌∷◌, ◌⊎◌, inl, inr, Option, Some, None, refl, sym, ap, ◌∙◌, length, take, arith, subst}
 use Rattle.std.specs.Prelude.{⊤, option_and_then, is_some, ◌&&◌, ◌==◌, nat_le}
 use Rattle.std.specs.Option.{option_map}
-use Rattle.std.proofs.lemmas.Bool.{cases_Bool, eqb-true, eqb-false, leb-true, leb-false}
+use Rattle.std.proofs.lemmas.Bool.{eqb-true}
 use Rattle.base.specs.declared.pos.Pos.{Pos}
 use Rattle.typed.specs.Syntax.{Ex, Exs}
 use Rattle.typed.specs.Syntax as typed
 use Rattle.types_go.specs.declared.fault.Fault.{Fault}
-use Rattle.types_go.specs.declared.fault.FaultKind.TheVariants.{ConstRange, ResultCount, ArgCount, NotCallable}
-use Rattle.types_go.specs.Typing.{Operand, untyped, value, Gives, one, called, printed, Seen, Many, single, operand_in, int_in, as_int, is_int, ints, are_single, many_in, many, count_of, count, each, taken_of, taken, Callee, printer, function, no_function, nothing, called_with}
+use Rattle.types_go.specs.declared.fault.FaultKind.TheVariants.{ConstRange, ResultCount, NotCallable}
+use Rattle.types_go.specs.Typing.{Operand, untyped, value, Gives, one, called, printed, Seen, Many, single, operand_in, as_int, is_int, ints, are_single, many_in, many, count_of, each, taken_of, taken, no_function}
 use Rattle.types_go.specs.Faults.{fault, SingleFails, SinglesFail, ValuesFail, OperandFails, RangeFails, CountFails, TakeFails, AreGiven, CallFails}
-use Rattle.types_go.proofs.Decided.{Decided, Tested, further, mapped, after, both_decided, both_tested, turned}
+use Rattle.types_go.proofs.Decided.{Decided, Tested, further, mapped, after, both_tested, turned}
 
 -- one value of what is given
 pub single_decided : (g : Gives) → Decided (single g) (SingleFails (Some g))

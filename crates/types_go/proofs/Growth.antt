@@ -1,5 +1,5 @@
 -- What a statement keeps of a scope: the blocks outside the innermost one, the declarations before it, and the signatures.
-use Rattle.std.proofs.Common.{◌≡◌, ℕ, suc, Bool, true, false, cond, List, [], ◌∷◌, ◌++◌, length, Option, Some, None, refl, sym, ap, ◌∙◌, append-nil, append_assoc}
+use Rattle.std.proofs.Common.{◌≡◌, ℕ, Bool, true, false, cond, List, [], ◌∷◌, ◌++◌, length, Option, Some, None, refl, sym, ap, ◌∙◌, append-nil, append_assoc}
 use Rattle.std.specs.Prelude.{is_some, not, ◌&&◌}
 use Rattle.base.specs.declared.pos.Pos.{Pos}
 use Rattle.names.specs.Blocks.{Blocks, insert}
@@ -9,7 +9,7 @@ use Rattle.parse_go.specs.Tree.{Function as TreeFunction, Stm, Stms, Els, spelle
 use Rattle.parse_go.specs.Tree as tree
 use Rattle.types_go.specs.declared.scope.Declared.{Declared}
 use Rattle.types_go.specs.Profile.{is_reserved}
-use Rattle.types_go.specs.Scope.{Scope, Signature, is_here, with_variable, outer, opened, closed}
+use Rattle.types_go.specs.Scope.{Scope, is_here, with_variable, outer, opened, closed}
 use Rattle.types_go.specs.Typing.{taken, seen}
 use Rattle.types_go.specs.Statements.{new_names, with_variables, behind, behind_else, behind_all}
 use Rattle.types_go.specs.Functions.{type_of, behind_entry_name, behind_entry, behind_entries, behind_params, body_scope, behind_function}

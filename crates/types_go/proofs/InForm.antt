@@ -1,6 +1,6 @@
 -- What expressions give is in form: what they read is in scope, constants are words, and calls have the arguments that they need.
-use Rattle.std.proofs.Common.{◌≡◌, ℕ, zero, suc, ◌+◌, ◌≤◌, ◌^◌, ℤ, pos, Bool, true, false, cond, List, [], ◌∷◌, ◌++◌, map, Option, Some, None, Result, Ok, Err, refl, sym, ap, ◌∙◌, subst, arith, length}
-use Rattle.std.specs.Prelude.{⊤, option_and_then, nat_lt, nat_le, slice_get, ◌==◌}
+use Rattle.std.proofs.Common.{◌≡◌, ℕ, suc, ◌^◌, ℤ, pos, Bool, true, false, cond, List, [], ◌∷◌, map, Option, Some, None, Result, Ok, Err, refl, sym, ap, ◌∙◌, subst, arith, length}
+use Rattle.std.specs.Prelude.{option_and_then, nat_lt, nat_le, slice_get, ◌==◌}
 use Rattle.std.specs.Option.{option_map}
 use Rattle.std.proofs.lemmas.Int.{ints as int_lemmas}
 use Rattle.std.proofs.lemmas.Bool.{eqb-true}
@@ -26,7 +26,7 @@ use Rattle.types_go.specs.declared.scope.Declared.{Declared}
 use Rattle.types_go.specs.declared.scope.Declared.TheVariants.{Variable, Untyped, Function}
 use Rattle.types_go.specs.Profile.{is_println, is_reserved}
 use Rattle.types_go.specs.Scope.{Scope, Signature, declaration, signature}
-use Rattle.types_go.specs.Typing.{Operand, untyped, value, Gives, one, called, printed, op_of, compare_of, is_int, as_int, constant_of, operand_of_name, name_operand, prefixed, both, combined, both_ints, compared_ints, compared_operands, single, operand_in, int_in, Seen, ints, Many, many_in, many, each, taken_of, taken, Callee, printer, function, no_function, nothing, function_with, callee_declared, callee_named, callee_value, called_with, name_in, callee, gives, seen, condition, test}
+use Rattle.types_go.specs.Typing.{Operand, untyped, value, Gives, one, called, printed, op_of, compare_of, is_int, as_int, constant_of, name_operand, prefixed, both, combined, both_ints, compared_ints, compared_operands, single, operand_in, int_in, Seen, ints, Many, many_in, many, each, taken_of, taken, Callee, printer, function, no_function, nothing, function_with, callee_declared, callee_value, called_with, name_in, callee, gives, seen, condition, test}
 use Rattle.types_go.proofs.SettledStatements.{and_then_some, map_some, none_some}
 use Rattle.types_go.proofs.Visible.{Visible}
 

@@ -1,31 +1,25 @@
 -- A typed program is in form.
-use Rattle.std.proofs.Common.{◌≡◌, ℕ, zero, suc, ◌+◌, ◌-◌, ◌<◌, ◌≤◌, Bool, true, false, cond, List, [], ◌∷◌, ◌++◌, ◌⊎◌, inl, inr, map, Option, Some, None, refl, sym, ap, ◌∙◌, subst, arith, length, length-append}
-use Rattle.std.specs.Prelude.{option_and_then, is_some, not, ◌&&◌, ◌||◌, ◌==◌, nat_lt, nat_le, slice_get, codes}
+use Rattle.std.proofs.Common.{◌≡◌, ℕ, suc, ◌+◌, Bool, true, false, cond, List, [], ◌∷◌, ◌++◌, Option, Some, None, refl, sym, ap, ◌∙◌, subst, arith, length, length-append}
+use Rattle.std.specs.Prelude.{is_some, not, ◌&&◌, ◌||◌}
 use Rattle.std.specs.Option.{option_map}
-use Rattle.std.proofs.lemmas.Bool.{eqb-true, eqb-false, ltb-true, leb-true}
-use Rattle.base.specs.declared.pos.Pos.{Pos}
 use Rattle.parse_go.specs.declared.tree.Name.{Name}
 use Rattle.parse_go.specs.declared.tree.Param.{Param}
 use Rattle.parse_go.specs.Tree.{Function as TreeFunction, Syntax, Stm, Stms, Els, spelled}
 use Rattle.parse_go.specs.Tree as tree
 use Rattle.typed.specs.Syntax.{Ex, Exs, St, Sts, Func, Program, assign, discard, block, choose, loop, give_back, print, done, next, argument_words, result_words}
-use Rattle.typed.specs.Form.{InScope, births_all, ends, ends_all, ParamsFit, NamedFit, named_params, params_scope, named_scope, scope_in, body_first, StsFit, FuncFits, IsInForm}
+use Rattle.typed.specs.Form.{ends, ends_all, ParamsFit, NamedFit, named_params, params_scope, named_scope}
 use Rattle.types_go.specs.declared.entries.Role.{Role}
 use Rattle.types_go.specs.declared.entries.Role.TheVariants.{Parameter, NamedResult, UnnamedResult}
 use Rattle.types_go.specs.declared.scope.ValueType.{ValueType}
-use Rattle.types_go.specs.declared.scope.Declared.{Declared}
 use Rattle.types_go.specs.declared.statements.Returns.{Returns}
-use Rattle.types_go.specs.Profile.{is_blank, is_main, is_predeclared, is_reserved}
-use Rattle.types_go.specs.Scope.{Scope, Signature, declaration, is_here, with_variable, opened, closed, beginning}
+use Rattle.types_go.specs.Profile.{is_blank, is_main, is_predeclared}
+use Rattle.types_go.specs.Scope.{Scope, is_here, with_variable, opened, closed}
 use Rattle.types_go.specs.Typing.{Gives, one, called, printed, Seen, taken, gives, seen, condition, test}
-use Rattle.types_go.specs.Statements.{assignment, new_lefts, lefts, may_define, expressed, returned, choice_of, loop_of, behind, behind_else, behind_all, statement, alternative, statements, is_terminating, is_terminating_else, ends_after}
-use Rattle.types_go.specs.Functions.{unnamed_entry, blank_entry, variable_entry, entry_of, role_of, is_named, sites_of, words, is_small, is_plain, number_of, plain_number, type_of, types_of, signature_in, with_function, with_functions, entry_in, behind_entry_name, behind_entry, entries, behind_entries, behind_params, body_scope, behind_function, returns_of, may_end, func, body_of, function_head, function, functions, behind_functions, package_scope, main_number}
+use Rattle.types_go.specs.Statements.{assignment, new_lefts, lefts, may_define, expressed, returned, choice_of, behind, behind_all, statement, alternative, statements, is_terminating, is_terminating_else, ends_after}
+use Rattle.types_go.specs.Functions.{unnamed_entry, blank_entry, variable_entry, entry_of, sites_of, type_of, types_of, entry_in, behind_entry_name, behind_entry, entries, behind_entries}
 use Rattle.types_go.proofs.SettledStatements.{and_then_some, map_some, none_some, choice_some, loop_some, assignment_some, where_some}
-use Rattle.types_go.proofs.SettledFunctions.{known, signature_parts, small_signed, function_some, allowed_some}
-use Rattle.types_go.proofs.Growth.{Keeps, keeps_function, grows_body}
-use Rattle.types_go.proofs.Visible.{Visible, visible_beginning, visible_opened, visible_kept, visible_with, visible_package}
-use Rattle.types_go.proofs.InForm.{Agrees}
-use Rattle.types_go.proofs.InFormStatements.{ReturnsFit, formed_all}
+use Rattle.types_go.proofs.SettledFunctions.{known}
+use Rattle.types_go.proofs.Visible.{Visible, visible_with}
 
 same_some : {A : Type 0} {x y : A} → Some x ≡ Some y → x ≡ y
 same_some e = cc
@@ -218,5 +212,5 @@ module _ (text : List ℕ) where
           (nothing xs (later s scope xs visible found) (role_none role xs (sym (e_is ∙ ap Some none1)) (later s scope xs visible found).role_fits)))
       by (Some n) n_is true b_is t e xs e_is xs_is later =
           let found : entries text role (behind_entry_name text true s (Some n)) ps ≡ Some xs =
-              ap (λ c. entries text role (behind_entry_name text c s (Some n)) ps) (sym b_is) ∙ (ap (λ (m : Option Name). entries text role (behind_entry_name text (is_some (type_of text p.type_name)) s m) ps) (sym n_is) ∙ xs_is) in
+          ap (λ c. entries text role (behind_entry_name text c s (Some n)) ps) (sym b_is) ∙ (ap (λ (m : Option Name). entries text role (behind_entry_name text (is_some (type_of text p.type_name)) s m) ps) (sym n_is) ∙ xs_is) in
           as_fit (Some n) n_is true b_is (e ∷ xs) (with_name n (is_blank (spelled text n)) (is_main (spelled text n) || is_predeclared (spelled text n)) (is_here s (spelled text n)) e xs e_is found later)

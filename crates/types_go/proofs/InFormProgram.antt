@@ -1,26 +1,25 @@
 -- A typed program is in form.
-use Rattle.std.proofs.Common.{◌≡◌, ℕ, zero, suc, ◌+◌, ◌-◌, ◌<◌, ◌≤◌, Bool, true, false, cond, List, [], ◌∷◌, ◌++◌, ◌⊎◌, inl, inr, map, Option, Some, None, refl, sym, ap, ◌∙◌, subst, arith, length, append-nil, append_assoc}
-use Rattle.std.specs.Prelude.{option_and_then, is_some, not, ◌&&◌, ◌||◌, ◌==◌, nat_lt, nat_le, slice_get, codes}
+use Rattle.std.proofs.Common.{◌≡◌, ℕ, zero, suc, ◌+◌, ◌≤◌, Bool, true, false, cond, List, [], ◌∷◌, ◌++◌, ◌⊎◌, inl, inr, map, Option, Some, None, refl, sym, ap, ◌∙◌, subst, arith, length, append-nil, append_assoc}
+use Rattle.std.specs.Prelude.{option_and_then, is_some, ◌&&◌, ◌||◌, ◌==◌, nat_lt, slice_get, codes}
 use Rattle.std.specs.Option.{option_map}
 use Rattle.std.proofs.lemmas.Bool.{eqb-true, ltb-true, leb-true}
 use Rattle.std.proofs.lemmas.List.{length-map}
 use Rattle.parse_go.specs.declared.tree.Param.{Param}
 use Rattle.parse_go.specs.Tree.{Function as TreeFunction, Syntax, spelled}
 use Rattle.typed.specs.Syntax.{Sts, Func, Program, argument_words, result_words}
-use Rattle.typed.specs.Form.{births_all, ends_all, ParamsFit, NamedFit, named_params, params_scope, named_scope, scope_in, body_first, StsFit, FuncFits, IsInForm}
+use Rattle.typed.specs.Form.{ends_all, NamedFit, named_params, params_scope, scope_in, body_first, StsFit, FuncFits, IsInForm}
 use Rattle.types_go.specs.declared.entries.Role.{Role}
 use Rattle.types_go.specs.declared.entries.Role.TheVariants.{Parameter, NamedResult, UnnamedResult}
 use Rattle.types_go.specs.declared.scope.ValueType.{ValueType}
 use Rattle.types_go.specs.declared.scope.Declared.TheVariants.{Function}
-use Rattle.types_go.specs.declared.statements.Returns.{Returns}
 use Rattle.types_go.specs.Profile.{is_blank, is_main, is_predeclared}
 use Rattle.types_go.specs.Scope.{Scope, Signature, declaration, with_declaration, with_signature, opened, beginning}
 use Rattle.types_go.specs.Statements.{behind_all, ends_after}
-use Rattle.types_go.specs.Functions.{role_of, is_named, sites_of, words, is_small, is_plain, number_of, plain_number, declares_function, types_of, type_of, signature_in, with_function, with_functions, entry_in, behind_entry, entries, behind_params, body_scope, behind_function, returns_of, may_be_named, may_end, func, body_of, function_head, function, functions, package_scope, main_number}
-use Rattle.types_go.specs.Checked.{Types, program_with}
+use Rattle.types_go.specs.Functions.{role_of, is_named, sites_of, words, is_small, is_plain, number_of, plain_number, declares_function, types_of, type_of, signature_in, with_function, with_functions, entry_in, behind_entry, entries, behind_params, body_scope, behind_function, returns_of, may_be_named, func, function, functions, package_scope, main_number}
+use Rattle.types_go.specs.Checked.{Types}
 use Rattle.types_go.proofs.SettledStatements.{and_then_some, map_some, none_some}
 use Rattle.types_go.proofs.SettledFunctions.{signature_parts, small_signed, function_some}
-use Rattle.types_go.proofs.Growth.{Keeps, keeps_none, keeps_twice, keeps_function, grows_body}
+use Rattle.types_go.proofs.Growth.{keeps_function, grows_body}
 use Rattle.types_go.proofs.Visible.{Visible, visible_beginning, visible_opened, visible_kept, visible_package}
 use Rattle.types_go.proofs.InForm.{Agrees}
 use Rattle.types_go.proofs.InFormStatements.{ReturnsFit, formed_all}
@@ -126,9 +125,9 @@ module _ (text : List ℕ) where
           names = names_of g.results rs two1.role_fits (result_words t0) (two1.long ∙ sym words_are);
           count = omega (arith, one1.count, two1.count, formed.count, named_long);
           body = subst (λ w. StsFit fs w (length (sites_of rs)) (scope_in t0) (body_first t0) (t0.first + t0.count) body) (sym words_are)
-            (subst (λ n. StsFit fs (length g.results) (length (sites_of rs)) (scope_in t0) (body_first t0) n body) (sym whole)
-            (subst (λ m. StsFit fs (length g.results) (length (sites_of rs)) (scope_in t0) m (length last1.sites) body) (sym body_is)
-            (subst (λ (l : List ℕ). StsFit fs (length g.results) (length (sites_of rs)) l (length inner.sites) (length last1.sites) body) (named_scope_of (params_scope [] ps) rs) statements1)));
+              (subst (λ n. StsFit fs (length g.results) (length (sites_of rs)) (scope_in t0) (body_first t0) n body) (sym whole)
+              (subst (λ m. StsFit fs (length g.results) (length (sites_of rs)) (scope_in t0) m (length last1.sites) body) (sym body_is)
+              (subst (λ (l : List ℕ). StsFit fs (length g.results) (length (sites_of rs)) l (length inner.sites) (length last1.sites) body) (named_scope_of (params_scope [] ps) rs) statements1)));
           end = finish body (result_words t0) (length g.results == 0) refl p.2 (sym (ends_same body) ∙ ends_list text (returns_of g) inner g.body body p.3.5 false) words_are;
           small = omega (arith, small_words g p.1, words_are, one1.long);
         })
@@ -231,9 +230,10 @@ plain_function : (text : List ℕ) (s : Scope) (i : ℕ) (g : TreeFunction) (t :
 plain_function text s i g t is no_params no_results =
     let p = function_some text s i g t is in
     let ps : p.3.0 ≡ [] = empty_list p.3.0 (entries_long text Parameter (opened s) g.params p.3.0 p.3.3 ∙ no_params) in
-    let rs : p.3.1 ≡ [] = empty_list p.3.1 (entries_long text (role_of g.results) (behind_params text s g) g.results p.3.1 p.3.4 ∙ no_results) in
-    (ap (λ (x : Func). x.params) (sym p.3.6) ∙ ps,
-     (empty_list t.results ((function_counts text s i g t is).1 ∙ no_results), ap (λ (x : Func). x.named) (sym p.3.6) ∙ ap sites_of rs))
+    let rs : p.3.1 ≡ [] = empty_list p.3.1 (entries_long text (role_of g.results) (behind_params text s g) g.results p.3.1 p.3.4 ∙ no_results) in (
+      ap (λ (x : Func). x.params) (sym p.3.6) ∙ ps,
+      (empty_list t.results ((function_counts text s i g t is).1 ∙ no_results), ap (λ (x : Func). x.named) (sym p.3.6) ∙ ap sites_of rs),
+    )
 
 pub in_form : (t : Syntax) (p : Program) → Types t p → IsInForm p
 in_form t p a =

@@ -1,23 +1,23 @@
 -- Typed statements are in form: sites are born in the order of the text, and what is named is in scope.
-use Rattle.std.proofs.Common.{◌≡◌, ℕ, zero, suc, ◌+◌, ◌<◌, ◌≤◌, Bool, true, false, cond, List, [], ◌∷◌, ◌++◌, ◌⊎◌, inl, inr, Option, Some, None, refl, sym, ap, ◌∙◌, subst, arith, length, length-append}
-use Rattle.std.specs.Prelude.{option_and_then, is_some, not, ◌&&◌, ◌||◌, slice_get}
+use Rattle.std.proofs.Common.{◌≡◌, ℕ, suc, ◌+◌, ◌≤◌, Bool, true, false, cond, List, [], ◌∷◌, ◌++◌, ◌⊎◌, inl, inr, Option, Some, None, refl, sym, ap, ◌∙◌, subst, arith, length, length-append}
+use Rattle.std.specs.Prelude.{is_some, not, ◌&&◌, ◌||◌}
 use Rattle.std.specs.Option.{option_map}
 use Rattle.base.specs.declared.pos.Pos.{Pos}
 use Rattle.base.specs.declared.ids.SiteId.{SiteId}
 use Rattle.parse_go.specs.declared.tree.Name.{Name}
 use Rattle.parse_go.specs.Tree.{Ex as TreeEx, Exs as TreeExs, Stm, Stms, Els, spelled}
 use Rattle.parse_go.specs.Tree as tree
-use Rattle.typed.specs.Syntax.{Ex, Exs, Left, Piece, St, Sts, Func, local, here, none, more, results, blank, new, to, assign, discard, block, choose, loop, give_back, print, done, next}
-use Rattle.typed.specs.Form.{InScope, LeftsFit, new_sites, births, births_all, scope_behind, scope_after, values_of, ExsFit, TestFits, ReturnFits, StFits, StsFit}
+use Rattle.typed.specs.Syntax.{Ex, Exs, Left, St, Sts, Func, local, here, none, more, results, blank, new, to, block, choose, loop, give_back, done, next}
+use Rattle.typed.specs.Form.{InScope, LeftsFit, new_sites, births, births_all, scope_behind, scope_after, values_of, TestFits, ReturnFits, StFits, StsFit}
 use Rattle.types_go.specs.declared.scope.Declared.{Declared}
 use Rattle.types_go.specs.declared.scope.Declared.TheVariants.{Variable, Untyped, Function}
 use Rattle.types_go.specs.declared.statements.Returns.{Returns}
 use Rattle.types_go.specs.Profile.{is_blank, is_main, is_predeclared, is_reserved}
 use Rattle.types_go.specs.Scope.{Scope, Signature, declaration, is_here, with_variable, opened, closed}
 use Rattle.types_go.specs.Typing.{Gives, one, called, printed, Seen, taken, gives, seen, condition, test}
-use Rattle.types_go.specs.Statements.{target, left_of, new_left_of, declares, choice_of, loop_of, expressed, returned, assignment, lefts, new_left, new_names, new_lefts, with_variables, may_define, behind, behind_else, behind_all, statement, alternative, statements}
+use Rattle.types_go.specs.Statements.{target, left_of, new_left_of, declares, choice_of, expressed, returned, assignment, lefts, new_left, new_names, new_lefts, with_variables, may_define, behind, behind_else, behind_all, statement, alternative, statements}
 use Rattle.types_go.proofs.SettledStatements.{and_then_some, map_some, none_some, choice_some, loop_some, assignment_some, where_some}
-use Rattle.types_go.proofs.Growth.{Keeps, keeps_block, keeps_else, grows, grows_all, keeps_twice}
+use Rattle.types_go.proofs.Growth.{keeps_block, keeps_else, grows}
 use Rattle.types_go.proofs.Visible.{Visible, visible_opened, visible_kept, visible_with}
 use Rattle.types_go.proofs.InForm.{Agrees, GivesFit, TakenFit, OptionalFits, taken_fits, gives_fit, seen_fit, condition_fits, test_fits}
 
@@ -218,9 +218,10 @@ module _ (text : List ℕ) (fs : List Func) (r : Returns) (named : ℕ) (goes : 
           let inner_visible = visible_kept s inner scope v keeps in
           let a = formed_all (opened s) scope body q.1 (visible_opened s scope v) g q.4 in
           let b = formed_else inner scope rest q.2 inner_visible (keeps.signatures ∙ g) q.5 in
-          subst (λ (x : St). StFormed s scope (behind_else text inner rest) x × Visible (behind_else text inner rest) (scope_after scope x)) q.6
-          (choice_formed s inner (behind_else text inner rest) scope q.0 q.1 q.2 (condition_fits fs scope text s v (agreed s g) c q.0 q.3) (record { count = a.count; fit = a.fit }) b,
-           visible_kept inner (behind_else text inner rest) scope inner_visible (keeps_else text inner rest))
+          subst (λ (x : St). StFormed s scope (behind_else text inner rest) x × Visible (behind_else text inner rest) (scope_after scope x)) q.6 (
+            choice_formed s inner (behind_else text inner rest) scope q.0 q.1 q.2 (condition_fits fs scope text s v (agreed s g) c q.0 q.3) (record { count = a.count; fit = a.fit }) b,
+            visible_kept inner (behind_else text inner rest) scope inner_visible (keeps_else text inner rest),
+          )
       formed s scope (tree.loop at c body) t v g is =
           let inner = closed (behind_all text (opened s) body) in
           let q = loop_some (test text s c) (statements text r (opened s) body) t is in

@@ -1,5 +1,5 @@
 -- Expressions side by side, one after the other.
-use Rattle.std.proofs.Common.{◌≡◌, ℕ, zero, suc, ◌+◌, ◌<◌, get_or, ◌≤◌, take, drop, map, Bool, true, false, List, [], ◌∷◌, ◌++◌, ◌⊎◌, Option, Some, None, refl, sym, ap, ◌∙◌, length, arith, append_assoc, append-nil}
+use Rattle.std.proofs.Common.{◌≡◌, ℕ, zero, suc, ◌+◌, ◌<◌, get_or, ◌≤◌, take, drop, map, Bool, true, false, List, [], ◌∷◌, ◌++◌, Option, Some, None, refl, sym, ap, ◌∙◌, length, arith, append_assoc, append-nil}
 use Rattle.std.specs.Prelude.{option_and_then, ◌&&◌}
 use Rattle.std.specs.Option.{option_map}
 use Rattle.std.specs.Global.{Vec}
@@ -10,9 +10,9 @@ use Rattle.parse_go.specs.declared.tree.Name.{Name}
 use Rattle.parse_go.specs.declared.tree.Param.{Param}
 use Rattle.typed.specs.declared.expr.Expr.{Expr}
 use Rattle.typed.specs.View.{ex_of, exs_of, pieces_of}
-use Rattle.typed.specs.Syntax.{Ex, more, shown}
+use Rattle.typed.specs.Syntax.{more, shown}
 use Rattle.types_go.specs.declared.operand.Item.{Item}
-use Rattle.types_go.specs.Typing.{Seen, Gives, int_in, ints, each}
+use Rattle.types_go.specs.Typing.{Seen, Gives, each}
 use Rattle.types_go.specs.Passing.{seen_of, seens, with_last}
 
 -- the elements of a list from one on

@@ -1,7 +1,7 @@
 -- The fault that the pass finds in one place is the least of the rules that fail there.
-use Rattle.std.proofs.Common.{◌≡◌, arith, ℕ, ◌^◌, ℤ, Bool, true, false, cond, inl, inr, Option, Some, None, Result, Ok, Err, refl, sym, ap}
-use Rattle.std.specs.Prelude.{nat_lt, ◌==◌, ◌≤◌, not}
-use Rattle.std.proofs.lemmas.Bool.{cases_Bool, ltb-true, ltb-false}
+use Rattle.std.proofs.Common.{◌≡◌, arith, ℕ, ◌^◌, Bool, true, false, cond, Option, Some, None, Result, Ok, Err, refl}
+use Rattle.std.specs.Prelude.{nat_lt, ◌==◌, ◌≤◌}
+use Rattle.std.proofs.lemmas.Bool.{ltb-true, ltb-false}
 use Rattle.base.specs.declared.pos.Pos.{Pos}
 use Rattle.parse_go.specs.declared.tree.BinOp.{BinOp}
 use Rattle.parse_go.specs.declared.tree.UnOp.{UnOp}

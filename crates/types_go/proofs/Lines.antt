@@ -1,28 +1,26 @@
 -- The fault that the pass finds in a statement or a function is the least of the rules that fail there.
-use Rattle.std.proofs.Common.{◌≡◌, ℕ, Bool, true, false, List, [], ◌∷◌, ◌⊎◌, Option, Some, None, refl, sym, ap, ◌∙◌, subst, length, take, map}
+use Rattle.std.proofs.Common.{◌≡◌, ℕ, Bool, true, false, List, [], ◌∷◌, ◌⊎◌, Option, Some, None, refl, ap, ◌∙◌, subst, length, take}
 use Rattle.std.specs.Prelude.{option_and_then, is_some, not, ◌&&◌, ◌==◌}
-use Rattle.std.specs.Option.{option_map}
 use Rattle.base.specs.declared.pos.Pos.{Pos}
 use Rattle.parse_go.specs.declared.tree.Name.{Name}
-use Rattle.parse_go.specs.FirstBytes.{first_place}
-use Rattle.parse_go.specs.Tree.{Ex as TreeEx, Exs as TreeExs, Function as TreeFunction, define, assign, express, give_back}
-use Rattle.typed.specs.Syntax.{Left, Sts, Func}
+use Rattle.parse_go.specs.Tree.{Exs as TreeExs, Function as TreeFunction, define, assign}
+use Rattle.typed.specs.Syntax.{Left, Sts}
 use Rattle.types_go.specs.declared.fault.Fault.{Fault}
 use Rattle.types_go.specs.declared.fault.FaultKind.TheVariants.{ArgCount, ResultCount, NothingNew}
 use Rattle.types_go.specs.declared.entries.Role.TheVariants.{Parameter}
 use Rattle.types_go.specs.declared.statements.Returns.{Returns}
 use Rattle.types_go.specs.Least.{IsLeast, lesser}
 use Rattle.types_go.specs.Scope.{Scope, opened}
-use Rattle.types_go.specs.Typing.{Gives, Seen, many, count, gives, seen}
+use Rattle.types_go.specs.Typing.{Seen, many, count, seen}
 use Rattle.types_go.specs.Statements.{lefts, has_all}
 use Rattle.types_go.specs.Functions.{role_of, entries, behind_params, behind_function, body_of, parts}
-use Rattle.types_go.specs.Faults.{fault, ValuesFail, RangeFails, CountFails, TakeFails, Fails, FailsInEach}
-use Rattle.types_go.specs.StatementFaults.{FailsWhere, names_place, UseFails, ReturnFails, LeftsFail, NewNamesFail, TwiceFails, FailsInAssignment, FailsInStatement}
+use Rattle.types_go.specs.Faults.{fault, ValuesFail, RangeFails, CountFails, TakeFails, FailsInEach}
+use Rattle.types_go.specs.StatementFaults.{FailsWhere, names_place, ReturnFails, LeftsFail, NewNamesFail, TwiceFails, FailsInStatement}
 use Rattle.types_go.specs.declared.operand.Item.{Item}
-use Rattle.types_go.specs.Passing.{seens, count_fault, use_fault, assembled}
+use Rattle.types_go.specs.Passing.{seens, count_fault, assembled}
 use Rattle.types_go.proofs.Decided.{Tested}
 use Rattle.types_go.proofs.Leasts.{least_join}
-use Rattle.types_go.proofs.Leaves.{count_least, use_least}
+use Rattle.types_go.proofs.Leaves.{count_least}
 
 -- what a fault says of a test
 pub tested_none : (b : Bool) (P : Fault → Type 0) (f : Option Fault) → Tested b P → IsLeast P f → is_some f ≡ not b
@@ -50,8 +48,8 @@ module _ (text : List ℕ) (r : Returns) (s : Scope) where
   assign_least ns at es ls os a b c ls_is os_is left each placed =
       let own = fault ArgCount (names_place ns at) in
       let whole = least_join (λ f. LeftsFail text s ns f ⊎ FailsInEach text s es f) (λ f. (ValuesFail (many os) os f ⊎ RangeFails (take (length ns) os) f) ⊎ CountFails (option_and_then (λ l. count os) ls) (length ns) own f)
-          (lesser a b) (lesser c (count_fault (option_and_then (λ l. count os) ls) (length ns) own)) (least_join (LeftsFail text s ns) (FailsInEach text s es) a b left each)
-          (least_join (λ f. ValuesFail (many os) os f ⊎ RangeFails (take (length ns) os) f) (CountFails (option_and_then (λ l. count os) ls) (length ns) own) c (count_fault (option_and_then (λ l. count os) ls) (length ns) own) placed (count_least (option_and_then (λ l. count os) ls) (length ns) own)) in
+      (lesser a b) (lesser c (count_fault (option_and_then (λ l. count os) ls) (length ns) own)) (least_join (LeftsFail text s ns) (FailsInEach text s es) a b left each)
+      (least_join (λ f. ValuesFail (many os) os f ⊎ RangeFails (take (length ns) os) f) (CountFails (option_and_then (λ l. count os) ls) (length ns) own) c (count_fault (option_and_then (λ l. count os) ls) (length ns) own) placed (count_least (option_and_then (λ l. count os) ls) (length ns) own)) in
       let Whole : Option (List Left) → List Seen → Fault → Type 0 = λ ls1 os1 f. (LeftsFail text s ns f ⊎ FailsInEach text s es f) ⊎ ((ValuesFail (many os1) os1 f ⊎ RangeFails (take (length ns) os1) f) ⊎ CountFails (option_and_then (λ l. count os1) ls1) (length ns) own f) in
       let answer = lesser (lesser a b) (lesser c (count_fault (option_and_then (λ l. count os) ls) (length ns) own)) in
       subst (λ (os1 : List Seen). IsLeast (Whole (lefts text s ns) os1) answer) os_is (subst (λ (ls1 : Option (List Left)). IsLeast (Whole ls1 os) answer) ls_is whole)

@@ -1,5 +1,5 @@
 -- The new names of a `:=` so far, and those still ahead.
-use Rattle.std.proofs.Common.{◌≡◌, ℕ, suc, ◌+◌, Bool, true, false, cond, List, [], ◌∷◌, ◌++◌, length, refl, sym, ap, ◌∙◌, arith, append_assoc, length-append}
+use Rattle.std.proofs.Common.{◌≡◌, ℕ, ◌+◌, Bool, true, false, cond, List, [], ◌∷◌, ◌++◌, length, sym, ap, ◌∙◌, arith, append_assoc, length-append}
 use Rattle.parse_go.specs.declared.tree.Name.{Name}
 
 pub next_site : (b : Bool) (start : ℕ) (names more : List Name) (n : Name) → more ≡ cond b (names ++ n ∷ []) names → cond b (1 + (start + length names)) (start + length names) ≡ start + length more

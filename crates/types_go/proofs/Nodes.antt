@@ -1,16 +1,16 @@
 -- The values of a list of expressions.
-use Rattle.std.proofs.Common.{◌≡◌, ℕ, List, ◌⊎◌, Option, Some, None, sym, subst}
+use Rattle.std.proofs.Common.{◌≡◌, ℕ, List, ◌⊎◌, Option, Some, None, subst}
 use Rattle.std.specs.Option.{option_map}
 use Rattle.parse_go.specs.FirstBytes.{first_place}
 use Rattle.parse_go.specs.declared.tree.UnOp.{UnOp}
 use Rattle.parse_go.specs.declared.tree.BinOp.{BinOp}
 use Rattle.parse_go.specs.declared.tree.CompareOp.{CompareOp}
-use Rattle.parse_go.specs.Tree.{Ex as TreeEx, Exs as TreeExs, Condition, compare, unary, binary, call}
+use Rattle.parse_go.specs.Tree.{Ex as TreeEx, Exs as TreeExs, compare, unary, binary, call}
 use Rattle.base.specs.declared.pos.Pos.{Pos}
 use Rattle.types_go.specs.declared.fault.Fault.{Fault}
 use Rattle.types_go.specs.Least.{IsLeast, lesser}
 use Rattle.types_go.specs.Scope.{Scope}
-use Rattle.types_go.specs.Typing.{Operand, Gives, Seen, Many, Callee, operand_in, name_in, callee, gives, seen}
+use Rattle.types_go.specs.Typing.{Operand, Seen, Many, Callee, operand_in, name_in, callee, gives, seen}
 use Rattle.types_go.specs.Faults.{SinglesFail, ValuesFail, OneFails, PrefixFails, BothFail, PairFails, ComparisonFails, CallFails, CalleeFails, Fails, FailsInEach, FailsAsOperand, FailsInCondition}
 use Rattle.types_go.specs.Passing.{prefix_fault, pair_fault, comparison_fault}
 use Rattle.types_go.proofs.Leasts.{least_join}
@@ -31,7 +31,7 @@ module _ (text : List ℕ) (s : Scope) where
       → o ≡ operand_in (gives text s a) → p ≡ operand_in (gives text s b) → IsLeast (Fails text s (binary op a b)) (lesser (lesser f g) (pair_fault (first_place a) (first_place b) op o p))
   binary_least op a b f g o p left right o_is p_is =
       let both = least_join (λ h. FailsAsOperand text s a h ⊎ FailsAsOperand text s b h) (BothFail (PairFails (first_place a) (first_place b) op) o p) (lesser f g) (pair_fault (first_place a) (first_place b) op o p)
-          (least_join (FailsAsOperand text s a) (FailsAsOperand text s b) f g left right) (pair_least (first_place a) (first_place b) op o p) in
+      (least_join (FailsAsOperand text s a) (FailsAsOperand text s b) f g left right) (pair_least (first_place a) (first_place b) op o p) in
       subst (λ (q : Option Operand). IsLeast (λ h. (FailsAsOperand text s a h ⊎ FailsAsOperand text s b h) ⊎ BothFail (PairFails (first_place a) (first_place b) op) (operand_in (gives text s a)) q h) (lesser (lesser f g) (pair_fault (first_place a) (first_place b) op o p))) p_is
       (subst (λ (q : Option Operand). IsLeast (λ h. (FailsAsOperand text s a h ⊎ FailsAsOperand text s b h) ⊎ BothFail (PairFails (first_place a) (first_place b) op) q p h) (lesser (lesser f g) (pair_fault (first_place a) (first_place b) op o p))) o_is both)
 
@@ -39,7 +39,7 @@ module _ (text : List ℕ) (s : Scope) where
       → o ≡ operand_in (gives text s a) → p ≡ operand_in (gives text s b) → IsLeast (FailsInCondition text s (compare op a b)) (lesser (lesser f g) (comparison_fault (first_place a) (first_place b) o p))
   condition_least op a b f g o p left right o_is p_is =
       let both = least_join (λ h. FailsAsOperand text s a h ⊎ FailsAsOperand text s b h) (BothFail (ComparisonFails (first_place a) (first_place b)) o p) (lesser f g) (comparison_fault (first_place a) (first_place b) o p)
-          (least_join (FailsAsOperand text s a) (FailsAsOperand text s b) f g left right) (comparison_least (first_place a) (first_place b) o p) in
+      (least_join (FailsAsOperand text s a) (FailsAsOperand text s b) f g left right) (comparison_least (first_place a) (first_place b) o p) in
       subst (λ (q : Option Operand). IsLeast (λ h. (FailsAsOperand text s a h ⊎ FailsAsOperand text s b h) ⊎ BothFail (ComparisonFails (first_place a) (first_place b)) (operand_in (gives text s a)) q h) (lesser (lesser f g) (comparison_fault (first_place a) (first_place b) o p))) p_is
       (subst (λ (q : Option Operand). IsLeast (λ h. (FailsAsOperand text s a h ⊎ FailsAsOperand text s b h) ⊎ BothFail (ComparisonFails (first_place a) (first_place b)) q p h) (lesser (lesser f g) (comparison_fault (first_place a) (first_place b) o p))) o_is both)
 

@@ -1,5 +1,5 @@
 -- Where every variable has a type and every function a signature, an expression gives something, or a rule fails in it, and never both.
-use Rattle.std.proofs.Common.{◌≡◌, ℕ, zero, suc, ◌^◌, ℤ, pos, Bool, true, false, cond, List, [], ◌∷◌, ◌⊎◌, inl, inr, Option, Some, None, Ok, Err, refl, sym, ap, ◌∙◌, subst, arith}
+use Rattle.std.proofs.Common.{◌≡◌, ℕ, zero, suc, ◌^◌, ℤ, pos, Bool, true, false, cond, List, [], ◌∷◌, ◌⊎◌, inl, inr, Option, Some, None, Ok, Err, refl, subst, arith}
 use Rattle.std.specs.Prelude.{⊤, option_and_then, slice_get, nat_lt, ◌≤◌}
 use Rattle.std.specs.List.{AllByRecursion}
 use Rattle.std.specs.Option.{option_map}
@@ -12,7 +12,7 @@ use Rattle.parse_go.specs.declared.tree.Name.{Name}
 use Rattle.parse_go.specs.FirstBytes.{first_place}
 use Rattle.parse_go.specs.Tree.{Ex as TreeEx, Exs as TreeExs, number, name, unary, binary, paren, call, some, Condition, compare, spelled}
 use Rattle.parse_go.specs.Tree as tree
-use Rattle.typed.specs.Syntax.{Ex, shown, constant}
+use Rattle.typed.specs.Syntax.{constant}
 use Rattle.typed.specs.Value.{int}
 use Rattle.names.specs.declared.constants.Const.TheVariants.{Int}
 use Rattle.names.specs.declared.constants.ConstFault.TheVariants.{Overflow}
@@ -24,9 +24,9 @@ use Rattle.types_go.specs.declared.scope.Declared.{Declared}
 use Rattle.types_go.specs.declared.scope.Declared.TheVariants.{Variable, Untyped, Function}
 use Rattle.types_go.specs.Profile.{is_println, is_reserved}
 use Rattle.types_go.specs.Scope.{Scope, Signature, declaration, signature}
-use Rattle.types_go.specs.Typing.{Operand, untyped, value, Gives, one, is_int, as_int, constant_of, name_operand, prefixed, both, combined, both_ints, compared_ints, compared_operands, operand_in, Seen, ints, taken, Callee, printer, function, no_function, nothing, function_with, callee_declared, callee_named, callee_value, called_with, name_in, callee, gives, seen, condition, test}
-use Rattle.types_go.specs.Faults.{fault, NameFails, CalleeNameFails, SingleFails, PrefixFails, PairFails, ComparisonFails, OneFails, BothFail, SinglesFail, RangeFails, TakeFails, CallFails, CalleeFails, Fails, FailsInEach, FailsAsOperand, FailsInCondition, FailsInTest}
-use Rattle.types_go.proofs.Decided.{Decided, Tested, further, same, mapped, after, both_decided}
+use Rattle.types_go.specs.Typing.{Operand, untyped, value, Gives, one, is_int, constant_of, name_operand, prefixed, both, combined, both_ints, compared_ints, compared_operands, operand_in, Seen, ints, taken, Callee, printer, function, no_function, nothing, function_with, callee_declared, callee_named, callee_value, called_with, name_in, callee, gives, seen, condition, test}
+use Rattle.types_go.specs.Faults.{fault, NameFails, CalleeNameFails, SingleFails, PrefixFails, PairFails, ComparisonFails, OneFails, BothFail, SinglesFail, RangeFails, CallFails, CalleeFails, Fails, FailsInEach, FailsAsOperand, FailsInCondition, FailsInTest}
+use Rattle.types_go.proofs.Decided.{Decided, further, same, mapped, after}
 use Rattle.types_go.proofs.DecidedValues.{operand_decided, given_all, take_decided, print_decided, uncallable}
 
 abbrev pub HasSignature : Option Signature → Type 0

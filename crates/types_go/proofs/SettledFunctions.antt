@@ -1,15 +1,15 @@
 -- A tree has a typed program, or a rule fails in it, and never both.
 use Rattle.std.proofs.Common.{◌≡◌, ℕ, zero, suc, ◌+◌, ◌<◌, ◌≤◌, Bool, true, false, cond, List, [], ◌∷◌, ◌++◌, ◌⊎◌, inl, inr, length, Option, Some, None, refl, sym, ap, ◌∙◌, subst, arith, length-append}
-use Rattle.std.specs.Prelude.{⊤, option_and_then, is_some, not, slice_get, nat_lt, nat_le, ◌&&◌, ◌||◌, ◌==◌}
+use Rattle.std.specs.Prelude.{option_and_then, is_some, not, slice_get, nat_lt, nat_le, ◌&&◌, ◌||◌, ◌==◌}
 use Rattle.std.specs.List.{AllByRecursion}
 use Rattle.std.specs.Option.{option_map}
 use Rattle.base.specs.declared.pos.Pos.{Pos}
 use Rattle.parse_go.specs.declared.tree.Name.{Name}
 use Rattle.parse_go.specs.declared.tree.Param.{Param}
-use Rattle.parse_go.specs.Tree.{Function as TreeFunction, Syntax, spelled}
+use Rattle.parse_go.specs.Tree.{Function as TreeFunction, spelled}
 use Rattle.typed.specs.Syntax.{Sts, Func}
 use Rattle.types_go.specs.declared.fault.Fault.{Fault}
-use Rattle.types_go.specs.declared.fault.FaultKind.TheVariants.{Unknown, Redeclared, MissingReturn, BadOperand, NoMain, OutOfProfile, TooLarge}
+use Rattle.types_go.specs.declared.fault.FaultKind.TheVariants.{Unknown, Redeclared, MissingReturn, BadOperand, OutOfProfile, TooLarge}
 use Rattle.types_go.specs.declared.entries.Role.{Role}
 use Rattle.types_go.specs.declared.entries.Role.TheVariants.{Parameter, NamedResult, UnnamedResult}
 use Rattle.types_go.specs.declared.scope.ValueType.{ValueType}
@@ -17,15 +17,15 @@ use Rattle.types_go.specs.declared.scope.ValueType.TheVariants.{Int}
 use Rattle.types_go.specs.declared.scope.Declared.{Declared}
 use Rattle.types_go.specs.declared.scope.Declared.TheVariants.{Variable, Untyped, Function}
 use Rattle.types_go.specs.Profile.{is_blank, is_int_type, is_type_name, is_value_name, is_predeclared, is_reserved}
-use Rattle.types_go.specs.Scope.{Scope, Signature, declaration, is_here, with_declaration, with_variable, with_signature, opened, closed, beginning}
-use Rattle.types_go.specs.Statements.{behind_all, statements}
-use Rattle.types_go.specs.Functions.{unnamed_entry, blank_entry, variable_entry, entry_of, role_of, words, is_number, may_be_named, allowed, is_small, declares_function, type_of, types_of, signature_in, with_function, with_functions, entry_in, behind_entry_name, behind_entry, entries, behind_entries, behind_params, body_scope, behind_function, returns_of, may_end, func, body_of, parts, function_head, function, functions, behind_functions, package_scope, main_number}
+use Rattle.types_go.specs.Scope.{Scope, Signature, declaration, is_here, with_declaration, with_variable, with_signature, opened, beginning}
+use Rattle.types_go.specs.Statements.{behind_all}
+use Rattle.types_go.specs.Functions.{unnamed_entry, blank_entry, variable_entry, entry_of, role_of, words, is_number, may_be_named, allowed, is_small, declares_function, type_of, types_of, signature_in, with_function, with_functions, entry_in, behind_entry_name, behind_entry, entries, behind_entries, behind_params, body_scope, behind_function, returns_of, may_end, func, body_of, parts, function_head, function, functions}
 use Rattle.types_go.specs.Faults.{fault}
 use Rattle.types_go.specs.StatementFaults.{FailsWhere, FailsInStatements}
-use Rattle.types_go.specs.FunctionFaults.{NumberFails, FunctionNameFails, TypeFails, UnnamedFails, BlankFails, VariableFails, NamedFails, SizeFails, FailsAsType, TypesFail, EntryFails, EntriesFail, FailsInHead, FailsInTypes, FailsInParts, FailsInFunction, FailsInFunctions, FailsIn, first_byte}
+use Rattle.types_go.specs.FunctionFaults.{NumberFails, FunctionNameFails, TypeFails, UnnamedFails, BlankFails, VariableFails, NamedFails, SizeFails, FailsAsType, TypesFail, EntryFails, EntriesFail, FailsInHead, FailsInTypes, FailsInParts, FailsInFunction, FailsInFunctions}
 use Rattle.types_go.proofs.Decided.{Decided, Tested, further, same, mapped, after, both_decided, both_tested}
 use Rattle.types_go.proofs.Settled.{HasSignature, IsTyped, IsSettled}
-use Rattle.types_go.proofs.SettledStatements.{where_tested, one_more_declared, settled_with, settled_opened, settled_closed, settled_all, statements_decided, and_then_some, map_some}
+use Rattle.types_go.proofs.SettledStatements.{one_more_declared, settled_with, settled_opened, settled_closed, settled_all, statements_decided, and_then_some, map_some}
 
 -- ---- the head and the types of a function
 
@@ -172,9 +172,9 @@ module _ (text : List ℕ) where
       three_decided (function_head text s i g) (is_small (signature_in text g)) (may_end g) (parts text s g) (FailsInHead text s i g) (FailsInTypes text s g) (FailsInParts text s g) (FailsWhere (not (may_end g)) (fault MissingReturn g.end))
       (head_tested s i g) (small_tested (signature_in text g) g.name.pos (λ f. TypesFail text s g.params f ⊎ TypesFail text s g.results f) (signature_decided s g)) (where_not (may_end g) (fault MissingReturn g.end))
       (λ small. parts_decided (entries text Parameter (opened s) g.params) (entries text (role_of g.results) (behind_params text s g) g.results) (body_of text s g) (func text s g)
-        (EntriesFail text Parameter (opened s) g.params) (EntriesFail text (role_of g.results) (behind_params text s g) g.results) (FailsInStatements text (returns_of g) (body_scope text s g) g.body)
-        (entries_decided Parameter (opened s) g.params) (entries_decided (role_of g.results) (behind_params text s g) g.results)
-        (statements_decided text (returns_of g) (body_scope text s g) g.body (settled_body s g (small_signed (signature_in text g) small) settled)))
+      (EntriesFail text Parameter (opened s) g.params) (EntriesFail text (role_of g.results) (behind_params text s g) g.results) (FailsInStatements text (returns_of g) (body_scope text s g) g.body)
+      (entries_decided Parameter (opened s) g.params) (entries_decided (role_of g.results) (behind_params text s g) g.results)
+      (statements_decided text (returns_of g) (body_scope text s g) g.body (settled_body s g (small_signed (signature_in text g) small) settled)))
 
   -- what a typed function is made of
   pub allowed_some : {A : Type 0} (b : Bool) (o : Option A) (x : A) → allowed b o ≡ Some x → (b ≡ true) × (o ≡ Some x)

@@ -1,6 +1,6 @@
 -- Where every variable has a type and every function a signature, a statement has a typed form, or a rule fails in it, and never both.
-use Rattle.std.proofs.Common.{◌≡◌, ℕ, ◌+◌, Bool, true, false, cond, List, [], ◌∷◌, ◌++◌, ◌⊎◌, inl, inr, length, Option, Some, None, refl, sym, ap, ◌∙◌, subst}
-use Rattle.std.specs.Prelude.{option_and_then, is_some, not, ◌&&◌, ◌||◌}
+use Rattle.std.proofs.Common.{◌≡◌, ℕ, ◌+◌, Bool, true, false, cond, List, [], ◌∷◌, ◌++◌, ◌⊎◌, inl, inr, length, Option, Some, None, refl, sym, subst}
+use Rattle.std.specs.Prelude.{option_and_then, is_some, not}
 use Rattle.std.specs.List.{AllByRecursion}
 use Rattle.std.specs.Option.{option_map}
 use Rattle.base.specs.declared.pos.Pos.{Pos}
@@ -17,11 +17,11 @@ use Rattle.types_go.specs.declared.scope.Declared.TheVariants.{Variable, Untyped
 use Rattle.types_go.specs.declared.statements.Returns.{Returns}
 use Rattle.types_go.specs.Profile.{is_blank, is_reserved}
 use Rattle.types_go.specs.Scope.{Scope, Signature, declaration, is_here, with_variable, opened, closed}
-use Rattle.types_go.specs.Typing.{Gives, one, called, printed, Seen, many, count, taken, gives, seen, condition, test}
-use Rattle.types_go.specs.Statements.{target, left_of, new_left_of, declares, noted, is_noted, choice_of, loop_of, expressed, returned, assignment, lefts, new_left, new_names, new_lefts, with_variables, are_distinct, has_all, may_define, behind, behind_else, behind_all, statement, alternative, statements}
-use Rattle.types_go.specs.Faults.{fault, ValuesFail, RangeFails, CountFails, TakeFails, Fails, FailsInEach, FailsInCondition, FailsInTest}
+use Rattle.types_go.specs.Typing.{Gives, one, called, printed, Seen, count, taken, gives, seen, condition, test}
+use Rattle.types_go.specs.Statements.{left_of, new_left_of, declares, noted, is_noted, choice_of, loop_of, expressed, returned, assignment, lefts, new_left, new_names, new_lefts, with_variables, are_distinct, has_all, may_define, behind, behind_else, behind_all, statement, alternative, statements}
+use Rattle.types_go.specs.Faults.{fault, CountFails, TakeFails, Fails, FailsInEach, FailsInCondition, FailsInTest}
 use Rattle.types_go.specs.StatementFaults.{FailsWhere, LeftFails, NewNameFails, names_place, UseFails, ReturnFails, LeftsFail, NewNamesFail, TwiceFails, FailsInAssignment, FailsInStatement, FailsInElse, FailsInStatements}
-use Rattle.types_go.proofs.Decided.{Decided, Tested, further, same, mapped, after, both_tested}
+use Rattle.types_go.proofs.Decided.{Decided, Tested, further, mapped, after, both_tested}
 use Rattle.types_go.proofs.DecidedValues.{take_decided}
 use Rattle.types_go.proofs.Settled.{IsTyped, IsSettled, declared_typed, gives_decided, seen_decided, condition_decided, test_decided}
 
@@ -172,7 +172,7 @@ module _ (text : List ℕ) where
   define_statement : (s : Scope) (ns : List Name) (at : Pos) (es : TreeExs) → IsSettled s
       → Decided (cond (may_define text s ns) (assignment (new_lefts text s (length s.sites) ns) (taken (length ns) (seen text s es))) None)
       (λ f. ((FailsInEach text s es f ⊎ TakeFails (fault ArgCount (names_place ns at)) (length ns) (seen text s es) f) ⊎ NewNamesFail text s ns f)
-          ⊎ (TwiceFails text ([] ∷ []) ns f ⊎ FailsWhere (has_all text s ns) (fault Rattle.types_go.specs.declared.fault.FaultKind.TheVariants.NothingNew at) f))
+      ⊎ (TwiceFails text ([] ∷ []) ns f ⊎ FailsWhere (has_all text s ns) (fault Rattle.types_go.specs.declared.fault.FaultKind.TheVariants.NothingNew at) f))
   define_statement s ns at es settled =
       let v = taken (length ns) (seen text s es) in
       define_decided (may_define text s ns) (new_lefts text s (length s.sites) ns) v (λ f. FailsInEach text s es f ⊎ TakeFails (fault ArgCount (names_place ns at)) (length ns) (seen text s es) f)

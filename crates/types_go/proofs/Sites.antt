@@ -1,11 +1,9 @@
 -- The sites of entries, one after the other, and the places of functions.
-use Rattle.std.proofs.Common.{◌≡◌, ℕ, List, [], ◌∷◌, ◌++◌, map, Option, Some, None, refl, sym, ap, ◌∙◌, append-nil, append_assoc}
-use Rattle.std.specs.Option.{option_map}
+use Rattle.std.proofs.Common.{◌≡◌, ℕ, List, [], ◌∷◌, ◌++◌, map, Option, Some, None, sym, ap, ◌∙◌, append-nil, append_assoc}
 use Rattle.std.specs.Prelude.{⊤}
 use Rattle.std.proofs.lemmas.List.{map-append}
 use Rattle.base.specs.declared.pos.Pos.{Pos}
 use Rattle.base.specs.declared.ids.TypeId.{TypeId}
-use Rattle.parse_go.specs.declared.tree.Func.{Func as TreeFunc}
 use Rattle.typed.specs.declared.program.Func.{Func as FuncData}
 use Rattle.types_go.specs.Functions.{sites_of}
 use Rattle.types_go.specs.Passing.{with_last, IsAt, AreAt}

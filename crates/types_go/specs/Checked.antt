@@ -6,7 +6,6 @@ use Rattle.typed.specs.Value.{int}
 use Rattle.typed.specs.Syntax.{Func, Program}
 use Rattle.typed.specs.View.{program_of}
 use Rattle.typed.specs.declared.program.Program.{Program as ProgramData}
-use Rattle.types_go.specs.declared.fault.Fault.{Fault}
 use Rattle.types_go.specs.declared.fault.TypeFault.{TypeFault}
 use Rattle.types_go.specs.declared.fault.TypeFault.TheVariants as type_fault
 use Rattle.types_go.specs.Least.{IsLeast}

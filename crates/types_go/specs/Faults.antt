@@ -1,6 +1,6 @@
 -- Which rules fail in an expression, and where each is reported. A rule of an expression is looked at only where all its operands give
 -- something, so nothing fails because of what failed below it.
-use Rattle.std.specs.Prelude.{◌≡◌, ⊤, ℕ, ◌≤◌, ◌^◌, ◌==◌, ◌⊎◌, ℤ, Bool, true, false, length, take, List, [], ◌∷◌, Option, Some, None, Err}
+use Rattle.std.specs.Prelude.{◌≡◌, ⊤, ℕ, ◌≤◌, ◌^◌, ◌==◌, ◌⊎◌, Bool, true, false, take, List, [], ◌∷◌, Option, Some, None, Err}
 use Rattle.base.specs.declared.pos.Pos.{Pos}
 use Rattle.parse_go.specs.declared.tree.BinOp.{BinOp}
 use Rattle.parse_go.specs.declared.tree.UnOp.{UnOp}

@@ -4,7 +4,7 @@ use Rattle.std.specs.Option.{option_map}
 use Rattle.base.specs.declared.pos.Pos.{Pos}
 use Rattle.parse_go.specs.declared.tree.BinOp.{BinOp}
 use Rattle.parse_go.specs.declared.tree.UnOp.{UnOp}
-use Rattle.typed.specs.Syntax.{Ex, Exs, Sts, Func, shown, results}
+use Rattle.typed.specs.Syntax.{Exs, Sts, Func, shown, results}
 use Rattle.typed.specs.declared.program.Func.{Func as FuncData}
 use Rattle.parse_go.specs.Tree.{Function as TreeFunction}
 use Rattle.typed.specs.View.{ex_of, exs_of_values}

@@ -6,7 +6,6 @@ use Rattle.parse_go.specs.declared.tree.Name.{Name}
 use Rattle.parse_go.specs.FirstBytes.{first_place}
 use Rattle.parse_go.specs.Tree.{Ex as TreeEx, Exs as TreeExs, Stm, Stms, Els, spelled}
 use Rattle.parse_go.specs.Tree as tree
-use Rattle.typed.specs.Syntax.{Left}
 use Rattle.types_go.specs.declared.fault.Fault.{Fault}
 use Rattle.types_go.specs.declared.fault.FaultKind.TheVariants.{Unknown, Redeclared, NothingNew, NotAssignable, ArgCount, ResultCount, NotUsedValue, OutOfProfile}
 use Rattle.types_go.specs.declared.scope.Declared.{Declared}
@@ -76,7 +75,7 @@ module _ (text : List ℕ) where
   FailsInAssignment s ns at es f =
       (LeftsFail s ns f ⊎ FailsInEach text s es f)
       ⊎ ((ValuesFail (many (seen text s es)) (seen text s es) f ⊎ RangeFails (take (length ns) (seen text s es)) f)
-          ⊎ CountFails (option_and_then (λ ls. count (seen text s es)) (lefts text s ns)) (length ns) (fault ArgCount (names_place ns at)) f)
+      ⊎ CountFails (option_and_then (λ ls. count (seen text s es)) (lefts text s ns)) (length ns) (fault ArgCount (names_place ns at)) f)
 
   -- a rule fails in a statement, in the scope before it; in one of some statements, in the scope behind those before it
   module _ (r : Returns) where

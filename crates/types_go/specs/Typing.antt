@@ -1,6 +1,6 @@
 -- What the rules of the language give expressions (Go specification, "Constant expressions", "Arithmetic operators", "Calls",
 -- "Bootstrapping").
-use Rattle.std.specs.Prelude.{ℕ, length, ◌-◌, ◌^◌, ◌==◌, ℤ, pos, negsuc, Bool, true, false, not, ◌&&◌, List, [], ◌∷◌, map, Option, Some, None, Result, Ok, Err, is_some, option_and_then, nat_lt, nat_le, int_le, if◌then◌else◌}
+use Rattle.std.specs.Prelude.{ℕ, length, ◌-◌, ◌^◌, ◌==◌, ℤ, pos, negsuc, Bool, true, ◌&&◌, List, [], ◌∷◌, map, Option, Some, None, Result, Ok, Err, is_some, option_and_then, nat_lt, nat_le, int_le, if◌then◌else◌}
 use Rattle.std.specs.Option.{option_map}
 use Rattle.base.specs.declared.pos.Pos.{Pos}
 use Rattle.parse_go.specs.declared.tree.BinOp.{BinOp}

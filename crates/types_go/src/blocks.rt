@@ -95,7 +95,13 @@ fn alone(alloc: Global, line: Line) -> Result<Lines, NoMemory>
 /// A statement. The scope becomes the one behind it.
 #[cycle(statements)]
 #[tactic(auto, using(crate::proofs::TreeRows::stmt_rows))]
-fn check_stmt(alloc: Global, text: &[u8], returns: Returns, scope: &mut Scope, s: &Stmt) -> Result<Line, NoMemory>
+fn check_stmt(
+    alloc: Global,
+    text: &[u8],
+    returns: Returns,
+    scope: &mut Scope,
+    s: &Stmt,
+) -> Result<Line, NoMemory>
     requires { 0 < length scope.old.names }
     ensures statement { IfOk result (λ c. option_map st_of c.statement ≡ statement text.now returns (scope_of scope.old) (stm_of s.now)) }
     ensures fault { IfOk result (λ c. IsLeast (FailsInStatement text.now returns (scope_of scope.old) (stm_of s.now)) c.fault) }
@@ -131,7 +137,13 @@ fn check_stmt(alloc: Global, text: &[u8], returns: Returns, scope: &mut Scope, s
 /// What stands behind the body of an `if`.
 #[cycle(statements)]
 #[tactic(auto, using(crate::proofs::TreeRows::stmt_rows))]
-fn check_else(alloc: Global, text: &[u8], returns: Returns, scope: &mut Scope, e: &Else) -> Result<Lines, NoMemory>
+fn check_else(
+    alloc: Global,
+    text: &[u8],
+    returns: Returns,
+    scope: &mut Scope,
+    e: &Else,
+) -> Result<Lines, NoMemory>
     requires { 0 < length scope.old.names }
     ensures statements { IfOk result (λ c. option_map (λ v. sts_of v.items) c.statements ≡ alternative text.now returns (scope_of scope.old) (els_of e.now)) }
     ensures fault { IfOk result (λ c. IsLeast (FailsInElse text.now returns (scope_of scope.old) (els_of e.now)) c.fault) }

@@ -15,8 +15,7 @@ use crate::naming::spelled;
 use crate::operand::{Callee, Gives, Item, Operand};
 use crate::profile::{is_println, is_reserved};
 use crate::scope::{Declared, Scope, declaration};
-use crate::values::{count, ints, singles_fault, take_fault, taken, values_fault};
-use crate::values::range_faults;
+use crate::values::{count, ints, range_faults, singles_fault, take_fault, taken, values_fault};
 use base::{FuncId, NoMemory, Pos};
 use parse_go::{Expr, Name};
 use std::alloc::Global;
@@ -74,7 +73,12 @@ pub fn callee_named(text: &[u8], scope: &Scope, name: Name) -> Callee
     }
 }
 
-fn unknown_fault(printer: bool, reserved: bool, declared: Option<Declared>, pos: Pos) -> Option<Fault>
+fn unknown_fault(
+    printer: bool,
+    reserved: bool,
+    declared: Option<Declared>,
+    pos: Pos,
+) -> Option<Fault>
     ensures { result ≡ callee_name_fault printer reserved declared pos }
 {
     if printer {
@@ -153,11 +157,7 @@ pub fn call_fault(pos: Pos, callee: Callee, arguments: &[Item]) -> Option<Fault>
     }
 }
 
-fn printed(
-    alloc: Global,
-    pos: Pos,
-    arguments: Vec<Item>,
-) -> Result<Option<Gives>, NoMemory>
+fn printed(alloc: Global, pos: Pos, arguments: Vec<Item>) -> Result<Option<Gives>, NoMemory>
     ensures { IfOk result (λ r. option_map gives_of r ≡ called_with pos Rattle.types_go.specs.Typing.printer (seens arguments.items)) }
 {
     match ints(alloc, arguments)? {

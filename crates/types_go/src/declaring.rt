@@ -99,12 +99,7 @@ fn with_left(lefts: Option<Vec<Left>>, left: Option<Left>) -> Result<Option<Vec<
     }
 }
 
-fn left_fault_of(
-    blank: bool,
-    reserved: bool,
-    declared: Option<Declared>,
-    pos: Pos,
-) -> Option<Fault>
+fn left_fault_of(blank: bool, reserved: bool, declared: Option<Declared>, pos: Pos) -> Option<Fault>
     ensures { result ≡ left_fault blank reserved declared pos }
 {
     if blank {
@@ -211,12 +206,7 @@ fn new_left(text: &[u8], scope: &Scope, before: usize, name: Name) -> Result<Opt
 }
 
 /// One more new name, where a `:=` declares it.
-fn with_new(
-    text: &[u8],
-    scope: &Scope,
-    names: Vec<Name>,
-    name: Name,
-) -> Result<Vec<Name>, NoMemory>
+fn with_new(text: &[u8], scope: &Scope, names: Vec<Name>, name: Name) -> Result<Vec<Name>, NoMemory>
     ensures { IfOk result (λ v. v.items ≡ (if declares (scope_of scope.now) (spelled text.now name) then names.items ++ name ∷ [] else names.items)) }
 {
     let bytes = spelled(text, name);

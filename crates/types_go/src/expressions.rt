@@ -11,10 +11,14 @@ ghost use Rattle.types_go.specs.Typing.{op_of, prefix_of, prefixed, as_int, cons
 ghost use Rattle.types_go.specs.Faults.{Fails, FailsInEach, FailsAsOperand, CalleeFails};
 ghost use Rattle.types_go.specs.Passing.{operand_of, gives_of, seens, callee_of, prefix_fault, pair_fault, literal_operand, literal_fault, overflow_fault};
 
-use crate::calls::{call_fault, call_value, callee_name_fault, callee_named, callee_value, name_in};
+use crate::calls::{
+    call_fault, call_value, callee_name_fault, callee_named, callee_value, name_in,
+};
 use crate::fault::{Fault, FaultKind, lesser};
 use crate::naming::{name_fault, name_value};
-use crate::operand::{Callee, Gives, Item, Operand, as_int, one_operand, range_fault, single_fault};
+use crate::operand::{
+    Callee, Gives, Item, Operand, as_int, one_operand, range_fault, single_fault,
+};
 use crate::scope::Scope;
 use base::{NoMemory, Pos};
 use names::{Const, ConstFault, fold, fold_one};

@@ -23,7 +23,9 @@ use crate::fault::{Fault, FaultKind, lesser};
 use crate::naming::spelled;
 use crate::profile::{is_blank, is_predeclared};
 use crate::scope::{Scope, close, declaration, open, site_count};
-use crate::signatures::{function_name_fault, is_small, may_be_named, signature_in, size_fault, types_fault};
+use crate::signatures::{
+    function_name_fault, is_small, may_be_named, signature_in, size_fault, types_fault,
+};
 use crate::statements::Returns;
 use base::{NoMemory, Pos, SiteId, TypeId};
 use parse_go::{Func, Name, Param};
@@ -255,12 +257,7 @@ fn check_parts(
     Ok(Function { func, fault })
 }
 
-fn func_where(
-    head: bool,
-    types: bool,
-    end: bool,
-    func: Option<typed::Func>,
-) -> Option<typed::Func>
+fn func_where(head: bool, types: bool, end: bool, func: Option<typed::Func>) -> Option<typed::Func>
     ensures func { option_map func_of result ≡ allowed head (allowed types (allowed end (option_map func_of func))) }
     ensures pos { (p : Place) → IsAt p func → IsAt p result }
 {

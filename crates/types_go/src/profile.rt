@@ -33,28 +33,8 @@ static TYPE_NAMES: [&str; 22] = [
 
 /// Its predeclared constants and functions.
 static VALUE_NAMES: [&str; 22] = [
-    "true",
-    "false",
-    "iota",
-    "nil",
-    "append",
-    "cap",
-    "clear",
-    "close",
-    "complex",
-    "copy",
-    "delete",
-    "imag",
-    "len",
-    "make",
-    "max",
-    "min",
-    "new",
-    "panic",
-    "print",
-    "println",
-    "real",
-    "recover",
+    "true", "false", "iota", "nil", "append", "cap", "clear", "close", "complex", "copy", "delete",
+    "imag", "len", "make", "max", "min", "new", "panic", "print", "println", "real", "recover",
 ];
 
 /// Whether a name is that of a predeclared type.

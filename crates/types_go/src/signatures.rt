@@ -15,7 +15,9 @@ use crate::declaring::fault_where;
 use crate::fault::{Fault, FaultKind, lesser};
 use crate::naming::spelled;
 use crate::profile::{is_blank, is_int_type, is_predeclared, is_type_name, is_value_name};
-use crate::scope::{Declared, Scope, Signature, ValueType, add_signature, declaration, declare, is_here};
+use crate::scope::{
+    Declared, Scope, Signature, ValueType, add_signature, declaration, declare, is_here,
+};
 use base::{FuncId, NoMemory, Pos};
 use parse_go::{Func, Name, Param};
 use std::alloc::Global;
@@ -166,7 +168,12 @@ fn is_number(number: usize, declared: Option<Declared>) -> bool
 }
 
 /// Whether a function's name may stand for it.
-pub fn may_be_named(number: usize, blank: bool, predeclared: bool, declared: Option<Declared>) -> bool
+pub fn may_be_named(
+    number: usize,
+    blank: bool,
+    predeclared: bool,
+    declared: Option<Declared>,
+) -> bool
     ensures { result ≡ may_be_named number blank predeclared declared }
 {
     blank || (!predeclared && is_number(number, declared))

@@ -139,9 +139,9 @@ fn expressed(gives: Option<Gives>) -> Option<typed::Stmt>
     ensures { option_map st_of result ≡ option_and_then expressed (option_map gives_of gives) }
 {
     match gives {
-        Some(Gives::Called(_, _, function, arguments)) => Some(typed::Stmt::Discard(
-            Values::Results(function, arguments),
-        )),
+        Some(Gives::Called(_, _, function, arguments)) => Some(typed::Stmt::Discard(Values::Results(
+            function, arguments,
+        ))),
         Some(Gives::Printed(_, values)) => Some(typed::Stmt::Print(values)),
         _ => None,
     }

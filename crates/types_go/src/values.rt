@@ -189,7 +189,11 @@ pub fn taken(alloc: Global, wanted: usize, items: Vec<Item>) -> Result<Option<Va
     ensures { IfOk result (λ r. option_map exs_of_values r ≡ taken wanted (seens items.items)) }
 {
     match many_count(&items) {
-        Some(count) => Ok(if count == wanted { results(items) } else { None }),
+        Some(count) => Ok(if count == wanted {
+            results(items)
+        } else {
+            None
+        }),
         None => {
             if items.len() != wanted {
                 return Ok(None);

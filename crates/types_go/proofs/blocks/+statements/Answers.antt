@@ -10,7 +10,7 @@ use Rattle.typed.specs.View.{st_of, sts_of}
 use Rattle.typed.specs.Syntax.{done, next}
 use Rattle.types_go.specs.Typing.{condition}
 use Rattle.types_go.specs.Statements.{choice_of, statements, alternative, behind_all}
-use Rattle.types_go.specs.StatementFaults.{FailsInStatement, FailsInStatements, FailsInElse}
+use Rattle.types_go.specs.StatementFaults.{FailsInStatements, FailsInElse}
 use Rattle.types_go.proofs.Growth.{grows_all, keeps_block}
 use Rattle.types_go.proofs.Leasts.{if_ok}
 use Rattle.types_go.proofs.Sequences.{choice_least, loop_least}
@@ -138,12 +138,12 @@ check_else-returns-in_ok-rest-in-If-clause-statements t c =
     let r = option_map (λ v. sts_of v.items) c.in_ok-rest-in-If.rest.statements in
     let shape : els_of c.args.e.now ≡ else_if c.in-If.field-0 cond ms (els_of later) = grind (arith, stmt_rows) in
     let scope : scope_of c.check_inner-in-If.new.scope ≡ closed (behind_all text (opened s) ms) =
-        c.in_ok-body-in-If.ensures.scope ∙ ap (λ (l : List Stmt). closed (behind_all text (opened s) (stms_of l))) c.deref-in-If.ensures.value in
+    c.in_ok-body-in-If.ensures.scope ∙ ap (λ (l : List Stmt). closed (behind_all text (opened s) (stms_of l))) c.deref-in-If.ensures.value in
     let body : b ≡ statements text rets (opened s) ms = c.in_ok-body-in-If.ensures.statements ∙ ap (λ (l : List Stmt). statements text rets (opened s) (stms_of l)) c.deref-in-If.ensures.value in
     let rest : r ≡ alternative text rets (closed (behind_all text (opened s) ms)) (els_of later) =
-        c.in_ok-rest-in-If.ensures.statements ∙ ap (λ (x : Else). alternative text rets (scope_of c.check_inner-in-If.new.scope) (els_of x)) c.deref-rest.ensures ∙ ap (λ z. alternative text rets z (els_of later)) scope in
+    c.in_ok-rest-in-If.ensures.statements ∙ ap (λ (x : Else). alternative text rets (scope_of c.check_inner-in-If.new.scope) (els_of x)) c.deref-rest.ensures ∙ ap (λ z. alternative text rets z (els_of later)) scope in
     let whole : option_map st_of c.choice.result.statement ≡ choice_of (condition text s cond) (statements text rets (opened s) ms) (alternative text rets (closed (behind_all text (opened s) ms)) (els_of later)) =
-        c.choice.ensures.statement ∙ ap (λ o. choice_of o b r) c.in_ok-test-in-If.ensures.value ∙ ap (λ o. choice_of (condition text s cond) o r) body ∙ ap (λ o. choice_of (condition text s cond) (statements text rets (opened s) ms) o) rest in
+    c.choice.ensures.statement ∙ ap (λ o. choice_of o b r) c.in_ok-test-in-If.ensures.value ∙ ap (λ o. choice_of (condition text s cond) o r) body ∙ ap (λ o. choice_of (condition text s cond) (statements text rets (opened s) ms) o) rest in
     rw (shape) (if_ok _ _ c.alone.result (λ l e. e ∙ ap (option_map (λ x. next x done)) whole) c.alone.ensures.statements)
 
 pub check_stmt-returns-in_ok-rest-in-If-clause-statement : goal.check_stmt-returns-in_ok-rest-in-If-clause-statement
@@ -158,7 +158,7 @@ check_stmt-returns-in_ok-rest-in-If-clause-statement t c =
     let r = option_map (λ v. sts_of v.items) c.in_ok-rest-in-If.rest.statements in
     let shape : stm_of c.args.s.now ≡ choice c.in-If.field-0 cond ms later = grind (arith, stmt_rows) in
     let scope : scope_of c.check_inner.new.scope ≡ closed (behind_all text (opened s) ms) =
-        c.in_ok-body-in-If.ensures.scope ∙ ap (λ (l : List Stmt). closed (behind_all text (opened s) (stms_of l))) c.deref-in-If.ensures.value in
+    c.in_ok-body-in-If.ensures.scope ∙ ap (λ (l : List Stmt). closed (behind_all text (opened s) (stms_of l))) c.deref-in-If.ensures.value in
     let body : b ≡ statements text rets (opened s) ms = c.in_ok-body-in-If.ensures.statements ∙ ap (λ (l : List Stmt). statements text rets (opened s) (stms_of l)) c.deref-in-If.ensures.value in
     let rest : r ≡ alternative text rets (closed (behind_all text (opened s) ms)) later = c.in_ok-rest-in-If.ensures.statements ∙ ap (λ z. alternative text rets z later) scope in
     rw (shape)

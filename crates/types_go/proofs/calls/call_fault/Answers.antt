@@ -1,6 +1,4 @@
-use Rattle.std.proofs.Common.{◌≡◌}
-use Rattle.types_go.specs.Faults.{SinglesFail, RangeFails, ValuesFail, AreGiven}
-use Rattle.types_go.specs.Typing.{many, count}
+use Rattle.types_go.specs.Typing.{count}
 use Rattle.types_go.specs.Passing.{seens}
 use Rattle.types_go.proofs.Leasts.{least_join}
 use Rattle.types_go.proofs.Leaves.{uncallable_least}

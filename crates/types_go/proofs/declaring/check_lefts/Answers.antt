@@ -1,5 +1,4 @@
-use Rattle.std.proofs.Common.{◌≡◌, [], ◌∷◌, ◌++◌, ◌+◌, List, Bool, true, false, drop, map, get_or, Option, Some, None, sym, ap, ◌∙◌, subst, refl, arith, rules}
-use Rattle.std.specs.Prelude.{◌&&◌}
+use Rattle.std.proofs.Common.{◌≡◌, [], ◌∷◌, ◌+◌, List, drop, map, get_or, sym, ap, ◌∙◌, subst, arith}
 use Rattle.std.specs.Option.{option_map}
 use Rattle.parse_go.specs.declared.tree.Name.{Name}
 use Rattle.parse_go.specs.Tree.{spelled}
@@ -27,9 +26,10 @@ loop-name-preserved c =
     let so_far = option_map (λ v. map left_view v.items) c.loop-name.lefts in
     let here : drop k xs ≡ n ∷ rest = from_there xs k no_name c.loop-name-test.true in
     let front = c.loop-name.invariant.0 ∙ ap (λ (l : List Name). joined so_far (lefts text s l)) here in
-    let kept = subst (λ (l : List Name). Kept (LeftsFail text s xs) (LeftsFail text s l) c.loop-name.fault) here c.loop-name.invariant.1 in
-    (rw (c.in_ok-lefts.ensures, c.left.ensures) (front ∙ joined_more so_far (left_of (is_blank bytes) (is_reserved bytes) (declaration s bytes)) (lefts text s rest)),
-     rw (c.lesser-fault.ensures) (kept_more (LeftsFail text s xs) (LeftFails (is_blank bytes) (is_reserved bytes) (declaration s bytes) n.pos) (LeftsFail text s rest) c.loop-name.fault c.left_fault.result kept c.left_fault.ensures))
+    let kept = subst (λ (l : List Name). Kept (LeftsFail text s xs) (LeftsFail text s l) c.loop-name.fault) here c.loop-name.invariant.1 in (
+      rw (c.in_ok-lefts.ensures, c.left.ensures) (front ∙ joined_more so_far (left_of (is_blank bytes) (is_reserved bytes) (declaration s bytes)) (lefts text s rest)),
+      rw (c.lesser-fault.ensures) (kept_more (LeftsFail text s xs) (LeftFails (is_blank bytes) (is_reserved bytes) (declaration s bytes) n.pos) (LeftsFail text s rest) c.loop-name.fault c.left_fault.result kept c.left_fault.ensures),
+    )
 
 pub returns-clause-lefts : goal.returns-clause-lefts
 returns-clause-lefts c =

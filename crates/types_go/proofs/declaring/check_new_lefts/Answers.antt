@@ -1,11 +1,10 @@
-use Rattle.std.proofs.Common.{◌≡◌, [], ◌∷◌, ◌++◌, ◌+◌, ℕ, List, Bool, true, false, cond, drop, map, get_or, Option, Some, None, sym, ap, ◌∙◌, subst, refl, arith, rules, length, append-nil, append_assoc}
-use Rattle.std.specs.Prelude.{◌&&◌}
+use Rattle.std.proofs.Common.{◌≡◌, [], ◌∷◌, ◌++◌, ◌+◌, List, cond, drop, map, get_or, sym, ap, ◌∙◌, subst, refl, arith, length, append-nil}
 use Rattle.std.specs.Option.{option_map}
 use Rattle.parse_go.specs.declared.tree.Name.{Name}
 use Rattle.parse_go.specs.Tree.{spelled}
 use Rattle.typed.specs.View.{left_of as left_view}
 use Rattle.types_go.specs.Profile.{is_blank, is_reserved}
-use Rattle.types_go.specs.Scope.{Scope, scope_of, declaration, is_here}
+use Rattle.types_go.specs.Scope.{scope_of, declaration, is_here}
 use Rattle.types_go.specs.Statements.{declares, new_left, new_lefts, new_names}
 use Rattle.types_go.specs.StatementFaults.{NewNameFails, NewNamesFail}
 use Rattle.types_go.proofs.Items.{no_name, from_there, nothing_left, joined, joined_start, joined_more, joined_none}
@@ -41,10 +40,13 @@ loop-name-preserved c =
     let grown : more ≡ cond b (names ++ n ∷ []) names = c.in_ok-new_names.ensures in
     let front = c.loop-name.invariant.0 ∙ ap (λ (l : List Name). joined so_far (new_lefts text s site l)) here in
     let kept = subst (λ (l : List Name). Kept (NewNamesFail text s xs) (NewNamesFail text s l) c.loop-name.fault) here c.loop-name.invariant.1.1 in
-    let site_is : cond b (1 + site) site ≡ length s.sites + length more = next_site b (length s.sites) names more n grown in
-    (rw (c.in_ok-lefts.ensures, c.in_ok-left.ensures, c.how_many.ensures) (front ∙ joined_more so_far (new_left text s site n) (new_lefts text s (cond b (1 + site) site) rest) ∙ ap (λ j. joined (with_last so_far (new_left text s site n)) (new_lefts text s j rest)) site_is),
-     (c.loop-name.invariant.1.0 ∙ ap (λ (l : List Name). names ++ new_names text s l) here ∙ next_names b names more (new_names text s rest) n grown,
-      rw (c.lesser-fault.ensures) (kept_more (NewNamesFail text s xs) (NewNameFails (is_blank bytes) (is_reserved bytes) (is_here s bytes) (declaration s bytes) n.pos) (NewNamesFail text s rest) c.loop-name.fault c.new_name_fault.result kept c.new_name_fault.ensures)))
+    let site_is : cond b (1 + site) site ≡ length s.sites + length more = next_site b (length s.sites) names more n grown in (
+      rw (c.in_ok-lefts.ensures, c.in_ok-left.ensures, c.how_many.ensures) (front ∙ joined_more so_far (new_left text s site n) (new_lefts text s (cond b (1 + site) site) rest) ∙ ap (λ j. joined (with_last so_far (new_left text s site n)) (new_lefts text s j rest)) site_is),
+      (
+        c.loop-name.invariant.1.0 ∙ ap (λ (l : List Name). names ++ new_names text s l) here ∙ next_names b names more (new_names text s rest) n grown,
+        rw (c.lesser-fault.ensures) (kept_more (NewNamesFail text s xs) (NewNameFails (is_blank bytes) (is_reserved bytes) (is_here s bytes) (declaration s bytes) n.pos) (NewNamesFail text s rest) c.loop-name.fault c.new_name_fault.result kept c.new_name_fault.ensures),
+      ),
+    )
 
 pub returns-clause-lefts : goal.returns-clause-lefts
 returns-clause-lefts c =

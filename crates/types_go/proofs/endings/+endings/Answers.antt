@@ -1,9 +1,7 @@
-use Rattle.std.proofs.Common.{◌≡◌, [], ◌∷◌, ◌++◌, ◌+◌, List, Bool, true, false, drop, map, Option, Some, None, sym, ap, ◌∙◌, subst, refl, arith, rules}
-use Rattle.std.specs.Prelude.{◌&&◌}
-use Rattle.std.specs.Option.{option_map}
+use Rattle.std.proofs.Common.{◌≡◌, [], ◌∷◌, ◌+◌, List, drop, sym, ap, ◌∙◌, arith}
 use Rattle.parse_go.specs.declared.tree.Stmt.{Stmt}
-use Rattle.parse_go.specs.Tree.{stm_of, stms_of}
-use Rattle.types_go.specs.Statements.{is_terminating, ends_after}
+use Rattle.parse_go.specs.Tree.{stms_of}
+use Rattle.types_go.specs.Statements.{ends_after}
 use Rattle.types_go.proofs.Items.{from_one, nothing_left}
 use Rattle.types_go.proofs.endings.+endings.Goals as goal
 

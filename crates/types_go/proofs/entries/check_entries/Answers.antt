@@ -1,14 +1,10 @@
-use Rattle.std.proofs.Common.{◌≡◌, [], ◌∷◌, ◌++◌, ◌+◌, ◌<◌, ◌⊎◌, ℕ, List, Bool, true, false, cond, drop, take, map, get_or, Option, Some, None, sym, ap, ◌∙◌, subst, refl, arith, rules, length, append-nil, append_assoc}
-use Rattle.std.specs.Prelude.{◌&&◌, option_and_then, not}
+use Rattle.std.proofs.Common.{◌≡◌, [], ◌∷◌, ◌+◌, List, drop, map, get_or, sym, ap, ◌∙◌, subst, refl, arith}
 use Rattle.std.specs.Option.{option_map}
-use Rattle.types_go.specs.declared.fault.Fault.{Fault}
-use Rattle.types_go.specs.Least.{IsLeast, lesser}
 use Rattle.parse_go.specs.declared.tree.Param.{Param}
 use Rattle.typed.specs.View.{site_in}
 use Rattle.types_go.specs.Scope.{scope_of}
 use Rattle.types_go.specs.Functions.{entry_in, behind_entry, entries, behind_entries}
 use Rattle.types_go.specs.FunctionFaults.{EntryFails, EntriesFail}
-use Rattle.types_go.specs.Passing.{with_last}
 use Rattle.types_go.proofs.Items.{no_param, from_there, nothing_left, joined, joined_start, joined_more, joined_none}
 use Rattle.types_go.proofs.Leasts.{Kept, kept_start, kept_more, kept_end}
 use Rattle.types_go.proofs.entries.check_entries.Goals as goal
@@ -31,10 +27,13 @@ loop-param-preserved c =
     let here : drop k xs ≡ p ∷ rest = from_there xs k no_param c.loop-param-test.true in
     let front = c.loop-param.invariant.0 ∙ ap (λ (l : List Param). joined so_far (entries text role s l)) here in
     let kept = subst (λ (l : List Param). Kept (EntriesFail text role start xs) (EntriesFail text role s l) c.loop-param.fault) here c.loop-param.invariant.1.0 in
-    rw (c.in_ok-declare_entry.ensures)
-    (rw (c.in_ok-entries.ensures, c.in_ok-entry.ensures) (front ∙ joined_more so_far (entry_in text role s p.name) (entries text role s1 rest)),
-     (rw (c.lesser-fault.ensures) (kept_more (EntriesFail text role start xs) (EntryFails text role s p.name p.type_name.pos) (EntriesFail text role s1 rest) c.loop-param.fault c.entry_fault-own.result kept c.entry_fault-own.ensures),
-      c.loop-param.invariant.1.1 ∙ ap (λ (l : List Param). behind_entries text s l) here))
+    rw (c.in_ok-declare_entry.ensures) (
+      rw (c.in_ok-entries.ensures, c.in_ok-entry.ensures) (front ∙ joined_more so_far (entry_in text role s p.name) (entries text role s1 rest)),
+      (
+        rw (c.lesser-fault.ensures) (kept_more (EntriesFail text role start xs) (EntryFails text role s p.name p.type_name.pos) (EntriesFail text role s1 rest) c.loop-param.fault c.entry_fault-own.result kept c.entry_fault-own.ensures),
+        c.loop-param.invariant.1.1 ∙ ap (λ (l : List Param). behind_entries text s l) here,
+      ),
+    )
 
 pub returns-clause-entries : goal.returns-clause-entries
 returns-clause-entries c =

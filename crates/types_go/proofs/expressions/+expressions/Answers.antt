@@ -1,13 +1,12 @@
-use Rattle.std.proofs.Common.{◌≡◌, [], ◌∷◌, ◌++◌, ◌+◌, List, drop, Option, Some, None, sym, ap, ◌∙◌, subst, refl, arith, append-nil, append_assoc, rules}
+use Rattle.std.proofs.Common.{◌≡◌, [], ◌∷◌, ◌++◌, ◌+◌, List, drop, Some, None, sym, ap, ◌∙◌, subst, refl, arith, append-nil, rules}
 use Rattle.std.specs.Option.{option_map}
 use Rattle.parse_go.specs.declared.tree.Expr.{Expr}
-use Rattle.parse_go.specs.declared.tree.Name.{Name}
 use Rattle.parse_go.specs.FirstBytes.{first_place}
 use Rattle.parse_go.specs.Tree.{ex_of, exs_of, call}
 use Rattle.types_go.specs.declared.operand.Item.{Item}
 use Rattle.types_go.specs.Least.{IsLeast}
 use Rattle.types_go.specs.Scope.{scope_of}
-use Rattle.types_go.specs.Typing.{Seen, Callee, operand_in, name_in, callee, gives, seen}
+use Rattle.types_go.specs.Typing.{operand_in, name_in, callee, gives, seen}
 use Rattle.types_go.specs.Faults.{Fails, FailsInEach, FailsAsOperand, CalleeFails, SingleFails}
 use Rattle.types_go.specs.Passing.{operand_of, gives_of, callee_of, seen_of, seens, single_fault}
 use Rattle.types_go.proofs.Items.{from_one, nothing_left, pushed}
@@ -82,7 +81,7 @@ check_expr-returns-in_ok-gives-in-Call-clause-fault t c =
     let k_is : k ≡ callee text s (name_in (ex_of g)) (gives text s (ex_of g)) = subst (λ (x : Expr). k ≡ callee text s (name_in (ex_of x)) (gives text s (ex_of x))) c.deref-function.ensures c.in_ok-called-in-Call.ensures.callee in
     let os_is : os ≡ seen text s (exs_of es) = subst (λ (l : List Expr). os ≡ seen text s (exs_of l)) c.deref.ensures.value c.in_ok-listed-in-Call.ensures.seen in
     let a : IsLeast (CalleeFails text s (name_in (ex_of g)) (λ f. Fails text s (ex_of g) f) (gives text s (ex_of g))) called.fault =
-        subst (λ (x : Expr). IsLeast (CalleeFails text s (name_in (ex_of x)) (λ f. Fails text s (ex_of x) f) (gives text s (ex_of x))) called.fault) c.deref-function.ensures c.in_ok-called-in-Call.ensures.fault in
+    subst (λ (x : Expr). IsLeast (CalleeFails text s (name_in (ex_of x)) (λ f. Fails text s (ex_of x) f) (gives text s (ex_of x))) called.fault) c.deref-function.ensures c.in_ok-called-in-Call.ensures.fault in
     let b : IsLeast (FailsInEach text s (exs_of es)) listed.fault = subst (λ (l : List Expr). IsLeast (FailsInEach text s (exs_of l)) listed.fault) c.deref.ensures.value c.in_ok-listed-in-Call.ensures.fault in
     let at : c.pos-pos.result ≡ first_place (ex_of g) = subst (λ (x : Expr). c.pos-pos.result ≡ first_place (ex_of x)) c.deref-function.ensures c.pos-pos.ensures in
     let own = subst (λ (l : List Item). IsLeast (Rattle.types_go.specs.Faults.CallFails c.pos-pos.result k (seens l)) c.call_fault-own.result) c.deref-in-Call.ensures.value c.call_fault-own.ensures in
@@ -105,12 +104,13 @@ check_list-loop-e-preserved t c =
     let item : Item = record { pos = c.in_ok-pos.pos; gives = c.in_ok-pos.gives } in
     let same : seen_of item ≡ record { at = first_place (ex_of e); gives = gives text s (ex_of e) } = search rules in
     let front : seen text s all ≡ seens c.loop-e.items.items ++ seen text s (exs_of (e ∷ drop (k + 1) c.args.es.now)) =
-        c.loop-e.invariant.0 ∙ ap (λ (l : List Expr). seens c.loop-e.items.items ++ seen text s (exs_of l)) here in
+    c.loop-e.invariant.0 ∙ ap (λ (l : List Expr). seens c.loop-e.items.items ++ seen text s (exs_of l)) here in
     let kept = subst (λ (l : List Expr). Kept (FailsInEach text s all) (FailsInEach text s (exs_of l)) c.loop-e.fault) here c.loop-e.invariant.1 in
     let items : c.push.new.self.items ≡ c.loop-e.items.items ++ item ∷ [] = search rules in
-    let least : IsLeast (Fails text s (ex_of e)) c.in_ok-pos.field-0.fault = search rules in
-    (rw (items) (pushed c.loop-e.items.items item (gives text s (ex_of e)) (first_place (ex_of e)) (seen text s all) (seen text s others) same front),
-     rw (c.lesser-fault.ensures) (kept_more (FailsInEach text s all) (Fails text s (ex_of e)) (FailsInEach text s others) c.loop-e.fault c.in_ok-pos.field-0.fault kept least))
+    let least : IsLeast (Fails text s (ex_of e)) c.in_ok-pos.field-0.fault = search rules in (
+      rw (items) (pushed c.loop-e.items.items item (gives text s (ex_of e)) (first_place (ex_of e)) (seen text s all) (seen text s others) same front),
+      rw (c.lesser-fault.ensures) (kept_more (FailsInEach text s all) (Fails text s (ex_of e)) (FailsInEach text s others) c.loop-e.fault c.in_ok-pos.field-0.fault kept least),
+    )
 
 pub check_list-returns-clause-seen : goal.check_list-returns-clause-seen
 check_list-returns-clause-seen t c =

@@ -1,9 +1,6 @@
-use Rattle.std.proofs.Common.{◌≡◌, [], ◌∷◌, ◌++◌, ◌+◌, ◌<◌, ◌⊎◌, ℕ, List, Bool, true, false, cond, drop, take, map, get_or, Option, Some, None, sym, ap, ◌∙◌, subst, refl, arith, rules, length, append-nil, append_assoc}
-use Rattle.std.specs.Prelude.{◌&&◌, option_and_then, not}
+use Rattle.std.proofs.Common.{◌≡◌, [], ◌∷◌, ◌+◌, List, drop, map, sym, ap, ◌∙◌, subst, refl, arith, length}
 use Rattle.std.specs.Option.{option_map}
-use Rattle.types_go.specs.declared.fault.Fault.{Fault}
-use Rattle.types_go.specs.Least.{IsLeast, lesser}
-use Rattle.base.specs.declared.pos.Pos.{Pos}
+use Rattle.types_go.specs.Least.{lesser}
 use Rattle.parse_go.specs.declared.tree.Func.{Func}
 use Rattle.parse_go.specs.Tree.{function_of, functions_of}
 use Rattle.typed.specs.View.{func_of}
@@ -48,16 +45,23 @@ loop-f-preserved c =
     let kept = subst (λ (l : List Func). Kept (FailsInFunctions text start 0 (functions_of xs)) (FailsInFunctions text s i (functions_of l)) c.loop-f.fault) here inv.1.0 in
     let kept1 = kept_more (FailsInFunctions text start 0 (functions_of xs)) (FailsInFunction text s i g) (FailsInFunctions text s1 (1 + i) gs) c.loop-f.fault checked.fault kept found.fault in
     let one : option_map (λ v. map func_of v.items) c.in_ok-funcs.funcs ≡ with_last so_far (option_map func_of checked.func) =
-        with_last_map func_of c.loop-f.funcs checked.func c.in_ok-funcs.funcs c.in_ok-funcs.ensures in
+    with_last_map func_of c.loop-f.funcs checked.func c.in_ok-funcs.funcs c.in_ok-funcs.ensures in
     let places = subst (λ (l : List Func). PlacesKept (map (λ h. h.name.pos) xs) (option_map (λ v. v.items) c.loop-f.funcs) (map (λ h. h.name.pos) l)) here inv.1.1.1.0 in
     let depth : length s1.blocks ≡ length s.blocks = ap length (keeps_function text s g).blocks in
-    rw (found.scope)
-    (front ∙ joined_more so_far (function text s i g) (functions text s1 (1 + i) gs) ∙ ap (λ o. joined (with_last so_far o) (functions text s1 (1 + i) gs)) (sym found.func) ∙ ap (λ o. joined o (functions text s1 (1 + i) gs)) (sym one)
-      ∙ ap (λ j. joined (option_map (λ v. map func_of v.items) c.in_ok-funcs.funcs) (functions text s1 j gs)) next1,
-     (rw (c.lesser-fault.ensures) (subst (λ j. Kept (FailsInFunctions text start 0 (functions_of xs)) (FailsInFunctions text s1 j gs) (lesser c.loop-f.fault checked.fault)) next1 kept1),
-      (inv.1.1.0 ∙ ap (λ (l : List Func). behind_functions text s (functions_of l)) here,
-       (rw (c.in_ok-funcs.ensures) (places_more (map (λ h. h.name.pos) xs) (option_map (λ v. v.items) c.loop-f.funcs) checked.func f.name.pos (map (λ h. h.name.pos) rest) places found.pos),
-        (omega (arith, inv.1.1.1.1.0), omega (arith, depth, inv.1.1.1.1.1, ap (λ (v : Scope). length v.blocks) found.scope))))))
+    rw (found.scope) (
+      front ∙ joined_more so_far (function text s i g) (functions text s1 (1 + i) gs) ∙ ap (λ o. joined (with_last so_far o) (functions text s1 (1 + i) gs)) (sym found.func) ∙ ap (λ o. joined o (functions text s1 (1 + i) gs)) (sym one)
+          ∙ ap (λ j. joined (option_map (λ v. map func_of v.items) c.in_ok-funcs.funcs) (functions text s1 j gs)) next1,
+      (
+        rw (c.lesser-fault.ensures) (subst (λ j. Kept (FailsInFunctions text start 0 (functions_of xs)) (FailsInFunctions text s1 j gs) (lesser c.loop-f.fault checked.fault)) next1 kept1),
+        (
+          inv.1.1.0 ∙ ap (λ (l : List Func). behind_functions text s (functions_of l)) here,
+          (
+            rw (c.in_ok-funcs.ensures) (places_more (map (λ h. h.name.pos) xs) (option_map (λ v. v.items) c.loop-f.funcs) checked.func f.name.pos (map (λ h. h.name.pos) rest) places found.pos),
+            (omega (arith, inv.1.1.1.1.0), omega (arith, depth, inv.1.1.1.1.1, ap (λ (v : Scope). length v.blocks) found.scope)),
+          ),
+        ),
+      ),
+    )
 
 pub returns-clause-funcs : goal.returns-clause-funcs
 returns-clause-funcs c =

@@ -1,8 +1,4 @@
-use Rattle.std.proofs.Common.{◌≡◌, [], ◌∷◌, ◌++◌, ◌+◌, ◌<◌, ◌⊎◌, ℕ, List, Bool, true, false, cond, drop, take, map, get_or, Option, Some, None, sym, ap, ◌∙◌, subst, refl, arith, rules, length, append-nil, append_assoc}
-use Rattle.std.specs.Prelude.{◌&&◌, option_and_then, not}
-use Rattle.std.specs.Option.{option_map}
-use Rattle.types_go.specs.declared.fault.Fault.{Fault}
-use Rattle.types_go.specs.Least.{IsLeast, lesser}
+use Rattle.std.proofs.Common.{◌≡◌, [], ◌∷◌, ◌++◌, ◌+◌, ℕ, List, drop, map, get_or, sym, ap, ◌∙◌, refl, arith, append-nil}
 use Rattle.base.specs.declared.ids.TypeId.{TypeId}
 use Rattle.parse_go.specs.declared.tree.Param.{Param}
 use Rattle.types_go.proofs.Items.{no_param, from_there, nothing_left}

@@ -1,8 +1,6 @@
-use Rattle.std.proofs.Common.{◌≡◌, [], ◌∷◌, ◌++◌, ◌+◌, ℕ, List, Bool, true, false, drop, map, Option, Some, None, sym, ap, ◌∙◌, subst, refl, arith, rules, length, append-nil, append_assoc}
-use Rattle.std.specs.Prelude.{◌&&◌}
-use Rattle.std.specs.Option.{option_map}
+use Rattle.std.proofs.Common.{◌≡◌, [], ◌∷◌, ◌+◌, List, drop, sym, ap, ◌∙◌, arith}
 use Rattle.parse_go.specs.declared.tree.Func.{Func}
-use Rattle.parse_go.specs.Tree.{function_of, functions_of}
+use Rattle.parse_go.specs.Tree.{functions_of}
 use Rattle.types_go.specs.Scope.{scope_of}
 use Rattle.types_go.specs.Functions.{with_functions}
 use Rattle.types_go.proofs.Items.{from_one, nothing_left}

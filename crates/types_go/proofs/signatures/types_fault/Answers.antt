@@ -1,6 +1,4 @@
-use Rattle.std.proofs.Common.{◌≡◌, [], ◌∷◌, ◌++◌, ◌+◌, ℕ, List, Bool, true, false, drop, map, get_or, Option, Some, None, sym, ap, ◌∙◌, subst, refl, arith, rules, length, append-nil, append_assoc}
-use Rattle.std.specs.Prelude.{◌&&◌}
-use Rattle.std.specs.Option.{option_map}
+use Rattle.std.proofs.Common.{◌≡◌, [], ◌∷◌, ◌+◌, List, drop, get_or, subst, arith}
 use Rattle.parse_go.specs.declared.tree.Param.{Param}
 use Rattle.types_go.specs.Scope.{scope_of}
 use Rattle.types_go.specs.FunctionFaults.{FailsAsType, TypesFail}

@@ -1,18 +1,14 @@
-use Rattle.std.proofs.Common.{◌≡◌, [], ◌∷◌, ◌++◌, ◌+◌, ◌<◌, ◌⊎◌, ℕ, List, Bool, true, false, cond, drop, take, map, get_or, Option, Some, None, sym, ap, ◌∙◌, subst, refl, arith, rules, length, append-nil, append_assoc}
-use Rattle.std.specs.Prelude.{◌&&◌, option_and_then, not}
+use Rattle.std.proofs.Common.{◌≡◌, ◌⊎◌, List, take, map, ap, ◌∙◌, subst, length}
+use Rattle.std.specs.Prelude.{option_and_then}
 use Rattle.std.specs.Option.{option_map}
-use Rattle.types_go.specs.declared.fault.Fault.{Fault}
-use Rattle.types_go.specs.Least.{IsLeast, lesser}
-use Rattle.base.specs.declared.pos.Pos.{Pos}
+use Rattle.types_go.specs.Least.{IsLeast}
 use Rattle.parse_go.specs.Tree.{exs_of}
 use Rattle.typed.specs.View.{left_of}
 use Rattle.types_go.specs.declared.operand.Item.{Item}
-use Rattle.types_go.specs.declared.fault.FaultKind.TheVariants.{ArgCount}
 use Rattle.types_go.specs.Scope.{scope_of}
-use Rattle.types_go.specs.Typing.{Seen, many, count, seen}
-use Rattle.types_go.specs.Faults.{fault, ValuesFail, RangeFails}
-use Rattle.types_go.specs.StatementFaults.{names_place}
-use Rattle.types_go.specs.Passing.{seens, count_fault}
+use Rattle.types_go.specs.Typing.{many, count}
+use Rattle.types_go.specs.Faults.{ValuesFail, RangeFails}
+use Rattle.types_go.specs.Passing.{seens}
 use Rattle.types_go.proofs.Lines.{assign_least}
 use Rattle.types_go.proofs.statements.check_assign.Goals as goal
 
@@ -26,9 +22,9 @@ returns-clause-fault c =
     let items = listed.items.items in
     let ls = option_map (λ v. map left_of v.items) c.in_ok-left.left.lefts in
     let counted : c.count_where-counted.result ≡ option_and_then (λ l. count (seens items)) ls =
-        c.count_where-counted.ensures ∙ ap (λ (l : List Item). option_and_then (λ k. count (seens l)) ls) c.deref.ensures.value in
+    c.count_where-counted.ensures ∙ ap (λ (l : List Item). option_and_then (λ k. count (seens l)) ls) c.deref.ensures.value in
     let placed : IsLeast (λ f. ValuesFail (many (seens items)) (seens items) f ⊎ RangeFails (take (length ns) (seens items)) f) c.placed_fault.result =
-        subst (λ (l : List Item). IsLeast (λ f. ValuesFail (many (seens l)) (seens l) f ⊎ RangeFails (take (length ns) (seens l)) f) c.placed_fault.result) c.deref-2.ensures.value c.placed_fault.ensures in
+    subst (λ (l : List Item). IsLeast (λ f. ValuesFail (many (seens l)) (seens l) f ⊎ RangeFails (take (length ns) (seens l)) f) c.placed_fault.result) c.deref-2.ensures.value c.placed_fault.ensures in
     rw (c.lesser-2.ensures, c.lesser.ensures, c.lesser-values_fault.ensures, c.count_fault.ensures, counted, c.names_pos.ensures)
     (assign_least text c.args.returns s ns c.args.pos es ls (seens items) c.in_ok-left.left.fault listed.fault c.placed_fault.result c.in_ok-left.ensures.lefts c.in_ok-listed.ensures.seen
     c.in_ok-left.ensures.fault c.in_ok-listed.ensures.fault placed)

@@ -1,8 +1,4 @@
-use Rattle.std.proofs.Common.{◌≡◌, [], ◌∷◌, ◌++◌, ◌+◌, ◌<◌, ◌⊎◌, ℕ, List, Bool, true, false, cond, drop, take, map, get_or, Option, Some, None, sym, ap, ◌∙◌, subst, refl, arith, rules, length, append-nil, append_assoc}
-use Rattle.std.specs.Prelude.{◌&&◌, option_and_then, not}
-use Rattle.std.specs.Option.{option_map}
-use Rattle.types_go.specs.declared.fault.Fault.{Fault}
-use Rattle.types_go.specs.Least.{IsLeast, lesser}
+use Rattle.std.proofs.Common.{◌≡◌, false, sym, ◌∙◌, length}
 use Rattle.std.specs.Prelude.{◌==◌}
 use Rattle.types_go.specs.Passing.{seens}
 use Rattle.types_go.proofs.Lines.{return_least}

@@ -1,9 +1,8 @@
-use Rattle.std.proofs.Common.{◌≡◌, [], ◌∷◌, ◌+◌, List, drop, arith, sym, ap, ◌∙◌, Bool, true, false, refl}
-use Rattle.std.specs.Prelude.{◌&&◌, is_some}
-use Rattle.std.specs.Option.{option_map}
+use Rattle.std.proofs.Common.{◌≡◌, [], ◌∷◌, ◌+◌, List, drop, arith, sym, ap, ◌∙◌, refl}
+use Rattle.std.specs.Prelude.{◌&&◌}
 use Rattle.types_go.specs.declared.operand.Item.{Item}
-use Rattle.types_go.specs.Typing.{operand_in, are_single}
-use Rattle.types_go.specs.Passing.{gives_of, seens}
+use Rattle.types_go.specs.Typing.{are_single}
+use Rattle.types_go.specs.Passing.{seens}
 use Rattle.types_go.proofs.Items.{from_one, nothing_left, and_true}
 use Rattle.types_go.proofs.values.are_single.Goals as goal
 

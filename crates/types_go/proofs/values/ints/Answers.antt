@@ -1,6 +1,6 @@
-use Rattle.std.proofs.Common.{◌≡◌, [], ◌∷◌, List, Option, Some, None, rules, sym, ap, ◌∙◌, refl, map, length, arith}
+use Rattle.std.proofs.Common.{◌≡◌, [], ◌∷◌, List, Option, rules, sym, ap, ◌∙◌, map, length, arith}
 use Rattle.std.specs.Option.{option_map}
-use Rattle.std.specs.Vec.Iter.{into_iter_items, into_iter_len}
+use Rattle.std.specs.Vec.Iter.{into_iter_items}
 use Rattle.typed.specs.declared.expr.Expr.{Expr}
 use Rattle.typed.specs.Syntax.{Ex}
 use Rattle.typed.specs.View.{ex_of}
@@ -29,9 +29,10 @@ loop-item-preserved c =
     let kept : all ≡ joined (option_map (λ v. map ex_of v.items) c.loop-item.values) (ints (seens (item ∷ rest))) = c.loop-item.invariant.0 ∙ ap (λ (l : List Item). joined (option_map (λ v. map ex_of v.items) c.loop-item.values) (ints (seens l))) front in
     let value : option_map ex_of c.int_of-value.result ≡ int_in (option_map gives_of item.gives) = search rules in
     let one : option_map (λ v. map ex_of v.items) c.in_ok-values.values ≡ with_last (option_map (λ v. map ex_of v.items) c.loop-item.values) (option_map ex_of c.int_of-value.result) =
-        with_last_map ex_of c.loop-item.values c.int_of-value.result c.in_ok-values.values c.in_ok-values.ensures in
-    (kept ∙ joined_more (option_map (λ v. map ex_of v.items) c.loop-item.values) (int_in (option_map gives_of item.gives)) (ints (seens rest)) ∙ ap (λ o. joined o (ints (seens rest))) (sym (one ∙ ap (with_last (option_map (λ v. map ex_of v.items) c.loop-item.values)) value)),
-     omega (arith, step.1, c.loop-item.invariant.1, ap length front))
+    with_last_map ex_of c.loop-item.values c.int_of-value.result c.in_ok-values.values c.in_ok-values.ensures in (
+      kept ∙ joined_more (option_map (λ v. map ex_of v.items) c.loop-item.values) (int_in (option_map gives_of item.gives)) (ints (seens rest)) ∙ ap (λ o. joined o (ints (seens rest))) (sym (one ∙ ap (with_last (option_map (λ v. map ex_of v.items) c.loop-item.values)) value)),
+      omega (arith, step.1, c.loop-item.invariant.1, ap length front),
+    )
 
 pub returns : goal.returns
 returns c =

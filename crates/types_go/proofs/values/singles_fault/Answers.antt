@@ -1,7 +1,6 @@
 use Rattle.std.proofs.Common.{◌≡◌, [], ◌∷◌, ◌+◌, List, drop, arith, subst}
 use Rattle.std.specs.Option.{option_map}
 use Rattle.types_go.specs.declared.operand.Item.{Item}
-use Rattle.types_go.specs.Typing.{operand_in}
 use Rattle.types_go.specs.Faults.{SinglesFail, SingleFails}
 use Rattle.types_go.specs.Passing.{gives_of, seens}
 use Rattle.types_go.proofs.Items.{from_one, nothing_left}

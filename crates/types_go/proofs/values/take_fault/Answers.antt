@@ -1,4 +1,3 @@
-use Rattle.std.proofs.Common.{◌≡◌}
 use Rattle.types_go.specs.Typing.{count}
 use Rattle.types_go.specs.Passing.{seens}
 use Rattle.types_go.proofs.Leasts.{least_join}
