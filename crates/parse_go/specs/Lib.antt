@@ -2,7 +2,13 @@ pub mod Tree
 pub mod FirstBytes
 pub mod Terminals
 pub mod Heights
+pub mod Lists
 pub mod Grammar
+pub mod Outer
+pub mod Signatures
+pub mod Frames
+pub mod Machine
+pub mod States
 pub mod Faults
 pub mod FaultNumbers
 pub mod Spans

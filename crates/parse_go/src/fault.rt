@@ -18,7 +18,8 @@ pub enum ParseFault {
     #[error("unexpected token")]
     Unexpected(Pos),
     /// The first token whose nesting reaches 201: the number of brackets, prefixes and else-ifs that are open around
-    /// it; at a binary operator or comparison at least one more than the height of the tree to its left.
+    /// it; at a binary operator, a comparison or the opening parenthesis of a call at least one more than the height of
+    /// the tree to its left.
     #[error("nested too deeply")]
     TooDeep(Pos),
 }

@@ -1,0 +1,85 @@
+//! The tree of a text.
+
+ghost use Rattle.std.specs.Prelude.{◌≡◌, List, length, IfOk, IfErr};
+ghost use Rattle.scan_go.specs.Lines.{pos_at};
+ghost use Rattle.parse_go.specs.Tree.{Syntax, syntax_of, file_of};
+ghost use Rattle.parse_go.specs.Terminals.{terminals_of};
+ghost use Rattle.parse_go.specs.Grammar.{IsProgram, IsText};
+ghost use Rattle.parse_go.specs.Faults.{IsFirstFault, GivesTree};
+ghost use Rattle.parse_go.specs.Signatures.{file_in};
+ghost use Rattle.parse_go.specs.Spans.{FileSpans};
+ghost use Rattle.parse_go.specs.States.{state_of, fault_at, Finishes, HasOneFile};
+
+use crate::fault::{ParseFault, StepFault};
+use crate::machine::step;
+use crate::signature::File;
+use crate::state::State;
+use crate::terminal::terminal_of;
+use crate::tree::Tree;
+use base::Pos;
+use scan_go::{Token, Tokens};
+use std::alloc::Global;
+
+fn finish(state: State) -> Option<File>
+    ensures { Finishes result (state_of state) }
+{
+    match state {
+        State::Function(file) => Some(file),
+        _ => None,
+    }
+}
+
+fn fault_at(fault: StepFault, pos: Pos) -> ParseFault
+    ensures { result ≡ fault_at fault pos }
+{
+    match fault {
+        StepFault::NoMemory => ParseFault::NoMemory,
+        StepFault::Unexpected => ParseFault::Unexpected(pos),
+        StepFault::TooDeep => ParseFault::TooDeep(pos),
+    }
+}
+
+/// The functions of the tokens of a text that ends at a place.
+fn file_of(alloc: Global, tokens: &[Token], behind: Pos) -> Result<File, ParseFault>
+    ensures found { IfOk result (λ f. IsProgram (terminals_of tokens.now) (file_in f)) }
+    ensures one { IfOk result (λ f. HasOneFile (terminals_of tokens.now) (file_in f)) }
+    ensures fault { IfErr result (IsFirstFault tokens.now behind) }
+{
+    let mut state = State::Package;
+    for token in tokens {
+        match step(alloc, state, terminal_of(*token)) {
+            Ok(next) => state = next,
+            Err(fault) => return Err(fault_at(fault, token.pos)),
+        }
+    }
+    match finish(state) {
+        Some(file) => Ok(file),
+        None => Err(ParseFault::Unexpected(behind)),
+    }
+}
+
+/// The tree of the tokens of a text [Go specification, Source file organization, Function declarations, Statements, Expressions].
+pub fn parse(alloc: Global, tokens: &Tokens) -> Result<Tree, ParseFault>
+    // What is answered is the tree of these tokens, with their text.
+    ensures found { IfOk result (λ tree. IsText tokens.now.text tokens.now.list (syntax_of tree)) }
+
+    // Where they have a tree it is answered, unless memory runs out; so they have no other.
+    ensures only { (tree : Syntax) → IsText tokens.now.text tokens.now.list tree
+        → GivesTree result tree }
+
+    // The span of each name lies in the text.
+    ensures spans { IfOk result
+        (λ tree. FileSpans (length tokens.now.text) (file_of (syntax_of tree))) }
+
+    // The first token with which no text begins, or the first whose nesting passes the limit.
+    ensures fault { let behind = pos_at tokens.now.text (length tokens.now.text) in
+        IfErr result (IsFirstFault tokens.now.list behind) }
+{
+    let file = file_of(alloc, tokens.list(), tokens.end())?;
+    let text = Vec::from_slice(alloc, tokens.text())?;
+    Ok(Tree {
+        text,
+        package: file.package_name,
+        funcs: file.funcs,
+    })
+}
