@@ -30,3 +30,6 @@ mod values;
 
 pub use checking::check;
 pub use fault::{Fault, FaultKind, TypeFault};
+
+#[cfg(test)]
+mod tests;
