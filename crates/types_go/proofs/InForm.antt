@@ -1,8 +1,9 @@
--- The typed program of a tree is in form: each site is born in its place and named in its scope, and constants are words.
-use Rattle.std.proofs.Common.{◌≡◌, ℕ, ◌+◌, ◌≤◌, ◌^◌, ℤ, pos, Bool, true, false, cond, List, [], ◌∷◌, ◌++◌, Option, Some, None, Result, Ok, Err, refl, sym, ap, ◌∙◌, subst, arith, length, length-append}
-use Rattle.std.specs.Prelude.{option_and_then, nat_lt}
+-- What expressions give is in form: what they read is in scope, constants are words, and calls have the arguments that they need.
+use Rattle.std.proofs.Common.{◌≡◌, ℕ, suc, ◌^◌, ℤ, pos, Bool, true, false, cond, List, [], ◌∷◌, map, Option, Some, None, Result, Ok, Err, refl, sym, ap, ◌∙◌, subst, arith, length}
+use Rattle.std.specs.Prelude.{option_and_then, nat_lt, nat_le, slice_get, ◌==◌}
 use Rattle.std.specs.Option.{option_map}
-use Rattle.std.proofs.lemmas.Int.{ints}
+use Rattle.std.proofs.lemmas.Int.{ints as int_lemmas}
+use Rattle.std.proofs.lemmas.Bool.{eqb-true}
 use Rattle.base.specs.declared.pos.Pos.{Pos}
 use Rattle.base.specs.declared.ids.SiteId.{SiteId}
 use Rattle.parse_go.specs.declared.tree.BinOp.{BinOp}
@@ -12,278 +13,270 @@ use Rattle.parse_go.specs.declared.tree.CompareOp.TheVariants.{Equal, NotEqual, 
 use Rattle.parse_go.specs.declared.tree.UnOp.{UnOp}
 use Rattle.parse_go.specs.declared.tree.Name.{Name}
 use Rattle.parse_go.specs.FirstBytes.{first_place}
-use Rattle.parse_go.specs.Tree.{Ex as TreeEx, number, name, unary, binary, paren, Condition, compare, Stm, Stms, Els, define, print, choice, loop, no_else, else_block, else_if, nil, cons, spelled}
+use Rattle.parse_go.specs.Tree.{Ex as TreeEx, Exs as TreeExs, number, name, unary, binary, paren, call, some, Condition, compare, spelled}
 use Rattle.parse_go.specs.Tree as tree
 use Rattle.typed.specs.Value.{int}
-use Rattle.typed.specs.Syntax.{Ex, Piece, St, Sts, shown, constant, assign, new, more, none, done, next}
+use Rattle.typed.specs.Syntax.{Ex, Exs, Piece, Func, shown, constant, more, none, argument_words, result_words, results_in, results_of}
 use Rattle.typed.specs.Syntax as typed
-use Rattle.typed.specs.Form.{InScope, IsWord, IsArithmetic, IsComparison, ExFits, TestFits, PiecesFit, StFits, StsFit, births, births_all, scope_after}
+use Rattle.typed.specs.Form.{InScope, IsWord, IsArithmetic, IsComparison, values_of, ExFits, ExsFit, TestFits, PiecesFit}
 use Rattle.names.specs.declared.constants.Const.{Const}
 use Rattle.names.specs.declared.constants.Const.TheVariants.{Int, NoConst}
 use Rattle.names.specs.declared.constants.ConstFault.{ConstFault}
 use Rattle.types_go.specs.declared.scope.Declared.{Declared}
-use Rattle.types_go.specs.declared.scope.Declared.TheVariants.{Variable, Untyped}
-use Rattle.types_go.specs.Profile.{is_reserved}
-use Rattle.types_go.specs.Scope.{Scope, declaration, opened, closed}
-use Rattle.types_go.specs.Typing.{Operand, untyped, value, op_of, compare_of, is_int, as_int, constant_of, operand_of_name, prefixed, combined, both_ints, compared_ints, compared_operands, operand, int_of, pieces, condition, test, target, choice_of, statement, alternative, statements, behind, behind_else, behind_all}
-use Rattle.types_go.proofs.Complete.{and_then_some, map_some, none_some, define_some, behind_define, assignment_some, choice_some, loop_some}
-use Rattle.types_go.proofs.Kept.{tail_all, else_blocks, grows_all, grows_else}
-use Rattle.types_go.proofs.Visible.{Visible, visible_opened, visible_kept, visible_with}
+use Rattle.types_go.specs.declared.scope.Declared.TheVariants.{Variable, Untyped, Function}
+use Rattle.types_go.specs.Profile.{is_println, is_reserved}
+use Rattle.types_go.specs.Scope.{Scope, Signature, declaration, signature}
+use Rattle.types_go.specs.Typing.{Operand, untyped, value, Gives, one, called, printed, op_of, compare_of, is_int, as_int, constant_of, name_operand, prefixed, both, combined, both_ints, compared_ints, compared_operands, single, operand_in, int_in, Seen, ints, Many, many_in, many, each, taken_of, taken, Callee, printer, function, no_function, nothing, function_with, callee_declared, callee_value, called_with, name_in, callee, gives, seen, condition, test}
+use Rattle.types_go.proofs.SettledStatements.{and_then_some, map_some, none_some}
+use Rattle.types_go.proofs.Visible.{Visible}
 
 is_word : (z : ℤ) → is_int z ≡ true → IsWord (int z)
-is_word z h = grind (arith, ints)
+is_word z h = grind (arith, int_lemmas)
 
-abbrev OperandFits : List ℕ → Operand → Type 0
-OperandFits scope (untyped z) = Unit {0}
-OperandFits scope (value x) = ExFits scope x
+same_some : {A : Type 0} {x y : A} → Some x ≡ Some y → x ≡ y
+same_some e = cc
 
-some_fits : (scope : List ℕ) (x y : Operand) → OperandFits scope x → Some x ≡ Some y → OperandFits scope y
-some_fits scope x y fits is = let same : x ≡ y = cc is in subst (OperandFits scope) same fits
+-- the functions of a program have the parameters and results that their signatures say
+abbrev pub Agrees : List (Option Signature) → List Func → Type 0
+Agrees sigs fs = (f : ℕ) (sig : Signature) → option_and_then (λ o. o) (slice_get sigs f) ≡ Some sig
+    → (func : Func) × (slice_get fs f ≡ Some func) × (argument_words func ≡ length sig.params) × (result_words func ≡ length sig.results)
 
-constant_fits : (scope : List ℕ) (r : Result Const ConstFault) (x : Operand) → constant_of r ≡ Some x → OperandFits scope x
-constant_fits scope (Ok (Int z)) x is = let same : untyped z ≡ x = cc is in subst (OperandFits scope) same tt
-constant_fits scope (Ok NoConst) x is = absurd (none_some is)
-constant_fits scope (Err e) x is = absurd (none_some is)
+module _ (fs : List Func) (scope : List ℕ) where
+  abbrev OperandFits : Operand → Type 0
+  OperandFits (untyped z) = Unit {0}
+  OperandFits (value x) = ExFits fs scope x
 
-as_int_fits : (scope : List ℕ) (x : Operand) (e : Ex) → OperandFits scope x → as_int x ≡ Some e → ExFits scope e
-as_int_fits scope (value x) e fits is = let same : x ≡ e = cc is in subst (ExFits scope) same fits
-as_int_fits scope (untyped z) e fits is = by (is_int z) refl is
-  where
-    by : (b : Bool) → is_int z ≡ b → cond b (Some (constant (int z))) None ≡ Some e → ExFits scope e
-    by true h is1 = let same : constant (int z) ≡ e = cc is1 in subst (ExFits scope) same (is_word z h)
-    by false h is1 = absurd (none_some is1)
+  abbrev pub GivesFit : Gives → Type 0
+  GivesFit (one x) = OperandFits x
+  GivesFit (called at n f es) = (func : Func) × (slice_get fs f ≡ Some func) × (result_words func ≡ n) × (values_of fs es ≡ argument_words func) × ExsFit fs scope es
+  GivesFit (printed at ps) = PiecesFit fs scope ps
 
-name_fits : (scope : List ℕ) (d : Option Declared) (x : Operand) → ((site : SiteId) → d ≡ Some (Variable site) → InScope site.0 scope) → operand_of_name d ≡ Some x → OperandFits scope x
-name_fits scope None x has is = absurd (none_some is)
-name_fits scope (Some Untyped) x has is = absurd (none_some is)
-name_fits scope (Some (Variable site)) x has is = some_fits scope _ x (has site refl) is
+  abbrev MaybeFits : Option Gives → Type 0
+  MaybeFits None = Unit {0}
+  MaybeFits (Some g) = GivesFit g
 
-arithmetic : (op : BinOp) → IsArithmetic (op_of op)
-arithmetic Add = tt
-arithmetic Sub = tt
-arithmetic Mul = tt
+  abbrev pub AllFit : List Seen → Type 0
+  AllFit [] = Unit {0}
+  AllFit (o ∷ os) = MaybeFits o.gives × AllFit os
 
-both_fit : (scope : List ℕ) (at : Pos) (op : BinOp) (a b : Option Ex) (x : Operand) → ((e : Ex) → a ≡ Some e → ExFits scope e) → ((e : Ex) → b ≡ Some e → ExFits scope e) → both_ints at op a b ≡ Some x → OperandFits scope x
-both_fit scope at op None b x f g is = absurd (none_some is)
-both_fit scope at op (Some y) None x f g is = absurd (none_some is)
-both_fit scope at op (Some y) (Some z) x f g is = some_fits scope _ x (arithmetic op, f y refl, g z refl) is
+  abbrev EachFits : List Ex → Type 0
+  EachFits [] = Unit {0}
+  EachFits (x ∷ xs) = ExFits fs scope x × EachFits xs
 
-prefix_fits : (scope : List ℕ) (op : UnOp) (x y : Operand) → OperandFits scope x → prefixed op x ≡ Some y → OperandFits scope y
-prefix_fits scope op (untyped z) y fits is = constant_fits scope _ y is
-prefix_fits scope op (value x) y fits is = some_fits scope _ y fits is
+  maybe_fits : (o : Option Gives) → ((g : Gives) → o ≡ Some g → GivesFit g) → MaybeFits o
+  maybe_fits None f = tt
+  maybe_fits (Some g) f = f g refl
 
-pair_fits : (scope : List ℕ) (at : Pos) (op : BinOp) (x y z : Operand) → OperandFits scope x → OperandFits scope y → combined at op x y ≡ Some z → OperandFits scope z
-pair_fits scope at op (untyped x) (untyped y) z f g is = constant_fits scope _ z is
-pair_fits scope at op (untyped x) (value y) z f g is = both_fit scope at op _ _ z (λ e h. as_int_fits scope (untyped x) e tt h) (λ e h. as_int_fits scope (value y) e g h) is
-pair_fits scope at op (value x) (untyped y) z f g is = both_fit scope at op _ _ z (λ e h. as_int_fits scope (value x) e f h) (λ e h. as_int_fits scope (untyped y) e tt h) is
-pair_fits scope at op (value x) (value y) z f g is = both_fit scope at op _ _ z (λ e h. as_int_fits scope (value x) e f h) (λ e h. as_int_fits scope (value y) e g h) is
+  some_fits : (x y : Operand) → OperandFits x → Some x ≡ Some y → OperandFits y
+  some_fits x y fits is = subst OperandFits (same_some is) fits
 
--- ---- conditions
+  constant_fits : (r : Result Const ConstFault) (x : Operand) → constant_of r ≡ Some x → OperandFits x
+  constant_fits (Ok (Int z)) x is = some_fits (untyped z) x tt is
+  constant_fits (Ok NoConst) x is = absurd (none_some is)
+  constant_fits (Err e) x is = absurd (none_some is)
 
-comparison : (op : CompareOp) → IsComparison (compare_of op)
-comparison Equal = tt
-comparison NotEqual = tt
-comparison Less = tt
-comparison LessEqual = tt
-comparison Greater = tt
-comparison GreaterEqual = tt
-
-some_test : (scope : List ℕ) (x y : Ex) → TestFits scope x → Some x ≡ Some y → TestFits scope y
-some_test scope x y fits is = let same : x ≡ y = cc is in subst (TestFits scope) same fits
-
-both_compared : (scope : List ℕ) (at : Pos) (op : CompareOp) (a b : Option Ex) (x : Ex) → ((e : Ex) → a ≡ Some e → ExFits scope e) → ((e : Ex) → b ≡ Some e → ExFits scope e) → compared_ints at op a b ≡ Some x → TestFits scope x
-both_compared scope at op None b x f g is = absurd (none_some is)
-both_compared scope at op (Some y) None x f g is = absurd (none_some is)
-both_compared scope at op (Some y) (Some z) x f g is = some_test scope _ x (comparison op, f y refl, g z refl) is
-
-compared_fit : (scope : List ℕ) (at : Pos) (op : CompareOp) (x y : Operand) (z : Ex) → OperandFits scope x → OperandFits scope y → compared_operands at op x y ≡ Some z → TestFits scope z
-compared_fit scope at op (untyped x) (untyped y) z f g is = some_test scope _ z tt is
-compared_fit scope at op (untyped x) (value y) z f g is = both_compared scope at op _ _ z (λ e h. as_int_fits scope (untyped x) e tt h) (λ e h. as_int_fits scope (value y) e g h) is
-compared_fit scope at op (value x) (untyped y) z f g is = both_compared scope at op _ _ z (λ e h. as_int_fits scope (value x) e f h) (λ e h. as_int_fits scope (untyped y) e tt h) is
-compared_fit scope at op (value x) (value y) z f g is = both_compared scope at op _ _ z (λ e h. as_int_fits scope (value x) e f h) (λ e h. as_int_fits scope (value y) e g h) is
-
-abbrev OptionalFits : List ℕ → Option Ex → Type 0
-OptionalFits scope None = Unit {0}
-OptionalFits scope (Some e) = TestFits scope e
-
-module _ (text : List ℕ) (s : Scope) (scope : List ℕ) (visible : Visible s scope) where
-  operand_fits : (e : TreeEx) (x : Operand) → operand text s e ≡ Some x → OperandFits scope x
-  operand_fits (number at n) x is = by (nat_lt n (2 ^ 127)) is
+  as_int_fits : (x : Operand) (e : Ex) → OperandFits x → as_int x ≡ Some e → ExFits fs scope e
+  as_int_fits (value x) e fits is = subst (ExFits fs scope) (same_some is) fits
+  as_int_fits (untyped z) e fits is = by (is_int z) refl is
     where
-      by : (b : Bool) → cond b (Some (untyped (pos n))) None ≡ Some x → OperandFits scope x
-      by true is1 = let same : untyped (pos n) ≡ x = cc is1 in subst (OperandFits scope) same tt
+      by : (b : Bool) → is_int z ≡ b → cond b (Some (constant (int z))) None ≡ Some e → ExFits fs scope e
+      by true h is1 = subst (ExFits fs scope) (same_some is1) (is_word z h)
+      by false h is1 = absurd (none_some is1)
+
+  single_fits : (g : Gives) (x : Operand) → GivesFit g → single g ≡ Some x → OperandFits x
+  single_fits (one y) x fits is = some_fits y x fits is
+  single_fits (called at n f es) x fits is = by (n == 1) refl is
+    where
+      by : (b : Bool) → (n == 1) ≡ b → cond b (Some (value (typed.call f es))) None ≡ Some x → OperandFits x
+      by true h is1 = some_fits (value (typed.call f es)) x (fits.0, fits.1, fits.2 ∙ eqb-true n 1 h, fits.3, fits.4) is1
+      by false h is1 = absurd (none_some is1)
+  single_fits (printed at ps) x fits is = absurd (none_some is)
+
+  operand_fits : (o : Option Gives) (x : Operand) → MaybeFits o → operand_in o ≡ Some x → OperandFits x
+  operand_fits None x fits is = absurd (none_some is)
+  operand_fits (Some g) x fits is = single_fits g x fits is
+
+  ints_fit : (os : List Seen) (xs : List Ex) → AllFit os → ints os ≡ Some xs → EachFits xs × (length xs ≡ length os)
+  ints_fit [] xs all is = let same : [] ≡ xs = same_some is in subst (λ l. EachFits l × (length l ≡ 0)) same (tt, refl)
+  ints_fit (o ∷ os) xs all is =
+      let r = and_then_some (λ x. option_map (λ ys. x ∷ ys) (ints os)) (int_in o.gives) xs is in
+      let q = map_some (λ ys. r.0 ∷ ys) (ints os) xs r.2 in
+      let p = and_then_some as_int (operand_in o.gives) r.0 r.1 in
+      let rest = ints_fit os q.0 all.1 q.1 in
+      subst (λ l. EachFits l × (length l ≡ suc (length os))) q.2 ((as_int_fits p.0 r.0 (operand_fits o.gives p.0 all.0 p.1) p.2, rest.0), ap suc rest.1)
+
+  each_fits : (xs : List Ex) → EachFits xs → ExsFit fs scope (each xs) × (values_of fs (each xs) ≡ length xs)
+  each_fits [] all = (tt, refl)
+  each_fits (x ∷ xs) all = let rest = each_fits xs all.1 in ((all.0, rest.0), omega (arith, rest.1))
+
+  pieces_fit : (xs : List Ex) → EachFits xs → PiecesFit fs scope (map shown xs)
+  pieces_fit [] all = tt
+  pieces_fit (x ∷ xs) all = (all.0, pieces_fit xs all.1)
+
+  -- values at so many places
+  abbrev pub TakenFit : ℕ → Exs → Type 0
+  TakenFit n es = (values_of fs es ≡ n) × ExsFit fs scope es
+
+  many_fits : (o : Option Gives) (m : Many) → MaybeFits o → many_in o ≡ Some m → TakenFit m.count (typed.results m.function m.arguments)
+  many_fits None m fits is = absurd (none_some is)
+  many_fits (Some (one x)) m fits is = absurd (none_some is)
+  many_fits (Some (printed at ps)) m fits is = absurd (none_some is)
+  many_fits (Some (called at n f es)) m fits is = by (nat_le 2 n) is
+    where
+      by : (b : Bool) → cond b (Some (record { count = n; function = f; arguments = es })) None ≡ Some m → TakenFit m.count (typed.results m.function m.arguments)
+      by true is1 = subst (λ (k : Many). TakenFit k.count (typed.results k.function k.arguments)) (same_some is1) (ap results_in fits.1 ∙ fits.2, (fits.0, fits.1, fits.3, fits.4))
       by false is1 = absurd (none_some is1)
-  operand_fits (name n) x is = by (is_reserved (spelled text n)) is
+
+  many_all : (os : List Seen) (m : Many) → AllFit os → many os ≡ Some m → TakenFit m.count (typed.results m.function m.arguments)
+  many_all [] m all is = absurd (none_some is)
+  many_all (o ∷ []) m all is = many_fits o.gives m all.0 is
+  many_all (o ∷ p ∷ os) m all is = absurd (none_some is)
+
+  pub taken_fits : (n : ℕ) (os : List Seen) (es : Exs) → AllFit os → taken n os ≡ Some es → TakenFit n es
+  taken_fits n os es all is = by (many os) refl is
     where
-      by : (b : Bool) → cond b None (operand_of_name (declaration s (spelled text n))) ≡ Some x → OperandFits scope x
-      by true is1 = absurd (none_some is1)
-      by false is1 = name_fits scope (declaration s (spelled text n)) x (λ site h. visible.shown (spelled text n) site h) is1
-  operand_fits (unary at op e) x is = let r = and_then_some (prefixed op) (operand text s e) x is in prefix_fits scope op r.0 x (operand_fits e r.0 r.1) r.2
-  operand_fits (binary op a b) x is =
-      let r = and_then_some (λ y. option_and_then (combined (first_place a) op y) (operand text s b)) (operand text s a) x is in
-      let q = and_then_some (combined (first_place a) op r.0) (operand text s b) x r.2 in
-      pair_fits scope (first_place a) op r.0 q.0 x (operand_fits a r.0 r.1) (operand_fits b q.0 q.1) q.2
-  operand_fits (paren at e) x is = operand_fits e x is
+      of_many : (m : Many) → many os ≡ Some m → (b : Bool) → (m.count == n) ≡ b → cond b (Some (typed.results m.function m.arguments)) None ≡ Some es → TakenFit n es
+      of_many m found true same is1 =
+          let fit = many_all os m all found in
+          subst (λ e. TakenFit n e) (same_some is1) (fit.0 ∙ eqb-true m.count n same, fit.1)
+      of_many m found false same is1 = absurd (none_some is1)
 
-  int_fits : (e : TreeEx) (x : Ex) → int_of text s e ≡ Some x → ExFits scope x
-  int_fits e x is = let r = and_then_some as_int (operand text s e) x is in as_int_fits scope r.0 x (operand_fits e r.0 r.1) r.2
+      of_each : (b : Bool) → (length os == n) ≡ b → cond b (option_map each (ints os)) None ≡ Some es → TakenFit n es
+      of_each true same is1 =
+          let r = map_some each (ints os) es is1 in
+          let fit = ints_fit os r.0 all r.1 in
+          let whole = each_fits r.0 fit.0 in
+          subst (λ e. TakenFit n e) r.2 (whole.1 ∙ fit.1 ∙ eqb-true (length os) n same, whole.0)
+      of_each false same is1 = absurd (none_some is1)
 
-  pieces_fit : (es : List TreeEx) (ps : List Piece) → pieces text s es ≡ Some ps → PiecesFit scope ps
-  pieces_fit [] ps is = let same : [] ≡ ps = cc is in subst (PiecesFit scope) same tt
-  pieces_fit (e ∷ es) ps is =
-      let r = and_then_some (λ x. option_map (λ qs. shown x ∷ qs) (pieces text s es)) (int_of text s e) ps is in
-      let q = map_some (λ qs. shown r.0 ∷ qs) (pieces text s es) ps r.2 in
-      subst (PiecesFit scope) q.2 (int_fits e r.0 r.1, pieces_fit es q.0 q.1)
+      by : (m : Option Many) → many os ≡ m → taken_of n os m ≡ Some es → TakenFit n es
+      by None found is1 = of_each (length os == n) refl is1
+      by (Some m) found is1 = of_many m found (m.count == n) refl is1
 
-  condition_fits : (c : Condition) (x : Ex) → condition text s c ≡ Some x → TestFits scope x
-  condition_fits (compare op a b) x is =
-      let r = and_then_some (λ y. option_and_then (compared_operands (first_place a) op y) (operand text s b)) (operand text s a) x is in
-      let q = and_then_some (compared_operands (first_place a) op r.0) (operand text s b) x r.2 in
-      compared_fit scope (first_place a) op r.0 q.0 x (operand_fits a r.0 r.1) (operand_fits b q.0 q.1) q.2
+  arithmetic : (op : BinOp) → IsArithmetic (op_of op)
+  arithmetic Add = tt
+  arithmetic Sub = tt
+  arithmetic Mul = tt
 
-  test_fits : (c : Option Condition) (x : Option Ex) → test text s c ≡ Some x → OptionalFits scope x
-  test_fits None x is = let same : None ≡ x = cc is in subst (OptionalFits scope) same tt
-  test_fits (Some c) x is = let r = map_some Some (condition text s c) x is in subst (OptionalFits scope) r.2 (condition_fits c r.0 r.1)
+  both_fit : (at : Pos) (op : BinOp) (a b : Option Ex) (x : Operand) → ((e : Ex) → a ≡ Some e → ExFits fs scope e) → ((e : Ex) → b ≡ Some e → ExFits fs scope e) → both_ints at op a b ≡ Some x → OperandFits x
+  both_fit at op None b x f g is = absurd (none_some is)
+  both_fit at op (Some y) None x f g is = absurd (none_some is)
+  both_fit at op (Some y) (Some z) x f g is = some_fits _ x (arithmetic op, f y refl, g z refl) is
 
-  target_site : (reserved : Bool) (d : Option Declared) (v : ℕ) → target reserved d ≡ Some v → (site : SiteId) × (d ≡ Some (Variable site)) × (site.0 ≡ v)
-  target_site true d v is = absurd (none_some is)
-  target_site false None v is = absurd (none_some is)
-  target_site false (Some Untyped) v is = absurd (none_some is)
-  target_site false (Some (Variable site)) v is = (site, refl, cc is)
+  prefix_fits : (op : UnOp) (x y : Operand) → OperandFits x → prefixed op x ≡ Some y → OperandFits y
+  prefix_fits op (untyped z) y fits is = constant_fits _ y is
+  prefix_fits op (value x) y fits is = some_fits _ y fits is
 
-  target_in_scope : (n : Name) (v : ℕ) → target (is_reserved (spelled text n)) (declaration s (spelled text n)) ≡ Some v → InScope v scope
-  target_in_scope n v is =
-      let r = target_site (is_reserved (spelled text n)) (declaration s (spelled text n)) v is in subst (λ w. InScope w scope) r.2 (visible.shown (spelled text n) r.0 r.1)
+  pair_fits : (at : Pos) (op : BinOp) (x y z : Operand) → OperandFits x → OperandFits y → combined at op x y ≡ Some z → OperandFits z
+  pair_fits at op (untyped x) (untyped y) z f g is = constant_fits _ z is
+  pair_fits at op (untyped x) (value y) z f g is = both_fit at op _ _ z (λ e h. as_int_fits (untyped x) e tt h) (λ e h. as_int_fits (value y) e g h) is
+  pair_fits at op (value x) (untyped y) z f g is = both_fit at op _ _ z (λ e h. as_int_fits (value x) e f h) (λ e h. as_int_fits (untyped y) e tt h) is
+  pair_fits at op (value x) (value y) z f g is = both_fit at op _ _ z (λ e h. as_int_fits (value x) e f h) (λ e h. as_int_fits (value y) e g h) is
 
--- ---- how many sites statements have
+  comparison : (op : CompareOp) → IsComparison (compare_of op)
+  comparison Equal = tt
+  comparison NotEqual = tt
+  comparison Less = tt
+  comparison LessEqual = tt
+  comparison Greater = tt
+  comparison GreaterEqual = tt
 
-choice_births : (m n k j : ℕ) (x : Ex) (y z : Sts) (t : St) → typed.choose x y z ≡ t → m + births_all y ≡ n → n + births_all z ≡ k → m + births t ≡ k
-choice_births m n k j x y z t is a b = subst (λ t1. m + births t1 ≡ k) is (omega (arith, a, b))
+  some_test : (x y : Ex) → TestFits fs scope x → Some x ≡ Some y → TestFits fs scope y
+  some_test x y fits is = subst (TestFits fs scope) (same_some is) fits
 
-module _ (text : List ℕ) where
-  mutual
-    births_of : (s : Scope) (m : Stm) (t : St) → statement text s m ≡ Some t → length s.sites + births t ≡ length (behind text s m).sites
-    births_of s (define n at e) t is =
-        let d = define_some text s n at e t is in
-        let one : length (s.sites ++ n.pos ∷ []) ≡ length s.sites + 1 = length-append s.sites (n.pos ∷ []) in
-        subst (λ t1. length s.sites + births t1 ≡ length (behind text s (define n at e)).sites) d.1.2
-        (sym (ap (λ (v : Scope). length v.sites) (behind_define text s n at e t is) ∙ one))
-    births_of s (tree.assign n at e) t is =
-        let r = assignment_some text s (target (is_reserved (spelled text n)) (declaration s (spelled text n))) (int_of text s e) t is in
-        subst (λ t1. length s.sites + births t1 ≡ length s.sites) r.4 (omega arith)
-    births_of s (print at es) t is = let r = map_some (typed.print true) (pieces text s es) t is in subst (λ t1. length s.sites + births t1 ≡ length s.sites) r.2 (omega arith)
-    births_of s (choice at c body rest) t is =
-        let r = choice_some (condition text s c) (statements text (opened s) body) (alternative text (closed (behind_all text (opened s) body)) rest) t is in
-        choice_births (length s.sites) _ _ 0 r.0 r.1 r.2 t r.6 (births_in (opened s) body r.1 r.4) (births_else (closed (behind_all text (opened s) body)) rest r.2 r.5)
-    births_of s (loop at c body) t is =
-        let r = loop_some (test text s c) (statements text (opened s) body) t is in
-        let inner = births_in (opened s) body r.1 r.3 in
-        subst (λ t1. length s.sites + births t1 ≡ length (behind_all text (opened s) body).sites) r.4 (omega (arith, inner))
-    births_of s (tree.block ms) t is =
-        let r = map_some typed.block (statements text (opened s) ms) t is in
-        subst (λ t1. length s.sites + births t1 ≡ length (behind_all text (opened s) ms).sites) r.2 (births_in (opened s) ms r.0 r.1)
+  both_compared : (at : Pos) (op : CompareOp) (a b : Option Ex) (x : Ex) → ((e : Ex) → a ≡ Some e → ExFits fs scope e) → ((e : Ex) → b ≡ Some e → ExFits fs scope e) → compared_ints at op a b ≡ Some x → TestFits fs scope x
+  both_compared at op None b x f g is = absurd (none_some is)
+  both_compared at op (Some y) None x f g is = absurd (none_some is)
+  both_compared at op (Some y) (Some z) x f g is = some_test _ x (comparison op, f y refl, g z refl) is
 
-    births_else : (s : Scope) (r : Els) (b : Sts) → alternative text s r ≡ Some b → length s.sites + births_all b ≡ length (behind_else text s r).sites
-    births_else s no_else b is = let same : done ≡ b = cc is in subst (λ b1. length s.sites + births_all b1 ≡ length s.sites) same (omega arith)
-    births_else s (else_block ms) b is = births_in (opened s) ms b is
-    births_else s (else_if at c body rest) b is =
-        let u = map_some (λ v. next v done) (choice_of (condition text s c) (statements text (opened s) body) (alternative text (closed (behind_all text (opened s) body)) rest)) b is in
-        let r = choice_some (condition text s c) (statements text (opened s) body) (alternative text (closed (behind_all text (opened s) body)) rest) u.0 u.1 in
-        let k = choice_births (length s.sites) _ _ 0 r.0 r.1 r.2 u.0 r.6 (births_in (opened s) body r.1 r.4) (births_else (closed (behind_all text (opened s) body)) rest r.2 r.5) in
-        subst (λ b1. length s.sites + births_all b1 ≡ length (behind_else text s (else_if at c body rest)).sites) u.2 (omega (arith, k))
+  compared_fit : (at : Pos) (op : CompareOp) (x y : Operand) (z : Ex) → OperandFits x → OperandFits y → compared_operands at op x y ≡ Some z → TestFits fs scope z
+  compared_fit at op (untyped x) (untyped y) z f g is = some_test _ z tt is
+  compared_fit at op (untyped x) (value y) z f g is = both_compared at op _ _ z (λ e h. as_int_fits (untyped x) e tt h) (λ e h. as_int_fits (value y) e g h) is
+  compared_fit at op (value x) (untyped y) z f g is = both_compared at op _ _ z (λ e h. as_int_fits (value x) e f h) (λ e h. as_int_fits (untyped y) e tt h) is
+  compared_fit at op (value x) (value y) z f g is = both_compared at op _ _ z (λ e h. as_int_fits (value x) e f h) (λ e h. as_int_fits (value y) e g h) is
 
-    births_in : (s : Scope) (ms : Stms) (b : Sts) → statements text s ms ≡ Some b → length s.sites + births_all b ≡ length (behind_all text s ms).sites
-    births_in s nil b is = let same : done ≡ b = cc is in subst (λ b1. length s.sites + births_all b1 ≡ length s.sites) same (omega arith)
-    births_in s (cons m ms) b is =
-        let r = and_then_some (λ t. option_map (next t) (statements text (behind text s m) ms)) (statement text s m) b is in
-        let q = map_some (next r.0) (statements text (behind text s m) ms) b r.2 in
-        let first = births_of s m r.0 r.1 in
-        let others = births_in (behind text s m) ms q.0 q.1 in
-        subst (λ b1. length s.sites + births_all b1 ≡ length (behind_all text s (cons m ms)).sites) q.2 (omega (arith, first, others))
+  abbrev pub OptionalFits : Option Ex → Type 0
+  OptionalFits None = Unit {0}
+  OptionalFits (Some e) = TestFits fs scope e
 
--- ---- the form
+  name_fits : (reserved : Bool) (d : Option Declared) (g : Gives) → ((site : SiteId) → d ≡ Some (Variable site) → InScope site.0 scope) → option_map one (name_operand reserved d) ≡ Some g → GivesFit g
+  name_fits true d g has is = absurd (none_some is)
+  name_fits false None g has is = absurd (none_some is)
+  name_fits false (Some Untyped) g has is = absurd (none_some is)
+  name_fits false (Some (Function f)) g has is = absurd (none_some is)
+  name_fits false (Some (Variable site)) g has is = subst GivesFit (same_some is) (has site refl)
 
-choice_fits : (scope : List ℕ) (m k n : ℕ) (x : Ex) (y z : Sts) (t : St) → typed.choose x y z ≡ t → m + births_all y ≡ k → TestFits scope x → StsFit scope m n y → StsFit scope k n z → StFits scope m n t
-choice_fits scope m k n x y z t is long a b c = subst (StFits scope m n) is (a, b, subst (λ j. StsFit scope j n z) (sym long) c)
+  -- a function that is called has the parameters and results that are counted
+  abbrev CalleeFits : Callee → Type 0
+  CalleeFits (function f params wanted) = (func : Func) × (slice_get fs f ≡ Some func) × (argument_words func ≡ params) × (result_words func ≡ wanted)
+  CalleeFits printer = Unit {0}
+  CalleeFits no_function = Unit {0}
+  CalleeFits nothing = Unit {0}
 
-loop_fits : (scope : List ℕ) (m n : ℕ) (x : Option Ex) (y : Sts) (t : St) → typed.loop [] x done y ≡ t → OptionalFits scope x → StsFit scope m n y → StFits scope m n t
-loop_fits scope m n None y t is a b = subst (StFits scope m n) is b
-loop_fits scope m n (Some e) y t is a b = subst (StFits scope m n) is (a, b)
+  call_fits : (at : Pos) (k : Callee) (os : List Seen) (g : Gives) → CalleeFits k → AllFit os → called_with at k os ≡ Some g → GivesFit g
+  call_fits at printer os g k all is =
+      let r = map_some (λ xs. printed at (map shown xs)) (ints os) g is in subst GivesFit r.2 (pieces_fit r.0 (ints_fit os r.0 all r.1).0)
+  call_fits at (function f params wanted) os g k all is =
+      let r = map_some (λ es. called at wanted f es) (taken params os) g is in
+      let t = taken_fits params os r.0 all r.1 in
+      subst GivesFit r.2 (k.0, k.1, k.3, t.0 ∙ sym k.2, t.1)
+  call_fits at no_function os g k all is = absurd (none_some is)
+  call_fits at nothing os g k all is = absurd (none_some is)
 
-module _ (text : List ℕ) where
-  inner_visible : (s : Scope) (scope : List ℕ) (ms : Stms) → Visible s scope → Visible (closed (behind_all text (opened s) ms)) scope
-  inner_visible s scope ms v = visible_kept s (closed (behind_all text (opened s) ms)) scope v (tail_all text (opened s) ms) (grows_all text (opened s) ms)
+  module _ (text : List ℕ) (s : Scope) (visible : Visible s scope) (agrees : Agrees s.signatures fs) where
+    callee_signed : (f : ℕ) (sig : Option Signature) → signature s f ≡ sig → CalleeFits (function_with f sig)
+    callee_signed f None is = tt
+    callee_signed f (Some sig) is = agrees f sig is
 
-  -- what can be named behind a statement
-  visible_behind : (s : Scope) (scope : List ℕ) (m : Stm) (t : St) → Visible s scope → statement text s m ≡ Some t → Visible (behind text s m) (scope_after scope t)
-  visible_behind s scope (define n at e) t v is =
-      let d = define_some text s n at e t is in
-      subst (λ t1. Visible (behind text s (define n at e)) (scope_after scope t1)) d.1.2
-      (subst (λ (r : Scope). Visible r (length s.sites ∷ scope)) (sym (behind_define text s n at e t is)) (visible_with s scope (spelled text n) n.pos v))
-  visible_behind s scope (tree.assign n at e) t v is =
-      let r = assignment_some text s (target (is_reserved (spelled text n)) (declaration s (spelled text n))) (int_of text s e) t is in
-      subst (λ t1. Visible s (scope_after scope t1)) r.4 v
-  visible_behind s scope (print at es) t v is = let r = map_some (typed.print true) (pieces text s es) t is in subst (λ t1. Visible s (scope_after scope t1)) r.2 v
-  visible_behind s scope (choice at c body rest) t v is =
-      let r = choice_some (condition text s c) (statements text (opened s) body) (alternative text (closed (behind_all text (opened s) body)) rest) t is in
-      let inner = closed (behind_all text (opened s) body) in
-      subst (λ t1. Visible (behind_else text inner rest) (scope_after scope t1)) r.6
-      (visible_kept inner (behind_else text inner rest) scope (inner_visible s scope body v) (else_blocks text inner rest) (grows_else text inner rest))
-  visible_behind s scope (loop at c body) t v is =
-      let r = loop_some (test text s c) (statements text (opened s) body) t is in
-      subst (λ t1. Visible (closed (behind_all text (opened s) body)) (scope_after scope t1)) r.4 (inner_visible s scope body v)
-  visible_behind s scope (tree.block ms) t v is =
-      let r = map_some typed.block (statements text (opened s) ms) t is in
-      subst (λ t1. Visible (closed (behind_all text (opened s) ms)) (scope_after scope t1)) r.2 (inner_visible s scope ms v)
+    declared_fits : (d : Option Declared) → CalleeFits (callee_declared s d)
+    declared_fits None = tt
+    declared_fits (Some (Variable site)) = tt
+    declared_fits (Some Untyped) = tt
+    declared_fits (Some (Function f)) = callee_signed f.0 (signature s f.0) refl
 
-  mutual
-    statement_fits : (s : Scope) (scope : List ℕ) (m : Stm) (t : St) (n : ℕ) → Visible s scope → statement text s m ≡ Some t → length (behind text s m).sites ≤ n → StFits scope (length s.sites) n t
-    statement_fits s scope (define x at e) t n v is le =
-        let d = define_some text s x at e t is in
-        let one : length (s.sites ++ x.pos ∷ []) ≡ length s.sites + 1 = length-append s.sites (x.pos ∷ []) in
-        let more1 = ap (λ (r : Scope). length r.sites) (behind_define text s x at e t is) in
-        subst (StFits scope (length s.sites) n) d.1.2 (refl, omega (arith, le, one, more1), int_fits text s scope v e d.1.0 d.1.1)
-    statement_fits s scope (tree.assign x at e) t n v is le =
-        let r = assignment_some text s (target (is_reserved (spelled text x)) (declaration s (spelled text x))) (int_of text s e) t is in
-        subst (StFits scope (length s.sites) n) r.4 (target_in_scope text s scope v x r.0 r.2, int_fits text s scope v e r.1 r.3)
-    statement_fits s scope (print at es) t n v is le =
-        let r = map_some (typed.print true) (pieces text s es) t is in subst (StFits scope (length s.sites) n) r.2 (pieces_fit text s scope v es r.0 r.1)
-    statement_fits s scope (choice at c body rest) t n v is le =
-        let r = choice_some (condition text s c) (statements text (opened s) body) (alternative text (closed (behind_all text (opened s) body)) rest) t is in
-        let inner = closed (behind_all text (opened s) body) in
-        let later = births_else text inner rest r.2 r.5 in
-        choice_fits scope (length s.sites) (length inner.sites) n r.0 r.1 r.2 t r.6 (births_in text (opened s) body r.1 r.4) (condition_fits text s scope v c r.0 r.3)
-        (all_fit (opened s) scope body r.1 n (visible_opened s scope v) r.4 (omega (arith, le, later)))
-        (else_fits inner scope rest r.2 n (inner_visible s scope body v) r.5 le)
-    statement_fits s scope (loop at c body) t n v is le =
-        let r = loop_some (test text s c) (statements text (opened s) body) t is in
-        loop_fits scope (length s.sites) n r.0 r.1 t r.4 (test_fits text s scope v c r.0 r.2) (all_fit (opened s) scope body r.1 n (visible_opened s scope v) r.3 le)
-    statement_fits s scope (tree.block ms) t n v is le =
-        let r = map_some typed.block (statements text (opened s) ms) t is in
-        subst (StFits scope (length s.sites) n) r.2 (all_fit (opened s) scope ms r.0 n (visible_opened s scope v) r.1 le)
+    value_fits : (o : Option Operand) → CalleeFits (callee_value o)
+    value_fits None = tt
+    value_fits (Some x) = tt
 
-    else_fits : (s : Scope) (scope : List ℕ) (r : Els) (b : Sts) (n : ℕ) → Visible s scope → alternative text s r ≡ Some b → length (behind_else text s r).sites ≤ n → StsFit scope (length s.sites) n b
-    else_fits s scope no_else b n v is le = let same : done ≡ b = cc is in subst (StsFit scope (length s.sites) n) same tt
-    else_fits s scope (else_block ms) b n v is le = all_fit (opened s) scope ms b n (visible_opened s scope v) is le
-    else_fits s scope (else_if at c body rest) b n v is le =
-        let u = map_some (λ w. next w done) (choice_of (condition text s c) (statements text (opened s) body) (alternative text (closed (behind_all text (opened s) body)) rest)) b is in
-        let r = choice_some (condition text s c) (statements text (opened s) body) (alternative text (closed (behind_all text (opened s) body)) rest) u.0 u.1 in
-        let inner = closed (behind_all text (opened s) body) in
-        let later = births_else text inner rest r.2 r.5 in
-        subst (StsFit scope (length s.sites) n) u.2 (
-          choice_fits scope (length s.sites) (length inner.sites) n r.0 r.1 r.2 u.0 r.6 (births_in text (opened s) body r.1 r.4) (condition_fits text s scope v c r.0 r.3)
-              (all_fit (opened s) scope body r.1 n (visible_opened s scope v) r.4 (omega (arith, le, later)))
-              (else_fits inner scope rest r.2 n (inner_visible s scope body v) r.5 le),
-          tt,
-        )
+    named_fits : (p r : Bool) (n : List ℕ) → CalleeFits (cond p printer (cond r nothing (callee_declared s (declaration s n))))
+    named_fits true r n = tt
+    named_fits false true n = tt
+    named_fits false false n = declared_fits (declaration s n)
 
-    pub all_fit : (s : Scope) (scope : List ℕ) (ms : Stms) (b : Sts) (n : ℕ) → Visible s scope → statements text s ms ≡ Some b → length (behind_all text s ms).sites ≤ n → StsFit scope (length s.sites) n b
-    all_fit s scope nil b n v is le = let same : done ≡ b = cc is in subst (StsFit scope (length s.sites) n) same tt
-    all_fit s scope (cons m ms) b n v is le =
-        let r = and_then_some (λ t. option_map (next t) (statements text (behind text s m) ms)) (statement text s m) b is in
-        let q = map_some (next r.0) (statements text (behind text s m) ms) b r.2 in
-        let first = births_of text s m r.0 r.1 in
-        let others = births_in text (behind text s m) ms q.0 q.1 in
-        let later = all_fit (behind text s m) (scope_after scope r.0) ms q.0 n (visible_behind s scope m r.0 v r.1) q.1 le in
-        subst (StsFit scope (length s.sites) n) q.2
-        (statement_fits s scope m r.0 n v r.1 (omega (arith, le, others)), subst (λ k. StsFit (scope_after scope r.0) k n q.0) (sym first) later)
+    callee_fits : (n : Option Name) (o : Option Gives) → CalleeFits (callee text s n o)
+    callee_fits None o = value_fits (operand_in o)
+    callee_fits (Some n) o = named_fits (is_println (spelled text n)) (is_reserved (spelled text n)) (spelled text n)
+
+    mutual
+      pub gives_fit : (e : TreeEx) (g : Gives) → gives text s e ≡ Some g → GivesFit g
+      gives_fit (number at n) g is = by (nat_lt n (2 ^ 127)) is
+        where
+          by : (b : Bool) → cond b (Some (one (untyped (pos n)))) None ≡ Some g → GivesFit g
+          by true is1 = subst GivesFit (same_some is1) tt
+          by false is1 = absurd (none_some is1)
+      gives_fit (name n) g is = name_fits (is_reserved (spelled text n)) (declaration s (spelled text n)) g (λ site h. visible.shown (spelled text n) site h) is
+      gives_fit (unary at op e) g is =
+          let r = map_some one (option_and_then (prefixed op) (operand_in (gives text s e))) g is in
+          let q = and_then_some (prefixed op) (operand_in (gives text s e)) r.0 r.1 in
+          subst GivesFit r.2 (prefix_fits op q.0 r.0 (operand_fits (gives text s e) q.0 (maybe_fits (gives text s e) (λ h i. gives_fit e h i)) q.1) q.2)
+      gives_fit (binary op a b) g is =
+          let r = map_some one (both (combined (first_place a) op) (operand_in (gives text s a)) (operand_in (gives text s b))) g is in
+          let q = and_then_some (λ x. option_and_then (combined (first_place a) op x) (operand_in (gives text s b))) (operand_in (gives text s a)) r.0 r.1 in
+          let p = and_then_some (combined (first_place a) op q.0) (operand_in (gives text s b)) r.0 q.2 in
+          subst GivesFit r.2 (pair_fits (first_place a) op q.0 p.0 r.0 (operand_fits (gives text s a) q.0 (maybe_fits (gives text s a) (λ h i. gives_fit a h i)) q.1) (operand_fits (gives text s b) p.0 (maybe_fits (gives text s b) (λ h i. gives_fit b h i)) p.1) p.2)
+      gives_fit (paren at e) g is = gives_fit e g is
+      gives_fit (call f es) g is = call_fits (first_place f) (callee text s (name_in f) (gives text s f)) (seen text s es) g (callee_fits (name_in f) (gives text s f)) (seen_fit es) is
+
+      pub seen_fit : (es : TreeExs) → AllFit (seen text s es)
+      seen_fit tree.none = tt
+      seen_fit (some e es) = (maybe_fits (gives text s e) (λ h i. gives_fit e h i), seen_fit es)
+
+    pub condition_fits : (c : Condition) (x : Ex) → condition text s c ≡ Some x → TestFits fs scope x
+    condition_fits (compare op a b) x is =
+        let q = and_then_some (λ y. option_and_then (compared_operands (first_place a) op y) (operand_in (gives text s b))) (operand_in (gives text s a)) x is in
+        let p = and_then_some (compared_operands (first_place a) op q.0) (operand_in (gives text s b)) x q.2 in
+        compared_fit (first_place a) op q.0 p.0 x (operand_fits (gives text s a) q.0 (maybe_fits (gives text s a) (λ h i. gives_fit a h i)) q.1) (operand_fits (gives text s b) p.0 (maybe_fits (gives text s b) (λ h i. gives_fit b h i)) p.1) p.2
+
+    pub test_fits : (c : Option Condition) (x : Option Ex) → test text s c ≡ Some x → OptionalFits x
+    test_fits None x is = subst OptionalFits (same_some is) tt
+    test_fits (Some c) x is = let r = map_some Some (condition text s c) x is in subst OptionalFits r.2 (condition_fits c r.0 r.1)

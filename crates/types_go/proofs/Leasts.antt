@@ -1,5 +1,5 @@
 -- The least of two sets of faults.
-use Rattle.std.proofs.Common.{◌≡◌, Bool, true, false, cond, ltb, leb, eqb, ◌⊎◌, inl, inr, Option, Some, None, Result, Ok, Err, IfOk, refl, sym, arith}
+use Rattle.std.proofs.Common.{◌≡◌, Bool, true, false, cond, ltb, leb, eqb, ◌⊎◌, inl, inr, Option, Some, None, Result, Ok, Err, IfOk, refl, sym, ap, arith}
 use Rattle.std.specs.Prelude.{◌||◌, ◌&&◌}
 use Rattle.std.proofs.lemmas.Bool.{cases_Bool, ltb-true, ltb-false, eqb-true, eqb-false, leb-true, leb-false}
 use Rattle.types_go.specs.declared.fault.Fault.{Fault}
@@ -121,3 +121,46 @@ lesser_none (Some f) (Some g) e = absurd (lesser_if f g (is_before f g) e)
 pub if_ok : {A E : Type 0} (P Q : A → Type 0) (r : Result A E) → ((x : A) → P x → Q x) → IfOk r P → IfOk r Q
 if_ok P Q (Ok x) f h = f x h
 if_ok P Q (Err e) f h = tt
+
+-- ---- a fault that is least among some, in steps
+
+-- what is kept is a fault of the whole; each fault of the whole is covered or still ahead
+pub record Kept (Whole Ahead : Fault → Type 0) (least : Option Fault) : Type 0 where
+  pub sound : Sound Whole least
+  pub covered : (g : Fault) → Whole g → Covers least g ⊎ Ahead g
+  pub within : (g : Fault) → Ahead g → Whole g
+
+pub kept_start : (Whole : Fault → Type 0) → Kept Whole Whole None
+kept_start Whole = record { sound = tt; covered = λ g h. inr h; within = λ g h. h }
+
+pub kept_more : (Whole P Ahead : Fault → Type 0) (least own : Option Fault) → Kept Whole (λ g. P g ⊎ Ahead g) least → IsLeast P own → Kept Whole Ahead (lesser least own)
+kept_more Whole P Ahead least own k found = record {
+  sound = sound_lesser Whole least own k.sound (least_sound P Whole own found (λ f h. k.within f (inl h)));
+  covered = λ g h. sorted g (k.covered g h);
+  within = λ g h. k.within g (inr h);
+}
+  where
+    sorted : (g : Fault) → Covers least g ⊎ (P g ⊎ Ahead g) → Covers (lesser least own) g ⊎ Ahead g
+    sorted g (inl c) = inl (covers_left least own g c)
+    sorted g (inr (inl h)) = inl (covers_right least own g (least_covers P own g found h))
+    sorted g (inr (inr h)) = inr h
+
+pub kept_end : (Whole Ahead : Fault → Type 0) (least : Option Fault) → ((g : Fault) → Ahead g → ⊥) → Kept Whole Ahead least → IsLeast Whole least
+kept_end Whole Ahead least nothing k = is_least Whole least k.sound (λ g h. covers g (k.covered g h))
+  where
+    covers : (g : Fault) → Covers least g ⊎ Ahead g → Covers least g
+    covers g (inl c) = c
+    covers g (inr n) = absurd (nothing g n)
+
+-- ---- one fault
+
+pub same_fault : (f g : Fault) → g ≡ f → AtMost f g
+same_fault f g is = let o = ap (λ (x : Fault). x.pos.offset) is in let k = ap (λ (x : Fault). kind_number x.kind) is in inr (sym o, omega arith)
+
+pub just : (f : Fault) → IsLeast (λ g. g ≡ f) (Some f)
+just f = (refl, λ g h. same_fault f g h)
+
+-- a rule that fails where a test is false
+pub unless : (b : Bool) (f : Fault) → IsLeast (λ g. (b ≡ false) × (g ≡ f)) (cond b None (Some f))
+unless true f = λ g h. cc h.0
+unless false f = ((refl, refl), λ g h. same_fault f g h.1)

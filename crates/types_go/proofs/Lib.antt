@@ -1,10 +1,21 @@
-pub mod Leasts
-pub mod Parts
-pub mod Lists
-pub mod Depth
-pub mod Sequences
-pub mod Complete
-pub mod Kept
-pub mod Visible
-pub mod InForm
-pub mod Answering
+mod Answering
+mod Decided
+mod DecidedValues
+mod Growth
+mod InForm
+mod InFormFunctions
+mod InFormProgram
+mod InFormStatements
+mod Items
+mod Leasts
+mod Leaves
+mod Lines
+mod Names
+mod Nodes
+mod Sequences
+mod Settled
+mod SettledFunctions
+mod SettledStatements
+mod Sites
+mod TreeRows
+mod Visible

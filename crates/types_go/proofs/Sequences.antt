@@ -8,15 +8,17 @@ use Rattle.typed.specs.View.{st_of, sts_of}
 use Rattle.typed.specs.Syntax.{St, Sts, done, next}
 use Rattle.std.proofs.Math.Seq.{drop-cons}
 use Rattle.parse_go.specs.declared.tree.Stmt.{Stmt as Tree}
-use Rattle.parse_go.specs.Tree.{Stm, Stms, nil, cons, stm_of, stms_of}
+use Rattle.parse_go.specs.Tree.{Condition, Stm, Stms, Els, nil, cons, stm_of, stms_of}
 use Rattle.types_go.specs.declared.fault.Fault.{Fault}
 use Rattle.types_go.specs.Least.{IsLeast, lesser}
-use Rattle.types_go.specs.Scope.{Scope}
-use Rattle.types_go.specs.Typing.{statement, statements, behind, behind_all}
-use Rattle.types_go.specs.Faults.{FailsInStatement, FailsInStatements}
+use Rattle.types_go.specs.Scope.{Scope, opened, closed}
+use Rattle.types_go.specs.declared.statements.Returns.{Returns}
+use Rattle.types_go.specs.Statements.{statement, statements, behind, behind_all}
+use Rattle.types_go.specs.StatementFaults.{FailsInStatement, FailsInStatements, FailsInElse}
+use Rattle.types_go.specs.Faults.{FailsInCondition, FailsInTest}
 use Rattle.types_go.specs.Passing.{with_last}
-use Rattle.types_go.proofs.Depth.{depth}
-use Rattle.types_go.proofs.Leasts.{Covers, covers_left, covers_right, least_covers, Sound, sound_lesser, least_sound, is_least}
+use Rattle.types_go.proofs.Growth.{grows}
+use Rattle.types_go.proofs.Leasts.{least_join, Covers, covers_left, covers_right, least_covers, Sound, sound_lesser, least_sound, is_least}
 
 -- the statements from one on
 pub split : (ss : List Tree) (i : ℕ) (s : Tree) → i < length ss → s ≡ get_or ss i s → stms_of (drop i ss) ≡ cons (stm_of s) (stms_of (drop (i + 1) ss))
@@ -45,11 +47,11 @@ joined-push (y ∷ xs) x r = ap (next (st_of y)) (joined-push xs x r)
 
 -- What is kept is a fault of the whole; each fault of the whole is covered or still to come. The typed statements so far stand before
 -- those to come, and what is behind the whole is behind the rest.
-pub record KeptStatements (text : List ℕ) (start : Scope) (all rest : Stms) (s : Scope) (values : Option (List Stmt)) (least : Option Fault) : Type 0 where
-  pub sound : Sound (FailsInStatements text start all) least
-  pub covered : (g : Fault) → FailsInStatements text start all g → Covers least g ⊎ FailsInStatements text s rest g
-  pub ahead : (g : Fault) → FailsInStatements text s rest g → FailsInStatements text start all g
-  pub given : statements text start all ≡ option_and_then (λ v. option_map (joined v) (statements text s rest)) values
+pub record KeptStatements (text : List ℕ) (r1 : Returns) (start : Scope) (all rest : Stms) (s : Scope) (values : Option (List Stmt)) (least : Option Fault) : Type 0 where
+  pub sound : Sound (FailsInStatements text r1 start all) least
+  pub covered : (g : Fault) → FailsInStatements text r1 start all g → Covers least g ⊎ FailsInStatements text r1 s rest g
+  pub ahead : (g : Fault) → FailsInStatements text r1 s rest g → FailsInStatements text r1 start all g
+  pub given : statements text r1 start all ≡ option_and_then (λ v. option_map (joined v) (statements text r1 s rest)) values
   pub scope : behind_all text start all ≡ behind_all text s rest
   pub inside : 0 < length s.blocks
 
@@ -57,28 +59,28 @@ behind_none : (o : Option Sts) → o ≡ option_map (joined []) o
 behind_none None = refl
 behind_none (Some r) = refl
 
-pub at_start : (text : List ℕ) (s : Scope) (all : Stms) → 0 < length s.blocks → KeptStatements text s all all s (Some []) None
-at_start text s all inside = record {
+pub at_start : (text : List ℕ) (r1 : Returns) (s : Scope) (all : Stms) → 0 < length s.blocks → KeptStatements text r1 s all all s (Some []) None
+at_start text r1 s all inside = record {
   sound = tt;
   covered = λ g h. inr h;
   ahead = λ g h. h;
-  given = behind_none (statements text s all);
+  given = behind_none (statements text r1 s all);
   scope = refl;
   inside = inside;
 }
 
-pub at_end : (text : List ℕ) (start : Scope) (all : Stms) (s : Scope) (values : Option (List Stmt)) (least : Option Fault) → KeptStatements text start all nil s values least → IsLeast (FailsInStatements text start all) least
-at_end text start all s values least k = is_least (FailsInStatements text start all) least k.sound (λ g h. covers g (k.covered g h))
+pub at_end : (text : List ℕ) (r1 : Returns) (start : Scope) (all : Stms) (s : Scope) (values : Option (List Stmt)) (least : Option Fault) → KeptStatements text r1 start all nil s values least → IsLeast (FailsInStatements text r1 start all) least
+at_end text r1 start all s values least k = is_least (FailsInStatements text r1 start all) least k.sound (λ g h. covers g (k.covered g h))
   where
-    covers : (g : Fault) → Covers least g ⊎ FailsInStatements text s nil g → Covers least g
+    covers : (g : Fault) → Covers least g ⊎ FailsInStatements text r1 s nil g → Covers least g
     covers g (inl c) = c
     covers g (inr n) = absurd n
 
-pub given_all : (text : List ℕ) (start : Scope) (all : Stms) (s : Scope) (values : Option (Vec Stmt)) (least : Option Fault) → KeptStatements text start all nil s (option_map (λ v. v.items) values) least
-    → option_map (λ v. sts_of v.items) values ≡ statements text start all
-given_all text start all s values least k = whole values ∙ sym k.given
+pub given_all : (text : List ℕ) (r1 : Returns) (start : Scope) (all : Stms) (s : Scope) (values : Option (Vec Stmt)) (least : Option Fault) → KeptStatements text r1 start all nil s (option_map (λ v. v.items) values) least
+    → option_map (λ v. sts_of v.items) values ≡ statements text r1 start all
+given_all text r1 start all s values least k = whole values ∙ sym k.given
   where
-    whole : (o : Option (Vec Stmt)) → option_map (λ (v : Vec Stmt). sts_of v.items) o ≡ option_and_then (λ v. option_map (joined v) (statements text s nil)) (option_map (λ (v : Vec Stmt). v.items) o)
+    whole : (o : Option (Vec Stmt)) → option_map (λ (v : Vec Stmt). sts_of v.items) o ≡ option_and_then (λ v. option_map (joined v) (statements text r1 s nil)) (option_map (λ (v : Vec Stmt). v.items) o)
     whole None = refl
     whole (Some v) = ap Some (sym (joined-done v.items))
 
@@ -93,19 +95,30 @@ further (Some v) (Some x) t later e = ap (λ i. option_map (joined v) (option_an
     by None = refl
     by (Some r) = ap Some (sym (joined-push v x r))
 
-pub one_more : (text : List ℕ) (start : Scope) (all : Stms) (m : Stm) (others : Stms) (s : Scope) (values : Option (List Stmt)) (line : Option Stmt) (least fault : Option Fault)
-    → KeptStatements text start all (cons m others) s values least → IsLeast (FailsInStatement text s m) fault → option_map st_of line ≡ statement text s m
-    → KeptStatements text start all others (behind text s m) (with_last values line) (lesser least fault)
-one_more text start all m others s values line least fault k found e = record {
-  sound = sound_lesser (FailsInStatements text start all) least fault k.sound (least_sound (FailsInStatement text s m) (FailsInStatements text start all) fault found (λ f h. k.ahead f (inl h)));
+pub one_more : (text : List ℕ) (r1 : Returns) (start : Scope) (all : Stms) (m : Stm) (others : Stms) (s : Scope) (values : Option (List Stmt)) (line : Option Stmt) (least fault : Option Fault)
+    → KeptStatements text r1 start all (cons m others) s values least → IsLeast (FailsInStatement text r1 s m) fault → option_map st_of line ≡ statement text r1 s m
+    → KeptStatements text r1 start all others (behind text s m) (with_last values line) (lesser least fault)
+one_more text r1 start all m others s values line least fault k found e = record {
+  sound = sound_lesser (FailsInStatements text r1 start all) least fault k.sound (least_sound (FailsInStatement text r1 s m) (FailsInStatements text r1 start all) fault found (λ f h. k.ahead f (inl h)));
   covered = λ g h. sorted g (k.covered g h);
   ahead = λ g h. k.ahead g (inr h);
-  given = k.given ∙ further values line (statement text s m) (statements text (behind text s m) others) e;
+  given = k.given ∙ further values line (statement text r1 s m) (statements text r1 (behind text s m) others) e;
   scope = k.scope;
-  inside = omega (arith, k.inside, depth text s m);
+  inside = omega (arith, k.inside, (grows text s m).depth);
 }
   where
-    sorted : (g : Fault) → Covers least g ⊎ FailsInStatements text s (cons m others) g → Covers (lesser least fault) g ⊎ FailsInStatements text (behind text s m) others g
+    sorted : (g : Fault) → Covers least g ⊎ FailsInStatements text r1 s (cons m others) g → Covers (lesser least fault) g ⊎ FailsInStatements text r1 (behind text s m) others g
     sorted g (inl c) = inl (covers_left least fault g c)
-    sorted g (inr (inl h)) = inl (covers_right least fault g (least_covers (FailsInStatement text s m) fault g found h))
+    sorted g (inr (inl h)) = inl (covers_right least fault g (least_covers (FailsInStatement text r1 s m) fault g found h))
     sorted g (inr (inr h)) = inr h
+
+-- an `if`: its condition, its body, and what stands behind them
+pub choice_least : (text : List ℕ) (r1 : Returns) (s : Scope) (c : Condition) (body : Stms) (rest : Els) (f g h : Option Fault) → IsLeast (FailsInCondition text s c) f → IsLeast (FailsInStatements text r1 (opened s) body) g
+    → IsLeast (FailsInElse text r1 (closed (behind_all text (opened s) body)) rest) h
+    → IsLeast (λ e. (FailsInCondition text s c e ⊎ FailsInStatements text r1 (opened s) body e) ⊎ FailsInElse text r1 (closed (behind_all text (opened s) body)) rest e) (lesser (lesser f g) h)
+choice_least text r1 s c body rest f g h a b d = least_join _ _ (lesser f g) h (least_join _ _ f g a b) d
+
+-- a loop: its condition and its body
+pub loop_least : (text : List ℕ) (r1 : Returns) (s : Scope) (c : Option Condition) (body : Stms) (f g : Option Fault) → IsLeast (FailsInTest text s c) f → IsLeast (FailsInStatements text r1 (opened s) body) g
+    → IsLeast (λ e. FailsInTest text s c e ⊎ FailsInStatements text r1 (opened s) body e) (lesser f g)
+loop_least text r1 s c body f g a b = least_join _ _ f g a b

@@ -7,10 +7,12 @@ use Rattle.base.specs.declared.pos.Pos.{Pos}
 use Rattle.names.specs.Blocks.{Names, Blocks, entry_of, or_else, lookup, with_entry, insert}
 use Rattle.typed.specs.Form.{InScope}
 use Rattle.types_go.specs.declared.scope.Declared.{Declared}
-use Rattle.types_go.specs.declared.scope.Declared.TheVariants.{Variable}
-use Rattle.types_go.specs.Scope.{Scope, declaration, with_declaration, with_site, opened, beginning}
-use Rattle.types_go.proofs.Complete.{and_then_some, none_some}
-use Rattle.types_go.proofs.Kept.{Grown}
+use Rattle.types_go.specs.declared.scope.Declared.TheVariants.{Variable, Function}
+use Rattle.parse_go.specs.Tree.{Function as TreeFunction, spelled}
+use Rattle.types_go.specs.Scope.{Scope, declaration, with_declaration, with_variable, with_signature, opened, beginning}
+use Rattle.types_go.specs.Functions.{signature_in, declares_function, with_function, with_functions}
+use Rattle.types_go.proofs.SettledStatements.{and_then_some, none_some}
+use Rattle.types_go.proofs.Growth.{Keeps}
 
 -- the numbers of the names lie below one
 abbrev EntriesBelow : ℕ → Names → Type 0
@@ -129,46 +131,66 @@ pub visible_opened : (s : Scope) (scope : List ℕ) → Visible s scope → Visi
 visible_opened s scope v = record { bounded = (tt, v.bounded); shown = v.shown }
 
 -- the same blocks, and more declarations
-pub visible_kept : (s r : Scope) (scope : List ℕ) → Visible s scope → r.blocks ≡ s.blocks → Grown s.declared r.declared → Visible r scope
-visible_kept s r scope v same grown = record {
-  bounded = subst (λ bs. BlocksBelow (length r.declared) bs) (sym same) (more_blocks (length s.declared) (length r.declared) (omega (arith, longer)) s.blocks v.bounded);
+pub visible_kept : (s r : Scope) (scope : List ℕ) → Visible s scope → Keeps s r → Visible r scope
+visible_kept s r scope v k = record {
+  bounded = subst (λ bs. BlocksBelow (length r.declared) bs) (sym k.blocks) (more_blocks (length s.declared) (length r.declared) (omega (arith, longer)) s.blocks v.bounded);
   shown = shown;
 }
   where
-    longer : length r.declared ≡ length s.declared + length grown.0
-    longer = ap length grown.1 ∙ length-append s.declared grown.0
+    longer : length r.declared ≡ length s.declared + length k.declared.0
+    longer = ap length k.declared.1 ∙ length-append s.declared k.declared.0
 
     shown : (name : List ℕ) (site : SiteId) → declaration r name ≡ Some (Variable site) → InScope site.0 scope
     shown name site is =
-        let p = and_then_some (λ k. slice_get r.declared k) (lookup r.blocks name) (Variable site) is in
-        let found : lookup s.blocks name ≡ Some p.0 = ap (λ bs. lookup bs name) (sym same) ∙ p.1 in
+        let p = and_then_some (λ j. slice_get r.declared j) (lookup r.blocks name) (Variable site) is in
+        let found : lookup s.blocks name ≡ Some p.0 = ap (λ bs. lookup bs name) (sym k.blocks) ∙ p.1 in
         let below = lookup_below (length s.declared) s.blocks name p.0 v.bounded found in
-        let old : slice_get s.declared p.0 ≡ Some (Variable site) = sym (get_left s.declared grown.0 p.0 below) ∙ ap (λ ds. slice_get ds p.0) (sym grown.1) ∙ p.2 in
-        v.shown name site (ap (option_and_then (λ k. slice_get s.declared k)) found ∙ old)
+        let old : slice_get s.declared p.0 ≡ Some (Variable site) = sym (get_left s.declared k.declared.0 p.0 below) ∙ ap (λ ds. slice_get ds p.0) (sym k.declared.1) ∙ p.2 in
+        v.shown name site (ap (option_and_then (λ j. slice_get s.declared j)) found ∙ old)
 
--- one more variable, and its site in scope
-pub visible_with : (s : Scope) (scope name : List ℕ) (at : Pos) → Visible s scope
-    → Visible (with_site (with_declaration s name (Variable (record { 0 = length s.sites }))) at) (length s.sites ∷ scope)
-visible_with s scope name at v = record {
+-- one more declaration
+pub visible_more : (s : Scope) (scope wider : List ℕ) (name : List ℕ) (d : Declared) → Visible s scope → ((v : ℕ) → InScope v scope → InScope v wider) → ((site : SiteId) → d ≡ Variable site → InScope site.0 wider)
+    → Visible (with_declaration s name d) wider
+visible_more s scope wider name d v into new1 = record {
   bounded = insert_below (length (s.declared ++ d ∷ [])) (length s.declared) (omega (arith, one)) s.blocks name (more_blocks (length s.declared) (length (s.declared ++ d ∷ [])) (omega (arith, one)) s.blocks v.bounded);
   shown = shown;
 }
   where
-    d : Declared
-    d = Variable (record { 0 = length s.sites })
-
     one : length (s.declared ++ d ∷ []) ≡ length s.declared + 1
     one = length-append s.declared (d ∷ [])
 
-    newest : (site : SiteId) (k : ℕ) → k ≡ length s.declared → slice_get (s.declared ++ d ∷ []) k ≡ Some (Variable site) → site.0 ≡ length s.sites
-    newest site k is got =
-        let same : d ≡ Variable site = some_same d (Variable site) (sym (ap (λ j. slice_get (s.declared ++ d ∷ []) j) is ∙ get_last s.declared d) ∙ got) in cc
+    newest : (site : SiteId) (k : ℕ) → k ≡ length s.declared → slice_get (s.declared ++ d ∷ []) k ≡ Some (Variable site) → d ≡ Variable site
+    newest site k is got = some_same d (Variable site) (sym (ap (λ j. slice_get (s.declared ++ d ∷ []) j) is ∙ get_last s.declared d) ∙ got)
 
-    shown : (other : List ℕ) (site : SiteId) → declaration (with_site (with_declaration s name d) at) other ≡ Some (Variable site) → InScope site.0 (length s.sites ∷ scope)
+    shown : (other : List ℕ) (site : SiteId) → declaration (with_declaration s name d) other ≡ Some (Variable site) → InScope site.0 wider
     shown other site is =
         let p = and_then_some (λ k. slice_get (s.declared ++ d ∷ []) k) (lookup (insert s.blocks name (length s.declared)) other) (Variable site) is in
         elim (lookup_insert s.blocks name other (length s.declared) p.0 p.1) [
-          | inl n ↦ inl (newest site p.0 n p.2)
+          | inl n ↦ new1 site (newest site p.0 n p.2)
           | inr o ↦ let below = lookup_below (length s.declared) s.blocks other p.0 v.bounded o in
-              inr (v.shown other site (ap (option_and_then (λ k. slice_get s.declared k)) o ∙ (sym (get_left s.declared (d ∷ []) p.0 below) ∙ p.2)))
+              into site.0 (v.shown other site (ap (option_and_then (λ k. slice_get s.declared k)) o ∙ (sym (get_left s.declared (d ∷ []) p.0 below) ∙ p.2)))
         ]
+
+-- one more variable, and its site in scope
+pub visible_with : (s : Scope) (scope name : List ℕ) (at : Pos) → Visible s scope → Visible (with_variable true s name at) (length s.sites ∷ scope)
+visible_with s scope name at v =
+    let d : Declared = Variable (record { 0 = length s.sites }) in
+    let w = visible_more s scope (length s.sites ∷ scope) name d v (λ u h. inr h) (λ site is. inl (same site is)) in
+    record { bounded = w.bounded; shown = w.shown }
+  where
+    same : (site : SiteId) → Variable (record { 0 = length s.sites }) ≡ Variable site → site.0 ≡ length s.sites
+    same site is = cc
+
+-- the package block names no variables
+pub visible_package : (text : List ℕ) (s : Scope) (gs : List TreeFunction) → Visible s [] → Visible (with_functions text s gs) []
+visible_package text s [] v = v
+visible_package text s (g ∷ gs) v = visible_package text (with_function text s g) gs (by (declares_function s (spelled text g.name)))
+  where
+    no_variable : (site : SiteId) → Function (record { 0 = length s.signatures }) ≡ Variable site → InScope site.0 []
+    no_variable site is = cc is
+
+    by : (b : Bool) → Visible (with_signature (cond b (with_declaration s (spelled text g.name) (Function (record { 0 = length s.signatures }))) s) (signature_in text g)) []
+    by false = record { bounded = v.bounded; shown = v.shown }
+    by true =
+        let w = visible_more s [] [] (spelled text g.name) (Function (record { 0 = length s.signatures })) v (λ u h. h) no_variable in
+        record { bounded = w.bounded; shown = w.shown }

@@ -1,32 +1,32 @@
 -- What the checker of types answers.
-use Rattle.std.specs.Prelude.{◌≡◌, pos, List, [], ◌∷◌, replicate, length, Some, Result, Ok, Err}
+use Rattle.std.specs.Prelude.{◌≡◌, ℕ, pos, List, [], ◌∷◌, map, Some, Result, Ok, Err}
 use Rattle.base.specs.declared.pos.Pos.{Pos}
 use Rattle.parse_go.specs.Tree.{Syntax}
 use Rattle.typed.specs.Value.{int}
-use Rattle.typed.specs.Syntax.{Sts, Program, program}
+use Rattle.typed.specs.Syntax.{Func, Program}
 use Rattle.typed.specs.View.{program_of}
 use Rattle.typed.specs.declared.program.Program.{Program as ProgramData}
-use Rattle.types_go.specs.declared.fault.Fault.{Fault}
 use Rattle.types_go.specs.declared.fault.TypeFault.{TypeFault}
 use Rattle.types_go.specs.declared.fault.TypeFault.TheVariants as type_fault
 use Rattle.types_go.specs.Least.{IsLeast}
-use Rattle.types_go.specs.Scope.{beginning}
-use Rattle.types_go.specs.Typing.{statements, behind_all}
-use Rattle.types_go.specs.Faults.{FailsInStatements}
+use Rattle.types_go.specs.Functions.{functions, behind_functions, package_scope, main_number}
+use Rattle.types_go.specs.FunctionFaults.{FailsIn}
 
--- the places of the declared variables, in the order of the text
+-- the places of the variables, in the order of the text
 abbrev pub places_of : Syntax → List Pos
-places_of t = (behind_all t.text beginning t.body).sites
+places_of t = (behind_functions t.text (package_scope t) t.funcs).sites
+
+-- one type, number 0: whole numbers
+abbrev pub program_with : Syntax → List Func → ℕ → Program
+program_with t funcs main = record { funcs = funcs; zeros = int (pos 0) ∷ []; sites = map (λ at. 0) (places_of t); globals = []; main = main }
 
 -- the rules give a tree this typed program
 pub record Types (t : Syntax) (p : Program) : Type 0 where
-  pub body : Sts
-  pub statements : statements t.text beginning t.body ≡ Some body
-  pub is : p ≡ program (int (pos 0) ∷ []) (replicate (length (places_of t)) 0) body
-
--- a rule fails in a tree
-abbrev pub FailsIn : Syntax → Fault → Type 0
-FailsIn t f = FailsInStatements t.text beginning t.body f
+  pub funcs : List Func
+  pub main : ℕ
+  pub functions : functions t.text (package_scope t) 0 t.funcs ≡ Some funcs
+  pub main_is : main_number t ≡ Some main
+  pub is : p ≡ program_with t funcs main
 
 -- the fault that is reported: of the rules that fail, the one with the least offset, then with the least number
 abbrev pub Reports : Syntax → TypeFault → Type 0

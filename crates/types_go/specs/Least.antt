@@ -6,9 +6,19 @@ use Rattle.types_go.specs.declared.fault.FaultKind.TheVariants as kind
 
 abbrev pub kind_number : FaultKind → ℕ
 kind_number kind.Unknown = 1
+kind_number kind.Redeclared = 2
 kind_number kind.NothingNew = 3
+kind_number kind.NotAssignable = 6
+kind_number kind.NotCallable = 7
+kind_number kind.ArgCount = 8
+kind_number kind.ResultCount = 9
+kind_number kind.NotUsedValue = 10
+kind_number kind.MissingReturn = 11
 kind_number kind.ConstRange = 12
+kind_number kind.BadOperand = 14
+kind_number kind.NoMain = 18
 kind_number kind.OutOfProfile = 20
+kind_number kind.TooLarge = 21
 
 -- f is reported before g, or stands at the same place with the same number
 abbrev pub AtMost : Fault → Fault → Type 0

@@ -1,6 +1,6 @@
--- The typed program that the rules of the language give a tree (Go specification, "Constant expressions", "Arithmetic operators",
--- "Short variable declarations", "Bootstrapping").
-use Rattle.std.specs.Prelude.{ℕ, length, ◌-◌, ◌^◌, ℤ, pos, negsuc, Bool, true, not, ◌&&◌, List, [], ◌∷◌, Option, Some, None, Result, Ok, Err, option_and_then, nat_lt, int_le, if◌then◌else◌}
+-- What the rules of the language give expressions (Go specification, "Constant expressions", "Arithmetic operators", "Calls",
+-- "Bootstrapping").
+use Rattle.std.specs.Prelude.{ℕ, length, ◌-◌, ◌^◌, ◌==◌, ℤ, pos, negsuc, Bool, true, ◌&&◌, List, [], ◌∷◌, map, Option, Some, None, Result, Ok, Err, is_some, option_and_then, nat_lt, nat_le, int_le, if◌then◌else◌}
 use Rattle.std.specs.Option.{option_map}
 use Rattle.base.specs.declared.pos.Pos.{Pos}
 use Rattle.parse_go.specs.declared.tree.BinOp.{BinOp}
@@ -11,28 +11,36 @@ use Rattle.parse_go.specs.declared.tree.CompareOp.{CompareOp}
 use Rattle.parse_go.specs.declared.tree.CompareOp.TheVariants as compare
 use Rattle.parse_go.specs.declared.tree.Name.{Name}
 use Rattle.parse_go.specs.FirstBytes.{first_place}
-use Rattle.parse_go.specs.Tree.{Ex as TreeEx, number, name, unary, binary, paren, Condition, Stm, Stms, Els, spelled}
+use Rattle.parse_go.specs.Tree.{Ex as TreeEx, Exs as TreeExs, number, name, unary, binary, paren, call, some, Condition, spelled}
 use Rattle.parse_go.specs.Tree as tree
 use Rattle.typed.specs.declared.operators.BinOp.{BinOp as TypedOp}
 use Rattle.typed.specs.declared.operators.BinOp.TheVariants as op
 use Rattle.typed.specs.declared.operators.UnOp.{UnOp as TypedPrefix}
 use Rattle.typed.specs.declared.operators.UnOp.TheVariants as prefix
 use Rattle.typed.specs.Value.{int, bool}
-use Rattle.typed.specs.Syntax.{Ex, Piece, St, Sts, constant, read, local, here, none, more, new, to, shown, assign, block, choose, loop, print, done, next}
+use Rattle.typed.specs.Syntax.{Ex, Exs, Piece, constant, read, local, here, none, more, results, shown}
 use Rattle.typed.specs.Syntax as typed
 use Rattle.names.specs.declared.constants.Const.{Const}
 use Rattle.names.specs.declared.constants.Const.TheVariants.{Int, NoConst}
 use Rattle.names.specs.declared.constants.ConstFault.{ConstFault}
 use Rattle.names.specs.Constants.{folded, folded_one, compared}
 use Rattle.types_go.specs.declared.scope.Declared.{Declared}
-use Rattle.types_go.specs.declared.scope.Declared.TheVariants.{Variable, Untyped}
-use Rattle.types_go.specs.Profile.{is_reserved}
-use Rattle.types_go.specs.Scope.{Scope, declaration, is_here, with_declaration, with_site, opened, closed}
+use Rattle.types_go.specs.declared.scope.Declared.TheVariants.{Variable, Untyped, Function}
+use Rattle.types_go.specs.Profile.{is_println, is_reserved}
+use Rattle.types_go.specs.Scope.{Scope, Signature, declaration, signature}
 
--- what an expression gives: an untyped constant with its exact value, or an int
+-- what an expression gives as one value: an untyped constant with its exact value, or an int
 pub data Operand : Type 0 where
   untyped : ℤ → Operand
   value : Ex → Operand
+
+-- what an expression gives: one value, or what a call gives
+pub data Gives : Type 0 where
+  one : Operand → Gives
+  -- the results of a call: its place, how many they are, the function's number, and the arguments
+  called : Pos → ℕ → ℕ → Exs → Gives
+  -- nothing: a `println` at a place
+  printed : Pos → List Piece → Gives
 
 abbrev pub op_of : BinOp → TypedOp
 op_of tree_op.Add = op.Add
@@ -70,6 +78,10 @@ abbrev pub operand_of_name : Option Declared → Option Operand
 operand_of_name None = None
 operand_of_name (Some (Variable site)) = Some (value (read (local site.0 here)))
 operand_of_name (Some Untyped) = None
+operand_of_name (Some (Function f)) = None
+
+abbrev pub name_operand : Bool → Option Declared → Option Operand
+name_operand reserved d = if reserved then None else operand_of_name d
 
 -- constants are worked out exactly, all else is worked out when the program runs
 abbrev pub prefixed : UnOp → Operand → Option Operand
@@ -84,24 +96,9 @@ abbrev pub combined : Pos → BinOp → Operand → Operand → Option Operand
 combined at op (untyped y) (untyped z) = constant_of (folded op (Int y) (Int z))
 combined at op a b = both_ints at op (as_int a) (as_int b)
 
--- whether a statement may declare this name
-abbrev pub may_declare : Scope → List ℕ → Bool
-may_declare s n = not (is_reserved n) && not (is_here s n)
-
--- a variable whose value has no type is declared all the same, without one
-abbrev pub declared_by : Scope → List ℕ → Pos → Option Ex → Scope
-declared_by s n at (Some x) = with_site (with_declaration s n (Variable (record { 0 = length s.sites }))) at
-declared_by s n at None = with_declaration s n Untyped
-
--- the site of a variable with a type
-abbrev pub site_of : Option Declared → Option ℕ
-site_of None = None
-site_of (Some (Variable site)) = Some site.0
-site_of (Some Untyped) = None
-
--- the site that a name stands for
-abbrev pub target : Bool → Option Declared → Option ℕ
-target reserved d = if reserved then None else site_of d
+-- what two operands give together, where both give something
+abbrev pub both : {A B C : Type 0} → (A → B → Option C) → Option A → Option B → Option C
+both k a b = option_and_then (λ x. option_and_then (k x) b) a
 
 abbrev pub compared_ints : Pos → CompareOp → Option Ex → Option Ex → Option Ex
 compared_ints at op (Some x) (Some y) = Some (typed.binary at (compare_of op) x y)
@@ -112,82 +109,138 @@ abbrev pub compared_operands : Pos → CompareOp → Operand → Operand → Opt
 compared_operands at op (untyped y) (untyped z) = Some (constant (bool (compared op y z)))
 compared_operands at op a b = compared_ints at op (as_int a) (as_int b)
 
-abbrev pub assignment_of : Option ℕ → Option Ex → Option St
-assignment_of site x = option_and_then (λ v. option_map (λ y. assign (to (local v here) ∷ []) (more y none)) x) site
+-- ---- where one value is wanted
 
-abbrev pub choice_of : Option Ex → Option Sts → Option Sts → Option St
-choice_of c a b = option_and_then (λ x. option_and_then (λ y. option_map (choose x y) b) a) c
+abbrev pub single : Gives → Option Operand
+single (one x) = Some x
+single (called at n f es) = if n == 1 then Some (value (typed.call f es)) else None
+single (printed at ps) = None
 
-abbrev pub loop_of : Option (Option Ex) → Option Sts → Option St
-loop_of c body = option_and_then (λ x. option_map (loop [] x done) body) c
+abbrev pub operand_in : Option Gives → Option Operand
+operand_in o = option_and_then single o
+
+abbrev pub int_in : Option Gives → Option Ex
+int_in o = option_and_then as_int (operand_in o)
+
+-- ---- expressions side by side: the first byte of each, and what it gives
+
+pub record Seen : Type 0 where
+  pub at : Pos
+  pub gives : Option Gives
+
+-- one int of each
+abbrev pub ints : List Seen → Option (List Ex)
+ints [] = Some []
+ints (o ∷ os) = option_and_then (λ x. option_map (λ xs. x ∷ xs) (ints os)) (int_in o.gives)
+
+-- each gives one value
+abbrev pub are_single : List Seen → Bool
+are_single [] = true
+are_single (o ∷ os) = is_some (operand_in o.gives) && are_single os
+
+-- a call that stands alone may give more than one value: how many, the function's number, and the arguments
+pub record Many : Type 0 where
+  pub count : ℕ
+  pub function : ℕ
+  pub arguments : Exs
+
+abbrev pub many_in : Option Gives → Option Many
+many_in None = None
+many_in (Some (one x)) = None
+many_in (Some (called at n f es)) = if nat_le 2 n then Some (record { count = n; function = f; arguments = es }) else None
+many_in (Some (printed at ps)) = None
+
+abbrev pub many : List Seen → Option Many
+many [] = None
+many (o ∷ []) = many_in o.gives
+many (o ∷ p ∷ os) = None
+
+-- how many values there are, where all give some
+abbrev pub count_of : List Seen → Option Many → Option ℕ
+count_of os None = if are_single os then Some (length os) else None
+count_of os (Some m) = Some m.count
+
+abbrev pub count : List Seen → Option ℕ
+count os = count_of os (many os)
+
+abbrev pub each : List Ex → Exs
+each [] = none
+each (x ∷ xs) = more x (each xs)
+
+-- the values at so many places for ints
+abbrev pub taken_of : ℕ → List Seen → Option Many → Option Exs
+taken_of n os None = if length os == n then option_map each (ints os) else None
+taken_of n os (Some m) = if m.count == n then Some (results m.function m.arguments) else None
+
+abbrev pub taken : ℕ → List Seen → Option Exs
+taken n os = taken_of n os (many os)
+
+-- ---- calls
+
+-- what is called: `println`, a function by its number with the numbers of its parameters and results, a value that is no function, or
+-- what has no type
+pub data Callee : Type 0 where
+  printer : Callee
+  function : ℕ → (params results : ℕ) → Callee
+  no_function : Callee
+  nothing : Callee
+
+abbrev pub function_with : ℕ → Option Signature → Callee
+function_with f None = nothing
+function_with f (Some sig) = function f (length sig.params) (length sig.results)
+
+abbrev pub callee_declared : Scope → Option Declared → Callee
+callee_declared s None = nothing
+callee_declared s (Some (Variable site)) = no_function
+callee_declared s (Some Untyped) = nothing
+callee_declared s (Some (Function f)) = function_with f.0 (signature s f.0)
+
+abbrev pub callee_named : Scope → List ℕ → Callee
+callee_named s n = if is_println n then printer else (if is_reserved n then nothing else callee_declared s (declaration s n))
+
+abbrev pub callee_value : Option Operand → Callee
+callee_value None = nothing
+callee_value (Some x) = no_function
+
+abbrev pub called_with : Pos → Callee → List Seen → Option Gives
+called_with at printer os = option_map (λ xs. printed at (map shown xs)) (ints os)
+called_with at (function f params wanted) os = option_map (λ es. called at wanted f es) (taken params os)
+called_with at no_function os = None
+called_with at nothing os = None
+
+-- the name that an expression is, in parentheses or not
+abbrev pub name_in : TreeEx → Option Name
+name_in (number at n) = None
+name_in (name n) = Some n
+name_in (unary at op e) = None
+name_in (binary op a b) = None
+name_in (paren at e) = name_in e
+name_in (call f es) = None
 
 module _ (text : List ℕ) where
+  -- what a name stands for where it is called, or else an expression that gives this
+  abbrev pub callee : Scope → Option Name → Option Gives → Callee
+  callee s None o = callee_value (operand_in o)
+  callee s (Some n) o = callee_named s (spelled text n)
+
   -- what an expression gives in a scope, where no rule fails in it
-  abbrev pub operand : Scope → TreeEx → Option Operand
-  operand s (number at n) = if nat_lt n (2 ^ 127) then Some (untyped (pos n)) else None
-  operand s (name n) = if is_reserved (spelled text n) then None else operand_of_name (declaration s (spelled text n))
-  operand s (unary at op e) = option_and_then (prefixed op) (operand s e)
-  operand s (binary op a b) = option_and_then (λ x. option_and_then (combined (first_place a) op x) (operand s b)) (operand s a)
-  operand s (paren at e) = operand s e
+  abbrev mutual
+    pub gives : Scope → TreeEx → Option Gives
+    gives s (number at n) = if nat_lt n (2 ^ 127) then Some (one (untyped (pos n))) else None
+    gives s (name n) = option_map one (name_operand (is_reserved (spelled text n)) (declaration s (spelled text n)))
+    gives s (unary at op e) = option_map one (option_and_then (prefixed op) (operand_in (gives s e)))
+    gives s (binary op a b) = option_map one (both (combined (first_place a) op) (operand_in (gives s a)) (operand_in (gives s b)))
+    gives s (paren at e) = gives s e
+    gives s (call f es) = called_with (first_place f) (callee s (name_in f) (gives s f)) (seen s es)
 
-  -- the int that an expression gives where an int is wanted
-  abbrev pub int_of : Scope → TreeEx → Option Ex
-  int_of s e = option_and_then as_int (operand s e)
-
-  -- operands of `println`
-  abbrev pub pieces : Scope → List TreeEx → Option (List Piece)
-  pieces s [] = Some []
-  pieces s (e ∷ es) = option_and_then (λ x. option_map (λ ps. shown x ∷ ps) (pieces s es)) (int_of s e)
+    pub seen : Scope → TreeExs → List Seen
+    seen s tree.none = []
+    seen s (some e es) = record { at = first_place e; gives = gives s e } ∷ seen s es
 
   abbrev pub condition : Scope → Condition → Option Ex
-  condition s (tree.compare op a b) = option_and_then (λ x. option_and_then (compared_operands (first_place a) op x) (operand s b)) (operand s a)
+  condition s (tree.compare op a b) = both (compared_operands (first_place a) op) (operand_in (gives s a)) (operand_in (gives s b))
 
   -- a condition, where there is one
   abbrev pub test : Scope → Option Condition → Option (Option Ex)
   test s None = Some None
   test s (Some c) = option_map Some (condition s c)
-
-  -- ---- the scope behind a statement
-
-  abbrev mutual
-    pub behind : Scope → Stm → Scope
-    behind s (tree.define n at e) = if may_declare s (spelled text n) then declared_by s (spelled text n) n.pos (int_of s e) else s
-    behind s (tree.assign n at e) = s
-    behind s (tree.print at es) = s
-    behind s (tree.choice at c body rest) = behind_else (closed (behind_all (opened s) body)) rest
-    behind s (tree.loop at c body) = closed (behind_all (opened s) body)
-    behind s (tree.block ms) = closed (behind_all (opened s) ms)
-
-    pub behind_else : Scope → Els → Scope
-    behind_else s tree.no_else = s
-    behind_else s (tree.else_block ms) = closed (behind_all (opened s) ms)
-    behind_else s (tree.else_if at c body rest) = behind_else (closed (behind_all (opened s) body)) rest
-
-    pub behind_all : Scope → Stms → Scope
-    behind_all s tree.nil = s
-    behind_all s (tree.cons m ms) = behind_all (behind s m) ms
-
-  -- ---- the typed forms
-
-  abbrev pub declaration_of : Scope → Name → Option Ex → Option St
-  declaration_of s n x = if may_declare s (spelled text n) then option_map (λ y. assign (new (length s.sites) ∷ []) (more y none)) x else None
-
-  abbrev mutual
-    pub statement : Scope → Stm → Option St
-    statement s (tree.define n at e) = declaration_of s n (int_of s e)
-    statement s (tree.assign n at e) = assignment_of (target (is_reserved (spelled text n)) (declaration s (spelled text n))) (int_of s e)
-    statement s (tree.print at es) = option_map (print true) (pieces s es)
-    statement s (tree.choice at c body rest) = choice_of (condition s c) (statements (opened s) body) (alternative (closed (behind_all (opened s) body)) rest)
-    statement s (tree.loop at c body) = loop_of (test s c) (statements (opened s) body)
-    statement s (tree.block ms) = option_map block (statements (opened s) ms)
-
-    -- what is done where the condition is false
-    pub alternative : Scope → Els → Option Sts
-    alternative s tree.no_else = Some done
-    alternative s (tree.else_block ms) = statements (opened s) ms
-    alternative s (tree.else_if at c body rest) =
-        option_map (λ t. next t done) (choice_of (condition s c) (statements (opened s) body) (alternative (closed (behind_all (opened s) body)) rest))
-
-    pub statements : Scope → Stms → Option Sts
-    statements s tree.nil = Some done
-    statements s (tree.cons m ms) = option_and_then (λ t. option_map (next t) (statements (behind s m) ms)) (statement s m)

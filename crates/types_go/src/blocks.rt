@@ -7,16 +7,16 @@ ghost use Rattle.typed.specs.Syntax.{block, done, next};
 ghost use Rattle.typed.specs.View.{ex_of, test_of, st_of, sts_of};
 ghost use Rattle.types_go.specs.Least.{IsLeast, lesser};
 ghost use Rattle.types_go.specs.Scope.{scope_of, opened, closed};
-ghost use Rattle.types_go.specs.Typing.{statement, alternative, statements, choice_of, loop_of, behind, behind_else, behind_all};
-ghost use Rattle.types_go.specs.Faults.{FailsInStatement, FailsInElse, FailsInStatements};
+ghost use Rattle.types_go.specs.Statements.{statement, alternative, statements, choice_of, loop_of, behind, behind_else, behind_all};
+ghost use Rattle.types_go.specs.StatementFaults.{FailsInStatement, FailsInElse, FailsInStatements};
 ghost use Rattle.types_go.specs.Passing.{with_last};
 
 use crate::conditions::{Condition, Test, check_cond, check_test};
 use crate::fault::{Fault, lesser};
 use crate::scope::{Scope, close, open};
-use crate::statements::{Line, check_assign, check_define, check_print};
+use crate::statements::{Line, Returns, check_assign, check_define, check_express, check_return};
 use base::NoMemory;
-use parse_go::{Cond, Else, Stmt};
+use parse_go::{Else, Stmt};
 use std::alloc::Global;
 
 /// What is known of statements: their typed forms, where all have one, and the fault that is reported of them.
@@ -94,30 +94,41 @@ fn alone(alloc: Global, line: Line) -> Result<Lines, NoMemory>
 
 /// A statement. The scope becomes the one behind it.
 #[cycle(statements)]
-#[tactic(auto, using(parse_go::proofs::Rows::stmt_rows))]
-fn check_stmt(alloc: Global, text: &[u8], scope: &mut Scope, s: &Stmt) -> Result<Line, NoMemory>
+#[tactic(auto, using(crate::proofs::TreeRows::stmt_rows))]
+fn check_stmt(
+    alloc: Global,
+    text: &[u8],
+    returns: Returns,
+    scope: &mut Scope,
+    s: &Stmt,
+) -> Result<Line, NoMemory>
     requires { 0 < length scope.old.names }
-    ensures statement { IfOk result (λ c. option_map st_of c.statement ≡ statement text.now (scope_of scope.old) (stm_of s.now)) }
-    ensures fault { IfOk result (λ c. IsLeast (FailsInStatement text.now (scope_of scope.old) (stm_of s.now)) c.fault) }
+    ensures statement { IfOk result (λ c. option_map st_of c.statement ≡ statement text.now returns (scope_of scope.old) (stm_of s.now)) }
+    ensures fault { IfOk result (λ c. IsLeast (FailsInStatement text.now returns (scope_of scope.old) (stm_of s.now)) c.fault) }
     ensures scope { OnOk result (scope_of scope.new ≡ behind text.now (scope_of scope.old) (stm_of s.now)) }
 {
     match s {
-        Stmt::Define(name, pos, e) => check_define(alloc, text, scope, *name, *pos, e),
-        Stmt::Assign(name, pos, e) => check_assign(alloc, text, scope, *name, *pos, e),
-        Stmt::Print(pos, es) => check_print(alloc, text, scope, *pos, es),
+        Stmt::Define(names, pos, es) => {
+            check_define(alloc, text, returns, scope, names, *pos, es)
+        }
+        Stmt::Assign(names, pos, es) => {
+            check_assign(alloc, text, returns, scope, names, *pos, es)
+        }
+        Stmt::Express(e) => check_express(alloc, text, returns, scope, e),
+        Stmt::Return(pos, es) => check_return(alloc, text, returns, scope, *pos, es),
         Stmt::If(_, c, body, rest) => {
             let test = check_cond(alloc, text, scope, c)?;
-            let body = check_inner(alloc, text, scope, body)?;
-            let rest = check_else(alloc, text, scope, rest)?;
+            let body = check_inner(alloc, text, returns, scope, body)?;
+            let rest = check_else(alloc, text, returns, scope, rest)?;
             Ok(choice(test, body, rest))
         }
         Stmt::For(_, c, body) => {
             let test = check_test(alloc, text, scope, c)?;
-            let body = check_inner(alloc, text, scope, body)?;
+            let body = check_inner(alloc, text, returns, scope, body)?;
             Ok(repeated(test, body))
         }
         Stmt::Block(body) => {
-            let body = check_inner(alloc, text, scope, body)?;
+            let body = check_inner(alloc, text, returns, scope, body)?;
             Ok(as_block(body))
         }
     }
@@ -125,11 +136,17 @@ fn check_stmt(alloc: Global, text: &[u8], scope: &mut Scope, s: &Stmt) -> Result
 
 /// What stands behind the body of an `if`.
 #[cycle(statements)]
-#[tactic(auto, using(parse_go::proofs::Rows::stmt_rows))]
-fn check_else(alloc: Global, text: &[u8], scope: &mut Scope, e: &Else) -> Result<Lines, NoMemory>
+#[tactic(auto, using(crate::proofs::TreeRows::stmt_rows))]
+fn check_else(
+    alloc: Global,
+    text: &[u8],
+    returns: Returns,
+    scope: &mut Scope,
+    e: &Else,
+) -> Result<Lines, NoMemory>
     requires { 0 < length scope.old.names }
-    ensures statements { IfOk result (λ c. option_map (λ v. sts_of v.items) c.statements ≡ alternative text.now (scope_of scope.old) (els_of e.now)) }
-    ensures fault { IfOk result (λ c. IsLeast (FailsInElse text.now (scope_of scope.old) (els_of e.now)) c.fault) }
+    ensures statements { IfOk result (λ c. option_map (λ v. sts_of v.items) c.statements ≡ alternative text.now returns (scope_of scope.old) (els_of e.now)) }
+    ensures fault { IfOk result (λ c. IsLeast (FailsInElse text.now returns (scope_of scope.old) (els_of e.now)) c.fault) }
     ensures scope { OnOk result (scope_of scope.new ≡ behind_else text.now (scope_of scope.old) (els_of e.now)) }
 {
     match e {
@@ -137,12 +154,12 @@ fn check_else(alloc: Global, text: &[u8], scope: &mut Scope, e: &Else) -> Result
             statements: Some(Vec::new(alloc)),
             fault: None,
         }),
-        Else::Block(body) => check_inner(alloc, text, scope, body),
+        Else::Block(body) => check_inner(alloc, text, returns, scope, body),
         Else::If(_, c, body, rest) => {
             let rest: &Else = rest;
             let test = check_cond(alloc, text, scope, c)?;
-            let body = check_inner(alloc, text, scope, body)?;
-            let rest = check_else(alloc, text, scope, rest)?;
+            let body = check_inner(alloc, text, returns, scope, body)?;
+            let rest = check_else(alloc, text, returns, scope, rest)?;
             alone(alloc, choice(test, body, rest))
         }
     }
@@ -153,16 +170,17 @@ fn check_else(alloc: Global, text: &[u8], scope: &mut Scope, e: &Else) -> Result
 fn check_inner(
     alloc: Global,
     text: &[u8],
+    returns: Returns,
     scope: &mut Scope,
     ms: &[Stmt],
 ) -> Result<Lines, NoMemory>
     requires { 0 < length scope.old.names }
-    ensures statements { IfOk result (λ c. option_map (λ v. sts_of v.items) c.statements ≡ statements text.now (opened (scope_of scope.old)) (stms_of ms.now)) }
-    ensures fault { IfOk result (λ c. IsLeast (FailsInStatements text.now (opened (scope_of scope.old)) (stms_of ms.now)) c.fault) }
+    ensures statements { IfOk result (λ c. option_map (λ v. sts_of v.items) c.statements ≡ statements text.now returns (opened (scope_of scope.old)) (stms_of ms.now)) }
+    ensures fault { IfOk result (λ c. IsLeast (FailsInStatements text.now returns (opened (scope_of scope.old)) (stms_of ms.now)) c.fault) }
     ensures scope { OnOk result (scope_of scope.new ≡ closed (behind_all text.now (opened (scope_of scope.old)) (stms_of ms.now))) }
 {
     open(scope)?;
-    let lines = check_stmts(alloc, text, scope, ms)?;
+    let lines = check_stmts(alloc, text, returns, scope, ms)?;
     close(scope);
     Ok(lines)
 }
@@ -172,18 +190,19 @@ fn check_inner(
 pub fn check_stmts(
     alloc: Global,
     text: &[u8],
+    returns: Returns,
     scope: &mut Scope,
     ms: &[Stmt],
 ) -> Result<Lines, NoMemory>
     requires { 0 < length scope.old.names }
-    ensures statements { IfOk result (λ c. option_map (λ v. sts_of v.items) c.statements ≡ statements text.now (scope_of scope.old) (stms_of ms.now)) }
-    ensures fault { IfOk result (λ c. IsLeast (FailsInStatements text.now (scope_of scope.old) (stms_of ms.now)) c.fault) }
+    ensures statements { IfOk result (λ c. option_map (λ v. sts_of v.items) c.statements ≡ statements text.now returns (scope_of scope.old) (stms_of ms.now)) }
+    ensures fault { IfOk result (λ c. IsLeast (FailsInStatements text.now returns (scope_of scope.old) (stms_of ms.now)) c.fault) }
     ensures scope { OnOk result (scope_of scope.new ≡ behind_all text.now (scope_of scope.old) (stms_of ms.now)) }
 {
     let mut statements = Some(Vec::new(alloc));
     let mut fault = None;
     for s in ms {
-        let line = check_stmt(alloc, text, scope, s)?;
+        let line = check_stmt(alloc, text, returns, scope, s)?;
         statements = with_statement(statements, line.statement)?;
         fault = lesser(fault, line.fault);
     }

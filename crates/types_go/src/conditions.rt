@@ -6,11 +6,11 @@ ghost use Rattle.parse_go.specs.Tree.{condition_of, condition_in};
 ghost use Rattle.typed.specs.View.{ex_of, test_of};
 ghost use Rattle.types_go.specs.Least.{IsLeast};
 ghost use Rattle.types_go.specs.Scope.{scope_of};
-ghost use Rattle.types_go.specs.Typing.{as_int, compare_of, compared_ints, compared_operands, condition, test};
+ghost use Rattle.types_go.specs.Typing.{as_int, compare_of, both, compared_ints, compared_operands, condition, test};
 ghost use Rattle.types_go.specs.Faults.{FailsInCondition, FailsInTest};
-ghost use Rattle.types_go.specs.Passing.{operand_of, comparison_of, comparison_fault};
+ghost use Rattle.types_go.specs.Passing.{operand_of, comparison_fault};
 
-use crate::expressions::check_expr;
+use crate::expressions::check_single;
 use crate::fault::{Fault, lesser};
 use crate::operand::{Operand, as_int, range_fault};
 use crate::scope::Scope;
@@ -98,7 +98,7 @@ fn comparison(
     left: Option<Operand>,
     right: Option<Operand>,
 ) -> Result<Condition, NoMemory>
-    ensures value { IfOk result (λ c. option_map ex_of c.value ≡ comparison_of pos op (option_map operand_of left) (option_map operand_of right)) }
+    ensures value { IfOk result (λ c. option_map ex_of c.value ≡ both (compared_operands pos op) (option_map operand_of left) (option_map operand_of right)) }
     ensures fault { IfOk result (λ c. c.fault ≡ comparison_fault pos right_pos (option_map operand_of left) (option_map operand_of right)) }
 {
     match (left, right) {
@@ -124,8 +124,8 @@ pub fn check_cond(
     ensures value { IfOk result (λ r. option_map ex_of r.value ≡ condition text.now (scope_of scope.now) (condition_of c.now)) }
     ensures fault { IfOk result (λ r. IsLeast (FailsInCondition text.now (scope_of scope.now) (condition_of c.now)) r.fault) }
 {
-    let left = check_expr(alloc, text, scope, &c.left)?;
-    let right = check_expr(alloc, text, scope, &c.right)?;
+    let left = check_single(alloc, text, scope, &c.left)?;
+    let right = check_single(alloc, text, scope, &c.right)?;
     let own = comparison(
         alloc,
         c.op,

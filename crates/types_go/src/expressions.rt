@@ -3,42 +3,56 @@
 ghost use Rattle.std.specs.Prelude.{◌≡◌, ◌<◌, ◌^◌, Option, Some, None, option_and_then, IfOk, pos};
 ghost use Rattle.std.specs.Option.{option_map};
 ghost use Rattle.parse_go.specs.FirstBytes.{first_place};
-ghost use Rattle.parse_go.specs.Tree.{ex_of as tree_of, name as name_of, spelled};
+ghost use Rattle.parse_go.specs.Tree.{ex_of as tree_of, exs_of as trees_of};
 ghost use Rattle.typed.specs.View.{ex_of};
-ghost use Rattle.types_go.specs.Least.{IsLeast, lesser};
-ghost use Rattle.types_go.specs.Scope.{scope_of, declaration};
-ghost use Rattle.types_go.specs.Profile.{is_reserved};
-ghost use Rattle.types_go.specs.Typing.{operand, op_of, prefix_of, prefixed, as_int, constant_of, combined, both_ints};
-ghost use Rattle.types_go.specs.Faults.{Fails, FailsAsInt};
-ghost use Rattle.types_go.specs.Passing.{operand_of, prefix_fault, pair_fault, pair_of, literal_operand, literal_fault, name_operand, name_fault, overflow_fault, int_fault};
+ghost use Rattle.types_go.specs.Least.{IsLeast};
+ghost use Rattle.types_go.specs.Scope.{scope_of};
+ghost use Rattle.types_go.specs.Typing.{op_of, prefix_of, prefixed, as_int, constant_of, both, combined, both_ints, operand_in, name_in, callee, gives, seen};
+ghost use Rattle.types_go.specs.Faults.{Fails, FailsInEach, FailsAsOperand, CalleeFails};
+ghost use Rattle.types_go.specs.Passing.{operand_of, gives_of, seens, callee_of, prefix_fault, pair_fault, literal_operand, literal_fault, overflow_fault};
 
+use crate::calls::{
+    call_fault, call_value, callee_name_fault, callee_named, callee_value, name_in,
+};
 use crate::fault::{Fault, FaultKind, lesser};
-use crate::operand::{Operand, as_int, int_fault, range_fault};
-use crate::profile::is_reserved;
-use crate::scope::{Declared, Scope, declaration};
+use crate::naming::{name_fault, name_value};
+use crate::operand::{
+    Callee, Gives, Item, Operand, as_int, one_operand, range_fault, single_fault,
+};
+use crate::scope::Scope;
 use base::{NoMemory, Pos};
 use names::{Const, ConstFault, fold, fold_one};
-use parse_go::{BinOp, Expr, Name, UnOp};
+use parse_go::{BinOp, Expr, UnOp};
 use std::alloc::Global;
 
 /// What is known of an expression: its first byte, what it gives, and the fault that is reported of it.
 #[derive(Drop)]
 pub struct Checked {
     pub pos: Pos,
+    pub gives: Option<Gives>,
+    pub fault: Option<Fault>,
+}
+
+/// What is known of an expression with one value.
+#[derive(Drop)]
+pub struct Single {
+    pub pos: Pos,
     pub operand: Option<Operand>,
     pub fault: Option<Fault>,
 }
 
-/// The bytes of a name.
-pub fn spelled(text: &[u8], name: Name) -> &[u8]
-    ensures { result.now ≡ spelled text.now name }
-{
-    let start = text.len().min(name.pos.offset as usize);
-    let rest = &text[start..];
-    let long = rest
-        .len()
-        .min(name.end.saturating_sub(name.pos.offset) as usize);
-    &rest[..long]
+/// What is known of expressions side by side.
+#[derive(Drop)]
+pub struct Listed {
+    pub items: Vec<Item>,
+    pub fault: Option<Fault>,
+}
+
+/// What is known of what is called.
+#[derive(Drop)]
+struct Called {
+    callee: Callee,
+    fault: Option<Fault>,
 }
 
 fn op_of(op: BinOp) -> typed::BinOp
@@ -59,20 +73,22 @@ fn prefix_of(op: UnOp) -> typed::UnOp
     }
 }
 
+/// A number.
+#[tactic(auto, using(crate::proofs::Leaves::literal_least))]
 fn literal(pos: Pos, number: u128) -> Checked
     ensures pos { result.pos ≡ pos }
-    ensures operand { option_map operand_of result.operand ≡ literal_operand number }
+    ensures gives { option_map gives_of result.gives ≡ literal_operand number }
     ensures fault { result.fault ≡ literal_fault pos number }
 {
     match i128::try_from(number) {
         Ok(value) => Checked {
             pos,
-            operand: Some(Operand::Untyped(value)),
+            gives: Some(Gives::One(Operand::Untyped(value))),
             fault: None,
         },
         Err(_) => Checked {
             pos,
-            operand: None,
+            gives: None,
             fault: Some(Fault {
                 kind: FaultKind::ConstRange,
                 pos,
@@ -81,45 +97,8 @@ fn literal(pos: Pos, number: u128) -> Checked
     }
 }
 
-/// What is known of a name.
-pub fn variable(text: &[u8], scope: &Scope, name: Name) -> Checked
-    ensures pos { result.pos ≡ name.pos }
-    ensures operand { option_map operand_of result.operand ≡ name_operand (is_reserved (spelled text.now name)) (declaration (scope_of scope.now) (spelled text.now name)) }
-    ensures fault { result.fault ≡ name_fault name.pos (is_reserved (spelled text.now name)) (declaration (scope_of scope.now) (spelled text.now name)) }
-    ensures least { IsLeast (Fails text.now (scope_of scope.now) (name_of name)) result.fault }
-{
-    let pos = name.pos;
-    let bytes = spelled(text, name);
-    let kind = if is_reserved(bytes) {
-        FaultKind::OutOfProfile
-    } else {
-        match declaration(scope, bytes) {
-            Some(Declared::Variable(site)) => {
-                return Checked {
-                    pos,
-                    operand: Some(Operand::Value(typed::Expr::Local(site))),
-                    fault: None,
-                };
-            }
-            Some(Declared::Untyped) => {
-                return Checked {
-                    pos,
-                    operand: None,
-                    fault: None,
-                };
-            }
-            None => FaultKind::Unknown,
-        }
-    };
-    Checked {
-        pos,
-        operand: None,
-        fault: Some(Fault { kind, pos }),
-    }
-}
-
 /// What a constant that was worked out gives: nothing where it leaves 128 bits.
-fn constant(pos: Pos, value: Result<Const, ConstFault>) -> Checked
+fn constant(pos: Pos, value: Result<Const, ConstFault>) -> Single
     ensures pos { result.pos ≡ pos }
     ensures operand { option_map operand_of result.operand ≡ constant_of value }
     ensures fault { result.fault ≡ overflow_fault pos value }
@@ -135,7 +114,7 @@ fn constant(pos: Pos, value: Result<Const, ConstFault>) -> Checked
         ),
         _ => (None, None),
     };
-    Checked {
+    Single {
         pos,
         operand,
         fault,
@@ -148,13 +127,13 @@ fn under_prefix(
     pos: Pos,
     op: UnOp,
     operand: Option<Operand>,
-) -> Result<Checked, NoMemory>
+) -> Result<Single, NoMemory>
     ensures pos { IfOk result (λ c. c.pos ≡ pos) }
     ensures operand { IfOk result (λ c. option_map operand_of c.operand ≡ option_and_then (prefixed op) (option_map operand_of operand)) }
     ensures fault { IfOk result (λ c. c.fault ≡ prefix_fault pos op (option_map operand_of operand)) }
 {
     match operand {
-        None => Ok(Checked {
+        None => Ok(Single {
             pos,
             operand: None,
             fault: None,
@@ -162,7 +141,7 @@ fn under_prefix(
         Some(Operand::Untyped(value)) => Ok(constant(pos, fold_one(op, Const::Int(value)))),
         Some(Operand::Value(e)) => {
             let e = Box::new(alloc, e)?;
-            Ok(Checked {
+            Ok(Single {
                 pos,
                 operand: Some(Operand::Value(typed::Expr::Unary(prefix_of(op), e))),
                 fault: None,
@@ -232,22 +211,22 @@ fn pair(
     right_pos: Pos,
     left: Option<Operand>,
     right: Option<Operand>,
-) -> Result<Checked, NoMemory>
+) -> Result<Single, NoMemory>
     ensures pos { IfOk result (λ c. c.pos ≡ pos) }
-    ensures operand { IfOk result (λ c. option_map operand_of c.operand ≡ pair_of pos op (option_map operand_of left) (option_map operand_of right)) }
+    ensures operand { IfOk result (λ c. option_map operand_of c.operand ≡ both (combined pos op) (option_map operand_of left) (option_map operand_of right)) }
     ensures fault { IfOk result (λ c. c.fault ≡ pair_fault pos right_pos op (option_map operand_of left) (option_map operand_of right)) }
 {
     match (left, right) {
         (Some(a), Some(b)) => {
             let fault = between(op, pos, right_pos, &a, &b);
             let operand = combined(alloc, op, pos, a, b)?;
-            Ok(Checked {
+            Ok(Single {
                 pos,
                 operand,
                 fault,
             })
         }
-        _ => Ok(Checked {
+        _ => Ok(Single {
             pos,
             operand: None,
             fault: None,
@@ -255,38 +234,68 @@ fn pair(
     }
 }
 
+/// A single value of what an expression gives.
+fn as_single(checked: Checked) -> Single
+    ensures pos { result.pos ≡ checked.pos }
+    ensures operand { option_map operand_of result.operand ≡ operand_in (option_map gives_of checked.gives) }
+    ensures fault { result.fault ≡ Rattle.types_go.specs.Least.lesser checked.fault (Rattle.types_go.specs.Passing.single_fault (option_map gives_of checked.gives)) }
+{
+    let Checked { pos, gives, fault } = checked;
+    let own = single_fault(&gives);
+    Single {
+        pos,
+        operand: one_operand(gives),
+        fault: lesser(fault, own),
+    }
+}
+
+fn one(operand: Option<Operand>) -> Option<Gives>
+    ensures { option_map gives_of result ≡ option_map Rattle.types_go.specs.Typing.one (option_map operand_of operand) }
+{
+    match operand {
+        Some(operand) => Some(Gives::One(operand)),
+        None => None,
+    }
+}
+
 /// What is known of an expression in a scope.
+#[cycle(expressions)]
+#[tactic(auto, using(crate::proofs::TreeRows::expr_rows))]
 pub fn check_expr(alloc: Global, text: &[u8], scope: &Scope, e: &Expr) -> Result<Checked, NoMemory>
     ensures pos { IfOk result (λ c. c.pos ≡ first_place (tree_of e.now)) }
 
     // What the rules say that it gives, and nothing where they say so.
-    ensures operand { IfOk result (λ c. option_map operand_of c.operand ≡ operand text.now (scope_of scope.now) (tree_of e.now)) }
+    ensures gives { IfOk result (λ c. option_map gives_of c.gives ≡ gives text.now (scope_of scope.now) (tree_of e.now)) }
 
     // Of the rules that fail in it, the one with the least offset, then the least number.
     ensures fault { IfOk result (λ c. IsLeast (Fails text.now (scope_of scope.now) (tree_of e.now)) c.fault) }
 {
     match e {
         Expr::Int(pos, number) => Ok(literal(*pos, *number)),
-        Expr::Name(name) => Ok(variable(text, scope, *name)),
+        Expr::Name(name) => Ok(Checked {
+            pos: name.pos,
+            gives: name_value(text, scope, *name),
+            fault: name_fault(text, scope, *name),
+        }),
         Expr::Unary(pos, op, inner) => {
             let inner: &Expr = inner;
-            let inner = check_expr(alloc, text, scope, inner)?;
+            let inner = check_single(alloc, text, scope, inner)?;
             let own = under_prefix(alloc, *pos, *op, inner.operand)?;
             Ok(Checked {
                 pos: *pos,
-                operand: own.operand,
+                gives: one(own.operand),
                 fault: lesser(inner.fault, own.fault),
             })
         }
         Expr::Binary(op, left, right) => {
             let left: &Expr = left;
             let right: &Expr = right;
-            let left = check_expr(alloc, text, scope, left)?;
-            let right = check_expr(alloc, text, scope, right)?;
+            let left = check_single(alloc, text, scope, left)?;
+            let right = check_single(alloc, text, scope, right)?;
             let own = pair(alloc, *op, left.pos, right.pos, left.operand, right.operand)?;
             Ok(Checked {
                 pos: left.pos,
-                operand: own.operand,
+                gives: one(own.operand),
                 fault: lesser(lesser(left.fault, right.fault), own.fault),
             })
         }
@@ -295,9 +304,79 @@ pub fn check_expr(alloc: Global, text: &[u8], scope: &Scope, e: &Expr) -> Result
             let inner = check_expr(alloc, text, scope, inner)?;
             Ok(Checked {
                 pos: *pos,
-                operand: inner.operand,
+                gives: inner.gives,
                 fault: inner.fault,
             })
         }
+        Expr::Call(function, arguments) => {
+            let function: &Expr = function;
+            let called = check_callee(alloc, text, scope, function)?;
+            let listed = check_list(alloc, text, scope, arguments)?;
+            let pos = function.pos();
+            let own = call_fault(pos, called.callee, &listed.items);
+            let gives = call_value(alloc, pos, called.callee, listed.items)?;
+            Ok(Checked {
+                pos,
+                gives,
+                fault: lesser(lesser(called.fault, listed.fault), own),
+            })
+        }
     }
+}
+
+/// What is called.
+#[cycle(expressions)]
+fn check_callee(alloc: Global, text: &[u8], scope: &Scope, e: &Expr) -> Result<Called, NoMemory>
+    ensures callee { IfOk result (λ c. callee_of c.callee ≡ callee text.now (scope_of scope.now) (name_in (tree_of e.now)) (gives text.now (scope_of scope.now) (tree_of e.now))) }
+    ensures fault { IfOk result (λ c. IsLeast (CalleeFails text.now (scope_of scope.now) (name_in (tree_of e.now)) (λ f. Fails text.now (scope_of scope.now) (tree_of e.now) f) (gives text.now (scope_of scope.now) (tree_of e.now))) c.fault) }
+{
+    match name_in(e) {
+        Some(name) => Ok(Called {
+            callee: callee_named(text, scope, name),
+            fault: callee_name_fault(text, scope, name),
+        }),
+        None => {
+            let checked = check_single(alloc, text, scope, e)?;
+            Ok(Called {
+                callee: callee_value(&checked.operand),
+                fault: checked.fault,
+            })
+        }
+    }
+}
+
+/// An expression with one value.
+#[cycle(expressions)]
+pub fn check_single(alloc: Global, text: &[u8], scope: &Scope, e: &Expr) -> Result<Single, NoMemory>
+    ensures pos { IfOk result (λ c. c.pos ≡ first_place (tree_of e.now)) }
+    ensures operand { IfOk result (λ c. option_map operand_of c.operand ≡ operand_in (gives text.now (scope_of scope.now) (tree_of e.now))) }
+    ensures fault { IfOk result (λ c. IsLeast (FailsAsOperand text.now (scope_of scope.now) (tree_of e.now)) c.fault) }
+{
+    let checked = check_expr(alloc, text, scope, e)?;
+    Ok(as_single(checked))
+}
+
+/// Expressions side by side.
+#[cycle(expressions)]
+pub fn check_list(
+    alloc: Global,
+    text: &[u8],
+    scope: &Scope,
+    es: &[Expr],
+) -> Result<Listed, NoMemory>
+    ensures seen { IfOk result (λ l. seens l.items.items ≡ seen text.now (scope_of scope.now) (trees_of es.now)) }
+    ensures fault { IfOk result (λ l. IsLeast (FailsInEach text.now (scope_of scope.now) (trees_of es.now)) l.fault) }
+{
+    let mut items = Vec::new(alloc);
+    let mut fault = None;
+    for e in es {
+        let Checked {
+            pos,
+            gives,
+            fault: own,
+        } = check_expr(alloc, text, scope, e)?;
+        items.push(Item { pos, gives })?;
+        fault = lesser(fault, own);
+    }
+    Ok(Listed { items, fault })
 }

@@ -13,12 +13,32 @@ use thiserror::Error;
 pub enum FaultKind {
     /// A name that is not declared.
     Unknown,
+    /// A name that its block, or the same statement, declares already.
+    Redeclared,
     /// A `:=` that declares no new variable.
     NothingNew,
+    /// A left side that is no variable.
+    NotAssignable,
+    /// A call of what is no function.
+    NotCallable,
+    /// Another number of arguments than the function takes, or of values than there are left sides.
+    ArgCount,
+    /// A call that has another number of values than are wanted, or a `return` with another number than the function gives.
+    ResultCount,
+    /// A value alone, which is no statement.
+    NotUsedValue,
+    /// A function with results that may end without a `return`.
+    MissingReturn,
     /// A constant that an int cannot hold, or that leaves 128 bits.
     ConstRange,
+    /// A name at the place of a type that is none.
+    BadOperand,
+    /// A package other than `main`, or one without a function `main` that has no parameters and results.
+    NoMain,
     /// A form or a name of Go that the profile leaves out.
     OutOfProfile,
+    /// More functions than 4,096, or one with more than 65,535 words of arguments and results.
+    TooLarge,
 }
 
 impl FaultKind {
@@ -28,9 +48,19 @@ impl FaultKind {
     {
         match self {
             FaultKind::Unknown => 1,
+            FaultKind::Redeclared => 2,
             FaultKind::NothingNew => 3,
+            FaultKind::NotAssignable => 6,
+            FaultKind::NotCallable => 7,
+            FaultKind::ArgCount => 8,
+            FaultKind::ResultCount => 9,
+            FaultKind::NotUsedValue => 10,
+            FaultKind::MissingReturn => 11,
             FaultKind::ConstRange => 12,
+            FaultKind::BadOperand => 14,
+            FaultKind::NoMain => 18,
             FaultKind::OutOfProfile => 20,
+            FaultKind::TooLarge => 21,
         }
     }
 }

@@ -1,29 +1,46 @@
 //! What names stand for.
 
-ghost use Rattle.std.specs.Prelude.{◌≡◌, ◌<◌, length, OnOk, IfOk};
-ghost use Rattle.types_go.specs.Scope.{scope_of, declaration, is_here, beginning, with_declaration, with_site, opened, closed};
-ghost use Rattle.types_go.specs.declared.scope.Declared.TheVariants.{Variable};
+ghost use Rattle.std.specs.Prelude.{◌≡◌, ◌<◌, length, OnOk, IfOk, Option, None, Some, if◌then◌else◌, ◌+◌};
+ghost use Rattle.std.specs.Option.{option_map};
+ghost use Rattle.types_go.specs.Scope.{scope_of, signature_of, declaration, is_here, signature, beginning, with_declaration, with_variable, with_signature, opened, closed};
 
-use base::{NoMemory, Pos, SiteId};
+use base::{FuncId, NoMemory, Pos, SiteId};
 use names::Block;
 use std::alloc::Global;
 use typed::Site;
+
+/// A type of this part.
+#[derive(Clone, Copy, Debug, PartialEq, Eq)]
+pub enum ValueType {
+    Int,
+}
+
+/// The types of a function's parameters and of its results.
+#[derive(Drop)]
+pub struct Signature {
+    pub params: Vec<ValueType>,
+    pub results: Vec<ValueType>,
+}
 
 /// What a name stands for.
 #[derive(Clone, Copy, Debug, PartialEq, Eq)]
 pub enum Declared {
     /// A variable of type int.
     Variable(SiteId),
-    /// A variable whose value has no type.
+    /// A variable whose value or type has no type.
     Untyped,
+    /// A function of the program.
+    Function(FuncId),
 }
 
-/// The declarations that are in scope: the open blocks number them. And the sites of the variables that have a type.
+/// The declarations that are in scope: the open blocks number them. And the sites of the variables that have a type, and the
+/// signature of each function, where it has one.
 #[derive(Drop)]
 pub struct Scope {
     pub names: Block,
     pub declared: Vec<Declared>,
     pub sites: Vec<Site>,
+    pub signatures: Vec<Option<Signature>>,
 }
 
 /// Where no name is declared.
@@ -34,6 +51,7 @@ pub fn beginning(alloc: Global) -> Scope
         names: Block::new(alloc),
         declared: Vec::new(alloc),
         sites: Vec::new(alloc),
+        signatures: Vec::new(alloc),
     }
 }
 
@@ -64,6 +82,14 @@ pub fn declare(scope: &mut Scope, name: &[u8], declared: Declared) -> Result<(),
     Ok(())
 }
 
+/// Declares a function with the next number, by its signature if it has one.
+pub fn add_signature(scope: &mut Scope, signature: Option<Signature>) -> Result<(), NoMemory>
+    ensures { OnOk result (scope_of scope.new ≡ with_signature (scope_of scope.old) (option_map signature_of signature)) }
+{
+    scope.signatures.push(signature)?;
+    Ok(())
+}
+
 /// Opens a block.
 pub fn open(scope: &mut Scope) -> Result<(), NoMemory>
     ensures { OnOk result (scope_of scope.new ≡ opened (scope_of scope.old)) }
@@ -79,16 +105,51 @@ pub fn close(scope: &mut Scope)
     scope.names.close();
 }
 
-/// Declares a variable with a type, which has a site of its own.
-pub fn declare_variable(scope: &mut Scope, name: &[u8], pos: Pos) -> Result<SiteId, NoMemory>
-    ensures scope { OnOk result (scope_of scope.new ≡ with_site (with_declaration (scope_of scope.old) name.now (Variable (record { 0 = length (scope_of scope.old).sites }))) pos) }
-    ensures site { IfOk result (λ site. site.0 ≡ length (scope_of scope.old).sites) }
+/// How many sites there are.
+pub fn site_count(scope: &Scope) -> usize
+    ensures { result ≡ length (scope_of scope.now).sites }
 {
-    let Ok(number) = u32::try_from(scope.sites.len()) else {
+    scope.sites.len()
+}
+
+/// The number of the next site.
+pub fn next_site(scope: &Scope) -> Result<SiteId, NoMemory>
+    ensures { IfOk result (λ site. site.0 ≡ length (scope_of scope.now).sites) }
+{
+    match u32::try_from(scope.sites.len()) {
+        Ok(number) => Ok(SiteId(number)),
+        Err(_) => Err(NoMemory),
+    }
+}
+
+/// The number of the site behind the next so many.
+pub fn site_behind(scope: &Scope, before: usize) -> Result<SiteId, NoMemory>
+    ensures { IfOk result (λ site. site.0 ≡ length (scope_of scope.now).sites + before) }
+{
+    let Some(place) = scope.sites.len().checked_add(before) else {
         return Err(NoMemory);
     };
-    let site = SiteId(number);
-    declare(scope, name, Declared::Variable(site))?;
-    scope.sites.push(Site { pos })?;
-    Ok(site)
+    match u32::try_from(place) {
+        Ok(number) => Ok(SiteId(number)),
+        Err(_) => Err(NoMemory),
+    }
+}
+
+/// Declares a variable in the innermost block; with a type it has a site of its own.
+pub fn declare_variable(
+    scope: &mut Scope,
+    name: &[u8],
+    pos: Pos,
+    has_type: bool,
+) -> Result<(), NoMemory>
+    ensures { OnOk result (scope_of scope.new ≡ with_variable has_type (scope_of scope.old) name.now pos) }
+{
+    if has_type {
+        let site = next_site(scope)?;
+        declare(scope, name, Declared::Variable(site))?;
+        scope.sites.push(Site { pos })?;
+        Ok(())
+    } else {
+        declare(scope, name, Declared::Untyped)
+    }
 }

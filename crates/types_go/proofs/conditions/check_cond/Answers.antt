@@ -4,7 +4,7 @@ use Rattle.parse_go.specs.FirstBytes.{first_place}
 use Rattle.parse_go.specs.Tree.{ex_of}
 use Rattle.types_go.specs.Scope.{scope_of}
 use Rattle.types_go.specs.Passing.{operand_of}
-use Rattle.types_go.proofs.Parts.{condition_least}
+use Rattle.types_go.proofs.Nodes.{condition_least}
 use Rattle.types_go.proofs.conditions.check_cond.Goals as goal
 
 pub returns-clause-fault : goal.returns-clause-fault

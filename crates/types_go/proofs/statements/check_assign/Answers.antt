@@ -1,19 +1,30 @@
-use Rattle.std.proofs.Common.{◌≡◌}
+use Rattle.std.proofs.Common.{◌≡◌, ◌⊎◌, List, take, map, ap, ◌∙◌, subst, length}
+use Rattle.std.specs.Prelude.{option_and_then}
 use Rattle.std.specs.Option.{option_map}
-use Rattle.parse_go.specs.FirstBytes.{first_place}
-use Rattle.parse_go.specs.Tree.{ex_of}
+use Rattle.types_go.specs.Least.{IsLeast}
+use Rattle.parse_go.specs.Tree.{exs_of}
+use Rattle.typed.specs.View.{left_of}
+use Rattle.types_go.specs.declared.operand.Item.{Item}
 use Rattle.types_go.specs.Scope.{scope_of}
-use Rattle.types_go.specs.Passing.{operand_of}
-use Rattle.types_go.proofs.Parts.{assignment_least}
+use Rattle.types_go.specs.Typing.{many, count}
+use Rattle.types_go.specs.Faults.{ValuesFail, RangeFails}
+use Rattle.types_go.specs.Passing.{seens}
+use Rattle.types_go.proofs.Lines.{assign_least}
 use Rattle.types_go.proofs.statements.check_assign.Goals as goal
 
 pub returns-clause-fault : goal.returns-clause-fault
 returns-clause-fault c =
     let text = c.args.text.now in
     let s = scope_of c.args.scope.now in
-    let e = ex_of c.args.e.now in
-    let right = c.in_ok-right.right in
-    let at : right.pos ≡ first_place e = c.in_ok-right.ensures.pos in
-    rw (c.lesser-2.ensures, c.lesser.ensures, c.taken_fault-own.ensures, c.target-site.ensures, at)
-    (assignment_least text s c.args.name e c.variable-left.result.fault right.fault (option_map operand_of right.operand)
-    c.variable-left.ensures.least c.in_ok-right.ensures.fault c.in_ok-right.ensures.operand)
+    let ns = c.args.names.now in
+    let es = exs_of c.args.es.now in
+    let listed = c.in_ok-listed.listed in
+    let items = listed.items.items in
+    let ls = option_map (λ v. map left_of v.items) c.in_ok-left.left.lefts in
+    let counted : c.count_where-counted.result ≡ option_and_then (λ l. count (seens items)) ls =
+    c.count_where-counted.ensures ∙ ap (λ (l : List Item). option_and_then (λ k. count (seens l)) ls) c.deref.ensures.value in
+    let placed : IsLeast (λ f. ValuesFail (many (seens items)) (seens items) f ⊎ RangeFails (take (length ns) (seens items)) f) c.placed_fault.result =
+    subst (λ (l : List Item). IsLeast (λ f. ValuesFail (many (seens l)) (seens l) f ⊎ RangeFails (take (length ns) (seens l)) f) c.placed_fault.result) c.deref-2.ensures.value c.placed_fault.ensures in
+    rw (c.lesser-2.ensures, c.lesser.ensures, c.lesser-values_fault.ensures, c.count_fault.ensures, counted, c.names_pos.ensures)
+    (assign_least text c.args.returns s ns c.args.pos es ls (seens items) c.in_ok-left.left.fault listed.fault c.placed_fault.result c.in_ok-left.ensures.lefts c.in_ok-listed.ensures.seen
+    c.in_ok-left.ensures.fault c.in_ok-listed.ensures.fault placed)

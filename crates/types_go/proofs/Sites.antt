@@ -1,0 +1,32 @@
+-- The sites of entries, one after the other, and the places of functions.
+use Rattle.std.proofs.Common.{◌≡◌, ℕ, List, [], ◌∷◌, ◌++◌, map, Option, Some, None, sym, ap, ◌∙◌, append-nil, append_assoc}
+use Rattle.std.specs.Prelude.{⊤}
+use Rattle.std.proofs.lemmas.List.{map-append}
+use Rattle.base.specs.declared.pos.Pos.{Pos}
+use Rattle.base.specs.declared.ids.TypeId.{TypeId}
+use Rattle.typed.specs.declared.program.Func.{Func as FuncData}
+use Rattle.types_go.specs.Functions.{sites_of}
+use Rattle.types_go.specs.Passing.{with_last, IsAt, AreAt}
+
+pub sites_more : (so_far : List ℕ) (e : Option ℕ) (es : List (Option ℕ)) → so_far ++ sites_of (e ∷ es) ≡ (so_far ++ sites_of (e ∷ [])) ++ sites_of es
+sites_more so_far None es = ap (λ l. l ++ sites_of es) (sym (append-nil so_far))
+sites_more so_far (Some site) es = sym (append_assoc so_far (site ∷ []) (sites_of es))
+
+-- the functions so far stand at places, and others at those to come
+abbrev pub PlacesKept : List Pos → Option (List FuncData) → List Pos → Type 0
+PlacesKept all None rest = ⊤
+PlacesKept all (Some fs) rest = all ≡ map (λ f. f.pos) fs ++ rest
+
+pub places_more : (all : List Pos) (fs : Option (List FuncData)) (f : Option FuncData) (at : Pos) (rest : List Pos) → PlacesKept all fs (at ∷ rest) → IsAt at f → PlacesKept all (with_last fs f) rest
+places_more all None f at rest kept is = tt
+places_more all (Some fs) None at rest kept is = tt
+places_more all (Some fs) (Some f) at rest kept is =
+    kept ∙ ap (λ p. map (λ (g : FuncData). g.pos) fs ++ (p ∷ rest)) (sym is) ∙ sym (append_assoc (map (λ (g : FuncData). g.pos) fs) (f.pos ∷ []) rest) ∙ ap (λ l. l ++ rest) (sym (map-append (λ (g : FuncData). g.pos) fs (f ∷ [])))
+
+pub places_all : (all : List Pos) (fs : Option (List FuncData)) → PlacesKept all fs [] → AreAt all fs
+places_all all None kept = tt
+places_all all (Some fs) kept = sym (kept ∙ append-nil (map (λ (g : FuncData). g.pos) fs))
+
+pub zero_more : (items : List TypeId) (t : TypeId) (rest : List ℕ) → t.0 ≡ 0 → map (λ (x : TypeId). x.0) items ++ (0 ∷ rest) ≡ map (λ (x : TypeId). x.0) (items ++ t ∷ []) ++ rest
+zero_more items t rest is =
+    ap (λ k. map (λ (x : TypeId). x.0) items ++ (k ∷ rest)) (sym is) ∙ sym (append_assoc (map (λ (x : TypeId). x.0) items) (t.0 ∷ []) rest) ∙ ap (λ l. l ++ rest) (sym (map-append (λ (x : TypeId). x.0) items (t ∷ [])))

@@ -1,0 +1,23 @@
+use Rattle.std.proofs.Common.{◌≡◌, [], ◌∷◌, ◌+◌, List, drop, get_or, sym, ap, ◌∙◌, arith}
+use Rattle.parse_go.specs.declared.tree.Name.{Name}
+use Rattle.types_go.specs.Scope.{scope_of}
+use Rattle.types_go.specs.Statements.{with_variables}
+use Rattle.types_go.proofs.Items.{no_name, from_there, nothing_left}
+use Rattle.types_go.proofs.declaring.declare_variables.Goals as goal
+
+pub loop-name-preserved : goal.loop-name-preserved
+loop-name-preserved c =
+    let text = c.args.text.now in
+    let xs = c.args.names.now in
+    let n : Name = get_or xs c.loop-name.name-index no_name in
+    let k = c.loop-name.name-index in
+    let here : drop k xs ≡ n ∷ drop (k + 1) xs = from_there xs k no_name c.loop-name-test.true in
+    rw (c.in_ok-declare_variable.ensures, c.spelled.ensures) (c.loop-name.invariant ∙ ap (λ (l : List Name). with_variables text c.args.has_type (scope_of c.loop-name.scope) l) here)
+
+pub returns : goal.returns
+returns c =
+    let text = c.args.text.now in
+    let xs = c.args.names.now in
+    let k = c.loop-name.name-index in
+    let none : drop k xs ≡ [] = nothing_left xs k (λ l. absurd (omega (arith, l, c.loop-name-test.false))) in
+    sym (c.loop-name.invariant ∙ ap (λ (l : List Name). with_variables text c.args.has_type (scope_of c.loop-name.scope) l) none)

@@ -1,0 +1,35 @@
+use Rattle.std.proofs.Common.{◌≡◌, [], ◌∷◌, ◌+◌, List, drop, get_or, subst, arith}
+use Rattle.parse_go.specs.declared.tree.Name.{Name}
+use Rattle.parse_go.specs.Tree.{spelled}
+use Rattle.types_go.specs.declared.fault.FaultKind.TheVariants.{Redeclared}
+use Rattle.types_go.specs.Statements.{noted, is_noted}
+use Rattle.types_go.specs.Faults.{fault}
+use Rattle.types_go.specs.StatementFaults.{FailsWhere, TwiceFails}
+use Rattle.types_go.proofs.Items.{no_name, from_there, nothing_left}
+use Rattle.types_go.proofs.Leasts.{Kept, kept_start, kept_more, kept_end}
+use Rattle.types_go.proofs.Leaves.{where_least}
+use Rattle.types_go.proofs.declaring.twice_fault.Goals as goal
+
+pub loop-name-init : goal.loop-name-init
+loop-name-init c = rw (c.new-noted.ensures) (kept_start _)
+
+pub loop-name-preserved : goal.loop-name-preserved
+loop-name-preserved c =
+    let text = c.args.text.now in
+    let xs = c.args.names.now in
+    let k = c.loop-name.name-index in
+    let n : Name = get_or xs k no_name in
+    let rest = drop (k + 1) xs in
+    let names = c.loop-name.noted in
+    let here : drop k xs ≡ n ∷ rest = from_there xs k no_name c.loop-name-test.true in
+    let kept = subst (λ (l : List Name). Kept (TwiceFails text ([] ∷ []) xs) (TwiceFails text names l) c.loop-name.fault) here c.loop-name.invariant in
+    rw (c.in_ok-note.ensures, c.lesser-fault.ensures, c.fault_where.ensures, c.is_noted.ensures, c.spelled-bytes.ensures)
+    (kept_more (TwiceFails text ([] ∷ []) xs) (FailsWhere (is_noted names (spelled text n)) (fault Redeclared n.pos)) (TwiceFails text (noted names (spelled text n)) rest) c.loop-name.fault _ kept (where_least (is_noted names (spelled text n)) (fault Redeclared n.pos)))
+
+pub returns : goal.returns
+returns c =
+    let text = c.args.text.now in
+    let xs = c.args.names.now in
+    let k = c.loop-name.name-index in
+    let none : drop k xs ≡ [] = nothing_left xs k (λ l. absurd (omega (arith, l, c.loop-name-test.false))) in
+    kept_end (TwiceFails text ([] ∷ []) xs) (TwiceFails text c.loop-name.noted (drop k xs)) c.loop-name.fault (λ g h. subst (λ (l : List Name). TwiceFails text c.loop-name.noted l g) none h) c.loop-name.invariant

@@ -1,0 +1,7 @@
+use Rattle.std.proofs.Common.{◌≡◌, drop, false}
+use Rattle.parse_go.specs.Tree.{stms_of}
+use Rattle.types_go.specs.Statements.{ends_after}
+use Rattle.types_go.proofs.endings.+endings.Given as goal
+
+abbrev pub invariant-ends_in_terminating-loop-s : goal.invariant-ends_in_terminating-loop-s
+invariant-ends_in_terminating-loop-s l = ends_after false (stms_of l.ms) ≡ ends_after l.ends (stms_of (drop l.s-index l.ms))

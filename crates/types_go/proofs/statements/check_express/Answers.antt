@@ -1,0 +1,23 @@
+use Rattle.std.proofs.Common.{◌≡◌}
+use Rattle.std.specs.Option.{option_map}
+use Rattle.parse_go.specs.FirstBytes.{first_place}
+use Rattle.parse_go.specs.Tree.{ex_of}
+use Rattle.types_go.specs.Scope.{scope_of}
+use Rattle.types_go.specs.Typing.{gives}
+use Rattle.types_go.specs.Faults.{Fails}
+use Rattle.types_go.specs.StatementFaults.{UseFails}
+use Rattle.types_go.specs.Passing.{gives_of, use_fault}
+use Rattle.types_go.proofs.Leasts.{least_join}
+use Rattle.types_go.proofs.Leaves.{use_least}
+use Rattle.types_go.proofs.statements.check_express.Goals as goal
+
+pub returns-clause-fault : goal.returns-clause-fault
+returns-clause-fault c =
+    let text = c.args.text.now in
+    let s = scope_of c.args.scope.now in
+    let e = ex_of c.args.e.now in
+    let checked = c.in_ok-checked.checked in
+    let given : option_map gives_of checked.gives ≡ gives text s e = c.in_ok-checked.ensures.gives in
+    let at : checked.pos ≡ first_place e = c.in_ok-checked.ensures.pos in
+    rw (c.lesser.ensures, c.use_fault-own.ensures, given, at)
+    (least_join (Fails text s e) (UseFails (gives text s e) (first_place e)) checked.fault (use_fault (gives text s e) (first_place e)) c.in_ok-checked.ensures.fault (use_least (gives text s e) (first_place e)))

@@ -1,0 +1,20 @@
+use Rattle.std.proofs.Common.{◌≡◌, List, ap, ◌∙◌, subst}
+use Rattle.types_go.specs.Least.{IsLeast}
+use Rattle.parse_go.specs.Tree.{exs_of}
+use Rattle.types_go.specs.Scope.{scope_of}
+use Rattle.types_go.specs.Typing.{Seen, seen}
+use Rattle.types_go.specs.Faults.{FailsInEach}
+use Rattle.types_go.specs.StatementFaults.{ReturnFails}
+use Rattle.types_go.specs.Passing.{seens}
+use Rattle.types_go.proofs.Leasts.{least_join}
+use Rattle.types_go.proofs.statements.check_return.Goals as goal
+
+pub returns-clause-fault : goal.returns-clause-fault
+returns-clause-fault c =
+    let text = c.args.text.now in
+    let s = scope_of c.args.scope.now in
+    let es = exs_of c.args.es.now in
+    let listed = c.in_ok-listed.listed in
+    let os : seens c.deref.result.now ≡ seen text s es = ap seens c.deref.ensures.value ∙ c.in_ok-listed.ensures.seen in
+    rw (c.lesser.ensures) (least_join (FailsInEach text s es) (ReturnFails c.args.pos c.args.returns (seen text s es)) listed.fault c.return_fault-own.result c.in_ok-listed.ensures.fault
+    (subst (λ (l : List Seen). IsLeast (ReturnFails c.args.pos c.args.returns l) c.return_fault-own.result) os c.return_fault-own.ensures))

@@ -1,0 +1,371 @@
+//! Names on the left of `=` and `:=`.
+
+ghost use Rattle.std.specs.Prelude.{◌≡◌, Option, Some, None, IfOk, OnOk, List, map, length, is_some, [], ◌∷◌, not, ◌&&◌, ◌||◌, ◌⊎◌, ◌+◌, ◌++◌, if◌then◌else◌};
+ghost use Rattle.std.specs.Option.{option_map};
+ghost use Rattle.parse_go.specs.Tree.{spelled};
+ghost use Rattle.typed.specs.View.{left_of as left_view};
+ghost use Rattle.types_go.specs.Least.{IsLeast};
+ghost use Rattle.types_go.specs.Profile.{is_blank, is_reserved};
+ghost use Rattle.types_go.specs.Scope.{scope_of, declaration, is_here};
+ghost use Rattle.types_go.specs.Statements.{target, left_of, new_left_of, declares, new_left, noted, is_noted, lefts, new_lefts, new_names, with_variables, has_all, may_define};
+ghost use Rattle.types_go.specs.StatementFaults.{FailsWhere, LeftFails, NewNameFails, LeftsFail, NewNamesFail, TwiceFails, names_place};
+ghost use Rattle.types_go.specs.Faults.{fault as fault_at};
+ghost use Rattle.types_go.specs.declared.fault.FaultKind.TheVariants.{NothingNew};
+ghost use Rattle.types_go.specs.Passing.{with_last, left_fault, new_name_fault, fault_where};
+
+use crate::fault::{Fault, FaultKind, lesser};
+use crate::naming::spelled;
+use crate::profile::{is_blank, is_reserved};
+use crate::scope::{Declared, Scope, declaration, declare_variable, is_here, site_behind};
+use base::{NoMemory, Pos, SiteId};
+use names::Block;
+use parse_go::Name;
+use std::alloc::Global;
+use typed::Left;
+
+/// What is known of left sides.
+#[derive(Drop)]
+pub struct Lefts {
+    pub lefts: Option<Vec<Left>>,
+    pub fault: Option<Fault>,
+}
+
+/// What is known of the left sides of a `:=`: they themselves, the names that it declares, and the fault.
+#[derive(Drop)]
+pub struct NewLefts {
+    pub lefts: Option<Vec<Left>>,
+    pub new_names: Vec<Name>,
+    pub fault: Option<Fault>,
+}
+
+/// What is known of the names of a `:=` as a whole: whether they may stand there together, and the fault.
+#[derive(Clone, Copy, Debug, PartialEq, Eq)]
+pub struct Declaration {
+    pub is_allowed: bool,
+    pub fault: Option<Fault>,
+}
+
+/// A variable with a type as a left side.
+fn target(declared: Option<Declared>) -> Option<Left>
+    ensures { option_map left_view result ≡ target declared }
+{
+    match declared {
+        Some(Declared::Variable(site)) => Some(Left::To(site)),
+        _ => None,
+    }
+}
+
+fn left_of(blank: bool, reserved: bool, declared: Option<Declared>) -> Option<Left>
+    ensures { option_map left_view result ≡ left_of blank reserved declared }
+{
+    if blank {
+        Some(Left::Blank)
+    } else if reserved {
+        None
+    } else {
+        target(declared)
+    }
+}
+
+fn new_left_of(
+    blank: bool,
+    reserved: bool,
+    here: bool,
+    declared: Option<Declared>,
+    site: SiteId,
+) -> Option<Left>
+    ensures { option_map left_view result ≡ new_left_of blank reserved here declared site.0 }
+{
+    if blank {
+        Some(Left::Blank)
+    } else if reserved {
+        None
+    } else if here {
+        target(declared)
+    } else {
+        Some(Left::New(site))
+    }
+}
+
+fn with_left(lefts: Option<Vec<Left>>, left: Option<Left>) -> Result<Option<Vec<Left>>, NoMemory>
+    ensures { IfOk result (λ r. option_map (λ v. map left_view v.items) r ≡ with_last (option_map (λ v. map left_view v.items) lefts) (option_map left_view left)) }
+{
+    match (lefts, left) {
+        (Some(mut lefts), Some(left)) => {
+            lefts.push(left)?;
+            Ok(Some(lefts))
+        }
+        _ => Ok(None),
+    }
+}
+
+fn left_fault_of(blank: bool, reserved: bool, declared: Option<Declared>, pos: Pos) -> Option<Fault>
+    ensures { result ≡ left_fault blank reserved declared pos }
+{
+    if blank {
+        return None;
+    }
+    let kind = if reserved {
+        FaultKind::OutOfProfile
+    } else {
+        match declared {
+            None => FaultKind::Unknown,
+            Some(Declared::Function(_)) => FaultKind::NotAssignable,
+            Some(_) => return None,
+        }
+    };
+    Some(Fault { kind, pos })
+}
+
+fn new_name_fault_of(
+    blank: bool,
+    reserved: bool,
+    here: bool,
+    declared: Option<Declared>,
+    pos: Pos,
+) -> Option<Fault>
+    ensures { result ≡ new_name_fault blank reserved here declared pos }
+{
+    if blank {
+        None
+    } else if reserved {
+        Some(Fault {
+            kind: FaultKind::OutOfProfile,
+            pos,
+        })
+    } else if here {
+        left_fault_of(false, false, declared, pos)
+    } else {
+        None
+    }
+}
+
+/// A rule that fails where this holds.
+pub fn fault_where(fails: bool, own: Fault) -> Option<Fault>
+    ensures { result ≡ fault_where fails own }
+{
+    if fails { Some(own) } else { None }
+}
+
+fn left(text: &[u8], scope: &Scope, name: Name) -> Option<Left>
+    ensures { option_map left_view result ≡ left_of (is_blank (spelled text.now name)) (is_reserved (spelled text.now name)) (declaration (scope_of scope.now) (spelled text.now name)) }
+{
+    let bytes = spelled(text, name);
+    left_of(
+        is_blank(bytes),
+        is_reserved(bytes),
+        declaration(scope, bytes),
+    )
+}
+
+#[tactic(auto, using(crate::proofs::Leaves::left_least))]
+fn left_fault(text: &[u8], scope: &Scope, name: Name) -> Option<Fault>
+    ensures { IsLeast (LeftFails (is_blank (spelled text.now name)) (is_reserved (spelled text.now name)) (declaration (scope_of scope.now) (spelled text.now name)) name.pos) result }
+{
+    let bytes = spelled(text, name);
+    left_fault_of(
+        is_blank(bytes),
+        is_reserved(bytes),
+        declaration(scope, bytes),
+        name.pos,
+    )
+}
+
+/// The left sides of a `=`.
+pub fn check_lefts(
+    alloc: Global,
+    text: &[u8],
+    scope: &Scope,
+    names: &[Name],
+) -> Result<Lefts, NoMemory>
+    ensures lefts { IfOk result (λ l. option_map (λ v. map left_view v.items) l.lefts ≡ lefts text.now (scope_of scope.now) names.now) }
+    ensures fault { IfOk result (λ l. IsLeast (LeftsFail text.now (scope_of scope.now) names.now) l.fault) }
+{
+    let mut lefts = Some(Vec::new(alloc));
+    let mut fault = None;
+    for name in names {
+        fault = lesser(fault, left_fault(text, scope, *name));
+        lefts = with_left(lefts, left(text, scope, *name))?;
+    }
+    Ok(Lefts { lefts, fault })
+}
+
+/// The left side that a name of a `:=` is, behind so many new ones.
+fn new_left(text: &[u8], scope: &Scope, before: usize, name: Name) -> Result<Option<Left>, NoMemory>
+    ensures { IfOk result (λ l. option_map left_view l ≡ new_left text.now (scope_of scope.now) (length (scope_of scope.now).sites + before) name) }
+{
+    let bytes = spelled(text, name);
+    let site = site_behind(scope, before)?;
+    Ok(new_left_of(
+        is_blank(bytes),
+        is_reserved(bytes),
+        is_here(scope, bytes),
+        declaration(scope, bytes),
+        site,
+    ))
+}
+
+/// One more new name, where a `:=` declares it.
+fn with_new(text: &[u8], scope: &Scope, names: Vec<Name>, name: Name) -> Result<Vec<Name>, NoMemory>
+    ensures { IfOk result (λ v. v.items ≡ (if declares (scope_of scope.now) (spelled text.now name) then names.items ++ name ∷ [] else names.items)) }
+{
+    let bytes = spelled(text, name);
+    let mut names = names;
+    if !is_reserved(bytes) && !is_here(scope, bytes) {
+        names.push(name)?;
+    }
+    Ok(names)
+}
+
+#[tactic(auto, using(crate::proofs::Leaves::new_name_least))]
+fn new_name_fault(text: &[u8], scope: &Scope, name: Name) -> Option<Fault>
+    ensures { IsLeast (NewNameFails (is_blank (spelled text.now name)) (is_reserved (spelled text.now name)) (is_here (scope_of scope.now) (spelled text.now name)) (declaration (scope_of scope.now) (spelled text.now name)) name.pos) result }
+{
+    let bytes = spelled(text, name);
+    new_name_fault_of(
+        is_blank(bytes),
+        is_reserved(bytes),
+        is_here(scope, bytes),
+        declaration(scope, bytes),
+        name.pos,
+    )
+}
+
+fn how_many(names: &Vec<Name>) -> usize
+    ensures { result ≡ length names.now.items }
+{
+    names.len()
+}
+
+/// The left sides of a `:=`.
+pub fn check_new_lefts(
+    alloc: Global,
+    text: &[u8],
+    scope: &Scope,
+    names: &[Name],
+) -> Result<NewLefts, NoMemory>
+    ensures lefts { IfOk result (λ l. option_map (λ v. map left_view v.items) l.lefts ≡ new_lefts text.now (scope_of scope.now) (length (scope_of scope.now).sites) names.now) }
+    ensures new_names { IfOk result (λ l. l.new_names.items ≡ new_names text.now (scope_of scope.now) names.now) }
+    ensures fault { IfOk result (λ l. IsLeast (NewNamesFail text.now (scope_of scope.now) names.now) l.fault) }
+{
+    let mut lefts = Some(Vec::new(alloc));
+    let mut new_names = Vec::new(alloc);
+    let mut fault = None;
+    for name in names {
+        fault = lesser(fault, new_name_fault(text, scope, *name));
+        let left = new_left(text, scope, how_many(&new_names), *name)?;
+        lefts = with_left(lefts, left)?;
+        new_names = with_new(text, scope, new_names, *name)?;
+    }
+    Ok(NewLefts {
+        lefts,
+        new_names,
+        fault,
+    })
+}
+
+/// Declares new variables.
+pub fn declare_variables(
+    text: &[u8],
+    scope: &mut Scope,
+    names: &[Name],
+    has_type: bool,
+) -> Result<(), NoMemory>
+    ensures { OnOk result (scope_of scope.new ≡ with_variables text.now has_type (scope_of scope.old) names.now) }
+{
+    for name in names {
+        declare_variable(scope, spelled(text, *name), name.pos, has_type)?;
+    }
+    Ok(())
+}
+
+fn is_noted(names: &Block, name: &[u8]) -> bool
+    ensures { result ≡ is_noted names.now name.now }
+{
+    !is_blank(name) && names.innermost(name).is_some()
+}
+
+fn note(names: &mut Block, name: &[u8]) -> Result<(), NoMemory>
+    ensures { OnOk result (names.new ≡ noted names.old name.now) }
+{
+    if is_blank(name) {
+        Ok(())
+    } else {
+        names.insert(name, 0)
+    }
+}
+
+/// The fault of a name that stands twice.
+fn twice_fault(alloc: Global, text: &[u8], names: &[Name]) -> Result<Option<Fault>, NoMemory>
+    ensures { IfOk result (λ f. IsLeast (TwiceFails text.now ([] ∷ []) names.now) f) }
+{
+    let mut noted = Block::new(alloc);
+    let mut fault = None;
+    for name in names {
+        let bytes = spelled(text, *name);
+        let own = Fault {
+            kind: FaultKind::Redeclared,
+            pos: name.pos,
+        };
+        fault = lesser(fault, fault_where(is_noted(&noted, bytes), own));
+        note(&mut noted, bytes)?;
+    }
+    Ok(fault)
+}
+
+fn has(text: &[u8], scope: &Scope, name: Name) -> bool
+    ensures { result ≡ (is_blank (spelled text.now name) || is_here (scope_of scope.now) (spelled text.now name)) }
+{
+    let bytes = spelled(text, name);
+    is_blank(bytes) || is_here(scope, bytes)
+}
+
+/// Whether each name is blank, or the innermost block has it.
+fn has_all(text: &[u8], scope: &Scope, names: &[Name]) -> bool
+    ensures { result ≡ has_all text.now (scope_of scope.now) names.now }
+{
+    let mut all = true;
+    for name in names {
+        all = all && has(text, scope, *name);
+    }
+    all
+}
+
+fn neither(one: bool, other: bool) -> bool
+    ensures { result ≡ (not one && not other) }
+{
+    !one && !other
+}
+
+/// The names of a `:=` at a place.
+pub fn check_names(
+    alloc: Global,
+    text: &[u8],
+    scope: &Scope,
+    names: &[Name],
+    pos: Pos,
+) -> Result<Declaration, NoMemory>
+    ensures is_allowed { IfOk result (λ d. d.is_allowed ≡ may_define text.now (scope_of scope.now) names.now) }
+    ensures fault { IfOk result (λ d. IsLeast (λ f. TwiceFails text.now ([] ∷ []) names.now f ⊎ FailsWhere (has_all text.now (scope_of scope.now) names.now) (fault_at NothingNew pos) f) d.fault) }
+{
+    let twice = twice_fault(alloc, text, names)?;
+    let all = has_all(text, scope, names);
+    let own = Fault {
+        kind: FaultKind::NothingNew,
+        pos,
+    };
+    Ok(Declaration {
+        is_allowed: neither(twice.is_some(), all),
+        fault: lesser(twice, fault_where(all, own)),
+    })
+}
+
+/// Where a statement with names begins.
+pub fn names_pos(names: &[Name], pos: Pos) -> Pos
+    ensures { result ≡ names_place names.now pos }
+{
+    match names {
+        [name, ..] => name.pos,
+        [] => pos,
+    }
+}

@@ -1,0 +1,248 @@
+//! Parameters and results with names, in the block of a function's body.
+
+ghost use Rattle.std.specs.Prelude.{◌≡◌, Option, Some, None, IfOk, OnOk, List, map, length, is_some};
+ghost use Rattle.std.specs.Option.{option_map};
+ghost use Rattle.parse_go.specs.Tree.{spelled};
+ghost use Rattle.typed.specs.View.{site_in};
+ghost use Rattle.types_go.specs.Least.{IsLeast};
+ghost use Rattle.types_go.specs.Profile.{is_blank, is_reserved};
+ghost use Rattle.types_go.specs.Scope.{scope_of, is_here};
+ghost use Rattle.types_go.specs.Functions.{role_of, unnamed_entry, entry_of, named_entry, entry_in, behind_entry_name, behind_entry, entries, behind_entries, type_of};
+ghost use Rattle.types_go.specs.FunctionFaults.{EntryFails, EntriesFail, NamedFails, UnnamedFails};
+ghost use Rattle.types_go.specs.Passing.{with_last, unnamed_fault, named_fault};
+
+use crate::fault::{Fault, FaultKind, lesser};
+use crate::naming::spelled;
+use crate::profile::{is_blank, is_reserved};
+use crate::scope::{Scope, declare_variable, is_here, next_site};
+use crate::signatures::type_of;
+use base::{NoMemory, Pos, SiteId};
+use parse_go::{Name, Param};
+use std::alloc::Global;
+
+/// Where a name with a type stands: a parameter, or a result of a function whose results have names, or have none.
+#[derive(Clone, Copy, Debug, PartialEq, Eq)]
+pub enum Role {
+    Parameter,
+    NamedResult,
+    UnnamedResult,
+}
+
+/// What is known of parameters or results: the site of each, or none where it has no variable, and the fault.
+#[derive(Drop)]
+pub struct Entries {
+    pub entries: Option<Vec<Option<SiteId>>>,
+    pub fault: Option<Fault>,
+}
+
+/// The results have names where the first one has.
+pub fn role_of(results: &[Param]) -> Role
+    ensures { result ≡ role_of results.now }
+{
+    match results {
+        [first, ..] => {
+            if first.name.is_some() {
+                Role::NamedResult
+            } else {
+                Role::UnnamedResult
+            }
+        }
+        [] => Role::UnnamedResult,
+    }
+}
+
+fn unnamed_entry(role: Role) -> Option<Option<SiteId>>
+    ensures { option_map site_in result ≡ unnamed_entry role }
+{
+    match role {
+        Role::NamedResult => None,
+        _ => Some(None),
+    }
+}
+
+fn entry_of(
+    role: Role,
+    blank: bool,
+    reserved: bool,
+    here: bool,
+    site: SiteId,
+) -> Option<Option<SiteId>>
+    ensures { option_map site_in result ≡ entry_of role blank reserved here site.0 }
+{
+    match role {
+        Role::UnnamedResult => None,
+        Role::Parameter if blank => Some(None),
+        _ => {
+            if blank || reserved || here {
+                None
+            } else {
+                Some(Some(site))
+            }
+        }
+    }
+}
+
+fn unnamed_fault_of(role: Role, pos: Pos) -> Option<Fault>
+    ensures { result ≡ unnamed_fault role pos }
+{
+    match role {
+        Role::NamedResult => Some(Fault {
+            kind: FaultKind::OutOfProfile,
+            pos,
+        }),
+        _ => None,
+    }
+}
+
+fn named_fault_of(role: Role, blank: bool, reserved: bool, here: bool, pos: Pos) -> Option<Fault>
+    ensures { result ≡ named_fault role blank reserved here pos }
+{
+    let kind = match role {
+        Role::UnnamedResult => FaultKind::OutOfProfile,
+        Role::Parameter if blank => return None,
+        _ => {
+            if blank || reserved {
+                FaultKind::OutOfProfile
+            } else if here {
+                FaultKind::Redeclared
+            } else {
+                return None;
+            }
+        }
+    };
+    Some(Fault { kind, pos })
+}
+
+fn named_entry(
+    text: &[u8],
+    scope: &Scope,
+    role: Role,
+    name: Name,
+) -> Result<Option<Option<SiteId>>, NoMemory>
+    ensures { IfOk result (λ r. option_map site_in r ≡ named_entry text.now role (scope_of scope.now) name) }
+{
+    let bytes = spelled(text, name);
+    let site = next_site(scope)?;
+    Ok(entry_of(
+        role,
+        is_blank(bytes),
+        is_reserved(bytes),
+        is_here(scope, bytes),
+        site,
+    ))
+}
+
+fn entry_in(
+    text: &[u8],
+    scope: &Scope,
+    role: Role,
+    name: Option<Name>,
+) -> Result<Option<Option<SiteId>>, NoMemory>
+    ensures { IfOk result (λ r. option_map site_in r ≡ entry_in text.now role (scope_of scope.now) name) }
+{
+    match name {
+        Some(name) => named_entry(text, scope, role, name),
+        None => Ok(unnamed_entry(role)),
+    }
+}
+
+#[tactic(auto, using(crate::proofs::Leaves::named_least))]
+fn named_fault(text: &[u8], scope: &Scope, role: Role, name: Name) -> Option<Fault>
+    ensures { IsLeast (NamedFails role (is_blank (spelled text.now name)) (is_reserved (spelled text.now name)) (is_here (scope_of scope.now) (spelled text.now name)) name.pos) result }
+{
+    let bytes = spelled(text, name);
+    named_fault_of(
+        role,
+        is_blank(bytes),
+        is_reserved(bytes),
+        is_here(scope, bytes),
+        name.pos,
+    )
+}
+
+#[tactic(auto, using(crate::proofs::Leaves::unnamed_least))]
+fn unnamed_fault(role: Role, pos: Pos) -> Option<Fault>
+    ensures { IsLeast (UnnamedFails role pos) result }
+{
+    unnamed_fault_of(role, pos)
+}
+
+fn entry_fault(
+    text: &[u8],
+    scope: &Scope,
+    role: Role,
+    name: Option<Name>,
+    type_pos: Pos,
+) -> Option<Fault>
+    ensures { IsLeast (EntryFails text.now role (scope_of scope.now) name type_pos) result }
+{
+    match name {
+        Some(name) => named_fault(text, scope, role, name),
+        None => unnamed_fault(role, type_pos),
+    }
+}
+
+fn declare_entry_name(
+    text: &[u8],
+    scope: &mut Scope,
+    name: Option<Name>,
+    has_type: bool,
+) -> Result<(), NoMemory>
+    ensures { OnOk result (scope_of scope.new ≡ behind_entry_name text.now has_type (scope_of scope.old) name) }
+{
+    let Some(name) = name else {
+        return Ok(());
+    };
+    let bytes = spelled(text, name);
+    if !is_reserved(bytes) && !is_here(scope, bytes) {
+        declare_variable(scope, bytes, name.pos, has_type)
+    } else {
+        Ok(())
+    }
+}
+
+fn declare_entry(text: &[u8], scope: &mut Scope, param: Param) -> Result<(), NoMemory>
+    ensures { OnOk result (scope_of scope.new ≡ behind_entry text.now (scope_of scope.old) param) }
+{
+    let has_type = type_of(text, param.type_name).is_some();
+    declare_entry_name(text, scope, param.name, has_type)
+}
+
+fn with_entry(
+    entries: Option<Vec<Option<SiteId>>>,
+    entry: Option<Option<SiteId>>,
+) -> Result<Option<Vec<Option<SiteId>>>, NoMemory>
+    ensures { IfOk result (λ r. option_map (λ v. map site_in v.items) r ≡ with_last (option_map (λ v. map site_in v.items) entries) (option_map site_in entry)) }
+{
+    match (entries, entry) {
+        (Some(mut entries), Some(entry)) => {
+            entries.push(entry)?;
+            Ok(Some(entries))
+        }
+        _ => Ok(None),
+    }
+}
+
+/// Declares parameters or results.
+pub fn check_entries(
+    alloc: Global,
+    text: &[u8],
+    scope: &mut Scope,
+    role: Role,
+    params: &[Param],
+) -> Result<Entries, NoMemory>
+    ensures entries { IfOk result (λ e. option_map (λ v. map site_in v.items) e.entries ≡ entries text.now role (scope_of scope.old) params.now) }
+    ensures fault { IfOk result (λ e. IsLeast (EntriesFail text.now role (scope_of scope.old) params.now) e.fault) }
+    ensures scope { OnOk result (scope_of scope.new ≡ behind_entries text.now (scope_of scope.old) params.now) }
+{
+    let mut entries = Some(Vec::new(alloc));
+    let mut fault = None;
+    for param in params {
+        let own = entry_fault(text, scope, role, param.name, param.type_name.pos);
+        fault = lesser(fault, own);
+        let entry = entry_in(text, scope, role, param.name)?;
+        entries = with_entry(entries, entry)?;
+        declare_entry(text, scope, *param)?;
+    }
+    Ok(Entries { entries, fault })
+}
