@@ -45,7 +45,7 @@ StandAtNames program tree = map (λ (f : FuncData). f.pos) program.funcs.items �
 pub record HasParseFault (text : List ℕ) (f : Rattle.parse_go.specs.declared.fault.ParseFault.ParseFault) : Type 0 where
   pub tokens : List Token
   pub are : AreTokens text tokens
-  pub first : IsFirstFault text tokens (pos_at text (length text)) f
+  pub first : IsFirstFault tokens (pos_at text (length text)) f
   pub fault : f ≢ parse.NoMemory
 
 -- a text's tree has no typed program, because of this fault
