@@ -1,5 +1,6 @@
 use Rattle.std.proofs.Common.{◌≡◌, ◌∙◌, ℕ, List, Err, subst}
 use Rattle.parse_go.specs.Tree.{Syntax, syntax_of}
+use Rattle.typed.specs.View.{program_of}
 use Rattle.parse_go.specs.Grammar.{IsText}
 use Rattle.parse_go.specs.Faults.{GivesTree}
 use Rattle.compile.specs.Faults.{of_scan, of_parse, of_typing, of_layout}
@@ -67,3 +68,17 @@ returns-clause-only c =
     let one : (other : Syntax) → IsText text tokens.list other → tree ≡ other =
     subst (λ (t : List ℕ). (other : Syntax) → IsText t tokens.list other → tree ≡ other) c.in_ok-tokens.ensures.text c.in_ok-tree.ensures.only in
     λ p a. program_only text tokens.list c.in_ok-tokens.ensures.only tree one q c.in_ok-program.ensures.only p a
+
+pub returns-clause-accepted : goal.returns-clause-accepted
+returns-clause-accepted c =
+    let text = c.args.text.now in
+    let tree = syntax_of c.in_ok-tree.tree in
+    let q = c.in_ok-program.program in
+    record {
+      program = record {
+        tree = tree;
+        has = has_tree text c.in_ok-tokens.tokens tree c.in_ok-tokens.ensures.exact c.in_ok-tokens.ensures.text c.in_ok-tree.ensures.found;
+        types = c.in_ok-program.ensures.typed;
+      };
+      fits = fits_all (program_of q).funcs q.funcs.items c.in_ok-layouts.ensures.small;
+    }
