@@ -74,10 +74,7 @@ fn faults_of_each_stage(rt: HostRuntime) -> Result<(), Fail> {
             "len := 1",
             type_fault(FaultKind::OutOfProfile, pos(27, 2, 15)),
         ),
-        (
-            "_ := y",
-            type_fault(FaultKind::NothingNew, pos(29, 2, 17)),
-        ),
+        ("_ := y", type_fault(FaultKind::NothingNew, pos(29, 2, 17))),
         (
             "x := y; println(x, 9223372036854775808)",
             type_fault(FaultKind::Unknown, pos(32, 2, 20)),

@@ -3,11 +3,11 @@ use Rattle.std.proofs.Common.{◌≡◌, ℕ, zero, suc, ◌+◌, ◌≤◌, Boo
 use Rattle.std.specs.Prelude.{⊤}
 use Rattle.base.specs.declared.pos.Pos.{Pos}
 use Rattle.typed.specs.Value.{Value}
-use Rattle.typed.specs.Syntax.{Ex, Exs, Left, Piece, St, Sts, Func, Program, constant, read, unary, binary, none, more, local, here, new, to, shown, assign, block, choose, loop, print, done, next}
+use Rattle.typed.specs.Syntax.{Ex, Exs, Left, Piece, St, Sts, Func, Program, constant, read, unary, binary, call, none, more, results, local, here, blank, new, to, shown, assign, discard, block, choose, loop, give_back, print, done, next}
 use Rattle.simulation.specs.Outcome.{Lines, Outcome, Gives, Ends, Unfinished, upto, ending_in}
 use Rattle.meaning.specs.Trace.{World, Call, Return, Born, Read, Write, Print, Fault, Ending, Turns, Exit, Panic, StackLimit, Trace, Turn, Note, Seen, End, Cut}
 use Rattle.meaning.specs.Operators.{unary_of, binary_of}
-use Rattle.meaning.specs.Meaning.{Go, Then, Env, Ways, Calls, Answer, Setting, give, or_panic, holding, holding_all, when, is_true, Step, fixed, Aim, Spot, settle_steps, settle, ev, evs, Landing, birth, on, landing_values, ready, ready_all, land, land_all, shown_bytes, emit_more, emit_plain, emit, pieces, test_of, renew, rounds, to_next, exec, exec_all, run_body, call_at, bear_globals, setting_of, at_top, beginning, trace}
+use Rattle.meaning.specs.Meaning.{Go, Then, Env, Ways, Calls, Answer, Setting, give, or_panic, holding, holding_all, when, is_true, Step, fixed, Aim, Spot, settle_steps, settle, ev, evs, Landing, nowhere, birth, on, landing_values, ready, ready_all, land, land_all, shown_bytes, emit_more, emit_plain, emit, pieces, test_of, renew, rounds, to_next, exec, exec_all, bear_params, bear_zeros, write_results, read_results, leave, leave_with, run_body, call_at, bear_globals, setting_of, at_top, beginning, trace}
 use Rattle.meaning.specs.Output.{Limits, out, source, used_by, tail_of}
 
 abbrev IsGood : Ending → Type 0
@@ -57,19 +57,27 @@ good_when : (b : Bool) (g h : Go) → Good g → Good h → Good (when b g h)
 good_when true g h x y = x
 good_when false g h x y = y
 
-module _ (around : Setting) (calls : Calls) where
-  good_ev : (e : Ex) (ws : Ways) (env : Env) (k : Then Value) → GoodWays ws → GoodThen k → Good (ev around calls e ws env k)
-  good_ev (constant v) ws env k s h = λ w. h v w
-  good_ev (read (local site here)) ws env k s h = λ w. h _ w
-  good_ev (unary op e) ws env k s h = good_ev e ws env _ s (λ v w. h (unary_of op v) w)
-  good_ev (binary at op a b) ws env k s h =
-      good_ev a ws env _ s (λ v. good_ev b (holding ws v) env _ (good_holding ws v s) (λ u w. good_or_panic ws env at (binary_of op v u) (give ws k) s (λ x y. h x y) w))
+-- what calls do ends well, where what follows them does
+record GoodCalls (calls : Calls) : Type 0 where
+  by : (f : ℕ) (vs : List Value) (ws : Ways) (env : Env) (k : Then (List Value)) → GoodWays ws → GoodThen k → Good (calls f vs ws env k)
 
-  good_evs : (es : Exs) (ws : Ways) (env : Env) (k : Then (List Value)) → GoodWays ws → GoodThen k → Good (evs around calls es ws env k)
-  good_evs none ws env k s h = h []
-  good_evs (more e es) ws env k s h = good_ev e ws env _ s (λ v. good_evs es (holding ws v) env _ (good_holding ws v s) (λ vs. h (v ∷ vs)))
+module _ (around : Setting) (calls : Calls) (gc : GoodCalls calls) where
+  mutual
+    good_ev : (e : Ex) (ws : Ways) (env : Env) (k : Then Value) → GoodWays ws → GoodThen k → Good (ev around calls e ws env k)
+    good_ev (constant v) ws env k s h = λ w. h v w
+    good_ev (read (local site here)) ws env k s h = λ w. h _ w
+    good_ev (unary op e) ws env k s h = good_ev e ws env _ s (λ v w. h (unary_of op v) w)
+    good_ev (binary at op a b) ws env k s h =
+        good_ev a ws env _ s (λ v. good_ev b (holding ws v) env _ (good_holding ws v s) (λ u w. good_or_panic ws env at (binary_of op v u) (give ws k) s (λ x y. h x y) w))
+    good_ev (call f es) ws env k s h = good_evs es ws env _ s (λ vs w. gc.by f vs ws env _ s (λ rs w1. h _ w1) w)
+
+    good_evs : (es : Exs) (ws : Ways) (env : Env) (k : Then (List Value)) → GoodWays ws → GoodThen k → Good (evs around calls es ws env k)
+    good_evs none ws env k s h = h []
+    good_evs (more e es) ws env k s h = good_ev e ws env _ s (λ v. good_evs es (holding ws v) env _ (good_holding ws v s) (λ vs. h (v ∷ vs)))
+    good_evs (results f es) ws env k s h = good_evs es ws env _ s (λ vs w. gc.by f vs ws env _ s (λ rs w1. h rs w1) w)
 
   good_ready : (l : Left) (ws : Ways) (env : Env) (k : Then Landing) → GoodWays ws → GoodThen k → Good (ready around calls l ws env k)
+  good_ready blank ws env k s h = h nowhere
   good_ready (new site) ws env k s h = h (birth site)
   good_ready (to (local site here)) ws env k s h = h _
 
@@ -89,6 +97,7 @@ module _ (around : Setting) (calls : Calls) where
 
 module _ (around : Setting) where
   good_land : (l : Landing) (v : Value) (ws : Ways) (env : Env) (k : Env → Go) → ((env1 : Env) → Good (k env1)) → Good (land around l v ws env k)
+  good_land nowhere v ws env k h = h env
   good_land (birth site) v ws env k h = λ w. h _ _
   good_land (on a) v ws env k h = good_settle a _ (λ q w. h env _)
 
@@ -110,9 +119,9 @@ good_emit true [] g h = h
 good_emit true (b ∷ bs) g h = λ w. good_emit_more bs g h w
 good_emit false bs g h = good_emit_plain bs g h
 
-good_renew : (around : Setting) (call : ℕ) (sites : List ℕ) (env : Env) (k : Env → Go) → ((env1 : Env) → Good (k env1)) → Good (renew around call sites env k)
-good_renew around call [] env k h = h env
-good_renew around call (site ∷ sites) env k h = λ w. good_renew around call sites _ k h _
+good_renew : (around : Setting) (entry : ℕ) (sites : List ℕ) (env : Env) (k : Env → Go) → ((env1 : Env) → Good (k env1)) → Good (renew around entry sites env k)
+good_renew around entry [] env k h = h env
+good_renew around entry (site ∷ sites) env k h = λ w. good_renew around entry sites _ k h _
 
 good_rounds : (fuel : ℕ) (test : Env → Then Value → Go) (body : ℕ → Env → (ℕ → Env → Go) → Go) (k : ℕ → Env → Go)
     → ((env : Env) (j : Then Value) → GoodThen j → Good (test env j))
@@ -127,16 +136,17 @@ good_next : (around : Setting) (ws : Ways) (n : ℕ) (sites : List ℕ) (post : 
     → (env : Env) → Good (to_next around n sites post ws j env)
 good_next around ws n sites post j p g env = λ w. good_renew around ws.call sites env _ (λ env1. p env1 _ (λ env2. g _ env2)) w
 
-module _ (around : Setting) (calls : Calls) (fuel : ℕ) where
+module _ (around : Setting) (calls : Calls) (gc : GoodCalls calls) (fuel : ℕ) where
   mutual
     good_exec : (st : St) (ws : Ways) (env : Env) (k : Env → Go) → GoodWays ws → ((env1 : Env) → Good (k env1)) → Good (exec around calls fuel st ws env k)
     good_exec (assign ls es) ws env k s h =
-        good_ready_all around calls ls ws env _ s (λ xs ws1 s1. good_evs around calls es ws1 env _ s1 (λ vs. good_land_all around xs vs ws env k h))
+        good_ready_all around calls gc ls ws env _ s (λ xs ws1 s1. good_evs around calls gc es ws1 env _ s1 (λ vs. good_land_all around xs vs ws env k h))
+    good_exec (discard es) ws env k s h = good_evs around calls gc es ws env _ s (λ vs. h env)
     good_exec (block ss) ws env k s h = good_exec_all ss ws env k s h
     good_exec (choose e a b) ws env k s h =
-        good_ev around calls e ws env _ s (λ v w. good_when (is_true v) _ _ (good_exec_all a ws env k s h) (good_exec_all b ws env k s h) w)
+        good_ev around calls gc e ws env _ s (λ v w. good_when (is_true v) _ _ (good_exec_all a ws env k s h) (good_exec_all b ws env k s h) w)
     good_exec (loop sites test post body) ws env k s h =
-        λ w. good_rounds fuel _ _ _ (λ env1 j g. good_test around calls test ws env1 j s g)
+        λ w. good_rounds fuel _ _ _ (λ env1 j g. good_test around calls gc test ws env1 j s g)
         (λ n1 env1 j g. good_exec_all body _ env1 _
         (record {
           broken = λ env2 w2. h env2 w2;
@@ -146,24 +156,51 @@ module _ (around : Setting) (calls : Calls) (fuel : ℕ) where
         })
         (good_next around ws n1 sites (exec_all around calls fuel post) j (λ env3 k3 h3. good_exec_all post ws env3 k3 s h3) g))
         (λ n1 env1 w1. h env1 w1) (length w.store - length sites) env w
-    good_exec (print ln ps) ws env k s h = good_pieces around calls ps ws env _ s (λ bs. good_emit ln bs _ (h env))
+    good_exec (give_back es) ws env k s h = good_evs around calls gc es ws env _ s (λ vs. s.returned vs env)
+    good_exec (print ln ps) ws env k s h = good_pieces around calls gc ps ws env _ s (λ bs. good_emit ln bs _ (h env))
 
     good_exec_all : (ss : Sts) (ws : Ways) (env : Env) (k : Env → Go) → GoodWays ws → ((env1 : Env) → Good (k env1)) → Good (exec_all around calls fuel ss ws env k)
     good_exec_all done ws env k s h = λ w. h env w
     good_exec_all (next st ss) ws env k s h = λ w. good_exec st ws env _ s (λ env1. good_exec_all ss ws env1 k s h) w
 
-module _ (around : Setting) (funcs : List Func) where
-  good_body : (calls : Calls) (fuel f : ℕ) (o : Option Func) (vs : List Value) (ws : Ways) (env : Env) (k : Then (List Value)) → GoodWays ws → GoodThen k
-      → Good (run_body around funcs calls fuel f o vs ws env k)
-  good_body calls fuel f None vs ws env k s h = h []
-  good_body calls fuel f (Some func) vs ws env k s h =
-      λ w. good_exec_all around calls fuel func.body _ _ _
-      (record { broken = λ env1 w1. h [] w1; continued = λ env1 w1. h [] w1; returned = λ us env1 w1. h us w1; panicked = λ at x env1. s.panicked at x env })
-      (λ env1 w1. h [] w1) w
+good_params : (around : Setting) (entry : ℕ) (ps : List (Option ℕ)) (vs : List Value) (env : Env) (k : Env → Go) → ((env1 : Env) → Good (k env1)) → Good (bear_params around entry ps vs env k)
+good_params around entry [] vs env k h = h env
+good_params around entry (p ∷ ps) [] env k h = h env
+good_params around entry (None ∷ ps) (v ∷ vs) env k h = good_params around entry ps vs env k h
+good_params around entry (Some site ∷ ps) (v ∷ vs) env k h = λ w. good_params around entry ps vs _ k h _
 
-  good_call : (fuel f : ℕ) (vs : List Value) (ws : Ways) (env : Env) (k : Then (List Value)) → GoodWays ws → GoodThen k → Good (call_at around funcs fuel f vs ws env k)
-  good_call zero f vs ws env k s h = λ w. tt
-  good_call (suc fuel) f vs ws env k s h = good_body (call_at around funcs fuel) (suc fuel) f (slice_get funcs f) vs ws env k s h
+good_zeros : (around : Setting) (entry : ℕ) (sites : List ℕ) (env : Env) (k : Env → Go) → ((env1 : Env) → Good (k env1)) → Good (bear_zeros around entry sites env k)
+good_zeros around entry [] env k h = h env
+good_zeros around entry (site ∷ sites) env k h = λ w. good_zeros around entry sites _ k h _
+
+good_writes : (sites : List ℕ) (vs : List Value) (env : Env) (g : Go) → Good g → Good (write_results sites vs env g)
+good_writes [] vs env g h = h
+good_writes (site ∷ sites) [] env g h = h
+good_writes (site ∷ sites) (v ∷ vs) env g h = λ w. good_writes sites vs env g h _
+
+good_reads : (sites : List ℕ) (env : Env) (k : Then (List Value)) → GoodThen k → Good (read_results sites env k)
+good_reads [] env k h = h []
+good_reads (site ∷ sites) env k h = λ w. good_reads sites env _ (λ vs. h _) w
+
+good_leave : (named : List ℕ) (n : ℕ) (k : Then (List Value)) → GoodThen k → (vs : List Value) (env : Env) → Good (leave named n k vs env)
+good_leave [] n k h vs env = λ w. h vs w
+good_leave (site ∷ sites) n k h vs env = good_writes (site ∷ sites) vs env _ (good_reads (site ∷ sites) env (leave_with n k) (λ rs w. h rs w))
+
+module _ (around : Setting) (funcs : List Func) where
+  good_body : (calls : Calls) (gc : GoodCalls calls) (fuel f : ℕ) (o : Option Func) (vs : List Value) (ws : Ways) (env : Env) (k : Then (List Value)) → GoodWays ws → GoodThen k
+      → Good (run_body around funcs calls fuel f o vs ws env k)
+  good_body calls gc fuel f None vs ws env k s h = h []
+  good_body calls gc fuel f (Some func) vs ws env k s h =
+      λ w.
+      let back = good_leave func.named (length w.store) k h in
+      good_params around (length w.store) func.params vs _ _ (λ env1. good_zeros around (length w.store) func.named env1 _ (λ env2.
+      good_exec_all around calls gc fuel func.body _ env2 _
+      (record { broken = back []; continued = back []; returned = back; panicked = λ at x env3. s.panicked at x env })
+      (back []))) w
+
+  good_call : (fuel : ℕ) → GoodCalls (call_at around funcs fuel)
+  good_call zero = record { by = λ f vs ws env k s h w. tt }
+  good_call (suc fuel) = record { by = λ f vs ws env k s h. good_body (call_at around funcs fuel) (good_call fuel) (suc fuel) f (slice_get funcs f) vs ws env k s h }
 
 good_globals : (around : Setting) (gs : List (ℕ × Value)) (g : Go) → Good g → Good (bear_globals around gs g)
 good_globals around [] g h = h
@@ -174,7 +211,7 @@ good_top = record { broken = λ env w. omega arith; continued = λ env w. omega 
 
 ends_well : (item : List ℕ → Answer) (p : Program) (input : List ℕ) (n : ℕ) → EndsWell (trace item p input n)
 ends_well item p input n =
-    good_globals (setting_of item p) p.globals _ (good_call (setting_of item p) p.funcs (suc n) p.main [] at_top (λ x. 0) _ good_top (λ rs w. omega arith)) (beginning input)
+    good_globals (setting_of item p) p.globals _ ((good_call (setting_of item p) p.funcs (suc n)).by p.main [] at_top (λ x. 0) _ good_top (λ rs w. omega arith)) (beginning input)
 
 -- what is shown ends well, too
 abbrev ShowsWell : Outcome (List ℕ) Ending → Type 0

@@ -267,10 +267,14 @@ fn stack_limit(rt: HostRuntime) -> Result<(), Fail> {
 // The frames of `deep` and its `main` have 8 and 5 words, those of `down` and its `main` 6 and 4.
 #[test]
 fn functions(rt: HostRuntime) -> Result<(), Fail> {
-    let deep = "package main\nfunc deep(n int) int { if n == 0 { return 0 }; return 1 + deep(n-1) }\nfunc main() { println(deep(100)) }";
-    let down = "package main\nfunc down(n int) { if n > 0 { down(n - 1) } }\nfunc main() { down(10); println(1) }";
-    let two = "package main\nfunc two(n int) (q, r int) { q = n + 1; r = n * 2; return }\nfunc main() { a, b := two(5); a, b = b, a; println(a, b) }";
-    let order = "package main\nfunc show(n int) int { println(n); return n }\nfunc main() { x, y := show(1), show(2); x, y = show(y), show(x); println(x - y) }";
+    let deep =
+        "package main\nfunc deep(n int) int { if n == 0 { return 0 }; return 1 + deep(n-1) }\nfunc main() { println(deep(100)) }";
+    let down =
+        "package main\nfunc down(n int) { if n > 0 { down(n - 1) } }\nfunc main() { down(10); println(1) }";
+    let two =
+        "package main\nfunc two(n int) (q, r int) { q = n + 1; r = n * 2; return }\nfunc main() { a, b := two(5); a, b = b, a; println(a, b) }";
+    let order =
+        "package main\nfunc show(n int) int { println(n); return n }\nfunc main() { x, y := show(1), show(2); x, y = show(y), show(x); println(x - y) }";
     let table: [(&str, &str, &str, u8, &str, &str); 7] = [
         (deep, "16", "813", 0, "100\n", ""),
         (

@@ -192,7 +192,12 @@ fn escapes_in_strings(rt: HostRuntime) -> Result<(), Fail> {
                 );
             }
             Some((number, offset)) => assert!(rt;
-                is_refused(rt.alloc(), &text, number, (offset, 1, offset.saturating_add(1))),
+                is_refused(
+                    rt.alloc(),
+                    &text,
+                    number,
+                    (offset, 1, offset.saturating_add(1))
+                ),
                 "kind {number} at {offset}"
             ),
         }
