@@ -1,5 +1,5 @@
 -- What a run of a program's code leaves, in the words of the table of answers.
-use Rattle.std.proofs.Common.{◌≡◌, subst, ℕ, ◌/◌, [], List, Option, Some, Result, Ok, Err, arith}
+use Rattle.std.proofs.Common.{◌≡◌, ◌∙◌, sym, ap, inr, subst, ℕ, ◌/◌, [], List, Option, Some, Result, Ok, Err, arith}
 use Rattle.limits.specs.Limits.{Bounds}
 use Rattle.isa.specs.Code.{Tables}
 use Rattle.simulation.specs.Outcome.{ending_in}
@@ -11,7 +11,12 @@ use Rattle.codegen.specs.Correct.{Simulated, Ran as RanCode, limits, target}
 use Rattle.codegen.specs.declared.running.RunFault.{RunFault}
 use Rattle.codegen.specs.declared.running.RunFault.TheVariants as Fault
 use Rattle.gostk.specs.Programs.{Reading, few_turns, all_turns}
-use Rattle.gostk.specs.Rows.{Ran}
+use Rattle.compile.specs.declared.fault.CompileFault.{CompileFault}
+use Rattle.compile.specs.declared.fault.CompileFault.TheVariants.{NoMemory}
+use Rattle.gostk.specs.Refusal.{refusal_of}
+use Rattle.gostk.specs.declared.refusal.Refusal.{Refusal}
+use Rattle.gostk.specs.declared.answer.Answer.{Answer}
+use Rattle.gostk.specs.Rows.{IsTextOf, Ran, RanText}
 use Rattle.gostk.specs.declared.answer.Answer.TheVariants as answer
 use Rattle.gostk.proofs.Early.{joined}
 use Rattle.gostk.proofs.Endings.{exit_status}
@@ -54,3 +59,21 @@ module _ (p : Program) (code : Tables) (b : Bounds) (s : Simulated p code) (old 
 
   pub refused : Told p b.stack_max b.steps (Err Fault.NoMemory) old new before now → Ran p b answer.NoMemory old new before now
   refused h = record { took = λ r. h r.0 r.1 }
+
+-- what a run of a text's program leaves, a run of the text leaves
+pub of_text : (file text : List ℕ) (b : Bounds) (a : Answer) (old new : Option (List ℕ)) (before now : ℕ) (p : Program) → IsTextOf text p → Ran p b a old new before now
+    → RanText file text b a old new before now
+of_text file text b (answer.Ended status) old new before now p is h = (p, is, h)
+of_text file text b (answer.Usage t) old new before now p is h = absurd h
+of_text file text b (answer.Limits f) old new before now p is h = absurd h
+of_text file text b answer.SourceOnly old new before now p is h = absurd h
+of_text file text b (answer.Refused name refusal) old new before now p is h = absurd h
+of_text file text b answer.ReadFault old new before now p is h = absurd h
+of_text file text b answer.WriteFault old new before now p is h = (p, is, h)
+of_text file text b (answer.Steps n) old new before now p is h = (p, is, h)
+of_text file text b (answer.StackLimit used asked limit) old new before now p is h = (p, is, h)
+of_text file text b answer.NoMemory old new before now p is h = inr (p, is, h)
+
+-- want of memory is not reported as a refusal of the text
+pub no_refusal : (f : CompileFault) (r : Refusal) → f ≡ NoMemory → refusal_of f ≡ Some r → ⊥
+no_refusal f r h is = let e : refusal_of NoMemory ≡ Some r = sym (ap refusal_of h) ∙ is in cc

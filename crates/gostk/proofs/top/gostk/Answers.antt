@@ -1,5 +1,5 @@
 use Rattle.gostk.specs.Words.{texts_of}
-use Rattle.gostk.proofs.Table.{completes, write_failed, steps_passed}
+use Rattle.gostk.proofs.Table.{completes, wrong_text, write_failed, steps_passed}
 use Rattle.gostk.proofs.top.gostk.Goals as goal
 
 pub returns-clause-write_failed : goal.returns-clause-write_failed
@@ -10,3 +10,6 @@ returns-clause-steps_passed g c = steps_passed _ _ (texts_of c.args.words.now) c
 
 pub returns-clause-right_text : goal.returns-clause-right_text
 returns-clause-right_text g c = completes _ _ (texts_of c.args.words.now) c.carry_out-answer.result c.report.result _ _ _ _ c.carry_out-answer.ensures.allowed c.report.ensures
+
+pub returns-clause-wrong_text : goal.returns-clause-wrong_text
+returns-clause-wrong_text g c = wrong_text _ _ (texts_of c.args.words.now) c.carry_out-answer.result c.report.result _ _ _ _ c.carry_out-answer.ensures.allowed c.report.ensures
