@@ -1,4 +1,4 @@
-use Rattle.std.proofs.Common.{rules, ◌≡◌, List, [], Some, refl}
+use Rattle.std.proofs.Common.{rules, ◌≡◌, [], Some, refl}
 use Rattle.outside.specs.Took.{Took}
 use Rattle.typed.specs.Syntax.{Program}
 use Rattle.compile.specs.Accepted.{Accepted}
