@@ -109,7 +109,10 @@ fn accepted_texts(rt: HostRuntime) -> Result<(), Fail> {
         let text = format!(in rt.alloc(); "package main\nfunc main() {{ {body} }}\n")?;
         match compile(rt.alloc(), text.as_bytes()) {
             Ok(compiled) => {
-                assert_eq!(rt; compiled.layouts.frames()[0].frame, frame, "of {body}");
+                match compiled.layouts.frames() {
+                    [main] => assert_eq!(rt; main.frame, frame, "of {body}"),
+                    _ => assert!(rt; false, "of {body}: another number of frames"),
+                }
                 assert_eq!(rt; compiled.code.instrs().len(), instructions, "of {body}");
             }
             Err(fault) => assert!(rt; false, "{body}: {fault:?}"),
