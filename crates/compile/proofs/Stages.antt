@@ -12,13 +12,11 @@ use Rattle.scan_go.specs.Scan.{AreTokens}
 use Rattle.scan_go.specs.TokenList.{TokenList}
 use Rattle.parse_go.specs.declared.fault.ParseFault.{ParseFault}
 use Rattle.parse_go.specs.declared.fault.ParseFault.TheVariants as parse
-use Rattle.base.specs.declared.pos.Pos.{Pos}
-use Rattle.parse_go.specs.declared.tree.Func.{Func as TreeData}
-use Rattle.parse_go.specs.Tree.{Function, Syntax, functions_of}
+use Rattle.syntax.specs.Declarations.{Syntax}
 use Rattle.parse_go.specs.Grammar.{IsText}
 use Rattle.parse_go.specs.Faults.{GivesTree}
-use Rattle.types_go.specs.declared.fault.TypeFault.{TypeFault}
-use Rattle.types_go.specs.declared.fault.TypeFault.TheVariants as typing
+use Rattle.expression_types.specs.declared.fault.TypeFault.{TypeFault}
+use Rattle.expression_types.specs.declared.fault.TypeFault.TheVariants as typing
 use Rattle.types_go.specs.Checked.{Types, Reports, OnlyProgram}
 use Rattle.typed.specs.Syntax.{Func, Program}
 use Rattle.typed.specs.View.{func_of, program_of}
@@ -43,11 +41,6 @@ none_large fs (g ∷ gs) fits =
     let small : nat_lt 65535 (frame_of fs (func_of g)) ≡ false = le-ltb 65535 (frame_of fs (func_of g)) (fits 0 (func_of g) refl) in
     ap (λ (b : Bool). or_else (if b then Some (record { pos = g.pos; words = frame_of fs (func_of g) }) else None) (first_too_large fs gs)) small
     ∙ none_large fs gs (λ f func is. fits (suc f) func is)
-
--- the names of functions, in the tree's data and in its syntax
-pub names_in : (fs : List TreeData) → map (λ (f : TreeData). f.name.pos) fs ≡ map (λ (f : Function). f.name.pos) (functions_of fs)
-names_in [] = refl
-names_in (f ∷ fs) = ap (λ (ps : List Pos). f.name.pos ∷ ps) (names_in fs)
 
 or_none : (k l : Option Large) → or_else k l ≡ None → (k ≡ None) × (l ≡ None)
 or_none None l h = (refl, h)

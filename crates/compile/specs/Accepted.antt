@@ -5,11 +5,11 @@ use Rattle.scan_go.specs.declared.fault.ScanFault.TheVariants as scan
 use Rattle.scan_go.specs.Scan.{AreTokens, IsFault}
 use Rattle.scan_go.specs.Lines.{pos_at}
 use Rattle.parse_go.specs.declared.fault.ParseFault.TheVariants as parse
-use Rattle.parse_go.specs.Tree.{Function as TreeFunction, Syntax}
+use Rattle.syntax.specs.Declarations.{Syntax}
 use Rattle.parse_go.specs.Grammar.{IsText}
 use Rattle.parse_go.specs.Faults.{IsFirstFault}
-use Rattle.types_go.specs.declared.fault.TypeFault.TheVariants as typing
-use Rattle.types_go.specs.Checked.{Types, Reports}
+use Rattle.expression_types.specs.declared.fault.TypeFault.TheVariants as typing
+use Rattle.types_go.specs.Checked.{Types, Reports, function_places}
 use Rattle.typed.specs.Syntax.{Func, Program}
 use Rattle.typed.specs.View.{program_of}
 use Rattle.typed.specs.Frames.{frame_of}
@@ -39,7 +39,7 @@ pub record Accepted (text : List ℕ) (p : Program) : Type 0 where
 
 -- each function of a program stands where its name stands in the tree
 abbrev pub StandAtNames : ProgramData → Syntax → Type 0
-StandAtNames program tree = map (λ (f : FuncData). f.pos) program.funcs.items ≡ map (λ (f : TreeFunction). f.name.pos) tree.funcs
+StandAtNames program tree = map (λ (f : FuncData). f.pos) program.funcs.items ≡ function_places tree
 
 -- a text's tokens have no tree, because of this fault
 pub record HasParseFault (text : List ℕ) (f : Rattle.parse_go.specs.declared.fault.ParseFault.ParseFault) : Type 0 where
@@ -49,7 +49,7 @@ pub record HasParseFault (text : List ℕ) (f : Rattle.parse_go.specs.declared.f
   pub fault : f ≢ parse.NoMemory
 
 -- a text's tree has no typed program, because of this fault
-pub record HasTypeFault (text : List ℕ) (f : Rattle.types_go.specs.declared.fault.TypeFault.TypeFault) : Type 0 where
+pub record HasTypeFault (text : List ℕ) (f : Rattle.expression_types.specs.declared.fault.TypeFault.TypeFault) : Type 0 where
   pub tree : Syntax
   pub has : HasTree text tree
   pub least : Reports tree f

@@ -13,4 +13,6 @@ pub use compiling::{Compiled, compile};
 pub use fault::CompileFault;
 
 #[cfg(test)]
+mod checker_tests;
+#[cfg(test)]
 mod tests;

@@ -336,7 +336,7 @@ fn texts(rt: HostRuntime) -> Result<(), Fail> {
             "package main\nfunc main()\n{\nprintln(1)\n}\n",
             201,
             "",
-            "a.go:2:12: parse kind 1\n",
+            "a.go:3:1: parse kind 1\n",
         ),
         (
             "package main\nfunc main() { println(y) }",

@@ -1,2 +1,3 @@
 pub mod Tables
 pub mod LastInsert
+pub mod Shifts

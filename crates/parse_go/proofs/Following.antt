@@ -1,173 +1,117 @@
--- What may follow in each state of the machine.
-use Rattle.std.proofs.Common.{◌≡◌, ℕ, suc, max, ◌≤◌, List, [], ◌∷◌, ◌++◌, ◌⊎◌, Option, Some, None}
-use Rattle.std.specs.Prelude.{map}
+-- What may follow in each state of the machine of whole texts.
+use Rattle.std.proofs.Common.{◌≡◌, List, [], ◌++◌, Option, Some, None}
 use Rattle.base.specs.declared.pos.Pos.{Pos}
-use Rattle.parse_go.specs.declared.tree.CompareOp.{CompareOp}
-use Rattle.parse_go.specs.declared.tree.Name.{Name}
-use Rattle.parse_go.specs.declared.tree.Param.{Param}
-use Rattle.parse_go.specs.declared.terminal.Terminal.TheVariants.{Package, Identifier, Else, Define, Assign, Compare, Comma, Semicolon, LeftParen, RightParen, LeftBrace, RightBrace}
-use Rattle.parse_go.specs.Tree.{Ex, name, Exs, none, some, Condition, compare, express, give_back, loop, block, Stms, nil, Els, else_block, Function, File}
-use Rattle.parse_go.specs.Heights.{height}
-use Rattle.parse_go.specs.Grammar.{ReadsEx, ReadsMore, ReadsLoopCondition, ClosesList, unnamed, named, AreNamed, AreParams, AreResults, AreFunctions, IsElse, IsBody, Mark, inside}
-use Rattle.parse_go.specs.Lists.{appended}
-use Rattle.parse_go.specs.Outer.{joined, one, Outer, in_block, in_loop, in_then, in_else, chain_depth, brace_depth, whole_if}
-use Rattle.parse_go.specs.Signatures.{Signature, with_function, Owner, of_params, of_results, Before, nothing, with_names}
-use Rattle.parse_go.specs.Frames.{Opener, Listed, to_define, to_assign, to_return, listed_statement, Head, expressing, listing, comparing, compared, opener_depth, head_depth}
-use Rattle.parse_go.specs.Machine.{Blocks, State, at_package, at_package_name, at_package_end, at_function, at_function_name, at_opening, at_param, at_param_names, at_param_type, at_results, at_body, at_statement, at_named, at_next_name, at_names, at_return, at_for, at_operand, at_argument, at_operator, at_then, at_else, at_stop, at_last, around, with_statement, opened, statement_depth}
-use Rattle.parse_go.proofs.Growth.{tightness}
-use Rattle.parse_go.proofs.OpenFrames.{Valid, Have, Wants, Argument}
-use Rattle.parse_go.proofs.NameLists.{NamesThen, NameWanted}
+use Rattle.syntax.specs.declared.expression.Name.{Name}
+use Rattle.syntax.specs.Expressions.{Ex, none, some}
+use Rattle.syntax.specs.Statements.{ValueSpec, Stms}
+use Rattle.syntax.specs.Declarations.{Parameters, unnamed, TypeSpec, Body, Declaration, types, File}
+use Rattle.parse_expressions.specs.declared.terminal.Terminal.TheVariants.{Identifier, Package, Semicolon, LeftParen}
+use Rattle.parse_expressions.specs.Grammar.{Mark}
+use Rattle.parse_expressions.proofs.Following as expression
+use Rattle.parse_statements.specs.Grammar.{Declares}
+use Rattle.parse_statements.proofs.Marks.{Next, NextAt}
+use Rattle.parse_statements.proofs.ValueSpecsFollowing as value_specs
+use Rattle.parse_statements.proofs.BodiesFollowing as bodies
+use Rattle.parse_go.specs.Grammar.{AreResults, ReadsBody, AreDeclarations}
+use Rattle.parse_go.specs.Parameters.{at_name_or_type}
+use Rattle.parse_go.specs.Machine.{Named, Signature, State, at_package, at_package_name, at_package_end, at_declaration, in_values, in_types, at_function, at_opening, in_params, at_results, in_result, in_results, at_body, in_body, at_end, with_declaration, with_results, with_function, values_declared, result_base}
+use Rattle.parse_go.proofs.TypeSpecsFollowing as type_specs
+use Rattle.parse_go.proofs.ParametersFollowing as parameters
 
--- ---- what may follow the functions
+-- a name, and then what Then says
+pub record NextName (Then : Name → List Mark → Type 0) (w : List Mark) : Type 0 where
+  pub name : Name
+  pub follows : Next (Identifier name) 0 (Then name) w
 
-abbrev pub FromFunctions : File → List Mark → File → Type 0
-FromFunctions f w tree = (gs : List Function) × AreFunctions gs w × (tree ≡ record { package_name = f.package_name; funcs = f.funcs ++ gs })
+-- ---- what may follow the declarations
 
--- behind the body of a function
-abbrev pub FromLast : File → List Mark → File → Type 0
-FromLast f w tree = (m : List Mark) × (w ≡ inside Semicolon 0 ∷ m) × FromFunctions f m tree
+pub record FromDeclarations (f : File) (tree : File) (w : List Mark) : Type 0 where
+  pub others : List Declaration
+  pub reads : AreDeclarations others w
+  pub whole : tree ≡ record { package_name = f.package_name; declarations = f.declarations ++ others }
 
--- ---- what may follow the blocks that are open
+-- behind a declaration
+abbrev pub FromEnd : File → File → List Mark → Type 0
+FromEnd f tree w = Next Semicolon 0 (FromDeclarations f tree) w
 
--- what may follow a statement, up to the end of its block
-pub data Tail : ℕ → Stms → Pos → List Mark → List Mark → Type 0 where
-  brace : {d : ℕ} {end : Pos} {k : List Mark} → Tail d nil end (inside (RightBrace end) d ∷ k) k
-  semi : {d : ℕ} {ss : Stms} {end : Pos} {m k : List Mark} → IsBody d ss end m k → Tail d ss end (inside Semicolon (suc d) ∷ m) k
+-- ---- what may follow the parts of a function
 
--- the innermost block, whose statements are ss, is closed at the place end
-abbrev pub Up : Signature → List Outer → Stms → Pos → List Mark → File → Type 0
-Up sig [] ss end w tree = FromLast (with_function sig ss end) w tree
-Up sig (in_block done ∷ os) ss end w tree = (others : Stms) × (q : Pos) × (k : List Mark) × Tail (brace_depth os) others q w k × Up sig os (joined (joined done (one (block ss))) others) q k tree
-Up sig (in_loop done place c ∷ os) ss end w tree = (others : Stms) × (q : Pos) × (k : List Mark) × Tail (brace_depth os) others q w k × Up sig os (joined (joined done (one (loop place c ss))) others) q k tree
-Up sig (in_then done bs place c ∷ os) ss end w tree = (e : Els) × (m : List Mark) × IsElse (chain_depth bs (suc (brace_depth os))) e w m × ((others : Stms) × (q : Pos) × (k : List Mark) × Tail (brace_depth os) others q m k × Up sig os (joined (joined done (one (whole_if bs (record { place = place; condition = c; body = ss }) e))) others) q k tree)
-Up sig (in_else done bs b ∷ os) ss end w tree = (others : Stms) × (q : Pos) × (k : List Mark) × Tail (brace_depth os) others q w k × Up sig os (joined (joined done (one (whole_if bs b (else_block ss)))) others) q k tree
+-- behind its results
+pub record FromBody (s : Signature) (tree : File) (w : List Mark) : Type 0 where
+  pub body : Option Body
+  pub rest : List Mark
+  pub reads : ReadsBody body w rest
+  pub follows : FromEnd (with_function s body) tree rest
 
--- a statement ends
-abbrev pub BehindStm : Blocks → List Mark → File → Type 0
-BehindStm b w tree = (others : Stms) × (q : Pos) × (k : List Mark) × Tail (brace_depth b.outer) others q w k × Up b.signature b.outer (joined b.done others) q k tree
+-- behind its parameters
+pub record FromResults (n : Named) (ps : Parameters) (tree : File) (w : List Mark) : Type 0 where
+  pub results : Parameters
+  pub rest : List Mark
+  pub reads : AreResults results w rest
+  pub follows : FromBody (with_results n ps results) tree rest
 
--- a statement may begin
-abbrev pub InBody : Blocks → List Mark → File → Type 0
-InBody b w tree = (others : Stms) × (q : Pos) × (k : List Mark) × IsBody (brace_depth b.outer) others q w k × Up b.signature b.outer (joined b.done others) q k tree
+abbrev pub FromOpening : Named → File → List Mark → Type 0
+FromOpening n tree w = NextAt LeftParen 0 (λ q. parameters.Rest (λ ps. FromResults n ps tree) (at_name_or_type [])) w
 
--- ---- what may follow up to the body of a function
+abbrev pub FromFunction : File → Pos → File → List Mark → Type 0
+FromFunction f place tree w = NextName (λ x. FromOpening (record { file = f; place = place; name = x }) tree) w
 
-abbrev pub FromBody : Signature → List Mark → File → Type 0
-FromBody sig w tree = (m : List Mark) × (w ≡ inside LeftBrace 0 ∷ m) × InBody (around sig [] nil) m tree
+-- ---- what may follow the name of the package
 
-abbrev pub FromResults : File → Name → List Param → List Mark → File → Type 0
-FromResults f x ps w tree = (rs : List Param) × (m : List Mark) × AreResults rs w m × FromBody (record { file = f; name = x; params = ps; results = rs }) m tree
+abbrev pub FromPackageEnd : Name → File → List Mark → Type 0
+FromPackageEnd x tree w = Next Semicolon 0 (FromDeclarations (record { package_name = x; declarations = [] }) tree) w
 
--- behind the closing parenthesis of parameters or results
-abbrev pub Closed : Owner → List Param → List Mark → File → Type 0
-Closed (of_params f x) ps w tree = FromResults f x ps w tree
-Closed (of_results f x ps) rs w tree = FromBody (record { file = f; name = x; params = ps; results = rs }) w tree
-
--- behind the opening one
-abbrev pub FromParams : Owner → List Mark → File → Type 0
-FromParams o w tree = (ps : List Param) × (m : List Mark) × AreParams ps w m × Closed o ps m tree
-
--- behind the type of the last of these parameters
-abbrev pub BehindType : Owner → List Param → List Mark → File → Type 0
-BehindType o ps w tree = ((m : List Mark) × ClosesList 0 w m × Closed o ps m tree) ⊎ ((n : List Mark) × (w ≡ inside Comma 1 ∷ n) × (others : List Param) × (m : List Mark) × AreNamed others n m × Closed o (ps ++ others) m tree)
-
--- behind names, behind the parameters ps: their type follows
-abbrev pub ThenType : Owner → File → List Param → List Name → List Mark → Type 0
-ThenType o tree ps xs w = (t : Name) × (m : List Mark) × (w ≡ inside (Identifier t) 1 ∷ m) × BehindType o (ps ++ map (named t) xs) m tree
-
--- behind names, which are types: the list ends
-abbrev pub ThenClosed : Owner → File → List Name → List Mark → Type 0
-ThenClosed o tree xs w = (m : List Mark) × ClosesList 0 w m × Closed o (map unnamed xs) m tree
-
-abbrev pub BehindNames : Owner → Before → File → List Name → List Mark → Type 0
-BehindNames o nothing tree xs w = ThenType o tree [] xs w ⊎ ThenClosed o tree xs w
-BehindNames o (with_names ps) tree xs w = ThenType o tree ps xs w
-
--- the closing parenthesis, behind a comma or the opening one
-abbrev pub ParamsEnd : Owner → Before → List Name → List Mark → File → Type 0
-ParamsEnd o nothing xs w tree = (m : List Mark) × (w ≡ inside RightParen 0 ∷ m) × Closed o (map unnamed xs) m tree
-ParamsEnd o (with_names ps) [] w tree = (m : List Mark) × (w ≡ inside RightParen 0 ∷ m) × Closed o ps m tree
-ParamsEnd o (with_names ps) (x ∷ xs) w tree = ⊥
-
-abbrev pub FromOpening : File → Name → List Mark → File → Type 0
-FromOpening f x w tree = (q : Pos) × (m : List Mark) × (w ≡ inside (LeftParen q) 0 ∷ m) × FromParams (of_params f x) m tree
-
-abbrev pub FromFunctionName : File → List Mark → File → Type 0
-FromFunctionName f w tree = (x : Name) × (m : List Mark) × (w ≡ inside (Identifier x) 0 ∷ m) × FromOpening f x m tree
-
-abbrev pub FromPackageEnd : Name → List Mark → File → Type 0
-FromPackageEnd x w tree = (m : List Mark) × (w ≡ inside Semicolon 0 ∷ m) × FromFunctions (record { package_name = x; funcs = [] }) m tree
-
-abbrev pub FromPackageName : List Mark → File → Type 0
-FromPackageName w tree = (x : Name) × (m : List Mark) × (w ≡ inside (Identifier x) 0 ∷ m) × FromPackageEnd x m tree
-
-abbrev pub FromPackage : List Mark → File → Type 0
-FromPackage w tree = (m : List Mark) × (w ≡ inside Package 0 ∷ m) × FromPackageName m tree
-
--- ---- what may follow in statements
-
--- behind the whole condition of an `if` or `for`
-abbrev pub EndsCondition : Blocks → Opener → Condition → List Mark → File → Type 0
-EndsCondition b o c m tree = (k : List Mark) × (m ≡ inside LeftBrace (opener_depth (statement_depth b) o) ∷ k) × InBody (opened b o c) k tree
-
--- behind the whole expression of a statement
-abbrev pub Ends : Blocks → Head → File → Ex → List Mark → Type 0
-Ends b expressing tree e m = BehindStm (with_statement b (express e)) m tree
-Ends b (listing l es) tree e m = (others : Exs) × (n : List Mark) × ReadsMore (statement_depth b) others m n × BehindStm (with_statement b (listed_statement l (appended es (some e others)))) n tree
-Ends b (comparing o) tree e m = (op : CompareOp) × (k : List Mark) × (m ≡ inside (Compare op) (max (opener_depth (statement_depth b) o) (suc (height e))) ∷ k) × (a : Ex) × (n : List Mark) × ReadsEx 1 (opener_depth (statement_depth b) o) a k n × EndsCondition b o (compare op e a) n tree
-Ends b (compared o a op) tree e m = EndsCondition b o (compare op a e) m tree
-
--- the first of the values of a statement is wanted
-abbrev pub WantsValues : Blocks → Listed → List Mark → File → Type 0
-WantsValues b l w tree = Wants (Ends b (listing l none) tree) (statement_depth b) [] w
-
--- behind the names that a statement begins with
-abbrev pub ThenValues : Blocks → File → List Name → List Mark → Type 0
-ThenValues b tree xs w = ((q : Pos) × (m : List Mark) × (w ≡ inside (Define q) (statement_depth b) ∷ m) × WantsValues b (to_define xs q) m tree) ⊎ ((q : Pos) × (m : List Mark) × (w ≡ inside (Assign q) (statement_depth b) ∷ m) × WantsValues b (to_assign xs q) m tree)
+abbrev pub FromPackageName : File → List Mark → Type 0
+FromPackageName tree w = NextName (λ x. FromPackageEnd x tree) w
 
 -- ---- what may follow in each state
 
-abbrev pub Rest : State → List Mark → File → Type 0
-Rest at_package w tree = FromPackage w tree
-Rest at_package_name w tree = FromPackageName w tree
-Rest (at_package_end x) w tree = FromPackageEnd x w tree
-Rest (at_function f) w tree = FromFunctions f w tree
-Rest (at_function_name f) w tree = FromFunctionName f w tree
-Rest (at_opening f x) w tree = FromOpening f x w tree
-Rest (at_param o ps xs) w tree = NameWanted (BehindNames o ps tree) 1 xs w ⊎ ParamsEnd o ps xs w tree
-Rest (at_param_names o ps xs) w tree = NamesThen (BehindNames o ps tree) 1 xs w
-Rest (at_param_type o ps) w tree = BehindType o ps w tree
-Rest (at_results f x ps) w tree = FromResults f x ps w tree
-Rest (at_body sig) w tree = FromBody sig w tree
-Rest (at_statement b) w tree = InBody b w tree
-Rest (at_named b x) w tree = NamesThen (ThenValues b tree) (statement_depth b) (x ∷ []) w ⊎ Have (Ends b expressing tree) (statement_depth b) [] (name x) w
-Rest (at_next_name b xs) w tree = NameWanted (ThenValues b tree) (statement_depth b) xs w
-Rest (at_names b xs) w tree = NamesThen (ThenValues b tree) (statement_depth b) xs w
-Rest (at_return b place) w tree = BehindStm (with_statement b (give_back place none)) w tree ⊎ WantsValues b (to_return place) w tree
-Rest (at_for b place) w tree = (c : Option Condition) × (ss : Stms) × (q : Pos) × (k m : List Mark) × ReadsLoopCondition (statement_depth b) c w (inside LeftBrace (statement_depth b) ∷ k) × IsBody (statement_depth b) ss q k m × BehindStm (with_statement b (loop place c ss)) m tree
-Rest (at_operand b h fs) w tree = Wants (Ends b h tree) (head_depth (statement_depth b) h) fs w
-Rest (at_argument b h fs f es) w tree = Argument (Ends b h tree) (head_depth (statement_depth b) h) fs f es w
-Rest (at_operator b h fs e) w tree = Have (Ends b h tree) (head_depth (statement_depth b) h) fs e w
-Rest (at_then b bs l) w tree = (e : Els) × (m : List Mark) × IsElse (chain_depth bs (statement_depth b)) e w m × BehindStm (with_statement b (whole_if bs l e)) m tree
-Rest (at_else b bs l) w tree = (e : Els) × (m : List Mark) × IsElse (chain_depth bs (statement_depth b)) e (inside Else (chain_depth bs (statement_depth b)) ∷ w) m × BehindStm (with_statement b (whole_if bs l e)) m tree
-Rest (at_stop b) w tree = BehindStm b w tree
-Rest (at_last f) w tree = FromLast f w tree
+-- behind the parts of the layers below
+abbrev pub ValuesDeclared : File → Declares → Pos → File → List ValueSpec → List Mark → Type 0
+ValuesDeclared f k place tree specs m = FromEnd (with_declaration f (values_declared k place specs)) tree m
 
-abbrev pub Follows : Option State → List Mark → File → Type 0
-Follows None w tree = ⊥
-Follows (Some s) w tree = Rest s w tree
+abbrev pub TypesDeclared : File → Pos → File → List TypeSpec → List Mark → Type 0
+TypesDeclared f place tree specs m = FromEnd (with_declaration f (types place specs)) tree m
+
+abbrev pub ResultRead : Named → Parameters → File → Ex → List Mark → Type 0
+ResultRead n ps tree e m = FromBody (with_results n ps (unnamed (some e none))) tree m
+
+abbrev pub ResultsRead : Named → Parameters → File → Parameters → List Mark → Type 0
+ResultsRead n ps tree rs m = FromBody (with_results n ps rs) tree m
+
+abbrev pub BodyRead : Signature → File → Stms → Pos → List Mark → Type 0
+BodyRead s tree ss end m = FromEnd (with_function s (Some (record { statements = ss; end = end }))) tree m
+
+abbrev pub Rest : State → File → List Mark → Type 0
+Rest at_package tree w = Next Package 0 (FromPackageName tree) w
+Rest at_package_name tree w = FromPackageName tree w
+Rest (at_package_end x) tree w = FromPackageEnd x tree w
+Rest (at_declaration f) tree w = FromDeclarations f tree w
+Rest (in_values f k place s) tree w = value_specs.Rest k 0 (ValuesDeclared f k place tree) s w
+Rest (in_types f place s) tree w = type_specs.Rest (TypesDeclared f place tree) s w
+Rest (at_function f place) tree w = FromFunction f place tree w
+Rest (at_opening n) tree w = FromOpening n tree w
+Rest (in_params n p) tree w = parameters.Rest (λ ps. FromResults n ps tree) p w
+Rest (at_results n ps) tree w = FromResults n ps tree w
+Rest (in_result n ps o) tree w = expression.Rest result_base (ResultRead n ps tree) o w
+Rest (in_results n ps p) tree w = parameters.Rest (ResultsRead n ps tree) p w
+Rest (at_body s) tree w = FromBody s tree w
+Rest (in_body s b) tree w = bodies.Rest (BodyRead s tree) b w
+Rest (at_end f) tree w = FromEnd f tree w
+
+abbrev pub Follows : Option State → File → List Mark → Type 0
+Follows None tree w = ⊥
+Follows (Some s) tree w = Rest s tree w
 
 -- ---- what each state keeps
 
-abbrev pub IsSomeName : List Name → Type 0
-IsSomeName [] = ⊥
-IsSomeName (x ∷ xs) = Unit {0}
-
 abbrev pub ValidState : State → Type 0
-ValidState (at_param_names o ps xs) = IsSomeName xs
-ValidState (at_operand b h fs) = Valid fs
-ValidState (at_argument b h fs f es) = (7 ≤ tightness f) × Valid fs
-ValidState (at_operator b h fs e) = Valid fs × (7 ≤ tightness e)
+ValidState (in_values f k place s) = value_specs.Valid 0 s
+ValidState (in_types f place s) = type_specs.Valid s
+ValidState (in_params n p) = parameters.Valid p
+ValidState (in_result n ps o) = expression.ValidOpen result_base o
+ValidState (in_results n ps p) = parameters.Valid p
+ValidState (in_body s b) = bodies.Valid b
 ValidState _ = Unit {0}
 
 abbrev pub ValidNext : Option State → Type 0

@@ -1,6 +1,6 @@
--- The names of a tree stand where tokens of the text stand.
-use Rattle.std.proofs.Common.{◌≡◌, ℕ, suc, max, ◌≤◌, List, [], ◌∷◌, ◌++◌, Option, Some, None, sym, subst}
-use Rattle.std.specs.Prelude.{All, map}
+-- The names and strings of a tree stand where tokens of the text stand.
+use Rattle.std.proofs.Common.{◌≡◌, ℕ, suc, ◌≤◌, true, false, List, [], ◌∷◌, Option, Some, None, sym, subst}
+use Rattle.std.specs.Prelude.{All}
 use Rattle.std.specs.List.{AllByRecursion}
 use Rattle.base.specs.declared.pos.Pos.{Pos}
 use Rattle.std.proofs.lemmas.List.Elements.{All-head, All-tail}
@@ -10,203 +10,118 @@ use Rattle.scan_go.specs.declared.spelling.Op.TheVariants as op
 use Rattle.scan_go.specs.declared.token.Kind.{Kind}
 use Rattle.scan_go.specs.declared.token.Kind.TheVariants as kind
 use Rattle.scan_go.specs.declared.token.Token.{Token}
-use Rattle.parse_go.specs.declared.tree.Name.{Name}
-use Rattle.parse_go.specs.declared.tree.Param.{Param}
-use Rattle.parse_go.specs.declared.terminal.Terminal.{Terminal}
-use Rattle.parse_go.specs.declared.terminal.Terminal.TheVariants.{Identifier, Compare, Operator, Define, Assign, Comma, Semicolon, LeftParen, RightParen, LeftBrace}
-use Rattle.parse_go.specs.Tree.{Ex, number, name, unary, binary, paren, call, Exs, none, some, Condition, compare, Stm, Stms, Els, Function, File}
-use Rattle.parse_go.specs.Terminals.{terminal_at, terminal_of, terminals_of}
-use Rattle.parse_go.specs.Heights.{precedence, height}
-use Rattle.parse_go.specs.Grammar.{ReadsMoreNames, ReadsNames, ClosesList, closing, comma_closing, ReadsEx, ReadsArguments, ReadsMore, ReadsExs, ReadsCondition, ReadsLoopCondition, IsStm, defines, assigns, expresses, returns, returns_values, chooses, repeats, blocks, IsElse, absent, otherwise, otherwise_if, IsBody, close, empty, last, next, unnamed, named, AreNamed, last_names, more_names, AreParams, no_params, unnamed_params, named_params, AreResults, no_results, one_result, results, IsFunction, AreFunctions, Mark, inside, terminals_in, IsMarked, IsProgram}
-use Rattle.parse_go.specs.Spans.{IsNameSpan, NamesSpans, ExSpans, ExsSpans, ConditionSpans, LoopConditionSpans, StmSpans, StmsSpans, ElsSpans, ParamSpans, FunctionSpans, FileSpans}
-
-abbrev HasSpan : ℕ → Terminal → Type 0
-HasSpan n (Identifier x) = IsNameSpan n x
-HasSpan n _ = Unit {0}
-
-abbrev HaveSpans : ℕ → List Mark → Type 0
-HaveSpans n [] = Unit {0}
-HaveSpans n (inside t d ∷ ms) = HasSpan n t × HaveSpans n ms
-
-abbrev ParamsSpans : ℕ → List Param → Type 0
-ParamsSpans n ps = AllByRecursion (ParamSpans n) ps
+use Rattle.syntax.specs.Expressions.{Exs, none, some}
+use Rattle.syntax.specs.Declarations.{Field, Parameters, TypeSpec, Body, Function, Declaration, constants, variables, types, function, File}
+use Rattle.syntax.specs.Spans.{ExsSpans, FieldSpans, ParametersSpans, TypeSpecSpans, BodySpans, FunctionSpans, DeclarationSpans, FileSpans}
+use Rattle.parse_expressions.specs.declared.terminal.Terminal.TheVariants.{Comma, Semicolon, RightBrace}
+use Rattle.parse_expressions.specs.Terminals.{terminal_at, terminal_of, terminals_of}
+use Rattle.parse_expressions.specs.Grammar.{Mark, inside, terminals_in, ClosesArguments, closing, comma_closing}
+use Rattle.parse_expressions.proofs.NameSpans.{HasSpan, HaveSpans, type_spans}
+use Rattle.parse_statements.specs.Grammar.{of_constants, of_variables}
+use Rattle.parse_statements.proofs.NameSpans.{names_spans, group_spans, value_specs_spans, body_spans}
+use Rattle.parse_go.specs.Grammar.{ReadsField, AreFields, fields_end, last_field, next_field, ReadsTypeSpec, ReadsMoreTypes, ReadsTypes, AreNamed, last_named, next_named, AreParameters, no_parameters, unnamed_parameters, named_parameters, AreResults, no_results, one_result, results, ReadsBody, IsFunction, IsDeclaration, AreDeclarations, IsMarked, IsProgram}
 
 module _ (n : ℕ) where
-  -- ---- lists
+  -- ---- fields and types
 
-  more_names_spans : (d : ℕ) (xs : List Name) (ts rest : List Mark) → ReadsMoreNames d xs ts rest → HaveSpans n ts → NamesSpans n xs × HaveSpans n rest
-  more_names_spans d [] ts rest r a = (tt, subst (HaveSpans n) r a)
-  more_names_spans d (x ∷ xs) ts rest r a =
-      let b = (subst (HaveSpans n) r.1 a).1 in
-      let i = more_names_spans d xs r.0 rest r.2 b.1 in
-      ((b.0, i.0), i.1)
-
-  names_spans : (d : ℕ) (xs : List Name) (ts rest : List Mark) → ReadsNames d xs ts rest → HaveSpans n ts → NamesSpans n xs × HaveSpans n rest
-  names_spans d [] ts rest r a = absurd r
-  names_spans d (x ∷ xs) ts rest r a =
-      let b = subst (HaveSpans n) r.1 a in
-      let i = more_names_spans d xs r.0 rest r.2 b.1 in
-      ((b.0, i.0), i.1)
-
-  list_end_spans : {d : ℕ} {ts rest : List Mark} → ClosesList d ts rest → HaveSpans n ts → HaveSpans n rest
-  list_end_spans closing a = a.1
-  list_end_spans comma_closing a = a.1.1
-
-  -- ---- expressions
-
-  mutual
-    ex_spans : (p d : ℕ) (e : Ex) (ts rest : List Mark) → ReadsEx p d e ts rest → HaveSpans n ts → ExSpans n e × HaveSpans n rest
-    ex_spans p d (number place k) ts rest r a = (tt, (subst (HaveSpans n) r a).1)
-    ex_spans p d (name x) ts rest r a = subst (HaveSpans n) r a
-    ex_spans p d (unary place op e) ts rest r a = ex_spans 6 (suc d) e r.1 rest r.3 (subst (HaveSpans n) r.2 a).1
-    ex_spans p d (binary op b c) ts rest r a =
-        let i = ex_spans (precedence op) d b ts (inside (Operator r.1 op) (max d (suc (height b))) ∷ r.2) r.3 a in
-        let k = ex_spans (suc (precedence op)) d c r.2 rest r.4 i.1.1 in
-        ((i.0, k.0), k.1)
-    ex_spans p d (paren place e) ts rest r a =
-        let i = ex_spans 1 (suc d) e r.0 (inside RightParen d ∷ rest) r.2 (subst (HaveSpans n) r.1 a).1 in
-        (i.0, i.1.1)
-    ex_spans p d (call f es) ts rest r a =
-        let i = ex_spans 7 d f ts (inside (LeftParen r.0) (max d (suc (height f))) ∷ r.1) r.2 a in
-        let k = arguments_spans d es r.1 rest r.3 i.1.1 in
-        ((i.0, k.0), k.1)
-
-    arguments_spans : (d : ℕ) (es : Exs) (ts rest : List Mark) → ReadsArguments d es ts rest → HaveSpans n ts → ExsSpans n es × HaveSpans n rest
-    arguments_spans d none ts rest r a = (tt, (subst (HaveSpans n) r a).1)
-    arguments_spans d (some e es) ts rest r a =
-        let i = ex_spans 1 (suc d) e ts r.0 r.2 a in
-        let k = more_spans (suc d) es r.0 r.1 r.3 i.1 in
-        ((i.0, k.0), list_end_spans r.4 k.1)
-
-    more_spans : (d : ℕ) (es : Exs) (ts rest : List Mark) → ReadsMore d es ts rest → HaveSpans n ts → ExsSpans n es × HaveSpans n rest
-    more_spans d none ts rest r a = (tt, subst (HaveSpans n) r a)
-    more_spans d (some e es) ts rest r a =
-        let i = ex_spans 1 d e r.0 r.1 r.3 (subst (HaveSpans n) r.2 a).1 in
-        let k = more_spans d es r.1 rest r.4 i.1 in
-        ((i.0, k.0), k.1)
-
-  exs_spans : (d : ℕ) (es : Exs) (ts rest : List Mark) → ReadsExs d es ts rest → HaveSpans n ts → ExsSpans n es × HaveSpans n rest
-  exs_spans d none ts rest r a = absurd r
-  exs_spans d (some e es) ts rest r a =
-      let i = ex_spans 1 d e ts r.0 r.1 a in
-      let k = more_spans d es r.0 rest r.2 i.1 in
+  field_spans : (d : ℕ) (f : Field) (ts rest : List Mark) → ReadsField d f ts rest → HaveSpans n ts → FieldSpans n f × HaveSpans n rest
+  field_spans d f ts rest r a =
+      let i = names_spans n d f.names ts r.0 r.1 a in
+      let k = type_spans n true d f.type_expr r.0 rest r.2 i.1 in
       ((i.0, k.0), k.1)
 
-  -- ---- statements
-
-  condition_spans : (d : ℕ) (c : Condition) (ts rest : List Mark) → ReadsCondition d c ts rest → HaveSpans n ts → ConditionSpans n c × HaveSpans n rest
-  condition_spans d (compare op b e) ts rest r a =
-      let i = ex_spans 1 d b ts (inside (Compare op) (max d (suc (height b))) ∷ r.0) r.1 a in
-      let k = ex_spans 1 d e r.0 rest r.2 i.1.1 in
+  fields_spans : {d : ℕ} {fs : List Field} {ts rest : List Mark} → AreFields d fs ts rest → HaveSpans n ts → AllByRecursion (FieldSpans n) fs × HaveSpans n rest
+  fields_spans fields_end a = (tt, a.1)
+  fields_spans (last_field {d = d} {f = f} {ts = ts} {rest = rest} q r) a =
+      let i = field_spans (suc d) f ts (inside (RightBrace q) d ∷ rest) r a in
+      ((i.0, tt), i.1.1)
+  fields_spans (next_field {d = d} {f = f} {ts = ts} {m = m} r g) a =
+      let i = field_spans (suc d) f ts (inside Semicolon (suc d) ∷ m) r a in
+      let k = fields_spans g i.1.1 in
       ((i.0, k.0), k.1)
 
-  loop_spans : (d : ℕ) (c : Option Condition) (ts rest : List Mark) → ReadsLoopCondition d c ts rest → HaveSpans n ts → LoopConditionSpans n c × HaveSpans n rest
-  loop_spans d None ts rest r a = (tt, subst (HaveSpans n) r a)
-  loop_spans d (Some c) ts rest r a = condition_spans d c ts rest r a
-
-  mutual
-    stm_spans : {d : ℕ} {s : Stm} {ts rest : List Mark} → IsStm d s ts rest → HaveSpans n ts → StmSpans n s × HaveSpans n rest
-    stm_spans (defines {d = d} {xs = xs} {place = q} {es = es} {ts = ts} {rest = rest} m r v) a =
-        let i = names_spans d xs ts (inside (Define q) d ∷ m) r a in
-        let k = exs_spans d es m rest v i.1.1 in
-        ((i.0, k.0), k.1)
-    stm_spans (assigns {d = d} {xs = xs} {place = q} {es = es} {ts = ts} {rest = rest} m r v) a =
-        let i = names_spans d xs ts (inside (Assign q) d ∷ m) r a in
-        let k = exs_spans d es m rest v i.1.1 in
-        ((i.0, k.0), k.1)
-    stm_spans (expresses {d = d} {e = e} {ts = ts} {rest = rest} r) a = ex_spans 1 d e ts rest r a
-    stm_spans returns a = (tt, a.1)
-    stm_spans (returns_values {d = d} {es = es} {m = m} {rest = rest} r) a = exs_spans d es m rest r a.1
-    stm_spans (chooses {d = d} {c = c} {m = m} {k = k} r b l) a =
-        let i = condition_spans d c m (inside LeftBrace d ∷ k) r a.1 in
-        let j = body_spans b i.1.1 in
-        let o = else_spans l j.1 in
-        ((i.0, j.0, o.0), o.1)
-    stm_spans (repeats {d = d} {c = c} {m = m} {k = k} r b) a =
-        let i = loop_spans d c m (inside LeftBrace d ∷ k) r a.1 in
-        let j = body_spans b i.1.1 in
-        ((i.0, j.0), j.1)
-    stm_spans (blocks b) a = body_spans b a.1
-
-    else_spans : {d : ℕ} {e : Els} {ts rest : List Mark} → IsElse d e ts rest → HaveSpans n ts → ElsSpans n e × HaveSpans n rest
-    else_spans absent a = (tt, a)
-    else_spans (otherwise b) a = body_spans b a.1.1
-    else_spans (otherwise_if {d = d} {c = c} {m = m} {k = k} r b l) a =
-        let i = condition_spans (suc d) c m (inside LeftBrace (suc d) ∷ k) r a.1.1 in
-        let j = body_spans b i.1.1 in
-        let o = else_spans l j.1 in
-        ((i.0, j.0, o.0), o.1)
-
-    body_spans : {d : ℕ} {ss : Stms} {end : Pos} {ts rest : List Mark} → IsBody d ss end ts rest → HaveSpans n ts → StmsSpans n ss × HaveSpans n rest
-    body_spans close a = (tt, a.1)
-    body_spans (empty b) a = body_spans b a.1
-    body_spans (last r) a =
-        let i = stm_spans r a in
-        ((i.0, tt), i.1.1)
-    body_spans (next r b) a =
-        let i = stm_spans r a in
-        let k = body_spans b i.1.1 in
-        ((i.0, k.0), k.1)
+  type_spec_spans : (d : ℕ) (s : TypeSpec) (ts rest : List Mark) → ReadsTypeSpec d s ts rest → HaveSpans n ts → TypeSpecSpans n s × HaveSpans n rest
+  type_spec_spans d s ts rest r a =
+      let b = subst (HaveSpans n) r.2 a in
+      let i = fields_spans r.3 b.1.1.1 in
+      ((b.0, i.0), i.1)
 
   -- ---- functions
 
-  unnamed_spans : (types : List Name) → NamesSpans n types → ParamsSpans n (map unnamed types)
-  unnamed_spans [] a = tt
-  unnamed_spans (t ∷ types) a = ((tt, a.0), unnamed_spans types a.1)
+  list_end_spans : {ts rest : List Mark} → ClosesArguments 0 false ts rest → HaveSpans n ts → HaveSpans n rest
+  list_end_spans closing a = a.1
+  list_end_spans comma_closing a = a.1.1
 
-  -- parameters of one type, before others
-  named_spans : (t : Name) (xs : List Name) (ps : List Param) → NamesSpans n xs → IsNameSpan n t → ParamsSpans n ps → ParamsSpans n (map (named t) xs ++ ps)
-  named_spans t [] ps a b c = c
-  named_spans t (x ∷ xs) ps a b c = ((a.0, b), named_spans t xs ps a.1 b c)
+  more_types_spans : (d : ℕ) (es : Exs) (ts rest : List Mark) → ReadsMoreTypes d es ts rest → HaveSpans n ts → ExsSpans n es × HaveSpans n rest
+  more_types_spans d none ts rest r a = (tt, subst (HaveSpans n) r a)
+  more_types_spans d (some e es) ts rest r a =
+      let i = type_spans n true d e r.0 r.1 r.3 (subst (HaveSpans n) r.2 a).1 in
+      let k = more_types_spans d es r.1 rest r.4 i.1 in
+      ((i.0, k.0), k.1)
 
-  last_spans : (t : Name) (xs : List Name) → NamesSpans n xs → IsNameSpan n t → ParamsSpans n (map (named t) xs)
-  last_spans t [] a b = tt
-  last_spans t (x ∷ xs) a b = ((a.0, b), last_spans t xs a.1 b)
+  types_spans : (d : ℕ) (es : Exs) (ts rest : List Mark) → ReadsTypes d es ts rest → HaveSpans n ts → ExsSpans n es × HaveSpans n rest
+  types_spans d none ts rest r a = absurd r
+  types_spans d (some e es) ts rest r a =
+      let i = type_spans n true d e ts r.0 r.1 a in
+      let k = more_types_spans d es r.0 rest r.2 i.1 in
+      ((i.0, k.0), k.1)
 
-  with_names_spans : {ps : List Param} {ts rest : List Mark} → AreNamed ps ts rest → HaveSpans n ts → ParamsSpans n ps × HaveSpans n rest
-  with_names_spans (last_names {ts = ts} {m = m} xs t r c is) a =
-      let i = names_spans 1 xs ts (inside (Identifier t) 1 ∷ m) r a in
-      (subst (ParamsSpans n) (sym is) (last_spans t xs i.0 i.1.0), list_end_spans c i.1.1)
-  with_names_spans (more_names {others = others} {ts = ts} {m = m} xs t r b is) a =
-      let i = names_spans 1 xs ts (inside (Identifier t) 1 ∷ inside Comma 1 ∷ m) r a in
-      let k = with_names_spans b i.1.1.1 in
-      (subst (ParamsSpans n) (sym is) (named_spans t xs others i.0 i.1.0 k.0), k.1)
+  named_spans : {fs : List Field} {ts rest : List Mark} → AreNamed fs ts rest → HaveSpans n ts → AllByRecursion (FieldSpans n) fs × HaveSpans n rest
+  named_spans (last_named {f = f} {ts = ts} {m = m} r c) a =
+      let i = field_spans 1 f ts m r a in
+      ((i.0, tt), list_end_spans c i.1)
+  named_spans (next_named {f = f} {ts = ts} {m = m} r g) a =
+      let i = field_spans 1 f ts (inside Comma 1 ∷ m) r a in
+      let k = named_spans g i.1.1 in
+      ((i.0, k.0), k.1)
 
-  params_spans : {ps : List Param} {ts rest : List Mark} → AreParams ps ts rest → HaveSpans n ts → ParamsSpans n ps × HaveSpans n rest
-  params_spans no_params a = (tt, a.1)
-  params_spans (unnamed_params {ts = ts} {m = m} types r c is) a =
-      let i = names_spans 1 types ts m r a in
-      (subst (ParamsSpans n) (sym is) (unnamed_spans types i.0), list_end_spans c i.1)
-  params_spans (named_params b) a = with_names_spans b a
+  parameters_spans : {ps : Parameters} {ts rest : List Mark} → AreParameters ps ts rest → HaveSpans n ts → ParametersSpans n ps × HaveSpans n rest
+  parameters_spans no_parameters a = (tt, a.1)
+  parameters_spans (unnamed_parameters {es = es} {ts = ts} {m = m} r c) a =
+      let i = types_spans 1 es ts m r a in
+      (i.0, list_end_spans c i.1)
+  parameters_spans (named_parameters g) a = named_spans g a
 
-  results_spans : {ps : List Param} {ts rest : List Mark} → AreResults ps ts rest → HaveSpans n ts → ParamsSpans n ps × HaveSpans n rest
+  results_spans : {ps : Parameters} {ts rest : List Mark} → AreResults ps ts rest → HaveSpans n ts → ParametersSpans n ps × HaveSpans n rest
   results_spans no_results a = (tt, a)
-  results_spans (one_result is) a = (subst (ParamsSpans n) (sym is) ((tt, a.0), tt), a.1)
-  results_spans (results b) a = params_spans b a.1
+  results_spans (one_result {t = t} {ts = ts} {rest = rest} bare r) a = let i = type_spans n true 0 t ts rest r a in ((i.0, tt), i.1)
+  results_spans (results g) a = parameters_spans g a.1
+
+  optional_body_spans : (b : Option Body) (ts rest : List Mark) → ReadsBody b ts rest → HaveSpans n ts → BodySpans n b × HaveSpans n rest
+  optional_body_spans None ts rest r a = (tt, subst (HaveSpans n) r a)
+  optional_body_spans (Some b) ts rest r a = body_spans n r.3 (subst (HaveSpans n) r.2 a).1
 
   function_spans : (f : Function) (ts rest : List Mark) → IsFunction f ts rest → HaveSpans n ts → FunctionSpans n f × HaveSpans n rest
   function_spans f ts rest h a =
       let b = (subst (HaveSpans n) h.4 a).1 in
-      let i = params_spans h.5 b.1.1 in
+      let i = parameters_spans h.5 b.1.1 in
       let k = results_spans h.6 i.1 in
-      let l = body_spans h.7 k.1.1 in
+      let l = optional_body_spans f.body h.3 rest h.7 k.1 in
       ((b.0, i.0, k.0, l.0), l.1)
 
-  functions_spans : (fs : List Function) (ts : List Mark) → AreFunctions fs ts → HaveSpans n ts → AllByRecursion (FunctionSpans n) fs
-  functions_spans [] ts h a = tt
-  functions_spans (f ∷ fs) ts h a =
-      let i = function_spans f ts (inside Semicolon 0 ∷ h.0) h.1 a in
-      (i.0, functions_spans fs h.0 h.2 i.1.1)
+  -- ---- whole texts
+
+  declaration_spans : (d : Declaration) (ts rest : List Mark) → IsDeclaration d ts rest → HaveSpans n ts → DeclarationSpans n d × HaveSpans n rest
+  declaration_spans (constants place specs) ts rest r a = value_specs_spans n of_constants r.2 (subst (HaveSpans n) r.1 a).1
+  declaration_spans (variables place specs) ts rest r a = value_specs_spans n of_variables r.2 (subst (HaveSpans n) r.1 a).1
+  declaration_spans (types place specs) ts rest r a = group_spans n ReadsTypeSpec (TypeSpecSpans n) type_spec_spans r.2 (subst (HaveSpans n) r.1 a).1
+  declaration_spans (function f) ts rest r a = function_spans f ts rest r a
+
+  declarations_spans : (ds : List Declaration) (ts : List Mark) → AreDeclarations ds ts → HaveSpans n ts → AllByRecursion (DeclarationSpans n) ds
+  declarations_spans [] ts h a = tt
+  declarations_spans (d ∷ ds) ts h a =
+      let i = declaration_spans d ts (inside Semicolon 0 ∷ h.0) h.1 a in
+      (i.0, declarations_spans ds h.0 h.2 i.1.1)
 
   file_spans : (ms : List Mark) (file : File) → IsMarked ms file → HaveSpans n ms → FileSpans n file
   file_spans ms file h a =
       let b = (subst (HaveSpans n) h.1 a).1 in
-      (b.0, functions_spans file.funcs h.0 h.2 b.1.1)
+      (b.0, declarations_spans file.declarations h.0 h.2 b.1.1)
 
   kind_span : (k : Kind) (place : Pos) (behind : ℕ) → place.offset ≤ behind → behind ≤ n → HasSpan n (terminal_at k place behind)
   kind_span kind.Name place behind le within = (le, within)
   kind_span (kind.Number i) place behind le within = tt
-  kind_span kind.String place behind le within = tt
+  kind_span kind.String place behind le within = (le, within)
   kind_span (kind.Keyword keyword.Package) place behind le within = tt
   kind_span (kind.Keyword k) place behind le within = tt
   kind_span (kind.Op op.Define) place behind le within = tt

@@ -5,17 +5,17 @@ use Rattle.std.proofs.lemmas.List.{take_more, length-map}
 use Rattle.std.proofs.Math.ListN.{get_or-map}
 use Rattle.base.specs.declared.pos.Pos.{Pos}
 use Rattle.scan_go.specs.declared.token.Token.{Token}
-use Rattle.parse_go.specs.declared.tree.Tree.{Tree}
-use Rattle.parse_go.specs.declared.terminal.Terminal.{Terminal}
-use Rattle.parse_go.specs.declared.fault.StepFault.{StepFault}
-use Rattle.parse_go.specs.declared.fault.StepFault.TheVariants as step_fault
+use Rattle.syntax.specs.declared.declaration.Tree.{Tree}
+use Rattle.syntax.specs.Declarations.{File, Syntax}
+use Rattle.parse_expressions.specs.declared.fault.StepFault.{StepFault}
+use Rattle.parse_expressions.specs.declared.fault.StepFault.TheVariants as step_fault
+use Rattle.parse_expressions.specs.declared.terminal.Terminal.{Terminal}
+use Rattle.parse_expressions.specs.Terminals.{terminal_of, terminals_of}
 use Rattle.parse_go.specs.declared.fault.ParseFault.{ParseFault}
 use Rattle.parse_go.specs.declared.fault.ParseFault.TheVariants as fault
-use Rattle.parse_go.specs.Tree.{File, Syntax, file_of}
-use Rattle.parse_go.specs.Terminals.{terminal_of, terminals_of}
 use Rattle.parse_go.specs.Grammar.{IsProgram, IsText}
 use Rattle.parse_go.specs.Faults.{IsTooDeep, IsFirstFault, place_in, GivesTree}
-use Rattle.parse_go.specs.Machine.{State, at_function, step, nesting}
+use Rattle.parse_go.specs.Machine.{State, at_declaration, step, nesting}
 use Rattle.parse_go.specs.States.{FailsStep, fault_at, HasOneFile}
 use Rattle.parse_go.proofs.Runs.{ReachedAt, more_read, stopped, too_deep, ended, found_program, found_only, unexpected_none, deep_none}
 
@@ -61,13 +61,13 @@ module _ (tokens : List Token) (behind : Pos) where
     all_read : length (terminals_of tokens) ≤ i
     all_read = omega (arith, terminals_length tokens)
 
-    pub end_failed : ((f : File) → s ≡ at_function f → ⊥) → IsFirstFault tokens behind (fault.Unexpected behind)
+    pub end_failed : ((f : File) → s ≡ at_declaration f → ⊥) → IsFirstFault tokens behind (fault.Unexpected behind)
     end_failed other = (i, place_all tokens behind i le, ended (terminals_of tokens) i s (omega (arith, terminals_length tokens)) all_read r other)
 
-    pub end_found : (f : File) → s ≡ at_function f → IsProgram (terminals_of tokens) f
+    pub end_found : (f : File) → s ≡ at_declaration f → IsProgram (terminals_of tokens) f
     end_found f is = found_program (terminals_of tokens) i s f all_read is r
 
-    pub end_only : (f : File) → s ≡ at_function f → HasOneFile (terminals_of tokens) f
+    pub end_only : (f : File) → s ≡ at_declaration f → HasOneFile (terminals_of tokens) f
     end_only f is = found_only (terminals_of tokens) i s f all_read is r
 
 -- a fault rules a tree out
@@ -83,9 +83,9 @@ fault_only text list tokens behind e (Err x) is_tokens is f tree h =
     subst (λ (r : ParseFault). GivesTree (Err r) tree) (sym is) (fault_none text list behind e tree f (subst (λ (x : List Token). IsText text x tree) (sym is_tokens) h))
 
 -- the tokens have one tree, so it is one with the same text
-pub tree_only : (own text : List ℕ) (list tokens : List Token) (answer tree : Syntax) → own ≡ text → list ≡ tokens → answer.text ≡ own → HasOneFile (terminals_of list) (file_of answer) → IsText text tokens tree → answer ≡ tree
+pub tree_only : (own text : List ℕ) (list tokens : List Token) (answer tree : Syntax) → own ≡ text → list ≡ tokens → answer.text ≡ own → HasOneFile (terminals_of list) answer.file → IsText text tokens tree → answer ≡ tree
 tree_only own text list tokens answer tree is_text is_tokens is one h =
-    let program : IsProgram (terminals_of list) (file_of tree) = subst (λ (x : List Token). IsProgram (terminals_of x) (file_of tree)) (sym is_tokens) h.1 in
-    let same : file_of answer ≡ file_of tree = one (file_of tree) program in
+    let program : IsProgram (terminals_of list) tree.file = subst (λ (x : List Token). IsProgram (terminals_of x) tree.file) (sym is_tokens) h.1 in
+    let same : answer.file ≡ tree.file = one tree.file program in
     let same_text : answer.text ≡ tree.text = is ∙ is_text ∙ sym h.0 in
-    ap (λ (x : List ℕ). record { text = x; package_name = answer.package_name; funcs = answer.funcs }) same_text ∙ ap (λ (f : File). record { text = tree.text; package_name = f.package_name; funcs = f.funcs }) same
+    ap (λ (x : List ℕ). record { text = x; file = answer.file }) same_text ∙ ap (λ (f : File). record { text = tree.text; file = f }) same

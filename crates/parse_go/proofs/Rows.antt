@@ -1,34 +1,16 @@
--- Lists in memory as abstract syntax: the elements in a row are those of its vector, and one more at the end.
-use Rattle.std.proofs.Common.{◌≡◌, max, List, [], ◌∷◌, ◌++◌, refl, ap, arith}
+-- Lists in memory as abstract syntax: one more at the end.
+use Rattle.std.proofs.Common.{◌≡◌, List, [], ◌∷◌, ◌++◌}
 use Rattle.std.proofs.lemmas.List.{map-append}
-use Rattle.parse_go.specs.declared.tree.Expr.{Expr, Row_of-Expr, end_of-Expr, more_of-Expr, items-the_row-Expr}
-use Rattle.parse_go.specs.declared.tree.Func.{Func}
-use Rattle.parse_go.specs.declared.tree.Stmt.{Stmt, Row_of-Stmt, end_of-Stmt, more_of-Stmt, items-the_row-Stmt}
-use Rattle.parse_go.specs.Tree.{Ex, Exs, none, some, cons, ex_of, exs_of, arguments_of, stm_of, stms_of, row_of, function_of, functions_of}
-use Rattle.parse_go.specs.Heights.{height, greatest_height}
-use Rattle.parse_go.specs.Lists.{with_ex}
-use Rattle.parse_go.specs.Outer.{joined, one}
+use Rattle.syntax.specs.declared.declaration.Field.{Field}
+use Rattle.syntax.specs.declared.declaration.TypeSpec.{TypeSpec}
+use Rattle.syntax.specs.declared.declaration.Decl.{Decl}
+use Rattle.syntax.specs.Declarations.{field_of, fields_of, type_spec_of, type_specs_of, declaration_of, declarations_of}
 
-pub argument_rows : {m : _} (k : Row_of-Expr m) → arguments_of k ≡ exs_of (items-the_row-Expr m k)
-argument_rows end_of-Expr = refl
-argument_rows (more_of-Expr e es) = ap (some (ex_of e)) (argument_rows es)
+pub fields_push : (fs : List Field) (f : Field) → fields_of (fs ++ f ∷ []) ≡ fields_of fs ++ field_of f ∷ []
+fields_push fs f = map-append field_of fs (f ∷ [])
 
-pub exs_push : (es : List Expr) (e : Expr) → exs_of (es ++ e ∷ []) ≡ with_ex (exs_of es) (ex_of e)
-exs_push [] e = refl
-exs_push (x ∷ es) e = ap (some (ex_of x)) (exs_push es e)
+pub type_specs_push : (ss : List TypeSpec) (s : TypeSpec) → type_specs_of (ss ++ s ∷ []) ≡ type_specs_of ss ++ type_spec_of s ∷ []
+type_specs_push ss s = map-append type_spec_of ss (s ∷ [])
 
--- the greatest height with an expression more
-pub higher_push : (es : Exs) (e : Ex) → greatest_height (with_ex es e) ≡ max (greatest_height es) (height e)
-higher_push none e = omega arith
-higher_push (some x es) e = omega (arith, higher_push es e)
-
-pub rows : {m : _} (k : Row_of-Stmt m) → row_of k ≡ stms_of (items-the_row-Stmt m k)
-rows end_of-Stmt = refl
-rows (more_of-Stmt s ss) = ap (cons (stm_of s)) (rows ss)
-
-pub stms_push : (ss : List Stmt) (s : Stmt) → stms_of (ss ++ s ∷ []) ≡ joined (stms_of ss) (one (stm_of s))
-stms_push [] s = refl
-stms_push (x ∷ ss) s = ap (cons (stm_of x)) (stms_push ss s)
-
-pub functions_push : (fs : List Func) (f : Func) → functions_of (fs ++ f ∷ []) ≡ functions_of fs ++ function_of f ∷ []
-functions_push fs f = map-append function_of fs (f ∷ [])
+pub declarations_push : (ds : List Decl) (d : Decl) → declarations_of (ds ++ d ∷ []) ≡ declarations_of ds ++ declaration_of d ∷ []
+declarations_push ds d = map-append declaration_of ds (d ∷ [])

@@ -2,43 +2,48 @@
 use Rattle.std.proofs.Common.{◌≡◌, ℕ, zero, suc, ◌+◌, ◌<◌, ◌≤◌, List, [], ◌∷◌, ◌++◌, length, take, drop, Option, Some, None, inl, inr, refl, sym, ap, subst, ◌∙◌, append_assoc, arith}
 use Rattle.std.proofs.lemmas.List.{append-nil, take_all, take-append-drop, take_at, map-append, length-map}
 use Rattle.std.proofs.lemmas.Bool.{cases_lt}
-use Rattle.parse_go.specs.declared.terminal.Terminal.{Terminal}
-use Rattle.parse_go.specs.declared.terminal.Terminal.TheVariants.{Package, Identifier, Semicolon}
-use Rattle.parse_go.specs.declared.tree.Name.{Name}
-use Rattle.parse_go.specs.Tree.{Function, File}
-use Rattle.parse_go.specs.Grammar.{Mark, inside, terminal_in, nesting_of, terminals_in, AreFunctions, IsMarked, IsShallow, IsProgram}
+use Rattle.syntax.specs.Declarations.{Declaration, File}
+use Rattle.parse_expressions.specs.declared.terminal.Terminal.{Terminal}
+use Rattle.parse_expressions.specs.declared.terminal.Terminal.TheVariants.{Package, Identifier, Semicolon}
+use Rattle.parse_expressions.specs.Grammar.{Mark, inside, terminal_in, nesting_of, terminals_in}
+use Rattle.parse_go.specs.Grammar.{AreDeclarations, IsMarked, IsShallow, IsProgram}
 use Rattle.parse_go.specs.Faults.{Begins, InEachText, IsUnexpected, LastIsDeep, IsTooDeep}
-use Rattle.parse_go.specs.Machine.{State, at_package, at_function, step, nesting}
-use Rattle.parse_go.specs.States.{HasOneFile}
+use Rattle.parse_go.specs.Machine.{State, at_package, at_declaration, step, nesting}
 use Rattle.parse_go.proofs.Following.{Rest, Follows, ValidState, ValidNext}
-use Rattle.parse_go.proofs.ExpressionSteps.{quotient}
-use Rattle.parse_go.proofs.Viable.{valid_step, viable, unfinished}
+use Rattle.parse_go.proofs.Quotient.{quotient}
+use Rattle.parse_go.proofs.Viable.{valid_step, viable, nothing_more}
+use Rattle.parse_go.proofs.Endings.{unfinished}
 
-from_marked : (ms : List Mark) (tree : File) → IsMarked ms tree → Rest at_package ms tree
-from_marked ms tree (m, is, are) = (inside (Identifier tree.package_name) 0 ∷ inside Semicolon 0 ∷ m, is, (tree.package_name, inside Semicolon 0 ∷ m, refl, (m, refl, (tree.funcs, are, refl))))
+from_marked : (ms : List Mark) (tree : File) → IsMarked ms tree → Rest at_package tree ms
+from_marked ms tree h = record {
+  rest = inside (Identifier tree.package_name) 0 ∷ inside Semicolon 0 ∷ h.0;
+  mark = h.1;
+  follows = record { name = tree.package_name; follows = record { rest = inside Semicolon 0 ∷ h.0; mark = refl; follows = record { rest = h.0; mark = refl; follows = record { others = tree.declarations; reads = h.2; whole = refl } } } };
+}
 
-to_marked : (ms : List Mark) (tree : File) → Rest at_package ms tree → IsMarked ms tree
+to_marked : (ms : List Mark) (tree : File) → Rest at_package tree ms → IsMarked ms tree
 to_marked ms tree h =
-    let a = h.2 in
-    let b = a.3 in
-    let c = b.2 in
-    let name_is : tree.package_name ≡ a.0 = ap (λ (f : File). f.package_name) c.2 in
-    let funcs_are : tree.funcs ≡ c.0 = ap (λ (f : File). f.funcs) c.2 in
-    let marks = h.1 ∙ ap (λ (l : List Mark). inside Package 0 ∷ l) (a.2 ∙ ap (λ (l : List Mark). inside (Identifier a.0) 0 ∷ l) b.1) in
-    (b.0, marks ∙ ap (λ (x : Name). inside Package 0 ∷ inside (Identifier x) 0 ∷ inside Semicolon 0 ∷ b.0) (sym name_is), subst (λ (fs : List Function). AreFunctions fs b.0) (sym funcs_are) c.1)
+    let a = h.follows in
+    let b = a.follows in
+    let c = b.follows in
+    let d = c.follows in
+    let name_is : tree.package_name ≡ a.name = ap (λ (f : File). f.package_name) d.whole in
+    let declarations_are : tree.declarations ≡ d.others = ap (λ (f : File). f.declarations) d.whole in
+    let marks : ms ≡ inside Package 0 ∷ inside (Identifier tree.package_name) 0 ∷ inside Semicolon 0 ∷ c.rest = cc (h.mark, b.mark, c.mark, name_is) in
+    (c.rest, marks, subst (λ (ds : List Declaration). AreDeclarations ds c.rest) (sym declarations_are) d.reads)
 
 -- a text that begins with the terminals read so far: their nestings, and what follows
 pub record Parted (front : List Mark) (s : State) (ms : List Mark) (w : List Terminal) (tree : File) : Type 0 where
   pub rest : List Mark
   pub parts : ms ≡ front ++ rest
   pub terminals : terminals_in rest ≡ w
-  pub follows : Rest s rest tree
+  pub follows : Rest s tree rest
 
 -- The texts that begin with the terminals of front are those that may follow in the state, and in each of them these terminals have these nestings.
 pub record Reached (front : List Mark) (s : State) : Type 0 where
   pub valid : ValidState s
   pub parted : (ms : List Mark) (w : List Terminal) (tree : File) → terminals_in ms ≡ terminals_in front ++ w → IsMarked ms tree → Parted front s ms w tree
-  pub whole : (rest : List Mark) (tree : File) → Rest s rest tree → IsMarked (front ++ rest) tree
+  pub whole : (rest : List Mark) (tree : File) → Rest s tree rest → IsMarked (front ++ rest) tree
 
 pub at_start : Reached [] at_package
 at_start = record {
@@ -58,11 +63,11 @@ module _ (front : List Mark) (s : State) (t : Terminal) (r : Reached front s) wh
 
   -- one terminal more of a text that begins so
   one_more : (ms : List Mark) (w : List Terminal) (tree : File) → terminals_in ms ≡ terminals_in front ++ t ∷ w → IsMarked ms tree
-      → (u : List Mark) × (ms ≡ (front ++ inside t (nesting s t) ∷ []) ++ u) × (terminals_in u ≡ w) × Follows (step s t) u tree
+      → (u : List Mark) × (ms ≡ (front ++ inside t (nesting s t) ∷ []) ++ u) × (terminals_in u ≡ w) × Follows (step s t) tree u
   one_more ms w tree is h =
       let p = r.parted ms (t ∷ w) tree is h in
       let f = first_mark p.rest t w p.terminals in
-      let q = (quotient s t f.0 f.1 tree r.valid).0 (subst (λ (l : List Mark). Rest s l tree) f.2 p.follows) in
+      let q = (quotient tree s t f.0 f.1 r.valid).0 (subst (Rest s tree) f.2 p.follows) in
       let e : ms ≡ (front ++ inside t (nesting s t) ∷ []) ++ f.1 = p.parts ∙ ap (λ (l : List Mark). front ++ l) (f.2 ∙ ap (λ (j : ℕ). inside t j ∷ f.1) q.0) ∙ sym (append_assoc front (inside t (nesting s t) ∷ []) f.1) in
       (f.1, e, f.3, q.1)
 
@@ -71,15 +76,15 @@ module _ (front : List Mark) (s : State) (t : Terminal) (r : Reached front s) wh
     valid = subst ValidNext is (valid_step s t r.valid);
     parted = λ ms w tree e h.
         let o = one_more ms w tree (e ∙ terminals_grow w) h in
-        record { rest = o.0; parts = o.1; terminals = o.2; follows = subst (λ (x : Option State). Follows x o.0 tree) is o.3 };
+        record { rest = o.0; parts = o.1; terminals = o.2; follows = subst (λ (x : Option State). Follows x tree o.0) is o.3 };
     whole = λ rest tree h.
-        subst (λ (l : List Mark). IsMarked l tree) (sym (append_assoc front (inside t (nesting s t) ∷ []) rest)) (r.whole (inside t (nesting s t) ∷ rest) tree ((quotient s t (nesting s t) rest tree r.valid).1 (refl, subst (λ (x : Option State). Follows x rest tree) (sym is) h)));
+        subst (λ (l : List Mark). IsMarked l tree) (sym (append_assoc front (inside t (nesting s t) ∷ []) rest)) (r.whole (inside t (nesting s t) ∷ rest) tree ((quotient tree s t (nesting s t) rest r.valid).1 (refl, subst (λ (x : Option State). Follows x tree rest) (sym is) h)));
   }
 
   pub fails : step s t ≡ None → Begins (terminals_in front ++ t ∷ []) → ⊥
   fails is h =
       let o = one_more h.0 h.2 h.1 (h.3 ∙ append_assoc (terminals_in front) (t ∷ []) h.2) h.4 in
-      subst (λ (x : Option State). Follows x o.0 h.1) is o.3
+      subst (λ (x : Option State). Follows x h.1 o.0) is o.3
 
 pub begins : (front : List Mark) (s : State) → Reached front s → Begins (terminals_in front)
 begins front s r =
@@ -93,19 +98,15 @@ in_each_text P front s r holds ms tree w is h =
     let e : take (length (terminals_in front)) ms ≡ front = ap (take (length (terminals_in front))) p.parts ∙ take_at front p.rest (length (terminals_in front)) (sym (length-map front terminal_in)) in
     subst P (sym e) holds
 
--- no function follows
-whole_again : (f : File) → f ≡ record { package_name = f.package_name; funcs = f.funcs ++ [] }
-whole_again f = ap (λ (fs : List Function). record { package_name = f.package_name; funcs = fs }) (sym (append-nil f.funcs))
+pub is_program : (front : List Mark) (f : File) → Reached front (at_declaration f) → IsShallow front → IsProgram (terminals_in front) f
+is_program front f r shallow = (front, refl, subst (λ (l : List Mark). IsMarked l f) (append-nil front) (r.whole [] f (nothing_more f)), shallow)
 
-pub is_program : (front : List Mark) (f : File) → Reached front (at_function f) → IsShallow front → IsProgram (terminals_in front) f
-is_program front f r shallow = (front, refl, subst (λ (l : List Mark). IsMarked l f) (append-nil front) (r.whole [] f ([], refl, whole_again f)), shallow)
-
-pub only_program : (front : List Mark) (s : State) (ms : List Mark) (tree : File) → Reached front s → terminals_in ms ≡ terminals_in front → IsMarked ms tree → (f : File) × (s ≡ at_function f) × (tree ≡ f)
+pub only_program : (front : List Mark) (s : State) (ms : List Mark) (tree : File) → Reached front s → terminals_in ms ≡ terminals_in front → IsMarked ms tree → (f : File) × (s ≡ at_declaration f) × (tree ≡ f)
 only_program front s ms tree r is h =
     let p = r.parted ms [] tree (is ∙ sym (append-nil (terminals_in front))) h in
     unfinished s tree (nothing p.rest p.terminals p.follows)
   where
-    nothing : (v : List Mark) → terminals_in v ≡ [] → Rest s v tree → Rest s [] tree
+    nothing : (v : List Mark) → terminals_in v ≡ [] → Rest s tree v → Rest s tree []
     nothing [] e f = f
     nothing (m ∷ v) e f = absurd cc
 
@@ -168,7 +169,7 @@ module _ (ts : List Terminal) (i : ℕ) (t : Terminal) (s : State) (lt : i < len
         deep = subst (λ (l : List Terminal). InEachText l LastIsDeep) terminals (in_each_text LastIsDeep m n reached (last_deep r.marks (inside t (nesting s t)) r.shallow deep));
       }
 
-pub ended : (ts : List Terminal) (i : ℕ) (s : State) → i ≤ length ts → length ts ≤ i → ReachedAt ts i s → ((f : File) → s ≡ at_function f → ⊥) → IsUnexpected ts i
+pub ended : (ts : List Terminal) (i : ℕ) (s : State) → i ≤ length ts → length ts ≤ i → ReachedAt ts i s → ((f : File) → s ≡ at_declaration f → ⊥) → IsUnexpected ts i
 ended ts i s within le r other = record {
   within = within;
   before = subst Begins r.terminals (begins r.marks s r.reached);
@@ -179,13 +180,13 @@ ended ts i s within le r other = record {
       other u.0 u.1;
 }
 
-pub found_program : (ts : List Terminal) (i : ℕ) (s : State) (f : File) → length ts ≤ i → s ≡ at_function f → ReachedAt ts i s → IsProgram ts f
+pub found_program : (ts : List Terminal) (i : ℕ) (s : State) (f : File) → length ts ≤ i → s ≡ at_declaration f → ReachedAt ts i s → IsProgram ts f
 found_program ts i s f le is r = subst (λ (l : List Terminal). IsProgram l f) (r.terminals ∙ take_all i ts le) (is_program r.marks f (subst (Reached r.marks) is r.reached) r.shallow)
 
-end_same : (a b : File) → at_function a ≡ at_function b → a ≡ b
+end_same : (a b : File) → at_declaration a ≡ at_declaration b → a ≡ b
 end_same a b e = cc
 
-pub found_only : (ts : List Terminal) (i : ℕ) (s : State) (f : File) → length ts ≤ i → s ≡ at_function f → ReachedAt ts i s → HasOneFile ts f
+pub found_only : (ts : List Terminal) (i : ℕ) (s : State) (f : File) → length ts ≤ i → s ≡ at_declaration f → ReachedAt ts i s → (other : File) → IsProgram ts other → f ≡ other
 found_only ts i s f le is r other h =
     let u = only_program r.marks s h.0 other r.reached (h.1 ∙ sym (r.terminals ∙ take_all i ts le)) h.2 in
     end_same f u.0 (sym is ∙ u.1) ∙ sym u.2

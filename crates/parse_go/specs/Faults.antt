@@ -2,13 +2,14 @@
 use Rattle.std.specs.Prelude.{◌≡◌, ℕ, zero, suc, ◌+◌, ◌<◌, ◌≤◌, List, [], ◌∷◌, ◌++◌, length, take, Result, Ok, Err}
 use Rattle.base.specs.declared.pos.Pos.{Pos}
 use Rattle.scan_go.specs.declared.token.Token.{Token}
-use Rattle.parse_go.specs.declared.tree.Tree.{Tree}
-use Rattle.parse_go.specs.declared.terminal.Terminal.{Terminal}
+use Rattle.syntax.specs.declared.declaration.Tree.{Tree}
+use Rattle.parse_expressions.specs.declared.terminal.Terminal.{Terminal}
 use Rattle.parse_go.specs.declared.fault.ParseFault.{ParseFault}
 use Rattle.parse_go.specs.declared.fault.ParseFault.TheVariants as fault
-use Rattle.parse_go.specs.Tree.{File, Syntax, syntax_of}
-use Rattle.parse_go.specs.Terminals.{terminals_of}
-use Rattle.parse_go.specs.Grammar.{Mark, nesting_of, terminals_in, IsMarked, IsShallow}
+use Rattle.syntax.specs.Declarations.{File, Syntax, syntax_of}
+use Rattle.parse_expressions.specs.Terminals.{terminals_of}
+use Rattle.parse_expressions.specs.Grammar.{Mark, nesting_of, terminals_in}
+use Rattle.parse_go.specs.Grammar.{IsMarked, IsShallow}
 
 -- some text begins with these terminals, whatever its nestings
 abbrev pub Begins : List Terminal → Type 0

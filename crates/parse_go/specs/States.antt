@@ -1,91 +1,56 @@
 -- The states of the code, as those of the machine, and what a step of the code answers.
 use Rattle.std.specs.Prelude.{◌≡◌, ℕ, ◌<◌, ◌≤◌, List, IsSome, Option, Some, None, Result, Ok, Err}
 use Rattle.base.specs.declared.pos.Pos.{Pos}
+use Rattle.syntax.specs.Declarations.{File, parameters_of}
+use Rattle.parse_expressions.specs.declared.fault.StepFault.{StepFault}
+use Rattle.parse_expressions.specs.declared.fault.StepFault.TheVariants as fault
+use Rattle.parse_expressions.specs.declared.terminal.Terminal.{Terminal}
+use Rattle.parse_expressions.specs.States.{open_of}
+use Rattle.parse_statements.specs.Spots.{declares_of}
+use Rattle.parse_statements.specs.SpecStates.{specs_of}
+use Rattle.parse_statements.specs.BodyStates as bodies
 use Rattle.parse_go.specs.declared.fault.ParseFault.{ParseFault}
 use Rattle.parse_go.specs.declared.fault.ParseFault.TheVariants as parse_fault
-use Rattle.parse_go.specs.declared.fault.StepFault.{StepFault}
-use Rattle.parse_go.specs.declared.fault.StepFault.TheVariants as fault
 use Rattle.parse_go.specs.declared.signature.File.{File as CodeFile}
-use Rattle.parse_go.specs.declared.signature.Params.{Params}
-use Rattle.parse_go.specs.declared.state.Blocks.{Blocks as CodeBlocks}
-use Rattle.parse_go.specs.declared.state.Reading.{Reading}
 use Rattle.parse_go.specs.declared.state.State.{State as CodeState}
 use Rattle.parse_go.specs.declared.state.State.TheVariants as state
-use Rattle.parse_go.specs.declared.terminal.Terminal.{Terminal}
-use Rattle.parse_go.specs.Tree.{Ex, Exs, File, ex_of, exs_of, stms_of}
 use Rattle.parse_go.specs.Grammar.{IsProgram}
-use Rattle.parse_go.specs.Frames.{Frame, head_depth, open_depth, frames_of, head_of}
-use Rattle.parse_go.specs.Outer.{branch_of, branches_of, outers_of}
-use Rattle.parse_go.specs.Signatures.{file_in, signature_of, owner_of, before_of}
-use Rattle.parse_go.specs.Machine.{Blocks, around, statement_depth, State, at_package, at_package_name, at_package_end, at_function, at_function_name, at_opening, at_param, at_param_names, at_param_type, at_results, at_body, at_statement, at_named, at_next_name, at_names, at_return, at_for, at_operand, at_argument, at_operator, at_then, at_else, at_stop, at_last}
-
-abbrev pub blocks_of : CodeBlocks → Blocks
-blocks_of b = around (signature_of b.signature) (outers_of b.outer.items) (stms_of b.done.items)
-
--- what is open in the expression that is read, and how deeply it is nested
-abbrev pub frames_in : Reading → List Frame
-frames_in r = frames_of r.frames.items
-
-abbrev pub depth_in : Reading → ℕ
-depth_in r = open_depth (head_depth (statement_depth (blocks_of r.blocks)) (head_of r.head)) (frames_in r)
-
--- its statement, with these frames open: an operand is wanted, or one was read
-abbrev pub wanting : Reading → List Frame → State
-wanting r fs = at_operand (blocks_of r.blocks) (head_of r.head) fs
-
-abbrev pub having : Reading → List Frame → Ex → State
-having r fs e = at_operator (blocks_of r.blocks) (head_of r.head) fs e
-
--- a call with these arguments is open
-abbrev pub in_call : Reading → Ex → Exs → State
-in_call r f es = at_argument (blocks_of r.blocks) (head_of r.head) (frames_in r) f es
-
-abbrev pub param_wanted : Params → State
-param_wanted p = at_param (owner_of p.owner) (before_of p.before) p.names.items
-
-abbrev pub behind_names : Params → State
-behind_names p = at_param_names (owner_of p.owner) (before_of p.before) p.names.items
+use Rattle.parse_go.specs.Machine.{State, at_package, at_package_name, at_package_end, at_declaration, in_values, in_types, at_function, at_opening, in_params, at_results, in_result, in_results, at_body, in_body, at_end}
+use Rattle.parse_go.specs.TypeStates.{types_of}
+use Rattle.parse_go.specs.ParameterStates.{params_of}
+use Rattle.parse_go.specs.Signatures.{file_in, named_of, signature_of}
 
 abbrev pub state_of : CodeState → State
 state_of state.Package = at_package
 state_of state.PackageName = at_package_name
 state_of (state.PackageEnd x) = at_package_end x
-state_of (state.Function f) = at_function (file_in f)
-state_of (state.FunctionName f) = at_function_name (file_in f)
-state_of (state.Opening f x) = at_opening (file_in f) x
-state_of (state.Param p) = param_wanted p
-state_of (state.ParamNames p) = behind_names p
-state_of (state.ParamType o ps) = at_param_type (owner_of o) ps.items
-state_of (state.Results f x ps) = at_results (file_in f) x ps.items
+state_of (state.Declaration f) = at_declaration (file_in f)
+state_of (state.Values v) = in_values (file_in v.file) (declares_of v.kind) v.pos (specs_of v.specs)
+state_of (state.Types f place s) = in_types (file_in f) place (types_of s)
+state_of (state.Function f place) = at_function (file_in f) place
+state_of (state.Opening n) = at_opening (named_of n)
+state_of (state.Params n p) = in_params (named_of n) (params_of p)
+state_of (state.Results n ps) = at_results (named_of n) (parameters_of ps)
+state_of (state.Result r) = in_result (named_of r.named) (parameters_of r.params) (open_of r.reading)
+state_of (state.ResultList n ps p) = in_results (named_of n) (parameters_of ps) (params_of p)
 state_of (state.Body s) = at_body (signature_of s)
-state_of (state.Statement b) = at_statement (blocks_of b)
-state_of (state.Named b x) = at_named (blocks_of b) x
-state_of (state.NextName b xs) = at_next_name (blocks_of b) xs.items
-state_of (state.Names b xs) = at_names (blocks_of b) xs.items
-state_of (state.Return b place) = at_return (blocks_of b) place
-state_of (state.For b place) = at_for (blocks_of b) place
-state_of (state.Operand r) = wanting r (frames_in r)
-state_of (state.Argument a) = in_call a.reading (ex_of a.call.function) (exs_of a.call.arguments.items)
-state_of (state.Operator r part) = having r (frames_in r) (ex_of part.expr)
-state_of (state.Then b bs last) = at_then (blocks_of b) (branches_of bs.items) (branch_of last)
-state_of (state.Else b bs last) = at_else (blocks_of b) (branches_of bs.items) (branch_of last)
-state_of (state.Stop b) = at_stop (blocks_of b)
-state_of (state.Last f) = at_last (file_in f)
+state_of (state.InBody s b) = in_body (signature_of s) (bodies.state_of b)
+state_of (state.End f) = at_end (file_in f)
 
--- What the code answers is the machine's next state, unless memory ran out or the terminal's nesting d passes the limit.
+-- What the code answers is the machine's next state, unless memory ran out or the terminal's nesting n passes the limit.
 abbrev pub FailsStep : StepFault → Option State → ℕ → Type 0
-FailsStep fault.NoMemory then d = Unit {0}
-FailsStep fault.Unexpected then d = then ≡ None
-FailsStep fault.TooDeep then d = (200 < d) × IsSome then
+FailsStep fault.NoMemory then n = Unit {0}
+FailsStep fault.Unexpected then n = then ≡ None
+FailsStep fault.TooDeep then n = (200 < n) × IsSome then
 
 abbrev pub Steps : Result CodeState StepFault → Option State → ℕ → Type 0
-Steps (Ok s) then d = (then ≡ Some (state_of s)) × (d ≤ 200)
-Steps (Err e) then d = FailsStep e then d
+Steps (Ok s) then n = (then ≡ Some (state_of s)) × (n ≤ 200)
+Steps (Err e) then n = FailsStep e then n
 
 -- what the state holds where the text may end
 abbrev pub Finishes : Option CodeFile → State → Type 0
-Finishes (Some f) s = s ≡ at_function (file_in f)
-Finishes None s = (f : File) → s ≡ at_function f → ⊥
+Finishes (Some f) s = s ≡ at_declaration (file_in f)
+Finishes None s = (f : File) → s ≡ at_declaration f → ⊥
 
 -- a fault of a step, at the place of its token
 abbrev pub fault_at : StepFault → Pos → ParseFault

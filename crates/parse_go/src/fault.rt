@@ -1,11 +1,10 @@
 //! Why tokens have no tree.
 
 ghost use Rattle.std.specs.Prelude.{◌≡◌};
-ghost use Rattle.parse_go.specs.declared.fault.StepFault.TheVariants as step_fault;
 ghost use Rattle.parse_go.specs.declared.fault.ParseFault.TheVariants as parse_fault;
 
 use base::Pos;
-use std::alloc::{AllocError, AllocFailed};
+use std::alloc::AllocError;
 use thiserror::Error;
 
 /// Why tokens have no tree. Where several tokens fail, it is the first of them.
@@ -18,8 +17,8 @@ pub enum ParseFault {
     #[error("unexpected token")]
     Unexpected(Pos),
     /// The first token whose nesting reaches 201: the number of brackets, prefixes and else-ifs that are open around
-    /// it; at a binary operator, a comparison or the opening parenthesis of a call at least one more than the height of
-    /// the tree to its left.
+    /// it; at a binary operator, a `.`, a `[` or a `(` behind an expression at least one more than the height of the
+    /// tree to its left.
     #[error("nested too deeply")]
     TooDeep(Pos),
 }
@@ -55,31 +54,5 @@ impl ParseFault {
             ParseFault::Unexpected(pos) => Some(*pos),
             ParseFault::TooDeep(pos) => Some(*pos),
         }
-    }
-}
-
-/// Why a state takes no further token.
-#[derive(Clone, Copy, Debug, PartialEq, Eq)]
-pub enum StepFault {
-    NoMemory,
-    /// Nothing that begins with the token may follow.
-    Unexpected,
-    /// The token's nesting passes the limit.
-    TooDeep,
-}
-
-impl From<AllocError> for StepFault {
-    ghost from_gives = { λ _ e. e ≡ step_fault.NoMemory };
-
-    fn from(_: AllocError) -> StepFault {
-        StepFault::NoMemory
-    }
-}
-
-impl<T: Drop> From<AllocFailed<T>> for StepFault {
-    ghost from_gives = { λ _ e. e ≡ step_fault.NoMemory };
-
-    fn from(_: AllocFailed<T>) -> StepFault {
-        StepFault::NoMemory
     }
 }

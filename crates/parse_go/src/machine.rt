@@ -3,18 +3,14 @@
 ghost use Rattle.parse_go.specs.Machine.{step, nesting};
 ghost use Rattle.parse_go.specs.States.{state_of, Steps};
 
-use crate::block::stop;
-use crate::expression::{argument, behind_operand, operand};
-use crate::fault::StepFault;
-use crate::header::{
-    body, function, function_name, last, opening, package, package_end, package_name, param,
-    param_names, param_type, results,
+use crate::declarations::{
+    declaration, ends_declaration, in_types, in_values, package, package_end, package_name,
+};
+use crate::function::{
+    behind_results, function, in_body, in_params, in_result, in_results, opening, results,
 };
 use crate::state::State;
-use crate::statement::{
-    behind_else, behind_then, loop_header, named, names, next_name, returned, statement,
-};
-use crate::terminal::Terminal;
+use parse_expressions::{StepFault, Terminal};
 use std::alloc::Global;
 
 /// One token more.
@@ -25,26 +21,17 @@ pub fn step(alloc: Global, state: State, token: Terminal) -> Result<State, StepF
         State::Package => package(token),
         State::PackageName => package_name(token),
         State::PackageEnd(name) => package_end(alloc, name, token),
-        State::Function(file) => function(file, token),
-        State::FunctionName(file) => function_name(file, token),
-        State::Opening(file, name) => opening(alloc, file, name, token),
-        State::Param(params) => param(alloc, params, token),
-        State::ParamNames(params) => param_names(alloc, params, token),
-        State::ParamType(owner, params) => param_type(alloc, owner, params, token),
-        State::Results(file, name, params) => results(alloc, file, name, params, token),
-        State::Body(signature) => body(alloc, signature, token),
-        State::Statement(blocks) => statement(alloc, blocks, token),
-        State::Named(blocks, name) => named(alloc, blocks, name, token),
-        State::NextName(blocks, before) => next_name(blocks, before, token),
-        State::Names(blocks, list) => names(alloc, blocks, list, token),
-        State::Return(blocks, pos) => returned(alloc, blocks, pos, token),
-        State::For(blocks, pos) => loop_header(alloc, blocks, pos, token),
-        State::Operand(reading) => operand(reading, token),
-        State::Argument(arguments) => argument(alloc, arguments, token),
-        State::Operator(reading, part) => behind_operand(alloc, reading, part, token),
-        State::Then(blocks, branches, last) => behind_then(alloc, blocks, branches, last, token),
-        State::Else(blocks, branches, last) => behind_else(alloc, blocks, branches, last, token),
-        State::Stop(blocks) => stop(alloc, blocks, token),
-        State::Last(file) => last(file, token),
+        State::Declaration(file) => declaration(file, token),
+        State::Values(state) => in_values(alloc, state, token),
+        State::Types(file, pos, types) => in_types(alloc, file, pos, types, token),
+        State::Function(file, pos) => function(file, pos, token),
+        State::Opening(named) => opening(alloc, named, token),
+        State::Params(named, params) => in_params(alloc, named, params, token),
+        State::Results(named, params) => results(alloc, named, params, token),
+        State::Result(state) => in_result(alloc, state, token),
+        State::ResultList(named, params, list) => in_results(alloc, named, params, list, token),
+        State::Body(signature) => behind_results(alloc, signature, token),
+        State::InBody(signature, body) => in_body(alloc, signature, body, token),
+        State::End(file) => ends_declaration(file, token),
     }
 }

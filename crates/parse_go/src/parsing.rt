@@ -2,29 +2,29 @@
 
 ghost use Rattle.std.specs.Prelude.{◌≡◌, List, length, IfOk, IfErr};
 ghost use Rattle.scan_go.specs.Lines.{pos_at};
-ghost use Rattle.parse_go.specs.Tree.{Syntax, syntax_of, file_of};
-ghost use Rattle.parse_go.specs.Terminals.{terminals_of};
+ghost use Rattle.syntax.specs.Declarations.{Syntax, syntax_of};
+ghost use Rattle.syntax.specs.Spans.{FileSpans};
+ghost use Rattle.parse_expressions.specs.Terminals.{terminals_of};
 ghost use Rattle.parse_go.specs.Grammar.{IsProgram, IsText};
 ghost use Rattle.parse_go.specs.Faults.{IsFirstFault, GivesTree};
 ghost use Rattle.parse_go.specs.Signatures.{file_in};
-ghost use Rattle.parse_go.specs.Spans.{FileSpans};
 ghost use Rattle.parse_go.specs.States.{state_of, fault_at, Finishes, HasOneFile};
 
-use crate::fault::{ParseFault, StepFault};
+use crate::fault::ParseFault;
 use crate::machine::step;
 use crate::signature::File;
 use crate::state::State;
-use crate::terminal::terminal_of;
-use crate::tree::Tree;
 use base::Pos;
+use parse_expressions::{StepFault, terminal_of};
 use scan_go::{Token, Tokens};
 use std::alloc::Global;
+use syntax::Tree;
 
 fn finish(state: State) -> Option<File>
     ensures { Finishes result (state_of state) }
 {
     match state {
-        State::Function(file) => Some(file),
+        State::Declaration(file) => Some(file),
         _ => None,
     }
 }
@@ -39,7 +39,7 @@ fn fault_at(fault: StepFault, pos: Pos) -> ParseFault
     }
 }
 
-/// The functions of the tokens of a text that ends at a place.
+/// The declarations of the tokens of a text that ends at a place.
 fn file_of(alloc: Global, tokens: &[Token], behind: Pos) -> Result<File, ParseFault>
     ensures found { IfOk result (λ f. IsProgram (terminals_of tokens.now) (file_in f)) }
     ensures one { IfOk result (λ f. HasOneFile (terminals_of tokens.now) (file_in f)) }
@@ -58,7 +58,8 @@ fn file_of(alloc: Global, tokens: &[Token], behind: Pos) -> Result<File, ParseFa
     }
 }
 
-/// The tree of the tokens of a text [Go specification, Source file organization, Function declarations, Statements, Expressions].
+/// The tree of the tokens of a text [Go specification, Source file organization, Declarations and scope, Function
+/// declarations, Types, Statements, Expressions].
 pub fn parse(alloc: Global, tokens: &Tokens) -> Result<Tree, ParseFault>
     // What is answered is the tree of these tokens, with their text.
     ensures found { IfOk result (λ tree. IsText tokens.now.text tokens.now.list (syntax_of tree)) }
@@ -69,7 +70,7 @@ pub fn parse(alloc: Global, tokens: &Tokens) -> Result<Tree, ParseFault>
 
     // The span of each name lies in the text.
     ensures spans { IfOk result
-        (λ tree. FileSpans (length tokens.now.text) (file_of (syntax_of tree))) }
+        (λ tree. FileSpans (length tokens.now.text) (syntax_of tree).file) }
 
     // The first token with which no text begins, or the first whose nesting passes the limit.
     ensures fault { let behind = pos_at tokens.now.text (length tokens.now.text) in
@@ -80,6 +81,6 @@ pub fn parse(alloc: Global, tokens: &Tokens) -> Result<Tree, ParseFault>
     Ok(Tree {
         text,
         package: file.package_name,
-        funcs: file.funcs,
+        decls: file.decls,
     })
 }

@@ -1,46 +1,35 @@
-//! What a parser has read so far.
+//! What was read of a text, and what is wanted next.
 
-ghost use Rattle.std.specs.Prelude.{◌≡◌, ◌≤◌, suc};
-ghost use Rattle.parse_go.specs.Outer.{brace_depth, outers_of};
-ghost use Rattle.parse_go.specs.Frames.{head_depth, open_depth, head_of, frames_of};
+ghost use Rattle.std.specs.Prelude.{◌≡◌};
+ghost use Rattle.parse_expressions.specs.States.{base_of};
+ghost use Rattle.parse_statements.specs.SpecStates.{depth_of};
+ghost use Rattle.parse_go.specs.Machine.{result_base};
 
-use crate::frame::{Call, Frame, Head, Part};
-use crate::outer::{Branch, Outer};
-use crate::signature::{File, Owner, Params, Signature};
-use crate::tree::{Name, Param, Stmt};
+use crate::parameters::Parameters;
+use crate::signature::{File, Named, Signature};
+use crate::type_specs::TypeSpecs;
 use base::Pos;
+use parse_expressions::Open;
+use parse_statements::{BodyState, Declares, ValueSpecs};
+use syntax::{Name, Params};
 
-/// The blocks that are open in the body of a function: what each block but the outermost belongs to, the innermost last,
-/// the statements of the innermost block so far, and the nesting of the next one.
+/// A declaration of constants or variables is read, with the place of its word, behind the declarations before it.
 #[derive(Drop)]
-pub struct Blocks {
-    pub signature: Signature,
-    pub outer: Vec<Outer>,
-    pub done: Vec<Stmt>,
-    pub depth: usize,
-    ghost is_depth: { depth ≡ suc (brace_depth (outers_of outer.items)) },
-    ghost small: { depth ≤ 201 },
+pub struct InValues {
+    pub file: File,
+    pub kind: Declares,
+    pub pos: Pos,
+    pub specs: ValueSpecs,
+    ghost outermost: { depth_of specs ≡ 0 },
 }
 
-/// The statement that is read in these blocks, what is open in its expression, the innermost last, and how many
-/// brackets and prefixes are open around the next token.
+/// A result without parentheses is read, behind the parameters.
 #[derive(Drop)]
-pub struct Reading {
-    pub blocks: Blocks,
-    pub head: Head,
-    pub frames: Vec<Frame>,
-    pub depth: usize,
-    ghost is_depth: { let d = suc (brace_depth (outers_of blocks.outer.items)) in
-        depth ≡ open_depth (head_depth d (head_of head)) (frames_of frames.items) },
-    ghost small: { depth ≤ 202 },
-}
-
-/// An argument of a call or its closing parenthesis is wanted: what is open outside of the call, and the call so far.
-#[derive(Drop)]
-pub struct Arguments {
-    pub reading: Reading,
-    pub call: Call,
-    ghost shallow: { reading.depth ≤ 200 },
+pub struct InResult {
+    pub named: Named,
+    pub params: Params,
+    pub reading: Open,
+    ghost based: { base_of reading ≡ result_base },
 }
 
 /// What was read, and what is wanted next.
@@ -52,46 +41,26 @@ pub enum State {
     PackageName,
     /// Behind the name of the package.
     PackageEnd(Name),
-    /// A function may begin, or the text may end.
-    Function(File),
-    /// Behind the word `func`.
-    FunctionName(File),
+    /// A declaration may begin, or the text may end.
+    Declaration(File),
+    Values(InValues),
+    /// In a declaration of types, with the place of its word.
+    Types(File, Pos, TypeSpecs),
+    /// Behind the word `func`, with its place.
+    Function(File, Pos),
     /// Behind the name of a function.
-    Opening(File, Name),
-    /// A parameter or the closing parenthesis is wanted, behind the opening one or a comma.
-    Param(Params),
-    /// Behind the last of the names without a type.
-    ParamNames(Params),
-    /// Behind the type of the last of these parameters with names.
-    ParamType(Owner, Vec<Param>),
-    /// Behind the parameters of a function.
-    Results(File, Name, Vec<Param>),
-    /// The body of a function is wanted.
+    Opening(Named),
+    /// In the parameters of a function.
+    Params(Named, Parameters),
+    /// Behind them.
+    Results(Named, Params),
+    Result(InResult),
+    /// In results in parentheses, behind the parameters.
+    ResultList(Named, Params, Parameters),
+    /// Behind them.
     Body(Signature),
-    /// A statement may begin.
-    Statement(Blocks),
-    /// Behind the name that a statement begins with.
-    Named(Blocks, Name),
-    /// Behind these names and a comma at the beginning of a statement.
-    NextName(Blocks, Vec<Name>),
-    /// Behind these names, with commas between them, at the beginning of a statement.
-    Names(Blocks, Vec<Name>),
-    /// Behind `return`, with its place.
-    Return(Blocks, Pos),
-    /// Behind `for`, with its place.
-    For(Blocks, Pos),
-    /// An operand is wanted.
-    Operand(Reading),
-    /// An argument of a call or its closing parenthesis is wanted, behind the opening one or a comma.
-    Argument(Arguments),
-    /// Behind an operand: an operator, a call, or what ends the expression.
-    Operator(Reading, Part),
-    /// Behind the first body of an `if`, the else of these branches, the innermost last.
-    Then(Blocks, Vec<Branch>, Branch),
-    /// Behind the `else` of such an `if`.
-    Else(Blocks, Vec<Branch>, Branch),
-    /// Behind a statement.
-    Stop(Blocks),
-    /// Behind the body of a function, the last of these.
-    Last(File),
+    /// In the body of a function.
+    InBody(Signature, BodyState),
+    /// Behind a declaration.
+    End(File),
 }

@@ -1,11 +1,11 @@
 //! Texts whose trees and faults are known from outside.
 
-use crate::{BinOp, CompareOp, Else, Expr, Name, ParseFault, Stmt, Tree, parse};
-use base::Pos;
+use crate::{ParseFault, Tree, parse};
 use scan_go::scan;
 use std::alloc::{AllocError, Global};
 use std::process::Abort;
 use std::test::Fail;
+use syntax::{Decl, Params};
 
 fn tree_of(rt: &impl Abort, alloc: Global, text: &str) -> Result<Tree, ParseFault> {
     match scan(alloc, text.as_bytes()) {
@@ -14,176 +14,178 @@ fn tree_of(rt: &impl Abort, alloc: Global, text: &str) -> Result<Tree, ParseFaul
     }
 }
 
-/// Writes an expression with parentheses round each operator, brackets for the text's own parentheses, and braces round
-/// the arguments of a call.
-fn write_shape(expr: &Expr, out: &mut String) -> Result<(), AllocError> {
-    match expr {
-        Expr::Int(_, 1) => out.push('1'),
-        Expr::Int(_, _) => out.push('2'),
-        Expr::Name(_) => out.push('x'),
-        Expr::Unary(_, _, operand) => {
-            out.push_str("(-")?;
-            write_shape(operand, out)?;
-            out.push(')')
-        }
-        Expr::Binary(op, left, right) => {
-            out.push('(')?;
-            write_shape(left, out)?;
-            out.push(match op {
-                BinOp::Add => '+',
-                BinOp::Sub => '-',
-                BinOp::Mul => '*',
-            })?;
-            write_shape(right, out)?;
-            out.push(')')
-        }
-        Expr::Paren(_, inner) => {
-            out.push('[')?;
-            write_shape(inner, out)?;
-            out.push(']')
-        }
-        Expr::Call(function, arguments) => {
-            write_shape(function, out)?;
-            out.push('{')?;
-            for argument in arguments {
-                write_shape(argument, out)?;
-                out.push(';')?;
-            }
-            out.push('}')
-        }
+/// The number, line and column of the fault of a text, if it has no tree.
+fn fault_of(rt: &impl Abort, alloc: Global, text: &str) -> Option<(u32, u32, u32)> {
+    match tree_of(rt, alloc, text) {
+        Ok(_) => None,
+        Err(fault) => match (fault.number(), fault.pos()) {
+            (Some(number), Some(pos)) => Some((number, pos.line, pos.col)),
+            _ => panic!(rt; "no memory"),
+        },
     }
 }
 
-/// By Go's precedences: calls bind tightest, then unary operators, then `*`, then `+` and `-`, all to the left.
+/// Texts, and texts that break off or go wrong in a declaration: number, line and column.
 #[test]
-fn shapes(rt: HostRuntime) -> Result<(), Fail> {
-    let alloc = rt.alloc();
+fn texts(rt: HostRuntime) {
     let rows = [
-        ("1+2*x", "(1+(2*x))"),
-        ("1*2+x", "((1*2)+x)"),
-        ("1-2-x", "((1-2)-x)"),
-        ("1*2*x", "((1*2)*x)"),
-        ("-1*2", "((-1)*2)"),
-        ("1- -2+x", "((1-(-2))+x)"),
-        ("- -x", "(-(-x))"),
-        ("(1+2)*x", "([(1+2)]*x)"),
-        ("-(1-(2))", "(-[(1-[2])])"),
-        ("1*2-2*-x", "((1*2)-(2*(-x)))"),
-        ("x()", "x{}"),
-        ("x(1)(2)", "x{1;}{2;}"),
-        ("x(1, 2,)", "x{1;2;}"),
-        ("-x(1)*x(2)", "((-x{1;})*x{2;})"),
-        ("(-x)(1)", "[(-x)]{1;}"),
-        ("x(x(), 1-x(2)-1)", "x{x{};((1-x{2;})-1);}"),
-        ("1(2)", "1{2;}"),
+        ("package m\n", None),
+        ("", Some((1, 1, 1))),
+        ("package", Some((1, 1, 8))),
+        ("package 1", Some((1, 1, 9))),
+        ("package m; x", Some((1, 1, 12))),
+        (
+            "package main\nfunc main()\n{\nprintln(1)\n}",
+            Some((1, 3, 1)),
+        ),
+        // constants
+        ("package m; const a = 1", None),
+        ("package m; const a, b int = 1, 2", None),
+        ("package m; const (a = 1; b int = 2;)", None),
+        ("package m; const ()", None),
+        ("package m; const a", Some((1, 1, 19))),
+        ("package m; const a int", Some((1, 1, 23))),
+        ("package m; const (a = 1; b = 2", Some((1, 1, 31))),
+        ("package m; const (a = 1, )", Some((1, 1, 26))),
+        // variables
+        ("package m; var a, b int", None),
+        ("package m; var a, b int = 1, 2", None),
+        ("package m; var a = 1", None),
+        ("package m; var (a int; b = 1)", None),
+        ("package m; var a", Some((1, 1, 17))),
+        ("package m; var a, = 1", Some((1, 1, 19))),
+        ("package m; var a := 1", Some((1, 1, 18))),
+        // types
+        ("package m; type T struct { }", None),
+        ("package m; type T struct { a, b int; c []T }", None),
+        ("package m; type (T struct { a int; }; U struct { })", None),
+        ("package m; type T int", Some((1, 1, 19))),
+        ("package m; type T struct { a int b int }", Some((1, 1, 34))),
+        ("package m; type T struct { a }", Some((1, 1, 30))),
+        ("package m; type T struct {", Some((1, 1, 27))),
+        ("package m; type (T struct { }", Some((1, 1, 30))),
+        ("package m; var a T; var b **T", None),
+        ("package m; var a [n + 1][](*T)", None),
+        ("package m; var a *", Some((1, 1, 19))),
+        ("package m; var a [1]", Some((1, 1, 21))),
+        ("package m; var a [1 T", Some((1, 1, 21))),
+        ("package m; var a (T", Some((1, 1, 20))),
+        // functions
+        ("package m; func f()", None),
+        ("package m; func f() { }", None),
+        ("package m; func f(a, b int, c *T) (int, error) { }", None),
+        ("package m; func f(int, []T,) []T { }", None),
+        ("package m; func f() (q, r int,)", None),
+        ("package m; func f(a, []int)", None),
+        ("package m; func f", Some((1, 1, 18))),
+        ("package m; func f(a int, b)", Some((1, 1, 27))),
+        ("package m; func f(a, b int, c) { }", Some((1, 1, 30))),
+        ("package m; func f(a int b int)", Some((1, 1, 25))),
+        ("package m; func f([]int, a int)", Some((1, 1, 28))),
+        ("package m; func f(,)", Some((1, 1, 19))),
+        ("package m; func f(a,,)", Some((1, 1, 21))),
+        ("package m; func f() int int { }", Some((1, 1, 25))),
+        ("package m; func f() () () { }", Some((1, 1, 24))),
+        ("package m; func f() (int", Some((1, 1, 25))),
+        ("package m; func f() { } func", Some((1, 1, 25))),
+        ("package m; func f() { }; func", Some((1, 1, 30))),
     ];
     for (text, want) in rows {
-        let text = format!(in alloc; "package p; func f() {{ {text} }}")?;
-        let tree = tree_of(&rt, alloc, text.as_str())?;
-        assert_eq!(rt; tree.funcs.len(), 1);
-        let mut shape = String::new(alloc);
-        for stmt in &tree.funcs[0].body {
-            match stmt {
-                Stmt::Express(expr) => write_shape(expr, &mut shape)?,
-                _ => shape.push('?')?,
-            }
-        }
-        assert_eq!(rt; shape.as_str(), want);
+        assert_eq!(rt; fault_of(&rt, rt.alloc(), text), want, "{text}");
+    }
+}
+
+/// The second line of a function's body, and where it or the closing brace behind it goes wrong: line and column.
+#[test]
+fn statements(rt: HostRuntime) -> Result<(), Fail> {
+    let alloc = rt.alloc();
+    let rows = [
+        ("var a int", None),
+        ("var (a int; b = 1)", None),
+        ("var a", Some((2, 6))),
+        ("f()", None),
+        ("f(", Some((3, 1))),
+        ("a, b[1] = b, 1", None),
+        ("a, b =", Some((3, 1))),
+        ("a += 1; a <<= 2; a &^= 3", None),
+        ("a +=", Some((3, 1))),
+        ("a++; a.b--", None),
+        ("a, b++", Some((2, 5))),
+        ("a, b := 1, 2", None),
+        ("a, b[1] := 1, 2", Some((2, 9))),
+        ("x := 1 y := 2", Some((2, 8))),
+        ("a, b", Some((2, 5))),
+        ("{ { } }", None),
+        ("{", Some((3, 2))),
+        ("if x { }", None),
+        ("if x := 1; x < 2 { }", None),
+        ("if ; x { } else if y { } else { }", None),
+        ("if { }", Some((2, 4))),
+        ("if x", Some((3, 1))),
+        ("if x := 1 { }", Some((2, 11))),
+        ("if x { } else x", Some((2, 15))),
+        ("if x { } x = 1", Some((2, 10))),
+        ("if T{} == x { }", Some((2, 8))),
+        ("if (T{}) == x { }", None),
+        ("for { break; continue }", None),
+        ("for x < 1 { }", None),
+        ("for i := 0; i < 9; i++ { }", None),
+        ("for ; ; { }", None),
+        ("for range x { }", None),
+        ("for i, v := range x { }", None),
+        ("for a[0], b = range x { }", None),
+        ("for x := []T{}; f(T{}); { }", None),
+        ("for", Some((3, 1))),
+        ("for i := 0 { }", Some((2, 12))),
+        ("for i := 0; i < 9 { }", Some((2, 19))),
+        ("for ; ; i := 1 { }", Some((2, 11))),
+        ("for x += range y { }", Some((2, 10))),
+        ("break x", Some((2, 7))),
+        ("return", None),
+        ("return 1, x", None),
+        ("return 1,", Some((3, 1))),
+        ("x = 1+2*3<<4&^5 - 6|7^8 == 9 && a || b != c", None),
+        ("x = 1 +", Some((3, 1))),
+        ("x = +1 - -2 * !a ^ ^b * *p & &q", None),
+        ("x = -", Some((3, 1))),
+        ("x = a.b[1][:][1:][:2][1:2](3)", None),
+        ("x = a.", Some((3, 1))),
+        ("x = a[]", Some((2, 7))),
+        ("x = a[1:2:3]", Some((2, 10))),
+        ("f(1, []int, *T, (T), s...,)", None),
+        ("f(s..., 1)", Some((2, 9))),
+        ("f(1 2)", Some((2, 5))),
+        ("f(,)", Some((2, 3))),
+        ("x = T{1, 2,}; y = T{a: 1, b: {2}}", None),
+        ("x = [2]int{}; y = [][]int{{1}, {}}", None),
+        ("x = T{1: 2}", Some((2, 8))),
+        ("x = T{", Some((3, 2))),
+        ("x = [2]int", Some((2, 11))),
+        ("x = \"a\"; x = (1)", None),
+        ("x = (1", Some((2, 7))),
+        ("x = ([]int)(a)", Some((2, 11))),
+        ("x = func() { }", Some((2, 5))),
+        ("go f()", Some((2, 1))),
+    ];
+    for (line, want) in rows {
+        let text = format!(in alloc; "package m; func f() {{\n{line}\n}}")?;
+        let want = want.map(|(line, col)| (1, line, col));
+        assert_eq!(rt; fault_of(&rt, alloc, text.as_str()), want, "{line}");
     }
     Ok(())
 }
 
-/// The first token with which no text begins: number, offset, line, column.
-#[test]
-fn faults_and_their_places(rt: HostRuntime) {
-    let rows = [
-        ("", 1, 0, 1, 1),
-        ("package", 1, 7, 1, 8),
-        ("package m; x", 1, 11, 1, 12),
-        ("package m; func f() {} func", 1, 23, 1, 24),
-        ("package m; func f()", 1, 19, 1, 20),
-        ("package m; func f();", 1, 19, 1, 20),
-        ("package m\nfunc f()\n{ }", 1, 18, 2, 9),
-        ("package m; func f() { g(1+", 1, 26, 1, 27),
-        ("package m; func f() { g(1 2) }", 1, 26, 1, 27),
-        ("package m; func f() { g(,) }", 1, 24, 1, 25),
-        ("package m; func f() { g(1,,) }", 1, 26, 1, 27),
-        ("package m; func f() { g(1\n) }", 1, 25, 1, 26),
-        ("package m; func f() { x := 1 y := 2 }", 1, 29, 1, 30),
-        ("package m; func f() { x := (1,2) }", 1, 29, 1, 30),
-        ("package m; func f() { }; func", 1, 29, 1, 30),
-        ("package m; func f() { x == 1 }", 1, 24, 1, 25),
-        ("package m; func f() { if x { } }", 1, 27, 1, 28),
-        ("package m; func f() { if (x < 1) { } }", 1, 28, 1, 29),
-        ("package m; func f() { for x < 1 < 2 { } }", 1, 32, 1, 33),
-        (
-            "package m; func f() { if x < 1 { } else x = 1 }",
-            1,
-            40,
-            1,
-            41,
-        ),
-        (
-            "package m; func f() { if x < 1 { }\nelse { } }",
-            1,
-            35,
-            2,
-            1,
-        ),
-        ("package m; func f() { if x < 1 { } x = 1 }", 1, 35, 1, 36),
-        ("package m; func f() { for { } else { } }", 1, 30, 1, 31),
-        ("package m; func f() { { { } }", 1, 29, 1, 30),
-        ("package m; func f() { { } } }", 1, 28, 1, 29),
-        ("package m; func f() { g(), a = 1 }", 1, 25, 1, 26),
-        ("package m; func f() { a, g() = 1 }", 1, 26, 1, 27),
-        ("package m; func f() { a, 1 = 1 }", 1, 25, 1, 26),
-        ("package m; func f() { a, b }", 1, 27, 1, 28),
-        ("package m; func f() { a.b = 1 }", 1, 23, 1, 24),
-        ("package m; func f() { a = }", 1, 26, 1, 27),
-        ("package m; func f() { a = 1, }", 1, 29, 1, 30),
-        ("package m; func f() { g() = 1 }", 1, 26, 1, 27),
-        ("package m; func f() { return 1, }", 1, 32, 1, 33),
-        ("package m; func f() { return return }", 1, 29, 1, 30),
-        ("package m; func f(a int, b) { }", 1, 26, 1, 27),
-        ("package m; func f(a int, b, c) { }", 1, 29, 1, 30),
-        ("package m; func f(a int b int) { }", 1, 24, 1, 25),
-        ("package m; func f(a b c) { }", 1, 22, 1, 23),
-        ("package m; func f(,) { }", 1, 18, 1, 19),
-        ("package m; func f(a,,) { }", 1, 20, 1, 21),
-        ("package m; func f() int int { }", 1, 24, 1, 25),
-        ("package m; func f() (a int, b) { }", 1, 29, 1, 30),
-        ("package m; func f() () () { }", 1, 23, 1, 24),
-    ];
-    for (text, number, offset, line, col) in rows {
-        match tree_of(&rt, rt.alloc(), text) {
-            Ok(_) => panic!(rt; "a tree of {text}"),
-            Err(fault) => {
-                assert_eq!(rt; fault.number(), Some(number), "{text}");
-                assert_eq!(rt; fault.pos(), Some(Pos { offset, line, col }), "{text}");
-            }
-        }
-    }
-}
-
-/// Where a text is too deep, if it is.
-fn depth_fault(rt: &impl Abort, alloc: Global, text: &str) -> Option<u32> {
-    match tree_of(rt, alloc, text) {
-        Ok(_) => None,
-        Err(ParseFault::TooDeep(pos)) => Some(pos.offset),
-        Err(_) => panic!(rt; "another fault"),
-    }
-}
-
-/// A body with n times a front and n times an end round a middle.
+/// A body with n times a front and n times an end round a middle, behind some words.
 fn around(
     alloc: Global,
-    front: &str,
-    middle: &str,
-    behind: &str,
+    words: &str,
+    parts: (&str, &str, &str),
     n: u32,
 ) -> Result<String, AllocError> {
+    let (front, middle, behind) = parts;
     let mut text = String::new(alloc);
     text.push_str("package m; func f() { ")?;
+    text.push_str(words)?;
     for _ in 0..n {
         text.push_str(front)?;
     }
@@ -195,258 +197,134 @@ fn around(
     Ok(text)
 }
 
-/// The nesting is at most 200: what stands round the middle, how often, and where it is too deep. The body of the
+/// The nesting is at most 200: what stands round the middle, how often, and the column where it is too deep. The body of the
 /// function is one bracket, and a call is one higher than its function and its arguments.
 #[test]
 fn limits(rt: HostRuntime) -> Result<(), Fail> {
     let alloc = rt.alloc();
     let rows = [
-        ("(", "1", ")", 199, None),
-        ("(", "1", ")", 200, Some(22 + 200)),
-        ("- ", "1", "", 199, None),
-        ("- ", "1", "", 200, Some(22 + 2 * 200)),
-        ("", "1", "+1", 200, None),
-        ("", "1", "+1", 201, Some(22 + 2 * 201 - 1)),
-        ("1*", "1", "-1", 100, None),
-        ("1*", "1", "-1", 101, Some(22 + 401)),
-        ("f(", "", ")", 200, None),
-        ("f(", "", ")", 201, Some(22 + 400)),
-        ("f(", "1", ")", 199, None),
-        ("f(", "1", ")", 200, Some(22 + 400)),
-        ("", "f", "()", 200, None),
-        ("", "f", "()", 201, Some(22 + 1 + 2 * 200)),
-        ("", "f", "(1)", 200, None),
-        ("", "f", "(1)", 201, Some(22 + 1 + 3 * 200)),
-        ("{", "", "}", 200, None),
-        ("{", "", "}", 201, Some(22 + 200)),
-        ("for x<1{", "", "}", 200, None),
-        ("for x<1{", "", "}", 201, Some(22 + 8 * 200)),
-        ("if x<1{}else ", "{}", "", 199, None),
-        ("if x<1{}else ", "{}", "", 200, None),
-        ("if x<1{}else ", "{}", "", 201, Some(22 + 13 * 200)),
+        ("", ("(", "1", ")"), 199, None),
+        ("", ("(", "1", ")"), 200, Some(23 + 200)),
+        ("", ("- ", "1", ""), 199, None),
+        ("", ("- ", "1", ""), 200, Some(23 + 2 * 200)),
+        ("", ("", "1", "+1"), 200, None),
+        ("", ("", "1", "+1"), 201, Some(23 + 2 * 201 - 1)),
+        ("", ("", "f", "()"), 200, None),
+        ("", ("", "f", "()"), 201, Some(23 + 1 + 2 * 200)),
+        ("", ("f(", "1", ")"), 199, None),
+        ("", ("f(", "1", ")"), 200, Some(23 + 2 * 200)),
+        ("", ("x[", "1", "]"), 199, None),
+        ("", ("x[", "1", "]"), 200, Some(23 + 2 * 200)),
+        ("", ("T{", "1", "}"), 199, None),
+        ("", ("T{", "1", "}"), 200, Some(23 + 2 * 200)),
+        ("", ("", "x", ".a"), 200, None),
+        ("", ("", "x", ".a"), 201, Some(23 + 1 + 2 * 200)),
+        ("var x ", ("*", "T", ""), 199, None),
+        ("var x ", ("*", "T", ""), 200, Some(23 + 6 + 200)),
+        ("", ("{", "", "}"), 200, None),
+        ("", ("{", "", "}"), 201, Some(23 + 200)),
+        ("", ("if x{}else ", "{}", ""), 200, None),
+        ("", ("if x{}else ", "{}", ""), 201, Some(23 + 11 * 200)),
     ];
-    for (front, middle, behind, n, want) in rows {
-        let text = around(alloc, front, middle, behind, n)?;
-        assert_eq!(rt;
-            depth_fault(&rt, alloc, text.as_str()),
-            want,
-            "{n} times {front}{behind}"
-        );
+    for (words, parts, n, want) in rows {
+        let text = around(alloc, words, parts, n)?;
+        let fault = fault_of(&rt, alloc, text.as_str());
+        let (front, _, behind) = parts;
+        let want = want.map(|col| (2, 1, col));
+        assert_eq!(rt; fault, want, "{n} times {front}{behind}");
     }
     Ok(())
 }
 
-/// What stands in an `if` with its elses, in a `for` and in a block.
-#[test]
-fn statements(rt: HostRuntime) -> Result<(), Fail> {
-    let alloc = rt.alloc();
-    let text =
-        "package m; func f() { if x <= -1 { x = 1; ; } else if (x) != 2 { } else { { }; g(x) }; for { } }";
-    let tree = tree_of(&rt, alloc, text)?;
-    assert_eq!(rt; tree.funcs.len(), 1);
-    let body = &tree.funcs[0].body;
-    assert_eq!(rt; body.len(), 2);
-    match &body[0] {
-        Stmt::If(pos, cond, then, Else::If(second_pos, second, second_body, others)) => {
-            assert_eq!(rt; pos.offset, 22);
-            assert_eq!(rt; cond.op, CompareOp::LessEqual);
-            assert_eq!(rt; cond.pos().offset, 25);
-            assert!(rt; matches!(then.as_slice(), [Stmt::Assign(_, _, _)]));
-            assert_eq!(rt; second_pos.offset, 51);
-            assert_eq!(rt; second.op, CompareOp::NotEqual);
-            assert_eq!(rt; second.pos().offset, 54);
-            assert_eq!(rt; second_body.len(), 0);
-            match &**others {
-                Else::Block(last) => {
-                    assert!(rt;
-                        matches!(
-                            last.as_slice(),
-                            [Stmt::Block(_), Stmt::Express(Expr::Call(_, _))]
-                        )
-                    );
-                }
-                _ => panic!(rt; "no last else"),
-            }
-        }
-        _ => panic!(rt; "no if with an else-if"),
+/// How many types, how many fields, and how many names in the first field parameters have.
+fn shape(params: &Params) -> (usize, usize, usize) {
+    match params {
+        Params::Unnamed(types) => (types.len(), 0, 0),
+        Params::Named(fields) => match fields.first() {
+            Some(field) => (0, fields.len(), field.names.len()),
+            None => (0, 0, 0),
+        },
     }
-    assert!(rt; matches!(&body[1], Stmt::For(_, None, _)));
-    Ok(())
 }
 
-/// The names and values of statements.
-#[test]
-fn lists(rt: HostRuntime) -> Result<(), Fail> {
-    let alloc = rt.alloc();
-    let text = "package m; func f() { a, b = b, a; a, b, c := g(), 1; return; return 1, 2 }";
-    let tree = tree_of(&rt, alloc, text)?;
-    assert_eq!(rt; tree.funcs.len(), 1);
-    let body = &tree.funcs[0].body;
-    assert_eq!(rt; body.len(), 4);
-    match &body[0] {
-        Stmt::Assign(names, _, values) => {
-            assert_eq!(rt; names.len(), 2);
-            assert!(rt; names[0].pos.offset < names[1].pos.offset);
-            assert!(rt; matches!(values.as_slice(), [Expr::Name(_), Expr::Name(_)]));
-            assert!(rt; names[1].pos.offset < values[0].pos().offset);
-        }
-        _ => panic!(rt; "no assignment"),
-    }
-    match &body[1] {
-        Stmt::Define(names, _, values) => {
-            assert_eq!(rt; names.len(), 3);
-            assert!(rt; matches!(values.as_slice(), [Expr::Call(_, _), Expr::Int(_, 1)]));
-        }
-        _ => panic!(rt; "no definition"),
-    }
-    match &body[2] {
-        Stmt::Return(_, values) => assert_eq!(rt; values.len(), 0),
-        _ => panic!(rt; "no return"),
-    }
-    match &body[3] {
-        Stmt::Return(_, values) => {
-            assert!(rt; matches!(values.as_slice(), [Expr::Int(_, 1), Expr::Int(_, 2)]));
-        }
-        _ => panic!(rt; "no return of values"),
-    }
-    Ok(())
-}
-
-/// How many parameters and results there are, how many of them have names, and that those of a group share their type.
+/// How many types, fields and names of the first field the parameters and the results have.
 #[test]
 fn signatures(rt: HostRuntime) -> Result<(), Fail> {
     let alloc = rt.alloc();
     let rows = [
-        ("()", 0, 0, 0, 0),
-        ("(int)", 1, 0, 0, 0),
-        ("(int, int,)", 2, 0, 0, 0),
-        ("(a int)", 1, 1, 0, 0),
-        ("(a, b int)", 2, 2, 0, 0),
-        ("(a, b int, c int,)", 3, 3, 0, 0),
-        ("() int", 0, 0, 1, 0),
-        ("() ()", 0, 0, 0, 0),
-        ("(a int) (int, int)", 1, 1, 2, 0),
-        ("(n int) (q, r int)", 1, 1, 2, 2),
+        ("()", (0, 0, 0), (0, 0, 0)),
+        ("(int)", (1, 0, 0), (0, 0, 0)),
+        ("(a, []b,)", (2, 0, 0), (0, 0, 0)),
+        ("(a, b int, c *T) int", (0, 2, 2), (1, 0, 0)),
+        ("(a [2]int) ()", (0, 1, 1), (0, 0, 0)),
+        ("() (int, error)", (0, 0, 0), (2, 0, 0)),
+        ("(n int) (q, r int,)", (0, 1, 1), (0, 1, 2)),
     ];
-    for (signature, params, named, results, named_results) in rows {
-        let text = format!(in alloc; "package m; func f{signature} {{ }}")?;
+    for (signature, params, results) in rows {
+        let text = format!(in alloc; "package m; func f{signature}")?;
         let tree = tree_of(&rt, alloc, text.as_str())?;
-        assert_eq!(rt; tree.funcs.len(), 1);
-        let func = &tree.funcs[0];
-        assert_eq!(rt; func.params.len(), params, "{signature}");
-        assert_eq!(rt;
-            func.params.iter().filter(|p| p.name.is_some()).count(),
-            named,
-            "{signature}"
-        );
-        assert_eq!(rt; func.results.len(), results, "{signature}");
-        assert_eq!(rt;
-            func.results.iter().filter(|p| p.name.is_some()).count(),
-            named_results,
-            "{signature}"
-        );
-    }
-    let tree = tree_of(&rt, alloc, "package m; func f(a, b int, c int) { }")?;
-    assert_eq!(rt; tree.funcs.len(), 1);
-    let params = &tree.funcs[0].params;
-    assert_eq!(rt; params.len(), 3);
-    assert_eq!(rt; params[0].type_name, params[1].type_name);
-    assert_eq!(rt; params[0].type_name.pos.offset, 23);
-    assert_eq!(rt; params[2].type_name.pos.offset, 30);
-    Ok(())
-}
-
-/// A text may have no function or several, and its names are all alike.
-#[test]
-fn functions(rt: HostRuntime) -> Result<(), Fail> {
-    let alloc = rt.alloc();
-    let rows = [
-        ("package m\n", 0),
-        ("package main; func main() { println(println) }", 1),
-        (
-            "package m\n\nfunc f() {\n}\n\nfunc g(int) int { return f }\n",
-            2,
-        ),
-    ];
-    for (text, want) in rows {
-        let tree = tree_of(&rt, alloc, text)?;
-        assert_eq!(rt; tree.funcs.len(), want, "{text}");
+        assert_eq!(rt; tree.decls.len(), 1);
+        match &tree.decls[0] {
+            Decl::Func(func) => {
+                assert_eq!(rt; shape(&func.params), params, "{signature}");
+                assert_eq!(rt; shape(&func.results), results, "{signature}");
+                assert!(rt; func.body.is_none());
+            }
+            _ => panic!(rt; "no function"),
+        }
     }
     Ok(())
 }
 
-/// Where each part of a tree stands. Empty statements leave no trace.
+/// The declarations of a text stand in its order, each with the place of its word; so does the closing brace of a body.
 #[test]
 fn places(rt: HostRuntime) -> Result<(), Fail> {
     let alloc = rt.alloc();
-    let text = "package main\n\nfunc main() {\n\t;; println := (7); println()\n}\n";
+    let text =
+        "package main\n\nconst c = 1\nvar (\n\tv int\n\tw = c\n)\ntype T struct{ a, b int }\nfunc main() {\n\t;; println(7)\n}\n";
     let tree = tree_of(&rt, alloc, text)?;
     assert_eq!(rt; tree.text.as_slice(), text.as_bytes());
     assert_eq!(rt; tree.package.pos.offset, 8);
-    assert_eq!(rt; tree.funcs.len(), 1);
-    let main = &tree.funcs[0];
-    assert_eq!(rt;
-        main.name.pos,
-        Pos {
-            offset: 19,
-            line: 3,
-            col: 6
+    assert_eq!(rt; tree.decls.len(), 4);
+    match &tree.decls[0] {
+        Decl::Const(pos, specs) => {
+            assert_eq!(rt; (pos.line, pos.col), (3, 1));
+            assert_eq!(rt; specs.len(), 1);
         }
-    );
-    assert_eq!(rt;
-        main.end,
-        Pos {
-            offset: 58,
-            line: 5,
-            col: 1
-        }
-    );
-    assert_eq!(rt; main.body.len(), 2);
-    let name = Name {
-        pos: Pos {
-            offset: 32,
-            line: 4,
-            col: 5,
-        },
-        end: 39,
-    };
-    match &main.body[0] {
-        Stmt::Define(defined, pos, values) => {
-            assert_eq!(rt; defined.len(), 1);
-            assert_eq!(rt; defined[0], name);
-            assert_eq!(rt; values.len(), 1);
-            assert_eq!(rt;
-                *pos,
-                Pos {
-                    offset: 40,
-                    line: 4,
-                    col: 13
-                }
-            );
-            assert_eq!(rt;
-                values[0].pos(),
-                Pos {
-                    offset: 43,
-                    line: 4,
-                    col: 16
-                }
-            );
-        }
-        _ => panic!(rt; "no definition of parentheses"),
+        _ => panic!(rt; "no constant"),
     }
-    match &main.body[1] {
-        Stmt::Express(expr) => {
-            assert_eq!(rt;
-                expr.pos(),
-                Pos {
-                    offset: 48,
-                    line: 4,
-                    col: 21
-                }
-            );
-            assert!(rt; matches!(expr, Expr::Call(_, _)));
+    match &tree.decls[1] {
+        Decl::Var(pos, specs) => {
+            assert_eq!(rt; (pos.line, pos.col), (4, 1));
+            assert_eq!(rt; specs.len(), 2);
+            assert!(rt; specs[0].type_expr.is_some());
+            assert_eq!(rt; specs[1].values.len(), 1);
         }
-        _ => panic!(rt; "no call"),
+        _ => panic!(rt; "no variables"),
+    }
+    match &tree.decls[2] {
+        Decl::Type(pos, specs) => {
+            assert_eq!(rt; (pos.line, pos.col), (8, 1));
+            assert_eq!(rt; specs.len(), 1);
+            assert_eq!(rt; (specs[0].name.pos.col, specs[0].name.end), (6, 54));
+            assert_eq!(rt; specs[0].fields.len(), 1);
+            assert_eq!(rt; specs[0].fields[0].names.len(), 2);
+        }
+        _ => panic!(rt; "no type"),
+    }
+    match &tree.decls[3] {
+        Decl::Func(func) => {
+            assert_eq!(rt; (func.pos.line, func.pos.col), (9, 1));
+            assert_eq!(rt; func.name.pos.col, 6);
+            match &func.body {
+                Some(body) => {
+                    assert_eq!(rt; body.statements.len(), 1);
+                    assert_eq!(rt; (body.end.line, body.end.col), (11, 1));
+                }
+                None => panic!(rt; "no body"),
+            }
+        }
+        _ => panic!(rt; "no function"),
     }
     Ok(())
 }

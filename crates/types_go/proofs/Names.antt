@@ -1,6 +1,6 @@
 -- The new names of a `:=` so far, and those still ahead.
 use Rattle.std.proofs.Common.{◌≡◌, ℕ, ◌+◌, Bool, true, false, cond, List, [], ◌∷◌, ◌++◌, length, sym, ap, ◌∙◌, arith, append_assoc, length-append}
-use Rattle.parse_go.specs.declared.tree.Name.{Name}
+use Rattle.syntax.specs.declared.expression.Name.{Name}
 
 pub next_site : (b : Bool) (start : ℕ) (names more : List Name) (n : Name) → more ≡ cond b (names ++ n ∷ []) names → cond b (1 + (start + length names)) (start + length names) ≡ start + length more
 next_site true start names more n is = omega (arith, ap length is, length-append names (n ∷ []))

@@ -1,24 +1,27 @@
 -- The least fault of the statements of a block, from left to right, and their typed forms where all have one.
-use Rattle.std.proofs.Common.{◌≡◌, ℕ, zero, suc, ◌+◌, ◌<◌, get_or, drop, List, [], ◌∷◌, ◌++◌, ◌⊎◌, inl, inr, Option, Some, None, refl, sym, ap, ◌∙◌, length, arith}
-use Rattle.std.specs.Prelude.{option_and_then}
+use Rattle.std.proofs.Common.{◌≡◌, ℕ, zero, suc, Bool, true, false, ◌+◌, ◌<◌, get_or, drop, List, [], ◌∷◌, ◌++◌, ◌⊎◌, inl, inr, Option, Some, None, refl, sym, ap, ◌∙◌, length, arith}
+use Rattle.std.specs.Prelude.{option_and_then, is_some}
 use Rattle.std.specs.Option.{option_map}
 use Rattle.std.specs.Global.{Vec}
 use Rattle.typed.specs.declared.stmt.Stmt.{Stmt}
 use Rattle.typed.specs.View.{st_of, sts_of}
 use Rattle.typed.specs.Syntax.{St, Sts, done, next}
 use Rattle.std.proofs.Math.Seq.{drop-cons}
-use Rattle.parse_go.specs.declared.tree.Stmt.{Stmt as Tree}
-use Rattle.parse_go.specs.Tree.{Condition, Stm, Stms, Els, nil, cons, stm_of, stms_of}
-use Rattle.types_go.specs.declared.fault.Fault.{Fault}
-use Rattle.types_go.specs.Least.{IsLeast, lesser}
-use Rattle.types_go.specs.Scope.{Scope, opened, closed}
+use Rattle.syntax.specs.declared.statement.Stmt.{Stmt as Tree}
+use Rattle.base.specs.declared.pos.Pos.{Pos}
+use Rattle.syntax.specs.Statements.{Guard, Clause, Stm, Stms, Els, choice, loop, nil, cons, stm_of, stms_of}
+use Rattle.expression_types.specs.declared.fault.FaultKind.TheVariants.{OutOfProfile}
+use Rattle.expression_types.specs.Typing.{condition_in}
+use Rattle.expression_types.specs.declared.fault.Fault.{Fault}
+use Rattle.expression_types.specs.Least.{IsLeast, lesser}
+use Rattle.expression_types.specs.Scope.{Scope, opened, closed}
 use Rattle.types_go.specs.declared.statements.Returns.{Returns}
-use Rattle.types_go.specs.Statements.{statement, statements, behind, behind_all}
-use Rattle.types_go.specs.StatementFaults.{FailsInStatement, FailsInStatements, FailsInElse}
-use Rattle.types_go.specs.Faults.{FailsInCondition, FailsInTest}
-use Rattle.types_go.specs.Passing.{with_last}
+use Rattle.types_go.specs.Statements.{is_left_out, statement, statements, behind, behind_all}
+use Rattle.types_go.specs.StatementFaults.{LeftOutOr, FailsInStatement, FailsInStatements, FailsInElse}
+use Rattle.expression_types.specs.Faults.{fault, FormFails, FailsInCondition, FailsInTest}
+use Rattle.expression_types.specs.Passing.{with_last}
 use Rattle.types_go.proofs.Growth.{grows}
-use Rattle.types_go.proofs.Leasts.{least_join, Covers, covers_left, covers_right, least_covers, Sound, sound_lesser, least_sound, is_least}
+use Rattle.expression_types.proofs.Leasts.{least_join, Covers, covers_left, covers_right, least_covers, Sound, sound_lesser, least_sound, is_least}
 
 -- the statements from one on
 pub split : (ss : List Tree) (i : ℕ) (s : Tree) → i < length ss → s ≡ get_or ss i s → stms_of (drop i ss) ≡ cons (stm_of s) (stms_of (drop (i + 1) ss))
@@ -112,13 +115,38 @@ one_more text r1 start all m others s values line least fault k found e = record
     sorted g (inr (inl h)) = inl (covers_right least fault g (least_covers (FailsInStatement text r1 s m) fault g found h))
     sorted g (inr (inr h)) = inr h
 
--- an `if`: its condition, its body, and what stands behind them
-pub choice_least : (text : List ℕ) (r1 : Returns) (s : Scope) (c : Condition) (body : Stms) (rest : Els) (f g h : Option Fault) → IsLeast (FailsInCondition text s c) f → IsLeast (FailsInStatements text r1 (opened s) body) g
-    → IsLeast (FailsInElse text r1 (closed (behind_all text (opened s) body)) rest) h
-    → IsLeast (λ e. (FailsInCondition text s c e ⊎ FailsInStatements text r1 (opened s) body e) ⊎ FailsInElse text r1 (closed (behind_all text (opened s) body)) rest e) (lesser (lesser f g) h)
-choice_least text r1 s c body rest f g h a b d = least_join _ _ (lesser f g) h (least_join _ _ f g a b) d
+-- a form that is left out has this fault alone, and one that isn't has its own
+pub left_out : (b : Bool) (own : Fault) (P : Fault → Type 0) (l : Option Fault) → b ≡ true → IsLeast (λ f. f ≡ own) l → IsLeast (λ f. LeftOutOr b own (P f) f) l
+left_out true own P l is least = least
+left_out false own P l is least = absurd cc
 
--- a loop: its condition and its body
-pub loop_least : (text : List ℕ) (r1 : Returns) (s : Scope) (c : Option Condition) (body : Stms) (f g : Option Fault) → IsLeast (FailsInTest text s c) f → IsLeast (FailsInStatements text r1 (opened s) body) g
-    → IsLeast (λ e. FailsInTest text s c e ⊎ FailsInStatements text r1 (opened s) body e) (lesser f g)
-loop_least text r1 s c body f g a b = least_join _ _ f g a b
+pub not_left_out : (b : Bool) (own : Fault) (P : Fault → Type 0) (l : Option Fault) → b ≡ false → IsLeast P l → IsLeast (λ f. LeftOutOr b own (P f) f) l
+not_left_out false own P l is least = least
+not_left_out true own P l is least = absurd cc
+
+module _ (text : List ℕ) (r1 : Returns) (s : Scope) (at : Pos) where
+  abbrev pub ChoiceFails : Guard → Stms → Els → Fault → Type 0
+  ChoiceFails g body rest f = (FailsInCondition text s at g.condition f ⊎ FailsInStatements text r1 (opened s) body f) ⊎ FailsInElse text r1 (closed (behind_all text (opened s) body)) rest f
+
+  -- an `if`: its condition, its body, and what stands behind them
+  pub choice_least : (g : Guard) (body : Stms) (rest : Els) (a b c : Option Fault) → is_some g.init ≡ false → IsLeast (FailsInCondition text s at g.condition) a → IsLeast (FailsInStatements text r1 (opened s) body) b
+      → IsLeast (FailsInElse text r1 (closed (behind_all text (opened s) body)) rest) c → IsLeast (FailsInStatement text r1 s (choice at g body rest)) (lesser (lesser a b) c)
+  choice_least g body rest a b c init x y z =
+      not_left_out (is_some g.init) (fault OutOfProfile at) (ChoiceFails g body rest) (lesser (lesser a b) c) init
+      (least_join (λ f. FailsInCondition text s at g.condition f ⊎ FailsInStatements text r1 (opened s) body f) (FailsInElse text r1 (closed (behind_all text (opened s) body)) rest) (lesser a b) c
+      (least_join (FailsInCondition text s at g.condition) (FailsInStatements text r1 (opened s) body) a b x y) z)
+
+  pub choice_left_out : (g : Guard) (body : Stms) (rest : Els) (l : Option Fault) → is_some g.init ≡ true → IsLeast (FormFails at) l → IsLeast (FailsInStatement text r1 s (choice at g body rest)) l
+  choice_left_out g body rest l init least = left_out (is_some g.init) (fault OutOfProfile at) (ChoiceFails g body rest) l init least
+
+  abbrev pub LoopFails : Clause → Stms → Fault → Type 0
+  LoopFails c body f = FailsInTest text s at (condition_in c) f ⊎ FailsInStatements text r1 (opened s) body f
+
+  -- a loop: its condition and its body
+  pub loop_least : (c : Clause) (body : Stms) (a b : Option Fault) → is_left_out c ≡ false → IsLeast (FailsInTest text s at (condition_in c)) a → IsLeast (FailsInStatements text r1 (opened s) body) b
+      → IsLeast (FailsInStatement text r1 s (loop at c body)) (lesser a b)
+  loop_least c body a b form x y =
+      not_left_out (is_left_out c) (fault OutOfProfile at) (LoopFails c body) (lesser a b) form (least_join (FailsInTest text s at (condition_in c)) (FailsInStatements text r1 (opened s) body) a b x y)
+
+  pub loop_left_out : (c : Clause) (body : Stms) (l : Option Fault) → is_left_out c ≡ true → IsLeast (FormFails at) l → IsLeast (FailsInStatement text r1 s (loop at c body)) l
+  loop_left_out c body l form least = left_out (is_left_out c) (fault OutOfProfile at) (LoopFails c body) l form least

@@ -1,38 +1,46 @@
 -- A tree has a typed program, or a rule fails in it, and never both.
-use Rattle.std.proofs.Common.{◌≡◌, ℕ, zero, suc, ◌+◌, ◌<◌, ◌≤◌, Bool, true, false, cond, List, [], ◌∷◌, ◌++◌, ◌⊎◌, inl, inr, length, Option, Some, None, refl, sym, ap, ◌∙◌, subst, arith, length-append}
-use Rattle.std.specs.Prelude.{option_and_then, is_some, not, slice_get, nat_lt, nat_le, ◌&&◌, ◌||◌, ◌==◌}
+use Rattle.std.proofs.Common.{◌≡◌, ℕ, zero, suc, ◌+◌, ◌<◌, ◌≤◌, Bool, true, false, cond, List, [], ◌∷◌, ◌++◌, ◌⊎◌, inl, inr, length, map, Option, Some, None, refl, sym, ap, ◌∙◌, subst, arith, length-append}
+use Rattle.std.specs.Prelude.{⊤, option_and_then, is_some, not, slice_get, nat_lt, nat_le, ◌&&◌, ◌==◌}
 use Rattle.std.specs.List.{AllByRecursion}
 use Rattle.std.specs.Option.{option_map}
 use Rattle.base.specs.declared.pos.Pos.{Pos}
-use Rattle.parse_go.specs.declared.tree.Name.{Name}
-use Rattle.parse_go.specs.declared.tree.Param.{Param}
-use Rattle.parse_go.specs.Tree.{Function as TreeFunction, spelled}
+use Rattle.names.specs.Blocks.{lookup}
+use Rattle.syntax.specs.declared.expression.Name.{Name}
+use Rattle.syntax.specs.FirstBytes.{first_place}
+use Rattle.syntax.specs.Expressions.{Ex as TreeEx, name, paren, spelled}
+use Rattle.syntax.specs.Declarations.{Body, Function as TreeFunction, Declaration, constants, variables, types, Syntax}
+use Rattle.syntax.specs.Declarations as tree
 use Rattle.typed.specs.Syntax.{Sts, Func}
-use Rattle.types_go.specs.declared.fault.Fault.{Fault}
-use Rattle.types_go.specs.declared.fault.FaultKind.TheVariants.{Unknown, Redeclared, MissingReturn, BadOperand, OutOfProfile, TooLarge}
+use Rattle.expression_types.specs.declared.fault.Fault.{Fault}
+use Rattle.expression_types.specs.declared.fault.FaultKind.TheVariants.{Unknown, Redeclared, MissingReturn, BadOperand, OutOfProfile, TooLarge}
+use Rattle.expression_types.specs.declared.scope.ValueType.{ValueType}
+use Rattle.expression_types.specs.declared.scope.ValueType.TheVariants.{Int}
+use Rattle.expression_types.specs.declared.scope.Declared.{Declared}
+use Rattle.expression_types.specs.declared.scope.Declared.TheVariants.{Variable, Untyped, Function, TypeName}
+use Rattle.expression_types.specs.Profile.{is_blank, is_int_type, is_type_name, is_value_name, is_predeclared, is_reserved}
+use Rattle.expression_types.specs.Scope.{Scope, Signature, declaration, is_here, with_declaration, with_variable, with_signature, opened, beginning}
+use Rattle.expression_types.specs.Typing.{type_in, allowed}
+use Rattle.expression_types.specs.Faults.{fault, TypeNameFails, FailsAsType}
+use Rattle.types_go.specs.declared.slots.Slot.{Slot}
 use Rattle.types_go.specs.declared.entries.Role.{Role}
-use Rattle.types_go.specs.declared.entries.Role.TheVariants.{Parameter, NamedResult, UnnamedResult}
-use Rattle.types_go.specs.declared.scope.ValueType.{ValueType}
-use Rattle.types_go.specs.declared.scope.ValueType.TheVariants.{Int}
-use Rattle.types_go.specs.declared.scope.Declared.{Declared}
-use Rattle.types_go.specs.declared.scope.Declared.TheVariants.{Variable, Untyped, Function}
-use Rattle.types_go.specs.Profile.{is_blank, is_int_type, is_type_name, is_value_name, is_predeclared, is_reserved}
-use Rattle.types_go.specs.Scope.{Scope, Signature, declaration, is_here, with_declaration, with_variable, with_signature, opened, beginning}
+use Rattle.types_go.specs.declared.entries.Role.TheVariants.{Parameter, Result}
 use Rattle.types_go.specs.Statements.{behind_all}
-use Rattle.types_go.specs.Functions.{unnamed_entry, blank_entry, variable_entry, entry_of, role_of, words, is_number, may_be_named, allowed, is_small, declares_function, type_of, types_of, signature_in, with_function, with_functions, entry_in, behind_entry_name, behind_entry, entries, behind_entries, behind_params, body_scope, behind_function, returns_of, may_end, func, body_of, parts, function_head, function, functions}
-use Rattle.types_go.specs.Faults.{fault}
+use Rattle.types_go.specs.Functions.{Param, params_of, slot_of, slots_of, types_of, blank_entry, variable_entry, entry_of, words, is_number, may_be_named, is_small, declares_name, signature_in, with_function, with_items, functions_in, is_supported, are_supported, entry_in, behind_entry_name, behind_entry, entries, behind_entries, behind_params, body_scope, behind_body, behind_function, returns_of, may_end, func, param_entries, result_entries, body_of, parts, function_head, function_with, function, functions, declarations_in, package_scope, program_functions}
 use Rattle.types_go.specs.StatementFaults.{FailsWhere, FailsInStatements}
-use Rattle.types_go.specs.FunctionFaults.{NumberFails, FunctionNameFails, TypeFails, UnnamedFails, BlankFails, VariableFails, NamedFails, SizeFails, FailsAsType, TypesFail, EntryFails, EntriesFail, FailsInHead, FailsInTypes, FailsInParts, FailsInFunction, FailsInFunctions}
-use Rattle.types_go.proofs.Decided.{Decided, Tested, further, same, mapped, after, both_decided, both_tested}
-use Rattle.types_go.proofs.Settled.{HasSignature, IsTyped, IsSettled}
-use Rattle.types_go.proofs.SettledStatements.{one_more_declared, settled_with, settled_opened, settled_closed, settled_all, statements_decided, and_then_some, map_some}
+use Rattle.types_go.specs.FunctionFaults.{NumberFails, FunctionNameFails, BlankFails, VariableFails, NamedFails, SizeFails, TypesFail, EntryFails, EntriesFail, FailsInHead, FailsInTypes, FailsInParts, external_fault, FailsWith, FailsInFunction, FailsInFunctions, DeclarationFails, DeclarationsFail}
+use Rattle.expression_types.proofs.Decided.{Decided, Tested, further, same, mapped, after, both_decided, both_tested}
+use Rattle.expression_types.proofs.Options.{and_then_some, map_some}
+use Rattle.expression_types.proofs.Settled.{HasSignature, IsTyped, IsSettled}
+use Rattle.types_go.proofs.Growth.{IsLocal, Keeps, keeps_function}
+use Rattle.types_go.proofs.SettledStatements.{one_more_declared, settled_with, settled_opened, settled_closed, settled_all, statements_decided}
 
 -- ---- the head and the types of a function
 
 number_tested : (i : ℕ) (d : Option Declared) (at : Pos) → Tested (is_number i d) (NumberFails i d at)
 number_tested i None at = λ f h. h
-number_tested i (Some (Variable site)) at = λ f h. h
-number_tested i (Some Untyped) at = λ f h. h
+number_tested i (Some (Variable site)) at = (fault Redeclared at, refl)
+number_tested i (Some Untyped) at = (fault Redeclared at, refl)
+number_tested i (Some TypeName) at = (fault Redeclared at, refl)
 number_tested i (Some (Function g)) at = by (g.0 == i)
   where
     by : (b : Bool) → Tested b (λ f. (b ≡ false) × (f ≡ fault Redeclared at))
@@ -48,12 +56,6 @@ where_not : (b : Bool) (own : Fault) → Tested b (FailsWhere (not b) own)
 where_not true own = λ f h. h
 where_not false own = (own, refl)
 
-type_decided : (is_int is_type is_known : Bool) (at : Pos) → Decided (cond is_int (Some Int) None) (TypeFails is_int is_type is_known at)
-type_decided true is_type is_known at = λ f h. h
-type_decided false true is_known at = (fault OutOfProfile at, refl)
-type_decided false false true at = (fault BadOperand at, refl)
-type_decided false false false at = (fault Unknown at, refl)
-
 small_tested : (sig : Option Signature) (at : Pos) (P : Fault → Type 0) → Decided sig P → Tested (is_small sig) (λ f. P f ⊎ SizeFails sig at f)
 small_tested None at P d = (d.0, inl d.1)
 small_tested (Some sig) at P d = by (nat_le (words sig) 65535)
@@ -62,30 +64,71 @@ small_tested (Some sig) at P d = by (nat_le (words sig) 65535)
     by true = λ f h. elim h [ inl k ↦ d f k | inr k ↦ k ]
     by false = (fault TooLarge at, inr refl)
 
--- ---- parameters and results
+-- ---- where no type is declared
 
-unnamed_decided : (role : Role) (at : Pos) → Decided (unnamed_entry role) (UnnamedFails role at)
-unnamed_decided Parameter at = λ f h. h
-unnamed_decided NamedResult at = (fault OutOfProfile at, refl)
-unnamed_decided UnnamedResult at = λ f h. h
+abbrev IsNoType : Declared → Type 0
+IsNoType (Variable site) = ⊤
+IsNoType Untyped = ⊤
+IsNoType (Function g) = ⊤
+IsNoType TypeName = ⊥
+
+abbrev pub NoTypes : Scope → Type 0
+NoTypes s = AllByRecursion IsNoType s.declared
+
+locals_no_types : (more : List Declared) → AllByRecursion IsLocal more → AllByRecursion IsNoType more
+locals_no_types [] local = tt
+locals_no_types (Variable site ∷ more) local = (tt, locals_no_types more local.1)
+locals_no_types (Untyped ∷ more) local = (tt, locals_no_types more local.1)
+locals_no_types (Function g ∷ more) local = absurd local.0
+locals_no_types (TypeName ∷ more) local = absurd local.0
+
+no_types_more : (ds more : List Declared) → AllByRecursion IsNoType ds → AllByRecursion IsLocal more → AllByRecursion IsNoType (ds ++ more)
+no_types_more [] more all local = locals_no_types more local
+no_types_more (d ∷ ds) more all local = (all.0, no_types_more ds more all.1 local)
+
+no_types_kept : (s r : Scope) → NoTypes s → Keeps s r → NoTypes r
+no_types_kept s r all k = subst (λ ds. AllByRecursion IsNoType ds) (sym k.declared.1) (no_types_more s.declared k.declared.0 all k.declared.2)
+
+-- what a list has at a place
+found_type : (ds : List Declared) (k : ℕ) → AllByRecursion IsNoType ds → slice_get ds k ≡ Some TypeName → ⊥
+found_type [] k all is = cc is
+found_type (Variable site ∷ ds) zero all is = cc is
+found_type (Untyped ∷ ds) zero all is = cc is
+found_type (Function g ∷ ds) zero all is = cc is
+found_type (TypeName ∷ ds) zero all is = all.0
+found_type (d ∷ ds) (suc k) all is = found_type ds k all.1 is
+
+no_type_named : (s : Scope) → NoTypes s → (n : List ℕ) → declaration s n ≡ Some TypeName → ⊥
+no_type_named s all n is = by (lookup s.blocks n) is
+  where
+    by : (o : Option ℕ) → option_and_then (λ k. slice_get s.declared k) o ≡ Some TypeName → ⊥
+    by None is1 = cc is1
+    by (Some k) is1 = found_type s.declared k all is1
+
+type_name_decided : (is_int is_type is_value : Bool) (d : Option Declared) (at : Pos) → (d ≡ Some TypeName → ⊥) → Decided (cond is_int (Some Int) None) (TypeNameFails is_int is_type is_value d at)
+type_name_decided true is_type is_value d at known = λ f h. h
+type_name_decided false true is_value d at known = (fault OutOfProfile at, refl)
+type_name_decided false false true d at known = (fault BadOperand at, refl)
+type_name_decided false false false None at known = (fault Unknown at, refl)
+type_name_decided false false false (Some (Variable site)) at known = (fault BadOperand at, refl)
+type_name_decided false false false (Some Untyped) at known = (fault BadOperand at, refl)
+type_name_decided false false false (Some (Function g)) at known = (fault BadOperand at, refl)
+type_name_decided false false false (Some TypeName) at known = absurd (known refl)
+
+-- ---- parameters and results
 
 blank_decided : (role : Role) (at : Pos) → Decided (blank_entry role) (BlankFails role at)
 blank_decided Parameter at = λ f h. h
-blank_decided NamedResult at = (fault OutOfProfile at, refl)
-blank_decided UnnamedResult at = (fault OutOfProfile at, refl)
+blank_decided Result at = (fault OutOfProfile at, refl)
 
-variable_decided : (role : Role) (reserved is_here : Bool) (site : ℕ) (at : Pos) → Decided (variable_entry role reserved is_here site) (VariableFails role reserved is_here at)
-variable_decided UnnamedResult reserved is_here site at = (fault OutOfProfile at, refl)
-variable_decided Parameter true is_here site at = (fault OutOfProfile at, refl)
-variable_decided Parameter false true site at = (fault Redeclared at, refl)
-variable_decided Parameter false false site at = λ f h. h
-variable_decided NamedResult true is_here site at = (fault OutOfProfile at, refl)
-variable_decided NamedResult false true site at = (fault Redeclared at, refl)
-variable_decided NamedResult false false site at = λ f h. h
+variable_decided : (reserved is_here : Bool) (site : ℕ) (at : Pos) → Decided (variable_entry reserved is_here site) (VariableFails reserved is_here at)
+variable_decided true is_here site at = (fault OutOfProfile at, refl)
+variable_decided false true site at = (fault Redeclared at, refl)
+variable_decided false false site at = λ f h. h
 
 named_decided : (role : Role) (is_blank reserved is_here : Bool) (site : ℕ) (at : Pos) → Decided (entry_of role is_blank reserved is_here site) (NamedFails role is_blank reserved is_here at)
 named_decided role true reserved is_here site at = blank_decided role at
-named_decided role false reserved is_here site at = variable_decided role reserved is_here site at
+named_decided role false reserved is_here site at = variable_decided reserved is_here site at
 
 -- three tests before what a function's parts are
 three_decided : {A : Type 0} (a b c : Bool) (o : Option A) (P Q R S : Fault → Type 0) → Tested a P → Tested b Q → Tested c S → (b ≡ true → Decided o R) → Decided (allowed a (allowed b (allowed c o))) (λ f. (P f ⊎ Q f) ⊎ (R f ⊎ S f))
@@ -103,28 +146,38 @@ pub small_signed : (sig : Option Signature) → is_small sig ≡ true → HasSig
 small_signed None is = cc is
 small_signed (Some sig) is = tt
 
+pub allowed_some : {A : Type 0} (b : Bool) (o : Option A) (x : A) → allowed b o ≡ Some x → (b ≡ true) × (o ≡ Some x)
+allowed_some true o x is = (refl, is)
+allowed_some false o x is = cc is
+
 module _ (text : List ℕ) where
-  types_decided : (s : Scope) (ps : List Param) → Decided (types_of text ps) (TypesFail text s ps)
-  types_decided s [] = λ f h. h
-  types_decided s (p ∷ ps) =
-      after (type_of text p.type_name) (λ t. option_map (λ ts. t ∷ ts) (types_of text ps)) (FailsAsType text s p.type_name) (TypesFail text s ps)
-      (type_decided (is_int_type (spelled text p.type_name)) (is_type_name (spelled text p.type_name)) (is_value_name (spelled text p.type_name) || is_some (declaration s (spelled text p.type_name))) p.type_name.pos)
-      (λ t is. mapped (λ ts. t ∷ ts) (types_of text ps) (TypesFail text s ps) (types_decided s ps))
+  type_decided : (s : Scope) → NoTypes s → (e : TreeEx) → Decided (type_in text e) (FailsAsType text s e)
+  type_decided s known (name n) =
+      type_name_decided (is_int_type (spelled text n)) (is_type_name (spelled text n)) (is_value_name (spelled text n)) (declaration s (spelled text n)) n.pos (no_type_named s known (spelled text n))
+  type_decided s known (paren at e) = type_decided s known e
+  type_decided s known e = (fault OutOfProfile (first_place e), refl)
 
-  signature_decided : (s : Scope) (g : TreeFunction) → Decided (signature_in text g) (λ f. TypesFail text s g.params f ⊎ TypesFail text s g.results f)
-  signature_decided s g =
-      after (types_of text g.params) (λ ps. option_map (λ rs. record { params = ps; results = rs }) (types_of text g.results)) (TypesFail text s g.params) (TypesFail text s g.results) (types_decided s g.params)
-      (λ ps is. mapped (λ rs. record { params = ps; results = rs }) (types_of text g.results) (TypesFail text s g.results) (types_decided s g.results))
+  types_decided : (s : Scope) → NoTypes s → (ps : List Param) → Decided (types_of (map (slot_of text) ps)) (TypesFail text s ps)
+  types_decided s known [] = λ f h. h
+  types_decided s known (p ∷ ps) =
+      after (type_in text p.type_expr) (λ t. option_map (λ ts. t ∷ ts) (types_of (map (slot_of text) ps))) (FailsAsType text s p.type_expr) (TypesFail text s ps) (type_decided s known p.type_expr)
+      (λ t is. mapped (λ ts. t ∷ ts) (types_of (map (slot_of text) ps)) (TypesFail text s ps) (types_decided s known ps))
 
-  entries_decided : (role : Role) (s : Scope) (ps : List Param) → Decided (entries text role s ps) (EntriesFail text role s ps)
+  signature_decided : (s : Scope) → NoTypes s → (g : TreeFunction) → Decided (signature_in text g) (λ f. TypesFail text s (params_of g.params) f ⊎ TypesFail text s (params_of g.results) f)
+  signature_decided s known g =
+      after (types_of (slots_of text g.params)) (λ ps. option_map (λ rs. record { params = ps; results = rs }) (types_of (slots_of text g.results))) (TypesFail text s (params_of g.params)) (TypesFail text s (params_of g.results))
+      (types_decided s known (params_of g.params))
+      (λ ps is. mapped (λ rs. record { params = ps; results = rs }) (types_of (slots_of text g.results)) (TypesFail text s (params_of g.results)) (types_decided s known (params_of g.results)))
+
+  entry_decided : (role : Role) (s : Scope) (n : Option Name) → Decided (entry_in text role s n) (EntryFails text role s n)
+  entry_decided role s None = λ f h. h
+  entry_decided role s (Some n) = named_decided role (is_blank (spelled text n)) (is_reserved (spelled text n)) (is_here s (spelled text n)) (length s.sites) n.pos
+
+  entries_decided : (role : Role) (s : Scope) (ps : List Slot) → Decided (entries text role s ps) (EntriesFail text role s ps)
   entries_decided role s [] = λ f h. h
   entries_decided role s (p ∷ ps) =
-      after (entry_in text role s p.name) (λ e. option_map (λ es. e ∷ es) (entries text role (behind_entry text s p) ps)) (EntryFails text role s p.name p.type_name.pos) (EntriesFail text role (behind_entry text s p) ps)
-      (by p.name) (λ e is. mapped (λ es. e ∷ es) (entries text role (behind_entry text s p) ps) (EntriesFail text role (behind_entry text s p) ps) (entries_decided role (behind_entry text s p) ps))
-    where
-      by : (n : Option Name) → Decided (entry_in text role s n) (EntryFails text role s n p.type_name.pos)
-      by None = unnamed_decided role p.type_name.pos
-      by (Some n) = named_decided role (is_blank (spelled text n)) (is_reserved (spelled text n)) (is_here s (spelled text n)) (length s.sites) n.pos
+      after (entry_in text role s p.name) (λ e. option_map (λ es. e ∷ es) (entries text role (behind_entry text s p) ps)) (EntryFails text role s p.name) (EntriesFail text role (behind_entry text s p) ps)
+      (entry_decided role s p.name) (λ e is. mapped (λ es. e ∷ es) (entries text role (behind_entry text s p) ps) (EntriesFail text role (behind_entry text s p) ps) (entries_decided role (behind_entry text s p) ps))
 
   -- where all types are known, every variable has one
   settled_entry : (s : Scope) (n : Option Name) → IsSettled s → IsSettled (behind_entry_name text true s n)
@@ -135,74 +188,89 @@ module _ (text : List ℕ) where
       by true = settled_with s (spelled text n) n.pos settled
       by false = settled
 
-  pub known : (ps : List Param) (p : Param) (ts : List ValueType) → types_of text (p ∷ ps) ≡ Some ts → (is_some (type_of text p.type_name) ≡ true) × ((us : List ValueType) × (types_of text ps ≡ Some us))
+  pub known : (ps : List Slot) (p : Slot) (ts : List ValueType) → types_of (p ∷ ps) ≡ Some ts → (is_some p.value_type ≡ true) × ((us : List ValueType) × (types_of ps ≡ Some us))
   known ps p ts is =
-      let r = and_then_some (λ t. option_map (λ us. t ∷ us) (types_of text ps)) (type_of text p.type_name) ts is in
-      let q = map_some (λ us. r.0 ∷ us) (types_of text ps) ts r.2 in
+      let r = and_then_some (λ t. option_map (λ us. t ∷ us) (types_of ps)) p.value_type ts is in
+      let q = map_some (λ us. r.0 ∷ us) (types_of ps) ts r.2 in
       (ap is_some r.1, (q.0, q.1))
 
-  pub settled_entries : (s : Scope) (ps : List Param) (ts : List ValueType) → types_of text ps ≡ Some ts → IsSettled s → IsSettled (behind_entries text s ps)
+  pub settled_entries : (s : Scope) (ps : List Slot) (ts : List ValueType) → types_of ps ≡ Some ts → IsSettled s → IsSettled (behind_entries text s ps)
   settled_entries s [] ts is settled = settled
   settled_entries s (p ∷ ps) ts is settled =
       let k = known ps p ts is in
       settled_entries (behind_entry text s p) ps k.1.0 k.1.1 (subst (λ b. IsSettled (behind_entry_name text b s p.name)) (sym k.0) (settled_entry s p.name settled))
 
-  pub signature_parts : (g : TreeFunction) → HasSignature (signature_in text g) → (ps rs : List ValueType) × (types_of text g.params ≡ Some ps) × (types_of text g.results ≡ Some rs)
+  pub signature_parts : (g : TreeFunction) → HasSignature (signature_in text g) → (ps rs : List ValueType) × (types_of (slots_of text g.params) ≡ Some ps) × (types_of (slots_of text g.results) ≡ Some rs)
   signature_parts g has = by (signature_in text g) refl has
     where
-      by : (sig : Option Signature) → signature_in text g ≡ sig → HasSignature sig → (ps rs : List ValueType) × (types_of text g.params ≡ Some ps) × (types_of text g.results ≡ Some rs)
+      by : (sig : Option Signature) → signature_in text g ≡ sig → HasSignature sig → (ps rs : List ValueType) × (types_of (slots_of text g.params) ≡ Some ps) × (types_of (slots_of text g.results) ≡ Some rs)
       by None is has1 = absurd has1
       by (Some sig) is has1 =
-          let r = and_then_some (λ ps. option_map (λ rs. record { params = ps; results = rs }) (types_of text g.results)) (types_of text g.params) sig is in
-          let q = map_some (λ rs. record { params = r.0; results = rs }) (types_of text g.results) sig r.2 in
+          let r = and_then_some (λ ps. option_map (λ rs. record { params = ps; results = rs }) (types_of (slots_of text g.results))) (types_of (slots_of text g.params)) sig is in
+          let q = map_some (λ rs. record { params = r.0; results = rs }) (types_of (slots_of text g.results)) sig r.2 in
           (r.0, q.0, r.1, q.1)
 
   pub settled_body : (s : Scope) (g : TreeFunction) → HasSignature (signature_in text g) → IsSettled s → IsSettled (body_scope text s g)
   settled_body s g has settled =
       let t = signature_parts g has in
-      settled_entries (behind_params text s g) g.results t.1 t.3 (settled_entries (opened s) g.params t.0 t.2 (settled_opened s settled))
+      settled_entries (behind_params text s g) (slots_of text g.results) t.1 t.3 (settled_entries (opened s) (slots_of text g.params) t.0 t.2 (settled_opened s settled))
 
   head_tested : (s : Scope) (i : ℕ) (g : TreeFunction) → Tested (function_head text s i g) (FailsInHead text s i g)
   head_tested s i g =
       both_tested _ _ (may_be_named i (is_blank (spelled text g.name)) (is_predeclared (spelled text g.name)) (declaration s (spelled text g.name))) (nat_lt i 4096)
       (name_tested i (is_blank (spelled text g.name)) (is_predeclared (spelled text g.name)) (declaration s (spelled text g.name)) g.name.pos) (where_not (nat_lt i 4096) (fault TooLarge g.name.pos))
 
-  function_decided : (s : Scope) (i : ℕ) (g : TreeFunction) → IsSettled s → Decided (function text s i g) (FailsInFunction text s i g)
-  function_decided s i g settled =
-      three_decided (function_head text s i g) (is_small (signature_in text g)) (may_end g) (parts text s g) (FailsInHead text s i g) (FailsInTypes text s g) (FailsInParts text s g) (FailsWhere (not (may_end g)) (fault MissingReturn g.end))
-      (head_tested s i g) (small_tested (signature_in text g) g.name.pos (λ f. TypesFail text s g.params f ⊎ TypesFail text s g.results f) (signature_decided s g)) (where_not (may_end g) (fault MissingReturn g.end))
-      (λ small. parts_decided (entries text Parameter (opened s) g.params) (entries text (role_of g.results) (behind_params text s g) g.results) (body_of text s g) (func text s g)
-      (EntriesFail text Parameter (opened s) g.params) (EntriesFail text (role_of g.results) (behind_params text s g) g.results) (FailsInStatements text (returns_of g) (body_scope text s g) g.body)
-      (entries_decided Parameter (opened s) g.params) (entries_decided (role_of g.results) (behind_params text s g) g.results)
-      (statements_decided text (returns_of g) (body_scope text s g) g.body (settled_body s g (small_signed (signature_in text g) small) settled)))
+  with_decided : (s : Scope) (i : ℕ) (g : TreeFunction) (o : Option Body) → NoTypes s → IsSettled s → Decided (function_with text s i g o) (FailsWith text s i g o)
+  with_decided s i g None no_types settled = (external_fault text g, inr refl)
+  with_decided s i g (Some b) no_types settled =
+      three_decided (function_head text s i g) (is_small (signature_in text g)) (may_end g b) (parts text s g b) (FailsInHead text s i g) (FailsInTypes text s g) (FailsInParts text s g b) (FailsWhere (not (may_end g b)) (fault MissingReturn b.end))
+      (head_tested s i g) (small_tested (signature_in text g) g.name.pos (λ f. TypesFail text s (params_of g.params) f ⊎ TypesFail text s (params_of g.results) f) (signature_decided s no_types g))
+      (where_not (may_end g b) (fault MissingReturn b.end))
+      (λ small. parts_decided (param_entries text s g) (result_entries text s g) (body_of text s g b) (func text s g b)
+      (EntriesFail text Parameter (opened s) (slots_of text g.params)) (EntriesFail text Result (behind_params text s g) (slots_of text g.results)) (FailsInStatements text (returns_of g) (body_scope text s g) b.statements)
+      (entries_decided Parameter (opened s) (slots_of text g.params)) (entries_decided Result (behind_params text s g) (slots_of text g.results))
+      (statements_decided text (returns_of g) (body_scope text s g) b.statements (settled_body s g (small_signed (signature_in text g) small) settled)))
 
   -- what a typed function is made of
-  pub allowed_some : {A : Type 0} (b : Bool) (o : Option A) (x : A) → allowed b o ≡ Some x → (b ≡ true) × (o ≡ Some x)
-  allowed_some true o x is = (refl, is)
-  allowed_some false o x is = cc is
+  abbrev pub Made : Scope → ℕ → TreeFunction → Func → Body → Type 0
+  Made s i g t b =
+      (function_head text s i g ≡ true) × (is_small (signature_in text g) ≡ true) × (may_end g b ≡ true)
+      × ((ps rs : List (Option ℕ)) × (body : Sts) × (param_entries text s g ≡ Some ps) × (result_entries text s g ≡ Some rs) × (body_of text s g b ≡ Some body) × (func text s g b ps rs body ≡ t))
 
-  pub function_some : (s : Scope) (i : ℕ) (g : TreeFunction) (t : Func) → function text s i g ≡ Some t
-      → (function_head text s i g ≡ true) × (is_small (signature_in text g) ≡ true) × (may_end g ≡ true)
-      × ((ps rs : List (Option ℕ)) × (body : Sts) × (entries text Parameter (opened s) g.params ≡ Some ps) × (entries text (role_of g.results) (behind_params text s g) g.results ≡ Some rs) × (body_of text s g ≡ Some body) × (func text s g ps rs body ≡ t))
-  function_some s i g t is =
+  with_some : (s : Scope) (i : ℕ) (g : TreeFunction) (t : Func) (b : Body) → function_with text s i g (Some b) ≡ Some t → Made s i g t b
+  with_some s i g t b is =
       let a = allowed_some (function_head text s i g) _ t is in
-      let b = allowed_some (is_small (signature_in text g)) _ t a.1 in
-      let c = allowed_some (may_end g) _ t b.1 in
-      let p = and_then_some (λ ps. option_and_then (λ rs. option_map (func text s g ps rs) (body_of text s g)) (entries text (role_of g.results) (behind_params text s g) g.results)) (entries text Parameter (opened s) g.params) t c.1 in
-      let q = and_then_some (λ rs. option_map (func text s g p.0 rs) (body_of text s g)) (entries text (role_of g.results) (behind_params text s g) g.results) t p.2 in
-      let r = map_some (func text s g p.0 q.0) (body_of text s g) t q.2 in
-      (a.0, b.0, c.0, (p.0, q.0, r.0, p.1, q.1, r.1, r.2))
+      let e = allowed_some (is_small (signature_in text g)) _ t a.1 in
+      let c = allowed_some (may_end g b) _ t e.1 in
+      let p = and_then_some (λ ps. option_and_then (λ rs. option_map (func text s g b ps rs) (body_of text s g b)) (result_entries text s g)) (param_entries text s g) t c.1 in
+      let q = and_then_some (λ rs. option_map (func text s g b p.0 rs) (body_of text s g b)) (result_entries text s g) t p.2 in
+      let r = map_some (func text s g b p.0 q.0) (body_of text s g b) t q.2 in
+      (a.0, e.0, c.0, (p.0, q.0, r.0, p.1, q.1, r.1, r.2))
+
+  -- it has a body
+  pub function_some : (s : Scope) (i : ℕ) (g : TreeFunction) (t : Func) → function text s i g ≡ Some t → (b : Body) × ((g.body ≡ Some b) × Made s i g t b)
+  function_some s i g t is = by g.body refl is
+    where
+      by : (o : Option Body) → g.body ≡ o → function_with text s i g o ≡ Some t → (b : Body) × ((g.body ≡ Some b) × Made s i g t b)
+      by None o_is is1 = cc is1
+      by (Some b) o_is is1 = (b, (o_is, with_some s i g t b is1))
 
   pub settled_function : (s : Scope) (i : ℕ) (g : TreeFunction) (t : Func) → IsSettled s → function text s i g ≡ Some t → IsSettled (behind_function text s g)
   settled_function s i g t settled is =
       let p = function_some s i g t is in
-      settled_closed (behind_all text (body_scope text s g) g.body) (settled_all text (returns_of g) (body_scope text s g) g.body p.3.2 (settled_body s g (small_signed (signature_in text g) p.1) settled) p.3.5)
+      let b = p.0 in
+      let made = p.1.1 in
+      subst (λ o. IsSettled (behind_body text s g o)) (sym p.1.0)
+      (settled_closed (behind_all text (body_scope text s g) b.statements)
+      (settled_all text (returns_of g) (body_scope text s g) b.statements made.3.2 (settled_body s g (small_signed (signature_in text g) made.1) settled) made.3.5))
 
-  pub functions_decided : (s : Scope) (i : ℕ) (gs : List TreeFunction) → IsSettled s → Decided (functions text s i gs) (FailsInFunctions text s i gs)
-  functions_decided s i [] settled = λ f h. h
-  functions_decided s i (g ∷ gs) settled =
-      after (function text s i g) (λ t. option_map (λ ts. t ∷ ts) (functions text (behind_function text s g) (1 + i) gs)) (FailsInFunction text s i g) (FailsInFunctions text (behind_function text s g) (1 + i) gs) (function_decided s i g settled)
-      (λ t is. mapped (λ ts. t ∷ ts) (functions text (behind_function text s g) (1 + i) gs) (FailsInFunctions text (behind_function text s g) (1 + i) gs) (functions_decided (behind_function text s g) (1 + i) gs (settled_function s i g t settled is)))
+  functions_decided : (s : Scope) (i : ℕ) (gs : List TreeFunction) → NoTypes s → IsSettled s → Decided (functions text s i gs) (FailsInFunctions text s i gs)
+  functions_decided s i [] no_types settled = λ f h. h
+  functions_decided s i (g ∷ gs) no_types settled =
+      let r = behind_function text s g in
+      after (function text s i g) (λ t. option_map (λ ts. t ∷ ts) (functions text r (1 + i) gs)) (FailsInFunction text s i g) (FailsInFunctions text r (1 + i) gs) (with_decided s i g g.body no_types settled)
+      (λ t is. mapped (λ ts. t ∷ ts) (functions text r (1 + i) gs) (FailsInFunctions text r (1 + i) gs)
+      (functions_decided r (1 + i) gs (no_types_kept s r no_types (keeps_function text s g)) (settled_function s i g t settled is)))
 
   -- ---- where a function has no signature, a rule fails in it
 
@@ -210,21 +278,23 @@ module _ (text : List ℕ) where
   AllSigned [] = Unit {0}
   AllSigned (g ∷ gs) = HasSignature (signature_in text g) × AllSigned gs
 
-  unsigned : (s : Scope) (i : ℕ) (g : TreeFunction) → signature_in text g ≡ None → (function text s i g ≡ None) × ((f : Fault) × FailsInFunction text s i g f)
-  unsigned s i g is =
-      let d : (f : Fault) × (TypesFail text s g.params f ⊎ TypesFail text s g.results f) = subst (λ o. Decided o (λ f. TypesFail text s g.params f ⊎ TypesFail text s g.results f)) is (signature_decided s g) in
-      (ap (λ o. allowed (function_head text s i g) (allowed (is_small o) (allowed (may_end g) (parts text s g)))) is ∙ by (function_head text s i g), (d.0, inl (inr (inl d.1))))
+  unsigned_with : (s : Scope) (i : ℕ) (g : TreeFunction) (o : Option Body) → NoTypes s → signature_in text g ≡ None → (function_with text s i g o ≡ None) × ((f : Fault) × FailsWith text s i g o f)
+  unsigned_with s i g None no_types is = (refl, (external_fault text g, inr refl))
+  unsigned_with s i g (Some b) no_types is =
+      let d : (f : Fault) × (TypesFail text s (params_of g.params) f ⊎ TypesFail text s (params_of g.results) f) =
+      subst (λ o. Decided o (λ f. TypesFail text s (params_of g.params) f ⊎ TypesFail text s (params_of g.results) f)) is (signature_decided s no_types g) in
+      (ap (λ o. allowed (function_head text s i g) (allowed (is_small o) (allowed (may_end g b) (parts text s g b)))) is ∙ by (function_head text s i g), (d.0, inl (inr (inl d.1))))
     where
-      by : (b : Bool) → allowed b (allowed (is_small None) (allowed (may_end g) (parts text s g))) ≡ None
+      by : (h : Bool) → allowed h (allowed (is_small None) (allowed (may_end g b) (parts text s g b))) ≡ None
       by true = refl
       by false = refl
 
   abbrev FailsOr : (s : Scope) (i : ℕ) (gs : List TreeFunction) → Type 0
   FailsOr s i gs = AllSigned gs ⊎ ((functions text s i gs ≡ None) × ((f : Fault) × FailsInFunctions text s i gs f))
 
-  pub signed_or : (s : Scope) (i : ℕ) (gs : List TreeFunction) → FailsOr s i gs
-  signed_or s i [] = inl tt
-  signed_or s i (g ∷ gs) = by (signature_in text g) refl (signed_or (behind_function text s g) (1 + i) gs)
+  signed_or : (s : Scope) (i : ℕ) (gs : List TreeFunction) → NoTypes s → FailsOr s i gs
+  signed_or s i [] no_types = inl tt
+  signed_or s i (g ∷ gs) no_types = by (signature_in text g) refl (signed_or (behind_function text s g) (1 + i) gs (no_types_kept s (behind_function text s g) no_types (keeps_function text s g)))
     where
       whole : (o : Option Func) → functions text (behind_function text s g) (1 + i) gs ≡ None → option_and_then (λ t. option_map (λ ts. t ∷ ts) (functions text (behind_function text s g) (1 + i) gs)) o ≡ None
       whole None e = refl
@@ -232,57 +302,82 @@ module _ (text : List ℕ) where
 
       by : (sig : Option Signature) → signature_in text g ≡ sig → FailsOr (behind_function text s g) (1 + i) gs → FailsOr s i (g ∷ gs)
       by None is rest =
-          let u = unsigned s i g is in
+          let u = unsigned_with s i g g.body no_types is in
           inr (ap (option_and_then (λ t. option_map (λ ts. t ∷ ts) (functions text (behind_function text s g) (1 + i) gs))) u.0, (u.1.0, inl u.1.1))
       by (Some sig) is (inl all) = inl (subst HasSignature (sym is) tt, all)
       by (Some sig) is (inr r) = inr (whole (function text s i g) r.0, (r.1.0, inr r.1.1))
 
-  -- ---- the package block
+  -- ---- the package block, where only functions are declared
+
+  abbrev pub with_functions : Scope → List TreeFunction → Scope
+  with_functions s [] = s
+  with_functions s (g ∷ gs) = with_functions (with_function text s g) gs
+
+  pub only_functions : (s : Scope) (ds : List Declaration) → are_supported ds ≡ true → with_items text s ds ≡ with_functions s (functions_in ds)
+  only_functions s [] is = refl
+  only_functions s (constants at specs ∷ ds) is = cc is
+  only_functions s (variables at specs ∷ ds) is = cc is
+  only_functions s (types at specs ∷ ds) is = cc is
+  only_functions s (tree.function g ∷ ds) is = only_functions (with_function text s g) ds is
 
   -- the declarations are functions with numbers below one
   abbrev AreFunctions : ℕ → Declared → Type 0
   AreFunctions n (Function g) = g.0 < n
   AreFunctions n (Variable site) = ⊥
   AreFunctions n Untyped = ⊥
+  AreFunctions n TypeName = ⊥
 
   more_functions : (n m : ℕ) → n ≤ m → (ds : List Declared) → AllByRecursion (AreFunctions n) ds → AllByRecursion (AreFunctions m) ds
   more_functions n m le [] all = tt
   more_functions n m le (Function g ∷ ds) all = (omega (arith, all.0, le), more_functions n m le ds all.1)
   more_functions n m le (Variable site ∷ ds) all = absurd all.0
   more_functions n m le (Untyped ∷ ds) all = absurd all.0
+  more_functions n m le (TypeName ∷ ds) all = absurd all.0
+
+  abbrev Numbered : Scope → Type 0
+  Numbered s = AllByRecursion (AreFunctions (length s.signatures)) s.declared
+
+  numbered_more : (s : Scope) (g : TreeFunction) → Numbered s → Numbered (with_function text s g)
+  numbered_more s g all = by (declares_name s (spelled text g.name))
+    where
+      long : length (s.signatures ++ signature_in text g ∷ []) ≡ length s.signatures + 1
+      long = length-append s.signatures (signature_in text g ∷ [])
+
+      by : (b : Bool) → Numbered (with_signature (cond b (with_declaration s (spelled text g.name) (Function (record { 0 = length s.signatures }))) s) (signature_in text g))
+      by false = more_functions (length s.signatures) (length (s.signatures ++ signature_in text g ∷ [])) (omega (arith, long)) s.declared all
+      by true =
+          one_more_declared (AreFunctions (length (s.signatures ++ signature_in text g ∷ []))) s.declared (Function (record { 0 = length s.signatures }))
+          (more_functions (length s.signatures) (length (s.signatures ++ signature_in text g ∷ [])) (omega (arith, long)) s.declared all) (omega (arith, long))
+
+  numbered_all : (s : Scope) (gs : List TreeFunction) → Numbered s → Numbered (with_functions s gs)
+  numbered_all s [] all = all
+  numbered_all s (g ∷ gs) all = numbered_all (with_function text s g) gs (numbered_more s g all)
+
+  numbers_no_types : (n : ℕ) (ds : List Declared) → AllByRecursion (AreFunctions n) ds → AllByRecursion IsNoType ds
+  numbers_no_types n [] all = tt
+  numbers_no_types n (Function g ∷ ds) all = (tt, numbers_no_types n ds all.1)
+  numbers_no_types n (Variable site ∷ ds) all = absurd all.0
+  numbers_no_types n (Untyped ∷ ds) all = absurd all.0
+  numbers_no_types n (TypeName ∷ ds) all = absurd all.0
 
   abbrev AllGiven : List (Option Signature) → Type 0
   AllGiven [] = Unit {0}
   AllGiven (sig ∷ sigs) = HasSignature sig × AllGiven sigs
 
-  record IsPackage (s : Scope) : Type 0 where
-    declared : AllByRecursion (AreFunctions (length s.signatures)) s.declared
-    signed : AllGiven s.signatures
-
   given_more : (sigs : List (Option Signature)) (sig : Option Signature) → AllGiven sigs → HasSignature sig → AllGiven (sigs ++ sig ∷ [])
   given_more [] sig all has = (has, tt)
   given_more (x ∷ sigs) sig all has = (all.0, given_more sigs sig all.1 has)
 
-  package_more : (s : Scope) (g : TreeFunction) → IsPackage s → HasSignature (signature_in text g) → IsPackage (with_function text s g)
-  package_more s g p has = record { declared = by (declares_function s (spelled text g.name)); signed = by_signed (declares_function s (spelled text g.name)) }
+  given_one : (s : Scope) (g : TreeFunction) → AllGiven s.signatures → HasSignature (signature_in text g) → AllGiven (with_function text s g).signatures
+  given_one s g all has = by (declares_name s (spelled text g.name))
     where
-      long : length (s.signatures ++ signature_in text g ∷ []) ≡ length s.signatures + 1
-      long = length-append s.signatures (signature_in text g ∷ [])
+      by : (b : Bool) → AllGiven (with_signature (cond b (with_declaration s (spelled text g.name) (Function (record { 0 = length s.signatures }))) s) (signature_in text g)).signatures
+      by true = given_more s.signatures (signature_in text g) all has
+      by false = given_more s.signatures (signature_in text g) all has
 
-      by : (b : Bool) → AllByRecursion (AreFunctions (length (with_signature (cond b (with_declaration s (spelled text g.name) (Function (record { 0 = length s.signatures }))) s) (signature_in text g)).signatures))
-          (with_signature (cond b (with_declaration s (spelled text g.name) (Function (record { 0 = length s.signatures }))) s) (signature_in text g)).declared
-      by false = more_functions (length s.signatures) (length (s.signatures ++ signature_in text g ∷ [])) (omega (arith, long)) s.declared p.declared
-      by true =
-          one_more_declared (AreFunctions (length (s.signatures ++ signature_in text g ∷ []))) s.declared (Function (record { 0 = length s.signatures }))
-          (more_functions (length s.signatures) (length (s.signatures ++ signature_in text g ∷ [])) (omega (arith, long)) s.declared p.declared) (omega (arith, long))
-
-      by_signed : (b : Bool) → AllGiven (with_signature (cond b (with_declaration s (spelled text g.name) (Function (record { 0 = length s.signatures }))) s) (signature_in text g)).signatures
-      by_signed true = given_more s.signatures (signature_in text g) p.signed has
-      by_signed false = given_more s.signatures (signature_in text g) p.signed has
-
-  package_all : (s : Scope) (gs : List TreeFunction) → IsPackage s → AllSigned gs → IsPackage (with_functions text s gs)
-  package_all s [] p all = p
-  package_all s (g ∷ gs) p all = package_all (with_function text s g) gs (package_more s g p all.0) all.1
+  given_in_all : (s : Scope) (gs : List TreeFunction) → AllGiven s.signatures → AllSigned gs → AllGiven (with_functions s gs).signatures
+  given_in_all s [] all signed = all
+  given_in_all s (g ∷ gs) all signed = given_in_all (with_function text s g) gs (given_one s g all signed.0) signed.1
 
   signed_at : (sigs : List (Option Signature)) (k : ℕ) → AllGiven sigs → k < length sigs → HasSignature (option_and_then (λ o. o) (slice_get sigs k))
   signed_at [] k all lt = absurd (omega (arith, lt))
@@ -295,18 +390,44 @@ module _ (text : List ℕ) where
   functions_typed sigs (Function g ∷ ds) given all = (signed_at sigs g.0 given all.0, functions_typed sigs ds given all.1)
   functions_typed sigs (Variable site ∷ ds) given all = absurd all.0
   functions_typed sigs (Untyped ∷ ds) given all = absurd all.0
+  functions_typed sigs (TypeName ∷ ds) given all = absurd all.0
 
-  pub settled_package : (gs : List TreeFunction) → AllSigned gs → IsSettled (with_functions text beginning gs)
-  settled_package gs all =
-      let p = package_all beginning gs (record { declared = tt; signed = tt }) all in
-      record { all = functions_typed (with_functions text beginning gs).signatures (with_functions text beginning gs).declared p.signed p.declared }
+  decided_none : {A : Type 0} (o : Option A) (P : Fault → Type 0) → o ≡ None → (f : Fault) → P f → Decided o P
+  decided_none None P is f h = (f, h)
+  decided_none (Some x) P is f h = cc is
 
-  pub all_decided : (gs : List TreeFunction) → Decided (functions text (with_functions text beginning gs) 0 gs) (FailsInFunctions text (with_functions text beginning gs) 0 gs)
-  all_decided gs = elim (signed_or (with_functions text beginning gs) 0 gs) [
-    | inl all ↦ functions_decided (with_functions text beginning gs) 0 gs (settled_package gs all)
-    | inr r ↦ decided_none (functions text (with_functions text beginning gs) 0 gs) r.0 r.1.0 r.1.1
-  ]
-    where
-      decided_none : (o : Option (List Func)) → o ≡ None → (f : Fault) → FailsInFunctions text (with_functions text beginning gs) 0 gs f → Decided o (FailsInFunctions text (with_functions text beginning gs) 0 gs)
-      decided_none None is f h = (f, h)
-      decided_none (Some x) is f h = cc is
+  all_functions : (gs : List TreeFunction) → Decided (functions text (with_functions beginning gs) 0 gs) (FailsInFunctions text (with_functions beginning gs) 0 gs)
+  all_functions gs =
+      let s = with_functions beginning gs in
+      let numbered = numbered_all beginning gs tt in
+      let no_types = numbers_no_types (length s.signatures) s.declared numbered in
+      elim (signed_or s 0 gs no_types) [
+        | inl all ↦ functions_decided s 0 gs no_types (record { all = functions_typed s.signatures s.declared (given_in_all beginning gs tt all) numbered })
+        | inr r ↦ decided_none (functions text s 0 gs) (FailsInFunctions text s 0 gs) r.0 r.1.0 r.1.1
+      ]
+
+-- a declaration of a form that is left out fails
+forms_tested : (ds : List Declaration) → Tested (are_supported ds) (DeclarationsFail ds)
+forms_tested [] = λ f h. h
+forms_tested (d ∷ ds) = both_tested (DeclarationFails d) (DeclarationsFail ds) (is_supported d) (are_supported ds) (one d) (forms_tested ds)
+  where
+    one : (d : Declaration) → Tested (is_supported d) (DeclarationFails d)
+    one (constants at specs) = (fault OutOfProfile at, refl)
+    one (variables at specs) = (fault OutOfProfile at, refl)
+    one (types at specs) = (fault OutOfProfile at, refl)
+    one (tree.function g) = λ f h. h
+
+pub all_decided : (t : Syntax) → Decided (program_functions t) (λ f. DeclarationsFail (declarations_in t) f ⊎ FailsInFunctions t.text (package_scope t) 0 (functions_in (declarations_in t)) f)
+all_decided t = by (are_supported (declarations_in t)) refl (forms_tested (declarations_in t))
+  where
+    ds : List Declaration
+    ds = declarations_in t
+
+    gs : List TreeFunction
+    gs = functions_in ds
+
+    by : (b : Bool) → are_supported ds ≡ b → Tested b (DeclarationsFail ds) → Decided (allowed b (functions t.text (package_scope t) 0 gs)) (λ f. DeclarationsFail ds f ⊎ FailsInFunctions t.text (package_scope t) 0 gs f)
+    by false is forms = (forms.0, inl forms.1)
+    by true is forms =
+        further (DeclarationsFail ds) (FailsInFunctions t.text (package_scope t) 0 gs) (functions t.text (package_scope t) 0 gs) forms
+        (subst (λ s. Decided (functions t.text s 0 gs) (FailsInFunctions t.text s 0 gs)) (sym (only_functions t.text beginning ds is)) (all_functions t.text gs))

@@ -6,7 +6,8 @@ use Rattle.base.specs.declared.pos.Pos.{Pos}
 use Rattle.base.specs.declared.ids.TypeId.{TypeId}
 use Rattle.typed.specs.declared.program.Func.{Func as FuncData}
 use Rattle.types_go.specs.Functions.{sites_of}
-use Rattle.types_go.specs.Passing.{with_last, IsAt, AreAt}
+use Rattle.expression_types.specs.Passing.{with_last}
+use Rattle.types_go.specs.Passing.{IsAt, AreAt}
 
 pub sites_more : (so_far : List ℕ) (e : Option ℕ) (es : List (Option ℕ)) → so_far ++ sites_of (e ∷ es) ≡ (so_far ++ sites_of (e ∷ [])) ++ sites_of es
 sites_more so_far None es = ap (λ l. l ++ sites_of es) (sym (append-nil so_far))

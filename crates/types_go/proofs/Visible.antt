@@ -6,13 +6,15 @@ use Rattle.base.specs.declared.ids.SiteId.{SiteId}
 use Rattle.base.specs.declared.pos.Pos.{Pos}
 use Rattle.names.specs.Blocks.{Names, Blocks, entry_of, or_else, lookup, with_entry, insert}
 use Rattle.typed.specs.Form.{InScope}
-use Rattle.types_go.specs.declared.scope.Declared.{Declared}
-use Rattle.types_go.specs.declared.scope.Declared.TheVariants.{Variable, Function}
-use Rattle.parse_go.specs.Tree.{Function as TreeFunction, spelled}
-use Rattle.types_go.specs.Scope.{Scope, declaration, with_declaration, with_variable, with_signature, opened, beginning}
-use Rattle.types_go.specs.Functions.{signature_in, declares_function, with_function, with_functions}
-use Rattle.types_go.proofs.SettledStatements.{and_then_some, none_some}
+use Rattle.expression_types.specs.declared.scope.Declared.{Declared}
+use Rattle.expression_types.specs.declared.scope.Declared.TheVariants.{Variable, Function}
+use Rattle.syntax.specs.Expressions.{spelled}
+use Rattle.syntax.specs.Declarations.{Function as TreeFunction}
+use Rattle.expression_types.specs.Scope.{Scope, declaration, with_declaration, with_variable, with_signature, opened, beginning}
+use Rattle.types_go.specs.Functions.{signature_in, declares_name, with_function}
+use Rattle.expression_types.proofs.Options.{and_then_some, none_some}
 use Rattle.types_go.proofs.Growth.{Keeps}
+use Rattle.types_go.proofs.SettledFunctions.{with_functions}
 
 -- the numbers of the names lie below one
 abbrev EntriesBelow : ℕ → Names → Type 0
@@ -184,7 +186,7 @@ visible_with s scope name at v =
 -- the package block names no variables
 pub visible_package : (text : List ℕ) (s : Scope) (gs : List TreeFunction) → Visible s [] → Visible (with_functions text s gs) []
 visible_package text s [] v = v
-visible_package text s (g ∷ gs) v = visible_package text (with_function text s g) gs (by (declares_function s (spelled text g.name)))
+visible_package text s (g ∷ gs) v = visible_package text (with_function text s g) gs (by (declares_name s (spelled text g.name)))
   where
     no_variable : (site : SiteId) → Function (record { 0 = length s.signatures }) ≡ Variable site → InScope site.0 []
     no_variable site is = cc is

@@ -1,20 +1,24 @@
 -- What the checker of types answers.
 use Rattle.std.specs.Prelude.{◌≡◌, ℕ, pos, List, [], ◌∷◌, map, Some, Result, Ok, Err}
 use Rattle.base.specs.declared.pos.Pos.{Pos}
-use Rattle.parse_go.specs.Tree.{Syntax}
+use Rattle.syntax.specs.Declarations.{Syntax}
 use Rattle.typed.specs.Value.{int}
 use Rattle.typed.specs.Syntax.{Func, Program}
 use Rattle.typed.specs.View.{program_of}
 use Rattle.typed.specs.declared.program.Program.{Program as ProgramData}
-use Rattle.types_go.specs.declared.fault.TypeFault.{TypeFault}
-use Rattle.types_go.specs.declared.fault.TypeFault.TheVariants as type_fault
-use Rattle.types_go.specs.Least.{IsLeast}
-use Rattle.types_go.specs.Functions.{functions, behind_functions, package_scope, main_number}
+use Rattle.expression_types.specs.declared.fault.TypeFault.{TypeFault}
+use Rattle.expression_types.specs.declared.fault.TypeFault.TheVariants as type_fault
+use Rattle.expression_types.specs.Least.{IsLeast}
+use Rattle.types_go.specs.Functions.{functions_in, behind_functions, declarations_in, package_scope, main_number, program_functions}
 use Rattle.types_go.specs.FunctionFaults.{FailsIn}
 
 -- the places of the variables, in the order of the text
 abbrev pub places_of : Syntax → List Pos
-places_of t = (behind_functions t.text (package_scope t) t.funcs).sites
+places_of t = (behind_functions t.text (package_scope t) (functions_in (declarations_in t))).sites
+
+-- the places of the functions' names
+abbrev pub function_places : Syntax → List Pos
+function_places t = map (λ f. f.name.pos) (functions_in (declarations_in t))
 
 -- one type, number 0: whole numbers
 abbrev pub program_with : Syntax → List Func → ℕ → Program
@@ -24,7 +28,7 @@ program_with t funcs main = record { funcs = funcs; zeros = int (pos 0) ∷ []; 
 pub record Types (t : Syntax) (p : Program) : Type 0 where
   pub funcs : List Func
   pub main : ℕ
-  pub functions : functions t.text (package_scope t) 0 t.funcs ≡ Some funcs
+  pub functions : program_functions t ≡ Some funcs
   pub main_is : main_number t ≡ Some main
   pub is : p ≡ program_with t funcs main
 

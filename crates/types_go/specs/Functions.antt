@@ -1,50 +1,70 @@
--- The functions of a program (Go specification, "Function declarations", "Function types", "Blocks", "Program initialization and
--- execution").
-use Rattle.std.specs.Prelude.{ℕ, length, ◌+◌, ◌-◌, ◌==◌, Bool, true, false, not, ◌&&◌, ◌||◌, List, [], ◌∷◌, codes, map, slice_get, Option, Some, None, is_some, option_and_then, nat_lt, nat_le, if◌then◌else◌}
+-- The package block and the functions of a program (Go specification, "Function declarations", "Function types", "Blocks", "Program
+-- initialization and execution").
+use Rattle.std.specs.Prelude.{ℕ, length, ◌+◌, ◌-◌, ◌==◌, Bool, true, false, not, ◌&&◌, ◌||◌, List, [], ◌∷◌, ◌++◌, codes, map, slice_get, Option, Some, None, is_some, option_and_then, nat_lt, nat_le, if◌then◌else◌}
 use Rattle.std.specs.Option.{option_map}
-use Rattle.parse_go.specs.declared.tree.Name.{Name}
-use Rattle.parse_go.specs.declared.tree.Param.{Param}
-use Rattle.parse_go.specs.Tree.{Function as TreeFunction, Syntax, spelled}
+use Rattle.std.specs.Str.{bytes_eq}
+use Rattle.syntax.specs.declared.expression.Name.{Name}
+use Rattle.syntax.specs.Expressions.{Ex as TreeEx, Exs as TreeExs, some, spelled}
+use Rattle.syntax.specs.Expressions as expressions
+use Rattle.syntax.specs.Statements.{ValueSpec}
+use Rattle.syntax.specs.Declarations.{Field, Parameters, unnamed, named, TypeSpec, Body, Function as TreeFunction, Declaration, constants, variables, types, Syntax}
+use Rattle.syntax.specs.Declarations as tree
 use Rattle.typed.specs.Syntax.{Sts, Func}
-use Rattle.types_go.specs.declared.scope.ValueType.{ValueType}
-use Rattle.types_go.specs.declared.scope.ValueType.TheVariants.{Int}
-use Rattle.types_go.specs.declared.scope.Declared.{Declared}
-use Rattle.types_go.specs.declared.scope.Declared.TheVariants.{Variable, Untyped, Function}
+use Rattle.expression_types.specs.declared.scope.ValueType.{ValueType}
+use Rattle.expression_types.specs.declared.scope.Declared.{Declared}
+use Rattle.expression_types.specs.declared.scope.Declared.TheVariants.{Variable, Untyped, Function, TypeName}
+use Rattle.expression_types.specs.Profile.{is_blank, is_main, is_predeclared, is_reserved}
+use Rattle.expression_types.specs.Scope.{Scope, Signature, declaration, is_here, with_declaration, with_variable, with_signature, opened, closed, beginning}
+use Rattle.expression_types.specs.Typing.{type_in, allowed}
+use Rattle.types_go.specs.declared.slots.Slot.{Slot}
 use Rattle.types_go.specs.declared.entries.Role.{Role}
-use Rattle.types_go.specs.declared.entries.Role.TheVariants.{Parameter as parameter, NamedResult as named_result, UnnamedResult as unnamed_result}
+use Rattle.types_go.specs.declared.entries.Role.TheVariants.{Parameter as parameter, Result as result}
 use Rattle.types_go.specs.declared.statements.Returns.{Returns}
-use Rattle.types_go.specs.Profile.{is_blank, is_main, is_int_type, is_predeclared, is_reserved}
-use Rattle.types_go.specs.Scope.{Scope, Signature, declaration, is_here, with_declaration, with_variable, with_signature, opened, closed, beginning}
 use Rattle.types_go.specs.Statements.{behind_all, statements, ends_in_terminating}
 
--- the site of a parameter or result, and none where it has no variable: without a name, or blank; the one in the middle where the
--- name may not stand there
-abbrev pub unnamed_entry : Role → Option (Option ℕ)
-unnamed_entry parameter = Some None
-unnamed_entry named_result = None
-unnamed_entry unnamed_result = Some None
+-- ---- parameters and results one by one: names that share a type each have it
 
+pub record Param : Type 0 where
+  pub name : Option Name
+  pub type_expr : TreeEx
+
+abbrev pub unnamed_params : TreeExs → List Param
+unnamed_params expressions.none = []
+unnamed_params (some t ts) = record { name = None; type_expr = t } ∷ unnamed_params ts
+
+abbrev pub param_with : TreeEx → Name → Param
+param_with t n = record { name = Some n; type_expr = t }
+
+abbrev pub field_params : Field → List Param
+field_params f = map (param_with f.type_expr) f.names
+
+abbrev pub named_params : List Field → List Param
+named_params [] = []
+named_params (f ∷ fs) = field_params f ++ named_params fs
+
+abbrev pub params_of : Parameters → List Param
+params_of (unnamed ts) = unnamed_params ts
+params_of (named fs) = named_params fs
+
+abbrev pub is_named : Parameters → Bool
+is_named (unnamed ts) = false
+is_named (named fs) = true
+
+-- the site of a parameter or result with a name, and none for a blank parameter; the one in the middle where the name may not stand there
 abbrev pub blank_entry : Role → Option (Option ℕ)
 blank_entry parameter = Some None
-blank_entry named_result = None
-blank_entry unnamed_result = None
+blank_entry result = None
 
-abbrev pub variable_entry : Role → Bool → Bool → ℕ → Option (Option ℕ)
-variable_entry unnamed_result reserved is_here site = None
-variable_entry role reserved is_here site = if reserved then None else (if is_here then None else Some (Some site))
+abbrev pub variable_entry : Bool → Bool → ℕ → Option (Option ℕ)
+variable_entry reserved is_here site = if reserved then None else (if is_here then None else Some (Some site))
 
 abbrev pub entry_of : Role → (is_blank reserved is_here : Bool) → ℕ → Option (Option ℕ)
-entry_of role is_blank reserved is_here site = if is_blank then blank_entry role else variable_entry role reserved is_here site
+entry_of role is_blank reserved is_here site = if is_blank then blank_entry role else variable_entry reserved is_here site
 
--- the results have names where the first one has
-abbrev pub role_of : List Param → Role
-role_of [] = unnamed_result
-role_of (p ∷ ps) = if is_some p.name then named_result else unnamed_result
-
-abbrev pub is_named : Role → Bool
-is_named parameter = false
-is_named named_result = true
-is_named unnamed_result = false
+-- the types, where all are known
+abbrev pub types_of : List Slot → Option (List ValueType)
+types_of [] = Some []
+types_of (p ∷ ps) = option_and_then (λ t. option_map (λ ts. t ∷ ts) (types_of ps)) p.value_type
 
 -- the sites that there are
 abbrev pub sites_of : List (Option ℕ) → List ℕ
@@ -59,62 +79,106 @@ abbrev pub is_small : Option Signature → Bool
 is_small None = false
 is_small (Some sig) = nat_le (words sig) 65535
 
--- whether the package block declares a function of this name
-abbrev pub declares_function : Scope → List ℕ → Bool
-declares_function s n = not (is_blank n || is_predeclared n) && not (is_here s n)
+-- whether the package block declares this name
+abbrev pub declares_name : Scope → List ℕ → Bool
+declares_name s n = not (is_blank n || is_predeclared n) && not (is_here s n)
 
 -- whether a function's name may stand for it: it is none of the language, and the first of its spelling is this one
 abbrev pub is_number : ℕ → Option Declared → Bool
-is_number i (Some (Function f)) = f.0 == i
-is_number i (Some (Variable site)) = true
-is_number i (Some Untyped) = true
 is_number i None = true
+is_number i (Some (Function f)) = f.0 == i
+is_number i (Some (Variable site)) = false
+is_number i (Some Untyped) = false
+is_number i (Some TypeName) = false
 
 abbrev pub may_be_named : ℕ → (is_blank predeclared : Bool) → Option Declared → Bool
 may_be_named i is_blank predeclared d = is_blank || (not predeclared && is_number i d)
-
--- where a rule holds, and else nothing
-abbrev pub allowed : {A : Type 0} → Bool → Option A → Option A
-allowed b o = if b then o else None
 
 abbrev pub number_of : Option Declared → Option ℕ
 number_of None = None
 number_of (Some (Function f)) = Some f.0
 number_of (Some (Variable site)) = None
 number_of (Some Untyped) = None
+number_of (Some TypeName) = None
+
+-- the functions that a program may declare without a body
+abbrev pub is_external : List ℕ → Bool
+is_external name = bytes_eq name (codes "readInt") || bytes_eq name (codes "exit")
 
 abbrev pub is_plain : Option TreeFunction → Bool
 is_plain None = false
-is_plain (Some f) = (length f.params == 0) && (length f.results == 0)
+is_plain (Some f) = (length (params_of f.params) == 0) && (length (params_of f.results) == 0)
 
 -- with results that have no names, a `return` gives some values
 abbrev pub returns_of : TreeFunction → Returns
-returns_of f = record { count = length f.results; may_be_bare = (length f.results == 0) || is_named (role_of f.results) }
+returns_of f = record { count = length (params_of f.results); may_be_bare = (length (params_of f.results) == 0) || is_named f.results }
 
-abbrev pub may_end : TreeFunction → Bool
-may_end f = (length f.results == 0) || ends_in_terminating f.body
+abbrev pub may_end : TreeFunction → Body → Bool
+may_end f b = (length (params_of f.results) == 0) || ends_in_terminating b.statements
+
+-- ---- declarations at the level of the package
+
+-- the functions among them, which have numbers in this order
+abbrev pub functions_in : List Declaration → List TreeFunction
+functions_in [] = []
+functions_in (constants at specs ∷ ds) = functions_in ds
+functions_in (variables at specs ∷ ds) = functions_in ds
+functions_in (types at specs ∷ ds) = functions_in ds
+functions_in (tree.function f ∷ ds) = f ∷ functions_in ds
+
+-- forms that are not left out
+abbrev pub is_supported : Declaration → Bool
+is_supported (constants at specs) = false
+is_supported (variables at specs) = false
+is_supported (types at specs) = false
+is_supported (tree.function f) = true
+
+abbrev pub are_supported : List Declaration → Bool
+are_supported [] = true
+are_supported (d ∷ ds) = is_supported d && are_supported ds
 
 module _ (text : List ℕ) where
-  abbrev pub type_of : Name → Option ValueType
-  type_of n = if is_int_type (spelled text n) then Some Int else None
+  -- a parameter or result with its type, where that is known
+  abbrev pub slot_of : Param → Slot
+  slot_of p = record { name = p.name; value_type = type_in text p.type_expr }
 
-  abbrev pub types_of : List Param → Option (List ValueType)
-  types_of [] = Some []
-  types_of (p ∷ ps) = option_and_then (λ t. option_map (λ ts. t ∷ ts) (types_of ps)) (type_of p.type_name)
+  abbrev pub slots_of : Parameters → List Slot
+  slots_of ps = map slot_of (params_of ps)
 
   -- where all its types are known, a function has a signature
   abbrev pub signature_in : TreeFunction → Option Signature
-  signature_in f = option_and_then (λ ps. option_map (λ rs. record { params = ps; results = rs }) (types_of f.results)) (types_of f.params)
+  signature_in f = option_and_then (λ ps. option_map (λ rs. record { params = ps; results = rs }) (types_of (slots_of f.results))) (types_of (slots_of f.params))
 
-  -- ---- the package block: the first function of a name is declared
+  -- ---- the package block: the first declaration of a name stays
+
+  abbrev pub with_name : Declared → Scope → Name → Scope
+  with_name d s n = if declares_name s (spelled text n) then with_declaration s (spelled text n) d else s
+
+  abbrev pub with_names : Declared → Scope → List Name → Scope
+  with_names d s [] = s
+  with_names d s (n ∷ ns) = with_names d (with_name d s n) ns
+
+  -- constants and variables have no type
+  abbrev pub with_values : Scope → List ValueSpec → Scope
+  with_values s [] = s
+  with_values s (v ∷ vs) = with_values (with_names Untyped s v.names) vs
+
+  abbrev pub with_types : Scope → List TypeSpec → Scope
+  with_types s [] = s
+  with_types s (t ∷ ts) = with_types (with_name TypeName s t.name) ts
 
   abbrev pub with_function : Scope → TreeFunction → Scope
-  with_function s f =
-      with_signature (if declares_function s (spelled text f.name) then with_declaration s (spelled text f.name) (Function (record { 0 = length s.signatures })) else s) (signature_in f)
+  with_function s f = with_signature (with_name (Function (record { 0 = length s.signatures })) s f.name) (signature_in f)
 
-  abbrev pub with_functions : Scope → List TreeFunction → Scope
-  with_functions s [] = s
-  with_functions s (f ∷ fs) = with_functions (with_function s f) fs
+  abbrev pub with_item : Scope → Declaration → Scope
+  with_item s (constants at specs) = with_values s specs
+  with_item s (variables at specs) = with_values s specs
+  with_item s (types at specs) = with_types s specs
+  with_item s (tree.function f) = with_function s f
+
+  abbrev pub with_items : Scope → List Declaration → Scope
+  with_items s [] = s
+  with_items s (d ∷ ds) = with_items (with_item s d) ds
 
   -- ---- parameters and results with names, in the block of the body
 
@@ -122,21 +186,21 @@ module _ (text : List ℕ) where
   named_entry role s n = entry_of role (is_blank (spelled text n)) (is_reserved (spelled text n)) (is_here s (spelled text n)) (length s.sites)
 
   abbrev pub entry_in : Role → Scope → Option Name → Option (Option ℕ)
-  entry_in role s None = unnamed_entry role
+  entry_in role s None = Some None
   entry_in role s (Some n) = named_entry role s n
 
   abbrev pub behind_entry_name : Bool → Scope → Option Name → Scope
   behind_entry_name has_type s None = s
   behind_entry_name has_type s (Some n) = if not (is_reserved (spelled text n)) && not (is_here s (spelled text n)) then with_variable has_type s (spelled text n) n.pos else s
 
-  abbrev pub behind_entry : Scope → Param → Scope
-  behind_entry s p = behind_entry_name (is_some (type_of p.type_name)) s p.name
+  abbrev pub behind_entry : Scope → Slot → Scope
+  behind_entry s p = behind_entry_name (is_some p.value_type) s p.name
 
-  abbrev pub entries : Role → Scope → List Param → Option (List (Option ℕ))
+  abbrev pub entries : Role → Scope → List Slot → Option (List (Option ℕ))
   entries role s [] = Some []
   entries role s (p ∷ ps) = option_and_then (λ e. option_map (λ es. e ∷ es) (entries role (behind_entry s p) ps)) (entry_in role s p.name)
 
-  abbrev pub behind_entries : Scope → List Param → Scope
+  abbrev pub behind_entries : Scope → List Slot → Scope
   behind_entries s [] = s
   behind_entries s (p ∷ ps) = behind_entries (behind_entry s p) ps
 
@@ -144,39 +208,51 @@ module _ (text : List ℕ) where
 
   -- the scope behind the parameters, and where the body begins
   abbrev pub behind_params : Scope → TreeFunction → Scope
-  behind_params s f = behind_entries (opened s) f.params
+  behind_params s f = behind_entries (opened s) (slots_of f.params)
 
   abbrev pub body_scope : Scope → TreeFunction → Scope
-  body_scope s f = behind_entries (behind_params s f) f.results
+  body_scope s f = behind_entries (behind_params s f) (slots_of f.results)
+
+  abbrev pub behind_body : Scope → TreeFunction → Option Body → Scope
+  behind_body s f None = s
+  behind_body s f (Some b) = closed (behind_all text (body_scope s f) b.statements)
 
   abbrev pub behind_function : Scope → TreeFunction → Scope
-  behind_function s f = closed (behind_all text (body_scope s f) f.body)
+  behind_function s f = behind_body s f f.body
 
-  abbrev pub func : Scope → TreeFunction → List (Option ℕ) → List (Option ℕ) → Sts → Func
-  func s f params results body = record {
+  abbrev pub func : Scope → TreeFunction → Body → List (Option ℕ) → List (Option ℕ) → Sts → Func
+  func s f b params results body = record {
     first = length s.sites;
-    count = length (behind_function s f).sites - length s.sites;
+    count = length (behind_body s f (Some b)).sites - length s.sites;
     params = params;
-    results = map (λ p. 0) f.results;
+    results = map (λ slot. 0) (slots_of f.results);
     named = sites_of results;
     body = body;
   }
 
-  abbrev pub body_of : Scope → TreeFunction → Option Sts
-  body_of s f = statements text (returns_of f) (body_scope s f) f.body
-
   -- the parameters' and results' entries, and the body
-  abbrev pub parts : Scope → TreeFunction → Option Func
-  parts s f =
-      option_and_then (λ ps. option_and_then (λ rs. option_map (func s f ps rs) (body_of s f)) (entries (role_of f.results) (behind_params s f) f.results))
-      (entries parameter (opened s) f.params)
+  abbrev pub param_entries : Scope → TreeFunction → Option (List (Option ℕ))
+  param_entries s f = entries parameter (opened s) (slots_of f.params)
 
-  -- its name, its number, its types and their words, its parts, and the end of its body
+  abbrev pub result_entries : Scope → TreeFunction → Option (List (Option ℕ))
+  result_entries s f = entries result (behind_params s f) (slots_of f.results)
+
+  abbrev pub body_of : Scope → TreeFunction → Body → Option Sts
+  body_of s f b = statements text (returns_of f) (body_scope s f) b.statements
+
+  abbrev pub parts : Scope → TreeFunction → Body → Option Func
+  parts s f b = option_and_then (λ ps. option_and_then (λ rs. option_map (func s f b ps rs) (body_of s f b)) (result_entries s f)) (param_entries s f)
+
+  -- its name, its number, its types and their words, its parts, and the end of its body; without a body it has no typed form
   abbrev pub function_head : Scope → ℕ → TreeFunction → Bool
   function_head s i f = may_be_named i (is_blank (spelled text f.name)) (is_predeclared (spelled text f.name)) (declaration s (spelled text f.name)) && nat_lt i 4096
 
+  abbrev pub function_with : Scope → ℕ → TreeFunction → Option Body → Option Func
+  function_with s i f None = None
+  function_with s i f (Some b) = allowed (function_head s i f) (allowed (is_small (signature_in f)) (allowed (may_end f b) (parts s f b)))
+
   abbrev pub function : Scope → ℕ → TreeFunction → Option Func
-  function s i f = allowed (function_head s i f) (allowed (is_small (signature_in f)) (allowed (may_end f) (parts s f)))
+  function s i f = function_with s i f f.body
 
   abbrev pub functions : Scope → ℕ → List TreeFunction → Option (List Func)
   functions s i [] = Some []
@@ -186,9 +262,14 @@ module _ (text : List ℕ) where
   behind_functions s [] = s
   behind_functions s (f ∷ fs) = behind_functions (behind_function s f) fs
 
--- the package block of a tree
+-- ---- a tree
+
+abbrev pub declarations_in : Syntax → List Declaration
+declarations_in t = t.file.declarations
+
+-- its package block
 abbrev pub package_scope : Syntax → Scope
-package_scope t = with_functions t.text beginning t.funcs
+package_scope t = with_items t.text beginning (declarations_in t)
 
 -- the number of the function without parameters and results that `main` stands for
 abbrev pub plain_number : List TreeFunction → Option ℕ → Option ℕ
@@ -197,4 +278,9 @@ plain_number fs (Some i) = if is_plain (slice_get fs i) then Some i else None
 
 -- in the package `main`
 abbrev pub main_number : Syntax → Option ℕ
-main_number t = if is_main (spelled t.text t.package_name) then plain_number t.funcs (number_of (declaration (package_scope t) (codes "main"))) else None
+main_number t =
+    if is_main (spelled t.text t.file.package_name) then plain_number (functions_in (declarations_in t)) (number_of (declaration (package_scope t) (codes "main"))) else None
+
+-- the functions, where all declarations are of forms that are not left out
+abbrev pub program_functions : Syntax → Option (List Func)
+program_functions t = allowed (are_supported (declarations_in t)) (functions t.text (package_scope t) 0 (functions_in (declarations_in t)))

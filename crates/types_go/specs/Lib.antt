@@ -1,10 +1,5 @@
-pub mod Least
-pub mod Profile
-pub mod Scope
-pub mod Typing
 pub mod Statements
 pub mod Functions
-pub mod Faults
 pub mod StatementFaults
 pub mod FunctionFaults
 pub mod Checked

@@ -1,18 +1,33 @@
 -- The typed statements that the rules of the language give a tree (Go specification, "Short variable declarations", "Assignment
--- statements", "Expression statements", "If statements", "For statements", "Return statements").
-use Rattle.std.specs.Prelude.{ℕ, ◌+◌, length, Bool, true, false, not, ◌&&◌, ◌||◌, List, [], ◌∷◌, Option, Some, None, is_some, option_and_then, if◌then◌else◌}
+-- statements", "Expression statements", "If statements", "For statements", "Return statements"). A form that is left out gives nothing, and
+-- the scope behind it is the one before it.
+use Rattle.std.specs.Prelude.{ℕ, suc, ◌+◌, length, Bool, true, false, not, ◌&&◌, ◌||◌, List, [], ◌∷◌, Option, Some, None, is_some, option_and_then, if◌then◌else◌}
 use Rattle.std.specs.Option.{option_map}
 use Rattle.names.specs.Blocks.{Blocks, innermost, insert}
-use Rattle.parse_go.specs.declared.tree.Name.{Name}
-use Rattle.parse_go.specs.Tree.{Exs as TreeExs, Stm, Stms, Els, spelled}
-use Rattle.parse_go.specs.Tree as tree
+use Rattle.syntax.specs.declared.expression.Name.{Name}
+use Rattle.syntax.specs.Expressions.{Exs as TreeExs, some, spelled}
+use Rattle.syntax.specs.Expressions as expressions
+use Rattle.syntax.specs.Statements.{Simple, Clause, forever, while_true, counting, ranging, Stm, Stms, Els}
+use Rattle.syntax.specs.Statements as tree
 use Rattle.typed.specs.Syntax.{Ex, Exs, Left, St, Sts, local, here, none, results, blank, new, to, assign, discard, block, choose, loop, give_back, print, done, next}
-use Rattle.types_go.specs.declared.scope.Declared.{Declared}
-use Rattle.types_go.specs.declared.scope.Declared.TheVariants.{Variable, Untyped, Function}
+use Rattle.expression_types.specs.declared.scope.Declared.{Declared}
+use Rattle.expression_types.specs.declared.scope.Declared.TheVariants.{Variable, Untyped, Function, TypeName}
+use Rattle.expression_types.specs.Profile.{is_blank, is_reserved}
+use Rattle.expression_types.specs.Scope.{Scope, declaration, is_here, with_variable, opened, closed}
+use Rattle.expression_types.specs.Typing.{Gives, one, called, printed, Seen, taken, name_in, condition_in, gives, seen, condition, test}
 use Rattle.types_go.specs.declared.statements.Returns.{Returns}
-use Rattle.types_go.specs.Profile.{is_blank, is_reserved}
-use Rattle.types_go.specs.Scope.{Scope, declaration, is_here, with_variable, opened, closed}
-use Rattle.types_go.specs.Typing.{Gives, one, called, printed, Seen, taken, gives, seen, condition, test}
+
+-- how many expressions stand side by side
+abbrev pub how_many : TreeExs → ℕ
+how_many expressions.none = 0
+how_many (some e es) = suc (how_many es)
+
+-- a loop of a form that is left out
+abbrev pub is_left_out : Clause → Bool
+is_left_out forever = false
+is_left_out (while_true e) = false
+is_left_out (counting init test post) = true
+is_left_out (ranging t at e) = true
 
 -- a variable with a type as a left side
 abbrev pub target : Option Declared → Option Left
@@ -20,6 +35,7 @@ target None = None
 target (Some (Variable site)) = Some (to (local site.0 here))
 target (Some Untyped) = None
 target (Some (Function f)) = None
+target (Some TypeName) = None
 
 -- a left side of `=`
 abbrev pub left_of : Bool → Bool → Option Declared → Option Left
@@ -62,10 +78,15 @@ abbrev pub assignment : Option (List Left) → Option Exs → Option St
 assignment ls v = option_and_then (λ l. option_map (assign l) v) ls
 
 module _ (text : List ℕ) where
+  -- a left side of `=`: a name, in parentheses or not; any other expression is none
+  abbrev pub left : Scope → Option Name → Option Left
+  left s None = None
+  left s (Some n) = left_of (is_blank (spelled text n)) (is_reserved (spelled text n)) (declaration s (spelled text n))
+
   -- the left sides of `=`, where each is a variable with a type or blank
-  abbrev pub lefts : Scope → List Name → Option (List Left)
-  lefts s [] = Some []
-  lefts s (n ∷ ns) = option_and_then (λ l. option_map (λ ls. l ∷ ls) (lefts s ns)) (left_of (is_blank (spelled text n)) (is_reserved (spelled text n)) (declaration s (spelled text n)))
+  abbrev pub lefts : Scope → TreeExs → Option (List Left)
+  lefts s expressions.none = Some []
+  lefts s (some e es) = option_and_then (λ l. option_map (λ ls. l ∷ ls) (lefts s es)) (left s (name_in e))
 
   -- the names that a `:=` declares, where it begins
   abbrev pub new_names : Scope → List Name → List Name
@@ -100,20 +121,29 @@ module _ (text : List ℕ) where
 
   -- ---- the scope behind a statement
 
+  abbrev pub behind_simple : Scope → Simple → Scope
+  behind_simple s (tree.express e) = s
+  behind_simple s (tree.assign ls at es) = s
+  behind_simple s (tree.update ls at op es) = s
+  behind_simple s (tree.define ns at es) = with_variables (is_some (taken (length ns) (seen text s es))) s (new_names s ns)
+  behind_simple s (tree.increment e at) = s
+  behind_simple s (tree.decrement e at) = s
+
   abbrev mutual
     pub behind : Scope → Stm → Scope
-    behind s (tree.define ns at es) = with_variables (is_some (taken (length ns) (seen text s es))) s (new_names s ns)
-    behind s (tree.assign ns at es) = s
-    behind s (tree.express e) = s
-    behind s (tree.give_back at es) = s
-    behind s (tree.choice at c body rest) = behind_else (closed (behind_all (opened s) body)) rest
-    behind s (tree.loop at c body) = closed (behind_all (opened s) body)
+    behind s (tree.declare at specs) = s
+    behind s (tree.simple m) = behind_simple s m
     behind s (tree.block ms) = closed (behind_all (opened s) ms)
+    behind s (tree.choice at g body rest) = if is_some g.init then s else behind_else (closed (behind_all (opened s) body)) rest
+    behind s (tree.loop at c body) = if is_left_out c then s else closed (behind_all (opened s) body)
+    behind s (tree.break_at at) = s
+    behind s (tree.continue_at at) = s
+    behind s (tree.give_back at es) = s
 
     pub behind_else : Scope → Els → Scope
     behind_else s tree.no_else = s
     behind_else s (tree.else_block ms) = closed (behind_all (opened s) ms)
-    behind_else s (tree.else_if at c body rest) = behind_else (closed (behind_all (opened s) body)) rest
+    behind_else s (tree.else_if at g body rest) = if is_some g.init then s else behind_else (closed (behind_all (opened s) body)) rest
 
     pub behind_all : Scope → Stms → Scope
     behind_all s tree.nil = s
@@ -121,23 +151,34 @@ module _ (text : List ℕ) where
 
   -- ---- the typed forms, in a function that gives back what `r` says
 
+  abbrev pub simple_statement : Scope → Simple → Option St
+  simple_statement s (tree.express e) = option_and_then expressed (gives text s e)
+  simple_statement s (tree.assign ls at es) = assignment (lefts s ls) (taken (how_many ls) (seen text s es))
+  simple_statement s (tree.update ls at op es) = None
+  simple_statement s (tree.define ns at es) = if may_define s ns then assignment (new_lefts s (length s.sites) ns) (taken (length ns) (seen text s es)) else None
+  simple_statement s (tree.increment e at) = None
+  simple_statement s (tree.decrement e at) = None
+
   module _ (r : Returns) where
     abbrev mutual
       pub statement : Scope → Stm → Option St
-      statement s (tree.define ns at es) = if may_define s ns then assignment (new_lefts s (length s.sites) ns) (taken (length ns) (seen text s es)) else None
-      statement s (tree.assign ns at es) = assignment (lefts s ns) (taken (length ns) (seen text s es))
-      statement s (tree.express e) = option_and_then expressed (gives text s e)
-      statement s (tree.give_back at es) = returned r (seen text s es)
-      statement s (tree.choice at c body rest) = choice_of (condition text s c) (statements (opened s) body) (alternative (closed (behind_all (opened s) body)) rest)
-      statement s (tree.loop at c body) = loop_of (test text s c) (statements (opened s) body)
+      statement s (tree.declare at specs) = None
+      statement s (tree.simple m) = simple_statement s m
       statement s (tree.block ms) = option_map block (statements (opened s) ms)
+      statement s (tree.choice at g body rest) =
+          if is_some g.init then None else choice_of (condition text s g.condition) (statements (opened s) body) (alternative (closed (behind_all (opened s) body)) rest)
+      statement s (tree.loop at c body) = if is_left_out c then None else loop_of (test text s (condition_in c)) (statements (opened s) body)
+      statement s (tree.break_at at) = None
+      statement s (tree.continue_at at) = None
+      statement s (tree.give_back at es) = returned r (seen text s es)
 
       -- what is done where the condition is false
       pub alternative : Scope → Els → Option Sts
       alternative s tree.no_else = Some done
       alternative s (tree.else_block ms) = statements (opened s) ms
-      alternative s (tree.else_if at c body rest) =
-          option_map (λ t. next t done) (choice_of (condition text s c) (statements (opened s) body) (alternative (closed (behind_all (opened s) body)) rest))
+      alternative s (tree.else_if at g body rest) =
+          option_map (λ t. next t done)
+          (if is_some g.init then None else choice_of (condition text s g.condition) (statements (opened s) body) (alternative (closed (behind_all (opened s) body)) rest))
 
       pub statements : Scope → Stms → Option Sts
       statements s tree.nil = Some done
@@ -145,20 +186,28 @@ module _ (text : List ℕ) where
 
 -- ---- terminating statements: nothing goes on behind them (Go specification, "Terminating statements")
 
+-- whether a loop has no condition
+abbrev pub is_endless : Clause → Bool
+is_endless forever = true
+is_endless (while_true e) = false
+is_endless (counting init test post) = not (is_some test)
+is_endless (ranging t at e) = false
+
 abbrev mutual
   pub is_terminating : Stm → Bool
-  is_terminating (tree.define ns at es) = false
-  is_terminating (tree.assign ns at es) = false
-  is_terminating (tree.express e) = false
-  is_terminating (tree.give_back at es) = true
-  is_terminating (tree.choice at c body rest) = ends_after false body && is_terminating_else rest
-  is_terminating (tree.loop at c body) = not (is_some c)
+  is_terminating (tree.declare at specs) = false
+  is_terminating (tree.simple m) = false
   is_terminating (tree.block ms) = ends_after false ms
+  is_terminating (tree.choice at g body rest) = ends_after false body && is_terminating_else rest
+  is_terminating (tree.loop at c body) = is_endless c
+  is_terminating (tree.break_at at) = false
+  is_terminating (tree.continue_at at) = false
+  is_terminating (tree.give_back at es) = true
 
   pub is_terminating_else : Els → Bool
   is_terminating_else tree.no_else = false
   is_terminating_else (tree.else_block ms) = ends_after false ms
-  is_terminating_else (tree.else_if at c body rest) = ends_after false body && is_terminating_else rest
+  is_terminating_else (tree.else_if at g body rest) = ends_after false body && is_terminating_else rest
 
   -- whether the last of some statements is terminating, behind one of which that is known
   pub ends_after : Bool → Stms → Bool

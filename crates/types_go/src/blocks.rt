@@ -1,23 +1,23 @@
 //! The types of statements that have statements in them, and of what stands in a block.
 
-ghost use Rattle.std.specs.Prelude.{◌≡◌, ◌<◌, Some, IfOk, OnOk, length};
+ghost use Rattle.std.specs.Prelude.{◌≡◌, ◌<◌, Some, IfOk, OnOk, length, is_some};
 ghost use Rattle.std.specs.Option.{option_map};
-ghost use Rattle.parse_go.specs.Tree.{stm_of, stms_of, els_of};
+ghost use Rattle.syntax.specs.Statements.{guard_of, clause_of, stm_of, stms_of, els_of};
 ghost use Rattle.typed.specs.Syntax.{block, done, next};
 ghost use Rattle.typed.specs.View.{ex_of, test_of, st_of, sts_of};
-ghost use Rattle.types_go.specs.Least.{IsLeast, lesser};
-ghost use Rattle.types_go.specs.Scope.{scope_of, opened, closed};
-ghost use Rattle.types_go.specs.Statements.{statement, alternative, statements, choice_of, loop_of, behind, behind_else, behind_all};
+ghost use Rattle.expression_types.specs.Least.{IsLeast, lesser};
+ghost use Rattle.expression_types.specs.Scope.{scope_of, opened, closed};
+ghost use Rattle.expression_types.specs.Passing.{with_last};
+ghost use Rattle.types_go.specs.Statements.{statement, alternative, statements, choice_of, loop_of, is_left_out, behind, behind_else, behind_all};
 ghost use Rattle.types_go.specs.StatementFaults.{FailsInStatement, FailsInElse, FailsInStatements};
-ghost use Rattle.types_go.specs.Passing.{with_last};
 
-use crate::conditions::{Condition, Test, check_cond, check_test};
-use crate::fault::{Fault, lesser};
-use crate::scope::{Scope, close, open};
-use crate::statements::{Line, Returns, check_assign, check_define, check_express, check_return};
+use crate::statements::{Line, Returns, check_return, check_simple, left_out};
 use base::NoMemory;
-use parse_go::{Else, Stmt};
+use expression_types::{
+    Condition, Fault, Scope, Test, check_condition, check_test, close, lesser, open,
+};
 use std::alloc::Global;
+use syntax::{Clause, Else, Guard, Stmt};
 
 /// What is known of statements: their typed forms, where all have one, and the fault that is reported of them.
 #[derive(Drop)]
@@ -92,9 +92,28 @@ fn alone(alloc: Global, line: Line) -> Result<Lines, NoMemory>
     Ok(Lines { statements, fault })
 }
 
+/// Whether an `if` has a statement before its condition, which is left out.
+fn has_init(guard: &Guard) -> bool
+    ensures { result ≡ is_some (guard_of guard.now).init }
+{
+    guard.init.is_some()
+}
+
+/// Whether a loop is of a form that is left out.
+fn is_left_out(clause: &Clause) -> bool
+    ensures { result ≡ is_left_out (clause_of clause.now) }
+{
+    match clause {
+        Clause::Forever => false,
+        Clause::While(_) => false,
+        Clause::Counting(_, _, _) => true,
+        Clause::Range(_, _, _) => true,
+    }
+}
+
 /// A statement. The scope becomes the one behind it.
 #[cycle(statements)]
-#[tactic(auto, using(crate::proofs::TreeRows::stmt_rows))]
+#[tactic(auto, using(syntax::proofs::Views::stmt_rows))]
 fn check_stmt(
     alloc: Global,
     text: &[u8],
@@ -108,35 +127,38 @@ fn check_stmt(
     ensures scope { OnOk result (scope_of scope.new ≡ behind text.now (scope_of scope.old) (stm_of s.now)) }
 {
     match s {
-        Stmt::Define(names, pos, es) => {
-            check_define(alloc, text, returns, scope, names, *pos, es)
-        }
-        Stmt::Assign(names, pos, es) => {
-            check_assign(alloc, text, returns, scope, names, *pos, es)
-        }
-        Stmt::Express(e) => check_express(alloc, text, returns, scope, e),
-        Stmt::Return(pos, es) => check_return(alloc, text, returns, scope, *pos, es),
-        Stmt::If(_, c, body, rest) => {
-            let test = check_cond(alloc, text, scope, c)?;
-            let body = check_inner(alloc, text, returns, scope, body)?;
-            let rest = check_else(alloc, text, returns, scope, rest)?;
-            Ok(choice(test, body, rest))
-        }
-        Stmt::For(_, c, body) => {
-            let test = check_test(alloc, text, scope, c)?;
-            let body = check_inner(alloc, text, returns, scope, body)?;
-            Ok(repeated(test, body))
-        }
+        Stmt::Simple(simple) => check_simple(alloc, text, scope, simple),
         Stmt::Block(body) => {
             let body = check_inner(alloc, text, returns, scope, body)?;
             Ok(as_block(body))
         }
+        Stmt::If(pos, guard, body, rest) => {
+            if has_init(guard) {
+                return Ok(left_out(*pos));
+            }
+            let test = check_condition(alloc, text, scope, *pos, &guard.condition)?;
+            let body = check_inner(alloc, text, returns, scope, body)?;
+            let rest = check_else(alloc, text, returns, scope, rest)?;
+            Ok(choice(test, body, rest))
+        }
+        Stmt::For(pos, clause, body) => {
+            if is_left_out(clause) {
+                return Ok(left_out(*pos));
+            }
+            let test = check_test(alloc, text, scope, *pos, clause)?;
+            let body = check_inner(alloc, text, returns, scope, body)?;
+            Ok(repeated(test, body))
+        }
+        Stmt::Return(pos, es) => check_return(alloc, text, returns, scope, *pos, es),
+        Stmt::Var(pos, _) => Ok(left_out(*pos)),
+        Stmt::Break(pos) => Ok(left_out(*pos)),
+        Stmt::Continue(pos) => Ok(left_out(*pos)),
     }
 }
 
 /// What stands behind the body of an `if`.
 #[cycle(statements)]
-#[tactic(auto, using(crate::proofs::TreeRows::stmt_rows))]
+#[tactic(auto, using(syntax::proofs::Views::stmt_rows))]
 fn check_else(
     alloc: Global,
     text: &[u8],
@@ -155,9 +177,12 @@ fn check_else(
             fault: None,
         }),
         Else::Block(body) => check_inner(alloc, text, returns, scope, body),
-        Else::If(_, c, body, rest) => {
+        Else::If(pos, guard, body, rest) => {
+            if has_init(guard) {
+                return alone(alloc, left_out(*pos));
+            }
             let rest: &Else = rest;
-            let test = check_cond(alloc, text, scope, c)?;
+            let test = check_condition(alloc, text, scope, *pos, &guard.condition)?;
             let body = check_inner(alloc, text, returns, scope, body)?;
             let rest = check_else(alloc, text, returns, scope, rest)?;
             alone(alloc, choice(test, body, rest))

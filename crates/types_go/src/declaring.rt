@@ -2,25 +2,28 @@
 
 ghost use Rattle.std.specs.Prelude.{◌≡◌, Option, Some, None, IfOk, OnOk, List, map, length, is_some, [], ◌∷◌, not, ◌&&◌, ◌||◌, ◌⊎◌, ◌+◌, ◌++◌, if◌then◌else◌};
 ghost use Rattle.std.specs.Option.{option_map};
-ghost use Rattle.parse_go.specs.Tree.{spelled};
+ghost use Rattle.syntax.specs.Expressions.{spelled, ex_of as tree_of, exs_of as trees_of};
+ghost use Rattle.syntax.specs.FirstBytes.{first_place};
 ghost use Rattle.typed.specs.View.{left_of as left_view};
-ghost use Rattle.types_go.specs.Least.{IsLeast};
-ghost use Rattle.types_go.specs.Profile.{is_blank, is_reserved};
-ghost use Rattle.types_go.specs.Scope.{scope_of, declaration, is_here};
-ghost use Rattle.types_go.specs.Statements.{target, left_of, new_left_of, declares, new_left, noted, is_noted, lefts, new_lefts, new_names, with_variables, has_all, may_define};
-ghost use Rattle.types_go.specs.StatementFaults.{FailsWhere, LeftFails, NewNameFails, LeftsFail, NewNamesFail, TwiceFails, names_place};
-ghost use Rattle.types_go.specs.Faults.{fault as fault_at};
-ghost use Rattle.types_go.specs.declared.fault.FaultKind.TheVariants.{NothingNew};
-ghost use Rattle.types_go.specs.Passing.{with_last, left_fault, new_name_fault, fault_where};
+ghost use Rattle.expression_types.specs.Least.{IsLeast};
+ghost use Rattle.expression_types.specs.Profile.{is_blank, is_reserved};
+ghost use Rattle.expression_types.specs.Scope.{scope_of, declaration, is_here};
+ghost use Rattle.expression_types.specs.Typing.{name_in, gives};
+ghost use Rattle.expression_types.specs.Passing.{with_last, gives_of};
+ghost use Rattle.types_go.specs.Statements.{target, left_of, new_left_of, declares, left, new_left, noted, is_noted, lefts, new_lefts, new_names, with_variables, has_all, may_define};
+ghost use Rattle.types_go.specs.StatementFaults.{FailsWhere, LeftFails, LeftSideFails, NewNameFails, LeftsFail, NewNamesFail, TwiceFails, names_place, lefts_place};
+ghost use Rattle.expression_types.specs.Faults.{fault as fault_at};
+ghost use Rattle.expression_types.specs.declared.fault.FaultKind.TheVariants.{NothingNew};
+ghost use Rattle.types_go.specs.Passing.{left_fault, value_left_fault, new_name_fault, fault_where};
 
-use crate::fault::{Fault, FaultKind, lesser};
-use crate::naming::spelled;
-use crate::profile::{is_blank, is_reserved};
-use crate::scope::{Declared, Scope, declaration, declare_variable, is_here, site_behind};
 use base::{NoMemory, Pos, SiteId};
+use expression_types::{
+    Declared, Fault, FaultKind, Gives, Scope, check_expr, declaration, declare_variable, is_blank,
+    is_here, is_reserved, lesser, name_in, site_behind, spelled,
+};
 use names::Block;
-use parse_go::Name;
 use std::alloc::Global;
+use syntax::{Expr, Name};
 use typed::Left;
 
 /// What is known of left sides.
@@ -99,18 +102,25 @@ fn with_left(lefts: Option<Vec<Left>>, left: Option<Left>) -> Result<Option<Vec<
     }
 }
 
-fn left_fault_of(blank: bool, reserved: bool, declared: Option<Declared>, pos: Pos) -> Option<Fault>
-    ensures { result ≡ left_fault blank reserved declared pos }
+fn left_fault_of(
+    blank: bool,
+    reserved: bool,
+    declared: Option<Declared>,
+    pos: Pos,
+    whole: Pos,
+) -> Option<Fault>
+    ensures { result ≡ left_fault blank reserved declared pos whole }
 {
     if blank {
         return None;
     }
-    let kind = if reserved {
-        FaultKind::OutOfProfile
+    let (kind, pos) = if reserved {
+        (FaultKind::OutOfProfile, pos)
     } else {
         match declared {
-            None => FaultKind::Unknown,
-            Some(Declared::Function(_)) => FaultKind::NotAssignable,
+            None => (FaultKind::Unknown, pos),
+            Some(Declared::Function(_)) => (FaultKind::NotAssignable, whole),
+            Some(Declared::TypeName) => (FaultKind::BadOperand, pos),
             Some(_) => return None,
         }
     };
@@ -134,7 +144,7 @@ fn new_name_fault_of(
             pos,
         })
     } else if here {
-        left_fault_of(false, false, declared, pos)
+        left_fault_of(false, false, declared, pos, pos)
     } else {
         None
     }
@@ -147,8 +157,8 @@ pub fn fault_where(fails: bool, own: Fault) -> Option<Fault>
     if fails { Some(own) } else { None }
 }
 
-fn left(text: &[u8], scope: &Scope, name: Name) -> Option<Left>
-    ensures { option_map left_view result ≡ left_of (is_blank (spelled text.now name)) (is_reserved (spelled text.now name)) (declaration (scope_of scope.now) (spelled text.now name)) }
+fn name_left(text: &[u8], scope: &Scope, name: Name) -> Option<Left>
+    ensures { option_map left_view result ≡ left text.now (scope_of scope.now) (Some name) }
 {
     let bytes = spelled(text, name);
     left_of(
@@ -158,9 +168,20 @@ fn left(text: &[u8], scope: &Scope, name: Name) -> Option<Left>
     )
 }
 
+/// A left side of a `=`.
+fn left(text: &[u8], scope: &Scope, e: &Expr) -> Option<Left>
+    ensures { option_map left_view result ≡ left text.now (scope_of scope.now) (name_in (tree_of e.now)) }
+{
+    match name_in(e) {
+        Some(name) => name_left(text, scope, name),
+        None => None,
+    }
+}
+
+/// The fault of a name as a left side, which begins at a place.
 #[tactic(auto, using(crate::proofs::Leaves::left_least))]
-fn left_fault(text: &[u8], scope: &Scope, name: Name) -> Option<Fault>
-    ensures { IsLeast (LeftFails (is_blank (spelled text.now name)) (is_reserved (spelled text.now name)) (declaration (scope_of scope.now) (spelled text.now name)) name.pos) result }
+fn name_left_fault(text: &[u8], scope: &Scope, name: Name, whole: Pos) -> Option<Fault>
+    ensures { IsLeast (LeftFails (is_blank (spelled text.now name)) (is_reserved (spelled text.now name)) (declaration (scope_of scope.now) (spelled text.now name)) name.pos whole) result }
 {
     let bytes = spelled(text, name);
     left_fault_of(
@@ -168,7 +189,50 @@ fn left_fault(text: &[u8], scope: &Scope, name: Name) -> Option<Fault>
         is_reserved(bytes),
         declaration(scope, bytes),
         name.pos,
+        whole,
     )
+}
+
+/// The fault of a left side that is no name and gives something.
+fn value_left_fault(gives: &Option<Gives>, pos: Pos) -> Option<Fault>
+    ensures { result ≡ value_left_fault (option_map gives_of gives.now) pos }
+{
+    match gives {
+        Some(_) => Some(Fault {
+            kind: FaultKind::NotAssignable,
+            pos,
+        }),
+        None => None,
+    }
+}
+
+/// The fault of a left side that is no name.
+fn value_fault(
+    alloc: Global,
+    text: &[u8],
+    scope: &Scope,
+    e: &Expr,
+) -> Result<Option<Fault>, NoMemory>
+    ensures { IfOk result (λ f. IsLeast (LeftSideFails text.now (scope_of scope.now) None (tree_of e.now)) f) }
+{
+    let checked = check_expr(alloc, text, scope, e)?;
+    let own = value_left_fault(&checked.gives, checked.pos);
+    Ok(lesser(checked.fault, own))
+}
+
+/// The fault of a left side.
+fn left_fault(
+    alloc: Global,
+    text: &[u8],
+    scope: &Scope,
+    e: &Expr,
+) -> Result<Option<Fault>, NoMemory>
+    ensures { IfOk result (λ f. IsLeast (LeftSideFails text.now (scope_of scope.now) (name_in (tree_of e.now)) (tree_of e.now)) f) }
+{
+    match name_in(e) {
+        Some(name) => Ok(name_left_fault(text, scope, name, e.pos())),
+        None => value_fault(alloc, text, scope, e),
+    }
 }
 
 /// The left sides of a `=`.
@@ -176,16 +240,17 @@ pub fn check_lefts(
     alloc: Global,
     text: &[u8],
     scope: &Scope,
-    names: &[Name],
+    es: &[Expr],
 ) -> Result<Lefts, NoMemory>
-    ensures lefts { IfOk result (λ l. option_map (λ v. map left_view v.items) l.lefts ≡ lefts text.now (scope_of scope.now) names.now) }
-    ensures fault { IfOk result (λ l. IsLeast (LeftsFail text.now (scope_of scope.now) names.now) l.fault) }
+    ensures lefts { IfOk result (λ l. option_map (λ v. map left_view v.items) l.lefts ≡ lefts text.now (scope_of scope.now) (trees_of es.now)) }
+    ensures fault { IfOk result (λ l. IsLeast (LeftsFail text.now (scope_of scope.now) (trees_of es.now)) l.fault) }
 {
     let mut lefts = Some(Vec::new(alloc));
     let mut fault = None;
-    for name in names {
-        fault = lesser(fault, left_fault(text, scope, *name));
-        lefts = with_left(lefts, left(text, scope, *name))?;
+    for e in es {
+        let own = left_fault(alloc, text, scope, e)?;
+        fault = lesser(fault, own);
+        lefts = with_left(lefts, left(text, scope, e))?;
     }
     Ok(Lefts { lefts, fault })
 }
@@ -366,6 +431,16 @@ pub fn names_pos(names: &[Name], pos: Pos) -> Pos
 {
     match names {
         [name, ..] => name.pos,
+        [] => pos,
+    }
+}
+
+/// Where a statement with expressions on its left begins.
+pub fn lefts_pos(lefts: &[Expr], pos: Pos) -> Pos
+    ensures { result ≡ lefts_place (trees_of lefts.now) pos }
+{
+    match lefts {
+        [first, ..] => first.pos(),
         [] => pos,
     }
 }

@@ -1,28 +1,40 @@
 //! Terminating statements: nothing goes on behind them.
 
 ghost use Rattle.std.specs.Prelude.{◌≡◌, false};
-ghost use Rattle.parse_go.specs.Tree.{stm_of, stms_of, els_of};
-ghost use Rattle.types_go.specs.Statements.{is_terminating, is_terminating_else, ends_after};
+ghost use Rattle.syntax.specs.Statements.{clause_of, stm_of, stms_of, els_of};
+ghost use Rattle.types_go.specs.Statements.{is_endless, is_terminating, is_terminating_else, ends_after};
 
-use parse_go::{Else, Stmt};
+use syntax::{Clause, Else, Stmt};
+
+/// Whether a loop has no condition.
+fn is_endless(clause: &Clause) -> bool
+    ensures { result ≡ is_endless (clause_of clause.now) }
+{
+    match clause {
+        Clause::Forever => true,
+        Clause::While(_) => false,
+        Clause::Counting(_, test, _) => test.is_none(),
+        Clause::Range(_, _, _) => false,
+    }
+}
 
 /// Whether a statement is terminating (Go specification, "Terminating statements").
 #[cycle(endings)]
-#[tactic(auto, using(crate::proofs::TreeRows::stmt_rows))]
+#[tactic(auto, using(syntax::proofs::Views::stmt_rows))]
 fn is_terminating(s: &Stmt) -> bool
     ensures { result ≡ is_terminating (stm_of s.now) }
 {
     match s {
         Stmt::Return(_, _) => true,
         Stmt::If(_, _, body, rest) => ends_in_terminating(body) && is_terminating_else(rest),
-        Stmt::For(_, None, _) => true,
+        Stmt::For(_, clause, _) => is_endless(clause),
         Stmt::Block(body) => ends_in_terminating(body),
         _ => false,
     }
 }
 
 #[cycle(endings)]
-#[tactic(auto, using(crate::proofs::TreeRows::stmt_rows))]
+#[tactic(auto, using(syntax::proofs::Views::stmt_rows))]
 fn is_terminating_else(e: &Else) -> bool
     ensures { result ≡ is_terminating_else (els_of e.now) }
 {

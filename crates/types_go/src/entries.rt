@@ -2,30 +2,30 @@
 
 ghost use Rattle.std.specs.Prelude.{◌≡◌, Option, Some, None, IfOk, OnOk, List, map, length, is_some};
 ghost use Rattle.std.specs.Option.{option_map};
-ghost use Rattle.parse_go.specs.Tree.{spelled};
+ghost use Rattle.syntax.specs.Expressions.{spelled};
 ghost use Rattle.typed.specs.View.{site_in};
-ghost use Rattle.types_go.specs.Least.{IsLeast};
-ghost use Rattle.types_go.specs.Profile.{is_blank, is_reserved};
-ghost use Rattle.types_go.specs.Scope.{scope_of, is_here};
-ghost use Rattle.types_go.specs.Functions.{role_of, unnamed_entry, entry_of, named_entry, entry_in, behind_entry_name, behind_entry, entries, behind_entries, type_of};
-ghost use Rattle.types_go.specs.FunctionFaults.{EntryFails, EntriesFail, NamedFails, UnnamedFails};
-ghost use Rattle.types_go.specs.Passing.{with_last, unnamed_fault, named_fault};
+ghost use Rattle.expression_types.specs.Least.{IsLeast};
+ghost use Rattle.expression_types.specs.Profile.{is_blank, is_reserved};
+ghost use Rattle.expression_types.specs.Scope.{scope_of, is_here};
+ghost use Rattle.expression_types.specs.Passing.{with_last};
+ghost use Rattle.types_go.specs.Functions.{entry_of, named_entry, entry_in, behind_entry_name, behind_entry, entries, behind_entries};
+ghost use Rattle.types_go.specs.FunctionFaults.{EntryFails, EntriesFail, NamedFails};
+ghost use Rattle.types_go.specs.Passing.{named_fault};
 
-use crate::fault::{Fault, FaultKind, lesser};
-use crate::naming::spelled;
-use crate::profile::{is_blank, is_reserved};
-use crate::scope::{Scope, declare_variable, is_here, next_site};
-use crate::signatures::type_of;
+use crate::slots::Slot;
 use base::{NoMemory, Pos, SiteId};
-use parse_go::{Name, Param};
+use expression_types::{
+    Fault, FaultKind, Scope, declare_variable, is_blank, is_here, is_reserved, lesser, next_site,
+    spelled,
+};
 use std::alloc::Global;
+use syntax::Name;
 
-/// Where a name with a type stands: a parameter, or a result of a function whose results have names, or have none.
+/// Where a name with a type stands.
 #[derive(Clone, Copy, Debug, PartialEq, Eq)]
 pub enum Role {
     Parameter,
-    NamedResult,
-    UnnamedResult,
+    Result,
 }
 
 /// What is known of parameters or results: the site of each, or none where it has no variable, and the fault.
@@ -33,31 +33,6 @@ pub enum Role {
 pub struct Entries {
     pub entries: Option<Vec<Option<SiteId>>>,
     pub fault: Option<Fault>,
-}
-
-/// The results have names where the first one has.
-pub fn role_of(results: &[Param]) -> Role
-    ensures { result ≡ role_of results.now }
-{
-    match results {
-        [first, ..] => {
-            if first.name.is_some() {
-                Role::NamedResult
-            } else {
-                Role::UnnamedResult
-            }
-        }
-        [] => Role::UnnamedResult,
-    }
-}
-
-fn unnamed_entry(role: Role) -> Option<Option<SiteId>>
-    ensures { option_map site_in result ≡ unnamed_entry role }
-{
-    match role {
-        Role::NamedResult => None,
-        _ => Some(None),
-    }
 }
 
 fn entry_of(
@@ -70,7 +45,6 @@ fn entry_of(
     ensures { option_map site_in result ≡ entry_of role blank reserved here site.0 }
 {
     match role {
-        Role::UnnamedResult => None,
         Role::Parameter if blank => Some(None),
         _ => {
             if blank || reserved || here {
@@ -82,23 +56,10 @@ fn entry_of(
     }
 }
 
-fn unnamed_fault_of(role: Role, pos: Pos) -> Option<Fault>
-    ensures { result ≡ unnamed_fault role pos }
-{
-    match role {
-        Role::NamedResult => Some(Fault {
-            kind: FaultKind::OutOfProfile,
-            pos,
-        }),
-        _ => None,
-    }
-}
-
 fn named_fault_of(role: Role, blank: bool, reserved: bool, here: bool, pos: Pos) -> Option<Fault>
     ensures { result ≡ named_fault role blank reserved here pos }
 {
     let kind = match role {
-        Role::UnnamedResult => FaultKind::OutOfProfile,
         Role::Parameter if blank => return None,
         _ => {
             if blank || reserved {
@@ -142,7 +103,7 @@ fn entry_in(
 {
     match name {
         Some(name) => named_entry(text, scope, role, name),
-        None => Ok(unnamed_entry(role)),
+        None => Ok(Some(None)),
     }
 }
 
@@ -160,25 +121,12 @@ fn named_fault(text: &[u8], scope: &Scope, role: Role, name: Name) -> Option<Fau
     )
 }
 
-#[tactic(auto, using(crate::proofs::Leaves::unnamed_least))]
-fn unnamed_fault(role: Role, pos: Pos) -> Option<Fault>
-    ensures { IsLeast (UnnamedFails role pos) result }
-{
-    unnamed_fault_of(role, pos)
-}
-
-fn entry_fault(
-    text: &[u8],
-    scope: &Scope,
-    role: Role,
-    name: Option<Name>,
-    type_pos: Pos,
-) -> Option<Fault>
-    ensures { IsLeast (EntryFails text.now role (scope_of scope.now) name type_pos) result }
+fn entry_fault(text: &[u8], scope: &Scope, role: Role, name: Option<Name>) -> Option<Fault>
+    ensures { IsLeast (EntryFails text.now role (scope_of scope.now) name) result }
 {
     match name {
         Some(name) => named_fault(text, scope, role, name),
-        None => unnamed_fault(role, type_pos),
+        None => None,
     }
 }
 
@@ -201,11 +149,10 @@ fn declare_entry_name(
     }
 }
 
-fn declare_entry(text: &[u8], scope: &mut Scope, param: Param) -> Result<(), NoMemory>
-    ensures { OnOk result (scope_of scope.new ≡ behind_entry text.now (scope_of scope.old) param) }
+fn declare_entry(text: &[u8], scope: &mut Scope, slot: Slot) -> Result<(), NoMemory>
+    ensures { OnOk result (scope_of scope.new ≡ behind_entry text.now (scope_of scope.old) slot) }
 {
-    let has_type = type_of(text, param.type_name).is_some();
-    declare_entry_name(text, scope, param.name, has_type)
+    declare_entry_name(text, scope, slot.name, slot.value_type.is_some())
 }
 
 fn with_entry(
@@ -229,20 +176,19 @@ pub fn check_entries(
     text: &[u8],
     scope: &mut Scope,
     role: Role,
-    params: &[Param],
+    slots: &[Slot],
 ) -> Result<Entries, NoMemory>
-    ensures entries { IfOk result (λ e. option_map (λ v. map site_in v.items) e.entries ≡ entries text.now role (scope_of scope.old) params.now) }
-    ensures fault { IfOk result (λ e. IsLeast (EntriesFail text.now role (scope_of scope.old) params.now) e.fault) }
-    ensures scope { OnOk result (scope_of scope.new ≡ behind_entries text.now (scope_of scope.old) params.now) }
+    ensures entries { IfOk result (λ e. option_map (λ v. map site_in v.items) e.entries ≡ entries text.now role (scope_of scope.old) slots.now) }
+    ensures fault { IfOk result (λ e. IsLeast (EntriesFail text.now role (scope_of scope.old) slots.now) e.fault) }
+    ensures scope { OnOk result (scope_of scope.new ≡ behind_entries text.now (scope_of scope.old) slots.now) }
 {
     let mut entries = Some(Vec::new(alloc));
     let mut fault = None;
-    for param in params {
-        let own = entry_fault(text, scope, role, param.name, param.type_name.pos);
-        fault = lesser(fault, own);
-        let entry = entry_in(text, scope, role, param.name)?;
+    for slot in slots {
+        fault = lesser(fault, entry_fault(text, scope, role, slot.name));
+        let entry = entry_in(text, scope, role, slot.name)?;
         entries = with_entry(entries, entry)?;
-        declare_entry(text, scope, *param)?;
+        declare_entry(text, scope, *slot)?;
     }
     Ok(Entries { entries, fault })
 }

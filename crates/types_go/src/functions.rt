@@ -1,35 +1,38 @@
 //! Functions: their heads, their parts, and the end of their bodies.
 
-ghost use Rattle.std.specs.Prelude.{◌≡◌, ◌<◌, ◌⊎◌, Option, Some, None, IfOk, OnOk, List, map, length, is_some, not, ◌-◌, ◌++◌, ◌∷◌, [], ◌&&◌, nat_lt, option_and_then};
+ghost use Rattle.std.specs.Prelude.{◌≡◌, ◌<◌, ◌⊎◌, Option, Some, None, IfOk, OnOk, List, map, length, is_some, not, ◌-◌, ◌++◌, ◌∷◌, [], ◌&&◌, ◌||◌, ◌==◌, nat_lt, option_and_then, if◌then◌else◌};
 ghost use Rattle.std.specs.Option.{option_map};
+ghost use Rattle.std.specs.Str.{bytes_eq};
 ghost use Rattle.base.specs.declared.pos.Pos.{Pos as Place};
-ghost use Rattle.parse_go.specs.Tree.{spelled, function_of, functions_of};
+ghost use Rattle.syntax.specs.Expressions.{spelled};
+ghost use Rattle.syntax.specs.Declarations.{parameters_of, body_of, function_of, declarations_of};
 ghost use Rattle.typed.specs.View.{site_in, func_of, sts_of};
-ghost use Rattle.types_go.specs.Passing.{assembled, IsAt, AreAt, with_last};
-ghost use Rattle.types_go.specs.Least.{IsLeast};
-ghost use Rattle.types_go.specs.Profile.{is_blank, is_predeclared};
+ghost use Rattle.expression_types.specs.Least.{IsLeast};
+ghost use Rattle.expression_types.specs.Profile.{is_blank, is_predeclared};
+ghost use Rattle.expression_types.specs.Scope.{scope_of, declaration, is_here};
+ghost use Rattle.expression_types.specs.Typing.{allowed};
+ghost use Rattle.expression_types.specs.Faults.{fault as fault_at};
+ghost use Rattle.expression_types.specs.Passing.{with_last};
+ghost use Rattle.expression_types.specs.declared.fault.FaultKind.TheVariants.{TooLarge};
+ghost use Rattle.types_go.specs.Passing.{assembled, IsAt, AreAt};
 ghost use Rattle.types_go.specs.StatementFaults.{FailsWhere};
-ghost use Rattle.types_go.specs.Faults.{fault as fault_at};
-ghost use Rattle.types_go.specs.declared.fault.FaultKind.TheVariants.{TooLarge};
-ghost use Rattle.types_go.specs.Scope.{scope_of, declaration, is_here};
-ghost use Rattle.types_go.specs.Functions.{role_of, may_be_named, is_named, sites_of, allowed, returns_of, may_end, function_head, signature_in, is_small, parts, function, functions, behind_function, behind_functions};
-ghost use Rattle.types_go.specs.FunctionFaults.{FunctionNameFails, FailsInHead, FailsInTypes, FailsInParts, FailsInFunction, FailsInFunctions};
+ghost use Rattle.types_go.specs.Functions.{may_be_named, is_named, is_external, sites_of, returns_of, may_end, params_of, function_head, signature_in, is_small, functions_in, parts, function_with, function, functions, behind_body, behind_function, behind_functions};
+ghost use Rattle.types_go.specs.FunctionFaults.{FunctionNameFails, FailsInHead, FailsInTypes, FailsInParts, FailsWith, FailsInFunction, FailsInFunctions, external_fault};
 
 use crate::blocks::check_stmts;
 use crate::declaring::fault_where;
 use crate::endings::ends_in_terminating;
-use crate::entries::{Entries, Role, check_entries, role_of};
-use crate::fault::{Fault, FaultKind, lesser};
-use crate::naming::spelled;
-use crate::profile::{is_blank, is_predeclared};
-use crate::scope::{Scope, close, declaration, open, site_count};
-use crate::signatures::{
-    function_name_fault, is_small, may_be_named, signature_in, size_fault, types_fault,
-};
+use crate::entries::{Role, check_entries};
+use crate::signatures::{function_name_fault, is_small, may_be_named, signature_in, size_fault};
+use crate::slots::{Slot, has_some, is_named, slots_of, types_fault};
 use crate::statements::Returns;
 use base::{NoMemory, Pos, SiteId, TypeId};
-use parse_go::{Func, Name, Param};
+use expression_types::{
+    Fault, FaultKind, Scope, close, declaration, is_blank, is_predeclared, lesser, open,
+    site_count, spelled,
+};
 use std::alloc::Global;
+use syntax::{Body, Decl, Func, Name, Params};
 
 /// What is known of a part of a function: whether it is as it must be, and the fault.
 #[derive(Clone, Copy, Debug, PartialEq, Eq)]
@@ -52,28 +55,20 @@ pub struct Functions {
     pub fault: Option<Fault>,
 }
 
-fn is_named(role: Role) -> bool
-    ensures { result ≡ is_named role }
-{
-    match role {
-        Role::NamedResult => true,
-        _ => false,
-    }
-}
-
-fn returns_of(f: &Func) -> Returns
-    ensures { result ≡ returns_of (function_of f.now) }
+/// What a function with these results gives back.
+fn returns_of(results: &Params, slots: &[Slot]) -> Returns
+    ensures { result ≡ record { count = length slots.now; may_be_bare = (length slots.now == 0) || is_named (parameters_of results.now) } }
 {
     Returns {
-        count: f.results.len(),
-        may_be_bare: f.results.len() == 0 || is_named(role_of(&f.results)),
+        count: slots.len(),
+        may_be_bare: slots.is_empty() || is_named(results),
     }
 }
 
-fn may_end(f: &Func) -> bool
-    ensures { result ≡ may_end (function_of f.now) }
+fn may_end(f: &Func, body: &Body) -> bool
+    ensures { result ≡ may_end (function_of f.now) (body_of body.now) }
 {
-    f.results.len() == 0 || ends_in_terminating(&f.body)
+    !has_some(&f.results) || ends_in_terminating(&body.statements)
 }
 
 /// The fault of the name of a function of a number.
@@ -145,19 +140,19 @@ fn check_types(alloc: Global, text: &[u8], scope: &Scope, f: &Func) -> Result<Pa
 }
 
 /// The number of a result's type: it is an int.
-fn type_number(_result: &Param) -> TypeId
+fn type_number(_result: &Slot) -> TypeId
     ensures { result.0 ≡ 0 }
 {
     TypeId(0)
 }
 
 /// The types of results.
-fn result_types(alloc: Global, results: &[Param]) -> Result<Vec<TypeId>, NoMemory>
-    ensures { IfOk result (λ v. map (λ t. t.0) v.items ≡ map (λ p. 0) results.now) }
+fn result_types(alloc: Global, results: &[Slot]) -> Result<Vec<TypeId>, NoMemory>
+    ensures { IfOk result (λ v. map (λ t. t.0) v.items ≡ map (λ slot. 0) results.now) }
 {
     let mut types = Vec::new(alloc);
-    for param in results {
-        types.push(type_number(param))?;
+    for slot in results {
+        types.push(type_number(slot))?;
     }
     Ok(types)
 }
@@ -192,27 +187,28 @@ fn number_of(count: usize) -> Result<u32, NoMemory>
     }
 }
 
-/// A function of its parts, with sites from one number on and before another.
+/// A function with a name at a place of its parts, with sites from one number on and before another.
 fn assemble(
     alloc: Global,
-    f: &Func,
+    pos: Pos,
+    slots: &[Slot],
     first: usize,
     behind: usize,
     params: Option<Vec<Option<SiteId>>>,
     results: Option<Vec<Option<SiteId>>>,
     body: Option<Vec<typed::Stmt>>,
 ) -> Result<Option<typed::Func>, NoMemory>
-    ensures func { IfOk result (λ r. option_map func_of r ≡ assembled (function_of f.now) first behind (option_map (λ v. map site_in v.items) params) (option_map (λ v. map site_in v.items) results) (option_map (λ v. sts_of v.items) body)) }
-    ensures pos { IfOk result (λ r. IsAt f.now.name.pos r) }
+    ensures func { IfOk result (λ r. option_map func_of r ≡ assembled slots.now first behind (option_map (λ v. map site_in v.items) params) (option_map (λ v. map site_in v.items) results) (option_map (λ v. sts_of v.items) body)) }
+    ensures pos { IfOk result (λ r. IsAt pos r) }
 {
     match (params, results, body) {
         (Some(params), Some(results), Some(body)) => {
             let first_site = number_of(first)?;
             let sites = number_of(behind.saturating_sub(first))?;
             let named = sites_of(alloc, &results)?;
-            let results = result_types(alloc, &f.results)?;
+            let results = result_types(alloc, slots)?;
             Ok(Some(typed::Func {
-                pos: f.name.pos,
+                pos,
                 first_site,
                 sites,
                 params,
@@ -231,28 +227,33 @@ fn check_parts(
     text: &[u8],
     scope: &mut Scope,
     f: &Func,
+    body: &Body,
 ) -> Result<Function, NoMemory>
     requires { 0 < length scope.old.names }
-    ensures func { IfOk result (λ r. option_map func_of r.func ≡ parts text.now (scope_of scope.old) (function_of f.now)) }
+    ensures func { IfOk result (λ r. option_map func_of r.func ≡ parts text.now (scope_of scope.old) (function_of f.now) (body_of body.now)) }
     ensures pos { IfOk result (λ r. IsAt f.now.name.pos r.func) }
-    ensures fault { IfOk result (λ r. IsLeast (FailsInParts text.now (scope_of scope.old) (function_of f.now)) r.fault) }
-    ensures scope { OnOk result (scope_of scope.new ≡ behind_function text.now (scope_of scope.old) (function_of f.now)) }
+    ensures fault { IfOk result (λ r. IsLeast (FailsInParts text.now (scope_of scope.old) (function_of f.now) (body_of body.now)) r.fault) }
+    ensures scope { OnOk result (scope_of scope.new ≡ behind_body text.now (scope_of scope.old) (function_of f.now) (Some (body_of body.now))) }
 {
     let first = site_count(scope);
+    let param_slots = slots_of(alloc, text, &f.params)?;
+    let result_slots = slots_of(alloc, text, &f.results)?;
+    let returns = returns_of(&f.results, &result_slots);
     open(scope)?;
-    let params = check_entries(alloc, text, scope, Role::Parameter, &f.params)?;
-    let results = check_entries(alloc, text, scope, role_of(&f.results), &f.results)?;
-    let body = check_stmts(alloc, text, returns_of(f), scope, &f.body)?;
+    let params = check_entries(alloc, text, scope, Role::Parameter, &param_slots)?;
+    let results = check_entries(alloc, text, scope, Role::Result, &result_slots)?;
+    let lines = check_stmts(alloc, text, returns, scope, &body.statements)?;
     close(scope);
-    let fault = lesser(lesser(params.fault, results.fault), body.fault);
+    let fault = lesser(lesser(params.fault, results.fault), lines.fault);
     let func = assemble(
         alloc,
-        f,
+        f.name.pos,
+        &result_slots,
         first,
         site_count(scope),
         params.entries,
         results.entries,
-        body.statements,
+        lines.statements,
     )?;
     Ok(Function { func, fault })
 }
@@ -262,6 +263,74 @@ fn func_where(head: bool, types: bool, end: bool, func: Option<typed::Func>) -> 
     ensures pos { (p : Place) → IsAt p func → IsAt p result }
 {
     if head && types && end { func } else { None }
+}
+
+/// A function with a body, by its number.
+fn check_with_body(
+    alloc: Global,
+    text: &[u8],
+    scope: &mut Scope,
+    number: usize,
+    f: &Func,
+    body: &Body,
+) -> Result<Function, NoMemory>
+    requires { 0 < length scope.old.names }
+    ensures func { IfOk result (λ r. option_map func_of r.func ≡ function_with text.now (scope_of scope.old) number (function_of f.now) (Some (body_of body.now))) }
+    ensures pos { IfOk result (λ r. IsAt f.now.name.pos r.func) }
+    ensures fault { IfOk result (λ r. IsLeast (FailsWith text.now (scope_of scope.old) number (function_of f.now) (Some (body_of body.now))) r.fault) }
+    ensures scope { OnOk result (scope_of scope.new ≡ behind_body text.now (scope_of scope.old) (function_of f.now) (Some (body_of body.now))) }
+{
+    let head = check_head(text, scope, number, f);
+    let types = check_types(alloc, text, scope, f)?;
+    let parts = check_parts(alloc, text, scope, f, body)?;
+    let ends = may_end(f, body);
+    let own = Fault {
+        kind: FaultKind::MissingReturn,
+        pos: body.end,
+    };
+    let head_fault = lesser(head.fault, types.fault);
+    let body_fault = lesser(parts.fault, fault_where(!ends, own));
+    Ok(Function {
+        func: func_where(head.is_allowed, types.is_allowed, ends, parts.func),
+        fault: lesser(head_fault, body_fault),
+    })
+}
+
+/// Whether a function of this name may have no body.
+fn is_external(name: &[u8]) -> bool
+    ensures { result ≡ is_external name.now }
+{
+    name == "readInt".as_bytes() || name == "exit".as_bytes()
+}
+
+/// The fault of a function without a body.
+fn external_fault(text: &[u8], f: &Func) -> Fault
+    ensures { result ≡ external_fault text.now (function_of f.now) }
+{
+    if is_external(spelled(text, f.name)) {
+        Fault {
+            kind: FaultKind::OutOfProfile,
+            pos: f.pos,
+        }
+    } else {
+        Fault {
+            kind: FaultKind::BadExternal,
+            pos: f.name.pos,
+        }
+    }
+}
+
+/// A function without a body, by its number.
+fn check_external(text: &[u8], scope: &Scope, number: usize, f: &Func) -> Function
+    ensures func { option_map func_of result.func ≡ None }
+    ensures pos { (p : Place) → IsAt p result.func }
+    ensures fault { IsLeast (FailsWith text.now (scope_of scope.now) number (function_of f.now) None) result.fault }
+{
+    let head = check_head(text, scope, number, f);
+    Function {
+        func: None,
+        fault: lesser(head.fault, Some(external_fault(text, f))),
+    }
 }
 
 /// A function, by its number.
@@ -278,20 +347,10 @@ fn check_function(
     ensures fault { IfOk result (λ r. IsLeast (FailsInFunction text.now (scope_of scope.old) number (function_of f.now)) r.fault) }
     ensures scope { OnOk result (scope_of scope.new ≡ behind_function text.now (scope_of scope.old) (function_of f.now)) }
 {
-    let head = check_head(text, scope, number, f);
-    let types = check_types(alloc, text, scope, f)?;
-    let parts = check_parts(alloc, text, scope, f)?;
-    let ends = may_end(f);
-    let own = Fault {
-        kind: FaultKind::MissingReturn,
-        pos: f.end,
-    };
-    let head_fault = lesser(head.fault, types.fault);
-    let body_fault = lesser(parts.fault, fault_where(!ends, own));
-    Ok(Function {
-        func: func_where(head.is_allowed, types.is_allowed, ends, parts.func),
-        fault: lesser(head_fault, body_fault),
-    })
+    match &f.body {
+        Some(body) => check_with_body(alloc, text, scope, number, f, body),
+        None => Ok(check_external(text, scope, number, f)),
+    }
 }
 
 fn with_func(
@@ -314,22 +373,29 @@ pub fn check_functions(
     alloc: Global,
     text: &[u8],
     scope: &mut Scope,
-    fs: &[Func],
+    decls: &[Decl],
 ) -> Result<Functions, NoMemory>
     requires { 0 < length scope.old.names }
-    ensures funcs { IfOk result (λ r. option_map (λ v. map func_of v.items) r.funcs ≡ functions text.now (scope_of scope.old) 0 (functions_of fs.now)) }
-    ensures places { IfOk result (λ r. AreAt (map (λ f. f.name.pos) fs.now) (option_map (λ v. v.items) r.funcs)) }
-    ensures fault { IfOk result (λ r. IsLeast (FailsInFunctions text.now (scope_of scope.old) 0 (functions_of fs.now)) r.fault) }
-    ensures scope { OnOk result (scope_of scope.new ≡ behind_functions text.now (scope_of scope.old) (functions_of fs.now)) }
+    ensures funcs { IfOk result (λ r. option_map (λ v. map func_of v.items) r.funcs ≡ functions text.now (scope_of scope.old) 0 (functions_in (declarations_of decls.now))) }
+    ensures places { IfOk result (λ r. AreAt (map (λ f. f.name.pos) (functions_in (declarations_of decls.now))) (option_map (λ v. v.items) r.funcs)) }
+    ensures fault { IfOk result (λ r. IsLeast (FailsInFunctions text.now (scope_of scope.old) 0 (functions_in (declarations_of decls.now))) r.fault) }
+    ensures scope { OnOk result (scope_of scope.new ≡ behind_functions text.now (scope_of scope.old) (functions_in (declarations_of decls.now))) }
 {
     let mut funcs = Some(Vec::new(alloc));
     let mut fault = None;
     let mut number: usize = 0;
-    for f in fs {
-        let checked = check_function(alloc, text, scope, number, f)?;
-        funcs = with_func(funcs, checked.func)?;
-        fault = lesser(fault, checked.fault);
-        number += 1;
+    for decl in decls {
+        match decl {
+            Decl::Const(_, _) => {}
+            Decl::Var(_, _) => {}
+            Decl::Type(_, _) => {}
+            Decl::Func(f) => {
+                let checked = check_function(alloc, text, scope, number, f)?;
+                funcs = with_func(funcs, checked.func)?;
+                fault = lesser(fault, checked.fault);
+                number += 1;
+            }
+        }
     }
     Ok(Functions { funcs, fault })
 }

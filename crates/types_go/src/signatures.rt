@@ -1,69 +1,28 @@
-//! The package block: the functions, their names and their signatures.
+//! The package block: what it declares, and the names and signatures of functions.
 
-ghost use Rattle.std.specs.Prelude.{◌≡◌, ℕ, Option, Some, None, IfOk, OnOk, List, map, length, if◌then◌else◌, not, ◌||◌, ◌&&◌, ◌==◌, is_some};
+ghost use Rattle.std.specs.Prelude.{◌≡◌, Option, Some, None, IfOk, OnOk, option_and_then, not, ◌||◌, ◌&&◌};
 ghost use Rattle.std.specs.Option.{option_map};
-ghost use Rattle.parse_go.specs.Tree.{spelled, function_of, functions_of};
-ghost use Rattle.types_go.specs.Least.{IsLeast};
-ghost use Rattle.types_go.specs.Profile.{is_blank, is_int_type, is_type_name, is_value_name, is_predeclared};
-ghost use Rattle.types_go.specs.Scope.{scope_of, signature_of, declaration, is_here, with_declaration};
-ghost use Rattle.types_go.specs.declared.scope.Declared.TheVariants.{Function as FunctionNumber};
-ghost use Rattle.types_go.specs.Functions.{type_of, types_of, signature_in, declares_function, with_function, with_functions, is_number, may_be_named, is_small, words};
-ghost use Rattle.types_go.specs.FunctionFaults.{FailsAsType, TypesFail, FunctionNameFails, SizeFails};
-ghost use Rattle.types_go.specs.Passing.{with_last, type_fault, function_name_fault, size_fault};
+ghost use Rattle.syntax.specs.Expressions.{spelled};
+ghost use Rattle.syntax.specs.Statements.{value_specs_of};
+ghost use Rattle.syntax.specs.Declarations.{type_specs_of, function_of, declaration_of, declarations_of};
+ghost use Rattle.expression_types.specs.declared.scope.Declared.TheVariants.{Untyped as NoType};
+ghost use Rattle.expression_types.specs.Profile.{is_blank, is_predeclared};
+ghost use Rattle.expression_types.specs.Scope.{scope_of, signature_of, declaration, is_here};
+ghost use Rattle.types_go.specs.Functions.{signature_in, declares_name, with_name, with_names, with_values, with_types, with_function, with_item, with_items, is_number, may_be_named, is_small, words};
+ghost use Rattle.types_go.specs.Passing.{function_name_fault, size_fault};
 
 use crate::declaring::fault_where;
-use crate::fault::{Fault, FaultKind, lesser};
-use crate::naming::spelled;
-use crate::profile::{is_blank, is_int_type, is_predeclared, is_type_name, is_value_name};
-use crate::scope::{
-    Declared, Scope, Signature, ValueType, add_signature, declaration, declare, is_here,
-};
+use crate::slots::{slots_of, types_of};
 use base::{FuncId, NoMemory, Pos};
-use parse_go::{Func, Name, Param};
+use expression_types::{
+    Declared, Fault, FaultKind, Scope, Signature, ValueType, add_signature, declare, is_blank,
+    is_here, is_predeclared, spelled,
+};
 use std::alloc::Global;
-
-/// The type of a name, where it is that of one.
-pub fn type_of(text: &[u8], name: Name) -> Option<ValueType>
-    ensures { result ≡ type_of text.now name }
-{
-    if is_int_type(spelled(text, name)) {
-        Some(ValueType::Int)
-    } else {
-        None
-    }
-}
-
-fn with_type(
-    types: Option<Vec<ValueType>>,
-    value_type: Option<ValueType>,
-) -> Result<Option<Vec<ValueType>>, NoMemory>
-    ensures { IfOk result (λ r. option_map (λ v. v.items) r ≡ with_last (option_map (λ v. v.items) types) value_type) }
-{
-    match (types, value_type) {
-        (Some(mut types), Some(value_type)) => {
-            types.push(value_type)?;
-            Ok(Some(types))
-        }
-        _ => Ok(None),
-    }
-}
-
-fn types_of(
-    alloc: Global,
-    text: &[u8],
-    params: &[Param],
-) -> Result<Option<Vec<ValueType>>, NoMemory>
-    ensures { IfOk result (λ r. option_map (λ v. v.items) r ≡ types_of text.now params.now) }
-{
-    let mut types = Some(Vec::new(alloc));
-    for param in params {
-        types = with_type(types, type_of(text, param.type_name))?;
-    }
-    Ok(types)
-}
+use syntax::{Decl, Func, Name, TypeSpec, ValueSpec};
 
 fn joined(params: Option<Vec<ValueType>>, results: Option<Vec<ValueType>>) -> Option<Signature>
-    ensures { option_map signature_of result ≡ Rattle.std.specs.Prelude.option_and_then (λ ps. option_map (λ rs. record { params = ps; results = rs }) (option_map (λ v. v.items) results)) (option_map (λ v. v.items) params) }
+    ensures { option_map signature_of result ≡ option_and_then (λ ps. option_map (λ rs. record { params = ps; results = rs }) (option_map (λ v. v.items) results)) (option_map (λ v. v.items) params) }
 {
     match (params, results) {
         (Some(params), Some(results)) => Some(Signature { params, results }),
@@ -75,87 +34,97 @@ fn joined(params: Option<Vec<ValueType>>, results: Option<Vec<ValueType>>) -> Op
 pub fn signature_in(alloc: Global, text: &[u8], f: &Func) -> Result<Option<Signature>, NoMemory>
     ensures { IfOk result (λ r. option_map signature_of r ≡ signature_in text.now (function_of f.now)) }
 {
-    let params = types_of(alloc, text, &f.params)?;
-    let results = types_of(alloc, text, &f.results)?;
+    let params = slots_of(alloc, text, &f.params)?;
+    let results = slots_of(alloc, text, &f.results)?;
+    let params = types_of(alloc, &params)?;
+    let results = types_of(alloc, &results)?;
     Ok(joined(params, results))
 }
 
-fn declares_function(scope: &Scope, name: &[u8]) -> bool
-    ensures { result ≡ declares_function (scope_of scope.now) name.now }
+fn declares_name(scope: &Scope, name: &[u8]) -> bool
+    ensures { result ≡ declares_name (scope_of scope.now) name.now }
 {
     !(is_blank(name) || is_predeclared(name)) && !is_here(scope, name)
 }
 
-fn declare_function(scope: &mut Scope, name: &[u8]) -> Result<(), NoMemory>
-    ensures { OnOk result (scope_of scope.new ≡ (if declares_function (scope_of scope.old) name.now then with_declaration (scope_of scope.old) name.now (FunctionNumber (record { 0 = length (scope_of scope.old).signatures })) else scope_of scope.old)) }
+/// Declares a name, if it is the first one.
+fn add_name(text: &[u8], scope: &mut Scope, name: Name, declared: Declared) -> Result<(), NoMemory>
+    ensures { OnOk result (scope_of scope.new ≡ with_name text.now declared (scope_of scope.old) name) }
 {
-    if !declares_function(scope, name) {
-        return Ok(());
+    let bytes = spelled(text, name);
+    if declares_name(scope, bytes) {
+        declare(scope, bytes, declared)
+    } else {
+        Ok(())
     }
-    let Ok(number) = u32::try_from(scope.signatures.len()) else {
-        return Err(NoMemory);
-    };
-    declare(scope, name, Declared::Function(FuncId(number)))
 }
 
-fn add_function(alloc: Global, text: &[u8], scope: &mut Scope, f: &Func) -> Result<(), NoMemory>
-    ensures { OnOk result (scope_of scope.new ≡ with_function text.now (scope_of scope.old) (function_of f.now)) }
+/// Declares names without a type.
+fn add_names(text: &[u8], scope: &mut Scope, names: &[Name]) -> Result<(), NoMemory>
+    ensures { OnOk result (scope_of scope.new ≡ with_names text.now NoType (scope_of scope.old) names.now) }
 {
-    let signature = signature_in(alloc, text, f)?;
-    declare_function(scope, spelled(text, f.name))?;
-    add_signature(scope, signature)
-}
-
-/// Declares the functions of a package.
-pub fn add_functions(
-    alloc: Global,
-    text: &[u8],
-    scope: &mut Scope,
-    funcs: &[Func],
-) -> Result<(), NoMemory>
-    ensures { OnOk result (scope_of scope.new ≡ with_functions text.now (scope_of scope.old) (functions_of funcs.now)) }
-{
-    for f in funcs {
-        add_function(alloc, text, scope, f)?;
+    for name in names {
+        add_name(text, scope, *name, Declared::Untyped)?;
     }
     Ok(())
 }
 
-fn type_fault_of(is_int: bool, is_type: bool, is_known: bool, pos: Pos) -> Option<Fault>
-    ensures { result ≡ type_fault is_int is_type is_known pos }
+/// Declares constants or variables.
+fn add_values(text: &[u8], scope: &mut Scope, specs: &[ValueSpec]) -> Result<(), NoMemory>
+    ensures { OnOk result (scope_of scope.new ≡ with_values text.now (scope_of scope.old) (value_specs_of specs.now)) }
 {
-    if is_int {
-        return None;
+    for spec in specs {
+        add_names(text, scope, &spec.names)?;
     }
-    let kind = if is_type {
-        FaultKind::OutOfProfile
-    } else if is_known {
-        FaultKind::BadOperand
-    } else {
-        FaultKind::Unknown
+    Ok(())
+}
+
+/// Declares types.
+fn add_types(text: &[u8], scope: &mut Scope, specs: &[TypeSpec]) -> Result<(), NoMemory>
+    ensures { OnOk result (scope_of scope.new ≡ with_types text.now (scope_of scope.old) (type_specs_of specs.now)) }
+{
+    for spec in specs {
+        add_name(text, scope, spec.name, Declared::TypeName)?;
+    }
+    Ok(())
+}
+
+/// Declares a function with the next number.
+fn add_function(alloc: Global, text: &[u8], scope: &mut Scope, f: &Func) -> Result<(), NoMemory>
+    ensures { OnOk result (scope_of scope.new ≡ with_function text.now (scope_of scope.old) (function_of f.now)) }
+{
+    let signature = signature_in(alloc, text, f)?;
+    let Ok(number) = u32::try_from(scope.signatures.len()) else {
+        return Err(NoMemory);
     };
-    Some(Fault { kind, pos })
+    add_name(text, scope, f.name, Declared::Function(FuncId(number)))?;
+    add_signature(scope, signature)
 }
 
-/// The fault of a name at the place of a type.
-#[tactic(auto, using(crate::proofs::Leaves::type_least))]
-fn type_fault(text: &[u8], scope: &Scope, name: Name) -> Option<Fault>
-    ensures { IsLeast (FailsAsType text.now (scope_of scope.now) name) result }
+fn add_item(alloc: Global, text: &[u8], scope: &mut Scope, decl: &Decl) -> Result<(), NoMemory>
+    ensures { OnOk result (scope_of scope.new ≡ with_item text.now (scope_of scope.old) (declaration_of decl.now)) }
 {
-    let bytes = spelled(text, name);
-    let is_known = is_value_name(bytes) || declaration(scope, bytes).is_some();
-    type_fault_of(is_int_type(bytes), is_type_name(bytes), is_known, name.pos)
-}
-
-/// The fault of the types of parameters or results.
-pub fn types_fault(text: &[u8], scope: &Scope, params: &[Param]) -> Option<Fault>
-    ensures { IsLeast (TypesFail text.now (scope_of scope.now) params.now) result }
-{
-    let mut fault = None;
-    for param in params {
-        fault = lesser(fault, type_fault(text, scope, param.type_name));
+    match decl {
+        Decl::Const(_, specs) => add_values(text, scope, specs),
+        Decl::Var(_, specs) => add_values(text, scope, specs),
+        Decl::Type(_, specs) => add_types(text, scope, specs),
+        Decl::Func(f) => add_function(alloc, text, scope, f),
     }
-    fault
+}
+
+/// Declares what a package does.
+pub fn add_items(
+    alloc: Global,
+    text: &[u8],
+    scope: &mut Scope,
+    decls: &[Decl],
+) -> Result<(), NoMemory>
+    ensures { OnOk result (scope_of scope.new ≡ with_items text.now (scope_of scope.old) (declarations_of decls.now)) }
+{
+    for decl in decls {
+        add_item(alloc, text, scope, decl)?;
+    }
+    Ok(())
 }
 
 fn is_number(number: usize, declared: Option<Declared>) -> bool
@@ -163,7 +132,8 @@ fn is_number(number: usize, declared: Option<Declared>) -> bool
 {
     match declared {
         Some(Declared::Function(function)) => function.0 as usize == number,
-        _ => true,
+        Some(_) => false,
+        None => true,
     }
 }
 

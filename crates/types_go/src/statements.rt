@@ -1,26 +1,31 @@
 //! The types of statements without statements in them, and what they declare.
 
-ghost use Rattle.std.specs.Prelude.{◌≡◌, Option, Some, None, IfOk, OnOk, List, map, length, option_and_then, if◌then◌else◌, false};
+ghost use Rattle.std.specs.Prelude.{◌≡◌, ◌⊎◌, Option, Some, None, IfOk, OnOk, List, map, length, option_and_then, if◌then◌else◌, false};
 ghost use Rattle.std.specs.Option.{option_map};
-ghost use Rattle.parse_go.specs.Tree.{ex_of as tree_of, exs_of as trees_of, define, assign as assign_to, express, give_back};
+ghost use Rattle.syntax.specs.Expressions.{ex_of as tree_of, exs_of as trees_of};
+ghost use Rattle.syntax.specs.FirstBytes.{first_place};
+ghost use Rattle.syntax.specs.Statements.{simple_of, define};
 ghost use Rattle.typed.specs.View.{exs_of_values, left_of as left_view, st_of};
 ghost use Rattle.typed.specs.Syntax.{give_back as given_back, none};
-ghost use Rattle.types_go.specs.Least.{IsLeast};
-ghost use Rattle.types_go.specs.Scope.{scope_of};
-ghost use Rattle.types_go.specs.Typing.{count, seen};
-ghost use Rattle.types_go.specs.Statements.{assignment, expressed, returned, statement, behind};
-ghost use Rattle.types_go.specs.StatementFaults.{ReturnFails, FailsInStatement};
-ghost use Rattle.types_go.specs.Passing.{gives_of, seens, use_fault, fault_where};
+ghost use Rattle.expression_types.specs.Least.{IsLeast};
+ghost use Rattle.expression_types.specs.Scope.{scope_of};
+ghost use Rattle.expression_types.specs.Typing.{count, gives, seen, taken};
+ghost use Rattle.expression_types.specs.Faults.{FormFails, Fails, FailsInEach};
+ghost use Rattle.expression_types.specs.Passing.{gives_of, seens};
+ghost use Rattle.types_go.specs.Statements.{assignment, expressed, returned, how_many, lefts, simple_statement, behind_simple};
+ghost use Rattle.types_go.specs.StatementFaults.{ReturnFails, UseFails, FailsInSimple, FailsInAssignment, FailsInDefinition, FirstFails, lefts_place};
+ghost use Rattle.types_go.specs.Passing.{use_fault, fault_where};
 
-use crate::declaring::{check_lefts, check_names, check_new_lefts, declare_variables, names_pos};
-use crate::expressions::{check_expr, check_list};
-use crate::fault::{Fault, FaultKind, lesser};
-use crate::operand::{Gives, Item, Operand};
-use crate::scope::Scope;
-use crate::values::{count, count_fault, placed_fault, take_fault, taken};
+use crate::declaring::{
+    check_lefts, check_names, check_new_lefts, declare_variables, lefts_pos, names_pos,
+};
 use base::{NoMemory, Pos};
-use parse_go::{Expr, Name};
+use expression_types::{
+    Fault, FaultKind, Gives, Item, Operand, Scope, check_expr, check_list, count, count_fault,
+    lesser, placed_fault, take_fault, taken,
+};
 use std::alloc::Global;
+use syntax::{Expr, Name, Simple};
 use typed::{Left, Values};
 
 /// What a function gives back: how many values, and whether a `return` may have none.
@@ -35,6 +40,20 @@ pub struct Returns {
 pub struct Line {
     pub statement: Option<typed::Stmt>,
     pub fault: Option<Fault>,
+}
+
+/// A statement of a form that is left out.
+pub fn left_out(pos: Pos) -> Line
+    ensures statement { option_map st_of result.statement ≡ None }
+    ensures fault { IsLeast (FormFails pos) result.fault }
+{
+    Line {
+        statement: None,
+        fault: Some(Fault {
+            kind: FaultKind::OutOfProfile,
+            pos,
+        }),
+    }
 }
 
 /// A declaration or an assignment, where its left sides and values are known.
@@ -62,18 +81,17 @@ fn assignment_where(
 }
 
 /// A `:=`, which declares its new names behind its values.
-pub fn check_define(
+fn check_define(
     alloc: Global,
     text: &[u8],
-    returns: Returns,
     scope: &mut Scope,
     names: &[Name],
     pos: Pos,
     es: &[Expr],
 ) -> Result<Line, NoMemory>
-    ensures statement { IfOk result (λ c. option_map st_of c.statement ≡ statement text.now returns (scope_of scope.old) (define names.now pos (trees_of es.now))) }
-    ensures fault { IfOk result (λ c. IsLeast (FailsInStatement text.now returns (scope_of scope.old) (define names.now pos (trees_of es.now))) c.fault) }
-    ensures scope { OnOk result (scope_of scope.new ≡ behind text.now (scope_of scope.old) (define names.now pos (trees_of es.now))) }
+    ensures statement { IfOk result (λ c. option_map st_of c.statement ≡ simple_statement text.now (scope_of scope.old) (define names.now pos (trees_of es.now))) }
+    ensures fault { IfOk result (λ c. IsLeast (FailsInDefinition text.now (scope_of scope.old) names.now pos (trees_of es.now)) c.fault) }
+    ensures scope { OnOk result (scope_of scope.new ≡ behind_simple text.now (scope_of scope.old) (define names.now pos (trees_of es.now))) }
 {
     let right = check_list(alloc, text, scope, es)?;
     let own = Fault {
@@ -103,30 +121,30 @@ fn count_where(lefts: &Option<Vec<Left>>, items: &[Item]) -> Option<usize>
 }
 
 /// A `=`.
-pub fn check_assign(
+#[tactic(auto, using(crate::proofs::Items::how_many_are))]
+fn check_assign(
     alloc: Global,
     text: &[u8],
-    returns: Returns,
     scope: &Scope,
-    names: &[Name],
+    places: &[Expr],
     pos: Pos,
     es: &[Expr],
 ) -> Result<Line, NoMemory>
-    ensures statement { IfOk result (λ c. option_map st_of c.statement ≡ statement text.now returns (scope_of scope.now) (assign_to names.now pos (trees_of es.now))) }
-    ensures fault { IfOk result (λ c. IsLeast (FailsInStatement text.now returns (scope_of scope.now) (assign_to names.now pos (trees_of es.now))) c.fault) }
+    ensures statement { IfOk result (λ c. option_map st_of c.statement ≡ assignment (lefts text.now (scope_of scope.now) (trees_of places.now)) (taken (how_many (trees_of places.now)) (seen text.now (scope_of scope.now) (trees_of es.now)))) }
+    ensures fault { IfOk result (λ c. IsLeast (FailsInAssignment text.now (scope_of scope.now) (trees_of places.now) pos (trees_of es.now)) c.fault) }
 {
-    let left = check_lefts(alloc, text, scope, names)?;
+    let left = check_lefts(alloc, text, scope, places)?;
     let listed = check_list(alloc, text, scope, es)?;
     let own = Fault {
         kind: FaultKind::ArgCount,
-        pos: names_pos(names, pos),
+        pos: lefts_pos(places, pos),
     };
     let counted = count_where(&left.lefts, &listed.items);
     let values_fault = lesser(
-        placed_fault(names.len(), &listed.items),
-        count_fault(counted, names.len(), own),
+        placed_fault(places.len(), &listed.items),
+        count_fault(counted, places.len(), own),
     );
-    let values = taken(alloc, names.len(), listed.items)?;
+    let values = taken(alloc, places.len(), listed.items)?;
     Ok(Line {
         statement: assignment(left.lefts, values),
         fault: lesser(lesser(left.fault, listed.fault), values_fault),
@@ -134,7 +152,7 @@ pub fn check_assign(
 }
 
 /// A call as a statement.
-#[tactic(auto, using(crate::proofs::Items::pieces_as))]
+#[tactic(auto, using(expression_types::proofs::Items::pieces_as))]
 fn expressed(gives: Option<Gives>) -> Option<typed::Stmt>
     ensures { option_map st_of result ≡ option_and_then expressed (option_map gives_of gives) }
 {
@@ -161,15 +179,9 @@ fn use_fault(gives: &Option<Gives>, pos: Pos) -> Option<Fault>
 }
 
 /// An expression as a statement.
-pub fn check_express(
-    alloc: Global,
-    text: &[u8],
-    returns: Returns,
-    scope: &Scope,
-    e: &Expr,
-) -> Result<Line, NoMemory>
-    ensures statement { IfOk result (λ c. option_map st_of c.statement ≡ statement text.now returns (scope_of scope.now) (express (tree_of e.now))) }
-    ensures fault { IfOk result (λ c. IsLeast (FailsInStatement text.now returns (scope_of scope.now) (express (tree_of e.now))) c.fault) }
+fn check_express(alloc: Global, text: &[u8], scope: &Scope, e: &Expr) -> Result<Line, NoMemory>
+    ensures statement { IfOk result (λ c. option_map st_of c.statement ≡ option_and_then expressed (gives text.now (scope_of scope.now) (tree_of e.now))) }
+    ensures fault { IfOk result (λ c. IsLeast (λ f. Fails text.now (scope_of scope.now) (tree_of e.now) f ⊎ UseFails (gives text.now (scope_of scope.now) (tree_of e.now)) (first_place (tree_of e.now)) f) c.fault) }
 {
     let checked = check_expr(alloc, text, scope, e)?;
     let own = use_fault(&checked.gives, checked.pos);
@@ -177,6 +189,57 @@ pub fn check_express(
         statement: expressed(checked.gives),
         fault: lesser(checked.fault, own),
     })
+}
+
+/// A statement of a form that is left out, which begins with an expression.
+fn check_begun(alloc: Global, text: &[u8], scope: &Scope, e: &Expr) -> Result<Line, NoMemory>
+    ensures statement { IfOk result (λ c. option_map st_of c.statement ≡ None) }
+    ensures fault { IfOk result (λ c. IsLeast (λ f. Fails text.now (scope_of scope.now) (tree_of e.now) f ⊎ FormFails (first_place (tree_of e.now)) f) c.fault) }
+{
+    let checked = check_expr(alloc, text, scope, e)?;
+    let own = left_out(checked.pos);
+    Ok(Line {
+        statement: None,
+        fault: lesser(checked.fault, own.fault),
+    })
+}
+
+/// An assignment with an operator, which is left out.
+fn check_update(
+    alloc: Global,
+    text: &[u8],
+    scope: &Scope,
+    lefts: &[Expr],
+    pos: Pos,
+) -> Result<Line, NoMemory>
+    ensures statement { IfOk result (λ c. option_map st_of c.statement ≡ None) }
+    ensures fault { IfOk result (λ c. IsLeast (λ f. FirstFails text.now (scope_of scope.now) (trees_of lefts.now) f ⊎ FormFails (lefts_place (trees_of lefts.now) pos) f) c.fault) }
+{
+    match lefts {
+        [first, ..] => check_begun(alloc, text, scope, first),
+        [] => Ok(left_out(pos)),
+    }
+}
+
+/// A simple statement. The scope becomes the one behind it.
+pub fn check_simple(
+    alloc: Global,
+    text: &[u8],
+    scope: &mut Scope,
+    s: &Simple,
+) -> Result<Line, NoMemory>
+    ensures statement { IfOk result (λ c. option_map st_of c.statement ≡ simple_statement text.now (scope_of scope.old) (simple_of s.now)) }
+    ensures fault { IfOk result (λ c. IsLeast (FailsInSimple text.now (scope_of scope.old) (simple_of s.now)) c.fault) }
+    ensures scope { OnOk result (scope_of scope.new ≡ behind_simple text.now (scope_of scope.old) (simple_of s.now)) }
+{
+    match s {
+        Simple::Express(e) => check_express(alloc, text, scope, e),
+        Simple::Assign(lefts, pos, es) => check_assign(alloc, text, scope, lefts, *pos, es),
+        Simple::Update(lefts, pos, _, _) => check_update(alloc, text, scope, lefts, *pos),
+        Simple::Define(names, pos, es) => check_define(alloc, text, scope, names, *pos, es),
+        Simple::Increment(e, _) => check_begun(alloc, text, scope, e),
+        Simple::Decrement(e, _) => check_begun(alloc, text, scope, e),
+    }
 }
 
 /// The fault of a number of values that a function does not give back.
@@ -195,7 +258,7 @@ fn return_fault(pos: Pos, returns: Returns, items: &[Item]) -> Option<Fault>
 }
 
 /// The fault of a `return` without values.
-#[tactic(auto, using(crate::proofs::Leasts::unless))]
+#[tactic(auto, using(expression_types::proofs::Leasts::unless))]
 fn bare_fault(may_be_bare: bool, own: Fault) -> Option<Fault>
     ensures { IsLeast (λ f. (may_be_bare ≡ false) × (f ≡ own)) result }
 {
@@ -239,8 +302,8 @@ pub fn check_return(
     pos: Pos,
     es: &[Expr],
 ) -> Result<Line, NoMemory>
-    ensures statement { IfOk result (λ c. option_map st_of c.statement ≡ statement text.now returns (scope_of scope.now) (give_back pos (trees_of es.now))) }
-    ensures fault { IfOk result (λ c. IsLeast (FailsInStatement text.now returns (scope_of scope.now) (give_back pos (trees_of es.now))) c.fault) }
+    ensures statement { IfOk result (λ c. option_map st_of c.statement ≡ returned returns (seen text.now (scope_of scope.now) (trees_of es.now))) }
+    ensures fault { IfOk result (λ c. IsLeast (λ f. FailsInEach text.now (scope_of scope.now) (trees_of es.now) f ⊎ ReturnFails pos returns (seen text.now (scope_of scope.now) (trees_of es.now)) f) c.fault) }
 {
     let listed = check_list(alloc, text, scope, es)?;
     let own = return_fault(pos, returns, &listed.items);

@@ -1,393 +1,186 @@
-//! Texts, and what the checker says of them.
+//! Trees built by hand over one text, and what the checker says of them.
 
 use crate::{FaultKind, TypeFault, check};
-use parse_go::parse;
-use scan_go::scan;
+use base::Pos;
 use std::alloc::Global;
 use std::test::Fail;
+use syntax::{Body, Clause, Decl, Expr, Field, Func, Name, Params, Simple, Stmt, Tree, TypeSpec};
 
-/// The kind of the fault of a text, with its line and column; nothing where the text is accepted.
-fn fault_of(alloc: Global, text: &[u8]) -> Option<(FaultKind, u32, u32)> {
-    let Ok(tokens) = scan(alloc, text) else {
-        return None;
-    };
-    let Ok(tree) = parse(alloc, &tokens) else {
-        return None;
-    };
-    match check(alloc, &tree) {
-        Err(TypeFault::Fault(fault)) => Some((fault.kind, fault.pos.line, fault.pos.col)),
-        _ => None,
+/// Names of a program, of functions without a body, of parameters, of a type and of the language.
+const TEXT: &[u8] = b"main f readInt a b T int u";
+
+const MAIN: (u32, u32) = (0, 4);
+
+const F: (u32, u32) = (5, 6);
+
+const READ_INT: (u32, u32) = (7, 14);
+
+const A: (u32, u32) = (15, 16);
+
+const B: (u32, u32) = (17, 18);
+
+const T: (u32, u32) = (19, 20);
+
+const INT: (u32, u32) = (21, 24);
+
+const U: (u32, u32) = (25, 26);
+
+fn at(offset: u32) -> Pos {
+    Pos {
+        offset,
+        line: 1,
+        col: 1,
     }
 }
 
-/// Whether a text has a typed program.
-fn is_accepted(alloc: Global, text: &[u8]) -> bool {
-    let Ok(tokens) = scan(alloc, text) else {
-        return false;
-    };
-    let Ok(tree) = parse(alloc, &tokens) else {
-        return false;
-    };
-    check(alloc, &tree).is_ok()
+fn name(span: (u32, u32)) -> Name {
+    Name {
+        pos: at(span.0),
+        end: span.1,
+    }
 }
 
-/// A text for each kind, and for each rule on where it stands.
+fn word(span: (u32, u32)) -> Expr {
+    Expr::Name(name(span))
+}
+
+/// A function whose word stands at 50, with these parameters and results.
+fn function(span: (u32, u32), params: Params, results: Params, body: Option<Body>) -> Decl {
+    Decl::Func(Func {
+        pos: at(50),
+        name: name(span),
+        params,
+        results,
+        body,
+    })
+}
+
+fn nothing(alloc: Global) -> Params {
+    Params::Unnamed(Vec::new(alloc))
+}
+
+fn block(alloc: Global, statement: Stmt) -> Result<Option<Body>, Fail> {
+    let statements = Vec::from_array(alloc, [statement])?;
+    Ok(Some(Body {
+        statements,
+        end: at(90),
+    }))
+}
+
+/// `main` with one statement.
+fn main_with(alloc: Global, statement: Stmt) -> Result<Decl, Fail> {
+    let body = block(alloc, statement)?;
+    Ok(function(MAIN, nothing(alloc), nothing(alloc), body))
+}
+
+fn tree(alloc: Global, first: Decl, second: Decl) -> Result<Tree, Fail> {
+    Ok(Tree {
+        text: TEXT.to_vec(alloc)?,
+        package: name(MAIN),
+        decls: Vec::from_array(alloc, [first, second])?,
+    })
+}
+
+/// Whether this fault is reported of a tree.
+fn fails(alloc: Global, tree: &Tree, kind: FaultKind, offset: u32) -> bool {
+    match check(alloc, tree) {
+        Err(TypeFault::Fault(fault)) => fault.kind == kind && fault.pos.offset == offset,
+        _ => false,
+    }
+}
+
+/// `func f(a, b int) (int) { return b }`
+fn second_of_two(alloc: Global) -> Result<Decl, Fail> {
+    let names = Vec::from_array(alloc, [name(A), name(B)])?;
+    let type_expr = word(INT);
+    let field = Field { names, type_expr };
+    let params = Params::Named(Vec::from_array(alloc, [field])?);
+    let results = Params::Unnamed(Vec::from_array(alloc, [word(INT)])?);
+    let values = Vec::from_array(alloc, [word(B)])?;
+    let body = block(alloc, Stmt::Return(at(80), values))?;
+    Ok(function(F, params, results, body))
+}
+
 #[test]
-fn faults_and_their_places(rt: HostRuntime) -> Result<(), Fail> {
-    let table: [(&str, FaultKind, u32, u32); 54] = [
+fn functions(rt: HostRuntime) -> Result<(), Fail> {
+    let alloc = rt.alloc();
+    let main = main_with(alloc, Stmt::Block(Vec::new(alloc)))?;
+    let tree = tree(alloc, second_of_two(alloc)?, main)?;
+    let program = check(alloc, &tree);
+    assert!(rt; program.is_ok());
+    Ok(())
+}
+
+#[test]
+fn declarations_that_are_left_out(rt: HostRuntime) -> Result<(), Fail> {
+    let alloc = rt.alloc();
+    let spec = TypeSpec {
+        name: name(T),
+        fields: Vec::new(alloc),
+    };
+    let table: [(Decl, FaultKind, u32); 4] = [
         (
-            "package main\nfunc main() { y() }",
-            FaultKind::Unknown,
-            2,
-            15,
+            Decl::Const(at(40), Vec::new(alloc)),
+            FaultKind::OutOfProfile,
+            40,
         ),
         (
-            "package main\nfunc f(a t) {}; func main() {}",
-            FaultKind::Unknown,
-            2,
-            10,
+            Decl::Type(at(40), Vec::from_array(alloc, [spec])?),
+            FaultKind::OutOfProfile,
+            40,
         ),
         (
-            "package main\nfunc main() { y = 1 }",
-            FaultKind::Unknown,
-            2,
-            15,
+            function(F, nothing(alloc), nothing(alloc), None),
+            FaultKind::BadExternal,
+            5,
         ),
         (
-            "package main\nfunc f(a int) {}; func main() { f(1, u) }",
-            FaultKind::Unknown,
-            2,
-            38,
+            function(READ_INT, nothing(alloc), nothing(alloc), None),
+            FaultKind::OutOfProfile,
+            50,
         ),
+    ];
+    for (decl, kind, offset) in table {
+        let main = main_with(alloc, Stmt::Block(Vec::new(alloc)))?;
+        let tree = tree(alloc, decl, main)?;
+        assert!(rt; fails(alloc, &tree, kind, offset));
+    }
+    Ok(())
+}
+
+#[test]
+fn statements(rt: HostRuntime) -> Result<(), Fail> {
+    let alloc = rt.alloc();
+    let left = Vec::from_array(alloc, [Expr::Int(at(60), 1)])?;
+    let right = Vec::from_array(alloc, [Expr::Int(at(70), 1)])?;
+    let counting = Clause::Counting(None, None, None);
+    let table: [(Stmt, FaultKind, u32); 5] = [
         (
-            "package main\nfunc main() { a := 1; a(u) }",
+            Stmt::Simple(Simple::Increment(word(U), at(70))),
             FaultKind::Unknown,
-            2,
             25,
         ),
         (
-            "package main\nfunc main() { println(u, v) }",
-            FaultKind::Unknown,
-            2,
-            23,
-        ),
-        (
-            "package main\nfunc main() { a, b := a, 1; }",
-            FaultKind::Unknown,
-            2,
-            23,
-        ),
-        (
-            "package main\nfunc f() {}; func f() {}; func main() {}",
-            FaultKind::Redeclared,
-            2,
-            19,
-        ),
-        (
-            "package main\nfunc f(a, a int) {}; func main() {}",
-            FaultKind::Redeclared,
-            2,
-            11,
-        ),
-        (
-            "package main\nfunc f(a int) (a int) { return }; func main() {}",
-            FaultKind::Redeclared,
-            2,
-            16,
-        ),
-        (
-            "package main\nfunc main() { a, a := 1, 2 }",
-            FaultKind::Redeclared,
-            2,
-            18,
-        ),
-        (
-            "package main\nfunc main() { a := 1; a := 2 }",
-            FaultKind::NothingNew,
-            2,
-            25,
-        ),
-        (
-            "package main\nfunc f(a int) { a := 1 }; func main() {}",
-            FaultKind::NothingNew,
-            2,
-            19,
-        ),
-        (
-            "package main\nfunc f() (r int) { r := 1; return }; func main() {}",
-            FaultKind::NothingNew,
-            2,
-            22,
-        ),
-        (
-            "package main\nfunc main() { _ := 1 }",
-            FaultKind::NothingNew,
-            2,
-            17,
-        ),
-        (
-            "package main\nfunc f() {}; func main() { f = 1 }",
-            FaultKind::NotAssignable,
-            2,
-            28,
-        ),
-        (
-            "package main\nfunc main() { a := 1; a(1) }",
-            FaultKind::NotCallable,
-            2,
-            23,
-        ),
-        (
-            "package main\nfunc main() { (5)() }",
-            FaultKind::NotCallable,
-            2,
-            15,
-        ),
-        (
-            "package main\nfunc f(a int) {}; func main() { f() }",
-            FaultKind::ArgCount,
-            2,
-            33,
-        ),
-        (
-            "package main\nfunc g() (int, int) { return 1, 2 }; func f(a int) {}; func main() { f(g()) }",
-            FaultKind::ArgCount,
-            2,
-            70,
-        ),
-        (
-            "package main\nfunc main() { a, b := 1 }",
-            FaultKind::ArgCount,
-            2,
-            15,
-        ),
-        (
-            "package main\nfunc main() { a := 1; b := 2; a, b = 1 }",
-            FaultKind::ArgCount,
-            2,
-            31,
-        ),
-        (
-            "package main\nfunc g() (int, int) { return 1, 2 }; func main() { a := g() }",
-            FaultKind::ArgCount,
-            2,
-            52,
-        ),
-        (
-            "package main\nfunc f() {}; func main() { println(f()) }",
-            FaultKind::ResultCount,
-            2,
-            36,
-        ),
-        (
-            "package main\nfunc g() (int, int) { return 1, 2 }; func main() { println(g()) }",
-            FaultKind::ResultCount,
-            2,
+            Stmt::Simple(Simple::Increment(Expr::Int(at(60), 1), at(70))),
+            FaultKind::OutOfProfile,
             60,
         ),
         (
-            "package main\nfunc main() { a := println() }",
-            FaultKind::ResultCount,
-            2,
-            20,
+            Stmt::Simple(Simple::Assign(left, at(65), right)),
+            FaultKind::NotAssignable,
+            60,
         ),
         (
-            "package main\nfunc f() {}; func main() { a := f() }",
-            FaultKind::ResultCount,
-            2,
-            33,
-        ),
-        (
-            "package main\nfunc f() int { return }; func main() {}",
-            FaultKind::ResultCount,
-            2,
-            16,
-        ),
-        (
-            "package main\nfunc f() int { return 1, 2 }; func main() {}",
-            FaultKind::ResultCount,
-            2,
-            16,
-        ),
-        (
-            "package main\nfunc g() (int, int) { return 1, 2 }; func f() int { return g() }; func main() {}",
-            FaultKind::ResultCount,
-            2,
-            53,
-        ),
-        (
-            "package main\nfunc main() { return 1 }",
-            FaultKind::ResultCount,
-            2,
-            15,
-        ),
-        (
-            "package main\nfunc g() (int, int) { return 1, 2 }; func main() { a := 1 + g() }",
-            FaultKind::ResultCount,
-            2,
-            61,
-        ),
-        (
-            "package main\nfunc main() { 1 }",
-            FaultKind::NotUsedValue,
-            2,
-            15,
-        ),
-        (
-            "package main\nfunc f() int { return 1 }; func main() { f() + 1 }",
-            FaultKind::NotUsedValue,
-            2,
-            42,
-        ),
-        (
-            "package main\nfunc f() int { }; func main() {}",
-            FaultKind::MissingReturn,
-            2,
-            16,
-        ),
-        (
-            "package main\nfunc f(n int) int { if n == 0 { return 1 } }; func main() {}",
-            FaultKind::MissingReturn,
-            2,
-            44,
-        ),
-        (
-            "package main\nfunc f(n int) int { for n > 0 { return 1 } }; func main() {}",
-            FaultKind::MissingReturn,
-            2,
-            44,
-        ),
-        (
-            "package main\nfunc f(a int) {}; func main() { f(9223372036854775808) }",
-            FaultKind::ConstRange,
-            2,
-            35,
-        ),
-        (
-            "package main\nfunc f() int { return 9223372036854775808 }; func main() {}",
-            FaultKind::ConstRange,
-            2,
-            23,
-        ),
-        (
-            "package main\nfunc main() { a, b := 1, 9223372036854775808 }",
-            FaultKind::ConstRange,
-            2,
-            26,
-        ),
-        (
-            "package main\nfunc f(a f) {}; func main() {}",
-            FaultKind::BadOperand,
-            2,
-            10,
-        ),
-        (
-            "package main\nfunc f() nil { return 1 }; func main() {}",
-            FaultKind::BadOperand,
-            2,
-            10,
-        ),
-        ("package main\nfunc main(a int) {}", FaultKind::NoMain, 1, 1),
-        (
-            "package main\nfunc main() int { return 1 }",
-            FaultKind::NoMain,
-            1,
-            1,
-        ),
-        ("package other\nfunc main() {}", FaultKind::NoMain, 1, 1),
-        (
-            "package main\nfunc f() { println(u) }",
-            FaultKind::NoMain,
-            1,
-            1,
-        ),
-        (
-            "package main\nfunc f(a bool) {}; func main() {}",
+            Stmt::For(at(60), counting, Vec::new(alloc)),
             FaultKind::OutOfProfile,
-            2,
-            10,
+            60,
         ),
-        (
-            "package main\nfunc len() {}; func main() {}",
-            FaultKind::OutOfProfile,
-            2,
-            6,
-        ),
-        (
-            "package main\nfunc f() (_ int) { return }; func main() {}",
-            FaultKind::OutOfProfile,
-            2,
-            11,
-        ),
-        (
-            "package main\nfunc f() {}; func main() { a := f }",
-            FaultKind::OutOfProfile,
-            2,
-            33,
-        ),
-        (
-            "package main\nfunc main() { a := _ }",
-            FaultKind::OutOfProfile,
-            2,
-            20,
-        ),
-        (
-            "package main\nfunc main() { main() }",
-            FaultKind::OutOfProfile,
-            2,
-            15,
-        ),
-        (
-            "package main\nfunc f(len int) {}; func main() {}",
-            FaultKind::OutOfProfile,
-            2,
-            8,
-        ),
-        (
-            "package main\nfunc main() { f() }; func f(a bool) {}",
-            FaultKind::OutOfProfile,
-            2,
-            31,
-        ),
+        (Stmt::Break(at(60)), FaultKind::OutOfProfile, 60),
     ];
-    for (text, kind, line, col) in table {
-        assert_eq!(rt;
-            fault_of(rt.alloc(), text.as_bytes()),
-            Some((kind, line, col)),
-            "of {text}"
-        );
+    for (statement, kind, offset) in table {
+        let main = main_with(alloc, statement)?;
+        let tree = tree(alloc, second_of_two(alloc)?, main)?;
+        assert!(rt; fails(alloc, &tree, kind, offset));
     }
-    Ok(())
-}
-
-#[test]
-fn accepted_texts(rt: HostRuntime) -> Result<(), Fail> {
-    let table: [&str; 6] = [
-        "package main\nfunc two(n int) (q, r int) { q = n + 1; r = n * 2; return }; func main() { a, b := two(5); a, b = b, a; println(a, b) }",
-        "package main\nfunc f(_ int, _ int) {}; func _() int { return 1 }; func main() { f(1, 2) }",
-        "package main\nfunc g() (int, int) { return 1, 2 }; func f(a, b int) {}; func main() { f(g()); _, _ = g(); (g()) }",
-        "package main\nfunc f() int { for { } }; func main() { f() }",
-        "package main\nfunc f(n int) int { if n == 0 { return 0 } else { return 1 + f(n - 1) } }; func main() { println(f(3)) }",
-        "package main\nfunc main() { a := 1; { a, b := 2, a; println(a, b) } }",
-    ];
-    for text in table {
-        assert!(rt; is_accepted(rt.alloc(), text.as_bytes()), "{text}");
-    }
-    Ok(())
-}
-
-/// The 4,097th function stands at its name.
-#[test]
-fn too_many_functions(rt: HostRuntime) -> Result<(), Fail> {
-    let mut text = String::from_str(rt.alloc(), "package main\nfunc main() {}\n")?;
-    for _ in 1..4096 {
-        text.push_str("func _() {}\n")?;
-    }
-    assert!(rt; is_accepted(rt.alloc(), text.as_bytes()));
-    text.push_str("func _() {}\n")?;
-    assert_eq!(rt;
-        fault_of(rt.alloc(), text.as_bytes()),
-        Some((FaultKind::TooLarge, 4098, 6))
-    );
     Ok(())
 }

@@ -1,10 +1,10 @@
 use Rattle.std.proofs.Common.{◌≡◌, ◌∙◌, ℕ, List, Err, subst}
-use Rattle.parse_go.specs.Tree.{Syntax, syntax_of}
+use Rattle.syntax.specs.Declarations.{Syntax, syntax_of}
 use Rattle.typed.specs.View.{program_of}
 use Rattle.parse_go.specs.Grammar.{IsText}
 use Rattle.parse_go.specs.Faults.{GivesTree}
 use Rattle.compile.specs.Faults.{of_scan, of_parse, of_typing, of_layout}
-use Rattle.compile.proofs.Stages.{only_err, refused_err, has_tree, scan_only, parse_only, type_only, program_only, layout_only, type_refuses, layout_refuses, names_in, fits_all}
+use Rattle.compile.proofs.Stages.{only_err, refused_err, has_tree, scan_only, parse_only, type_only, program_only, layout_only, type_refuses, layout_refuses, fits_all}
 use Rattle.compile.proofs.compiling.compile.Goals as goal
 
 pub returns-in_err-tokens-clause-only : goal.returns-in_err-tokens-clause-only
@@ -46,7 +46,7 @@ returns-in_err-layouts-clause-refused c =
     let q = c.in_ok-program.program in
     let f = c.in_err-layouts.field-0.0 in
     refused_err text _ (of_layout f) c.from_residual-in_err-layouts.ensures.1
-    (layout_refuses text tree q f (has_tree text c.in_ok-tokens.tokens tree c.in_ok-tokens.ensures.exact c.in_ok-tokens.ensures.text c.in_ok-tree.ensures.found) c.in_ok-program.ensures.typed (c.in_ok-program.ensures.places ∙ names_in c.in_ok-tree.tree.funcs.items) c.in_err-layouts.ensures.fault)
+    (layout_refuses text tree q f (has_tree text c.in_ok-tokens.tokens tree c.in_ok-tokens.ensures.exact c.in_ok-tokens.ensures.text c.in_ok-tree.ensures.found) c.in_ok-program.ensures.typed c.in_ok-program.ensures.places c.in_err-layouts.ensures.fault)
 
 pub returns-in_err-layouts-clause-only : goal.returns-in_err-layouts-clause-only
 returns-in_err-layouts-clause-only c =

@@ -1,7 +1,7 @@
 use Rattle.std.proofs.Common.{arith}
 use Rattle.parse_go.specs.Signatures.{file_in}
 use Rattle.parse_go.specs.States.{state_of}
-use Rattle.parse_go.specs.Terminals.{terminals_of}
+use Rattle.parse_expressions.specs.Terminals.{terminals_of}
 use Rattle.parse_go.proofs.Runs.{from_start}
 use Rattle.parse_go.proofs.Places.{token_read, token_failed, end_failed, end_found, end_only}
 use Rattle.parse_go.proofs.parsing.file_of.Goals as goal

@@ -1,5 +1,5 @@
 use Rattle.std.proofs.Common.{◌≤◌, length}
-use Rattle.parse_go.specs.Terminals.{terminals_of}
+use Rattle.parse_expressions.specs.Terminals.{terminals_of}
 use Rattle.parse_go.specs.States.{state_of}
 use Rattle.parse_go.proofs.Runs.{ReachedAt}
 use Rattle.parse_go.proofs.parsing.file_of.Given as goal

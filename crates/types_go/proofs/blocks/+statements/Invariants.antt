@@ -1,7 +1,7 @@
 use Rattle.std.proofs.Common.{drop}
 use Rattle.std.specs.Option.{option_map}
-use Rattle.parse_go.specs.Tree.{stms_of}
-use Rattle.types_go.specs.Scope.{scope_of}
+use Rattle.syntax.specs.Statements.{stms_of}
+use Rattle.expression_types.specs.Scope.{scope_of}
 use Rattle.types_go.proofs.Sequences.{KeptStatements}
 use Rattle.types_go.proofs.blocks.+statements.Given as goal
 

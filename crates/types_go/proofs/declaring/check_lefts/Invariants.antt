@@ -1,14 +1,15 @@
 use Rattle.std.proofs.Common.{◌≡◌, drop, map}
 use Rattle.std.specs.Option.{option_map}
+use Rattle.syntax.specs.Expressions.{exs_of}
 use Rattle.typed.specs.View.{left_of}
-use Rattle.types_go.specs.Scope.{scope_of}
+use Rattle.expression_types.specs.Scope.{scope_of}
 use Rattle.types_go.specs.Statements.{lefts}
 use Rattle.types_go.specs.StatementFaults.{LeftsFail}
-use Rattle.types_go.proofs.Items.{joined}
-use Rattle.types_go.proofs.Leasts.{Kept}
+use Rattle.expression_types.proofs.Items.{joined}
+use Rattle.expression_types.proofs.Leasts.{Kept}
 use Rattle.types_go.proofs.declaring.check_lefts.Given as goal
 
-abbrev pub invariant-loop-name : goal.invariant-loop-name
-invariant-loop-name l =
-    (lefts l.text (scope_of l.scope) l.names ≡ joined (option_map (λ v. map left_of v.items) l.lefts) (lefts l.text (scope_of l.scope) (drop l.name-index l.names)))
-    × Kept (LeftsFail l.text (scope_of l.scope) l.names) (LeftsFail l.text (scope_of l.scope) (drop l.name-index l.names)) l.fault
+abbrev pub invariant-loop-e : goal.invariant-loop-e
+invariant-loop-e l =
+    (lefts l.text (scope_of l.scope) (exs_of l.es) ≡ joined (option_map (λ v. map left_of v.items) l.lefts) (lefts l.text (scope_of l.scope) (exs_of (drop l.e-index l.es))))
+    × Kept (LeftsFail l.text (scope_of l.scope) (exs_of l.es)) (LeftsFail l.text (scope_of l.scope) (exs_of (drop l.e-index l.es))) l.fault

@@ -1,10 +1,10 @@
 use Rattle.std.proofs.Common.{◌≡◌, [], ◌∷◌, rules}
 use Rattle.std.specs.Prelude.{not}
 use Rattle.std.specs.Prelude.{is_some}
-use Rattle.types_go.specs.Scope.{scope_of}
+use Rattle.expression_types.specs.Scope.{scope_of}
 use Rattle.types_go.specs.Statements.{are_distinct, has_all}
 use Rattle.types_go.specs.StatementFaults.{TwiceFails}
-use Rattle.types_go.proofs.Leasts.{least_join}
+use Rattle.expression_types.proofs.Leasts.{least_join}
 use Rattle.types_go.proofs.Leaves.{where_least}
 use Rattle.types_go.proofs.Lines.{tested_none, not_twice}
 use Rattle.types_go.proofs.SettledStatements.{distinct_tested}

@@ -1,16 +1,16 @@
 use Rattle.std.proofs.Common.{◌≡◌, [], ◌∷◌, ◌++◌, ◌+◌, List, cond, drop, map, get_or, sym, ap, ◌∙◌, subst, refl, arith, length, append-nil}
 use Rattle.std.specs.Option.{option_map}
-use Rattle.parse_go.specs.declared.tree.Name.{Name}
-use Rattle.parse_go.specs.Tree.{spelled}
+use Rattle.syntax.specs.declared.expression.Name.{Name}
+use Rattle.syntax.specs.Expressions.{spelled}
 use Rattle.typed.specs.View.{left_of as left_view}
-use Rattle.types_go.specs.Profile.{is_blank, is_reserved}
-use Rattle.types_go.specs.Scope.{scope_of, declaration, is_here}
+use Rattle.expression_types.specs.Profile.{is_blank, is_reserved}
+use Rattle.expression_types.specs.Scope.{scope_of, declaration, is_here}
 use Rattle.types_go.specs.Statements.{declares, new_left, new_lefts, new_names}
 use Rattle.types_go.specs.StatementFaults.{NewNameFails, NewNamesFail}
-use Rattle.types_go.proofs.Items.{no_name, from_there, nothing_left, joined, joined_start, joined_more, joined_none}
-use Rattle.types_go.specs.Passing.{with_last}
+use Rattle.expression_types.proofs.Items.{no_name, from_there, nothing_left, joined, joined_start, joined_more, joined_none}
+use Rattle.expression_types.specs.Passing.{with_last}
 use Rattle.types_go.proofs.Names.{next_site, next_names}
-use Rattle.types_go.proofs.Leasts.{Kept, kept_start, kept_more, kept_end}
+use Rattle.expression_types.proofs.Leasts.{Kept, kept_start, kept_more, kept_end}
 use Rattle.types_go.proofs.declaring.check_new_lefts.Goals as goal
 
 pub loop-name-init : goal.loop-name-init

@@ -1,11 +1,11 @@
 use Rattle.std.proofs.Common.{◌≡◌, ◌+◌, ◌++◌, drop, map, length}
 use Rattle.std.specs.Option.{option_map}
 use Rattle.typed.specs.View.{left_of}
-use Rattle.types_go.specs.Scope.{scope_of}
+use Rattle.expression_types.specs.Scope.{scope_of}
 use Rattle.types_go.specs.Statements.{new_lefts, new_names}
 use Rattle.types_go.specs.StatementFaults.{NewNamesFail}
-use Rattle.types_go.proofs.Items.{joined}
-use Rattle.types_go.proofs.Leasts.{Kept}
+use Rattle.expression_types.proofs.Items.{joined}
+use Rattle.expression_types.proofs.Leasts.{Kept}
 use Rattle.types_go.proofs.declaring.check_new_lefts.Given as goal
 
 abbrev pub invariant-loop-name : goal.invariant-loop-name

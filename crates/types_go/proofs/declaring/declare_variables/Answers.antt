@@ -1,8 +1,8 @@
 use Rattle.std.proofs.Common.{◌≡◌, [], ◌∷◌, ◌+◌, List, drop, get_or, sym, ap, ◌∙◌, arith}
-use Rattle.parse_go.specs.declared.tree.Name.{Name}
-use Rattle.types_go.specs.Scope.{scope_of}
+use Rattle.syntax.specs.declared.expression.Name.{Name}
+use Rattle.expression_types.specs.Scope.{scope_of}
 use Rattle.types_go.specs.Statements.{with_variables}
-use Rattle.types_go.proofs.Items.{no_name, from_there, nothing_left}
+use Rattle.expression_types.proofs.Items.{no_name, from_there, nothing_left}
 use Rattle.types_go.proofs.declaring.declare_variables.Goals as goal
 
 pub loop-name-preserved : goal.loop-name-preserved

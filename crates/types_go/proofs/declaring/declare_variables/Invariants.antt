@@ -1,5 +1,5 @@
 use Rattle.std.proofs.Common.{◌≡◌, drop}
-use Rattle.types_go.specs.Scope.{scope_of}
+use Rattle.expression_types.specs.Scope.{scope_of}
 use Rattle.types_go.specs.Statements.{with_variables}
 use Rattle.types_go.proofs.declaring.declare_variables.Given as goal
 

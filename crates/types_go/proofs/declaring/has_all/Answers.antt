@@ -1,9 +1,9 @@
 use Rattle.std.proofs.Common.{◌≡◌, [], ◌∷◌, ◌+◌, List, drop, get_or, sym, ap, ◌∙◌, refl, arith}
 use Rattle.std.specs.Prelude.{◌&&◌}
-use Rattle.parse_go.specs.declared.tree.Name.{Name}
-use Rattle.types_go.specs.Scope.{scope_of}
+use Rattle.syntax.specs.declared.expression.Name.{Name}
+use Rattle.expression_types.specs.Scope.{scope_of}
 use Rattle.types_go.specs.Statements.{has_all}
-use Rattle.types_go.proofs.Items.{no_name, from_there, nothing_left, and_true}
+use Rattle.expression_types.proofs.Items.{no_name, from_there, nothing_left, and_true}
 use Rattle.types_go.proofs.declaring.has_all.Goals as goal
 
 pub loop-name-init : goal.loop-name-init

@@ -1,12 +1,12 @@
 use Rattle.std.proofs.Common.{◌≡◌, [], ◌∷◌, ◌+◌, List, drop, get_or, subst, arith}
-use Rattle.parse_go.specs.declared.tree.Name.{Name}
-use Rattle.parse_go.specs.Tree.{spelled}
-use Rattle.types_go.specs.declared.fault.FaultKind.TheVariants.{Redeclared}
+use Rattle.syntax.specs.declared.expression.Name.{Name}
+use Rattle.syntax.specs.Expressions.{spelled}
+use Rattle.expression_types.specs.declared.fault.FaultKind.TheVariants.{Redeclared}
 use Rattle.types_go.specs.Statements.{noted, is_noted}
-use Rattle.types_go.specs.Faults.{fault}
+use Rattle.expression_types.specs.Faults.{fault}
 use Rattle.types_go.specs.StatementFaults.{FailsWhere, TwiceFails}
-use Rattle.types_go.proofs.Items.{no_name, from_there, nothing_left}
-use Rattle.types_go.proofs.Leasts.{Kept, kept_start, kept_more, kept_end}
+use Rattle.expression_types.proofs.Items.{no_name, from_there, nothing_left}
+use Rattle.expression_types.proofs.Leasts.{Kept, kept_start, kept_more, kept_end}
 use Rattle.types_go.proofs.Leaves.{where_least}
 use Rattle.types_go.proofs.declaring.twice_fault.Goals as goal
 

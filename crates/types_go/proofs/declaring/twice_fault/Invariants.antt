@@ -1,6 +1,6 @@
 use Rattle.std.proofs.Common.{drop, [], ◌∷◌}
 use Rattle.types_go.specs.StatementFaults.{TwiceFails}
-use Rattle.types_go.proofs.Leasts.{Kept}
+use Rattle.expression_types.proofs.Leasts.{Kept}
 use Rattle.types_go.proofs.declaring.twice_fault.Given as goal
 
 abbrev pub invariant-loop-name : goal.invariant-loop-name

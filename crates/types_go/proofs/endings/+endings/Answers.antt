@@ -1,8 +1,8 @@
 use Rattle.std.proofs.Common.{◌≡◌, [], ◌∷◌, ◌+◌, List, drop, sym, ap, ◌∙◌, arith}
-use Rattle.parse_go.specs.declared.tree.Stmt.{Stmt}
-use Rattle.parse_go.specs.Tree.{stms_of}
+use Rattle.syntax.specs.declared.statement.Stmt.{Stmt}
+use Rattle.syntax.specs.Statements.{stms_of}
 use Rattle.types_go.specs.Statements.{ends_after}
-use Rattle.types_go.proofs.Items.{from_one, nothing_left}
+use Rattle.expression_types.proofs.Items.{from_one, nothing_left}
 use Rattle.types_go.proofs.endings.+endings.Goals as goal
 
 pub ends_in_terminating-loop-s-preserved : goal.ends_in_terminating-loop-s-preserved

@@ -1,5 +1,5 @@
 use Rattle.std.proofs.Common.{◌≡◌, drop, false}
-use Rattle.parse_go.specs.Tree.{stms_of}
+use Rattle.syntax.specs.Statements.{stms_of}
 use Rattle.types_go.specs.Statements.{ends_after}
 use Rattle.types_go.proofs.endings.+endings.Given as goal
 

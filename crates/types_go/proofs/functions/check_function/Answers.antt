@@ -1,12 +1,7 @@
-use Rattle.types_go.proofs.Leasts.{least_join}
-use Rattle.types_go.proofs.Leaves.{where_least}
 use Rattle.types_go.proofs.functions.check_function.Goals as goal
 
-pub returns-clause-fault : goal.returns-clause-fault
-returns-clause-fault c =
-    rw (c.lesser.ensures, c.lesser-head_fault.ensures, c.lesser-body_fault.ensures, c.fault_where.ensures, c.may_end-ends.ensures)
-    (least_join _ _ _ _ (least_join _ _ c.check_head-head.result.fault c.in_ok-types.types.fault c.check_head-head.ensures.fault c.in_ok-types.ensures.fault)
-    (least_join _ _ c.in_ok-parts.parts.fault _ c.in_ok-parts.ensures.fault (where_least _ _)))
+pub returns-in-Some-clause-fault : goal.returns-in-Some-clause-fault
+returns-in-Some-clause-fault c = rw (c.in-Some.is) c.check_with_body.ensures.fault
 
-pub returns-clause-pos : goal.returns-clause-pos
-returns-clause-pos c = c.func_where.ensures.pos c.args.f.now.name.pos c.in_ok-parts.ensures.pos
+pub returns-in-None-clause-fault : goal.returns-in-None-clause-fault
+returns-in-None-clause-fault c = rw (c.in-None.is) c.check_external.ensures.fault

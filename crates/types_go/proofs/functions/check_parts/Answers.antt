@@ -1,20 +1,28 @@
-use Rattle.std.proofs.Common.{◌≡◌, List, map, ap, ◌∙◌, subst, arith, length}
+use Rattle.std.proofs.Common.{◌≡◌, ℕ, List, Some, map, ap, ◌∙◌, subst, arith, length}
+use Rattle.std.specs.Prelude.{◌==◌, ◌||◌}
 use Rattle.std.specs.Option.{option_map}
-use Rattle.types_go.specs.Least.{IsLeast, lesser}
-use Rattle.parse_go.specs.declared.tree.Param.{Param}
-use Rattle.parse_go.specs.Tree.{function_of, stms_of}
-use Rattle.parse_go.specs.declared.tree.Stmt.{Stmt}
+use Rattle.std.proofs.lemmas.List.{length-map}
+use Rattle.syntax.specs.Statements.{stms_of}
+use Rattle.syntax.specs.Declarations.{body_of as body_view, Function as TreeFunction, function_of}
+use Rattle.syntax.specs.declared.statement.Stmt.{Stmt}
 use Rattle.typed.specs.View.{site_in, sts_of}
-use Rattle.types_go.specs.declared.entries.Role.TheVariants.{Parameter}
-use Rattle.types_go.specs.Scope.{Scope, scope_of, opened, closed}
+use Rattle.expression_types.specs.Least.{IsLeast, lesser}
+use Rattle.expression_types.specs.Scope.{Scope, scope_of, opened, closed}
+use Rattle.types_go.specs.declared.slots.Slot.{Slot}
+use Rattle.types_go.specs.declared.entries.Role.TheVariants.{Parameter, Result}
+use Rattle.types_go.specs.declared.statements.Returns.{Returns}
 use Rattle.types_go.specs.Statements.{statements, behind_all}
 use Rattle.types_go.specs.StatementFaults.{FailsInStatements}
-use Rattle.types_go.specs.Functions.{role_of, entries, behind_entries, behind_params, body_scope, behind_function, returns_of, body_of}
+use Rattle.types_go.specs.Functions.{params_of, is_named, slot_of, slots_of, entries, param_entries, result_entries, behind_entries, behind_params, body_scope, behind_body, returns_of, body_of}
 use Rattle.types_go.specs.FunctionFaults.{EntriesFail}
 use Rattle.types_go.proofs.Growth.{grows_entries, grows_all}
-use Rattle.types_go.proofs.Leasts.{least_join}
+use Rattle.expression_types.proofs.Leasts.{least_join}
 use Rattle.types_go.proofs.Lines.{parts_of}
 use Rattle.types_go.proofs.functions.check_parts.Goals as goal
+
+-- a number of results that was counted
+returns_is : (g : TreeFunction) (r : Returns) (n : ℕ) → r ≡ record { count = n; may_be_bare = (n == 0) || is_named g.results } → n ≡ length (params_of g.results) → r ≡ returns_of g
+returns_is g r n is n_is = is ∙ ap (λ m. record { count = m; may_be_bare = (m == 0) || is_named g.results }) n_is
 
 pub check_stmts-requires : goal.check_stmts-requires
 check_stmts-requires c =
@@ -23,7 +31,7 @@ check_stmts-requires c =
       arith,
       c.requires,
       ap (λ (v : Scope). length v.blocks) c.in_ok-open.ensures,
-      (grows_entries text (scope_of c.open.new.scope) c.deref.result.now).depth,
+      (grows_entries text (scope_of c.open.new.scope) c.deref-2.result.now).depth,
       ap (λ (v : Scope). length v.blocks) c.in_ok-params.ensures.scope,
       (grows_entries text (scope_of c.check_entries.new.scope) c.deref-3.result.now).depth,
       ap (λ (v : Scope). length v.blocks) c.in_ok-results.ensures.scope,
@@ -36,12 +44,12 @@ close-requires c =
       arith,
       c.requires,
       ap (λ (v : Scope). length v.blocks) c.in_ok-open.ensures,
-      (grows_entries text (scope_of c.open.new.scope) c.deref.result.now).depth,
+      (grows_entries text (scope_of c.open.new.scope) c.deref-2.result.now).depth,
       ap (λ (v : Scope). length v.blocks) c.in_ok-params.ensures.scope,
       (grows_entries text (scope_of c.check_entries.new.scope) c.deref-3.result.now).depth,
       ap (λ (v : Scope). length v.blocks) c.in_ok-results.ensures.scope,
       (grows_all text (scope_of c.check_entries-2.new.scope) (stms_of c.deref-4.result.now)).depth,
-      ap (λ (v : Scope). length v.blocks) c.in_ok-body.ensures.scope,
+      ap (λ (v : Scope). length v.blocks) c.in_ok-lines.ensures.scope,
     )
 
 pub returns-clause-func : goal.returns-clause-func
@@ -49,53 +57,62 @@ returns-clause-func c =
     let text = c.args.text.now in
     let s = scope_of c.args.scope.now in
     let g = function_of c.args.f.now in
+    let b = body_view c.args.body.now in
     let params = option_map (λ v. map site_in v.items) c.in_ok-params.params.entries in
     let results = option_map (λ v. map site_in v.items) c.in_ok-results.results.entries in
-    let body = option_map (λ v. sts_of v.items) c.in_ok-body.body.statements in
+    let body = option_map (λ v. sts_of v.items) c.in_ok-lines.lines.statements in
+    let ps_are : c.deref-2.result.now ≡ slots_of text g.params = c.deref-2.ensures.value ∙ c.in_ok-param_slots.ensures in
+    let rs_are : c.deref-3.result.now ≡ slots_of text g.results = c.deref-3.ensures.value ∙ c.in_ok-result_slots.ensures in
     let open1 : scope_of c.open.new.scope ≡ opened s = c.in_ok-open.ensures in
     let behind1 : scope_of c.check_entries.new.scope ≡ behind_params text s g =
-    c.in_ok-params.ensures.scope ∙ ap (λ v. behind_entries text v c.deref.result.now) open1 ∙ ap (λ (l : List Param). behind_entries text (opened s) l) c.deref.ensures.value in
+    c.in_ok-params.ensures.scope ∙ ap (λ v. behind_entries text v c.deref-2.result.now) open1 ∙ ap (λ (l : List Slot). behind_entries text (opened s) l) ps_are in
     let behind2 : scope_of c.check_entries-2.new.scope ≡ body_scope text s g =
-    c.in_ok-results.ensures.scope ∙ ap (λ v. behind_entries text v c.deref-3.result.now) behind1 ∙ ap (λ (l : List Param). behind_entries text (behind_params text s g) l) c.deref-3.ensures.value in
-    let ps : params ≡ entries text Parameter (opened s) g.params =
-    c.in_ok-params.ensures.entries ∙ ap (λ v. entries text Parameter v c.deref.result.now) open1 ∙ ap (λ (l : List Param). entries text Parameter (opened s) l) c.deref.ensures.value in
-    let role : c.role_of.result ≡ role_of g.results = c.role_of.ensures ∙ ap role_of c.deref-2.ensures.value in
-    let rs : results ≡ entries text (role_of g.results) (behind_params text s g) g.results =
-    c.in_ok-results.ensures.entries ∙ ap (λ x. entries text x (scope_of c.check_entries.new.scope) c.deref-3.result.now) role
-    ∙ ap (λ v. entries text (role_of g.results) v c.deref-3.result.now) behind1 ∙ ap (λ (l : List Param). entries text (role_of g.results) (behind_params text s g) l) c.deref-3.ensures.value in
-    let typed : body ≡ body_of text s g =
-    c.in_ok-body.ensures.statements ∙ ap (λ x. statements text x (scope_of c.check_entries-2.new.scope) (stms_of c.deref-4.result.now)) c.returns_of.ensures
+    c.in_ok-results.ensures.scope ∙ ap (λ v. behind_entries text v c.deref-3.result.now) behind1 ∙ ap (λ (l : List Slot). behind_entries text (behind_params text s g) l) rs_are in
+    let ps : params ≡ param_entries text s g =
+    c.in_ok-params.ensures.entries ∙ ap (λ v. entries text Parameter v c.deref-2.result.now) open1 ∙ ap (λ (l : List Slot). entries text Parameter (opened s) l) ps_are in
+    let rs : results ≡ result_entries text s g =
+    c.in_ok-results.ensures.entries ∙ ap (λ v. entries text Result v c.deref-3.result.now) behind1 ∙ ap (λ (l : List Slot). entries text Result (behind_params text s g) l) rs_are in
+    let counted : c.deref.result.now ≡ slots_of text g.results = c.deref.ensures.value ∙ c.in_ok-result_slots.ensures in
+    let count : length c.deref.result.now ≡ length (params_of g.results) = ap length counted ∙ length-map (params_of g.results) (slot_of text) in
+    let returns : c.returns_of-returns.result ≡ returns_of g = returns_is g c.returns_of-returns.result (length c.deref.result.now) c.returns_of-returns.ensures count in
+    let typed : body ≡ body_of text s g b =
+    c.in_ok-lines.ensures.statements ∙ ap (λ x. statements text x (scope_of c.check_entries-2.new.scope) (stms_of c.deref-4.result.now)) returns
     ∙ ap (λ v. statements text (returns_of g) v (stms_of c.deref-4.result.now)) behind2 ∙ ap (λ (l : List Stmt). statements text (returns_of g) (body_scope text s g) (stms_of l)) c.deref-4.ensures.value in
-    let whole : scope_of c.close.new.scope ≡ behind_function text s g =
-    c.close.ensures ∙ ap closed (c.in_ok-body.ensures.scope ∙ ap (λ v. behind_all text v (stms_of c.deref-4.result.now)) behind2 ∙ ap (λ (l : List Stmt). behind_all text (body_scope text s g) (stms_of l)) c.deref-4.ensures.value) in
+    let whole : scope_of c.close.new.scope ≡ behind_body text s g (Some b) =
+    c.close.ensures ∙ ap closed (c.in_ok-lines.ensures.scope ∙ ap (λ v. behind_all text v (stms_of c.deref-4.result.now)) behind2 ∙ ap (λ (l : List Stmt). behind_all text (body_scope text s g) (stms_of l)) c.deref-4.ensures.value) in
     let first : c.site_count-first.result ≡ length s.sites = c.site_count-first.ensures in
     let last0 : c.site_count.result ≡ length (scope_of c.close.new.scope).sites = c.site_count.ensures in
-    let last : c.site_count.result ≡ length (behind_function text s g).sites = last0 ∙ ap (λ (v : Scope). length v.sites) whole in
-    c.in_ok-func.ensures.func ∙ parts_of text s g c.site_count-first.result c.site_count.result params results body first last ps rs typed
+    let last : c.site_count.result ≡ length (behind_body text s g (Some b)).sites = last0 ∙ ap (λ (v : Scope). length v.sites) whole in
+    let slots : c.deref-5.result.now ≡ slots_of text g.results = c.deref-5.ensures.value ∙ c.in_ok-result_slots.ensures in
+    c.in_ok-func.ensures.func ∙ parts_of text s g b c.deref-5.result.now c.site_count-first.result c.site_count.result params results body slots first last ps rs typed
 
 pub returns-clause-fault : goal.returns-clause-fault
 returns-clause-fault c =
     let text = c.args.text.now in
     let s = scope_of c.args.scope.now in
     let g = function_of c.args.f.now in
+    let b = body_view c.args.body.now in
     let params = c.in_ok-params.params.fault in
     let results = c.in_ok-results.results.fault in
-    let body = c.in_ok-body.body.fault in
+    let lines = c.in_ok-lines.lines.fault in
+    let ps_are : c.deref-2.result.now ≡ slots_of text g.params = c.deref-2.ensures.value ∙ c.in_ok-param_slots.ensures in
+    let rs_are : c.deref-3.result.now ≡ slots_of text g.results = c.deref-3.ensures.value ∙ c.in_ok-result_slots.ensures in
     let open1 : scope_of c.open.new.scope ≡ opened s = c.in_ok-open.ensures in
     let behind1 : scope_of c.check_entries.new.scope ≡ behind_params text s g =
-    c.in_ok-params.ensures.scope ∙ ap (λ v. behind_entries text v c.deref.result.now) open1 ∙ ap (λ (l : List Param). behind_entries text (opened s) l) c.deref.ensures.value in
+    c.in_ok-params.ensures.scope ∙ ap (λ v. behind_entries text v c.deref-2.result.now) open1 ∙ ap (λ (l : List Slot). behind_entries text (opened s) l) ps_are in
     let behind2 : scope_of c.check_entries-2.new.scope ≡ body_scope text s g =
-    c.in_ok-results.ensures.scope ∙ ap (λ v. behind_entries text v c.deref-3.result.now) behind1 ∙ ap (λ (l : List Param). behind_entries text (behind_params text s g) l) c.deref-3.ensures.value in
-    let role : c.role_of.result ≡ role_of g.results = c.role_of.ensures ∙ ap role_of c.deref-2.ensures.value in
-    let a : IsLeast (EntriesFail text Parameter (opened s) g.params) params =
-    subst (λ v. IsLeast (EntriesFail text Parameter v g.params) params) open1 (subst (λ (l : List Param). IsLeast (EntriesFail text Parameter (scope_of c.open.new.scope) l) params) c.deref.ensures.value c.in_ok-params.ensures.fault) in
-    let b : IsLeast (EntriesFail text (role_of g.results) (behind_params text s g) g.results) results =
-    subst (λ x. IsLeast (EntriesFail text x (behind_params text s g) g.results) results) role
-    (subst (λ v. IsLeast (EntriesFail text c.role_of.result v g.results) results) behind1 (subst (λ (l : List Param). IsLeast (EntriesFail text c.role_of.result (scope_of c.check_entries.new.scope) l) results) c.deref-3.ensures.value c.in_ok-results.ensures.fault)) in
-    let d : IsLeast (FailsInStatements text (returns_of g) (body_scope text s g) g.body) body =
-    subst (λ x. IsLeast (FailsInStatements text x (body_scope text s g) g.body) body) c.returns_of.ensures
-    (subst (λ v. IsLeast (FailsInStatements text c.returns_of.result v g.body) body) behind2
-    (subst (λ (l : List Stmt). IsLeast (FailsInStatements text c.returns_of.result (scope_of c.check_entries-2.new.scope) (stms_of l)) body) c.deref-4.ensures.value c.in_ok-body.ensures.fault)) in
+    c.in_ok-results.ensures.scope ∙ ap (λ v. behind_entries text v c.deref-3.result.now) behind1 ∙ ap (λ (l : List Slot). behind_entries text (behind_params text s g) l) rs_are in
+    let counted : c.deref.result.now ≡ slots_of text g.results = c.deref.ensures.value ∙ c.in_ok-result_slots.ensures in
+    let count : length c.deref.result.now ≡ length (params_of g.results) = ap length counted ∙ length-map (params_of g.results) (slot_of text) in
+    let returns : c.returns_of-returns.result ≡ returns_of g = returns_is g c.returns_of-returns.result (length c.deref.result.now) c.returns_of-returns.ensures count in
+    let x : IsLeast (EntriesFail text Parameter (opened s) (slots_of text g.params)) params =
+    subst (λ v. IsLeast (EntriesFail text Parameter v (slots_of text g.params)) params) open1 (subst (λ (l : List Slot). IsLeast (EntriesFail text Parameter (scope_of c.open.new.scope) l) params) ps_are c.in_ok-params.ensures.fault) in
+    let y : IsLeast (EntriesFail text Result (behind_params text s g) (slots_of text g.results)) results =
+    subst (λ v. IsLeast (EntriesFail text Result v (slots_of text g.results)) results) behind1 (subst (λ (l : List Slot). IsLeast (EntriesFail text Result (scope_of c.check_entries.new.scope) l) results) rs_are c.in_ok-results.ensures.fault) in
+    let z : IsLeast (FailsInStatements text (returns_of g) (body_scope text s g) b.statements) lines =
+    subst (λ q. IsLeast (FailsInStatements text q (body_scope text s g) b.statements) lines) returns
+    (subst (λ v. IsLeast (FailsInStatements text c.returns_of-returns.result v b.statements) lines) behind2
+    (subst (λ (l : List Stmt). IsLeast (FailsInStatements text c.returns_of-returns.result (scope_of c.check_entries-2.new.scope) (stms_of l)) lines) c.deref-4.ensures.value c.in_ok-lines.ensures.fault)) in
     rw (c.lesser-fault.ensures, c.lesser.ensures)
-    (least_join _ (FailsInStatements text (returns_of g) (body_scope text s g) g.body) (lesser params results) body
-    (least_join (EntriesFail text Parameter (opened s) g.params) (EntriesFail text (role_of g.results) (behind_params text s g) g.results) params results a b) d)
+    (least_join _ (FailsInStatements text (returns_of g) (body_scope text s g) b.statements) (lesser params results) lines
+    (least_join (EntriesFail text Parameter (opened s) (slots_of text g.params)) (EntriesFail text Result (behind_params text s g) (slots_of text g.results)) params results x y) z)

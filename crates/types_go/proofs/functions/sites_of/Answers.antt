@@ -2,7 +2,7 @@ use Rattle.std.proofs.Common.{◌≡◌, [], ◌∷◌, ◌++◌, ◌+◌, List,
 use Rattle.base.specs.declared.ids.SiteId.{SiteId}
 use Rattle.typed.specs.View.{site_in}
 use Rattle.types_go.specs.Functions.{sites_of}
-use Rattle.types_go.proofs.Items.{from_there, nothing_left}
+use Rattle.expression_types.proofs.Items.{from_there, nothing_left}
 use Rattle.types_go.proofs.Sites.{sites_more}
 use Rattle.types_go.proofs.functions.sites_of.Goals as goal
 

@@ -1,13 +1,13 @@
 use Rattle.std.proofs.Common.{◌≡◌, ap, ◌∙◌, subst, length}
-use Rattle.types_go.specs.Least.{IsLeast}
+use Rattle.expression_types.specs.Least.{IsLeast}
 use Rattle.base.specs.declared.pos.Pos.{Pos}
-use Rattle.parse_go.specs.Tree.{exs_of}
-use Rattle.types_go.specs.declared.fault.FaultKind.TheVariants.{ArgCount}
-use Rattle.types_go.specs.Scope.{scope_of}
-use Rattle.types_go.specs.Typing.{seen}
-use Rattle.types_go.specs.Faults.{fault, TakeFails}
+use Rattle.syntax.specs.Expressions.{exs_of}
+use Rattle.expression_types.specs.declared.fault.FaultKind.TheVariants.{ArgCount}
+use Rattle.expression_types.specs.Scope.{scope_of}
+use Rattle.expression_types.specs.Typing.{seen}
+use Rattle.expression_types.specs.Faults.{fault, TakeFails}
 use Rattle.types_go.specs.StatementFaults.{names_place}
-use Rattle.types_go.specs.Passing.{seens}
+use Rattle.expression_types.specs.Passing.{seens}
 use Rattle.types_go.proofs.Lines.{define_least}
 use Rattle.types_go.proofs.statements.check_define.Goals as goal
 
@@ -22,5 +22,5 @@ returns-clause-fault c =
     let taken : IsLeast (TakeFails (fault ArgCount (names_place ns c.args.pos)) (length ns) (seens c.deref.result.now)) c.take_fault-values_fault.result =
     subst (λ (p : Pos). IsLeast (TakeFails (fault ArgCount p) (length ns) (seens c.deref.result.now)) c.take_fault-values_fault.result) c.names_pos.ensures c.take_fault-values_fault.ensures in
     rw (c.lesser-2.ensures, c.lesser-before.ensures, c.lesser.ensures)
-    (define_least text c.args.returns s ns c.args.pos es (seens c.deref.result.now) listed.fault c.take_fault-values_fault.result c.in_ok-left.left.fault c.in_ok-declaration.declaration.fault os
+    (define_least text s ns c.args.pos es (seens c.deref.result.now) listed.fault c.take_fault-values_fault.result c.in_ok-left.left.fault c.in_ok-declaration.declaration.fault os
     c.in_ok-right.ensures.fault taken c.in_ok-left.ensures.fault c.in_ok-declaration.ensures.fault)

@@ -1,13 +1,14 @@
 use Rattle.std.proofs.Common.{◌≡◌}
 use Rattle.std.specs.Option.{option_map}
-use Rattle.parse_go.specs.FirstBytes.{first_place}
-use Rattle.parse_go.specs.Tree.{ex_of}
-use Rattle.types_go.specs.Scope.{scope_of}
-use Rattle.types_go.specs.Typing.{gives}
-use Rattle.types_go.specs.Faults.{Fails}
+use Rattle.syntax.specs.FirstBytes.{first_place}
+use Rattle.syntax.specs.Expressions.{ex_of}
+use Rattle.expression_types.specs.Scope.{scope_of}
+use Rattle.expression_types.specs.Typing.{gives}
+use Rattle.expression_types.specs.Faults.{Fails}
 use Rattle.types_go.specs.StatementFaults.{UseFails}
-use Rattle.types_go.specs.Passing.{gives_of, use_fault}
-use Rattle.types_go.proofs.Leasts.{least_join}
+use Rattle.expression_types.specs.Passing.{gives_of}
+use Rattle.types_go.specs.Passing.{use_fault}
+use Rattle.expression_types.proofs.Leasts.{least_join}
 use Rattle.types_go.proofs.Leaves.{use_least}
 use Rattle.types_go.proofs.statements.check_express.Goals as goal
 

@@ -1,12 +1,12 @@
 use Rattle.std.proofs.Common.{◌≡◌, List, ap, ◌∙◌, subst}
-use Rattle.types_go.specs.Least.{IsLeast}
-use Rattle.parse_go.specs.Tree.{exs_of}
-use Rattle.types_go.specs.Scope.{scope_of}
-use Rattle.types_go.specs.Typing.{Seen, seen}
-use Rattle.types_go.specs.Faults.{FailsInEach}
+use Rattle.expression_types.specs.Least.{IsLeast}
+use Rattle.syntax.specs.Expressions.{exs_of}
+use Rattle.expression_types.specs.Scope.{scope_of}
+use Rattle.expression_types.specs.Typing.{Seen, seen}
+use Rattle.expression_types.specs.Faults.{FailsInEach}
 use Rattle.types_go.specs.StatementFaults.{ReturnFails}
-use Rattle.types_go.specs.Passing.{seens}
-use Rattle.types_go.proofs.Leasts.{least_join}
+use Rattle.expression_types.specs.Passing.{seens}
+use Rattle.expression_types.proofs.Leasts.{least_join}
 use Rattle.types_go.proofs.statements.check_return.Goals as goal
 
 pub returns-clause-fault : goal.returns-clause-fault

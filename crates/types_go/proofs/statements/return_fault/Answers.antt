@@ -1,6 +1,6 @@
 use Rattle.std.proofs.Common.{◌≡◌, false, sym, ◌∙◌, length}
 use Rattle.std.specs.Prelude.{◌==◌}
-use Rattle.types_go.specs.Passing.{seens}
+use Rattle.expression_types.specs.Passing.{seens}
 use Rattle.types_go.proofs.Lines.{return_least}
 use Rattle.types_go.proofs.statements.return_fault.Goals as goal
 

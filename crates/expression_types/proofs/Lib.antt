@@ -1,0 +1,9 @@
+pub mod Decided
+pub mod DecidedValues
+pub mod InForm
+pub mod Items
+pub mod Leasts
+pub mod Leaves
+pub mod Nodes
+pub mod Options
+pub mod Settled

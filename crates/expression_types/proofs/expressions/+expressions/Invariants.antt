@@ -1,0 +1,13 @@
+use Rattle.std.proofs.Common.{◌≡◌, ◌++◌, drop}
+use Rattle.syntax.specs.Expressions.{exs_of}
+use Rattle.expression_types.specs.Scope.{scope_of}
+use Rattle.expression_types.specs.Typing.{seen}
+use Rattle.expression_types.specs.Faults.{FailsInEach}
+use Rattle.expression_types.specs.Passing.{seens}
+use Rattle.expression_types.proofs.Leasts.{Kept}
+use Rattle.expression_types.proofs.expressions.+expressions.Given as goal
+
+abbrev pub invariant-check_list-loop-e : goal.invariant-check_list-loop-e
+invariant-check_list-loop-e l =
+    (seen l.text (scope_of l.scope) (exs_of l.es) ≡ seens l.items.items ++ seen l.text (scope_of l.scope) (exs_of (drop l.e-index l.es)))
+    × Kept (FailsInEach l.text (scope_of l.scope) (exs_of l.es)) (FailsInEach l.text (scope_of l.scope) (exs_of (drop l.e-index l.es))) l.fault

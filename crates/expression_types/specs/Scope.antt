@@ -1,0 +1,73 @@
+-- What the names of a program stand for, at a place of it (Go specification, "Declarations and scope").
+use Rattle.std.specs.Prelude.{ℕ, Bool, List, map, [], ◌∷◌, ◌++◌, length, slice_get, Option, option_and_then, is_some, if◌then◌else◌}
+use Rattle.std.specs.Option.{option_map}
+use Rattle.base.specs.declared.pos.Pos.{Pos}
+use Rattle.names.specs.Blocks.{Blocks, lookup, innermost, insert}
+use Rattle.expression_types.specs.declared.scope.ValueType.{ValueType}
+use Rattle.expression_types.specs.declared.scope.Signature.{Signature as SignatureData}
+use Rattle.expression_types.specs.declared.scope.Declared.{Declared}
+use Rattle.expression_types.specs.declared.scope.Declared.TheVariants.{Variable, Untyped}
+use Rattle.expression_types.specs.declared.scope.Scope.{Scope as ScopeData}
+
+-- the types of a function's parameters and of its results
+pub record Signature : Type 0 where
+  pub params : List ValueType
+  pub results : List ValueType
+
+abbrev pub signature_of : SignatureData → Signature
+signature_of s = record { params = s.params.items; results = s.results.items }
+
+-- the blocks that are open, which number the declarations; the declarations; the places of the variables with a type, each of
+-- which has a site; and the signatures of the functions, where they have one
+pub record Scope : Type 0 where
+  pub blocks : Blocks
+  pub declared : List Declared
+  pub sites : List Pos
+  pub signatures : List (Option Signature)
+
+abbrev pub scope_of : ScopeData → Scope
+scope_of s = record { blocks = s.names; declared = s.declared.items; sites = map (λ site. site.pos) s.sites.items; signatures = map (option_map signature_of) s.signatures.items }
+
+-- what a name stands for
+abbrev pub declaration : Scope → List ℕ → Option Declared
+declaration s name = option_and_then (λ k. slice_get s.declared k) (lookup s.blocks name)
+
+-- whether the innermost block declares a name
+abbrev pub is_here : Scope → List ℕ → Bool
+is_here s name = is_some (innermost s.blocks name)
+
+-- the signature of a function, by its number
+abbrev pub signature : Scope → ℕ → Option Signature
+signature s f = option_and_then (λ o. o) (slice_get s.signatures f)
+
+-- one more declaration, of a name of the innermost block
+abbrev pub with_declaration : Scope → List ℕ → Declared → Scope
+with_declaration s name d = record { blocks = insert s.blocks name (length s.declared); declared = s.declared ++ d ∷ []; sites = s.sites; signatures = s.signatures }
+
+-- one more site, at a place
+abbrev pub with_site : Scope → Pos → Scope
+with_site s at = record { blocks = s.blocks; declared = s.declared; sites = s.sites ++ at ∷ []; signatures = s.signatures }
+
+-- one more variable: with a type it has a site of its own
+abbrev pub with_variable : Bool → Scope → List ℕ → Pos → Scope
+with_variable has_type s name at = if has_type then with_site (with_declaration s name (Variable (record { 0 = length s.sites }))) at else with_declaration s name Untyped
+
+-- one more function, which has a signature or none
+abbrev pub with_signature : Scope → Option Signature → Scope
+with_signature s o = record { blocks = s.blocks; declared = s.declared; sites = s.sites; signatures = s.signatures ++ o ∷ [] }
+
+-- where a block begins
+abbrev pub opened : Scope → Scope
+opened s = record { blocks = [] ∷ s.blocks; declared = s.declared; sites = s.sites; signatures = s.signatures }
+
+abbrev pub outer : Blocks → Blocks
+outer [] = []
+outer (b ∷ bs) = bs
+
+-- behind a block
+abbrev pub closed : Scope → Scope
+closed s = record { blocks = outer s.blocks; declared = s.declared; sites = s.sites; signatures = s.signatures }
+
+-- where no name is declared
+abbrev pub beginning : Scope
+beginning = record { blocks = [] ∷ []; declared = []; sites = []; signatures = [] }

@@ -1,0 +1,42 @@
+//! The types of expressions: what the rules of the language give each, or the first rule that fails in it.
+//!
+//! An expression gives an untyped constant, whose value is exact, or a value of type int, or all the results of a call; a constant takes
+//! the type int where one is wanted and where an int can hold it. All rules are looked at, also behind one that failed, but never one whose
+//! operands gave nothing; of those that fail the one that stands first is reported. `specs/Typing` says what an expression gives in a scope;
+//! `specs/Faults` which rules fail in it, and where. Neither side is made from the other, and the proofs show that exactly one of the two
+//! speaks, where each name has a type.
+//!
+//! A form that is left out of the profile is refused at its first byte.
+#![tactic(auto)]
+
+mod calls;
+mod conditions;
+mod expressions;
+mod fault;
+mod naming;
+mod operand;
+mod operators;
+mod profile;
+mod scope;
+mod type_names;
+mod values;
+
+pub use calls::name_in;
+pub use conditions::{Condition, Test, check_condition, check_test};
+pub use expressions::{Checked, Listed, Single, check_expr, check_list, check_single};
+pub use fault::{Fault, FaultKind, TypeFault, lesser};
+pub use naming::spelled;
+pub use operand::{Callee, Gives, Item, Operand};
+pub use profile::{
+    is_blank, is_int_type, is_main, is_predeclared, is_println, is_reserved, is_type_name,
+    is_value_name,
+};
+pub use scope::{
+    Declared, Scope, Signature, ValueType, add_signature, beginning, close, declaration, declare,
+    declare_variable, is_here, next_site, open, site_behind, site_count,
+};
+pub use type_names::{type_fault, type_in};
+pub use values::{count, count_fault, placed_fault, take_fault, taken};
+
+#[cfg(test)]
+mod tests;

@@ -1,0 +1,157 @@
+//! What names stand for.
+
+ghost use Rattle.std.specs.Prelude.{◌≡◌, ◌<◌, length, OnOk, IfOk, Option, None, Some, if◌then◌else◌, ◌+◌};
+ghost use Rattle.std.specs.Option.{option_map};
+ghost use Rattle.expression_types.specs.Scope.{scope_of, signature_of, declaration, is_here, signature, beginning, with_declaration, with_variable, with_signature, opened, closed};
+
+use base::{FuncId, NoMemory, Pos, SiteId};
+use names::Block;
+use std::alloc::Global;
+use typed::Site;
+
+/// A type of this part.
+#[derive(Clone, Copy, Debug, PartialEq, Eq)]
+pub enum ValueType {
+    Int,
+}
+
+/// The types of a function's parameters and of its results.
+#[derive(Drop)]
+pub struct Signature {
+    pub params: Vec<ValueType>,
+    pub results: Vec<ValueType>,
+}
+
+/// What a name stands for.
+#[derive(Clone, Copy, Debug, PartialEq, Eq)]
+pub enum Declared {
+    /// A variable of type int.
+    Variable(SiteId),
+    /// A variable or constant whose value or type has no type.
+    Untyped,
+    /// A function of the program.
+    Function(FuncId),
+    /// A type of the program.
+    TypeName,
+}
+
+/// The declarations that are in scope: the open blocks number them. And the sites of the variables that have a type, and the
+/// signature of each function, where it has one.
+#[derive(Drop)]
+pub struct Scope {
+    pub names: Block,
+    pub declared: Vec<Declared>,
+    pub sites: Vec<Site>,
+    pub signatures: Vec<Option<Signature>>,
+}
+
+/// Where no name is declared.
+pub fn beginning(alloc: Global) -> Scope
+    ensures { scope_of result ≡ beginning }
+{
+    Scope {
+        names: Block::new(alloc),
+        declared: Vec::new(alloc),
+        sites: Vec::new(alloc),
+        signatures: Vec::new(alloc),
+    }
+}
+
+/// What a name stands for.
+pub fn declaration(scope: &Scope, name: &[u8]) -> Option<Declared>
+    ensures { result ≡ declaration (scope_of scope.now) name.now }
+{
+    let number = scope.names.lookup(name)?;
+    scope.declared.get(number as usize).copied()
+}
+
+/// Whether the innermost block declares a name.
+pub fn is_here(scope: &Scope, name: &[u8]) -> bool
+    ensures { result ≡ is_here (scope_of scope.now) name.now }
+{
+    scope.names.innermost(name).is_some()
+}
+
+/// Declares a name in the innermost block.
+pub fn declare(scope: &mut Scope, name: &[u8], declared: Declared) -> Result<(), NoMemory>
+    ensures { OnOk result (scope_of scope.new ≡ with_declaration (scope_of scope.old) name.now declared) }
+{
+    let Ok(number) = u32::try_from(scope.declared.len()) else {
+        return Err(NoMemory);
+    };
+    scope.names.insert(name, number)?;
+    scope.declared.push(declared)?;
+    Ok(())
+}
+
+/// Declares a function with the next number, by its signature if it has one.
+pub fn add_signature(scope: &mut Scope, signature: Option<Signature>) -> Result<(), NoMemory>
+    ensures { OnOk result (scope_of scope.new ≡ with_signature (scope_of scope.old) (option_map signature_of signature)) }
+{
+    scope.signatures.push(signature)?;
+    Ok(())
+}
+
+/// Opens a block.
+pub fn open(scope: &mut Scope) -> Result<(), NoMemory>
+    ensures { OnOk result (scope_of scope.new ≡ opened (scope_of scope.old)) }
+{
+    scope.names.open()
+}
+
+/// Closes the innermost block, outside of which another one is open.
+pub fn close(scope: &mut Scope)
+    requires { 1 < length scope.old.names }
+    ensures { scope_of scope.new ≡ closed (scope_of scope.old) }
+{
+    scope.names.close();
+}
+
+/// How many sites there are.
+pub fn site_count(scope: &Scope) -> usize
+    ensures { result ≡ length (scope_of scope.now).sites }
+{
+    scope.sites.len()
+}
+
+/// The number of the next site.
+pub fn next_site(scope: &Scope) -> Result<SiteId, NoMemory>
+    ensures { IfOk result (λ site. site.0 ≡ length (scope_of scope.now).sites) }
+{
+    match u32::try_from(scope.sites.len()) {
+        Ok(number) => Ok(SiteId(number)),
+        Err(_) => Err(NoMemory),
+    }
+}
+
+/// The number of the site behind the next so many.
+pub fn site_behind(scope: &Scope, before: usize) -> Result<SiteId, NoMemory>
+    ensures { IfOk result (λ site. site.0 ≡ length (scope_of scope.now).sites + before) }
+{
+    let Some(place) = scope.sites.len().checked_add(before) else {
+        return Err(NoMemory);
+    };
+    match u32::try_from(place) {
+        Ok(number) => Ok(SiteId(number)),
+        Err(_) => Err(NoMemory),
+    }
+}
+
+/// Declares a variable in the innermost block; with a type it has a site of its own.
+pub fn declare_variable(
+    scope: &mut Scope,
+    name: &[u8],
+    pos: Pos,
+    has_type: bool,
+) -> Result<(), NoMemory>
+    ensures { OnOk result (scope_of scope.new ≡ with_variable has_type (scope_of scope.old) name.now pos) }
+{
+    if has_type {
+        let site = next_site(scope)?;
+        declare(scope, name, Declared::Variable(site))?;
+        scope.sites.push(Site { pos })?;
+        Ok(())
+    } else {
+        declare(scope, name, Declared::Untyped)
+    }
+}

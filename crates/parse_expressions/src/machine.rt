@@ -1,0 +1,86 @@
+//! How an expression or type begins, and one token more.
+
+ghost use Rattle.std.specs.Prelude.{◌≡◌, ◌≤◌, [], true, false};
+ghost use Rattle.parse_expressions.specs.Machine.{at_operand, at_type_operand, step, nesting};
+ghost use Rattle.parse_expressions.specs.States.{open_of, base_of, frames_in, Steps};
+
+use crate::call::{argument, behind_spread, call_end};
+use crate::closing_type::behind_type;
+use crate::elements::{behind_key, element, element_end};
+use crate::fault::StepFault;
+use crate::index::{behind_colon, behind_opening, behind_period};
+use crate::open::{Open, Progress};
+use crate::operand::{behind_bracket, operand};
+use crate::operator::behind_operand;
+use crate::reading::{Place, Reading};
+use crate::terminal::Terminal;
+use crate::types::{type_end, type_operand};
+use std::alloc::Global;
+
+/// An expression begins inside of `depth` brackets. With `literals` a literal in it may begin with a name.
+pub fn expression(alloc: Global, depth: usize, literals: bool) -> Open
+    requires { depth ≤ 202 }
+    ensures is_open { open_of result ≡ at_operand [] }
+    ensures base { base_of result ≡ record { depth = depth; literals = literals; types = false } }
+{
+    let place = Place {
+        depth,
+        literals,
+        types: false,
+    };
+    Open::Operand(nothing_open(alloc, place))
+}
+
+/// A type begins inside of `depth` brackets.
+pub fn type_wanted(alloc: Global, depth: usize) -> Open
+    requires { depth ≤ 202 }
+    ensures is_open { open_of result ≡ at_type_operand [] }
+    ensures base { base_of result ≡ record { depth = depth; literals = true; types = true } }
+{
+    let place = Place {
+        depth,
+        literals: true,
+        types: true,
+    };
+    Open::TypeOperand(nothing_open(alloc, place))
+}
+
+fn nothing_open(alloc: Global, place: Place) -> Reading
+    requires { place.depth ≤ 202 }
+    ensures frames { frames_in result ≡ [] }
+    ensures place { result.place ≡ place }
+{
+    Reading {
+        place,
+        frames: Vec::new(alloc),
+        depth: place.depth,
+        parentheses: 0,
+    }
+}
+
+/// One token more.
+pub fn step(alloc: Global, state: Open, token: Terminal) -> Result<Progress, StepFault>
+    ensures { let s = open_of state in
+        let b = base_of state in
+        Steps result b (step b s token) (nesting b s token) }
+{
+    match state {
+        Open::Operand(reading) => operand(reading, token),
+        Open::Argument(opened, call) => argument(alloc, opened, call, token),
+        Open::Spread(reading, call) => behind_spread(alloc, reading, call, token),
+        Open::CallEnd(reading, call) => call_end(alloc, reading, call, token),
+        Open::Bracket(opened, pos) => behind_bracket(opened, pos, token),
+        Open::TypeOperand(reading) => type_operand(alloc, reading, token),
+        Open::TypeEnd(reading, pos, part) => type_end(alloc, reading, pos, part, token),
+        Open::Type(reading, part) => behind_type(alloc, reading, part, token),
+        Open::Operator(reading, part) => behind_operand(alloc, reading, part, token),
+        Open::Selector(reading, value, pos) => behind_period(alloc, reading, value, pos, token),
+        Open::Index(opened, value, pos) => behind_opening(opened, value, pos, token),
+        Open::High(opened, value, pos, low) => {
+            behind_colon(alloc, opened, value, pos, low, token)
+        }
+        Open::Element(opened, braces) => element(alloc, opened, braces, token),
+        Open::Value(opened, braces, key) => behind_key(alloc, opened, braces, key, token),
+        Open::ElementEnd(reading, braces) => element_end(alloc, reading, braces, token),
+    }
+}

@@ -1,0 +1,166 @@
+//! A token behind an operand.
+
+ghost use Rattle.std.specs.Prelude.{◌≡◌, ◌∷◌, max, suc, MatchOption};
+ghost use Rattle.syntax.specs.declared.expression.Name.{Name};
+ghost use Rattle.syntax.specs.Expressions.{name, ex_of};
+ghost use Rattle.syntax.specs.Heights.{height};
+ghost use Rattle.parse_expressions.specs.Frames.{awaiting};
+ghost use Rattle.parse_expressions.specs.Machine.{goes, at_operand, closes_reduced, brace_behind_name, behind_operand, nesting_behind};
+ghost use Rattle.parse_expressions.specs.States.{base_at, frames_in, depth_in, Steps};
+
+use crate::call::begin as begin_call;
+use crate::closing::{closes_reduced, precedence, reduce};
+use crate::elements::{begin_literal, key_colon};
+use crate::fault::StepFault;
+use crate::frame::Frame;
+use crate::index::{begin_index, begin_selector};
+use crate::open::{Open, Progress};
+use crate::operand::MOST;
+use crate::part::Part;
+use crate::reading::Reading;
+use crate::stack::{allows_literal, pop, push};
+use crate::terminal::Terminal;
+use base::Pos;
+use std::alloc::Global;
+use syntax::{BinOp, Expr, Name};
+
+/// A binary operator behind its left operand.
+fn operator(reading: Reading, left: Part, pos: Pos, op: BinOp) -> Result<Progress, StepFault>
+    ensures { let fs = awaiting (ex_of left.expr) pos op ∷ frames_in reading in
+        Steps result (base_at reading.place) (goes (at_operand fs))
+        (max (depth_in reading) (suc (height (ex_of left.expr)))) }
+{
+    if reading.depth > MOST || left.height >= 200 {
+        return Err(StepFault::TooDeep);
+    }
+    let reading = push(reading, Frame::Right(left, pos, op))?;
+    Ok(Progress::Goes(Open::Operand(reading)))
+}
+
+/// The name that an expression is.
+fn name_of(expr: &Expr) -> Option<Name>
+    ensures { MatchOption result ((x : Name) → ex_of expr.now ≡ name x → ⊥)
+        (λ x. ex_of expr.now ≡ name x) }
+{
+    match expr {
+        Expr::Name(name) => Some(*name),
+        _ => None,
+    }
+}
+
+/// A brace that begins no literal.
+#[tactic(auto, using(crate::proofs::Behind::brace_fails))]
+fn ends_at_brace(
+    alloc: Global,
+    reading: Reading,
+    part: Part,
+    pos: Pos,
+) -> Result<Progress, StepFault>
+    ensures { Steps result (base_at reading.place)
+        (closes_reduced (frames_in reading) (ex_of part.expr) (Terminal.LeftBrace pos))
+        (depth_in reading) }
+{
+    let (reading, part) = reduce(alloc, 0, reading, part)?;
+    let (_, frame) = pop(reading);
+    match frame {
+        None => Ok(Progress::Ends(part)),
+        Some(_) => Err(StepFault::Unexpected),
+    }
+}
+
+/// A brace behind a name.
+fn brace_behind_name(
+    alloc: Global,
+    reading: Reading,
+    x: Name,
+    pos: Pos,
+) -> Result<Progress, StepFault>
+    ensures { let b = base_at reading.place in
+        Steps result b (brace_behind_name b (frames_in reading) x pos) (depth_in reading) }
+{
+    let part = Part {
+        expr: Expr::Name(x),
+        height: 0,
+    };
+    if allows_literal(&reading) {
+        begin_literal(alloc, reading, part)
+    } else {
+        ends_at_brace(alloc, reading, part, pos)
+    }
+}
+
+/// An opening brace behind an operand.
+fn brace(alloc: Global, reading: Reading, part: Part, pos: Pos) -> Result<Progress, StepFault>
+    ensures { let b = base_at reading.place in
+        let t = Terminal.LeftBrace pos in
+        Steps result b (behind_operand b (frames_in reading) (ex_of part.expr) t)
+        (nesting_behind b.depth (frames_in reading) (ex_of part.expr) t) }
+{
+    match name_of(&part.expr) {
+        Some(x) => brace_behind_name(alloc, reading, x, pos),
+        None => closes_reduced(alloc, reading, part, Terminal::LeftBrace(pos)),
+    }
+}
+
+/// A colon behind a name.
+fn colon_behind_name(alloc: Global, reading: Reading, x: Name) -> Result<Progress, StepFault>
+    ensures { let b = base_at reading.place in
+        Steps result b (behind_operand b (frames_in reading) (name x) Terminal.Colon)
+        (nesting_behind b.depth (frames_in reading) (name x) Terminal.Colon) }
+{
+    let part = Part {
+        expr: Expr::Name(x),
+        height: 0,
+    };
+    let (rest, frame) = pop(reading);
+    match frame {
+        None => closes_reduced(alloc, rest, part, Terminal::Colon),
+        Some(frame) => match frame {
+            Frame::Element(braces, key) => match key {
+                None => key_colon(rest, braces, x),
+                Some(_) => {
+                    let reading = push(rest, Frame::Element(braces, key))?;
+                    closes_reduced(alloc, reading, part, Terminal::Colon)
+                }
+            },
+            _ => closes_reduced(alloc, push(rest, frame)?, part, Terminal::Colon),
+        },
+    }
+}
+
+/// A colon behind an operand.
+fn colon(alloc: Global, reading: Reading, part: Part) -> Result<Progress, StepFault>
+    ensures { let b = base_at reading.place in
+        Steps result b (behind_operand b (frames_in reading) (ex_of part.expr) Terminal.Colon)
+        (nesting_behind b.depth (frames_in reading) (ex_of part.expr) Terminal.Colon) }
+{
+    match name_of(&part.expr) {
+        Some(x) => colon_behind_name(alloc, reading, x),
+        None => closes_reduced(alloc, reading, part, Terminal::Colon),
+    }
+}
+
+/// A token behind an operand.
+pub fn behind_operand(
+    alloc: Global,
+    reading: Reading,
+    part: Part,
+    token: Terminal,
+) -> Result<Progress, StepFault>
+    ensures { let b = base_at reading.place in
+        Steps result b (behind_operand b (frames_in reading) (ex_of part.expr) token)
+        (nesting_behind b.depth (frames_in reading) (ex_of part.expr) token) }
+{
+    match token {
+        Terminal::Operator(pos, op) => {
+            let (reading, part) = reduce(alloc, precedence(op), reading, part)?;
+            operator(reading, part, pos, op)
+        }
+        Terminal::LeftParen(_) => begin_call(alloc, reading, part),
+        Terminal::Period(pos) => begin_selector(reading, part, pos),
+        Terminal::LeftBracket(pos) => begin_index(reading, part, pos),
+        Terminal::LeftBrace(pos) => brace(alloc, reading, part, pos),
+        Terminal::Colon => colon(alloc, reading, part),
+        _ => closes_reduced(alloc, reading, part, token),
+    }
+}

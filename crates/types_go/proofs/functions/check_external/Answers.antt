@@ -1,0 +1,14 @@
+use Rattle.std.proofs.Common.{◌≡◌, Some}
+use Rattle.syntax.specs.Declarations.{function_of}
+use Rattle.expression_types.specs.Scope.{scope_of}
+use Rattle.types_go.specs.FunctionFaults.{FailsInHead, external_fault}
+use Rattle.expression_types.proofs.Leasts.{least_join, just}
+use Rattle.types_go.proofs.functions.check_external.Goals as goal
+
+pub returns-clause-fault : goal.returns-clause-fault
+returns-clause-fault c =
+    let text = c.args.text.now in
+    let g = function_of c.args.f.now in
+    let own = external_fault text g in
+    rw (c.lesser.ensures, c.external_fault.ensures)
+    (least_join (FailsInHead text (scope_of c.args.scope.now) c.args.number g) (λ f. f ≡ own) c.check_head-head.result.fault (Some own) c.check_head-head.ensures.fault (just own))

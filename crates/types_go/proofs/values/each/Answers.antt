@@ -1,7 +1,0 @@
-use Rattle.std.proofs.Common.{rules}
-use Rattle.typed.proofs.Rows.{expr_rows}
-use Rattle.types_go.proofs.Items.{each_of}
-use Rattle.types_go.proofs.values.each.Goals as goal
-
-pub returns-in-Some : goal.returns-in-Some
-returns-in-Some c = search (rules, expr_rows, each_of)

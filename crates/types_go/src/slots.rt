@@ -1,0 +1,173 @@
+//! Parameters and results one by one, each with its type.
+
+ghost use Rattle.std.specs.Prelude.{◌≡◌, ◌⊎◌, Option, Some, None, IfOk, List, map, length, not, ◌==◌, ◌++◌};
+ghost use Rattle.std.specs.Option.{option_map};
+ghost use Rattle.syntax.specs.Expressions.{ex_of as tree_of, exs_of as trees_of};
+ghost use Rattle.syntax.specs.Declarations.{parameters_of, field_of, fields_of};
+ghost use Rattle.expression_types.specs.Least.{IsLeast};
+ghost use Rattle.expression_types.specs.Scope.{scope_of};
+ghost use Rattle.expression_types.specs.Passing.{with_last};
+ghost use Rattle.types_go.specs.Functions.{param_with, field_params, named_params, unnamed_params, params_of, is_named, slot_of, slots_of, types_of};
+ghost use Rattle.types_go.specs.FunctionFaults.{TypesFail};
+
+use base::NoMemory;
+use expression_types::{Fault, Scope, ValueType, lesser, type_fault, type_in};
+use std::alloc::Global;
+use syntax::{Expr, Field, Name, Params};
+
+/// A parameter or a result: its name, if it has one, and its type, where that is known.
+#[derive(Clone, Copy, Debug, PartialEq, Eq)]
+pub struct Slot {
+    pub name: Option<Name>,
+    pub value_type: Option<ValueType>,
+}
+
+/// Those without names.
+fn unnamed_slots(alloc: Global, text: &[u8], types: &[Expr]) -> Result<Vec<Slot>, NoMemory>
+    ensures { IfOk result (λ v. v.items ≡ map (slot_of text.now) (unnamed_params (trees_of types.now))) }
+{
+    let mut slots = Vec::new(alloc);
+    for type_expr in types {
+        let value_type = type_in(text, type_expr);
+        slots.push(Slot {
+            name: None,
+            value_type,
+        })?;
+    }
+    Ok(slots)
+}
+
+/// One for each name of a field behind others. Its type is looked up once.
+fn with_field(slots: Vec<Slot>, text: &[u8], field: &Field) -> Result<Vec<Slot>, NoMemory>
+    ensures { IfOk result (λ v. v.items ≡ slots.items ++ map (slot_of text.now) (field_params (field_of field.now))) }
+{
+    let value_type = type_in(text, &field.type_expr);
+    let mut slots = slots;
+    for name in &field.names {
+        slots.push(Slot {
+            name: Some(*name),
+            value_type,
+        })?;
+    }
+    Ok(slots)
+}
+
+/// Those with names.
+fn named_slots(alloc: Global, text: &[u8], fields: &[Field]) -> Result<Vec<Slot>, NoMemory>
+    ensures { IfOk result (λ v. v.items ≡ map (slot_of text.now) (named_params (fields_of fields.now))) }
+{
+    let mut slots = Vec::new(alloc);
+    for field in fields {
+        slots = with_field(slots, text, field)?;
+    }
+    Ok(slots)
+}
+
+/// Parameters or results one by one.
+pub fn slots_of(alloc: Global, text: &[u8], params: &Params) -> Result<Vec<Slot>, NoMemory>
+    ensures { IfOk result (λ v. v.items ≡ slots_of text.now (parameters_of params.now)) }
+{
+    match params {
+        Params::Unnamed(types) => unnamed_slots(alloc, text, types),
+        Params::Named(fields) => named_slots(alloc, text, fields),
+    }
+}
+
+/// Whether they have names.
+pub fn is_named(params: &Params) -> bool
+    ensures { result ≡ is_named (parameters_of params.now) }
+{
+    match params {
+        Params::Unnamed(_) => false,
+        Params::Named(_) => true,
+    }
+}
+
+fn has_names(fields: &[Field]) -> bool
+    ensures { result ≡ not (length (named_params (fields_of fields.now)) == 0) }
+{
+    let mut some = false;
+    for field in fields {
+        some = some || !field.names.is_empty();
+    }
+    some
+}
+
+/// Whether there is one.
+#[tactic(auto, using(crate::proofs::Fields::unnamed_are))]
+pub fn has_some(params: &Params) -> bool
+    ensures { result ≡ not (length (params_of (parameters_of params.now)) == 0) }
+{
+    match params {
+        Params::Unnamed(types) => !types.is_empty(),
+        Params::Named(fields) => has_names(fields),
+    }
+}
+
+fn with_type(
+    types: Option<Vec<ValueType>>,
+    value_type: Option<ValueType>,
+) -> Result<Option<Vec<ValueType>>, NoMemory>
+    ensures { IfOk result (λ r. option_map (λ v. v.items) r ≡ with_last (option_map (λ v. v.items) types) value_type) }
+{
+    match (types, value_type) {
+        (Some(mut types), Some(value_type)) => {
+            types.push(value_type)?;
+            Ok(Some(types))
+        }
+        _ => Ok(None),
+    }
+}
+
+/// Their types, where all are known.
+pub fn types_of(alloc: Global, slots: &[Slot]) -> Result<Option<Vec<ValueType>>, NoMemory>
+    ensures { IfOk result (λ r. option_map (λ v. v.items) r ≡ types_of slots.now) }
+{
+    let mut types = Some(Vec::new(alloc));
+    for slot in slots {
+        types = with_type(types, slot.value_type)?;
+    }
+    Ok(types)
+}
+
+fn unnamed_fault(text: &[u8], scope: &Scope, types: &[Expr]) -> Option<Fault>
+    ensures { IsLeast (TypesFail text.now (scope_of scope.now) (unnamed_params (trees_of types.now))) result }
+{
+    let mut fault = None;
+    for type_expr in types {
+        fault = lesser(fault, type_fault(text, scope, type_expr));
+    }
+    fault
+}
+
+/// The fault of the type that names share, looked at once.
+fn field_fault(text: &[u8], scope: &Scope, names: &[Name], type_expr: &Expr) -> Option<Fault>
+    ensures { IsLeast (TypesFail text.now (scope_of scope.now) (map (param_with (tree_of type_expr.now)) names.now)) result }
+{
+    if names.is_empty() {
+        None
+    } else {
+        type_fault(text, scope, type_expr)
+    }
+}
+
+fn named_fault(text: &[u8], scope: &Scope, fields: &[Field]) -> Option<Fault>
+    ensures { IsLeast (TypesFail text.now (scope_of scope.now) (named_params (fields_of fields.now))) result }
+{
+    let mut fault = None;
+    for field in fields {
+        let own = field_fault(text, scope, &field.names, &field.type_expr);
+        fault = lesser(fault, own);
+    }
+    fault
+}
+
+/// The fault of their types.
+pub fn types_fault(text: &[u8], scope: &Scope, params: &Params) -> Option<Fault>
+    ensures { IsLeast (TypesFail text.now (scope_of scope.now) (params_of (parameters_of params.now))) result }
+{
+    match params {
+        Params::Unnamed(types) => unnamed_fault(text, scope, types),
+        Params::Named(fields) => named_fault(text, scope, fields),
+    }
+}

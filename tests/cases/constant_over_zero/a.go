@@ -1,0 +1,2 @@
+package main
+func main() { println(1/0) }

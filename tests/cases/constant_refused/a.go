@@ -1,0 +1,3 @@
+package main
+const c, d = 1, 2
+func main() { println(c) }

@@ -1,0 +1,3 @@
+package main
+var ( a int; b = 2
+func main() {}

@@ -1,0 +1,2 @@
+package main
+func main() { if x == T{1} { println(1) } }

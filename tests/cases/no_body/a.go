@@ -1,0 +1,3 @@
+package main
+func f(a, b *int, c [3]int) (x []int)
+func main() { println(1) }

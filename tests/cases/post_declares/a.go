@@ -1,0 +1,2 @@
+package main
+func main() { for i := 0; i < 3; i := 1 { } }

@@ -1,0 +1,3 @@
+package main
+func f(*int, a b) {}
+func main() {}
