@@ -1,17 +1,11 @@
 -- The new names of a `:=` so far, and those still ahead.
-use Rattle.std.proofs.Common.{◌≡◌, ℕ, ◌+◌, Bool, true, false, cond, List, [], ◌∷◌, ◌++◌, refl, sym, ap, ◌∙◌, arith, append_assoc}
-use Rattle.types_go.specs.declared.slots.Slot.{Slot}
+use Rattle.std.proofs.Common.{◌≡◌, ℕ, ◌+◌, Bool, true, false, cond, List, [], ◌∷◌, ◌++◌, length, sym, ap, ◌∙◌, arith, append_assoc, length-append}
+use Rattle.syntax.specs.declared.expression.Name.{Name}
 
--- the site of the next new name
-pub next_site : (b : Bool) (start count : ℕ) → cond b (1 + (start + count)) (start + count) ≡ start + cond b (1 + count) count
-next_site true start count = omega arith
-next_site false start count = refl
+pub next_site : (b : Bool) (start : ℕ) (names more : List Name) (n : Name) → more ≡ cond b (names ++ n ∷ []) names → cond b (1 + (start + length names)) (start + length names) ≡ start + length more
+next_site true start names more n is = omega (arith, ap length is, length-append names (n ∷ []))
+next_site false start names more n is = ap (λ l. start + length l) (sym is)
 
--- one more name that is new, or one that isn't
-pub one_more : (b : Bool) (so_far rest : List Slot) (v : Slot) → b ≡ true → so_far ++ cond b (v ∷ rest) rest ≡ (so_far ++ v ∷ []) ++ rest
-one_more true so_far rest v is = sym (append_assoc so_far (v ∷ []) rest)
-one_more false so_far rest v is = absurd cc
-
-pub no_more : (b : Bool) (so_far rest : List Slot) (v : Slot) → b ≡ false → so_far ++ cond b (v ∷ rest) rest ≡ so_far ++ rest
-no_more false so_far rest v is = refl
-no_more true so_far rest v is = absurd cc
+pub next_names : (b : Bool) (names more rest : List Name) (n : Name) → more ≡ cond b (names ++ n ∷ []) names → names ++ cond b (n ∷ rest) rest ≡ more ++ rest
+next_names true names more rest n is = sym (append_assoc names (n ∷ []) rest) ∙ ap (λ l. l ++ rest) (sym is)
+next_names false names more rest n is = ap (λ l. l ++ rest) (sym is)

@@ -5,9 +5,11 @@ use Rattle.syntax.specs.Expressions.{ex_of}
 use Rattle.expression_types.specs.Scope.{scope_of}
 use Rattle.expression_types.specs.Typing.{gives}
 use Rattle.expression_types.specs.Faults.{Fails}
+use Rattle.types_go.specs.StatementFaults.{UseFails}
 use Rattle.expression_types.specs.Passing.{gives_of}
-use Rattle.types_go.specs.StatementFaults.{use_fault}
-use Rattle.types_go.proofs.Steps.{with_leaf}
+use Rattle.types_go.specs.Passing.{use_fault}
+use Rattle.expression_types.proofs.Leasts.{least_join}
+use Rattle.types_go.proofs.Leaves.{use_least}
 use Rattle.types_go.proofs.statements.check_express.Goals as goal
 
 pub returns-clause-fault : goal.returns-clause-fault
@@ -18,4 +20,5 @@ returns-clause-fault c =
     let checked = c.in_ok-checked.checked in
     let given : option_map gives_of checked.gives ≡ gives text s e = c.in_ok-checked.ensures.gives in
     let at : checked.pos ≡ first_place e = c.in_ok-checked.ensures.pos in
-    rw (c.lesser.ensures, c.use_fault-own.ensures, given, at) (with_leaf (Fails text s e) (use_fault (gives text s e) (first_place e)) checked.fault c.in_ok-checked.ensures.fault)
+    rw (c.lesser.ensures, c.use_fault-own.ensures, given, at)
+    (least_join (Fails text s e) (UseFails (gives text s e) (first_place e)) checked.fault (use_fault (gives text s e) (first_place e)) c.in_ok-checked.ensures.fault (use_least (gives text s e) (first_place e)))

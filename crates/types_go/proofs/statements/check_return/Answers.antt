@@ -1,12 +1,11 @@
 use Rattle.std.proofs.Common.{◌≡◌, List, ap, ◌∙◌, subst}
-use Rattle.syntax.specs.Expressions.{exs_of}
 use Rattle.expression_types.specs.Least.{IsLeast}
+use Rattle.syntax.specs.Expressions.{exs_of}
 use Rattle.expression_types.specs.Scope.{scope_of}
 use Rattle.expression_types.specs.Typing.{Seen, seen}
 use Rattle.expression_types.specs.Faults.{FailsInEach}
-use Rattle.expression_types.specs.Passing.{seens}
-use Rattle.types_go.specs.Statements.{returns_view}
 use Rattle.types_go.specs.StatementFaults.{ReturnFails}
+use Rattle.expression_types.specs.Passing.{seens}
 use Rattle.expression_types.proofs.Leasts.{least_join}
 use Rattle.types_go.proofs.statements.check_return.Goals as goal
 
@@ -15,8 +14,7 @@ returns-clause-fault c =
     let text = c.args.text.now in
     let s = scope_of c.args.scope.now in
     let es = exs_of c.args.es.now in
-    let rets = returns_view c.args.returns.now in
     let listed = c.in_ok-listed.listed in
     let os : seens c.deref.result.now ≡ seen text s es = ap seens c.deref.ensures.value ∙ c.in_ok-listed.ensures.seen in
-    rw (c.lesser.ensures) (least_join (FailsInEach text s es) (ReturnFails c.args.pos rets (seen text s es)) listed.fault c.return_fault-own.result c.in_ok-listed.ensures.fault
-    (subst (λ (l : List Seen). IsLeast (ReturnFails c.args.pos rets l) c.return_fault-own.result) os c.return_fault-own.ensures))
+    rw (c.lesser.ensures) (least_join (FailsInEach text s es) (ReturnFails c.args.pos c.args.returns (seen text s es)) listed.fault c.return_fault-own.result c.in_ok-listed.ensures.fault
+    (subst (λ (l : List Seen). IsLeast (ReturnFails c.args.pos c.args.returns l) c.return_fault-own.result) os c.return_fault-own.ensures))
