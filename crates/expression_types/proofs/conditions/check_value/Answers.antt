@@ -1,0 +1,12 @@
+use Rattle.std.specs.Option.{option_map}
+use Rattle.syntax.specs.Expressions.{ex_of}
+use Rattle.expression_types.specs.Scope.{scope_of}
+use Rattle.expression_types.specs.Passing.{operand_of}
+use Rattle.expression_types.proofs.Nodes.{value_node}
+use Rattle.expression_types.proofs.conditions.check_value.Goals as goal
+
+pub returns-clause-fault : goal.returns-clause-fault
+returns-clause-fault c =
+    let found = c.in_ok-found.found in
+    rw (c.lesser.ensures, c.value_fault-own.ensures)
+    (value_node c.args.text.now (scope_of c.args.scope.now) c.args.pos (ex_of c.args.e.now) found.fault (option_map operand_of found.operand) c.in_ok-found.ensures.fault c.in_ok-found.ensures.operand)

@@ -1,0 +1,2 @@
+package main
+func main() { for i := range 3 { println(i) } }
