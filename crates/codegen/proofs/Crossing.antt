@@ -5,10 +5,11 @@ use Rattle.std.proofs.lemmas.Bool.{eq-eqb, le-leb, le-ltb, lt-ltb}
 use Rattle.std.proofs.lemmas.Bool.Decides.{eqb_tells, leb_tells}
 use Rattle.std.proofs.lemmas.List.{length-replicate}
 use Rattle.typed.specs.Value.{Value}
+use Rattle.typed.specs.Form.{AreOf}
 use Rattle.typed.specs.Syntax.{Func, argument_words, result_words}
 use Rattle.typed.specs.Frames.{frame_in, frame_of, outgoing_of}
 use Rattle.meaning.specs.Trace.{Call as Called, Ending, Exit, StackLimit, World, Trace, Note, End}
-use Rattle.meaning.specs.Output.{out, used_by}
+use Rattle.meaning.specs.Output.{Sight, out, used_by}
 use Rattle.simulation.specs.Outcome as Run
 use Rattle.simulation.specs.Outcome.{Lines}
 use Rattle.simulation.specs.Steps.{Goes, Stops, exec}
@@ -25,6 +26,7 @@ use Rattle.codegen.proofs.Compiled.{Placed}
 use Rattle.codegen.proofs.Distances.{word_at, word_slot, put_length, put_other, entered_keeps}
 use Rattle.codegen.proofs.Frames.{Built, AreAt, Frame, placed, fresh, numbers, back_of, depth, link_of, Stack, Good, moved}
 use Rattle.codegen.proofs.Changes.{are_kept, outgoing_put, entered_frame}
+use Rattle.codegen.proofs.Moves.{arguments_length}
 use Rattle.codegen.proofs.Places.{words_limits, At, frame_here, stepped, stopped}
 
 -- a return from function f, by the numbers that it reads
@@ -51,34 +53,34 @@ module _ (m : Built) where
   pub used : (top : ℕ) (calls : List Frame) (w : World) (words : List ℕ) → Stack m top calls w words → used_by (words_limits m) (numbers calls) ≡ depth m calls
   used top [] w words s = refl
   used top (c ∷ calls) w words s =
-      let a : frame_in m.funcs (slice_get m.funcs c.fn) ≡ frame_of m.funcs c.func = ap (frame_in m.funcs) s.0.named in
-      ap (λ n. n + used_by (words_limits m) (numbers calls)) a ∙ ap (λ n. frame_of m.funcs c.func + n) (used c.entry calls w words s.1)
+      let a : frame_in m.program.funcs (slice_get m.program.funcs c.fn) ≡ frame_of m.program.funcs c.func = ap (frame_in m.program.funcs) s.0.named in
+      ap (λ n. n + used_by (words_limits m) (numbers calls)) a ∙ ap (λ n. frame_of m.program.funcs c.func + n) (used c.entry calls w words s.1)
 
   -- the limit is met by both or by neither
-  gate : (lo b more asked : ℕ) (t : Lines (List ℕ) Ending) (s s1 : State) → act m.code m.max s ≡ (if nat_lt m.max (more + asked) then Stops [] (Limit more asked m.max) else Goes [] s1)
-      → Follows (List ℕ) Event Ending Stop same_event same_end lo 0 b t (λ k. exec (act m.code m.max) k s1)
-      → Follows (List ℕ) Event Ending Stop same_event same_end (suc lo) 1 b (if nat_le (more + asked) m.max then t else Run.End (StackLimit more asked m.max)) (λ k. exec (act m.code m.max) k s)
+  gate : (lo b more asked : ℕ) (t : Lines Sight Ending) (s s1 : State) → act m.code m.max s ≡ (if nat_lt m.max (more + asked) then Stops [] (Limit more asked m.max) else Goes [] s1)
+      → Follows Sight Event Ending Stop same_event (same_end m.program.strings) lo 0 b t (λ k. exec (act m.code m.max) k s1)
+      → Follows Sight Event Ending Stop same_event (same_end m.program.strings) (suc lo) 1 b (if nat_le (more + asked) m.max then t else Run.End (StackLimit more asked m.max)) (λ k. exec (act m.code m.max) k s)
   gate lo b more asked t s s1 does f = elim (leb_tells (more + asked) m.max) [
-    | inl p ↦ subst (λ (x : Bool). Follows (List ℕ) Event Ending Stop same_event same_end (suc lo) 1 b (if x then t else Run.End (StackLimit more asked m.max)) (λ k. exec (act m.code m.max) k s)) (sym p.0)
-        (Rules.goes (List ℕ) Event Ending Stop same_event same_end State (act m.code m.max) {lo = lo} {hi = 0} {b = b} s s1
+    | inl p ↦ subst (λ (x : Bool). Follows Sight Event Ending Stop same_event (same_end m.program.strings) (suc lo) 1 b (if x then t else Run.End (StackLimit more asked m.max)) (λ k. exec (act m.code m.max) k s)) (sym p.0)
+        (Rules.goes Sight Event Ending Stop same_event (same_end m.program.strings) State (act m.code m.max) {lo = lo} {hi = 0} {b = b} s s1
         (does ∙ ap (λ x. if x then Stops [] (Limit more asked m.max) else Goes [] s1) (le-ltb m.max (more + asked) p.1)) f)
-    | inr p ↦ subst (λ (x : Bool). Follows (List ℕ) Event Ending Stop same_event same_end (suc lo) 1 b (if x then t else Run.End (StackLimit more asked m.max)) (λ k. exec (act m.code m.max) k s)) (sym p.0)
-        (Rules.stops (List ℕ) Event Ending Stop same_event same_end State (act m.code m.max) {lo = lo} {b = b} s (StackLimit more asked m.max) (Limit more asked m.max) (refl, refl, refl)
+    | inr p ↦ subst (λ (x : Bool). Follows Sight Event Ending Stop same_event (same_end m.program.strings) (suc lo) 1 b (if x then t else Run.End (StackLimit more asked m.max)) (λ k. exec (act m.code m.max) k s)) (sym p.0)
+        (Rules.stops Sight Event Ending Stop same_event (same_end m.program.strings) State (act m.code m.max) {lo = lo} {b = b} s (StackLimit more asked m.max) (Limit more asked m.max) (refl, refl, refl)
         (does ∙ ap (λ x. if x then Stops [] (Limit more asked m.max) else Goes [] s1) (lt-ltb m.max (more + asked) p.1)))
   ]
 
   -- a call: a frame stands below, with the arguments above it
-  pub called : (c : Frame) (calls : List Frame) (w : World) (words : List ℕ) (f : ℕ) (func : Func) (vs : List Value) (pc lo b : ℕ) (t : Trace) (place : Placed m.funcs m.code f func) → slice_get m.funcs f ≡ Some func
-      → slice_get m.code.instrs pc ≡ Some (Call f) → owner_of m.code pc ≡ c.fn → length vs ≡ argument_words func → argument_words func + result_words func ≤ outgoing_of m.funcs c.func
+  pub called : (c : Frame) (calls : List Frame) (w : World) (words : List ℕ) (f : ℕ) (func : Func) (vs : List Value) (pc lo b : ℕ) (t : Trace) (place : Placed m.program.funcs m.code f func) → slice_get m.program.funcs f ≡ Some func
+      → slice_get m.code.instrs pc ≡ Some (Call f) → owner_of m.code pc ≡ c.fn → AreOf func.param_types vs → argument_words func + result_words func ≤ outgoing_of m.program.funcs c.func
       → AreAt vs (depth m (c ∷ calls)) 0 words → Good m (c ∷ calls) w words
       → ((words1 : List ℕ) → Good m (fresh f func (length w.store) ∷ placed c (pc + 1) ∷ calls) w words1 → AreAt vs (depth m (c ∷ calls)) 0 words1 → At m (f ∷ numbers (c ∷ calls)) lo 0 b t place.start words1)
       → At m (numbers (c ∷ calls)) (suc lo) 1 b (Note (Called f) t) pc words
-  called c calls w words f func vs pc lo b t place named here own many room are g post = record {
-    at = subst (λ n. Follows (List ℕ) Event Ending Stop same_event same_end (suc lo) 1 b (if nat_le (n + frame_in m.funcs (slice_get m.funcs f)) m.max then out (words_limits m) (f ∷ numbers (c ∷ calls)) t else Run.End (StackLimit n (frame_in m.funcs (slice_get m.funcs f)) m.max)) (λ k. exec (act m.code m.max) k s))
+  called c calls w words f func vs pc lo b t place named here own typed room are g post = record {
+    at = subst (λ n. Follows Sight Event Ending Stop same_event (same_end m.program.strings) (suc lo) 1 b (if nat_le (n + frame_in m.program.funcs (slice_get m.program.funcs f)) m.max then out (words_limits m) (f ∷ numbers (c ∷ calls)) t else Run.End (StackLimit n (frame_in m.program.funcs (slice_get m.program.funcs f)) m.max)) (λ k. exec (act m.code m.max) k s))
         (g.long ∙ sym (used (length w.store) (c ∷ calls) w words g.stack))
-        (subst (λ n. Follows (List ℕ) Event Ending Stop same_event same_end (suc lo) 1 b (if nat_le (length words + n) m.max then out (words_limits m) (f ∷ numbers (c ∷ calls)) t else Run.End (StackLimit (length words) n m.max)) (λ k. exec (act m.code m.max) k s))
-        (sym (ap (frame_in m.funcs) named))
-        (gate lo b (length words) (frame_of m.funcs func) (out (words_limits m) (f ∷ numbers (c ∷ calls)) t) s s1 does (post words1 good1 are1).at));
+        (subst (λ n. Follows Sight Event Ending Stop same_event (same_end m.program.strings) (suc lo) 1 b (if nat_le (length words + n) m.max then out (words_limits m) (f ∷ numbers (c ∷ calls)) t else Run.End (StackLimit (length words) n m.max)) (λ k. exec (act m.code m.max) k s))
+        (sym (ap (frame_in m.program.funcs) named))
+        (gate lo b (length words) (frame_of m.program.funcs func) (out (words_limits m) (f ∷ numbers (c ∷ calls)) t) s s1 does (post words1 good1 are1).at));
   }
     where
       s : State
@@ -91,7 +93,7 @@ module _ (m : Built) where
       link = address_of m.max (length words - code_frame m.code (owner_of m.code pc))
 
       words1 : List ℕ
-      words1 = entered (frame_of m.funcs func) link (pc + 1) cleared
+      words1 = entered (frame_of m.program.funcs func) link (pc + 1) cleared
 
       s1 : State
       s1 = record { pc = place.start; words = words1 }
@@ -102,12 +104,15 @@ module _ (m : Built) where
       long : length words ≡ depth m (c ∷ calls)
       long = g.long
 
+      many : length vs ≡ argument_words func
+      many = arguments_length m f func vs named typed
+
       linked : link ≡ address_of m.max (depth m calls)
       linked =
-          let e : length words - frame_of m.funcs c.func ≡ depth m calls = omega (arith, long) in
+          let e : length words - frame_of m.program.funcs c.func ≡ depth m calls = omega (arith, long) in
           ap (λ n. address_of m.max (length words - n)) (frame_here m c.fn pc c.func g.stack.0.named own) ∙ ap (address_of m.max) e
 
-      does : act m.code m.max s ≡ (if nat_lt m.max (length words + frame_of m.funcs func) then Stops [] (Limit (length words) (frame_of m.funcs func) m.max) else Goes [] s1)
+      does : act m.code m.max s ≡ (if nat_lt m.max (length words + frame_of m.program.funcs func) then Stops [] (Limit (length words) (frame_of m.program.funcs func) m.max) else Goes [] s1)
       does = ap (λ o. act_on m.code m.max o s) here ∙ ap (λ o. calling m.max (code_frame m.code (owner_of m.code pc)) o s) place.entry
 
       good0 : Good m (placed c (pc + 1) ∷ calls) w cleared
@@ -121,24 +126,24 @@ module _ (m : Built) where
 
       are1 : AreAt vs (depth m (c ∷ calls)) 0 words1
       are1 = are_kept vs (depth m (c ∷ calls)) 0 words words1 (λ j l.
-          entered_keeps (frame_of m.funcs func) link (pc + 1) cleared (depth m (c ∷ calls) - (0 + j)) (omega arith) (omega (arith, same_length, long))
-          ∙ put_other words (argument_words func) (replicate (result_words func) 0) (depth m (c ∷ calls) - (0 + j)) (omega (arith, zeros, long)) (inl (omega (arith, long)))) are
+          entered_keeps (frame_of m.program.funcs func) link (pc + 1) cleared (depth m (c ∷ calls) - (0 + j)) (omega arith) (omega (arith, same_length, long))
+          ∙ put_other words (argument_words func) (replicate (result_words func) 0) (depth m (c ∷ calls) - (0 + j)) (omega (arith, zeros, long)) (inl (omega (arith, long, many)))) are
 
   -- the numbers that a return reads
-  return_word : (c : Frame) (calls : List Frame) (w : World) (words : List ℕ) → Good m (c ∷ calls) w words → slice_index words (frame_of m.funcs c.func - 1) ≡ back_of calls
+  return_word : (c : Frame) (calls : List Frame) (w : World) (words : List ℕ) → Good m (c ∷ calls) w words → slice_index words (frame_of m.program.funcs c.func - 1) ≡ back_of calls
   return_word c calls w words g =
-      let e : depth m (c ∷ calls) - (frame_of m.funcs c.func - 1) ≡ depth m calls + 1 = omega arith in
-      sym (word_slot words (depth m (c ∷ calls)) (frame_of m.funcs c.func - 1) g.long (omega arith)) ∙ ap (word_at words) e ∙ g.stack.0.back
+      let e : depth m (c ∷ calls) - (frame_of m.program.funcs c.func - 1) ≡ depth m calls + 1 = omega arith in
+      sym (word_slot words (depth m (c ∷ calls)) (frame_of m.program.funcs c.func - 1) g.long (omega arith)) ∙ ap (word_at words) e ∙ g.stack.0.back
 
-  link_word : (c : Frame) (calls : List Frame) (w : World) (words : List ℕ) → Good m (c ∷ calls) w words → slice_index words (frame_of m.funcs c.func - 2) ≡ link_of m calls
+  link_word : (c : Frame) (calls : List Frame) (w : World) (words : List ℕ) → Good m (c ∷ calls) w words → slice_index words (frame_of m.program.funcs c.func - 2) ≡ link_of m calls
   link_word c calls w words g =
-      let e : depth m (c ∷ calls) - (frame_of m.funcs c.func - 2) ≡ depth m calls + 2 = omega arith in
-      sym (word_slot words (depth m (c ∷ calls)) (frame_of m.funcs c.func - 2) g.long (omega arith)) ∙ ap (word_at words) e ∙ g.stack.0.link
+      let e : depth m (c ∷ calls) - (frame_of m.program.funcs c.func - 2) ≡ depth m calls + 2 = omega arith in
+      sym (word_slot words (depth m (c ∷ calls)) (frame_of m.program.funcs c.func - 2) g.long (omega arith)) ∙ ap (word_at words) e ∙ g.stack.0.link
 
   reads : (c : Frame) (calls : List Frame) (w : World) (words : List ℕ) (pc : ℕ) → owner_of m.code pc ≡ c.fn → Good m (c ∷ calls) w words →
-      act_on m.code m.max (Some Return) (record { pc = pc; words = words }) ≡ gives_back m.code m.max c.fn (frame_of m.funcs c.func) (back_of calls) (link_of m calls) (record { pc = pc; words = words })
+      act_on m.code m.max (Some Return) (record { pc = pc; words = words }) ≡ gives_back m.code m.max c.fn (frame_of m.program.funcs c.func) (back_of calls) (link_of m calls) (record { pc = pc; words = words })
   reads c calls w words pc own g =
-      let s : State = record { pc = pc; words = words } in let fr = frame_of m.funcs c.func in
+      let s : State = record { pc = pc; words = words } in let fr = frame_of m.program.funcs c.func in
       ap (λ f. gives_back m.code m.max f (code_frame m.code f) (slot s (code_frame m.code f - 1)) (slot s (code_frame m.code f - 2)) s) own
       ∙ ap (λ n. gives_back m.code m.max c.fn n (slot s (n - 1)) (slot s (n - 2)) s) (ap (code_frame m.code) (sym own) ∙ frame_here m c.fn pc c.func g.stack.0.named own)
       ∙ ap (λ r. gives_back m.code m.max c.fn fr r (slot s (fr - 2)) s) (return_word c calls w words g)
@@ -147,13 +152,13 @@ module _ (m : Built) where
   -- the return from the first call, and from another
   pub first_returns : (c : Frame) (w : World) (words : List ℕ) (pc lo b : ℕ) (running : List ℕ) → slice_get m.code.instrs pc ≡ Some Return → owner_of m.code pc ≡ c.fn → Good m (c ∷ []) w words → At m running (suc lo) 1 b (End (Exit 0)) pc words
   first_returns c w words pc lo b running here own g =
-      let s : State = record { pc = pc; words = words } in let fr = frame_of m.funcs c.func in let long = g.long in
+      let s : State = record { pc = pc; words = words } in let fr = frame_of m.program.funcs c.func in let long = g.long in
       stopped m {lo = lo} Return here
       (reads c [] w words pc own g
       ∙ ap (λ (x : Bool). if x then exits 0 0 else (if follows_call m.code c.fn 0 then goes_back m.max fr (code_frame m.code (owner_of m.code (0 - 1))) 0 0 s else Stops [] (WildReturn 0))) (eq-eqb fr (length words) (omega arith)))
 
   pub returned : (c up : Frame) (calls : List Frame) (w : World) (words : List ℕ) (pc lo b : ℕ) (running : List ℕ) (t : Trace) → slice_get m.code.instrs pc ≡ Some Return → owner_of m.code pc ≡ c.fn → Behind c.fn up → Good m (c ∷ up ∷ calls) w words
-      → At m running lo 0 b t up.place (drop (frame_of m.funcs c.func) words) → At m running (suc lo) 1 b t pc words
+      → At m running lo 0 b t up.place (drop (frame_of m.program.funcs c.func) words) → At m running (suc lo) 1 b t pc words
   returned c up calls w words pc lo b running t here own from g post =
       stepped m {lo = lo} {hi = 0} Return here
       (reads c (up ∷ calls) w words pc own g
@@ -166,7 +171,7 @@ module _ (m : Built) where
       s = record { pc = pc; words = words }
 
       fr : ℕ
-      fr = frame_of m.funcs c.func
+      fr = frame_of m.program.funcs c.func
 
       ret : ℕ
       ret = up.place
@@ -180,7 +185,7 @@ module _ (m : Built) where
       above : ℕ
       above = code_frame m.code (owner_of m.code (ret - 1))
 
-      above_is : above ≡ frame_of m.funcs up.func
+      above_is : above ≡ frame_of m.program.funcs up.func
       above_is = frame_here m up.fn (ret - 1) up.func g.stack.1.0.named from.owner
 
       follows : follows_call m.code c.fn ret ≡ true
@@ -188,8 +193,8 @@ module _ (m : Built) where
           ap (λ (x : Bool). not x && calls_function c.fn (slice_get m.code.instrs (ret - 1))) (different ret 0 (λ e. let k = from.some in absurd (omega arith)))
           ∙ ap (λ (o : Option Instr). true && calls_function c.fn o) from.call ∙ eq-eqb c.fn c.fn refl
 
-      links : (nat_le (fr + frame_of m.funcs up.func) (length words) && (link == address_of m.max (length words - (fr + frame_of m.funcs up.func)))) ≡ true
+      links : (nat_le (fr + frame_of m.program.funcs up.func) (length words) && (link == address_of m.max (length words - (fr + frame_of m.program.funcs up.func)))) ≡ true
       links =
-          let e : length words - (fr + frame_of m.funcs up.func) ≡ depth m calls = omega (arith, long) in
-          ap (λ (x : Bool). x && (link == address_of m.max (length words - (fr + frame_of m.funcs up.func)))) (le-leb (fr + frame_of m.funcs up.func) (length words) (omega (arith, long)))
-          ∙ eq-eqb link (address_of m.max (length words - (fr + frame_of m.funcs up.func))) (ap (address_of m.max) (sym e))
+          let e : length words - (fr + frame_of m.program.funcs up.func) ≡ depth m calls = omega (arith, long) in
+          ap (λ (x : Bool). x && (link == address_of m.max (length words - (fr + frame_of m.program.funcs up.func)))) (le-leb (fr + frame_of m.program.funcs up.func) (length words) (omega (arith, long)))
+          ∙ eq-eqb link (address_of m.max (length words - (fr + frame_of m.program.funcs up.func))) (ap (address_of m.max) (sym e))

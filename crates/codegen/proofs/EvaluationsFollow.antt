@@ -1,157 +1,193 @@
 -- The machine follows an evaluation.
-use Rattle.std.proofs.Common.{◌≡◌, ℕ, suc, ◌+◌, ◌<◌, ◌≤◌, List, [], ◌∷◌, ◌++◌, length, Some, refl, sym, ap, ◌∙◌, subst, arith, length-append, append_assoc}
+use Rattle.std.proofs.Common.{◌≡◌, ℕ, suc, ◌+◌, ◌<◌, ◌≤◌, true, false, List, [], ◌∷◌, ◌++◌, length, Some, refl, sym, ap, subst, arith, append_assoc, get_or}
 use Rattle.std.specs.Prelude.{slice_get, slice_index, slice_set}
-use Rattle.std.specs.Int.{w64, cast_unsigned, int_wrapping_neg}
 use Rattle.std.proofs.lemmas.Int.{to_z-of_z}
-use Rattle.base.specs.declared.pos.Pos.{Pos}
+use Rattle.std.specs.Int.{w64}
 use Rattle.typed.specs.Value.{Value, int, bool}
-use Rattle.typed.specs.declared.operators.BinOp.{BinOp}
-use Rattle.typed.specs.declared.operators.UnOp.{UnOp}
-use Rattle.typed.specs.declared.operators.UnOp.TheVariants as One
-use Rattle.typed.specs.Syntax.{Ex, Exs, Piece, constant, read, unary, binary, call, local, here as itself, none, more, results, shown, results_in}
-use Rattle.typed.specs.Form.{IsArithmetic, ExFits, ExsFit, PiecesFit, values_of}
+use Rattle.typed.specs.Syntax.{Ex, Exs, Piece, Func, Program, constant, read, unary, binary, both, either, call, local, here as itself, none, more, results, asked, text, shown, bool_type, results_in}
+use Rattle.typed.specs.Form.{IsOf, AreOf, IsWord, ExFits, ExsFit, PiecesFit}
 use Rattle.typed.specs.Frames.{need, need_all, need_pieces, reach, reach_all, reach_pieces, outgoing_of, temps_of}
 use Rattle.meaning.specs.Trace.{World, Turn}
 use Rattle.meaning.specs.Store.{value_of}
-use Rattle.meaning.specs.Operators.{binary_of, unary_of}
+use Rattle.meaning.specs.Operators.{unary_of}
 use Rattle.meaning.specs.Meaning
-use Rattle.meaning.specs.Meaning.{Env, Then, Ways, Calls, Setting, only_value, shown_bytes}
-use Rattle.isa.specs.Bin.{bin_of, negated}
-use Rattle.isa.specs.declared.instr.Instr.TheVariants.{Const, Move, Bin, Negate}
-use Rattle.codegen.specs.Code.{temp, site_slot, slots_of, operation, unary_code, ex_code, exs_code, pieces_code, size, exs_size, pieces_size, call_code, call_size}
+use Rattle.meaning.specs.Meaning.{Go, Then, Ways, Calls, Setting, only_value}
+use Rattle.isa.specs.declared.instr.Instr.TheVariants.{Const, Move, Bin, Jump, JumpZero}
+use Rattle.codegen.specs.Code.{temp, site_slot, slots_of, operation, unary_code, ex_code, exs_code, pieces_code, size, exs_size, pieces_size, call_code, call_size, word_of}
 use Rattle.codegen.proofs.Sizes.{length_code, length_exs}
 use Rattle.codegen.proofs.Frames.{Built, Stands, Frame, hold, numbers, Good}
-use Rattle.codegen.proofs.Changes.{temp_set, fewer, held_word, site_word}
-use Rattle.codegen.proofs.Numbers.{adds, negs}
-use Rattle.codegen.proofs.Places.{Standing, front, back, At, place_is, turned, seen, read_of, stepped}
+use Rattle.codegen.proofs.Changes.{one_more, temp_set, fewer, held_word, site_word}
+use Rattle.codegen.proofs.Numbers.{agrees_one, unary_word}
+use Rattle.codegen.proofs.Places.{Standing, front, back, Panics, At, place_is, turned, seen, read_of, stepped}
 use Rattle.codegen.proofs.Moves.{held_none, CallsFollow, call_end}
+use Rattle.codegen.proofs.OperatorsFollow.{operates, operates_one}
+use Rattle.codegen.proofs.ConditionsFollow.{goes_on, goes_to}
+use Rattle.codegen.proofs.LinesFollow.{piece_types, texts}
 
--- the texts of values
-abbrev pub texts : List Value → List (List ℕ)
-texts [] = []
-texts (v ∷ vs) = shown_bytes v ∷ texts vs
+-- the one value of a call with one result
+single : (t : ℕ) (rs : List Value) → AreOf (t ∷ []) rs → rs ≡ only_value rs ∷ []
+single t [] are = absurd are
+single t (r ∷ []) are = refl
+single t (r ∷ q ∷ rs) are = absurd are.1
 
-single : (rs : List Value) → length rs ≡ 1 → rs ≡ only_value rs ∷ []
-single [] e = absurd (omega arith)
-single (r ∷ []) e = refl
-single (r ∷ q ∷ rs) e = absurd (omega arith)
+only_of : (t : ℕ) (rs : List Value) → AreOf (t ∷ []) rs → IsOf t (only_value rs)
+only_of t [] are = absurd are
+only_of t (r ∷ rs) are = are.0
 
-pub one_more : (held : List Value) (v : Value) (h : ℕ) → length held ≡ h → length (held ++ v ∷ []) ≡ h + 1
-one_more held v h e = let one : length (v ∷ []) ≡ 1 = refl in omega (arith, one, length-append held (v ∷ []))
+word_stands : (v : Value) → IsWord v → Stands v (word_of v)
+word_stands (int z) is = to_z-of_z w64 z is
+word_stands (bool x) is = refl
+
+-- the last call of some expressions
+pub last_fits : (p : Program) (scope ts : List ℕ) (f : ℕ) (es : Exs) → ExsFit p scope ts (results f es) → (func : Func) × (slice_get p.funcs f ≡ Some func) × (func.results ≡ ts) × ExsFit p scope func.param_types es
+last_fits p scope [] f es fit = fit
+last_fits p scope (t ∷ ts) f es fit = fit
 
 module _ (m : Built) where
-  pub some_need : (scope : List ℕ) (e : Ex) → ExFits m.funcs scope e → 0 < need m.funcs e
-  some_need scope (constant (int z)) fit = omega arith
-  some_need scope (constant (bool b)) fit = omega arith
-  some_need scope (read p) fit = omega arith
-  some_need scope (unary op e) fit = some_need scope e fit
-  some_need scope (binary at op a b) fit = let l = some_need scope a fit.1 in omega arith
-  some_need scope (call f es) fit = let r = ap results_in fit.1 in let one = fit.2 in omega (arith, r, one)
-
-  bin_end : (at : Pos) (o : BinOp) (is : IsArithmetic o) (x y : Value) (c : Frame) (calls : List Frame) (ws : Ways) (env : Env) (k : Then Value) (w : World) (words : List ℕ) (h pc lo b : ℕ)
-      → slice_get m.code.instrs pc ≡ Some (Bin (operation o) (temp (slots_of m.funcs c.func) h) (temp (slots_of m.funcs c.func) h) (temp (slots_of m.funcs c.func) (h + 1)))
-      → length c.held ≡ h → h < temps_of m.funcs c.func → Stands x (slice_index words (temp (slots_of m.funcs c.func) h)) → Stands y (slice_index words (temp (slots_of m.funcs c.func) (h + 1))) → Good m (c ∷ calls) w words
-      → ((v : Value) (words1 : List ℕ) → Good m (hold c (c.held ++ v ∷ []) ∷ calls) w words1 → At m (numbers (c ∷ calls)) lo 0 b (k v w) (pc + 1) words1)
-      → At m (numbers (c ∷ calls)) lo 0 b (Turn (Meaning.or_panic ws env at (binary_of o x y) (Meaning.give ws k) w)) pc words
-  bin_end at o is (int x) (int y) c calls ws env k w words h pc lo b here hh room sx sy g post =
-      let s = slots_of m.funcs c.func in
-      let i = Bin (operation o) (temp s h) (temp s h) (temp s (h + 1)) in
-      let left = slice_index words (temp s h) in let right = slice_index words (temp s (h + 1)) in
-      let r = adds o left right x y is sx sy in
-      let done = post (int r.0) (slice_set words (temp s h) (bin_of (operation o) left right)) (temp_set m c calls w words h (bin_of (operation o) left right) (int r.0) hh room r.1.1 g) in
-      turned m {lo1 = suc lo} (omega arith)
-      (subst (λ v. At m (numbers (c ∷ calls)) (suc lo) 1 b (Meaning.or_panic ws env at v (Meaning.give ws k) w) pc words) (sym r.1.0)
-      (seen m _ (stepped m {lo = lo} {hi = 0} i here refl done)))
-  bin_end at o is (bool x) y c calls ws env k w words h pc lo b here hh room sx sy g post = absurd sx
-  bin_end at o is (int x) (bool y) c calls ws env k w words h pc lo b here hh room sx sy g post = absurd sy
-
-  unary_end : (o : UnOp) (x : Value) (c : Frame) (calls : List Frame) (ws : Ways) (k : Then Value) (w : World) (words : List ℕ) (h pc lo b : ℕ) → slice_get m.code.instrs pc ≡ Some (unary_code o (temp (slots_of m.funcs c.func) h))
-      → length c.held ≡ h → h < temps_of m.funcs c.func → Stands x (slice_index words (temp (slots_of m.funcs c.func) h)) → Good m (c ∷ calls) w words
-      → ((v : Value) (words1 : List ℕ) → Good m (hold c (c.held ++ v ∷ []) ∷ calls) w words1 → At m (numbers (c ∷ calls)) lo 0 b (k v w) (pc + 1) words1)
-      → At m (numbers (c ∷ calls)) lo 0 b (Turn (Meaning.give ws k (unary_of o x) w)) pc words
-  unary_end One.Negate (int x) c calls ws k w words h pc lo b here hh room sx g post =
-      let s = slots_of m.funcs c.func in let word = slice_index words (temp s h) in
-      turned m {lo1 = suc lo} (omega arith) (seen m _ (stepped m {lo = lo} {hi = 0} (Negate (temp s h) (temp s h)) here refl
-      (post (int (int_wrapping_neg w64 x)) (slice_set words (temp s h) (negated word)) (temp_set m c calls w words h (negated word) (int (int_wrapping_neg w64 x)) hh room (negs word x sx) g))))
-  unary_end One.Negate (bool x) c calls ws k w words h pc lo b here hh room sx g post = absurd sx
+  pub some_need : (scope : List ℕ) (t : ℕ) (e : Ex) → ExFits m.program scope t e → 0 < need m.program.funcs e
+  some_need scope t (constant (int z)) fit = omega arith
+  some_need scope t (constant (bool b)) fit = omega arith
+  some_need scope t (read p) fit = omega arith
+  some_need scope t (unary op e) fit = some_need scope t e fit.1
+  some_need scope t (binary at op a b) fit = let l = some_need scope fit.0 a fit.2 in omega arith
+  some_need scope t (both a b) fit = let l = some_need scope bool_type a fit.1 in omega arith
+  some_need scope t (either a b) fit = let l = some_need scope bool_type a fit.1 in omega arith
+  some_need scope t (call f es) fit = let r = ap results_in fit.1 in let one = ap (length {A = ℕ}) fit.2 in omega (arith, r, one)
 
   module _ (around : Setting) (callees : Calls) (n : ℕ) (cf : CallsFollow m callees n) where
+    -- behind the first operand of `&&`, and of `||`, which is in its temp
+    both_end : (x : Value) (g : Go) (c : Frame) (calls : List Frame) (ws : Ways) (k : Then Value) (w : World) (words : List ℕ) (h goal pc lo b : ℕ) → slice_get m.code.instrs pc ≡ Some (JumpZero (temp (slots_of m.program.funcs c.func) h) goal)
+        → length c.held ≡ h → IsOf bool_type x → Good m (hold c (c.held ++ x ∷ []) ∷ calls) w words → At m (numbers (c ∷ calls)) lo 0 b (g w) (pc + 1) words
+        → (Good m (hold c (c.held ++ bool false ∷ []) ∷ calls) w words → At m (numbers (c ∷ calls)) lo 0 b (k (bool false) w) goal words)
+        → At m (numbers (c ∷ calls)) lo 0 b (Turn (Meaning.branch x g (Meaning.give ws k (bool false)) w)) pc words
+    both_end (int z) g c calls ws k w words h goal pc lo b here hh is good on off = absurd (omega arith)
+    both_end (bool true) g c calls ws k w words h goal pc lo b here hh is good on off =
+        let a = temp (slots_of m.program.funcs c.func) h in
+        turned m {lo1 = suc lo} (omega arith) (goes_on m {lo = lo} a goal here (held_word m c calls w words c.held [] (bool true) h hh good) on)
+    both_end (bool false) g c calls ws k w words h goal pc lo b here hh is good on off =
+        let a = temp (slots_of m.program.funcs c.func) h in
+        turned m {lo1 = suc lo} (omega arith) (goes_to m {lo = lo} a goal here (held_word m c calls w words c.held [] (bool false) h hh good) (seen m _ (off good)))
+
+    either_end : (x : Value) (g : Go) (c : Frame) (calls : List Frame) (ws : Ways) (k : Then Value) (w : World) (words : List ℕ) (h goal end pc lo b : ℕ) → slice_get m.code.instrs pc ≡ Some (JumpZero (temp (slots_of m.program.funcs c.func) h) goal) → slice_get m.code.instrs (pc + 1) ≡ Some (Jump end)
+        → length c.held ≡ h → IsOf bool_type x → Good m (hold c (c.held ++ x ∷ []) ∷ calls) w words → At m (numbers (c ∷ calls)) lo 0 b (g w) goal words
+        → (Good m (hold c (c.held ++ bool true ∷ []) ∷ calls) w words → At m (numbers (c ∷ calls)) lo 0 b (k (bool true) w) end words)
+        → At m (numbers (c ∷ calls)) lo 0 b (Turn (Meaning.branch x (Meaning.give ws k (bool true)) g w)) pc words
+    either_end (int z) g c calls ws k w words h goal end pc lo b here jump hh is good off on = absurd (omega arith)
+    either_end (bool false) g c calls ws k w words h goal end pc lo b here jump hh is good off on =
+        let a = temp (slots_of m.program.funcs c.func) h in
+        turned m {lo1 = suc lo} (omega arith) (goes_to m {lo = lo} a goal here (held_word m c calls w words c.held [] (bool false) h hh good) off)
+    either_end (bool true) g c calls ws k w words h goal end pc lo b here jump hh is good off on =
+        let a = temp (slots_of m.program.funcs c.func) h in
+        turned m {lo1 = suc (suc lo)} (omega arith) (goes_on m {lo = suc lo} {hi = 1} a goal here (held_word m c calls w words c.held [] (bool true) h hh good)
+        (stepped m {lo = lo} {hi = 0} (Jump end) jump refl (seen m _ (on good))))
+
     mutual
-      pub ev_follows : (e : Ex) (c : Frame) (calls : List Frame) (ws : Ways) (k : Then Value) (w : World) (words : List ℕ) (h pc lo b : ℕ) → b ≤ suc n → length c.held ≡ h → Standing m.code c.fn pc (ex_code m.funcs (slots_of m.funcs c.func) e h)
-          → ExFits m.funcs c.scope e → h + need m.funcs e ≤ temps_of m.funcs c.func → reach m.funcs e ≤ outgoing_of m.funcs c.func → Good m (c ∷ calls) w words
-          → ((v : Value) (w1 : World) (words1 : List ℕ) → Good m (hold c (c.held ++ v ∷ []) ∷ calls) w1 words1 → At m (numbers (c ∷ calls)) lo 0 b (k v w1) (pc + size m.funcs e) words1)
+      pub ev_follows : (e : Ex) (t : ℕ) (c : Frame) (calls : List Frame) (ws : Ways) (k : Then Value) (w : World) (words : List ℕ) (h pc lo b : ℕ) → b ≤ suc n → length c.held ≡ h → Panics ws → Standing m.code c.fn pc (ex_code m.program.funcs (slots_of m.program.funcs c.func) e h pc)
+          → ExFits m.program c.scope t e → h + need m.program.funcs e ≤ temps_of m.program.funcs c.func → reach m.program.funcs e ≤ outgoing_of m.program.funcs c.func → Good m (c ∷ calls) w words
+          → ((v : Value) (w1 : World) (words1 : List ℕ) → IsOf t v → Good m (hold c (c.held ++ v ∷ []) ∷ calls) w1 words1 → At m (numbers (c ∷ calls)) lo 0 b (k v w1) (pc + size m.program.funcs e) words1)
           → At m (numbers (c ∷ calls)) lo 0 b (Meaning.ev around callees e ws c.env k w) pc words
-      ev_follows (constant (int z)) c calls ws k w words h pc lo b le hh has fit enough reaches g post =
-          let s = slots_of m.funcs c.func in
-          turned m {lo1 = suc lo} (omega arith) (seen m _ (stepped m {lo = lo} {hi = 0} (Const (temp s h) (cast_unsigned w64 z)) has.0.0 refl
-          (post (int z) w (slice_set words (temp s h) (cast_unsigned w64 z)) (temp_set m c calls w words h (cast_unsigned w64 z) (int z) hh (omega arith) (to_z-of_z w64 z fit) g))))
-      ev_follows (constant (bool x)) c calls ws k w words h pc lo b le hh has fit enough reaches g post = absurd fit
-      ev_follows (read (local v itself)) c calls ws k w words h pc lo b le hh has fit enough reaches g post =
-          let s = slots_of m.funcs c.func in let word = slice_index words (site_slot s v) in let x = value_of w (c.env v) in
+      ev_follows (constant v) t c calls ws k w words h pc lo b le hh stops has fit enough reaches g post =
+          let s = slots_of m.program.funcs c.func in let some = some_need c.scope t (constant v) fit in
+          turned m {lo1 = suc lo} (omega arith) (seen m _ (stepped m {lo = lo} {hi = 0} (Const (temp s h) (word_of v)) has.0.0 refl
+          (post v w (slice_set words (temp s h) (word_of v)) fit.0 (temp_set m c calls w words h (word_of v) v hh (omega arith) (word_stands v fit.1) g))))
+      ev_follows (read (local v itself)) t c calls ws k w words h pc lo b le hh stops has fit enough reaches g post =
+          let s = slots_of m.program.funcs c.func in let word = slice_index words (site_slot s v) in let x = value_of w (c.env v) in
           turned m {lo1 = suc lo} (omega arith) (read_of m _ _ _ (seen m _ (stepped m {lo = lo} {hi = 0} (Move (temp s h) (site_slot s v)) has.0.0 refl
-          (post x w (slice_set words (temp s h) word) (temp_set m c calls w words h word x hh (omega arith) (site_word m c calls w words v fit g) g)))))
-      ev_follows (unary o a) c calls ws k w words h pc lo b le hh has fit enough reaches g post =
-          let s = slots_of m.funcs c.func in
-          let ca = ex_code m.funcs s a h in let i = unary_code o (temp s h) in
-          let has_i = back m.code c.fn pc (size m.funcs a) ca (i ∷ []) (length_code m.funcs s a h) has in
-          let some = some_need c.scope a fit in
-          ev_follows a c calls ws _ w words h pc lo b le hh (front m.code c.fn pc ca (i ∷ []) has) fit enough reaches g (λ x w1 words1 g1.
-          unary_end o x c calls ws k w1 words1 h (pc + size m.funcs a) lo b has_i.0.0 hh (omega arith) (held_word m c calls w1 words1 c.held [] x h hh g1) (fewer m c calls w1 words1 c.held (x ∷ []) g1) (λ v words2 g2.
-          place_is m (let e : pc + (size m.funcs a + 1) ≡ pc + size m.funcs a + 1 = omega arith in e) (post v w1 words2 g2)))
-      ev_follows (binary at o a d) c calls ws k w words h pc lo b le hh has fit enough reaches g post =
-          let s = slots_of m.funcs c.func in
-          let ca = ex_code m.funcs s a h in let cd = ex_code m.funcs s d (h + 1) in let i = Bin (operation o) (temp s h) (temp s h) (temp s (h + 1)) in
-          let has_d = back m.code c.fn pc (size m.funcs a) ca (cd ++ i ∷ []) (length_code m.funcs s a h) has in
-          let has_i = back m.code c.fn (pc + size m.funcs a) (size m.funcs d) cd (i ∷ []) (length_code m.funcs s d (h + 1)) has_d in
-          let some = some_need c.scope a fit.1 in
-          ev_follows a c calls ws _ w words h pc lo b le hh (front m.code c.fn pc ca (cd ++ i ∷ []) has) fit.1 (omega arith) (omega arith) g (λ x w1 words1 g1.
-          ev_follows d (hold c (c.held ++ x ∷ [])) calls (Meaning.holding ws x) _ w1 words1 (h + 1) (pc + size m.funcs a) lo b le (one_more c.held x h hh) (front m.code c.fn (pc + size m.funcs a) cd (i ∷ []) has_d) fit.2 (omega arith) (omega arith) g1 (λ y w2 words2 g2.
+          (post x w (slice_set words (temp s h) word) (subst (λ u. IsOf u x) fit.1 (g.stack.0.types v fit.0)) (temp_set m c calls w words h word x hh (omega arith) (site_word m c calls w words v fit.0 g) g)))))
+      ev_follows (unary o a) t c calls ws k w words h pc lo b le hh stops has fit enough reaches g post =
+          let s = slots_of m.program.funcs c.func in let na = size m.program.funcs a in
+          let ca = ex_code m.program.funcs s a h pc in let i = unary_code o (temp s h) in
+          let has_i = back m.code c.fn pc na ca (i ∷ []) (length_code m.program.funcs s a h pc) has in
+          let some = some_need c.scope t a fit.1 in
+          ev_follows a t c calls ws _ w words h pc lo b le hh stops (front m.code c.fn pc ca (i ∷ []) has) fit.1 enough reaches g (λ x w1 words1 is g1.
+          let word = slice_index words1 (temp s h) in
+          let r = agrees_one o t x word fit.0 is (held_word m c calls w1 words1 c.held [] x h hh g1) in
+          turned m {lo1 = suc lo} (omega arith) (seen m _ (operates_one m {lo = lo} {hi = 0} o (temp s h) has_i.0.0
+          (place_is m (let e : pc + (na + 1) ≡ pc + na + 1 = omega arith in e)
+          (post (unary_of o x) w1 (slice_set words1 (temp s h) (unary_word o word)) r.0 (temp_set m c calls w1 words1 h (unary_word o word) (unary_of o x) hh (omega arith) r.1 (fewer m c calls w1 words1 c.held (x ∷ []) g1)))))))
+      ev_follows (binary at o a d) t c calls ws k w words h pc lo b le hh stops has fit enough reaches g post =
+          let s = slots_of m.program.funcs c.func in let na = size m.program.funcs a in let nd = size m.program.funcs d in
+          let ca = ex_code m.program.funcs s a h pc in let cd = ex_code m.program.funcs s d (h + 1) (pc + na) in let i = Bin (operation o) (temp s h) (temp s h) (temp s (h + 1)) in
+          let has_d = back m.code c.fn pc na ca (cd ++ i ∷ []) (length_code m.program.funcs s a h pc) has in
+          let has_i = back m.code c.fn (pc + na) nd cd (i ∷ []) (length_code m.program.funcs s d (h + 1) (pc + na)) has_d in
+          let some = some_need c.scope fit.0 a fit.2 in
+          ev_follows a fit.0 c calls ws _ w words h pc lo b le hh stops (front m.code c.fn pc ca (cd ++ i ∷ []) has) fit.2 (omega arith) (omega arith) g (λ x w1 words1 ix g1.
+          ev_follows d fit.0 (hold c (c.held ++ x ∷ [])) calls (Meaning.holding ws x) _ w1 words1 (h + 1) (pc + na) lo b le (one_more c.held x h hh) stops (front m.code c.fn (pc + na) cd (i ∷ []) has_d) fit.3 (omega arith) (omega arith) g1 (λ y w2 words2 iy g2.
           let left = fewer m c calls w2 words2 (c.held ++ x ∷ []) (y ∷ []) g2 in
-          bin_end at o fit.0 x y c calls ws c.env k w2 words2 h (pc + size m.funcs a + size m.funcs d) lo b has_i.0.0 hh (omega arith)
-          (held_word m c calls w2 words2 c.held [] x h hh left) (held_word m c calls w2 words2 (c.held ++ x ∷ []) [] y (h + 1) (one_more c.held x h hh) g2)
-          (fewer m c calls w2 words2 c.held (x ∷ []) left) (λ v words3 g3.
-          place_is m (let e : pc + (size m.funcs a + size m.funcs d + 1) ≡ pc + size m.funcs a + size m.funcs d + 1 = omega arith in e) (post v w2 words3 g3))))
-      ev_follows (call f es) c calls ws k w words h pc lo b le hh has fit enough reaches g post =
-          let s = slots_of m.funcs c.func in
-          let ces = exs_code m.funcs s es h in
-          let has_c = back m.code c.fn pc (exs_size m.funcs es) ces (call_code m.funcs s f h) (length_exs m.funcs s es h) has in
-          evs_follow es c calls ws _ w words h pc lo b le hh (front m.code c.fn pc ces (call_code m.funcs s f h) has) fit.4 (omega arith) (omega arith) g (λ vs w1 words1 many g1.
-          call_end m callees n cf f fit.0 vs c calls ws c.env _ w1 words1 h (pc + exs_size m.funcs es) lo b le fit.1 hh (many ∙ fit.3) has_c (omega arith) (omega arith) g1 (λ rs w2 words2 some g2.
-          seen m _ (place_is m (let e : pc + (exs_size m.funcs es + call_size m.funcs f) ≡ pc + exs_size m.funcs es + call_size m.funcs f = omega arith in e)
-          (post (only_value rs) w2 words2 (subst (λ l. Good m (hold c (c.held ++ l) ∷ calls) w2 words2) (single rs (some ∙ fit.2)) g2)))))
+          turned m {lo1 = suc lo} (omega arith)
+          (operates m at o fit.0 t x y ws c.env _ w2 (numbers (c ∷ calls)) words2 (temp s h) (temp s h) (temp s (h + 1)) (pc + na + nd) lo 0 b has_i.0.0 stops fit.1 ix iy
+          (held_word m c calls w2 words2 c.held [] x h hh left) (held_word m c calls w2 words2 (c.held ++ x ∷ []) [] y (h + 1) (one_more c.held x h hh) g2) (λ v word iv sv.
+          seen m _ (place_is m (let e : pc + (na + nd + 1) ≡ pc + na + nd + 1 = omega arith in e)
+          (post v w2 (slice_set words2 (temp s h) word) iv (temp_set m c calls w2 words2 h word v hh (omega arith) sv (fewer m c calls w2 words2 c.held (x ∷ []) left))))))))
+      ev_follows (both a d) t c calls ws k w words h pc lo b le hh stops has fit enough reaches g post =
+          let s = slots_of m.program.funcs c.func in let na = size m.program.funcs a in let nd = size m.program.funcs d in
+          let ca = ex_code m.program.funcs s a h pc in let cd = ex_code m.program.funcs s d h (pc + na + 1) in let i = JumpZero (temp s h) (pc + na + 1 + nd) in
+          let has_i = back m.code c.fn pc na ca (i ∷ cd) (length_code m.program.funcs s a h pc) has in
+          ev_follows a bool_type c calls ws _ w words h pc lo b le hh stops (front m.code c.fn pc ca (i ∷ cd) has) fit.1 (omega arith) (omega arith) g (λ x w1 words1 ix g1.
+          both_end x _ c calls ws k w1 words1 h (pc + na + 1 + nd) (pc + na) lo b has_i.0.0 hh ix g1
+          (ev_follows d bool_type c calls ws k w1 words1 h (pc + na + 1) lo b le hh stops has_i.1 fit.2 (omega arith) (omega arith) (fewer m c calls w1 words1 c.held (x ∷ []) g1) (λ v w2 words2 iv g2.
+          place_is m (let e : pc + (na + 1 + nd) ≡ pc + na + 1 + nd = omega arith in e) (post v w2 words2 (subst (λ u. IsOf u v) (sym fit.0) iv) g2)))
+          (λ g2. place_is m (let e : pc + (na + 1 + nd) ≡ pc + na + 1 + nd = omega arith in e) (post (bool false) w1 words1 fit.0 g2)))
+      ev_follows (either a d) t c calls ws k w words h pc lo b le hh stops has fit enough reaches g post =
+          let s = slots_of m.program.funcs c.func in let na = size m.program.funcs a in let nd = size m.program.funcs d in
+          let ca = ex_code m.program.funcs s a h pc in let cd = ex_code m.program.funcs s d h (pc + na + 2) in let i = JumpZero (temp s h) (pc + na + 2) in let j = Jump (pc + na + 2 + nd) in
+          let has_i = back m.code c.fn pc na ca (i ∷ j ∷ cd) (length_code m.program.funcs s a h pc) has in
+          let e2 : pc + na + 1 + 1 ≡ pc + na + 2 = omega arith in
+          ev_follows a bool_type c calls ws _ w words h pc lo b le hh stops (front m.code c.fn pc ca (i ∷ j ∷ cd) has) fit.1 (omega arith) (omega arith) g (λ x w1 words1 ix g1.
+          either_end x _ c calls ws k w1 words1 h (pc + na + 2) (pc + na + 2 + nd) (pc + na) lo b has_i.0.0 has_i.1.0.0 hh ix g1
+          (ev_follows d bool_type c calls ws k w1 words1 h (pc + na + 2) lo b le hh stops (subst (λ p. Standing m.code c.fn p cd) e2 has_i.1.1) fit.2 (omega arith) (omega arith) (fewer m c calls w1 words1 c.held (x ∷ []) g1) (λ v w2 words2 iv g2.
+          place_is m (let e : pc + (na + 2 + nd) ≡ pc + na + 2 + nd = omega arith in e) (post v w2 words2 (subst (λ u. IsOf u v) (sym fit.0) iv) g2)))
+          (λ g2. place_is m (let e : pc + (na + 2 + nd) ≡ pc + na + 2 + nd = omega arith in e) (post (bool true) w1 words1 fit.0 g2)))
+      ev_follows (call f es) t c calls ws k w words h pc lo b le hh stops has fit enough reaches g post =
+          let s = slots_of m.program.funcs c.func in let nes = exs_size m.program.funcs es in
+          let ces = exs_code m.program.funcs s es h pc in
+          let has_c = back m.code c.fn pc nes ces (call_code m.program.funcs s f h) (length_exs m.program.funcs s es h pc) has in
+          evs_follow es fit.0.param_types c calls ws _ w words h pc lo b le hh stops (front m.code c.fn pc ces (call_code m.program.funcs s f h) has) fit.3 (omega arith) (omega arith) g (λ vs w1 words1 are g1.
+          call_end m callees n cf f fit.0 vs c calls ws c.env _ w1 words1 h (pc + nes) lo b le fit.1 hh stops are has_c (omega arith) (omega arith) g1 (λ rs w2 words2 some g2.
+          let one : AreOf (t ∷ []) rs = subst (λ ts. AreOf ts rs) fit.2 some in
+          seen m _ (place_is m (let e : pc + (nes + call_size m.program.funcs f) ≡ pc + nes + call_size m.program.funcs f = omega arith in e)
+          (post (only_value rs) w2 words2 (only_of t rs one) (subst (λ l. Good m (hold c (c.held ++ l) ∷ calls) w2 words2) (single t rs one) g2)))))
 
-      pub evs_follow : (es : Exs) (c : Frame) (calls : List Frame) (ws : Ways) (k : Then (List Value)) (w : World) (words : List ℕ) (h pc lo b : ℕ) → b ≤ suc n → length c.held ≡ h → Standing m.code c.fn pc (exs_code m.funcs (slots_of m.funcs c.func) es h)
-          → ExsFit m.funcs c.scope es → h + need_all m.funcs es ≤ temps_of m.funcs c.func → reach_all m.funcs es ≤ outgoing_of m.funcs c.func → Good m (c ∷ calls) w words
-          → ((vs : List Value) (w1 : World) (words1 : List ℕ) → length vs ≡ values_of m.funcs es → Good m (hold c (c.held ++ vs) ∷ calls) w1 words1 → At m (numbers (c ∷ calls)) lo 0 b (k vs w1) (pc + exs_size m.funcs es) words1)
+      pub evs_follow : (es : Exs) (ts : List ℕ) (c : Frame) (calls : List Frame) (ws : Ways) (k : Then (List Value)) (w : World) (words : List ℕ) (h pc lo b : ℕ) → b ≤ suc n → length c.held ≡ h → Panics ws → Standing m.code c.fn pc (exs_code m.program.funcs (slots_of m.program.funcs c.func) es h pc)
+          → ExsFit m.program c.scope ts es → h + need_all m.program.funcs es ≤ temps_of m.program.funcs c.func → reach_all m.program.funcs es ≤ outgoing_of m.program.funcs c.func → Good m (c ∷ calls) w words
+          → ((vs : List Value) (w1 : World) (words1 : List ℕ) → AreOf ts vs → Good m (hold c (c.held ++ vs) ∷ calls) w1 words1 → At m (numbers (c ∷ calls)) lo 0 b (k vs w1) (pc + exs_size m.program.funcs es) words1)
           → At m (numbers (c ∷ calls)) lo 0 b (Meaning.evs around callees es ws c.env k w) pc words
-      evs_follow none c calls ws k w words h pc lo b le hh has fit enough reaches g post =
-          place_is m (let e : pc + 0 ≡ pc = omega arith in e) (post [] w words refl (held_none m c calls w words g))
-      evs_follow (more e es) c calls ws k w words h pc lo b le hh has fit enough reaches g post =
-          let s = slots_of m.funcs c.func in
-          let ce = ex_code m.funcs s e h in let ces = exs_code m.funcs s es (h + 1) in
-          ev_follows e c calls ws _ w words h pc lo b le hh (front m.code c.fn pc ce ces has) fit.0 (omega arith) (omega arith) g (λ v w1 words1 g1.
-          evs_follow es (hold c (c.held ++ v ∷ [])) calls (Meaning.holding ws v) _ w1 words1 (h + 1) (pc + size m.funcs e) lo b le (one_more c.held v h hh) (back m.code c.fn pc (size m.funcs e) ce ces (length_code m.funcs s e h) has) fit.1 (omega arith) (omega arith) g1 (λ vs w2 words2 many g2.
-          place_is m (let e : pc + (size m.funcs e + exs_size m.funcs es) ≡ pc + size m.funcs e + exs_size m.funcs es = omega arith in e)
-          (post (v ∷ vs) w2 words2 (let l : length (v ∷ vs) ≡ suc (length vs) = refl in omega (arith, l, many)) (subst (λ l. Good m (hold c l ∷ calls) w2 words2) (append_assoc c.held (v ∷ []) vs) g2))))
-      evs_follow (results f es) c calls ws k w words h pc lo b le hh has fit enough reaches g post =
-          let s = slots_of m.funcs c.func in
-          let ces = exs_code m.funcs s es h in
-          let has_c = back m.code c.fn pc (exs_size m.funcs es) ces (call_code m.funcs s f h) (length_exs m.funcs s es h) has in
-          evs_follow es c calls ws _ w words h pc lo b le hh (front m.code c.fn pc ces (call_code m.funcs s f h) has) fit.3 (omega arith) (omega arith) g (λ vs w1 words1 many g1.
-          call_end m callees n cf f fit.0 vs c calls ws c.env _ w1 words1 h (pc + exs_size m.funcs es) lo b le fit.1 hh (many ∙ fit.2) has_c (omega arith) (omega arith) g1 (λ rs w2 words2 some g2.
-          seen m _ (place_is m (let e : pc + (exs_size m.funcs es + call_size m.funcs f) ≡ pc + exs_size m.funcs es + call_size m.funcs f = omega arith in e)
-          (post rs w2 words2 (some ∙ sym (ap results_in fit.1)) g2))))
+      evs_follow none [] c calls ws k w words h pc lo b le hh stops has fit enough reaches g post =
+          place_is m (let e : pc + 0 ≡ pc = omega arith in e) (post [] w words tt (held_none m c calls w words g))
+      evs_follow none (t ∷ ts) c calls ws k w words h pc lo b le hh stops has fit enough reaches g post = absurd fit
+      evs_follow (more e es) [] c calls ws k w words h pc lo b le hh stops has fit enough reaches g post = absurd fit
+      evs_follow (more e es) (t ∷ ts) c calls ws k w words h pc lo b le hh stops has fit enough reaches g post =
+          let s = slots_of m.program.funcs c.func in let ne = size m.program.funcs e in let nes = exs_size m.program.funcs es in
+          let ce = ex_code m.program.funcs s e h pc in let ces = exs_code m.program.funcs s es (h + 1) (pc + ne) in
+          ev_follows e t c calls ws _ w words h pc lo b le hh stops (front m.code c.fn pc ce ces has) fit.0 (omega arith) (omega arith) g (λ v w1 words1 iv g1.
+          evs_follow es ts (hold c (c.held ++ v ∷ [])) calls (Meaning.holding ws v) _ w1 words1 (h + 1) (pc + ne) lo b le (one_more c.held v h hh) stops (back m.code c.fn pc ne ce ces (length_code m.program.funcs s e h pc) has) fit.1 (omega arith) (omega arith) g1 (λ vs w2 words2 are g2.
+          place_is m (let q : pc + (ne + nes) ≡ pc + ne + nes = omega arith in q)
+          (post (v ∷ vs) w2 words2 (iv, are) (subst (λ l. Good m (hold c l ∷ calls) w2 words2) (append_assoc c.held (v ∷ []) vs) g2))))
+      evs_follow asked [] c calls ws k w words h pc lo b le hh stops has fit enough reaches g post = absurd fit
+      evs_follow asked (t ∷ ts) c calls ws k w words h pc lo b le hh stops has fit enough reaches g post = absurd fit
+      evs_follow (results f es) ts c calls ws k w words h pc lo b le hh stops has fit enough reaches g post =
+          let s = slots_of m.program.funcs c.func in let nes = exs_size m.program.funcs es in
+          let last = last_fits m.program c.scope ts f es fit in
+          let ces = exs_code m.program.funcs s es h pc in
+          let has_c = back m.code c.fn pc nes ces (call_code m.program.funcs s f h) (length_exs m.program.funcs s es h pc) has in
+          evs_follow es last.0.param_types c calls ws _ w words h pc lo b le hh stops (front m.code c.fn pc ces (call_code m.program.funcs s f h) has) last.3 (omega arith) (omega arith) g (λ vs w1 words1 are g1.
+          call_end m callees n cf f last.0 vs c calls ws c.env _ w1 words1 h (pc + nes) lo b le last.1 hh stops are has_c (omega arith) (omega arith) g1 (λ rs w2 words2 some g2.
+          seen m _ (place_is m (let e : pc + (nes + call_size m.program.funcs f) ≡ pc + nes + call_size m.program.funcs f = omega arith in e)
+          (post rs w2 words2 (subst (λ us. AreOf us rs) last.2 some) g2))))
 
-    pub pieces_follow : (ps : List Piece) (c : Frame) (calls : List Frame) (ws : Ways) (k : Then (List (List ℕ))) (w : World) (words : List ℕ) (h pc lo b : ℕ) → b ≤ suc n → length c.held ≡ h → Standing m.code c.fn pc (pieces_code m.funcs (slots_of m.funcs c.func) ps h)
-        → PiecesFit m.funcs c.scope ps → h + need_pieces m.funcs ps ≤ temps_of m.funcs c.func → reach_pieces m.funcs ps ≤ outgoing_of m.funcs c.func → Good m (c ∷ calls) w words
-        → ((vs : List Value) (w1 : World) (words1 : List ℕ) → length vs ≡ length ps → Good m (hold c (c.held ++ vs) ∷ calls) w1 words1 → At m (numbers (c ∷ calls)) lo 0 b (k (texts vs) w1) (pc + pieces_size m.funcs ps) words1)
+    pub pieces_follow : (ps : List Piece) (c : Frame) (calls : List Frame) (ws : Ways) (k : Then (List (List ℕ))) (w : World) (words : List ℕ) (h pc lo b : ℕ) → b ≤ suc n → length c.held ≡ h → Panics ws → Standing m.code c.fn pc (pieces_code m.program.funcs (slots_of m.program.funcs c.func) ps h pc)
+        → PiecesFit m.program c.scope ps → h + need_pieces m.program.funcs ps ≤ temps_of m.program.funcs c.func → reach_pieces m.program.funcs ps ≤ outgoing_of m.program.funcs c.func → Good m (c ∷ calls) w words
+        → ((vs : List Value) (w1 : World) (words1 : List ℕ) → AreOf (piece_types ps) vs → Good m (hold c (c.held ++ vs) ∷ calls) w1 words1 → At m (numbers (c ∷ calls)) lo 0 b (k (texts around.strings ps vs) w1) (pc + pieces_size m.program.funcs ps) words1)
         → At m (numbers (c ∷ calls)) lo 0 b (Meaning.pieces around callees ps ws c.env k w) pc words
-    pieces_follow [] c calls ws k w words h pc lo b le hh has fit enough reaches g post =
-        place_is m (let e : pc + 0 ≡ pc = omega arith in e) (post [] w words refl (held_none m c calls w words g))
-    pieces_follow (shown e ∷ ps) c calls ws k w words h pc lo b le hh has fit enough reaches g post =
-        let s = slots_of m.funcs c.func in
-        let ce = ex_code m.funcs s e h in let cps = pieces_code m.funcs s ps (h + 1) in
-        ev_follows e c calls ws _ w words h pc lo b le hh (front m.code c.fn pc ce cps has) fit.0 (omega arith) (omega arith) g (λ v w1 words1 g1.
-        pieces_follow ps (hold c (c.held ++ v ∷ [])) calls (Meaning.holding ws v) _ w1 words1 (h + 1) (pc + size m.funcs e) lo b le (one_more c.held v h hh) (back m.code c.fn pc (size m.funcs e) ce cps (length_code m.funcs s e h) has) fit.1 (omega arith) (omega arith) g1 (λ vs w2 words2 many g2.
-        place_is m (let e : pc + (size m.funcs e + pieces_size m.funcs ps) ≡ pc + size m.funcs e + pieces_size m.funcs ps = omega arith in e)
-        (post (v ∷ vs) w2 words2 (ap suc many) (subst (λ l. Good m (hold c l ∷ calls) w2 words2) (append_assoc c.held (v ∷ []) vs) g2))))
+    pieces_follow [] c calls ws k w words h pc lo b le hh stops has fit enough reaches g post =
+        place_is m (let e : pc + 0 ≡ pc = omega arith in e) (post [] w words tt (held_none m c calls w words g))
+    pieces_follow (text number ∷ ps) c calls ws k w words h pc lo b le hh stops has fit enough reaches g post =
+        let q : pc + pieces_size m.program.funcs (text number ∷ ps) ≡ pc + pieces_size m.program.funcs ps = omega arith in
+        pieces_follow ps c calls ws (λ r. k (get_or around.strings number [] ∷ r)) w words h pc lo b le hh stops has fit.1 enough reaches g (λ vs w1 words1 are g1. place_is m {pc = pc + pieces_size m.program.funcs (text number ∷ ps)} q (post vs w1 words1 are g1))
+    pieces_follow (shown t e ∷ ps) c calls ws k w words h pc lo b le hh stops has fit enough reaches g post =
+        let s = slots_of m.program.funcs c.func in let ne = size m.program.funcs e in let nps = pieces_size m.program.funcs ps in
+        let ce = ex_code m.program.funcs s e h pc in let cps = pieces_code m.program.funcs s ps (h + 1) (pc + ne) in
+        ev_follows e t c calls ws _ w words h pc lo b le hh stops (front m.code c.fn pc ce cps has) fit.0 (omega arith) (omega arith) g (λ v w1 words1 iv g1.
+        pieces_follow ps (hold c (c.held ++ v ∷ [])) calls (Meaning.holding ws v) _ w1 words1 (h + 1) (pc + ne) lo b le (one_more c.held v h hh) stops (back m.code c.fn pc ne ce cps (length_code m.program.funcs s e h pc) has) fit.1 (omega arith) (omega arith) g1 (λ vs w2 words2 are g2.
+        place_is m (let q : pc + (ne + nps) ≡ pc + ne + nps = omega arith in q)
+        (post (v ∷ vs) w2 words2 (iv, are) (subst (λ l. Good m (hold c l ∷ calls) w2 words2) (append_assoc c.held (v ∷ []) vs) g2))))

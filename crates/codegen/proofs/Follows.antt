@@ -1,15 +1,17 @@
 -- The machine follows a program.
 use Rattle.std.proofs.Common.{◌≡◌, inl, inr, ℕ, zero, suc, ◌+◌, ◌-◌, ◌<◌, ◌≤◌, pos, Bool, true, false, List, [], ◌∷◌, ◌++◌, length, Option, Some, None, refl, sym, ap, ◌∙◌, subst, arith, get_or}
 use Rattle.std.specs.Prelude.{slice_get, nat_le, if◌then◌else◌, replicate}
-use Rattle.typed.specs.Value.{Value, int}
+use Rattle.typed.specs.Value.{Value, int, bool}
+use Rattle.std.proofs.lemmas.List.{length-map}
 use Rattle.typed.specs.Syntax.{Func, Program, argument_words, result_words}
-use Rattle.typed.specs.Form.{InScope, FuncFits, IsInForm, ParamsFit, NamedFit, named_params, params_scope, named_scope, scope_in, body_first, ends_all}
+use Rattle.typed.specs.Form.{IsOf, AreOf, IsPlain, site_type, InScope, SitesNext, FuncFits, IsInForm, ParamsFit, named_params, scope_with, params_scope, scope_in, body_first, breaks_all, ends_all}
+use Rattle.typed.specs.View.{zero_values}
 use Rattle.typed.specs.Frames.{frame_in, frame_of, named_need, temps_of}
 use Rattle.meaning.specs.Trace.{Ending, Exit, StackLimit, World}
 use Rattle.meaning.specs.Store.{no_value, born}
 use Rattle.meaning.specs.Meaning
-use Rattle.meaning.specs.Meaning.{Env, Go, Then, Ways, Calls, Setting, Answer}
-use Rattle.meaning.specs.Output.{Limits, out}
+use Rattle.meaning.specs.Meaning.{Env, Go, Then, Ways, Calls, Setting, Item}
+use Rattle.meaning.specs.Output.{Limits, Sight, out}
 use Rattle.simulation.specs.Outcome as Run
 use Rattle.simulation.specs.Outcome.{Lines, Outcome}
 use Rattle.simulation.specs.Follows.{Follows}
@@ -22,175 +24,190 @@ use Rattle.codegen.specs.Code.{slots_of, params_code, zeros_code, params_size, e
 use Rattle.codegen.specs.Correct.{same_event, same_end, limits, entered, target, Simulated}
 use Rattle.codegen.proofs.Sizes.{length_params, length_entry, length_sts, length_func}
 use Rattle.codegen.proofs.Compiled.{Placed, Compiled}
-use Rattle.codegen.proofs.Frames.{Built, AreAt, Frame, placed, fresh, numbers, depth, room_of, Good, moved_back}
+use Rattle.codegen.proofs.Frames.{Built, Stands, AreAt, Frame, placed, fresh, numbers, depth, room_of, Good, moved_back}
 use Rattle.codegen.proofs.Changes.{first_frame}
-use Rattle.codegen.proofs.Places.{Standing, front, back, standing, At, place_is, none_asked, seen}
+use Rattle.codegen.proofs.Places.{Standing, front, back, standing, Panics, At, place_is, none_asked, seen}
 use Rattle.codegen.proofs.Crossing.{Behind, Linked, called}
-use Rattle.codegen.proofs.Moves.{CallsFollow}
-use Rattle.codegen.proofs.ReturnsFollow.{Home, Returns, home_returns}
-use Rattle.codegen.proofs.StatementsFollow.{Scoped, all_follow}
-use Rattle.codegen.proofs.EntriesFollow.{params_follow, zeros_follow}
+use Rattle.codegen.proofs.Moves.{params_length, arguments_length, CallsFollow}
+use Rattle.codegen.proofs.ReturnsFollow.{Home, Given, Returns, home_returns}
+use Rattle.codegen.proofs.Scopes.{Scoped, with_has, with_below}
+use Rattle.codegen.proofs.LeftsFollow.{named_next, zeros_follow}
+use Rattle.codegen.proofs.Leading.{Leads}
+use Rattle.codegen.proofs.StatementsFollow.{all_follow}
+use Rattle.codegen.proofs.EntriesFollow.{params_follow}
 
--- the scope at the beginning of a body
-named_has : (scope sites : List ℕ) (v : ℕ) → InScope v scope → InScope v (named_scope scope sites)
-named_has scope [] v i = i
-named_has scope (site ∷ sites) v i = named_has (site ∷ scope) sites v (inr i)
-
-named_in : (scope sites : List ℕ) (v : ℕ) → InScope v sites → InScope v (named_scope scope sites)
+-- results with names are in scope at the beginning of a body
+named_in : (scope sites : List ℕ) (v : ℕ) → InScope v sites → InScope v (scope_with scope sites)
 named_in scope [] v i = absurd i
-named_in scope (site ∷ sites) v (inl e) = named_has (site ∷ scope) sites v (inl e)
+named_in scope (site ∷ sites) v (inl e) = with_has (site ∷ scope) sites v (inl e)
 named_in scope (site ∷ sites) v (inr i) = named_in (site ∷ scope) sites v i
 
-params_below : (scope : List ℕ) (q : ℕ) (ps : List (Option ℕ)) → ParamsFit q ps → ((v : ℕ) → InScope v scope → v < q) → (v : ℕ) → InScope v (params_scope scope ps) → v < q + named_params ps
-params_below scope q [] fit below v i = let l = below v i in omega arith
-params_below scope q (None ∷ ps) fit below v i = params_below scope q ps fit below v i
-params_below scope q (Some site ∷ ps) fit below v i =
+params_below : (p : Program) (scope : List ℕ) (q : ℕ) (ts : List ℕ) (ps : List (Option ℕ)) → ParamsFit p q ts ps → ((v : ℕ) → InScope v scope → v < q) → (v : ℕ) → InScope v (params_scope scope ps) → v < q + named_params ps
+params_below p scope q [] [] fit below v i = let l = below v i in omega arith
+params_below p scope q (t ∷ ts) [] fit below v i = absurd fit
+params_below p scope q [] (o ∷ ps) fit below v i = absurd fit
+params_below p scope q (t ∷ ts) (None ∷ ps) fit below v i = params_below p scope q ts ps fit below v i
+params_below p scope q (t ∷ ts) (Some site ∷ ps) fit below v i =
     let e = fit.0 in
-    let l = params_below (site ∷ scope) (suc q) ps fit.1 (λ u j. elim j [ inl p ↦ omega arith | inr p ↦ (let k = below u p in omega arith) ]) v i in omega arith
+    let l = params_below p (site ∷ scope) (suc q) ts ps fit.2 (λ u j. elim j [ inl r ↦ omega arith | inr r ↦ (let k = below u r in omega arith) ]) v i in omega arith
 
-named_below : (scope : List ℕ) (q : ℕ) (sites : List ℕ) → NamedFit q sites → ((v : ℕ) → InScope v scope → v < q) → (v : ℕ) → InScope v (named_scope scope sites) → v < q + length sites
-named_below scope q [] fit below v i = let l = below v i in omega arith
-named_below scope q (site ∷ sites) fit below v i =
-    let e = fit.0 in
-    let l = named_below (site ∷ scope) (suc q) sites fit.1 (λ u j. elim j [ inl p ↦ omega arith | inr p ↦ (let k = below u p in omega arith) ]) v i in omega arith
+-- no values of no types
+none_of : (ts : List ℕ) → length ts ≡ 0 → AreOf ts []
+none_of [] e = tt
+none_of (t ∷ ts) e = absurd (omega arith)
 
-module _ (m : Built) (around : Setting) (zero_is : (site : ℕ) → Meaning.zero_of around site ≡ int (pos 0)) where
-  no_values : (a : ℕ) (f : Func) → values_code (slots_of m.funcs f) a 0 f.named ++ leave_code (slots_of m.funcs f) a f.named ≡ leave_code (slots_of m.funcs f) a f.named
+module _ (m : Built) (around : Setting) (strings : around.strings ≡ m.program.strings) (zero_is : (site : ℕ) → Stands (Meaning.zero_of around site) 0 × IsOf (site_type m.program site) (Meaning.zero_of around site)) where
+  no_values : (a : ℕ) (f : Func) → values_code (slots_of m.program.funcs f) a 0 f.named 0 ++ leave_code (slots_of m.program.funcs f) a f.named ≡ leave_code (slots_of m.program.funcs f) a f.named
   no_values a f = none f.named
     where
-      none : (sites : List ℕ) → values_code (slots_of m.funcs f) a 0 sites ++ leave_code (slots_of m.funcs f) a sites ≡ leave_code (slots_of m.funcs f) a sites
+      none : (sites : List ℕ) → values_code (slots_of m.program.funcs f) a 0 sites 0 ++ leave_code (slots_of m.program.funcs f) a sites ≡ leave_code (slots_of m.program.funcs f) a sites
       none [] = refl
       none (site ∷ sites) = refl
 
   -- a function, from its first instruction
-  module _ (n : ℕ) (callees : Calls) (cf : CallsFollow m callees n) (f : ℕ) (func : Func) (named : slice_get m.funcs f ≡ Some func) (place : Placed m.funcs m.code f func) where
-    fit : FuncFits m.funcs func
+  module _ (n : ℕ) (callees : Calls) (cf : CallsFollow m callees n) (f : ℕ) (func : Func) (named : slice_get m.program.funcs f ≡ Some func) (place : Placed m.program.funcs m.code f func) where
+    fit : FuncFits m.program func
     fit = m.fits f func named
 
-    has : Standing m.code f place.start (func_code m.funcs func place.start)
-    has = standing m.code f place.start (func_code m.funcs func place.start) place.stands (λ i l. place.owned i (omega (arith, length_func m.funcs func place.start)))
+    has : Standing m.code f place.start (func_code m.program.funcs func place.start)
+    has = standing m.code f place.start (func_code m.program.funcs func place.start) place.stands (λ i l. place.owned i (omega (arith, length_func m.program.funcs func place.start)))
 
     abbrev start : ℕ
-    start = place.start + entry_size m.funcs func
+    start = place.start + entry_size m.program.funcs func
 
     abbrev body : List Instr
-    body = sts_code m.funcs (argument_words func) func.named (slots_of m.funcs func) func.body start
+    body = sts_code m.program.funcs (argument_words func) func.named (slots_of m.program.funcs func) func.body 0 0 0 start
 
     abbrev ending : List Instr
-    ending = leave_code (slots_of m.funcs func) (argument_words func) func.named
+    ending = leave_code (slots_of m.program.funcs func) (argument_words func) func.named
 
-    has_entry : Standing m.code f place.start (entry_code m.funcs func)
-    has_entry = front m.code f place.start (entry_code m.funcs func) (body ++ ending) has
+    has_entry : Standing m.code f place.start (entry_code m.program.funcs func)
+    has_entry = front m.code f place.start (entry_code m.program.funcs func) (body ++ ending) has
 
-    has_params : Standing m.code f place.start (params_code (slots_of m.funcs func) func.params 0)
-    has_params = front m.code f place.start (params_code (slots_of m.funcs func) func.params 0) (zeros_code (slots_of m.funcs func) func.named) has_entry
+    has_params : Standing m.code f place.start (params_code (slots_of m.program.funcs func) func.params 0)
+    has_params = front m.code f place.start (params_code (slots_of m.program.funcs func) func.params 0) (zeros_code (slots_of m.program.funcs func) func.named) has_entry
 
-    has_zeros : Standing m.code f (place.start + params_size func.params) (zeros_code (slots_of m.funcs func) func.named)
-    has_zeros = back m.code f place.start (params_size func.params) (params_code (slots_of m.funcs func) func.params 0) (zeros_code (slots_of m.funcs func) func.named) (length_params (slots_of m.funcs func) func.params 0) has_entry
+    has_zeros : Standing m.code f (place.start + params_size func.params) (zeros_code (slots_of m.program.funcs func) func.named)
+    has_zeros = back m.code f place.start (params_size func.params) (params_code (slots_of m.program.funcs func) func.params 0) (zeros_code (slots_of m.program.funcs func) func.named) (length_params (slots_of m.program.funcs func) func.params 0) has_entry
 
     has_rest : Standing m.code f start (body ++ ending)
-    has_rest = back m.code f place.start (entry_size m.funcs func) (entry_code m.funcs func) (body ++ ending) (length_entry m.funcs func) has
+    has_rest = back m.code f place.start (entry_size m.program.funcs func) (entry_code m.program.funcs func) (body ++ ending) (length_entry m.program.funcs func) has
 
-    has_end : Standing m.code f (start + sts_size m.funcs (argument_words func) func.named func.body) ending
-    has_end = back m.code f start (sts_size m.funcs (argument_words func) func.named func.body) body ending (length_sts m.funcs (argument_words func) func.named (slots_of m.funcs func) func.body start) has_rest
+    has_end : Standing m.code f (start + sts_size m.program.funcs (argument_words func) func.named func.body) ending
+    has_end = back m.code f start (sts_size m.program.funcs (argument_words func) func.named func.body) body ending (length_sts m.program.funcs (argument_words func) func.named (slots_of m.program.funcs func) func.body 0 0 0 start) has_rest
 
     -- where the end of the body is met, there are no results
     no_results : ends_all func.body ≡ false → result_words func ≡ 0
     no_results goes = elim fit.end [ inl e ↦ e | inr e ↦ absurd cc (sym e ∙ goes) ]
 
     no_names : ends_all func.body ≡ false → length func.named ≡ 0
-    no_names goes = elim fit.names [ inl e ↦ ap (λ l. length l) e | inr e ↦ e ∙ no_results goes ]
+    no_names goes = elim fit.names [ inl e ↦ ap (λ l. length l) e | inr e ↦ sym (length-map func.named (site_type m.program)) ∙ ap (λ l. length l) e ∙ no_results goes ]
 
-    scoped : (calls : List Frame) (entry : ℕ) → Scoped m around callees n cf (fresh f func entry) calls (scope_in func) (body_first func)
-    scoped calls entry = record {
+    next_named : SitesNext (func.first + named_params func.params) (func.first + func.count) func.named
+    next_named = let count = fit.count in named_next m.program (func.first + named_params func.params) (func.first + func.count) func.named fit.named (omega arith)
+
+    scoped : Scoped func (scope_in func) (body_first func)
+    scoped = record {
       named = named_in (params_scope [] func.params) func.named;
-      below = named_below (params_scope [] func.params) (func.first + named_params func.params) func.named fit.named (params_below [] func.first func.params fit.params (λ v i. absurd i));
+      below = with_below (params_scope [] func.params) (func.first + named_params func.params) (func.first + func.count) func.named next_named (params_below m.program [] func.first func.param_types func.params fit.params (λ v i. absurd i));
       from = omega arith;
     }
 
-    body_follows : (calls : List Frame) (vs : List Value) (ws : Ways) (env0 : Env) (k : Then (List Value)) (w : World) (words : List ℕ) (lo b : ℕ) → b ≤ suc n → Linked m f calls → length vs ≡ argument_words func → argument_words func + result_words func ≤ room_of m calls
+    body_follows : (calls : List Frame) (vs : List Value) (ws : Ways) (env0 : Env) (k : Then (List Value)) (w : World) (words : List ℕ) (lo b : ℕ) → b ≤ suc n → Linked m f calls → Panics ws → AreOf func.param_types vs → argument_words func + result_words func ≤ room_of m calls
         → AreAt vs (depth m calls) 0 words → Good m (fresh f func (length w.store) ∷ calls) w words → Home m lo b func calls k
         → At m (f ∷ numbers calls) lo 0 b (Meaning.births (λ e. Meaning.bear_params around e func.params vs (λ x. 0) (λ env1. Meaning.bear_zeros around e func.named env1 (λ env2. Meaning.exec_all around callees (suc n) func.body (Meaning.ways_in func.named e ws env0 k) env2 (Meaning.leave func.named e k [])))) w) place.start words
-    body_follows calls vs ws env0 k w words lo b le from many room are g home =
-        let entry = length w.store in let c = fresh f func entry in let count = fit.count in
+    body_follows calls vs ws env0 k w words lo b le from stops typed room are g home =
+        let entry = length w.store in let c = fresh f func entry in let count = fit.count in let many = arguments_length m f func vs named typed in
         let returns : Returns m lo b c calls (Meaning.leave func.named entry k) = home_returns m c calls k entry lo b from room home fit.names in
-        let here : place.start + entry_size m.funcs func ≡ place.start + params_size func.params + length func.named = omega arith in
-        let sc = scoped calls entry in
-        params_follow m around c calls func.params vs (λ x. 0) [] entry _ w words func.first 0 place.start lo b many has_params fit.params (omega arith) (omega arith) (omega arith) are g (λ env1 w1 words1 g1.
-        zeros_follow m around c calls zero_is func.named env1 (params_scope [] func.params) entry _ w1 words1 (func.first + named_params func.params) (place.start + params_size func.params) lo b has_zeros fit.named (omega arith) (omega arith) g1 (λ env2 w2 words2 g2.
-        place_is m here (all_follow m around callees n cf c calls func.body (Meaning.ways_in func.named entry ws env0 k) env2 (Meaning.leave func.named entry k []) w2 words2 (scope_in func) (body_first func) start lo b le
-        (front m.code f start body ending has_rest) fit.body (omega arith) (omega arith) sc g2
-        (λ goes env3 w3 words3 g3. returns [] 0 env3 (scope_in func) w3 words3 (start + sts_size m.funcs (argument_words func) func.named func.body)
-        (subst (λ l. Standing m.code f (start + sts_size m.funcs (argument_words func) func.named func.body) l) (sym (no_values (argument_words func) func)) has_end) refl
-        (inl (sym (no_results goes))) (subst (λ n. named_need m.funcs n ≤ temps_of m.funcs func) (sym (no_names goes)) (omega arith)) sc.named g3)
-        returns)))
+        let here : place.start + entry_size m.program.funcs func ≡ place.start + params_size func.params + length func.named = omega arith in
+        let leads : Leads m c calls [] false (breaks_all func.body) (scope_in func) (scope_in func) 0 0 lo b (Meaning.ways_in func.named entry ws env0 k) =
+        record { panics = λ at x env1 w1. stops at x env0 w1; around = λ v i. i; broken = λ t e. absurd (let f : false ≡ true = t in cc); continued = λ t. absurd (let f : false ≡ true = t in cc); returned = returns } in
+        params_follow m around c calls func.params func.param_types vs (λ x. 0) [] entry _ w words func.first 0 place.start lo b typed has_params fit.params (omega arith) (omega arith) (omega (arith, many)) are g (λ env1 w1 words1 g1.
+        zeros_follow m around zero_is func.named c env1 (params_scope [] func.params) [] calls entry _ w1 words1 (func.first + named_params func.params) (place.start + params_size func.params) lo b has_zeros next_named (omega arith) g1 (λ env2 w2 words2 g2.
+        place_is m here (all_follow m around strings zero_is callees n cf c calls func.body (Meaning.ways_in func.named entry ws env0 k) env2 (Meaning.leave func.named entry k []) w2 words2 [] 0 false (scope_in func) (scope_in func) (body_first func) 0 0 start lo b le refl
+        (front m.code f start body ending has_rest) fit.body (omega arith) (omega arith) scoped leads g2
+        (λ goes env3 w3 words3 g3. returns [] 0 env3 (scope_in func) [] w3 words3 0 (start + sts_size m.program.funcs (argument_words func) func.named func.body) refl
+        (subst (λ l. Standing m.code f (start + sts_size m.program.funcs (argument_words func) func.named func.body) l) (sym (no_values (argument_words func) func)) has_end) refl
+        (nothing_given goes) (subst (λ n. named_need m.program.funcs n ≤ temps_of m.program.funcs func) (sym (no_names goes)) (omega arith)) scoped.named g3))))
+      where
+        nothing_given : ends_all func.body ≡ false → Given m func 0 []
+        nothing_given goes = inl (sym (no_results goes), none_of func.results (no_results goes))
 
-  calls_follow : (n : ℕ) → CallsFollow m (Meaning.call_at around m.funcs n) n
-  calls_follow zero = record { by = λ f func vs c calls ws env k w words pc lo b le named here own many room are g post. none_asked m le }
+  calls_follow : (n : ℕ) → CallsFollow m (Meaning.call_at around m.program.funcs n) n
+  calls_follow zero = record { by = λ f func vs c calls ws env k w words pc lo b le named here own stops typed room are g post. none_asked m le }
   calls_follow (suc n) = record {
-    by = λ f func vs c calls ws env k w words pc lo b le named here own many room are g post.
-        let place = m.compiled.placed f func named in let callees = Meaning.call_at around m.funcs n in
+    by = λ f func vs c calls ws env k w words pc lo b le named here own stops typed room are g post.
+        let place = m.compiled.placed f func named in let callees = Meaning.call_at around m.program.funcs n in
         let before : pc ≡ pc + 1 - 1 = omega arith in
         let from : Behind m f (placed c (pc + 1)) = record { some = omega arith; call = ap (slice_get m.code.instrs) (sym before) ∙ here; owner = ap (owner_of m.code) (sym before) ∙ own } in
-        subst (λ o. At m (numbers (c ∷ calls)) (suc lo) 1 b (Meaning.run_body around m.funcs callees (suc n) f o vs ws env k w) pc words) (sym named)
-        (seen m _ (called m c calls w words f func vs pc lo b _ place named here own many room are g (λ words1 g1 are1.
-        body_follows n callees (calls_follow n) f func named place (placed c (pc + 1) ∷ calls) vs ws env k w words1 lo b le from many room are1 g1
+        subst (λ o. At m (numbers (c ∷ calls)) (suc lo) 1 b (Meaning.run_body around m.program.funcs callees (suc n) f o vs ws env k w) pc words) (sym named)
+        (seen m _ (called m c calls w words f func vs pc lo b _ place named here own typed room are g (λ words1 g1 are1.
+        body_follows n callees (calls_follow n) f func named place (placed c (pc + 1) ∷ calls) vs ws env k w words1 lo b le from stops typed room are1 g1
         (λ rs w1 words2 some are2 g2. post rs w1 words2 some are2 (moved_back m c (pc + 1) calls w1 words2 g2)))));
   }
 
 -- the package variables show nothing
-globals_follow : (around : Setting) (l : Limits) (gs : List (ℕ × Value)) (g : Go) (lo hi b : ℕ) (run : ℕ → Outcome Event Stop) → ((w : World) → Follows (List ℕ) Event Ending Stop same_event same_end lo hi b (out l [] (g w)) run)
-    → (w : World) → Follows (List ℕ) Event Ending Stop same_event same_end lo hi b (out l [] (Meaning.bear_globals around gs g w)) run
-globals_follow around l [] g lo hi b run post w = post w
-globals_follow around l ((site, v) ∷ gs) g lo hi b run post w = globals_follow around l gs g lo hi b run post (born w (Meaning.new_cell around 0 site v))
+globals_follow : (strings : List (List ℕ)) (around : Setting) (l : Limits) (gs : List (ℕ × Value)) (g : Go) (lo hi b : ℕ) (run : ℕ → Outcome Event Stop) → ((w : World) → Follows Sight Event Ending Stop same_event (same_end strings) lo hi b (out l [] (g w)) run)
+    → (w : World) → Follows Sight Event Ending Stop same_event (same_end strings) lo hi b (out l [] (Meaning.bear_globals around gs g w)) run
+globals_follow strings around l [] g lo hi b run post w = post w
+globals_follow strings around l ((site, v) ∷ gs) g lo hi b run post w = globals_follow strings around l gs g lo hi b run post (born w (Meaning.new_cell around 0 site v))
 
 -- the first frame's limit is met by both or by neither
-gate : (test : Bool) (frame max b : ℕ) (t : Lines (List ℕ) Ending) (run : ℕ → Outcome Event Stop) → Follows (List ℕ) Event Ending Stop same_event same_end 0 0 b t run →
-    Follows (List ℕ) Event Ending Stop same_event same_end 0 0 b (if test then t else Run.End (StackLimit 0 frame max)) (λ k. if test then run k else Run.Ends (Limit 0 frame max))
-gate true frame max b t run f = f
-gate false frame max b t run f = record { lower = λ n k le. (refl, refl, refl); upper = λ n k lt le. (refl, refl, refl) }
+gate : (strings : List (List ℕ)) (test : Bool) (frame max b : ℕ) (t : Lines Sight Ending) (run : ℕ → Outcome Event Stop) → Follows Sight Event Ending Stop same_event (same_end strings) 0 0 b t run →
+    Follows Sight Event Ending Stop same_event (same_end strings) 0 0 b (if test then t else Run.End (StackLimit 0 frame max)) (λ k. if test then run k else Run.Ends (Limit 0 frame max))
+gate strings true frame max b t run f = f
+gate strings false frame max b t run f = record { lower = λ n k le. (refl, refl, refl); upper = λ n k lt le. (refl, refl, refl) }
 
-first_gate : (asked frame max b : ℕ) (t : Lines (List ℕ) Ending) (run : ℕ → Outcome Event Stop) → asked ≡ frame → Follows (List ℕ) Event Ending Stop same_event same_end 0 0 b t run →
-    Follows (List ℕ) Event Ending Stop same_event same_end 0 0 b (if nat_le (0 + asked) max then t else Run.End (StackLimit 0 asked max)) (λ k. if nat_le frame max then run k else Run.Ends (Limit 0 frame max))
-first_gate asked frame max b t run e f =
+first_gate : (strings : List (List ℕ)) (asked frame max b : ℕ) (t : Lines Sight Ending) (run : ℕ → Outcome Event Stop) → asked ≡ frame → Follows Sight Event Ending Stop same_event (same_end strings) 0 0 b t run →
+    Follows Sight Event Ending Stop same_event (same_end strings) 0 0 b (if nat_le (0 + asked) max then t else Run.End (StackLimit 0 asked max)) (λ k. if nat_le frame max then run k else Run.Ends (Limit 0 frame max))
+first_gate strings asked frame max b t run e f =
     let none : frame ≡ 0 + frame = omega arith in
-    subst (λ x. Follows (List ℕ) Event Ending Stop same_event same_end 0 0 b (if nat_le (0 + x) max then t else Run.End (StackLimit 0 x max)) (λ k. if nat_le frame max then run k else Run.Ends (Limit 0 frame max))) (sym e)
-    (subst (λ x. Follows (List ℕ) Event Ending Stop same_event same_end 0 0 b (if nat_le x max then t else Run.End (StackLimit 0 frame max)) (λ k. if nat_le frame max then run k else Run.Ends (Limit 0 frame max))) none
-    (gate (nat_le frame max) frame max b t run f))
+    subst (λ x. Follows Sight Event Ending Stop same_event (same_end strings) 0 0 b (if nat_le (0 + x) max then t else Run.End (StackLimit 0 x max)) (λ k. if nat_le frame max then run k else Run.Ends (Limit 0 frame max))) (sym e)
+    (subst (λ x. Follows Sight Event Ending Stop same_event (same_end strings) 0 0 b (if nat_le x max then t else Run.End (StackLimit 0 frame max)) (λ k. if nat_le frame max then run k else Run.Ends (Limit 0 frame max))) none
+    (gate strings (nat_le frame max) frame max b t run f))
 
-zero_at : (i : ℕ) → get_or (int (pos 0) ∷ []) i no_value ≡ int (pos 0)
-zero_at zero = refl
-zero_at (suc i) = refl
+-- the zero value of a type of numbers or truth values is of that type, and its word is 0
+zero_of_type : (zeros : List Value) (t : ℕ) → zeros ≡ zero_values → IsPlain t → Stands (get_or zeros t no_value) 0 × IsOf t (get_or zeros t no_value)
+zero_of_type zeros t same (inl e) =
+    let is : get_or zeros t no_value ≡ int (pos 0) = ap (λ zs. get_or zs t no_value) same ∙ ap (λ i. get_or zero_values i no_value) e in
+    subst (λ v. Stands v 0 × IsOf t v) (sym is) (refl, e)
+zero_of_type zeros t same (inr e) =
+    let is : get_or zeros t no_value ≡ bool false = ap (λ zs. get_or zs t no_value) same ∙ ap (λ i. get_or zero_values i no_value) e in
+    subst (λ v. Stands v 0 × IsOf t v) (sym is) (refl, e)
 
-module _ (p : Program) (code : Tables) (compiled : Compiled p.funcs code) (form : IsInForm p) (zeros : p.zeros ≡ int (pos 0) ∷ []) (item : List ℕ → Answer) (max : ℕ) where
+module _ (p : Program) (code : Tables) (compiled : Compiled p.funcs code) (texts : code.strings ≡ p.strings) (form : IsInForm p) (items : ℕ → Item) (max : ℕ) where
   abbrev built : Built
-  built = record { funcs = p.funcs; code = code; max = max; fits = form.fits; compiled = compiled }
+  built = record { program = p; code = code; max = max; fits = form.fits; plain = form.plain; strings = texts; compiled = compiled }
 
-  zero_is : (site : ℕ) → Meaning.zero_of (Meaning.setting_of item p) site ≡ int (pos 0)
-  zero_is site = ap (λ zs. get_or zs (get_or p.sites site 0) no_value) zeros ∙ zero_at (get_or p.sites site 0)
+  abbrev around : Setting
+  around = Meaning.setting_of items p
+
+  zero_is : (site : ℕ) → Stands (Meaning.zero_of around site) 0 × IsOf (site_type p site) (Meaning.zero_of around site)
+  zero_is site = zero_of_type p.zeros (site_type p site) form.zeros (form.plain site)
 
   -- `main` is entered without a call
-  main_follows : (n b : ℕ) → b ≤ suc n → (func : Func) → slice_get p.funcs p.main ≡ Some func → func.params ≡ [] → func.results ≡ [] → (w : World) → Follows (List ℕ) Event Ending Stop same_event same_end 0 0 b
-      (out (limits p max) [] (Meaning.call_at (Meaning.setting_of item p) p.funcs (suc n) p.main [] Meaning.at_top (λ x. 0) (λ rs. Meaning.stop (Exit 0)) w)) (target code p.main max)
+  main_follows : (n b : ℕ) → b ≤ suc n → (func : Func) → slice_get p.funcs p.main ≡ Some func → func.params ≡ [] → func.results ≡ [] → (w : World) → Follows Sight Event Ending Stop same_event (same_end p.strings) 0 0 b
+      (out (limits p max) [] (Meaning.call_at around p.funcs (suc n) p.main [] Meaning.at_top (λ x. 0) (λ rs. Meaning.stop (Exit 0)) w)) (target code p.main max)
   main_follows n b le func named no_params no_results w =
-      let around = Meaning.setting_of item p in let callees = Meaning.call_at around p.funcs n in
+      let callees = Meaning.call_at around p.funcs n in
       let place = compiled.placed p.main func named in
       let none : length {A = Option ℕ} [] ≡ argument_words func = ap (λ l. length l) (sym no_params) in
       let nothing : result_words func ≡ 0 = ap (λ l. length l) no_results in
-      subst (λ o. Follows (List ℕ) Event Ending Stop same_event same_end 0 0 b (out (limits p max) [] (Meaning.run_body around p.funcs callees (suc n) p.main o [] Meaning.at_top (λ x. 0) (λ rs. Meaning.stop (Exit 0)) w)) (target code p.main max)) (sym named)
-      (subst (λ o. Follows (List ℕ) Event Ending Stop same_event same_end 0 0 b (out (limits p max) [] (Meaning.run_body around p.funcs callees (suc n) p.main (Some func) [] Meaning.at_top (λ x. 0) (λ rs. Meaning.stop (Exit 0)) w)) (λ k. entered code max o k)) (sym place.entry)
-      (first_gate (frame_in p.funcs (slice_get p.funcs p.main)) (frame_of p.funcs func) max b _ _ (ap (frame_in p.funcs) named)
-      (body_follows built around zero_is n callees (calls_follow built around zero_is n) p.main func named place [] [] Meaning.at_top (λ x. 0) (λ rs. Meaning.stop (Exit 0)) w (replicate (frame_of p.funcs func) 0) 0 b le tt none (omega (arith, none, nothing)) (λ j l. absurd (omega arith))
+      let typed : AreOf func.param_types [] = none_of func.param_types (params_length p func.first func.param_types func.params (form.fits p.main func named).params ∙ sym none) in
+      subst (λ o. Follows Sight Event Ending Stop same_event (same_end p.strings) 0 0 b (out (limits p max) [] (Meaning.run_body around p.funcs callees (suc n) p.main o [] Meaning.at_top (λ x. 0) (λ rs. Meaning.stop (Exit 0)) w)) (target code p.main max)) (sym named)
+      (subst (λ o. Follows Sight Event Ending Stop same_event (same_end p.strings) 0 0 b (out (limits p max) [] (Meaning.run_body around p.funcs callees (suc n) p.main (Some func) [] Meaning.at_top (λ x. 0) (λ rs. Meaning.stop (Exit 0)) w)) (λ k. entered code max o k)) (sym place.entry)
+      (first_gate p.strings (frame_in p.funcs (slice_get p.funcs p.main)) (frame_of p.funcs func) max b _ _ (ap (frame_in p.funcs) named)
+      (body_follows built around refl zero_is n callees (calls_follow built around refl zero_is n) p.main func named place [] [] Meaning.at_top (λ x. 0) (λ rs. Meaning.stop (Exit 0)) w (replicate (frame_of p.funcs func) 0) 0 b le tt (λ at x env1 w1. refl) typed (omega (arith, none, nothing)) (λ j l. absurd (omega arith))
       (first_frame built p.main func w named) (λ rs w1. refl)).at))
 
-  whole_follows : (input : List ℕ) (n b : ℕ) → b ≤ suc n → Follows (List ℕ) Event Ending Stop same_event same_end 0 0 b (out (limits p max) [] (Meaning.trace item p input n)) (target code p.main max)
-  whole_follows input n b le =
-      globals_follow (Meaning.setting_of item p) (limits p max) p.globals _ 0 0 b (target code p.main max)
-      (λ w. main_follows n b le form.main.0 form.main.1 form.main.2 form.main.3 w) (Meaning.beginning input)
+  whole_follows : (n b : ℕ) → b ≤ suc n → Follows Sight Event Ending Stop same_event (same_end p.strings) 0 0 b (out (limits p max) [] (Meaning.trace items p n)) (target code p.main max)
+  whole_follows n b le =
+      globals_follow p.strings around (limits p max) p.globals _ 0 0 b (target code p.main max)
+      (λ w. main_follows n b le form.main.0 form.main.1 form.main.2 form.main.3 w) Meaning.beginning
 
--- the code of a program in form does what the program means; whole numbers are all that there is, so each zero value is 0
-pub simulated : (p : Program) (code : Tables) → Compiled p.funcs code → IsInForm p → p.zeros ≡ int (pos 0) ∷ [] → Simulated p code
-simulated p code compiled form zeros = record {
-  at_least = λ item input max n k le. (whole_follows p code compiled form zeros item max input n 0 (omega arith)).lower n k (omega arith);
-  at_most = λ item input max k. (whole_follows p code compiled form zeros item max input k (suc k) (omega arith)).upper k k (omega arith) (omega arith);
+-- the code of a program in form does what the program means
+pub simulated : (p : Program) (code : Tables) → Compiled p.funcs code → IsInForm p → code.strings ≡ p.strings → Simulated p code
+simulated p code compiled form texts = record {
+  at_least = λ items max n k le. (whole_follows p code compiled texts form items max n 0 (omega arith)).lower n k (omega arith);
+  at_most = λ items max k. (whole_follows p code compiled texts form items max k (suc k) (omega arith)).upper k k (omega arith) (omega arith);
 }

@@ -1,32 +1,42 @@
 -- The running calls, and what the stack's words stand for.
-use Rattle.std.proofs.Common.{◌≡◌, ℕ, ◌+◌, ◌-◌, ◌<◌, ◌≤◌, List, [], ◌∷◌, length, Some, refl, sym, ◌∙◌, subst, arith, get_or}
+use Rattle.std.proofs.Common.{◌≡◌, ℕ, suc, ◌+◌, ◌-◌, ◌<◌, ◌≤◌, List, [], ◌∷◌, length, Some, refl, sym, ap, ◌∙◌, subst, arith, get_or}
 use Rattle.std.specs.Prelude.{slice_get}
 use Rattle.std.specs.Int.{w64, cast_signed}
 use Rattle.typed.specs.Value.{Value, int, bool}
-use Rattle.typed.specs.Syntax.{Func}
-use Rattle.typed.specs.Form.{InScope, FuncFits}
+use Rattle.typed.specs.Syntax.{Func, Program}
+use Rattle.typed.specs.Form.{IsOf, AreOf, IsPlain, site_type, InScope, FuncFits}
 use Rattle.typed.specs.Frames.{outgoing_of, temps_of, frame_of}
 use Rattle.meaning.specs.Trace.{World}
 use Rattle.meaning.specs.Store.{no_value, value_of}
 use Rattle.meaning.specs.Meaning.{Env, with_home}
+use Rattle.isa.specs.Bin.{bit_of}
 use Rattle.isa.specs.Code.{Tables}
 use Rattle.machine.specs.Machine.{address_of}
 use Rattle.codegen.specs.Code.{site_slot, slots_of}
 use Rattle.codegen.proofs.Compiled.{Compiled}
 use Rattle.codegen.proofs.Distances.{word_at}
 
--- a program's functions in form, their code, and the most words that the stack may have
+-- a program in form, its code, and the most words that the stack may have
 pub record Built : Type 0 where
-  pub funcs : List Func
+  pub program : Program
   pub code : Tables
   pub max : ℕ
-  pub fits : (f : ℕ) (func : Func) → slice_get funcs f ≡ Some func → FuncFits funcs func
-  pub compiled : Compiled funcs code
+  pub fits : (f : ℕ) (func : Func) → slice_get program.funcs f ≡ Some func → FuncFits program func
+  pub plain : (site : ℕ) → IsPlain (site_type program site)
+  pub strings : code.strings ≡ program.strings
+  pub compiled : Compiled program.funcs code
 
 -- a value stands as a word
 abbrev pub Stands : Value → ℕ → Type 0
 Stands (int z) word = cast_signed w64 word ≡ z
-Stands (bool b) word = ⊥
+Stands (bool b) word = word ≡ bit_of b
+
+-- values of types are as many as the types
+pub of_length : (ts : List ℕ) (vs : List Value) → AreOf ts vs → length vs ≡ length ts
+of_length [] [] are = refl
+of_length (t ∷ ts) (v ∷ vs) are = ap suc (of_length ts vs are.1)
+of_length [] (v ∷ vs) are = absurd are
+of_length (t ∷ ts) [] are = absurd are
 
 pub stands_same : (v u : Value) (x y : ℕ) → u ≡ v → y ≡ x → Stands v x → Stands u y
 stands_same v u x y ev ex s = subst (λ a. Stands a y) (sym ev) (subst (λ b. Stands v b) (sym ex) s)
@@ -83,16 +93,16 @@ module _ (m : Built) where
   -- the words of these calls
   abbrev pub depth : List Frame → ℕ
   depth [] = 0
-  depth (c ∷ calls) = frame_of m.funcs c.func + depth calls
+  depth (c ∷ calls) = frame_of m.program.funcs c.func + depth calls
 
   -- the outgoing area of the last of them, and the words above it
   abbrev pub room_of : List Frame → ℕ
   room_of [] = 0
-  room_of (c ∷ calls) = outgoing_of m.funcs c.func
+  room_of (c ∷ calls) = outgoing_of m.program.funcs c.func
 
   abbrev pub steady : List Frame → ℕ
   steady [] = 0
-  steady (c ∷ calls) = 2 + c.func.count + temps_of m.funcs c.func + depth calls
+  steady (c ∷ calls) = 2 + c.func.count + temps_of m.program.funcs c.func + depth calls
 
   pub depth_is : (calls : List Frame) → depth calls ≡ steady calls + room_of calls
   depth_is [] = refl
@@ -105,14 +115,15 @@ module _ (m : Built) where
 
   -- a frame below those of these calls; its variables are among those from its entry to the entry of the next inner call
   pub record Level (top : ℕ) (c : Frame) (calls : List Frame) (w : World) (words : List ℕ) : Type 0 where
-    pub named : slice_get m.funcs c.fn ≡ Some c.func
-    pub room : length c.held ≤ temps_of m.funcs c.func
+    pub named : slice_get m.program.funcs c.fn ≡ Some c.func
+    pub room : length c.held ≤ temps_of m.program.funcs c.func
     pub begins : c.entry ≤ top
     pub among : (v : ℕ) → InScope v c.scope → (c.func.first ≤ v) × (v < c.func.first + c.func.count)
     pub homes : (v : ℕ) → InScope v c.scope → (c.entry ≤ c.env v) × (c.env v < top)
     pub sole : (u v : ℕ) → InScope u c.scope → InScope v c.scope → c.env u ≡ c.env v → u ≡ v
-    pub values : (v : ℕ) → InScope v c.scope → Stands (value_of w (c.env v)) (word_at words (depth (c ∷ calls) - site_slot (slots_of m.funcs c.func) v))
-    pub temps : AreAt c.held (depth (c ∷ calls)) (outgoing_of m.funcs c.func) words
+    pub values : (v : ℕ) → InScope v c.scope → Stands (value_of w (c.env v)) (word_at words (depth (c ∷ calls) - site_slot (slots_of m.program.funcs c.func) v))
+    pub types : (v : ℕ) → InScope v c.scope → IsOf (site_type m.program v) (value_of w (c.env v))
+    pub temps : AreAt c.held (depth (c ∷ calls)) (outgoing_of m.program.funcs c.func) words
     pub back : word_at words (depth calls + 1) ≡ back_of calls
     pub link : word_at words (depth calls + 2) ≡ link_of calls
 
@@ -136,10 +147,11 @@ module _ (m : Built) where
     homes = λ v i. (let h = g.homes v i in (h.0, omega arith));
     sole = g.sole;
     values = λ v i. (let h = g.homes v i in let a = g.among v i in
-        stands_same (value_of w (c.env v)) (value_of w1 (c.env v)) (word_at words (depth (c ∷ calls) - site_slot (slots_of m.funcs c.func) v)) (word_at words1 (depth (c ∷ calls) - site_slot (slots_of m.funcs c.func) v))
-        (old (c.env v) h.0 h.1) (same (depth (c ∷ calls) - site_slot (slots_of m.funcs c.func) v) (omega arith) (omega arith)) (g.values v i));
+        stands_same (value_of w (c.env v)) (value_of w1 (c.env v)) (word_at words (depth (c ∷ calls) - site_slot (slots_of m.program.funcs c.func) v)) (word_at words1 (depth (c ∷ calls) - site_slot (slots_of m.program.funcs c.func) v))
+        (old (c.env v) h.0 h.1) (same (depth (c ∷ calls) - site_slot (slots_of m.program.funcs c.func) v) (omega arith) (omega arith)) (g.values v i));
+    types = λ v i. (let h = g.homes v i in subst (λ x. IsOf (site_type m.program v) x) (sym (old (c.env v) h.0 h.1)) (g.types v i));
     temps = λ j l. (let r = g.room in
-        subst (λ x. Stands (get_or c.held j no_value) x) (sym (same (depth (c ∷ calls) - (outgoing_of m.funcs c.func + j)) (omega arith) (omega arith))) (g.temps j l));
+        subst (λ x. Stands (get_or c.held j no_value) x) (sym (same (depth (c ∷ calls) - (outgoing_of m.program.funcs c.func + j)) (omega arith) (omega arith))) (g.temps j l));
     back = same (depth calls + 1) (omega arith) (omega arith) ∙ g.back;
     link = same (depth calls + 2) (omega arith) (omega arith) ∙ g.link;
   }
@@ -162,13 +174,13 @@ module _ (m : Built) where
   pub moved : (c : Frame) (place : ℕ) (calls : List Frame) (w : World) (words : List ℕ) → Good (c ∷ calls) w words → Good (placed c place ∷ calls) w words
   moved c place calls w words g = let s = g.stack.0 in record {
     long = g.long;
-    stack = (record { named = s.named; room = s.room; begins = s.begins; among = s.among; homes = s.homes; sole = s.sole; values = s.values; temps = s.temps; back = s.back; link = s.link }, g.stack.1);
+    stack = (record { named = s.named; room = s.room; begins = s.begins; among = s.among; homes = s.homes; sole = s.sole; values = s.values; types = s.types; temps = s.temps; back = s.back; link = s.link }, g.stack.1);
   }
 
   pub moved_back : (c : Frame) (place : ℕ) (calls : List Frame) (w : World) (words : List ℕ) → Good (placed c place ∷ calls) w words → Good (c ∷ calls) w words
   moved_back c place calls w words g = let s = g.stack.0 in record {
     long = g.long;
-    stack = (record { named = s.named; room = s.room; begins = s.begins; among = s.among; homes = s.homes; sole = s.sole; values = s.values; temps = s.temps; back = s.back; link = s.link }, g.stack.1);
+    stack = (record { named = s.named; room = s.room; begins = s.begins; among = s.among; homes = s.homes; sole = s.sole; values = s.values; types = s.types; temps = s.temps; back = s.back; link = s.link }, g.stack.1);
   }
 
   -- fewer sites are in scope
@@ -184,6 +196,7 @@ module _ (m : Built) where
         homes = λ v i. s.homes v (sub v i);
         sole = λ u v i j. s.sole u v (sub u i) (sub v j);
         values = λ v i. s.values v (sub v i);
+        types = λ v i. s.types v (sub v i);
         temps = s.temps;
         back = s.back;
         link = s.link;

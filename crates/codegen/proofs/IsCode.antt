@@ -1,47 +1,62 @@
 -- The code of a program is a code.
-use Rattle.std.proofs.Common.{◌≡◌, ◌⊎◌, inl, inr, ℕ, zero, suc, ◌+◌, ◌-◌, ◌<◌, ◌≤◌, true, false, List, [], ◌∷◌, ◌++◌, length, Some, refl, sym, ap, ◌∙◌, subst, arith, length-append, append_assoc}
-use Rattle.std.specs.Prelude.{Option, None, slice_get, ⊤}
+use Rattle.std.proofs.Common.{◌≡◌, ◌⊎◌, inl, inr, ℕ, zero, suc, ◌+◌, ◌-◌, ◌<◌, ◌≤◌, Bool, true, false, List, [], ◌∷◌, ◌++◌, length, Some, refl, sym, ap, ◌∙◌, subst, arith, length-append, append_assoc}
+use Rattle.std.specs.Prelude.{Option, None, slice_get, ⊤, ◌==◌, if◌then◌else◌}
 use Rattle.std.proofs.lemmas.Option.{slice_get_within}
 use Rattle.isa.specs.Code.{Tables, CanCall, Fits as FitsAt, FitsPlace, IsCode, IsLinked}
 use Rattle.isa.specs.declared.func.Func.{Func as Entry}
 use Rattle.isa.specs.declared.instr.Instr.{Instr}
-use Rattle.isa.specs.declared.instr.Instr.TheVariants.{Const, Move, MoveWords, Bin, Negate, Jump, JumpZero, Call, Argument, SetResults, PrintInt, PrintSpace, PrintLine, Return}
+use Rattle.isa.specs.declared.instr.BinOp.TheVariants as Word
+use Rattle.isa.specs.declared.instr.Instr.TheVariants.{Const, Move, MoveWords, Bin, Un, Jump, JumpZero, Call, Argument, SetResults, PrintInt, PrintBool, PrintText, PrintSpace, PrintLine, Return, Exit, PanicText, PanicInt, PanicBool}
 use Rattle.machine.specs.Inside.{Inside}
+use Rattle.typed.specs.declared.operators.UnOp.{UnOp}
 use Rattle.typed.specs.declared.operators.UnOp.TheVariants as One
-use Rattle.typed.specs.Syntax.{Ex, Exs, Left, Piece, St, Sts, Func, Program, constant, read, unary, binary, call, local, here, none, more, results, blank, new, to, shown, assign, discard, block, choose, loop, give_back, print, done, next, arguments_in, results_in, argument_words, result_words, arguments_of, results_of}
-use Rattle.typed.specs.Form.{IsInForm}
+use Rattle.typed.specs.Syntax.{Ex, Exs, Pl, Left, Piece, St, Sts, Func, Program, constant, read, unary, binary, both, either, call, local, here, none, more, results, asked, blank, new, to, text, shown, over_int, declare, assign, update, bump, discard, block, choose, loop, range, break_off, go_on, give_back, print, raise, quit, done, next, bool_type, arguments_in, results_in, argument_words, result_words, arguments_of, results_of}
+use Rattle.typed.specs.Form.{scope_in, body_first, IsInForm}
 use Rattle.typed.specs.Frames.{frame_of}
-use Rattle.codegen.specs.Temps.{SiteFits, SitesFit, ParamsFitIn, LeftsFitIn, ValuesFit, CallFits, Fits, ExsFitIn, PiecesFitIn, StFitsIn, StsFitIn, FuncFitsIn}
-use Rattle.codegen.specs.Code.{Slots, temp, site_slot, operation, move_code, result_code, call_code, count_of, ex_code, exs_code, pieces_code, show_more, show_line, lefts_code, named_write_code, named_read_code, leave_code, values_code, params_code, zeros_code, size, st_size, sts_size, st_code, sts_code, slots_of, entry_code, entry_size, func_code, func_size, entry_of, funcs_code, funcs_owners, funcs_entries}
+use Rattle.codegen.specs.Temps.{SiteFits, PlaceFits, SitesFit, ParamsFitIn, LeftsFitIn, ValuesFit, RenewFits, CallFits, Fits, ExsFitIn, PiecesFitIn, TestFitsIn, StFitsIn, StsFitIn, FuncFitsIn}
+use Rattle.codegen.specs.Code.{Slots, temp, site_slot, operation, unary_code, read_code, write_code, move_code, result_code, call_code, count_of, ex_code, exs_code, pieces_code, test_code, shown_code, raised_code, show_more, show_plain, show_code, lefts_code, lefts_size, named_write_code, named_read_code, leave_code, values_code, params_code, zeros_code, renew_code, renew_size, size, exs_size, pieces_size, test_size, st_size, sts_size, st_code, sts_code, slots_of, entry_code, entry_size, func_code, func_size, entry_of, funcs_code, funcs_owners, funcs_entries, code_of}
 use Rattle.codegen.proofs.Sizes.{length_func}
 use Rattle.codegen.proofs.Stands.{same_some, start_of, some_size, length_owners, stands, located, entered_from, exists}
 use Rattle.codegen.proofs.Suffice.{func_fits}
+use Rattle.codegen.proofs.Within.{PiecesWithin, StWithin, StsWithin, sts_within}
 
--- an instruction of a function with so many slots and incoming words: its jumps lead to places of the function
-abbrev Ok : List Entry → (slots incoming start end : ℕ) → Instr → Type 0
-Ok fns slots incoming start end (Const a w) = a < slots
-Ok fns slots incoming start end (Move a b) = (a < slots) × (b < slots)
-Ok fns slots incoming start end (MoveWords a b n) = (1 ≤ n) × (a + n ≤ slots) × (b + n ≤ slots)
-Ok fns slots incoming start end (Bin o a b c) = (a < slots) × (b < slots) × (c < slots)
-Ok fns slots incoming start end (Negate a b) = (a < slots) × (b < slots)
-Ok fns slots incoming start end (Jump goal) = (start ≤ goal) × (goal < end)
-Ok fns slots incoming start end (JumpZero a goal) = (a < slots) × ((start ≤ goal) × (goal < end))
-Ok fns slots incoming start end (Call g) = CanCall fns slots g
-Ok fns slots incoming start end (Argument a b) = (a < slots) × (b < incoming)
-Ok fns slots incoming start end (SetResults a b n) = (1 ≤ n) × (a + n ≤ slots) × (b + n ≤ incoming)
-Ok fns slots incoming start end (PrintInt a) = a < slots
-Ok fns slots incoming start end PrintSpace = ⊤
-Ok fns slots incoming start end PrintLine = ⊤
-Ok fns slots incoming start end Return = ⊤
+-- an instruction of a function with so many slots and incoming words, in a code with so many strings: its jumps lead to places
+-- of the function
+module _ (fns : List Entry) (strings slots incoming start end : ℕ) where
+  abbrev Ok : Instr → Type 0
+  Ok (Const a w) = a < slots
+  Ok (Move a b) = (a < slots) × (b < slots)
+  Ok (MoveWords a b n) = (1 ≤ n) × (a + n ≤ slots) × (b + n ≤ slots)
+  Ok (Bin o a b c) = (a < slots) × (b < slots) × (c < slots)
+  Ok (Un o a b) = (a < slots) × (b < slots)
+  Ok (Jump goal) = (start ≤ goal) × (goal < end)
+  Ok (JumpZero a goal) = (a < slots) × ((start ≤ goal) × (goal < end))
+  Ok (Call g) = CanCall fns slots g
+  Ok (Argument a b) = (a < slots) × (b < incoming)
+  Ok (SetResults a b n) = (1 ≤ n) × (a + n ≤ slots) × (b + n ≤ incoming)
+  Ok (PrintInt a) = a < slots
+  Ok (PrintBool a) = a < slots
+  Ok (PrintText number) = number < strings
+  Ok PrintSpace = ⊤
+  Ok PrintLine = ⊤
+  Ok Return = ⊤
+  Ok (Exit a) = a < slots
+  Ok (PanicText number) = number < strings
+  Ok (PanicInt a) = a < slots
+  Ok (PanicBool a) = a < slots
 
-abbrev All : List Entry → (slots incoming start end : ℕ) → List Instr → Type 0
-All fns slots incoming start end [] = ⊤
-All fns slots incoming start end (i ∷ is) = Ok fns slots incoming start end i × All fns slots incoming start end is
+  abbrev All : List Instr → Type 0
+  All [] = ⊤
+  All (i ∷ is) = Ok i × All is
 
-module _ (fs : List Func) (s : Slots) (n : ℕ) (fns : List Entry) (arguments wanted start end : ℕ)
+module _ (fs : List Func) (s : Slots) (n : ℕ) (fns : List Entry) (strings arguments wanted start end : ℕ)
     (can : (f : ℕ) → f < length fs → arguments_of fs f + results_of fs f ≤ s.outgoing → CanCall fns (s.outgoing + s.temps + n) f) where
   abbrev Are : List Instr → Type 0
-  Are is = All fns (s.outgoing + s.temps + n) (arguments + wanted) start end is
+  Are is = All fns strings (s.outgoing + s.temps + n) (arguments + wanted) start end is
+
+  -- a place of the function
+  abbrev Here : ℕ → Type 0
+  Here goal = (start ≤ goal) × (goal < end)
 
   join : (a b : List Instr) → Are a → Are b → Are (a ++ b)
   join [] b f g = g
@@ -67,39 +82,91 @@ module _ (fs : List Func) (s : Slots) (n : ℕ) (fns : List Entry) (arguments wa
       join (move_code given 0 (temp s h)) (Call f ∷ move_code gets (temp s h) given) (move_ok given 0 (temp s h) (omega arith) (omega arith))
       (can f there room, move_ok gets (temp s h) given (omega arith) (omega arith))
 
+  unary_ok : (op : UnOp) (h : ℕ) → h < s.temps → Are (unary_code op (temp s h) ∷ [])
+  unary_ok One.Plus h l = ((omega arith, omega arith), tt)
+  unary_ok One.Negate h l = ((omega arith, omega arith), tt)
+  unary_ok One.Complement h l = ((omega arith, omega arith), tt)
+  unary_ok One.Not h l = ((omega arith, omega arith), tt)
+
+  read_ok : (q : Pl) (h : ℕ) (is : List Instr) → h < s.temps → PlaceFits s n q → Are is → Are (read_code s q h ∷ is)
+  read_ok (local site here) h is l f g = (((omega arith), site_in site f), g)
+
+  write_ok : (q : Pl) (h : ℕ) (is : List Instr) → h < s.temps → PlaceFits s n q → Are is → Are (write_code s q h ∷ is)
+  write_ok (local site here) h is l f g = ((site_in site f, (omega arith)), g)
+
   mutual
-    ex_ok : (e : Ex) (h : ℕ) → Fits fs s n h e → Are (ex_code fs s e h)
-    ex_ok (constant v) h f = (omega arith, tt)
-    ex_ok (read (local v here)) h f = (((let k = f.0 in omega arith), site_in v f.1), tt)
-    ex_ok (unary One.Negate a) h f =
-        let k = f.0 in join (ex_code fs s a h) (Negate (temp s h) (temp s h) ∷ []) (ex_ok a h f.1) ((omega arith, omega arith), tt)
-    ex_ok (binary at o a b) h f =
-        let k = f.0 in let i = Bin (operation o) (temp s h) (temp s h) (temp s (h + 1)) in
-        join (ex_code fs s a h) (ex_code fs s b (h + 1) ++ i ∷ []) (ex_ok a h f.1) (join (ex_code fs s b (h + 1)) (i ∷ []) (ex_ok b (h + 1) f.2) ((omega arith, omega arith, omega arith), tt))
-    ex_ok (call g es) h f = join (exs_code fs s es h) (call_code fs s g h) (exs_ok es h f.1) (call_ok g h f.0)
+    ex_ok : (e : Ex) (h pc : ℕ) → Fits fs s n h e → start ≤ pc → pc + size fs e < end → Are (ex_code fs s e h pc)
+    ex_ok (constant v) h pc f a l = (omega arith, tt)
+    ex_ok (read q) h pc f a l = read_ok q h [] f.0 f.1 tt
+    ex_ok (unary op e) h pc f a l = join (ex_code fs s e h pc) (unary_code op (temp s h) ∷ []) (ex_ok e h pc f.1 a (omega arith)) (unary_ok op h f.0)
+    ex_ok (binary at o x y) h pc f a l =
+        let k = f.0 in let i = Bin (operation o) (temp s h) (temp s h) (temp s (h + 1)) in let py = pc + size fs x in
+        join (ex_code fs s x h pc) (ex_code fs s y (h + 1) py ++ i ∷ []) (ex_ok x h pc f.1 a (omega arith))
+        (join (ex_code fs s y (h + 1) py) (i ∷ []) (ex_ok y (h + 1) py f.2 (omega arith) (omega arith)) ((omega arith, omega arith, omega arith), tt))
+    ex_ok (both x y) h pc f a l =
+        let k = f.0 in let py = pc + size fs x + 1 in
+        join (ex_code fs s x h pc) (JumpZero (temp s h) (py + size fs y) ∷ ex_code fs s y h py) (ex_ok x h pc f.1 a (omega arith))
+        ((omega arith, (omega arith, omega arith)), ex_ok y h py f.2 (omega arith) (omega arith))
+    ex_ok (either x y) h pc f a l =
+        let k = f.0 in let py = pc + size fs x + 2 in
+        join (ex_code fs s x h pc) (JumpZero (temp s h) py ∷ Jump (py + size fs y) ∷ ex_code fs s y h py) (ex_ok x h pc f.1 a (omega arith))
+        ((omega arith, (omega arith, omega arith)), ((omega arith, omega arith), ex_ok y h py f.2 (omega arith) (omega arith)))
+    ex_ok (call g es) h pc f a l = join (exs_code fs s es h pc) (call_code fs s g h) (exs_ok es h pc f.1 a (omega arith)) (call_ok g h f.0)
 
-    exs_ok : (es : Exs) (h : ℕ) → ExsFitIn fs s n h es → Are (exs_code fs s es h)
-    exs_ok none h f = tt
-    exs_ok (more e es) h f = join (ex_code fs s e h) (exs_code fs s es (h + 1)) (ex_ok e h f.1) (exs_ok es (h + 1) f.2)
-    exs_ok (results g es) h f = join (exs_code fs s es h) (call_code fs s g h) (exs_ok es h f.1) (call_ok g h f.0)
+    exs_ok : (es : Exs) (h pc : ℕ) → ExsFitIn fs s n h es → start ≤ pc → pc + exs_size fs es < end → Are (exs_code fs s es h pc)
+    exs_ok none h pc f a l = tt
+    exs_ok (more e es) h pc f a l =
+        join (ex_code fs s e h pc) (exs_code fs s es (h + 1) (pc + size fs e)) (ex_ok e h pc f.1 a (omega arith)) (exs_ok es (h + 1) (pc + size fs e) f.2 (omega arith) (omega arith))
+    exs_ok (results g es) h pc f a l = join (exs_code fs s es h pc) (call_code fs s g h) (exs_ok es h pc f.1 a (omega arith)) (call_ok g h f.0)
+    exs_ok asked h pc f a l = tt
 
-  pieces_ok : (ps : List Piece) (h : ℕ) → PiecesFitIn fs s n h ps → Are (pieces_code fs s ps h)
-  pieces_ok [] h f = tt
-  pieces_ok (shown e ∷ ps) h f = join (ex_code fs s e h) (pieces_code fs s ps (h + 1)) (ex_ok e h f.1) (pieces_ok ps (h + 1) f.2)
+  pieces_ok : (ps : List Piece) (h pc : ℕ) → PiecesFitIn fs s n h ps → start ≤ pc → pc + pieces_size fs ps < end → Are (pieces_code fs s ps h pc)
+  pieces_ok [] h pc f a l = tt
+  pieces_ok (text number ∷ ps) h pc f a l = pieces_ok ps h pc f a (omega arith)
+  pieces_ok (shown t e ∷ ps) h pc f a l =
+      join (ex_code fs s e h pc) (pieces_code fs s ps (h + 1) (pc + size fs e)) (ex_ok e h pc f.1 a (omega arith)) (pieces_ok ps (h + 1) (pc + size fs e) f.2 (omega arith) (omega arith))
 
-  more_ok : (ps : List Piece) (h : ℕ) → PiecesFitIn fs s n h ps → Are (show_more s ps h)
-  more_ok [] h f = (tt, tt)
-  more_ok (shown e ∷ ps) h f = (tt, ((let k = f.0 in omega arith), more_ok ps (h + 1) f.2))
+  test_ok : (test : Option Ex) (h pc goal : ℕ) → TestFitsIn fs s n h test → start ≤ pc → pc + test_size fs test < end → Here goal → Are (test_code fs s test h pc goal)
+  test_ok None h pc goal f a l g = tt
+  test_ok (Some e) h pc goal f a l g =
+      let k = f.0 in join (ex_code fs s e h pc) (JumpZero (temp s h) goal ∷ []) (ex_ok e h pc f.1 a (omega arith)) ((omega arith, g), tt)
 
-  shown_ok : (ps : List Piece) (h : ℕ) → PiecesFitIn fs s n h ps → Are (show_line s ps h)
-  shown_ok [] h f = (tt, tt)
-  shown_ok (shown e ∷ ps) h f = ((let k = f.0 in omega arith), more_ok ps (h + 1) f.2)
+  -- a value of any type
+  value_ok : (t h : ℕ) (is : List Instr) → h < s.temps → Are is → Are (shown_code t (temp s h) ∷ is)
+  value_ok t h is l g = by (t == bool_type)
+    where
+      by : (b : Bool) → Are ((if b then PrintBool (temp s h) else PrintInt (temp s h)) ∷ is)
+      by true = (omega arith, g)
+      by false = (omega arith, g)
+
+  raised_ok : (t h : ℕ) → h < s.temps → Are (raised_code t (temp s h) ∷ [])
+  raised_ok t h l = by (t == bool_type)
+    where
+      by : (b : Bool) → Are ((if b then PanicBool (temp s h) else PanicInt (temp s h)) ∷ [])
+      by true = (omega arith, tt)
+      by false = (omega arith, tt)
+
+  more_ok : (ps : List Piece) (h : ℕ) → PiecesFitIn fs s n h ps → PiecesWithin strings ps → Are (show_more s ps h)
+  more_ok [] h f w = (tt, tt)
+  more_ok (text number ∷ ps) h f w = (tt, (w.0, more_ok ps h f w.1))
+  more_ok (shown t e ∷ ps) h f w = (tt, value_ok t h (show_more s ps (h + 1)) f.0 (more_ok ps (h + 1) f.2 w.1))
+
+  plain_ok : (ps : List Piece) (h : ℕ) → PiecesFitIn fs s n h ps → PiecesWithin strings ps → Are (show_plain s ps h)
+  plain_ok [] h f w = tt
+  plain_ok (text number ∷ ps) h f w = (w.0, plain_ok ps h f w.1)
+  plain_ok (shown t e ∷ ps) h f w = value_ok t h (show_plain s ps (h + 1)) f.0 (plain_ok ps (h + 1) f.2 w.1)
+
+  shown_ok : (line : Bool) (ps : List Piece) (h : ℕ) → PiecesFitIn fs s n h ps → PiecesWithin strings ps → Are (show_code s line ps h)
+  shown_ok true [] h f w = (tt, tt)
+  shown_ok true (text number ∷ ps) h f w = (w.0, more_ok ps h f w.1)
+  shown_ok true (shown t e ∷ ps) h f w = value_ok t h (show_more s ps (h + 1)) f.0 (more_ok ps (h + 1) f.2 w.1)
+  shown_ok false ps h f w = plain_ok ps h f w
 
   lefts_ok : (ls : List Left) (h : ℕ) → LeftsFitIn s n h ls → Are (lefts_code s ls h)
   lefts_ok [] h f = tt
   lefts_ok (blank ∷ ls) h f = lefts_ok ls (h + 1) f.1
   lefts_ok (new site ∷ ls) h f = ((site_in site f.1, (let k = f.0 in omega arith)), lefts_ok ls (h + 1) f.2)
-  lefts_ok (to (local site here) ∷ ls) h f = ((site_in site f.1, (let k = f.0 in omega arith)), lefts_ok ls (h + 1) f.2)
+  lefts_ok (to q ∷ ls) h f = write_ok q h (lefts_code s ls (h + 1)) f.0 f.1 (lefts_ok ls (h + 1) f.2)
 
   named_write_ok : (sites : List ℕ) (h : ℕ) → SitesFit s n sites → h + length sites ≤ s.temps → Are (named_write_code s sites h)
   named_write_ok [] h f l = tt
@@ -114,10 +181,10 @@ module _ (fs : List Func) (s : Slots) (n : ℕ) (fns : List Entry) (arguments wa
   leave_ok : (named : List ℕ) → SitesFit s n named → length named ≤ wanted → Are (leave_code s arguments named)
   leave_ok named f l = join (named_read_code s named arguments) (Return ∷ []) (named_read_ok named arguments f (omega arith)) (tt, tt)
 
-  values_ok : (named : List ℕ) (k : ℕ) → SitesFit s n named → ValuesFit s.temps wanted k named → Are (values_code s arguments k named)
-  values_ok [] k f v = let a = v.0 in let b = v.1 in result_ok k (temp s 0) arguments (omega arith) (omega arith)
-  values_ok (site ∷ sites) zero f v = tt
-  values_ok (site ∷ sites) (suc k) f v = named_write_ok (site ∷ sites) 0 f (omega (arith, v))
+  values_ok : (named : List ℕ) (k h : ℕ) → SitesFit s n named → ValuesFit s.temps wanted h k named → Are (values_code s arguments k named h)
+  values_ok [] k h f v = let a = v.0 in let b = v.1 in result_ok k (temp s h) arguments (omega arith) (omega arith)
+  values_ok (site ∷ sites) zero h f v = tt
+  values_ok (site ∷ sites) (suc k) h f v = named_write_ok (site ∷ sites) h f (omega (arith, v))
 
   params_ok : (ps : List (Option ℕ)) (i : ℕ) → ParamsFitIn s n ps → i + length ps ≤ arguments → Are (params_code s ps i)
   params_ok [] i f l = tt
@@ -128,6 +195,14 @@ module _ (fs : List Func) (s : Slots) (n : ℕ) (fns : List Entry) (arguments wa
   zeros_ok [] f = tt
   zeros_ok (site ∷ sites) f = (site_in site f.0, zeros_ok sites f.1)
 
+  renew_ok : (sites : List ℕ) (h : ℕ) → SitesFit s n sites → h < s.temps → Are (renew_code s sites h)
+  renew_ok [] h f l = tt
+  renew_ok (site ∷ sites) h f l = ((omega arith, site_in site f.0), ((site_in site f.0, omega arith), renew_ok sites h f.1 l))
+
+  renewal_ok : (sites : List ℕ) (h : ℕ) → SitesFit s n sites → RenewFits s.temps h sites → Are (renew_code s sites h)
+  renewal_ok [] h f r = tt
+  renewal_ok (site ∷ sites) h f r = renew_ok (site ∷ sites) h f r
+
   module _ (named : List ℕ) (sites : SitesFit s n named) (names : length named ≤ wanted) where
     abbrev st_len : St → ℕ
     st_len t = st_size fs arguments named t
@@ -135,43 +210,90 @@ module _ (fs : List Func) (s : Slots) (n : ℕ) (fns : List Entry) (arguments wa
     abbrev sts_len : Sts → ℕ
     sts_len ss = sts_size fs arguments named ss
 
-    abbrev code : Sts → ℕ → List Instr
-    code ss pc = sts_code fs arguments named s ss pc
+    abbrev code : Sts → (h out again pc : ℕ) → List Instr
+    code ss h out again pc = sts_code fs arguments named s ss h out again pc
+
+    -- inside a loop, `break` and `continue` have places to go to
+    abbrev Around : (looped : Bool) (out again : ℕ) → Type 0
+    Around looped out again = looped ≡ true → Here out × Here again
 
     mutual
-      st_ok : (t : St) (pc : ℕ) → StFitsIn fs s n wanted named t → start ≤ pc → pc + st_len t < end → Are (st_code fs arguments named s t pc)
-      st_ok (assign ls es) pc f a l = join (exs_code fs s es 0) (lefts_code s ls 0) (exs_ok es 0 f.0) (lefts_ok ls 0 f.1)
-      st_ok (discard es) pc f a l = exs_ok es 0 f
-      st_ok (block ss) pc f a l = sts_ok ss pc f a l
-      st_ok (choose e x y) pc f a l =
+      st_ok : (looped : Bool) (t : St) (h out again pc : ℕ) → StFitsIn fs s n wanted named h t → StWithin strings looped t → Around looped out again → start ≤ pc → pc + st_len t < end → Are (st_code fs arguments named s t h out again pc)
+      st_ok looped (declare births) h out again pc f w r a l = zeros_ok births f
+      st_ok looped (assign ls es) h out again pc f w r a l = join (exs_code fs s es h pc) (lefts_code s ls h) (exs_ok es h pc f.0 a (omega arith)) (lefts_ok ls h f.1)
+      st_ok looped (update at q o e) h out again pc f w r a l =
+          let k = f.0 in let i = Bin (operation o) (temp s h) (temp s h) (temp s (h + 1)) in
+          read_ok q h (ex_code fs s e (h + 1) (pc + 1) ++ i ∷ write_code s q h ∷ []) (omega arith) f.1
+          (join (ex_code fs s e (h + 1) (pc + 1)) (i ∷ write_code s q h ∷ []) (ex_ok e (h + 1) (pc + 1) f.2 (omega arith) (omega arith)) ((omega arith, omega arith, omega arith), write_ok q h [] (omega arith) f.1 tt))
+      st_ok looped (bump q o) h out again pc f w r a l =
+          let k = f.0 in
+          read_ok q h (Const (temp s (h + 1)) 1 ∷ Bin (operation o) (temp s h) (temp s h) (temp s (h + 1)) ∷ write_code s q h ∷ []) (omega arith) f.1
+          (omega arith, ((omega arith, omega arith, omega arith), write_ok q h [] (omega arith) f.1 tt))
+      st_ok looped (discard es) h out again pc f w r a l = exs_ok es h pc f a l
+      st_ok looped (block ss) h out again pc f w r a l = sts_ok looped ss h out again pc f w r a l
+      st_ok looped (choose e x y) h out again pc f w r a l =
           let k = f.0 in let pa = pc + size fs e + 1 in let pb = pa + sts_len x + 1 in
-          join (ex_code fs s e 0) (JumpZero (temp s 0) pb ∷ (code x pa ++ Jump (pb + sts_len y) ∷ code y pb)) (ex_ok e 0 f.1)
-          ((omega arith, (omega arith, omega arith)), join (code x pa) (Jump (pb + sts_len y) ∷ code y pb) (sts_ok x pa f.2 (omega arith) (omega arith)) ((omega arith, omega arith), sts_ok y pb f.3 (omega arith) (omega arith)))
-      st_ok (loop [] (Some e) done body) pc f a l =
-          let k = f.0 in let pa = pc + size fs e + 1 in
-          join (ex_code fs s e 0) (JumpZero (temp s 0) (pa + sts_len body + 1) ∷ (code body pa ++ Jump pc ∷ [])) (ex_ok e 0 f.1)
-          ((omega arith, (omega arith, omega arith)), join (code body pa) (Jump pc ∷ []) (sts_ok body pa f.2 (omega arith) (omega arith)) ((omega arith, omega arith), tt))
-      st_ok (loop [] (Some e) (next x xs) body) pc f a l = absurd f
-      st_ok (loop [] None done body) pc f a l = join (code body pc) (Jump pc ∷ []) (sts_ok body pc f a (omega arith)) ((omega arith, omega arith), tt)
-      st_ok (loop [] None (next x xs) body) pc f a l = absurd f
-      st_ok (loop (site ∷ sites) test post body) pc f a l = absurd f
-      st_ok (give_back es) pc f a l =
-          let values = values_code s arguments (count_of fs es) named in let leave = leave_code s arguments named in
-          join (exs_code fs s es 0) (values ++ leave) (exs_ok es 0 f.0) (join values leave (values_ok named (count_of fs es) sites f.1) (leave_ok named sites names))
-      st_ok (print true ps) pc f a l = join (pieces_code fs s ps 0) (show_line s ps 0) (pieces_ok ps 0 f) (shown_ok ps 0 f)
-      st_ok (print false ps) pc f a l = absurd f
+          join (ex_code fs s e h pc) (JumpZero (temp s h) pb ∷ (code x h out again pa ++ Jump (pb + sts_len y) ∷ code y h out again pb)) (ex_ok e h pc f.1 a (omega arith)) (
+            (omega arith, (omega arith, omega arith)),
+            join (code x h out again pa) (Jump (pb + sts_len y) ∷ code y h out again pb) (sts_ok looped x h out again pa f.2 w.0 r (omega arith) (omega arith))
+                ((omega arith, omega arith), sts_ok looped y h out again pb f.3 w.1 r (omega arith) (omega arith)),
+          )
+      st_ok looped (loop births test post body) h out again pc f w r a l =
+          let inside = pc + test_size fs test in
+          let turn = inside + sts_len body in
+          let last = turn + renew_size births in
+          let behind = last + sts_len post + 1 in
+          let here_behind : Here behind = (omega arith, omega arith) in
+          let here_turn : Here turn = (omega arith, omega arith) in
+          let cb = code body h behind turn inside in let cr = renew_code s births h in let cp = code post h behind turn last in
+          join (test_code fs s test h pc behind) (cb ++ (cr ++ (cp ++ Jump pc ∷ []))) (test_ok test h pc behind f.0 a (omega arith) here_behind)
+          (join cb (cr ++ (cp ++ Jump pc ∷ [])) (sts_ok true body h behind turn inside f.4 w.1 (λ e. (here_behind, here_turn)) (omega arith) (omega arith))
+          (join cr (cp ++ Jump pc ∷ []) (renewal_ok births h f.1 f.2)
+          (join cp (Jump pc ∷ []) (sts_ok false post h behind turn last f.3 w.0 (λ e. (here_behind, here_turn)) (omega arith) (omega arith)) ((omega arith, omega arith), tt))))
+      st_ok looped (range (over_int e) key value body) h out again pc f w r a l =
+          let k = f.0 in
+          let test = pc + size fs e + 1 in
+          let inside = test + 2 + lefts_size (key ∷ []) in
+          let turn = inside + sts_len body in
+          let behind = turn + 3 in
+          let here_behind : Here behind = (omega arith, omega arith) in
+          let here_turn : Here turn = (omega arith, omega arith) in
+          let cl = lefts_code s (key ∷ []) (h + 1) in let cb = code body (h + 2) behind turn inside in
+          let last : List Instr = Const (temp s (h + 2)) 1 ∷ Bin Word.Add (temp s (h + 1)) (temp s (h + 1)) (temp s (h + 2)) ∷ Jump test ∷ [] in
+          join (ex_code fs s e h pc) (Const (temp s (h + 1)) 0 ∷ Bin Word.Less (temp s (h + 2)) (temp s (h + 1)) (temp s h) ∷ JumpZero (temp s (h + 2)) behind ∷ (cl ++ (cb ++ last))) (ex_ok e h pc f.1 a (omega arith)) (
+            omega arith,
+            (
+              (omega arith, omega arith, omega arith),
+              (
+                (omega arith, here_behind),
+                join cl (cb ++ last) (lefts_ok (key ∷ []) (h + 1) f.2)
+                    (join cb last (sts_ok true body (h + 2) behind turn inside f.3 w (λ e. (here_behind, here_turn)) (omega arith) (omega arith))
+                    (omega arith, ((omega arith, omega arith, omega arith), ((omega arith, omega arith), tt)))),
+              ),
+            ),
+          )
+      st_ok looped break_off h out again pc f w r a l = ((r w).0, tt)
+      st_ok looped go_on h out again pc f w r a l = ((r w).1, tt)
+      st_ok looped (give_back es) h out again pc f w r a l =
+          let values = values_code s arguments (count_of fs es) named h in let leave = leave_code s arguments named in
+          join (exs_code fs s es h pc) (values ++ leave) (exs_ok es h pc f.0 a (omega arith)) (join values leave (values_ok named (count_of fs es) h sites f.1) (leave_ok named sites names))
+      st_ok looped (print line ps) h out again pc f w r a l = join (pieces_code fs s ps h pc) (show_code s line ps h) (pieces_ok ps h pc f a (omega arith)) (shown_ok line ps h f w)
+      st_ok looped (raise at (text number)) h out again pc f w r a l = (w, tt)
+      st_ok looped (raise at (shown t e)) h out again pc f w r a l = join (ex_code fs s e h pc) (raised_code t (temp s h) ∷ []) (ex_ok e h pc f.1 a (omega arith)) (raised_ok t h f.0)
+      st_ok looped (quit at e) h out again pc f w r a l = let k = f.0 in join (ex_code fs s e h pc) (Exit (temp s h) ∷ []) (ex_ok e h pc f.1 a (omega arith)) (omega arith, tt)
 
-      sts_ok : (ss : Sts) (pc : ℕ) → StsFitIn fs s n wanted named ss → start ≤ pc → pc + sts_len ss < end → Are (code ss pc)
-      sts_ok done pc f a l = tt
-      sts_ok (next x xs) pc f a l = join (st_code fs arguments named s x pc) (code xs (pc + st_len x)) (st_ok x pc f.0 a (omega arith)) (sts_ok xs (pc + st_len x) f.1 (omega arith) (omega arith))
+      sts_ok : (looped : Bool) (ss : Sts) (h out again pc : ℕ) → StsFitIn fs s n wanted named h ss → StsWithin strings looped ss → Around looped out again → start ≤ pc → pc + sts_len ss < end → Are (code ss h out again pc)
+      sts_ok looped done h out again pc f w r a l = tt
+      sts_ok looped (next x xs) h out again pc f w r a l =
+          join (st_code fs arguments named s x h out again pc) (code xs h out again (pc + st_len x)) (st_ok looped x h out again pc f.0 w.0 r a (omega arith)) (sts_ok looped xs h out again (pc + st_len x) f.1 w.1 r (omega arith) (omega arith))
 
-all_at : (fns : List Entry) (slots incoming start end : ℕ) (xs : List Instr) (p : ℕ) (i : Instr) → All fns slots incoming start end xs → slice_get xs p ≡ Some i → Ok fns slots incoming start end i
-all_at fns slots incoming start end [] p i f h = absurd (no h)
+all_at : (fns : List Entry) (strings slots incoming start end : ℕ) (xs : List Instr) (p : ℕ) (i : Instr) → All fns strings slots incoming start end xs → slice_get xs p ≡ Some i → Ok fns strings slots incoming start end i
+all_at fns strings slots incoming start end [] p i f h = absurd (no h)
   where
     no : {A : Type 0} {x : A} → None ≡ Some x → ⊥
     no e = cc
-all_at fns slots incoming start end (x ∷ xs) zero i f h = subst (λ y. Ok fns slots incoming start end y) (same_some h) f.0
-all_at fns slots incoming start end (x ∷ xs) (suc p) i f h = all_at fns slots incoming start end xs p i f.1 h
+all_at fns strings slots incoming start end (x ∷ xs) zero i f h = subst (λ y. Ok fns strings slots incoming start end y) (same_some h) f.0
+all_at fns strings slots incoming start end (x ∷ xs) (suc p) i f h = all_at fns strings slots incoming start end xs p i f.1 h
 
 -- behind each instruction but the last one, which returns, there is another
 before_last : (xs : List Instr) (p : ℕ) (i : Instr) → slice_get (xs ++ Return ∷ []) p ≡ Some i → (i ≡ Return) ⊎ (p + 1 < length (xs ++ Return ∷ []))
@@ -188,25 +310,43 @@ ends_so a b c p i h =
     let same : a ++ (b ++ (c ++ Return ∷ [])) ≡ (a ++ (b ++ c)) ++ Return ∷ [] = sym (simp append_assoc) in
     elim (before_last (a ++ (b ++ c)) p i (subst (λ l. slice_get l p ≡ Some i) same h)) [ inl r ↦ inl r | inr l ↦ inr (subst (λ xs. p + 1 < length xs) (sym same) l) ]
 
-module _ (owners : List ℕ) (f start end : ℕ) (own : (p : ℕ) → start ≤ p → p < end → slice_get owners p ≡ Some f) (fns : List Entry) where
-  fits_at : (place slots incoming : ℕ) (i : Instr) → Ok fns slots incoming start end i → (i ≡ Return) ⊎ (slice_get owners (place + 1) ≡ Some f) → FitsAt owners fns place f slots incoming i
-  fits_at place slots incoming i k (inl e) = subst (λ j. FitsAt owners fns place f slots incoming j) (sym e) tt
+module _ (owners : List ℕ) (f start end : ℕ) (own : (p : ℕ) → start ≤ p → p < end → slice_get owners p ≡ Some f) (fns : List Entry) (strings : ℕ) where
+  fits_at : (place slots incoming : ℕ) (i : Instr) → Ok fns strings slots incoming start end i → (i ≡ Return) ⊎ (slice_get owners (place + 1) ≡ Some f) → FitsAt owners fns strings place f slots incoming i
+  fits_at place slots incoming i k (inl e) = subst (λ j. FitsAt owners fns strings place f slots incoming j) (sym e) tt
   fits_at place slots incoming (Const a w) k (inr g) = (k, g)
   fits_at place slots incoming (Move a b) k (inr g) = (k.0, k.1, g)
   fits_at place slots incoming (MoveWords a b n) k (inr g) = (k.0, k.1, k.2, g)
   fits_at place slots incoming (Bin o a b c) k (inr g) = (k.0, k.1, k.2, g)
-  fits_at place slots incoming (Negate a b) k (inr g) = (k.0, k.1, g)
+  fits_at place slots incoming (Un o a b) k (inr g) = (k.0, k.1, g)
   fits_at place slots incoming (Jump goal) k (inr g) = own goal k.0 k.1
   fits_at place slots incoming (JumpZero a goal) k (inr g) = (k.0, own goal k.1.0 k.1.1, g)
   fits_at place slots incoming (Call c) k (inr g) = (k, g)
   fits_at place slots incoming (Argument a b) k (inr g) = (k.0, k.1, g)
   fits_at place slots incoming (SetResults a b n) k (inr g) = (k.0, k.1, k.2, g)
   fits_at place slots incoming (PrintInt a) k (inr g) = (k, g)
+  fits_at place slots incoming (PrintBool a) k (inr g) = (k, g)
+  fits_at place slots incoming (PrintText number) k (inr g) = (k, g)
   fits_at place slots incoming PrintSpace k (inr g) = g
   fits_at place slots incoming PrintLine k (inr g) = g
   fits_at place slots incoming Return k (inr g) = tt
+  fits_at place slots incoming (Exit a) k (inr g) = k
+  fits_at place slots incoming (PanicText number) k (inr g) = k
+  fits_at place slots incoming (PanicInt a) k (inr g) = k
+  fits_at place slots incoming (PanicBool a) k (inr g) = k
 
-module _ (fs : List Func) (fit : (f : ℕ) (func : Func) → slice_get fs f ≡ Some func → FuncFitsIn fs func) where
+pub all_fit : (p : Program) → IsInForm p → (f : ℕ) (func : Func) → slice_get p.funcs f ≡ Some func → FuncFitsIn p.funcs func
+all_fit p form f func is = func_fits p func form (form.fits f func is)
+
+unlike : false ≡ true → ⊥
+unlike e = cc
+
+module _ (p : Program) (form : IsInForm p) where
+  abbrev fs : List Func
+  fs = p.funcs
+
+  abbrev strings : ℕ
+  strings = length p.strings
+
   abbrev instrs : List Instr
   instrs = funcs_code fs fs 0
 
@@ -224,21 +364,24 @@ module _ (fs : List Func) (fit : (f : ℕ) (func : Func) → slice_get fs f ≡ 
       let b : results_of fs f ≡ result_words func = ap results_in is in
       record { fn = entry_of fs func (0 + start_of fs fs f); is = r.entry; room = omega (arith, a, b, room, wide) }
 
-  func_ok : (func : Func) (pc : ℕ) → FuncFitsIn fs func → All fns (frame_of fs func - 2) (argument_words func + result_words func) pc (pc + func_size fs func) (func_code fs func pc)
-  func_ok func pc ok =
+  func_ok : (func : Func) (pc : ℕ) → FuncFitsIn fs func → StsWithin strings false func.body → All fns strings (frame_of fs func - 2) (argument_words func + result_words func) pc (pc + func_size fs func) (func_code fs func pc)
+  func_ok func pc ok within =
       let s = slots_of fs func in let n = func.count in let m = argument_words func in
       let slots : s.outgoing + s.temps + n ≡ frame_of fs func - 2 = omega arith in
       let end = pc + func_size fs func in
       let can_call = can (s.outgoing + s.temps + n) s.outgoing (omega arith) in
-      let body = sts_code fs m func.named s func.body (pc + entry_size fs func) in let leave = leave_code s m func.named in
+      let body = sts_code fs m func.named s func.body 0 0 0 (pc + entry_size fs func) in let leave = leave_code s m func.named in
       let params = params_code s func.params 0 in let zeros = zeros_code s func.named in
-      let entry = join fs s n fns m (result_words func) pc end can_call params zeros
-      (params_ok fs s n fns m (result_words func) pc end can_call func.params 0 ok.params (omega arith))
-      (zeros_ok fs s n fns m (result_words func) pc end can_call func.named ok.named) in
-      let inner = sts_ok fs s n fns m (result_words func) pc end can_call func.named ok.named ok.names func.body (pc + entry_size fs func) ok.body (omega arith) (omega arith) in
-      let last = leave_ok fs s n fns m (result_words func) pc end can_call func.named ok.named ok.names in
-      subst (λ k. All fns k (m + result_words func) pc end (func_code fs func pc)) slots
-      (join fs s n fns m (result_words func) pc end can_call (params ++ zeros) (body ++ leave) entry (join fs s n fns m (result_words func) pc end can_call body leave inner last))
+      let entry = join fs s n fns strings m (result_words func) pc end can_call params zeros
+      (params_ok fs s n fns strings m (result_words func) pc end can_call func.params 0 ok.params (omega arith))
+      (zeros_ok fs s n fns strings m (result_words func) pc end can_call func.named ok.named) in
+      let inner = sts_ok fs s n fns strings m (result_words func) pc end can_call func.named ok.named ok.names false func.body 0 0 0 (pc + entry_size fs func) ok.body within (λ e. absurd (unlike e)) (omega arith) (omega arith) in
+      let last = leave_ok fs s n fns strings m (result_words func) pc end can_call func.named ok.named ok.names in
+      subst (λ k. All fns strings k (m + result_words func) pc end (func_code fs func pc)) slots
+      (join fs s n fns strings m (result_words func) pc end can_call (params ++ zeros) (body ++ leave) entry (join fs s n fns strings m (result_words func) pc end can_call body leave inner last))
+
+  within : (f : ℕ) (func : Func) → slice_get fs f ≡ Some func → StsWithin strings false func.body
+  within f func is = sts_within p func.results (length func.named) false (scope_in func) (body_first func) (func.first + func.count) func.body (form.fits f func is).body
 
   own : (f : ℕ) (func : Func) → slice_get fs f ≡ Some func → (p : ℕ) → start_of fs fs f ≤ p → p < start_of fs fs f + func_size fs func → slice_get owners p ≡ Some f
   own f func is p a b =
@@ -247,7 +390,7 @@ module _ (fs : List Func) (fit : (f : ℕ) (func : Func) → slice_get fs f ≡ 
       let y : 0 + f ≡ f = omega arith in
       ap (λ q. slice_get owners q) (sym z) ∙ r.owned (p - start_of fs fs f) (omega (arith, a, b)) ∙ ap (λ q. Some q) y
 
-  fits_place : (place : ℕ) (i : Instr) → slice_get instrs place ≡ Some i → FitsPlace owners fns place i
+  fits_place : (place : ℕ) (i : Instr) → slice_get instrs place ≡ Some i → FitsPlace owners fns strings place i
   fits_place place i h =
       let r = located fs fs 0 place (slice_get_within instrs place i h) in
       let start = start_of fs fs r.k in
@@ -256,14 +399,14 @@ module _ (fs : List Func) (fit : (f : ℕ) (func : Func) → slice_get fs f ≡ 
       let there : slice_get (func_code fs r.func start) r.p ≡ Some i =
       ap (λ q. slice_get (func_code fs r.func q) r.p) (sym z) ∙ sym (st.code r.p r.within) ∙ ap (λ q. slice_get instrs q) (sym r.at) ∙ h in
       let s = slots_of fs r.func in
-      let next = ends_so (entry_code fs r.func) (sts_code fs (argument_words r.func) r.func.named s r.func.body (start + entry_size fs r.func)) (named_read_code s r.func.named (argument_words r.func)) r.p i there in
+      let next = ends_so (entry_code fs r.func) (sts_code fs (argument_words r.func) r.func.named s r.func.body 0 0 0 (start + entry_size fs r.func)) (named_read_code s r.func.named (argument_words r.func)) r.p i there in
       record {
         f = r.k;
         fn = entry_of fs r.func start;
         owner = own r.k r.func r.is place (let e = r.at in omega (arith, e)) (let e = r.at in let w = r.within in omega (arith, e, w));
         is = st.entry ∙ ap (λ q. Some (entry_of fs r.func q)) z;
-        fits = fits_at owners r.k start (start + func_size fs r.func) (own r.k r.func r.is) fns place (frame_of fs r.func - 2) (argument_words r.func + result_words r.func) i
-            (all_at fns (frame_of fs r.func - 2) (argument_words r.func + result_words r.func) start (start + func_size fs r.func) (func_code fs r.func start) r.p i (func_ok r.func start (fit r.k r.func r.is)) there)
+        fits = fits_at owners r.k start (start + func_size fs r.func) (own r.k r.func r.is) fns strings place (frame_of fs r.func - 2) (argument_words r.func + result_words r.func) i
+            (all_at fns strings (frame_of fs r.func - 2) (argument_words r.func + result_words r.func) start (start + func_size fs r.func) (func_code fs r.func start) r.p i (func_ok r.func start (all_fit p form r.k r.func r.is) (within r.k r.func r.is)) there)
             (elim next [
               | inl e ↦ inl e
               | inr l ↦ inr (own r.k r.func r.is (place + 1) (let e = r.at in omega (arith, e)) (let e = r.at in omega (arith, e, l, length_func fs r.func start)))
@@ -280,12 +423,9 @@ module _ (fs : List Func) (fit : (f : ℕ) (func : Func) → slice_get fs f ≡ 
       subst (λ (g : Entry). IsLinked owners f g) same
       (record { frame = omega arith; start = own f func is start (omega arith) (let l = some_size fs func in omega (arith, l)) })
 
-  pub is_code : IsCode (record { instrs = instrs; owners = owners; funcs = fns })
+  pub is_code : IsCode (code_of p)
   is_code = record { same = length_owners fs fs 0 0; fits = fits_place; linked = linked }
 
 -- the frame of a function lies inside its words where it is entered
 pub begins : (t : Tables) → IsCode t → (f : ℕ) (fn : Entry) → slice_get t.funcs f ≡ Some fn → Inside t fn.frame fn.start 0
 begins t is f fn e = record { f = f; fn = fn; owner = (is.linked f fn e).start; is = e; room = omega arith }
-
-pub all_fit : (p : Program) → IsInForm p → (f : ℕ) (func : Func) → slice_get p.funcs f ≡ Some func → FuncFitsIn p.funcs func
-all_fit p form f func is = func_fits p.funcs func form.few (form.fits f func is)

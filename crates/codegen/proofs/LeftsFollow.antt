@@ -1,26 +1,34 @@
--- The machine follows the writing of left sides.
+-- The machine follows the writing of left sides, and new variables.
 use Rattle.std.proofs.Common.{◌≡◌, inr, ℕ, suc, ◌+◌, ◌<◌, ◌≤◌, List, [], ◌∷◌, ◌++◌, length, refl, sym, ◌∙◌, subst, arith, append_assoc}
 use Rattle.std.specs.Prelude.{slice_index, slice_set}
 use Rattle.typed.specs.Value.{Value}
-use Rattle.typed.specs.Syntax.{Left, blank, new, to, local, here as itself}
-use Rattle.typed.specs.Form.{InScope, LeftsFit, scope_behind}
+use Rattle.typed.specs.Syntax.{Left, Func, Program, blank, new, to, local, here as itself}
+use Rattle.typed.specs.Form.{IsOf, AreOf, site_type, InScope, AllInScope, LeftsFit, SitesNext, NamedFit, scope_behind, scope_with}
+use Rattle.typed.specs.Frames.{renewal_need, temps_of}
 use Rattle.meaning.specs.Trace.{World}
-use Rattle.meaning.specs.Store.{written, born}
+use Rattle.meaning.specs.Store.{value_of, written, born}
 use Rattle.meaning.specs.Meaning
-use Rattle.meaning.specs.Meaning.{Env, Go, Ways, Calls, Setting, Landing, nowhere, birth, on, Aim, variable, with_home}
-use Rattle.isa.specs.declared.instr.Instr.TheVariants.{Move}
-use Rattle.codegen.specs.Code.{temp, site_slot, slots_of, lefts_code, lefts_size}
-use Rattle.codegen.proofs.Frames.{Built, Frame, during, numbers, Good}
-use Rattle.codegen.proofs.Changes.{home_other, born_site, written_site, held_word}
-use Rattle.codegen.proofs.Places.{Standing, At, place_is, turned, bore, write_of, stepped}
-use Rattle.codegen.proofs.EvaluationsFollow.{one_more}
+use Rattle.meaning.specs.Meaning.{Env, Go, Ways, Calls, Setting, Landing, nowhere, birth, on, variable, with_home}
+use Rattle.isa.specs.declared.instr.Instr.TheVariants.{Const, Move}
+use Rattle.codegen.specs.Code.{temp, site_slot, slots_of, lefts_code, lefts_size, zeros_code, renew_code, renew_size}
+use Rattle.codegen.proofs.Frames.{Built, Stands, Frame, hold, grown, during, numbers, Good, narrowed}
+use Rattle.codegen.proofs.Changes.{one_more, home_other, temp_set, fewer, born_site, written_site, held_word, site_word}
+use Rattle.codegen.proofs.Places.{Standing, At, later, place_is, turned, seen, bore, read_of, write_of, stepped}
 
 -- where left sides lead
+abbrev pub landing : Env → Left → Landing
+landing env blank = nowhere
+landing env (new site) = birth site
+landing env (to (local site steps)) = on (record { base = variable (env site); steps = [] })
+
 abbrev pub landings : Env → List Left → List Landing
 landings env [] = []
-landings env (blank ∷ ls) = nowhere ∷ landings env ls
-landings env (new site ∷ ls) = birth site ∷ landings env ls
-landings env (to (local site steps) ∷ ls) = on (record { base = variable (env site); steps = [] }) ∷ landings env ls
+landings env (l ∷ ls) = landing env l ∷ landings env ls
+
+pub ready_one_is : (around : Setting) (callees : Calls) (l : Left) (ws : Ways) (env : Env) (k : Landing → Go) (w : World) → Meaning.ready around callees l ws env k w ≡ k (landing env l) w
+ready_one_is around callees blank ws env k w = refl
+ready_one_is around callees (new site) ws env k w = refl
+ready_one_is around callees (to (local site itself)) ws env k w = refl
 
 pub ready_is : (around : Setting) (callees : Calls) (ls : List Left) (ws : Ways) (env : Env) (k : List Landing → Ways → Go) (w : World) → Meaning.ready_all around callees ls ws env k w ≡ k (landings env ls) ws w
 ready_is around callees [] ws env k w = refl
@@ -28,35 +36,86 @@ ready_is around callees (blank ∷ ls) ws env k w = ready_is around callees ls w
 ready_is around callees (new site ∷ ls) ws env k w = ready_is around callees ls ws env (λ xs ws1. k (birth site ∷ xs) ws1) w
 ready_is around callees (to (local site itself) ∷ ls) ws env k w = ready_is around callees ls ws env (λ xs ws1. k (on (record { base = variable (env site); steps = [] }) ∷ xs) ws1) w
 
+-- the sites of results with names are next
+pub named_next : (p : Program) (n limit : ℕ) (sites : List ℕ) → NamedFit p n sites → n + length sites ≤ limit → SitesNext n limit sites
+named_next p n limit [] fit le = tt
+named_next p n limit (site ∷ sites) fit le = (fit.0, omega arith, named_next p (suc n) limit sites fit.1 (omega arith))
+
+rest_need : (fs : List Func) (sites : List ℕ) → renewal_need fs sites ≤ 1
+rest_need fs [] = omega arith
+rest_need fs (site ∷ sites) = omega arith
+
 module _ (m : Built) (around : Setting) where
   -- what holds of the sites in scope before the left sides
   abbrev pub Kept : List ℕ → (scope : List ℕ) → (first env : Env) → ℕ → Type 0
   Kept before scope first env n = (v : ℕ) → InScope v before → InScope v scope × (env v ≡ first v) × (v < n)
 
-  pub lefts_follow : (ls : List Left) (vs gone all : List Value) (c : Frame) (first env : Env) (before scope : List ℕ) (calls : List Frame) (ws : Ways) (k : Env → Go) (w : World) (words : List ℕ) (n h pc lo b : ℕ) → length ls ≡ length vs → length gone ≡ h → all ≡ gone ++ vs
-      → Standing m.code c.fn pc (lefts_code (slots_of m.funcs c.func) ls h) → LeftsFit before n (c.func.first + c.func.count) ls → c.func.first ≤ n → Kept before scope first env n → Good m (during c env scope all ∷ calls) w words
+  pub lefts_follow : (ls : List Left) (ts : List ℕ) (vs gone all : List Value) (c : Frame) (first env : Env) (before scope : List ℕ) (calls : List Frame) (ws : Ways) (k : Env → Go) (w : World) (words : List ℕ) (n h pc lo b : ℕ) → AreOf ts vs → length gone ≡ h → all ≡ gone ++ vs
+      → Standing m.code c.fn pc (lefts_code (slots_of m.program.funcs c.func) ls h) → LeftsFit m.program before n (c.func.first + c.func.count) ts ls → c.func.first ≤ n → Kept before scope first env n → Good m (during c env scope all ∷ calls) w words
       → ((env1 : Env) (w1 : World) (words1 : List ℕ) → Good m (during c env1 (scope_behind scope ls) all ∷ calls) w1 words1 → At m (numbers (c ∷ calls)) lo 0 b (k env1 w1) (pc + lefts_size ls) words1)
       → At m (numbers (c ∷ calls)) lo 0 b (Meaning.land_all around (landings first ls) vs ws env k w) pc words
-  lefts_follow [] vs gone all c first env before scope calls ws k w words n h pc lo b many hg e has fit from kept good post = place_is m (let q : pc + 0 ≡ pc = omega arith in q) (post env w words good)
-  lefts_follow (l ∷ ls) [] gone all c first env before scope calls ws k w words n h pc lo b many hg e has fit from kept good post = absurd (omega arith)
-  lefts_follow (blank ∷ ls) (v ∷ vs) gone all c first env before scope calls ws k w words n h pc lo b many hg e has fit from kept good post =
-      lefts_follow ls vs (gone ++ v ∷ []) all c first env before scope calls ws k w words n (h + 1) pc lo b (omega arith) (one_more gone v h hg) (e ∙ sym (append_assoc gone (v ∷ []) vs)) has fit from kept good post
-  lefts_follow (new site ∷ ls) (v ∷ vs) gone all c first env before scope calls ws k w words n h pc lo b many hg e has fit from kept good post =
-      let s = slots_of m.funcs c.func in let x = slice_index words (temp s h) in
+  lefts_follow [] [] vs gone all c first env before scope calls ws k w words n h pc lo b are hg e has fit from kept good post = place_is m (let q : pc + 0 ≡ pc = omega arith in q) (post env w words good)
+  lefts_follow [] (t ∷ ts) vs gone all c first env before scope calls ws k w words n h pc lo b are hg e has fit from kept good post = absurd fit
+  lefts_follow (l ∷ ls) [] [] gone all c first env before scope calls ws k w words n h pc lo b are hg e has fit from kept good post = absurd fit
+  lefts_follow (l ∷ ls) [] (v ∷ vs) gone all c first env before scope calls ws k w words n h pc lo b are hg e has fit from kept good post = absurd are
+  lefts_follow (l ∷ ls) (t ∷ ts) [] gone all c first env before scope calls ws k w words n h pc lo b are hg e has fit from kept good post = absurd are
+  lefts_follow (blank ∷ ls) (t ∷ ts) (v ∷ vs) gone all c first env before scope calls ws k w words n h pc lo b are hg e has fit from kept good post =
+      lefts_follow ls ts vs (gone ++ v ∷ []) all c first env before scope calls ws k w words n (h + 1) pc lo b are.1 (one_more gone v h hg) (e ∙ sym (append_assoc gone (v ∷ []) vs)) has fit from kept good post
+  lefts_follow (new site ∷ ls) (t ∷ ts) (v ∷ vs) gone all c first env before scope calls ws k w words n h pc lo b are hg e has fit from kept good post =
+      let s = slots_of m.program.funcs c.func in let x = slice_index words (temp s h) in
       let stands = held_word m (during c env scope all) calls w words gone vs v h hg (subst (λ l. Good m (during c env scope l ∷ calls) w words) e good) in
       let cell = Meaning.new_cell around ws.call site v in let words1 = slice_set words (site_slot s site) x in
       let here = fit.0 in let among = fit.1 in
-      let good1 = born_site m (during c env scope all) calls w words cell site x (omega arith) (omega arith) stands good in
+      let good1 = born_site m (during c env scope all) calls w words cell site x (omega arith) (omega arith) stands (subst (λ y. IsOf y v) (sym fit.2) are.0) good in
       let kept1 : Kept before (site ∷ scope) first (with_home env site (length w.store)) (suc n) =
       λ u i. (inr (kept u i).0, home_other env site (length w.store) u (λ q. let l = (kept u i).2 in absurd (omega arith)) ∙ (kept u i).1, (let l = (kept u i).2 in omega arith)) in
       turned m {lo1 = suc lo} (omega arith) (bore m _ _ (stepped m {lo = lo} {hi = 0} (Move (site_slot s site) (temp s h)) has.0.0 refl
-      (lefts_follow ls vs (gone ++ v ∷ []) all c first (with_home env site (length w.store)) before (site ∷ scope) calls ws k (born w cell) words1 (suc n) (h + 1) (pc + 1) lo b (omega arith) (one_more gone v h hg) (e ∙ sym (append_assoc gone (v ∷ []) vs)) has.1 fit.2 (omega arith) kept1 good1
+      (lefts_follow ls ts vs (gone ++ v ∷ []) all c first (with_home env site (length w.store)) before (site ∷ scope) calls ws k (born w cell) words1 (suc n) (h + 1) (pc + 1) lo b are.1 (one_more gone v h hg) (e ∙ sym (append_assoc gone (v ∷ []) vs)) has.1 fit.3 (omega arith) kept1 good1
       (λ env1 w1 words2 g2. place_is m (let q : pc + suc (lefts_size ls) ≡ pc + 1 + lefts_size ls = omega arith in q) (post env1 w1 words2 g2)))))
-  lefts_follow (to (local site itself) ∷ ls) (v ∷ vs) gone all c first env before scope calls ws k w words n h pc lo b many hg e has fit from kept good post =
-      let s = slots_of m.funcs c.func in let x = slice_index words (temp s h) in
+  lefts_follow (to (local site itself) ∷ ls) (t ∷ ts) (v ∷ vs) gone all c first env before scope calls ws k w words n h pc lo b are hg e has fit from kept good post =
+      let s = slots_of m.program.funcs c.func in let x = slice_index words (temp s h) in
       let stands = held_word m (during c env scope all) calls w words gone vs v h hg (subst (λ l. Good m (during c env scope l ∷ calls) w words) e good) in
-      let words1 = slice_set words (site_slot s site) x in let old = kept site fit.0 in
-      let good1 = subst (λ u. Good m (during c env scope all ∷ calls) (written w u [] v) words1) old.1 (written_site m (during c env scope all) calls w words v site x old.0 stands good) in
+      let words1 = slice_set words (site_slot s site) x in let old = kept site fit.0.0 in
+      let good1 = subst (λ u. Good m (during c env scope all ∷ calls) (written w u [] v) words1) old.1 (written_site m (during c env scope all) calls w words v site x old.0 stands (subst (λ y. IsOf y v) (sym fit.0.1) are.0) good) in
       turned m {lo1 = suc lo} (omega arith) (write_of m _ _ _ (stepped m {lo = lo} {hi = 0} (Move (site_slot s site) (temp s h)) has.0.0 refl
-      (lefts_follow ls vs (gone ++ v ∷ []) all c first env before scope calls ws k (written w (first site) [] v) words1 n (h + 1) (pc + 1) lo b (omega arith) (one_more gone v h hg) (e ∙ sym (append_assoc gone (v ∷ []) vs)) has.1 fit.1 from kept good1
+      (lefts_follow ls ts vs (gone ++ v ∷ []) all c first env before scope calls ws k (written w (first site) [] v) words1 n (h + 1) (pc + 1) lo b are.1 (one_more gone v h hg) (e ∙ sym (append_assoc gone (v ∷ []) vs)) has.1 fit.1 from kept good1
       (λ env1 w1 words2 g2. place_is m (let q : pc + suc (lefts_size ls) ≡ pc + 1 + lefts_size ls = omega arith in q) (post env1 w1 words2 g2)))))
+
+  -- a new round's variables get the values of the old ones, through temp h
+  pub renew_follows : (sites : List ℕ) (c : Frame) (env : Env) (scope : List ℕ) (held : List Value) (calls : List Frame) (entry : ℕ) (k : Env → Go) (w : World) (words : List ℕ) (h pc lo b : ℕ) → length held ≡ h → h + renewal_need m.program.funcs sites ≤ temps_of m.program.funcs c.func → AllInScope scope sites
+      → Standing m.code c.fn pc (renew_code (slots_of m.program.funcs c.func) sites h) → Good m (during c env scope held ∷ calls) w words
+      → ((env1 : Env) (w1 : World) (words1 : List ℕ) → Good m (during c env1 scope held ∷ calls) w1 words1 → At m (numbers (c ∷ calls)) lo 0 b (k env1 w1) (pc + renew_size sites) words1)
+      → At m (numbers (c ∷ calls)) lo 0 b (Meaning.renew around entry sites env k w) pc words
+  renew_follows [] c env scope held calls entry k w words h pc lo b hh room among has good post = place_is m (let q : pc + 0 ≡ pc = omega arith in q) (post env w words good)
+  renew_follows (site ∷ sites) c env scope held calls entry k w words h pc lo b hh room among has good post =
+      let s = slots_of m.program.funcs c.func in let v = value_of w (env site) in let old = during c env scope held in
+      let x = slice_index words (site_slot s site) in let words1 = slice_set words (temp s h) x in
+      let y = slice_index words1 (temp s h) in let words2 = slice_set words1 (site_slot s site) y in
+      let cell = Meaning.new_cell around entry site v in
+      let places = good.stack.0.among site among.0 in
+      let good1 = temp_set m old calls w words h x v hh (omega arith) (site_word m old calls w words site among.0 good) good in
+      let good2 = born_site m (hold old (held ++ v ∷ [])) calls w words1 cell site y places.0 places.1 (held_word m old calls w words1 held [] v h hh good1) (good.stack.0.types site among.0) good1 in
+      let good3 = narrowed m old (with_home env site (length w.store)) (site ∷ scope) scope calls (born w cell) words2 (λ u i. inr i) (fewer m (grown old site (length w.store)) calls (born w cell) words2 held (v ∷ []) good2) in
+      let q : pc + suc (suc (renew_size sites)) ≡ pc + 1 + 1 + renew_size sites = omega arith in
+      turned m {lo1 = suc (suc lo)} (omega arith) (seen m _ (read_of m _ _ _ (bore m _ _
+      (later m {lo = suc (suc lo)} {hi = 1} {b = b} (omega arith) (omega arith) (omega arith)
+      (stepped m {lo = suc lo} {hi = 1} (Move (temp s h) (site_slot s site)) has.0.0 refl
+      (stepped m {lo = lo} {hi = 0} (Move (site_slot s site) (temp s h)) has.1.0.0 refl
+      (renew_follows sites c (with_home env site (length w.store)) scope held calls entry k (born w cell) words2 h (pc + 1 + 1) lo b hh (omega (arith, rest_need m.program.funcs sites)) among.1 has.1.1 good3
+      (λ env1 w1 words3 g3. place_is m q (post env1 w1 words3 g3)))))))))
+
+  -- new variables with zeros
+  module _ (zero_is : (site : ℕ) → Stands (Meaning.zero_of around site) 0 × IsOf (site_type m.program site) (Meaning.zero_of around site)) where
+    pub zeros_follow : (sites : List ℕ) (c : Frame) (env : Env) (scope : List ℕ) (held : List Value) (calls : List Frame) (entry : ℕ) (k : Env → Go) (w : World) (words : List ℕ) (n pc lo b : ℕ) → Standing m.code c.fn pc (zeros_code (slots_of m.program.funcs c.func) sites)
+        → SitesNext n (c.func.first + c.func.count) sites → c.func.first ≤ n → Good m (during c env scope held ∷ calls) w words
+        → ((env1 : Env) (w1 : World) (words1 : List ℕ) → Good m (during c env1 (scope_with scope sites) held ∷ calls) w1 words1 → At m (numbers (c ∷ calls)) lo 0 b (k env1 w1) (pc + length sites) words1)
+        → At m (numbers (c ∷ calls)) lo 0 b (Meaning.bear_zeros around entry sites env k w) pc words
+    zeros_follow [] c env scope held calls entry k w words n pc lo b has fit from good post = place_is m (let e : pc + 0 ≡ pc = omega arith in e) (post env w words good)
+    zeros_follow (site ∷ sites) c env scope held calls entry k w words n pc lo b has fit from good post =
+        let s = slots_of m.program.funcs c.func in let words1 = slice_set words (site_slot s site) 0 in
+        let cell = Meaning.new_cell around entry site (Meaning.zero_of around site) in
+        let here = fit.0 in let among = fit.1 in
+        let good1 = born_site m (during c env scope held) calls w words cell site 0 (omega arith) (omega arith) (zero_is site).0 (zero_is site).1 good in
+        turned m {lo1 = suc lo} (omega arith) (bore m _ _ (stepped m {lo = lo} {hi = 0} (Const (site_slot s site) 0) has.0.0 refl
+        (zeros_follow sites c (with_home env site (length w.store)) (site ∷ scope) held calls entry k (born w cell) words1 (suc n) (pc + 1) lo b has.1 fit.2 (omega arith) good1
+        (λ env1 w1 words2 g2. place_is m (let e : pc + suc (length sites) ≡ pc + 1 + length sites = omega arith in e) (post env1 w1 words2 g2)))))

@@ -1,6 +1,8 @@
 pub mod Compiled
+pub mod Scopes
 pub mod Sizes
 pub mod Suffice
+pub mod Within
 pub mod Stands
 pub mod IsCode
 pub mod Pieces
@@ -10,12 +12,18 @@ pub mod Changes
 pub mod Places
 pub mod Crossing
 pub mod Numbers
+pub mod Counting
 pub mod Moves
+pub mod OperatorsFollow
 pub mod EvaluationsFollow
 pub mod ConditionsFollow
 pub mod LinesFollow
 pub mod LeftsFollow
 pub mod ReturnsFollow
+pub mod Leading
+pub mod RoundsFollow
+pub mod SimpleFollow
+pub mod LoopsFollow
 pub mod StatementsFollow
 pub mod EntriesFollow
 pub mod Follows

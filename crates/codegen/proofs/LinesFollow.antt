@@ -1,48 +1,100 @@
--- The machine follows the printing of a line.
-use Rattle.std.proofs.Common.{◌≡◌, ℕ, suc, ◌+◌, List, [], ◌∷◌, ◌++◌, length, refl, sym, ap, ◌∙◌, subst, arith, append_assoc}
+-- The machine follows the printing of operands.
+use Rattle.std.proofs.Common.{◌≡◌, ℕ, suc, ◌+◌, true, false, List, [], ◌∷◌, ◌++◌, length, refl, sym, ap, ◌∙◌, subst, arith, append_assoc, get_or}
+use Rattle.std.specs.Prelude.{slice_get, slice_index, Some}
 use Rattle.std.specs.Fmt.{signed_decimal}
 use Rattle.typed.specs.Value.{Value, int, bool}
-use Rattle.typed.specs.Syntax.{Piece}
-use Rattle.meaning.specs.Trace.{World}
+use Rattle.typed.specs.Syntax.{Piece, text, shown}
+use Rattle.typed.specs.Form.{IsOf, AreOf}
+use Rattle.meaning.specs.Trace.{World, Print, Trace, Note}
 use Rattle.meaning.specs.Meaning
-use Rattle.meaning.specs.Meaning.{Go}
+use Rattle.meaning.specs.Meaning.{Go, shown_bytes}
 use Rattle.simulation.specs.Steps.{Goes}
-use Rattle.isa.specs.declared.instr.Instr.TheVariants.{PrintInt, PrintSpace, PrintLine}
-use Rattle.machine.specs.Machine.{State, Printed}
-use Rattle.codegen.specs.Code.{temp, slots_of, show_more, show_line, more_size, shown_size}
-use Rattle.codegen.proofs.Frames.{Built, Frame, hold, numbers, Good}
-use Rattle.codegen.proofs.Changes.{held_word}
+use Rattle.isa.specs.declared.instr.Instr.TheVariants.{PrintInt, PrintBool, PrintText, PrintSpace, PrintLine}
+use Rattle.machine.specs.Machine.{State, Printed, truth_bytes}
+use Rattle.codegen.specs.Code.{temp, slots_of, shown_code, show_more, show_line, show_plain, more_size, shown_size}
+use Rattle.codegen.proofs.Frames.{Built, Stands, Frame, hold, numbers, Good}
+use Rattle.codegen.proofs.Changes.{one_more, held_word}
 use Rattle.codegen.proofs.Places.{Standing, At, place_is, turned, printing}
-use Rattle.codegen.proofs.EvaluationsFollow.{texts, one_more}
+
+-- the types of the operands that are values
+abbrev pub piece_types : List Piece → List ℕ
+piece_types [] = []
+piece_types (text number ∷ ps) = piece_types ps
+piece_types (shown t e ∷ ps) = t ∷ piece_types ps
+
+-- what is printed for operands with these values
+abbrev pub texts : (strings : List (List ℕ)) → List Piece → List Value → List (List ℕ)
+texts strings [] vs = []
+texts strings (text number ∷ ps) vs = get_or strings number [] ∷ texts strings ps vs
+texts strings (shown t e ∷ ps) [] = []
+texts strings (shown t e ∷ ps) (v ∷ vs) = shown_bytes v ∷ texts strings ps vs
 
 module _ (m : Built) where
-  more_follows : (ps : List Piece) (vs before all : List Value) (g : Go) (c : Frame) (calls : List Frame) (w : World) (words : List ℕ) (h pc lo b : ℕ) → length vs ≡ length ps → length before ≡ h → all ≡ before ++ vs → Standing m.code c.fn pc (show_more (slots_of m.funcs c.func) ps h)
-      → Good m (hold c all ∷ calls) w words → At m (numbers (c ∷ calls)) lo 0 b (g w) (pc + more_size m.funcs ps) words → At m (numbers (c ∷ calls)) lo 0 b (Meaning.emit_more (texts vs) g w) pc words
-  more_follows [] [] before all g c calls w words h pc lo b many hb e has good post =
-      turned m {lo1 = suc lo} (omega arith) (printing m {lo = lo} {hi = 0} PrintLine (10 ∷ []) has.0.0 refl post)
-  more_follows [] (v ∷ vs) before all g c calls w words h pc lo b many hb e has good post = absurd (omega arith)
-  more_follows (p ∷ ps) [] before all g c calls w words h pc lo b many hb e has good post = absurd (omega arith)
-  more_follows (p ∷ ps) (int z ∷ vs) before all g c calls w words h pc lo b many hb e has good post =
-      let s2 : State = record { pc = pc + 1 + 1; words = words } in
-      let stands = held_word m c calls w words before vs (int z) h hb (subst (λ l. Good m (hold c l ∷ calls) w words) e good) in
-      let q : pc + suc (suc (more_size m.funcs ps)) ≡ pc + 1 + 1 + more_size m.funcs ps = omega arith in
-      turned m {lo1 = suc (suc lo)} (omega arith) (printing m {lo = suc lo} {hi = 1} PrintSpace (32 ∷ []) has.0.0 refl
-      (printing m {lo = lo} {hi = 0} (PrintInt (temp (slots_of m.funcs c.func) h)) (signed_decimal z) has.1.0.0 (ap (λ x. Goes (Printed (signed_decimal x) ∷ []) s2) stands)
-      (more_follows ps vs (before ++ int z ∷ []) all g c calls w words (h + 1) (pc + 1 + 1) lo b (omega arith) (one_more before (int z) h hb) (e ∙ sym (append_assoc before (int z ∷ []) vs)) has.1.1 good (place_is m q post))))
-  more_follows (p ∷ ps) (bool x ∷ vs) before all g c calls w words h pc lo b many hb e has good post =
-      absurd (held_word m c calls w words before vs (bool x) h hb (subst (λ l. Good m (hold c l ∷ calls) w words) e good))
-
-  pub line_follows : (ps : List Piece) (vs before all : List Value) (g : Go) (c : Frame) (calls : List Frame) (w : World) (words : List ℕ) (h pc lo b : ℕ) → length vs ≡ length ps → length before ≡ h → all ≡ before ++ vs → Standing m.code c.fn pc (show_line (slots_of m.funcs c.func) ps h)
-      → Good m (hold c all ∷ calls) w words → At m (numbers (c ∷ calls)) lo 0 b (g w) (pc + shown_size m.funcs ps) words → At m (numbers (c ∷ calls)) lo 0 b (Meaning.emit_line (texts vs) g w) pc words
-  line_follows [] [] before all g c calls w words h pc lo b many hb e has good post =
-      turned m {lo1 = suc lo} (omega arith) (printing m {lo = lo} {hi = 0} PrintLine (10 ∷ []) has.0.0 refl post)
-  line_follows [] (v ∷ vs) before all g c calls w words h pc lo b many hb e has good post = absurd (omega arith)
-  line_follows (p ∷ ps) [] before all g c calls w words h pc lo b many hb e has good post = absurd (omega arith)
-  line_follows (p ∷ ps) (int z ∷ vs) before all g c calls w words h pc lo b many hb e has good post =
+  -- an operand's value
+  value_printed : (t : ℕ) (v : Value) (running : List ℕ) (words : List ℕ) (a pc lo hi b : ℕ) (rest : Trace) → IsOf t v → slice_get m.code.instrs pc ≡ Some (shown_code t a) → Stands v (slice_index words a)
+      → At m running lo hi b rest (pc + 1) words → At m running (suc lo) 1 b (Note (Print (shown_bytes v)) rest) pc words
+  value_printed t (int z) running words a pc lo hi b rest typed here stands post =
       let s1 : State = record { pc = pc + 1; words = words } in
-      let stands = held_word m c calls w words before vs (int z) h hb (subst (λ l. Good m (hold c l ∷ calls) w words) e good) in
-      let q : pc + suc (more_size m.funcs ps) ≡ pc + 1 + more_size m.funcs ps = omega arith in
-      turned m {lo1 = suc lo} (omega arith) (printing m {lo = lo} {hi = 0} (PrintInt (temp (slots_of m.funcs c.func) h)) (signed_decimal z) has.0.0 (ap (λ x. Goes (Printed (signed_decimal x) ∷ []) s1) stands)
-      (more_follows ps vs (before ++ int z ∷ []) all g c calls w words (h + 1) (pc + 1) lo b (omega arith) (one_more before (int z) h hb) (e ∙ sym (append_assoc before (int z ∷ []) vs)) has.1 good (place_is m q post)))
-  line_follows (p ∷ ps) (bool x ∷ vs) before all g c calls w words h pc lo b many hb e has good post =
-      absurd (held_word m c calls w words before vs (bool x) h hb (subst (λ l. Good m (hold c l ∷ calls) w words) e good))
+      printing m {lo = lo} {hi = hi} (PrintInt a) (signed_decimal z) (subst (λ u. slice_get m.code.instrs pc ≡ Some (shown_code u a)) typed here) (ap (λ x. Goes (Printed (signed_decimal x) ∷ []) s1) stands) post
+  value_printed t (bool true) running words a pc lo hi b rest typed here stands post =
+      let s1 : State = record { pc = pc + 1; words = words } in
+      printing m {lo = lo} {hi = hi} (PrintBool a) _ (subst (λ u. slice_get m.code.instrs pc ≡ Some (shown_code u a)) typed here) (ap (λ x. Goes (Printed (truth_bytes x) ∷ []) s1) stands) post
+  value_printed t (bool false) running words a pc lo hi b rest typed here stands post =
+      let s1 : State = record { pc = pc + 1; words = words } in
+      printing m {lo = lo} {hi = hi} (PrintBool a) _ (subst (λ u. slice_get m.code.instrs pc ≡ Some (shown_code u a)) typed here) (ap (λ x. Goes (Printed (truth_bytes x) ∷ []) s1) stands) post
+
+  -- the strings are those of the program
+  module _ (strings : List (List ℕ)) (same : strings ≡ m.program.strings) where
+    text_printed : (number : ℕ) (running : List ℕ) (words : List ℕ) (pc lo hi b : ℕ) (rest : Trace) → slice_get m.code.instrs pc ≡ Some (PrintText number)
+        → At m running lo hi b rest (pc + 1) words → At m running (suc lo) 1 b (Note (Print (get_or strings number [])) rest) pc words
+    text_printed number running words pc lo hi b rest here post =
+        let s1 : State = record { pc = pc + 1; words = words } in
+        printing m {lo = lo} {hi = hi} (PrintText number) (get_or strings number []) here (ap (λ ss. Goes (Printed (get_or ss number []) ∷ []) s1) (m.strings ∙ sym same)) post
+
+    more_follows : (ps : List Piece) (vs before all : List Value) (g : Go) (c : Frame) (calls : List Frame) (w : World) (words : List ℕ) (h pc lo b : ℕ) → AreOf (piece_types ps) vs → length before ≡ h → all ≡ before ++ vs → Standing m.code c.fn pc (show_more (slots_of m.program.funcs c.func) ps h)
+        → Good m (hold c all ∷ calls) w words → At m (numbers (c ∷ calls)) lo 0 b (g w) (pc + more_size ps) words → At m (numbers (c ∷ calls)) lo 0 b (Meaning.emit_more (texts strings ps vs) g w) pc words
+    more_follows [] vs before all g c calls w words h pc lo b are hb e has good post =
+        turned m {lo1 = suc lo} (omega arith) (printing m {lo = lo} {hi = 0} PrintLine (10 ∷ []) has.0.0 refl post)
+    more_follows (text number ∷ ps) vs before all g c calls w words h pc lo b are hb e has good post =
+        let q : pc + suc (suc (more_size ps)) ≡ pc + 1 + 1 + more_size ps = omega arith in
+        turned m {lo1 = suc (suc lo)} (omega arith) (printing m {lo = suc lo} {hi = 1} PrintSpace (32 ∷ []) has.0.0 refl
+        (text_printed number (numbers (c ∷ calls)) words (pc + 1) lo 0 b _ has.1.0.0
+        (more_follows ps vs before all g c calls w words h (pc + 1 + 1) lo b are hb e has.1.1 good (place_is m q post))))
+    more_follows (shown t x ∷ ps) [] before all g c calls w words h pc lo b are hb e has good post = absurd are
+    more_follows (shown t x ∷ ps) (v ∷ vs) before all g c calls w words h pc lo b are hb e has good post =
+        let stands = held_word m c calls w words before vs v h hb (subst (λ l. Good m (hold c l ∷ calls) w words) e good) in
+        let q : pc + suc (suc (more_size ps)) ≡ pc + 1 + 1 + more_size ps = omega arith in
+        turned m {lo1 = suc (suc lo)} (omega arith) (printing m {lo = suc lo} {hi = 1} PrintSpace (32 ∷ []) has.0.0 refl
+        (value_printed t v (numbers (c ∷ calls)) words (temp (slots_of m.program.funcs c.func) h) (pc + 1) lo 0 b _ are.0 has.1.0.0 stands
+        (more_follows ps vs (before ++ v ∷ []) all g c calls w words (h + 1) (pc + 1 + 1) lo b are.1 (one_more before v h hb) (e ∙ sym (append_assoc before (v ∷ []) vs)) has.1.1 good (place_is m q post))))
+
+    -- a line
+    pub line_follows : (ps : List Piece) (vs before all : List Value) (g : Go) (c : Frame) (calls : List Frame) (w : World) (words : List ℕ) (h pc lo b : ℕ) → AreOf (piece_types ps) vs → length before ≡ h → all ≡ before ++ vs → Standing m.code c.fn pc (show_line (slots_of m.program.funcs c.func) ps h)
+        → Good m (hold c all ∷ calls) w words → At m (numbers (c ∷ calls)) lo 0 b (g w) (pc + shown_size true ps) words → At m (numbers (c ∷ calls)) lo 0 b (Meaning.emit_line (texts strings ps vs) g w) pc words
+    line_follows [] vs before all g c calls w words h pc lo b are hb e has good post =
+        turned m {lo1 = suc lo} (omega arith) (printing m {lo = lo} {hi = 0} PrintLine (10 ∷ []) has.0.0 refl post)
+    line_follows (text number ∷ ps) vs before all g c calls w words h pc lo b are hb e has good post =
+        let q : pc + suc (more_size ps) ≡ pc + 1 + more_size ps = omega arith in
+        turned m {lo1 = suc lo} (omega arith) (text_printed number (numbers (c ∷ calls)) words pc lo 0 b _ has.0.0
+        (more_follows ps vs before all g c calls w words h (pc + 1) lo b are hb e has.1 good (place_is m q post)))
+    line_follows (shown t x ∷ ps) [] before all g c calls w words h pc lo b are hb e has good post = absurd are
+    line_follows (shown t x ∷ ps) (v ∷ vs) before all g c calls w words h pc lo b are hb e has good post =
+        let stands = held_word m c calls w words before vs v h hb (subst (λ l. Good m (hold c l ∷ calls) w words) e good) in
+        let q : pc + suc (more_size ps) ≡ pc + 1 + more_size ps = omega arith in
+        turned m {lo1 = suc lo} (omega arith) (value_printed t v (numbers (c ∷ calls)) words (temp (slots_of m.program.funcs c.func) h) pc lo 0 b _ are.0 has.0.0 stands
+        (more_follows ps vs (before ++ v ∷ []) all g c calls w words (h + 1) (pc + 1) lo b are.1 (one_more before v h hb) (e ∙ sym (append_assoc before (v ∷ []) vs)) has.1 good (place_is m q post)))
+
+    -- without spaces and a newline
+    pub plain_follows : (ps : List Piece) (vs before all : List Value) (g : Go) (c : Frame) (calls : List Frame) (w : World) (words : List ℕ) (h pc lo b : ℕ) → AreOf (piece_types ps) vs → length before ≡ h → all ≡ before ++ vs → Standing m.code c.fn pc (show_plain (slots_of m.program.funcs c.func) ps h)
+        → Good m (hold c all ∷ calls) w words → At m (numbers (c ∷ calls)) lo 0 b (g w) (pc + shown_size false ps) words → At m (numbers (c ∷ calls)) lo 0 b (Meaning.emit_plain (texts strings ps vs) g w) pc words
+    plain_follows [] vs before all g c calls w words h pc lo b are hb e has good post = place_is m (let q : pc + 0 ≡ pc = omega arith in q) post
+    plain_follows (text number ∷ ps) vs before all g c calls w words h pc lo b are hb e has good post =
+        let q : pc + suc (length ps) ≡ pc + 1 + length ps = omega arith in
+        turned m {lo1 = suc lo} (omega arith) (text_printed number (numbers (c ∷ calls)) words pc lo 0 b _ has.0.0
+        (plain_follows ps vs before all g c calls w words h (pc + 1) lo b are hb e has.1 good (place_is m q post)))
+    plain_follows (shown t x ∷ ps) [] before all g c calls w words h pc lo b are hb e has good post = absurd are
+    plain_follows (shown t x ∷ ps) (v ∷ vs) before all g c calls w words h pc lo b are hb e has good post =
+        let stands = held_word m c calls w words before vs v h hb (subst (λ l. Good m (hold c l ∷ calls) w words) e good) in
+        let q : pc + suc (length ps) ≡ pc + 1 + length ps = omega arith in
+        turned m {lo1 = suc lo} (omega arith) (value_printed t v (numbers (c ∷ calls)) words (temp (slots_of m.program.funcs c.func) h) pc lo 0 b _ are.0 has.0.0 stands
+        (plain_follows ps vs (before ++ v ∷ []) all g c calls w words (h + 1) (pc + 1) lo b are.1 (one_more before v h hb) (e ∙ sym (append_assoc before (v ∷ []) vs)) has.1 good (place_is m q post)))

@@ -1,9 +1,10 @@
 -- Arguments go to the outgoing area, and results come from it.
-use Rattle.std.proofs.Common.{◌≡◌, ℕ, zero, suc, ◌+◌, ◌-◌, ◌<◌, ◌≤◌, List, [], ◌∷◌, ◌++◌, length, Some, refl, sym, ap, ◌∙◌, subst, arith, length-append, get_or}
-use Rattle.std.specs.Prelude.{slice_get, slice_index}
+use Rattle.std.proofs.Common.{◌≡◌, ℕ, zero, suc, ◌+◌, ◌-◌, ◌<◌, ◌≤◌, List, [], ◌∷◌, ◌++◌, length, Some, None, refl, sym, ap, ◌∙◌, subst, arith, length-append, get_or}
+use Rattle.std.specs.Prelude.{Option, slice_get, slice_index}
 use Rattle.std.proofs.lemmas.List.{get_or-append-add}
 use Rattle.typed.specs.Value.{Value}
-use Rattle.typed.specs.Syntax.{Func, argument_words, result_words, arguments_in, results_in, arguments_of, results_of}
+use Rattle.typed.specs.Form.{AreOf, ParamsFit}
+use Rattle.typed.specs.Syntax.{Func, Program, argument_words, result_words, arguments_in, results_in, arguments_of, results_of}
 use Rattle.typed.specs.Frames.{outgoing_of, temps_of}
 use Rattle.meaning.specs.Trace.{World, Trace, Turn}
 use Rattle.meaning.specs.Store.{no_value}
@@ -13,35 +14,47 @@ use Rattle.machine.specs.Machine.{put_words, words_at, owner_of}
 use Rattle.codegen.specs.Code.{temp, slots_of, move_code, move_size, call_code, call_size}
 use Rattle.codegen.proofs.Sizes.{length_move}
 use Rattle.codegen.proofs.Distances.{word_at, word_slot, put_same, read_length, read_index}
-use Rattle.codegen.proofs.Frames.{Built, Stands, stands_same, AreAt, Frame, hold, numbers, depth, Good}
+use Rattle.codegen.proofs.Frames.{Built, Stands, stands_same, of_length, AreAt, Frame, hold, numbers, depth, Good}
 use Rattle.codegen.proofs.Changes.{held_more, temps_put, fewer, outgoing_put, are_none}
-use Rattle.codegen.proofs.Places.{Standing, front, back, At, later, place_is, turned_less, stepped}
+use Rattle.codegen.proofs.Places.{Standing, front, back, Panics, At, later, place_is, turned_less, stepped}
+
+-- parameters are as many as their types
+pub params_length : (p : Program) (m : ℕ) (ts : List ℕ) (ps : List (Option ℕ)) → ParamsFit p m ts ps → length ts ≡ length ps
+params_length p m [] [] fit = refl
+params_length p m (t ∷ ts) (None ∷ ps) fit = ap suc (params_length p m ts ps fit)
+params_length p m (t ∷ ts) (Some site ∷ ps) fit = ap suc (params_length p (suc m) ts ps fit.2)
+params_length p m [] (q ∷ ps) fit = absurd fit
+params_length p m (t ∷ ts) [] fit = absurd fit
 
 module _ (m : Built) where
+  -- arguments are as many as a function's parameters
+  pub arguments_length : (f : ℕ) (func : Func) (vs : List Value) → slice_get m.program.funcs f ≡ Some func → AreOf func.param_types vs → length vs ≡ argument_words func
+  arguments_length f func vs named are = of_length func.param_types vs are ∙ params_length m.program func.first func.param_types func.params (m.fits f func named).params
+
   -- the words of the last values that are held
-  pub held_words : (c : Frame) (calls : List Frame) (w : World) (words : List ℕ) (held vs : List Value) (h j : ℕ) → length held ≡ h → j < length vs → Good m (hold c (held ++ vs) ∷ calls) w words → Stands (get_or vs j no_value) (slice_index words (temp (slots_of m.funcs c.func) h + j))
+  pub held_words : (c : Frame) (calls : List Frame) (w : World) (words : List ℕ) (held vs : List Value) (h j : ℕ) → length held ≡ h → j < length vs → Good m (hold c (held ++ vs) ∷ calls) w words → Stands (get_or vs j no_value) (slice_index words (temp (slots_of m.program.funcs c.func) h + j))
   held_words c calls w words held vs h j hh l g =
       let r = g.stack.0.room in let long = g.long in
-      let e : outgoing_of m.funcs c.func + (length held + j) ≡ temp (slots_of m.funcs c.func) h + j = omega arith in
-      stands_same (get_or (held ++ vs) (length held + j) no_value) (get_or vs j no_value) (word_at words (depth m (c ∷ calls) - (outgoing_of m.funcs c.func + (length held + j)))) (slice_index words (temp (slots_of m.funcs c.func) h + j))
+      let e : outgoing_of m.program.funcs c.func + (length held + j) ≡ temp (slots_of m.program.funcs c.func) h + j = omega arith in
+      stands_same (get_or (held ++ vs) (length held + j) no_value) (get_or vs j no_value) (word_at words (depth m (c ∷ calls) - (outgoing_of m.program.funcs c.func + (length held + j)))) (slice_index words (temp (slots_of m.program.funcs c.func) h + j))
       (sym (get_or-append-add held vs j no_value))
-      (ap (slice_index words) (sym e) ∙ sym (word_slot words (depth m (c ∷ calls)) (outgoing_of m.funcs c.func + (length held + j)) long (omega (arith, length-append held vs))))
+      (ap (slice_index words) (sym e) ∙ sym (word_slot words (depth m (c ∷ calls)) (outgoing_of m.program.funcs c.func + (length held + j)) long (omega (arith, length-append held vs))))
       (g.stack.0.temps (length held + j) (omega (arith, length-append held vs)))
 
   -- no more values are held
   pub held_none : (c : Frame) (calls : List Frame) (w : World) (words : List ℕ) → Good m (c ∷ calls) w words → Good m (hold c (c.held ++ []) ∷ calls) w words
   held_none c calls w words g =
       let r = g.stack.0.room in
-      held_more m c calls w words words [] refl (omega arith) (λ d apart. refl) (are_none (depth m (c ∷ calls)) (outgoing_of m.funcs c.func + length c.held) words) g
+      held_more m c calls w words words [] refl (omega arith) (λ d apart. refl) (are_none (depth m (c ∷ calls)) (outgoing_of m.program.funcs c.func + length c.held) words) g
 
-  pub arguments_moved : (count h : ℕ) (c : Frame) (calls : List Frame) (w : World) (words : List ℕ) (vs : List Value) (running : List ℕ) (pc lo b : ℕ) (t : Trace) → Standing m.code c.fn pc (move_code count 0 (temp (slots_of m.funcs c.func) h))
-      → length c.held ≡ h → length vs ≡ count → count ≤ outgoing_of m.funcs c.func → Good m (hold c (c.held ++ vs) ∷ calls) w words
+  pub arguments_moved : (count h : ℕ) (c : Frame) (calls : List Frame) (w : World) (words : List ℕ) (vs : List Value) (running : List ℕ) (pc lo b : ℕ) (t : Trace) → Standing m.code c.fn pc (move_code count 0 (temp (slots_of m.program.funcs c.func) h))
+      → length c.held ≡ h → length vs ≡ count → count ≤ outgoing_of m.program.funcs c.func → Good m (hold c (c.held ++ vs) ∷ calls) w words
       → ((words1 : List ℕ) → AreAt vs (depth m (c ∷ calls)) 0 words1 → Good m (c ∷ calls) w words1 → At m running lo 1 b t (pc + move_size count) words1) → At m running (suc lo) 1 b t pc words
   arguments_moved zero h c calls w words vs running pc lo b t has hh many room g post =
       let e : pc + 0 ≡ pc = omega arith in
       later m {lo = lo} {hi = 1} {b = b} (omega arith) (omega arith) (omega arith) (place_is m e (post words (λ j l. absurd (omega arith)) (fewer m c calls w words c.held vs g)))
   arguments_moved (suc k) h c calls w words vs running pc lo b t has hh many room g post =
-      let a = temp (slots_of m.funcs c.func) h in let xs = words_at words a (suc k) in
+      let a = temp (slots_of m.program.funcs c.func) h in let xs = words_at words a (suc k) in
       let long = g.long in let r = g.stack.0.room in
       let within : a + suc k ≤ length words = omega (arith, length-append c.held vs) in
       let put : length xs ≡ suc k = read_length words a (suc k) within in
@@ -52,15 +65,15 @@ module _ (m : Built) where
       (held_words c calls w words c.held vs h j hh l g))
       (outgoing_put m c calls w words xs 0 (omega (arith, put)) (fewer m c calls w words c.held vs g)))
 
-  pub results_moved : (count h a : ℕ) (c : Frame) (calls : List Frame) (w : World) (words : List ℕ) (rs : List Value) (running : List ℕ) (pc lo b : ℕ) (t : Trace) → Standing m.code c.fn pc (move_code count (temp (slots_of m.funcs c.func) h) a)
-      → length c.held ≡ h → length rs ≡ count → a + count ≤ outgoing_of m.funcs c.func → h + count ≤ temps_of m.funcs c.func → AreAt rs (depth m (c ∷ calls)) a words → Good m (c ∷ calls) w words
+  pub results_moved : (count h a : ℕ) (c : Frame) (calls : List Frame) (w : World) (words : List ℕ) (rs : List Value) (running : List ℕ) (pc lo b : ℕ) (t : Trace) → Standing m.code c.fn pc (move_code count (temp (slots_of m.program.funcs c.func) h) a)
+      → length c.held ≡ h → length rs ≡ count → a + count ≤ outgoing_of m.program.funcs c.func → h + count ≤ temps_of m.program.funcs c.func → AreAt rs (depth m (c ∷ calls)) a words → Good m (c ∷ calls) w words
       → ((words1 : List ℕ) → Good m (hold c (c.held ++ rs) ∷ calls) w words1 → At m running lo 0 b t (pc + move_size count) words1) → At m running (suc lo) 0 b t pc words
   results_moved zero h a c calls w words [] running pc lo b t has hh many room within are g post =
       let e : pc + 0 ≡ pc = omega arith in
       later m {lo = lo} {hi = 0} {b = b} (omega arith) (omega arith) (omega arith) (place_is m e (post words (held_none c calls w words g)))
   results_moved zero h a c calls w words (r ∷ rs) running pc lo b t has hh many room within are g post = absurd (omega arith)
   results_moved (suc k) h a c calls w words rs running pc lo b t has hh many room within are g post =
-      let to = temp (slots_of m.funcs c.func) h in let xs = words_at words a (suc k) in
+      let to = temp (slots_of m.program.funcs c.func) h in let xs = words_at words a (suc k) in
       let long = g.long in
       let put : length xs ≡ suc k = read_length words a (suc k) (omega arith) in
       later m {lo = suc lo} {hi = 1} {b = b} (omega arith) (omega arith) (omega arith)
@@ -72,28 +85,29 @@ module _ (m : Built) where
 
   -- what a call does, where it is known for as many turns
   pub record CallsFollow (callees : Calls) (n : ℕ) : Type 0 where
-    pub by : (f : ℕ) (func : Func) (vs : List Value) (c : Frame) (calls : List Frame) (ws : Ways) (env : Env) (k : Then (List Value)) (w : World) (words : List ℕ) (pc lo b : ℕ) → b ≤ n → slice_get m.funcs f ≡ Some func
-        → slice_get m.code.instrs pc ≡ Some (Call f) → owner_of m.code pc ≡ c.fn → length vs ≡ argument_words func → argument_words func + result_words func ≤ outgoing_of m.funcs c.func
+    pub by : (f : ℕ) (func : Func) (vs : List Value) (c : Frame) (calls : List Frame) (ws : Ways) (env : Env) (k : Then (List Value)) (w : World) (words : List ℕ) (pc lo b : ℕ) → b ≤ n → slice_get m.program.funcs f ≡ Some func
+        → slice_get m.code.instrs pc ≡ Some (Call f) → owner_of m.code pc ≡ c.fn → Panics ws → AreOf func.param_types vs → argument_words func + result_words func ≤ outgoing_of m.program.funcs c.func
         → AreAt vs (depth m (c ∷ calls)) 0 words → Good m (c ∷ calls) w words
-        → ((rs : List Value) (w1 : World) (words1 : List ℕ) → length rs ≡ result_words func → AreAt rs (depth m (c ∷ calls)) (argument_words func) words1 → Good m (c ∷ calls) w1 words1 → At m (numbers (c ∷ calls)) lo 0 b (k rs w1) (pc + 1) words1)
+        → ((rs : List Value) (w1 : World) (words1 : List ℕ) → AreOf func.results rs → AreAt rs (depth m (c ∷ calls)) (argument_words func) words1 → Good m (c ∷ calls) w1 words1 → At m (numbers (c ∷ calls)) lo 0 b (k rs w1) (pc + 1) words1)
         → At m (numbers (c ∷ calls)) (suc lo) 1 b (callees f vs ws env k w) pc words
 
   -- the arguments are held: the call, whose results take their places
-  pub call_end : (callees : Calls) (n : ℕ) → CallsFollow callees n → (f : ℕ) (func : Func) (vs : List Value) (c : Frame) (calls : List Frame) (ws : Ways) (env : Env) (k : Then (List Value)) (w : World) (words : List ℕ) (h pc lo b : ℕ) → b ≤ suc n → slice_get m.funcs f ≡ Some func
-      → length c.held ≡ h → length vs ≡ argument_words func → Standing m.code c.fn pc (call_code m.funcs (slots_of m.funcs c.func) f h) → h + results_of m.funcs f ≤ temps_of m.funcs c.func → arguments_of m.funcs f + results_of m.funcs f ≤ outgoing_of m.funcs c.func
+  pub call_end : (callees : Calls) (n : ℕ) → CallsFollow callees n → (f : ℕ) (func : Func) (vs : List Value) (c : Frame) (calls : List Frame) (ws : Ways) (env : Env) (k : Then (List Value)) (w : World) (words : List ℕ) (h pc lo b : ℕ) → b ≤ suc n → slice_get m.program.funcs f ≡ Some func
+      → length c.held ≡ h → Panics ws → AreOf func.param_types vs → Standing m.code c.fn pc (call_code m.program.funcs (slots_of m.program.funcs c.func) f h) → h + results_of m.program.funcs f ≤ temps_of m.program.funcs c.func → arguments_of m.program.funcs f + results_of m.program.funcs f ≤ outgoing_of m.program.funcs c.func
       → Good m (hold c (c.held ++ vs) ∷ calls) w words
-      → ((rs : List Value) (w1 : World) (words1 : List ℕ) → length rs ≡ result_words func → Good m (hold c (c.held ++ rs) ∷ calls) w1 words1 → At m (numbers (c ∷ calls)) lo 0 b (k rs w1) (pc + call_size m.funcs f) words1)
+      → ((rs : List Value) (w1 : World) (words1 : List ℕ) → AreOf func.results rs → Good m (hold c (c.held ++ rs) ∷ calls) w1 words1 → At m (numbers (c ∷ calls)) lo 0 b (k rs w1) (pc + call_size m.program.funcs f) words1)
       → At m (numbers (c ∷ calls)) lo 0 b (Turn (callees f vs ws env k w)) pc words
-  call_end callees n cf f func vs c calls ws env k w words h pc lo b le named hh many has room reach g post =
-      let s = slots_of m.funcs c.func in
-      let na = arguments_of m.funcs f in let nr = results_of m.funcs f in
+  call_end callees n cf f func vs c calls ws env k w words h pc lo b le named hh stops typed has room reach g post =
+      let s = slots_of m.program.funcs c.func in
+      let na = arguments_of m.program.funcs f in let nr = results_of m.program.funcs f in
       let ea : na ≡ argument_words func = ap arguments_in named in let er : nr ≡ result_words func = ap results_in named in
+      let many = arguments_length f func vs named typed in
       let before = move_code na 0 (temp s h) in let behind = move_code nr (temp s h) na in
       let has_call = back m.code c.fn pc (move_size na) before (Call f ∷ behind) (length_move na 0 (temp s h)) has in
       turned_less m {lo1 = suc (suc (suc lo))} (omega arith)
       (arguments_moved na h c calls w words vs (numbers (c ∷ calls)) pc (suc (suc lo)) (b - 1) _ (front m.code c.fn pc before (Call f ∷ behind) has) hh (omega arith) (omega arith) g (λ words1 are g1.
-      cf.by f func vs c calls ws env k w words1 (pc + move_size na) (suc lo) (b - 1) (omega arith) named has_call.0.0 has_call.0.1 many (omega arith) are g1 (λ rs w1 words2 some are2 g2.
-      results_moved nr h na c calls w1 words2 rs (numbers (c ∷ calls)) (pc + move_size na + 1) lo (b - 1) _ has_call.1 hh (omega arith) (omega arith) (omega arith)
+      cf.by f func vs c calls ws env k w words1 (pc + move_size na) (suc lo) (b - 1) (omega arith) named has_call.0.0 has_call.0.1 stops typed (omega arith) are g1 (λ rs w1 words2 some are2 g2.
+      results_moved nr h na c calls w1 words2 rs (numbers (c ∷ calls)) (pc + move_size na + 1) lo (b - 1) _ has_call.1 hh (let l = of_length func.results rs some in omega (arith, l)) (omega arith) (omega arith)
       (subst (λ a. AreAt rs (depth m (c ∷ calls)) a words2) (sym ea) are2) g2 (λ words3 g3.
       later m {lo = lo} {hi = 0} {b = b} (omega arith) (omega arith) (omega arith)
-      (place_is m (let e : pc + call_size m.funcs f ≡ pc + move_size na + 1 + move_size nr = omega arith in e) (post rs w1 words3 some g3))))))
+      (place_is m (let e : pc + call_size m.program.funcs f ≡ pc + move_size na + 1 + move_size nr = omega arith in e) (post rs w1 words3 some g3))))))

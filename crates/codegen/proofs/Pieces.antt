@@ -1,46 +1,60 @@
--- Expressions side by side, as values and as the operands of a line.
-use Rattle.std.proofs.Common.{◌≡◌, ℕ, ◌+◌, ◌<◌, ◌≤◌, List, [], ◌∷◌, ◌++◌, length, map, refl, ap, arith}
+-- Values side by side, and the operands that are shown.
+use Rattle.std.proofs.Common.{◌≡◌, ℕ, ◌+◌, ◌<◌, true, List, [], ◌∷◌, length, map, refl, arith}
 use Rattle.base.specs.declared.ids.SiteId.{SiteId}
+use Rattle.isa.specs.declared.instr.Instr.TheVariants.{PrintSpace}
 use Rattle.typed.specs.declared.expr.Expr.{Expr}
-use Rattle.typed.specs.Syntax.{Func}
-use Rattle.typed.specs.View.{ex_of, exs_of, pieces_of}
-use Rattle.codegen.specs.Code.{Slots, count_of, ex_code, exs_code, pieces_code, size, exs_size, pieces_size, more_size, shown_size, named_read_size}
-use Rattle.codegen.specs.Temps.{ExsFitIn, PiecesFitIn}
-
-pub codes : (fs : List Func) (s : Slots) (es : List Expr) (h : ℕ) → pieces_code fs s (pieces_of es) h ≡ exs_code fs s (exs_of es) h
-codes fs s [] h = refl
-codes fs s (e ∷ es) h = ap (λ is. ex_code fs s (ex_of e) h ++ is) (codes fs s es (h + 1))
-
-pub sizes : (fs : List Func) (es : List Expr) → pieces_size fs (pieces_of es) ≡ exs_size fs (exs_of es)
-sizes fs [] = refl
-sizes fs (e ∷ es) = ap (λ n. size fs (ex_of e) + n) (sizes fs es)
+use Rattle.typed.specs.declared.stmt.Piece.{Piece as PieceData}
+use Rattle.typed.specs.Syntax.{Func, Piece, text, shown}
+use Rattle.typed.specs.View.{exs_of, piece_of}
+use Rattle.codegen.specs.Code.{Slots, count_of, more_size, shown_size, named_read_size, renew_size, show_line, show_more, show_plain}
+use Rattle.codegen.specs.Frame.{show_piece, temp_behind, ShownFit}
+use Rattle.codegen.specs.Temps.{PiecesFitIn}
 
 pub counts : (fs : List Func) (es : List Expr) → count_of fs (exs_of es) ≡ length es
 counts fs [] = refl
 counts fs (e ∷ es) = omega (arith, counts fs es)
 
-pub fits : (fs : List Func) (s : Slots) (n : ℕ) (es : List Expr) (h : ℕ) → PiecesFitIn fs s n h (pieces_of es) → ExsFitIn fs s n h (exs_of es)
-fits fs s n [] h f = tt
-fits fs s n (e ∷ es) h f = (f.0, f.1, fits fs s n es (h + 1) f.2)
-
-more_twice : (fs : List Func) (es : List Expr) → more_size fs (pieces_of es) ≡ length es + length es + 1
-more_twice fs [] = refl
-more_twice fs (e ∷ es) = omega (arith, more_twice fs es)
+more_twice : (ps : List PieceData) → more_size (map piece_of ps) ≡ length ps + length ps + 1
+more_twice [] = refl
+more_twice (p ∷ ps) = omega (arith, more_twice ps)
 
 -- each operand of a line wants two instructions
-pub shown_twice : (fs : List Func) (es : List Expr) → 0 < length es → shown_size fs (pieces_of es) ≡ length es + length es
-shown_twice fs [] l = absurd (omega arith)
-shown_twice fs (e ∷ es) l = omega (arith, more_twice fs es)
+pub line_twice : (ps : List PieceData) → 0 < length ps → shown_size true (map piece_of ps) ≡ length ps + length ps
+line_twice [] l = absurd (omega arith)
+line_twice (p ∷ ps) l = omega (arith, more_twice ps)
 
--- each result with a name wants two
+-- each result with a name, and each variable of a loop, wants two
 pub named_twice : (sites : List SiteId) → named_read_size (map (λ site. site.0) sites) ≡ length sites + length sites
 named_twice [] = refl
 named_twice (site ∷ sites) = omega (arith, named_twice sites)
 
--- the operands of a line have temps
-above : (fs : List Func) (s : Slots) (n : ℕ) (es : List Expr) (h : ℕ) → h ≤ s.temps → PiecesFitIn fs s n h (pieces_of es) → h + length es ≤ s.temps
-above fs s n [] h l f = omega arith
-above fs s n (e ∷ es) h l f = let a = above fs s n es (h + 1) (let k = f.0 in omega arith) f.2 in omega (arith, a)
+pub renewed_twice : (sites : List SiteId) → renew_size (map (λ site. site.0) sites) ≡ length sites + length sites
+renewed_twice [] = refl
+renewed_twice (site ∷ sites) = omega (arith, renewed_twice sites)
 
-pub temps : (fs : List Func) (s : Slots) (n : ℕ) (es : List Expr) → PiecesFitIn fs s n 0 (pieces_of es) → length es ≤ s.temps
-temps fs s n es f = let a = above fs s n es 0 (omega arith) f in omega (arith, a)
+-- operands whose values have temps can be shown
+pub shown_fit : (fs : List Func) (s : Slots) (n h : ℕ) (ps : List Piece) → PiecesFitIn fs s n h ps → ShownFit s h ps
+shown_fit fs s n h [] f = tt
+shown_fit fs s n h (text number ∷ ps) f = shown_fit fs s n h ps f
+shown_fit fs s n h (shown t e ∷ ps) f = (f.0, shown_fit fs s n (h + 1) ps f.2)
+
+-- the first operand and the others
+pub more_first : (s : Slots) (q : Piece) (ps : List Piece) (h : ℕ) → show_more s (q ∷ ps) h ≡ PrintSpace ∷ show_piece s q h ∷ show_more s ps (temp_behind q h)
+more_first s (text number) ps h = refl
+more_first s (shown t e) ps h = refl
+
+pub line_first : (s : Slots) (q : Piece) (ps : List Piece) (h : ℕ) → show_line s (q ∷ ps) h ≡ show_piece s q h ∷ show_more s ps (temp_behind q h)
+line_first s (text number) ps h = refl
+line_first s (shown t e) ps h = refl
+
+pub plain_first : (s : Slots) (q : Piece) (ps : List Piece) (h : ℕ) → show_plain s (q ∷ ps) h ≡ show_piece s q h ∷ show_plain s ps (temp_behind q h)
+plain_first s (text number) ps h = refl
+plain_first s (shown t e) ps h = refl
+
+pub fit_first : (s : Slots) (q : Piece) (ps : List Piece) (h : ℕ) → ShownFit s h (q ∷ ps) → ShownFit s h (q ∷ [])
+fit_first s (text number) ps h f = tt
+fit_first s (shown t e) ps h f = (f.0, tt)
+
+pub fit_others : (s : Slots) (q : Piece) (ps : List Piece) (h : ℕ) → ShownFit s h (q ∷ ps) → ShownFit s (temp_behind q h) ps
+fit_others s (text number) ps h f = f
+fit_others s (shown t e) ps h f = f.1

@@ -4,8 +4,11 @@ use Rattle.std.specs.Prelude.{slice_get, slice_index, slice_set, if◌then◌els
 use Rattle.std.proofs.lemmas.Bool.{le-leb}
 use Rattle.typed.specs.Syntax.{Func}
 use Rattle.typed.specs.Frames.{frame_in, frame_of}
-use Rattle.meaning.specs.Trace.{Born, Read, Write, Print, Ending, Exit, Mark, Trace, Turn, Note, Seen, End, Cut}
-use Rattle.meaning.specs.Output.{Limits, out}
+use Rattle.base.specs.declared.pos.Pos.{Pos}
+use Rattle.meaning.specs.Trace.{Born, Read, Write, Print, Fault, Ending, Exit, Panic, World, Mark, Trace, Turn, Note, Seen, End, Cut}
+use Rattle.meaning.specs.Output as Output
+use Rattle.meaning.specs.Output.{Limits, Sight, out}
+use Rattle.meaning.specs.Meaning.{Env, Ways}
 use Rattle.simulation.specs.Steps.{Goes, Stops, exec}
 use Rattle.simulation.specs.Follows.{Follows}
 use Rattle.simulation.proofs.Rules
@@ -49,13 +52,17 @@ standing code f pc (i ∷ is) h own =
       standing code f (pc + 1) is h.1 (λ j l. let e : pc + suc j ≡ pc + 1 + j = omega arith in ap (slice_get code.owners) (sym e) ∙ own (suc j) (omega arith)),
     )
 
+-- a panic ends the run
+abbrev pub Panics : Ways → Type 0
+Panics ws = (at : Pos) (f : Fault) (env : Env) (w : World) → ws.panicked at f env w ≡ End (Panic at f)
+
 module _ (m : Built) where
   abbrev pub words_limits : Limits
-  words_limits = record { frame = λ f. frame_in m.funcs (slice_get m.funcs f); stack_max = m.max }
+  words_limits = record { frame = λ f. frame_in m.program.funcs (slice_get m.program.funcs f); stack_max = m.max }
 
   -- a trace has come to a place, where these functions run
   pub record At (running : List ℕ) (lo hi b : ℕ) (t : Trace) (pc : ℕ) (words : List ℕ) : Type 0 where
-    pub at : Follows (List ℕ) Event Ending Stop same_event same_end lo hi b (out words_limits running t) (λ k. exec (act m.code m.max) k (record { pc = pc; words = words }))
+    pub at : Follows Sight Event Ending Stop same_event (same_end m.program.strings) lo hi b (out words_limits running t) (λ k. exec (act m.code m.max) k (record { pc = pc; words = words }))
 
   pub later : {running : List ℕ} {lo lo1 hi hi1 b b1 : ℕ} {t : Trace} {pc : ℕ} {words : List ℕ} → lo ≤ lo1 → hi1 ≤ hi → b1 ≤ b → At running lo hi b t pc words → At running lo1 hi1 b1 t pc words
   later p h c a = record { at = record { lower = λ n k le. a.at.lower n k (omega arith); upper = λ n k lt le. a.at.upper n k (omega arith) (omega arith) } }
@@ -69,7 +76,7 @@ module _ (m : Built) where
 
   pub turned_less : {running : List ℕ} {lo lo1 b : ℕ} {t : Trace} {pc : ℕ} {words : List ℕ} → lo1 ≤ 16 + lo → At running lo1 1 (b - 1) t pc words → At running lo 0 b (Turn t) pc words
   turned_less {running} {lo} {lo1} {b} {t} {pc} {words} p a =
-      later {lo = lo} {hi = 0} {b = suc (b - 1)} (omega arith) (omega arith) (omega arith) (record { at = Rules.turn (List ℕ) Event Ending Stop same_event same_end {lo = lo} {lo' = lo1} {b = b - 1} p refl a.at })
+      later {lo = lo} {hi = 0} {b = suc (b - 1)} (omega arith) (omega arith) (omega arith) (record { at = Rules.turn Sight Event Ending Stop same_event (same_end m.program.strings) {lo = lo} {lo' = lo1} {b = b - 1} p refl a.at })
 
   pub turned : {running : List ℕ} {lo lo1 b : ℕ} {t : Trace} {pc : ℕ} {words : List ℕ} → lo1 ≤ 16 + lo → At running lo1 1 b t pc words → At running lo 0 b (Turn t) pc words
   turned {lo = lo} {lo1 = lo1} {b = b} p a = turned_less p (later {lo = lo1} {hi = 1} {b = b} (omega arith) (omega arith) (omega arith) a)
@@ -91,22 +98,27 @@ module _ (m : Built) where
   pub stepped : {running : List ℕ} {lo hi b : ℕ} {t : Trace} {pc pc1 : ℕ} {words words1 : List ℕ} (i : Instr) → slice_get m.code.instrs pc ≡ Some i
       → act_on m.code m.max (Some i) (record { pc = pc; words = words }) ≡ Goes [] (record { pc = pc1; words = words1 }) → At running lo hi b t pc1 words1 → At running (suc lo) 1 b t pc words
   stepped {pc = pc} {pc1 = pc1} {words = words} {words1 = words1} i here does a = record {
-    at = Rules.goes (List ℕ) Event Ending Stop same_event same_end State (act m.code m.max) (record { pc = pc; words = words }) (record { pc = pc1; words = words1 }) (ap (λ o. act_on m.code m.max o (record { pc = pc; words = words })) here ∙ does) a.at;
+    at = Rules.goes Sight Event Ending Stop same_event (same_end m.program.strings) State (act m.code m.max) (record { pc = pc; words = words }) (record { pc = pc1; words = words1 }) (ap (λ o. act_on m.code m.max o (record { pc = pc; words = words })) here ∙ does) a.at;
   }
 
   pub printing : {running : List ℕ} {lo hi b : ℕ} {t : Trace} {pc pc1 : ℕ} {words words1 : List ℕ} (i : Instr) (bytes : List ℕ) → slice_get m.code.instrs pc ≡ Some i
       → act_on m.code m.max (Some i) (record { pc = pc; words = words }) ≡ Goes (Printed bytes ∷ []) (record { pc = pc1; words = words1 }) → At running lo hi b t pc1 words1 → At running (suc lo) 1 b (Note (Print bytes) t) pc words
   printing {pc = pc} {pc1 = pc1} {words = words} {words1 = words1} i bytes here does a = record {
-    at = Rules.goes_shown (List ℕ) Event Ending Stop same_event same_end State (act m.code m.max) (record { pc = pc; words = words }) (record { pc = pc1; words = words1 }) bytes (Printed bytes) refl (ap (λ o. act_on m.code m.max o (record { pc = pc; words = words })) here ∙ does) a.at;
+    at = Rules.goes_shown Sight Event Ending Stop same_event (same_end m.program.strings) State (act m.code m.max) (record { pc = pc; words = words }) (record { pc = pc1; words = words1 }) (Output.printing bytes) (Printed bytes) refl (ap (λ o. act_on m.code m.max o (record { pc = pc; words = words })) here ∙ does) a.at;
+  }
+
+  -- a stop with an end, and with that of a run that ends well
+  pub halted : {running : List ℕ} {lo b : ℕ} {pc : ℕ} {words : List ℕ} (i : Instr) (e : Ending) (y : Stop) → slice_get m.code.instrs pc ≡ Some i → same_end m.program.strings e y
+      → act_on m.code m.max (Some i) (record { pc = pc; words = words }) ≡ Stops [] y → At running (suc lo) 1 b (End e) pc words
+  halted {pc = pc} {words = words} i e y here same does = record {
+    at = Rules.stops Sight Event Ending Stop same_event (same_end m.program.strings) State (act m.code m.max) (record { pc = pc; words = words }) e y same (ap (λ o. act_on m.code m.max o (record { pc = pc; words = words })) here ∙ does);
   }
 
   pub stopped : {running : List ℕ} {lo b : ℕ} {pc : ℕ} {words : List ℕ} (i : Instr) → slice_get m.code.instrs pc ≡ Some i → act_on m.code m.max (Some i) (record { pc = pc; words = words }) ≡ Stops [] (Stopped 0) → At running (suc lo) 1 b (End (Exit 0)) pc words
-  stopped {pc = pc} {words = words} i here does = record {
-    at = Rules.stops (List ℕ) Event Ending Stop same_event same_end State (act m.code m.max) (record { pc = pc; words = words }) (Exit 0) (Stopped 0) refl (ap (λ o. act_on m.code m.max o (record { pc = pc; words = words })) here ∙ does);
-  }
+  stopped i here does = halted i (Exit 0) (Stopped 0) here refl does
 
   -- the frame of the function that a place belongs to
-  pub frame_here : (f pc : ℕ) (func : Func) → slice_get m.funcs f ≡ Some func → owner_of m.code pc ≡ f → code_frame m.code (owner_of m.code pc) ≡ frame_of m.funcs func
+  pub frame_here : (f pc : ℕ) (func : Func) → slice_get m.program.funcs f ≡ Some func → owner_of m.code pc ≡ f → code_frame m.code (owner_of m.code pc) ≡ frame_of m.program.funcs func
   frame_here f pc func named own = ap (code_frame m.code) own ∙ ap entry_frame (m.compiled.placed f func named).entry
 
   reached : (index n : ℕ) (s : State) (done : Does) → index + n ≤ length s.words → reaches m.max index n s done ≡ done

@@ -1,11 +1,11 @@
 -- The machine follows a return.
-use Rattle.std.proofs.Common.{◌≡◌, ◌⊎◌, inl, inr, ℕ, zero, suc, ◌+◌, ◌-◌, ◌<◌, ◌≤◌, List, [], ◌∷◌, ◌++◌, length, Some, refl, sym, ap, ◌∙◌, subst, arith, length-append, append_assoc, get_or}
+use Rattle.std.proofs.Common.{◌≡◌, ◌⊎◌, inl, inr, ℕ, zero, suc, ◌+◌, ◌-◌, ◌<◌, ◌≤◌, List, [], ◌∷◌, ◌++◌, length, map, Some, refl, sym, ap, ◌∙◌, subst, arith, length-append, append_assoc, get_or}
 use Rattle.std.specs.Prelude.{slice_get, slice_index, slice_set, drop}
 use Rattle.std.proofs.Math.Seq.{get_or-append_seam}
-use Rattle.std.proofs.lemmas.List.{get_or_append_left}
+use Rattle.std.proofs.lemmas.List.{get_or_append_left, length-map}
 use Rattle.typed.specs.Value.{Value}
 use Rattle.typed.specs.Syntax.{Func, argument_words, result_words}
-use Rattle.typed.specs.Form.{InScope}
+use Rattle.typed.specs.Form.{AreOf, site_type, InScope}
 use Rattle.typed.specs.Frames.{named_need, frame_of, temps_of}
 use Rattle.meaning.specs.Trace.{Exit, World, End}
 use Rattle.meaning.specs.Store.{no_value, value_of, written}
@@ -16,24 +16,29 @@ use Rattle.machine.specs.Machine.{put_words, words_at, owner_of}
 use Rattle.codegen.specs.Code.{temp, site_slot, slots_of, result_code, named_write_code, named_read_code, named_read_size, values_code, leave_code}
 use Rattle.codegen.proofs.Sizes.{length_named_write, length_named_read}
 use Rattle.codegen.proofs.Distances.{word_at, word_other, put_length, put_other, put_same, read_length, read_index, dropped}
-use Rattle.codegen.proofs.Frames.{Built, Stands, stands_same, AreAt, Frame, hold, during, numbers, depth, room_of, depth_is, Good, level_keeps, stack_keeps}
-use Rattle.codegen.proofs.Changes.{less_or, are_kept, are_none, temp_set, fewer, held_word, site_word, written_site, left}
+use Rattle.codegen.proofs.Frames.{Built, Stands, stands_same, of_length, AreAt, Frame, hold, during, numbers, depth, room_of, depth_is, Good, level_keeps, stack_keeps}
+use Rattle.codegen.proofs.Changes.{one_more, less_or, are_kept, are_none, temp_set, fewer, held_word, site_word, written_site, left}
 use Rattle.codegen.proofs.Crossing.{Linked, first_returns, returned}
 use Rattle.codegen.proofs.Places.{Standing, front, back, At, later, place_is, frame_here, turned, read_of, write_of, stepped, results_set}
 use Rattle.codegen.proofs.Moves.{held_words}
-use Rattle.codegen.proofs.EvaluationsFollow.{one_more}
+
+-- no values of no types
+no_results : (ts : List ℕ) (vs : List Value) → length ts ≡ 0 → length vs ≡ 0 → AreOf ts vs
+no_results [] [] e f = tt
+no_results (t ∷ ts) vs e f = absurd (omega arith)
+no_results [] (v ∷ vs) e f = absurd (omega arith)
 
 module _ (m : Built) where
   -- what goes on behind a return to these calls, with the results in the outgoing area
   abbrev pub Home : (lo b : ℕ) → Func → List Frame → Then (List Value) → Type 0
   Home lo b func [] k = (rs : List Value) (w : World) → k rs w ≡ End (Exit 0)
   Home lo b func (up ∷ calls) k =
-      (rs : List Value) (w : World) (words : List ℕ) → length rs ≡ result_words func → AreAt rs (depth m (up ∷ calls)) (argument_words func) words → Good m (up ∷ calls) w words → At m (numbers (up ∷ calls)) lo 0 b (k rs w) up.place words
+      (rs : List Value) (w : World) (words : List ℕ) → AreOf func.results rs → AreAt rs (depth m (up ∷ calls)) (argument_words func) words → Good m (up ∷ calls) w words → At m (numbers (up ∷ calls)) lo 0 b (k rs w) up.place words
 
   -- the words of the caller's outgoing area may change
-  pub incoming_put : (c : Frame) (calls : List Frame) (w : World) (words xs : List ℕ) (a : ℕ) → a + length xs ≤ room_of m calls → Good m (c ∷ calls) w words → Good m (c ∷ calls) w (put_words words (frame_of m.funcs c.func + a) xs)
+  pub incoming_put : (c : Frame) (calls : List Frame) (w : World) (words xs : List ℕ) (a : ℕ) → a + length xs ≤ room_of m calls → Good m (c ∷ calls) w words → Good m (c ∷ calls) w (put_words words (frame_of m.program.funcs c.func + a) xs)
   incoming_put c calls w words xs a room g =
-      let fr = frame_of m.funcs c.func in let long = g.long in let e = depth_is m calls in
+      let fr = frame_of m.program.funcs c.func in let long = g.long in let e = depth_is m calls in
       let words1 = put_words words (fr + a) xs in
       record {
         long = put_length words (fr + a) xs (omega arith) ∙ g.long;
@@ -45,69 +50,70 @@ module _ (m : Built) where
 
   -- the results are there: the return
   goes_home : (c : Frame) (calls : List Frame) (k : Then (List Value)) (w : World) (words : List ℕ) (rs : List Value) (pc lo b : ℕ) → slice_get m.code.instrs pc ≡ Some Return → owner_of m.code pc ≡ c.fn → Linked m c.fn calls → argument_words c.func + result_words c.func ≤ room_of m calls
-      → Home lo b c.func calls k → length rs ≡ result_words c.func → AreAt rs (depth m calls) (argument_words c.func) words → Good m (c ∷ calls) w words → At m (numbers calls) (suc lo) 1 b (k rs w) pc words
-  goes_home c [] k w words rs pc lo b here own from room home many are g =
+      → Home lo b c.func calls k → AreOf c.func.results rs → AreAt rs (depth m calls) (argument_words c.func) words → Good m (c ∷ calls) w words → At m (numbers calls) (suc lo) 1 b (k rs w) pc words
+  goes_home c [] k w words rs pc lo b here own from room home typed are g =
       subst (λ t. At m [] (suc lo) 1 b t pc words) (sym (home rs w)) (first_returns m c w words pc lo b [] here own g)
-  goes_home c (up ∷ calls) k w words rs pc lo b here own from room home many are g =
-      let fr = frame_of m.funcs c.func in let long = g.long in let words1 = drop fr words in
+  goes_home c (up ∷ calls) k w words rs pc lo b here own from room home typed are g =
+      let fr = frame_of m.program.funcs c.func in let long = g.long in let words1 = drop fr words in
       returned m c up calls w words pc lo b (numbers (up ∷ calls)) (k rs w) here own from g
-      (home rs w words1 many
+      (home rs w words1 typed
       (are_kept rs (depth m (up ∷ calls)) (argument_words c.func) words words1 (λ j l. dropped words fr (depth m (up ∷ calls) - (argument_words c.func + j)) (omega arith)) are)
       (left m c (up ∷ calls) w words g))
 
   leave_end : (c : Frame) (calls : List Frame) (k : Then (List Value)) (w : World) (words : List ℕ) (rs : List Value) (n pc lo b : ℕ) → slice_get m.code.instrs pc ≡ Some Return → owner_of m.code pc ≡ c.fn → Linked m c.fn calls → argument_words c.func + result_words c.func ≤ room_of m calls
-      → Home lo b c.func calls k → length rs ≡ result_words c.func → AreAt rs (depth m calls) (argument_words c.func) words → Good m (c ∷ calls) w words → At m (numbers (c ∷ calls)) lo 0 b (Meaning.leave_with n k rs w) pc words
-  leave_end c calls k w words rs n pc lo b here own from room home many are g =
-      turned m {lo1 = suc lo} (omega arith) (record { at = (goes_home c calls k w words rs pc lo b here own from room home many are g).at })
+      → Home lo b c.func calls k → AreOf c.func.results rs → AreAt rs (depth m calls) (argument_words c.func) words → Good m (c ∷ calls) w words → At m (numbers (c ∷ calls)) lo 0 b (Meaning.leave_with n k rs w) pc words
+  leave_end c calls k w words rs n pc lo b here own from room home typed are g =
+      turned m {lo1 = suc lo} (omega arith) (record { at = (goes_home c calls k w words rs pc lo b here own from room home typed are g).at })
 
   -- results without names
-  unnamed : (c : Frame) (calls : List Frame) (k : Then (List Value)) (w : World) (words : List ℕ) (rs : List Value) (count n pc lo b : ℕ) → Standing m.code c.fn pc (result_code count (temp (slots_of m.funcs c.func) 0) (argument_words c.func) ++ Return ∷ []) → Linked m c.fn calls → argument_words c.func + result_words c.func ≤ room_of m calls
-      → Home lo b c.func calls k → count ≡ result_words c.func → length rs ≡ count → Good m (hold c rs ∷ calls) w words → At m (numbers (c ∷ calls)) lo 0 b (Meaning.leave_with n k rs w) pc words
-  unnamed c calls k w words rs zero n pc lo b has from room home all many g =
-      leave_end (hold c rs) calls k w words rs n pc lo b has.0.0 has.0.1 from room home (many ∙ all) (λ j l. absurd (omega arith)) g
-  unnamed c calls k w words rs (suc i) n pc lo b has from room home all many g =
-      let fr = frame_of m.funcs c.func in let a = argument_words c.func in let t = temp (slots_of m.funcs c.func) 0 in
+  unnamed : (c : Frame) (calls : List Frame) (k : Then (List Value)) (w : World) (words : List ℕ) (rs : List Value) (count n h pc lo b : ℕ) → length c.held ≡ h → Standing m.code c.fn pc (result_code count (temp (slots_of m.program.funcs c.func) h) (argument_words c.func) ++ Return ∷ []) → Linked m c.fn calls → argument_words c.func + result_words c.func ≤ room_of m calls
+      → Home lo b c.func calls k → length rs ≡ count → AreOf c.func.results rs → Good m (hold c (c.held ++ rs) ∷ calls) w words → At m (numbers (c ∷ calls)) lo 0 b (Meaning.leave_with n k rs w) pc words
+  unnamed c calls k w words rs zero n h pc lo b hh has from room home many typed g =
+      leave_end (hold c (c.held ++ rs)) calls k w words rs n pc lo b has.0.0 has.0.1 from room home typed (λ j l. absurd (omega arith)) g
+  unnamed c calls k w words rs (suc i) n h pc lo b hh has from room home many typed g =
+      let fr = frame_of m.program.funcs c.func in let a = argument_words c.func in let t = temp (slots_of m.program.funcs c.func) h in
       let xs = words_at words t (suc i) in let words1 = put_words words (fr + a) xs in
-      let long = g.long in let r = g.stack.0.room in let e = depth_is m calls in
-      let put : length xs ≡ suc i = read_length words t (suc i) (omega arith) in
-      let g1 = incoming_put (hold c rs) calls w words xs a (omega (arith, put)) g in
+      let all = of_length c.func.results rs typed in
+      let long = g.long in let r = g.stack.0.room in let e = depth_is m calls in let more = length-append c.held rs in
+      let put : length xs ≡ suc i = read_length words t (suc i) (omega (arith, more)) in
+      let g1 = incoming_put (hold c (c.held ++ rs)) calls w words xs a (omega (arith, put, all)) g in
       turned m {lo1 = suc (suc lo)} (omega arith) (record {
         at = (
-            results_set m {lo = suc lo} {hi = 1} t a (suc i) fr has.0.0 (frame_here m c.fn pc c.func g.stack.0.named has.0.1) (omega arith)
-            (goes_home (hold c rs) calls k w words1 rs (pc + 1) lo b has.1.0.0 has.1.0.1 from room home (many ∙ all)
+            results_set m {lo = suc lo} {hi = 1} t a (suc i) fr has.0.0 (frame_here m c.fn pc c.func g.stack.0.named has.0.1) (omega (arith, all))
+            (goes_home (hold c (c.held ++ rs)) calls k w words1 rs (pc + 1) lo b has.1.0.0 has.1.0.1 from room home typed
             (λ j l. stands_same (get_or rs j no_value) (get_or rs j no_value) (slice_index words (t + j)) (word_at words1 (depth m calls - (a + j))) refl
-            (put_same words (fr + a) xs j (depth m calls - (a + j)) (omega (arith, put)) (omega (arith, put)) (omega arith) ∙ read_index words t (suc i) j (omega arith))
-            (held_words m c calls w words [] rs 0 j refl l g)) g1)
+            (put_same words (fr + a) xs j (depth m calls - (a + j)) (omega (arith, put, all)) (omega (arith, put, all)) (omega (arith, all)) ∙ read_index words t (suc i) j (omega (arith, more)))
+            (held_words m c calls w words c.held rs h j hh l g)) g1)
             ).at;
       })
 
   -- results with names: they are written
-  named_writes : (sites : List ℕ) (vs gone all : List Value) (c : Frame) (env : Env) (scope : List ℕ) (calls : List Frame) (g : Go) (w : World) (words : List ℕ) (h pc lo b : ℕ) → length sites ≡ length vs → length gone ≡ h → all ≡ gone ++ vs
-      → Standing m.code c.fn pc (named_write_code (slots_of m.funcs c.func) sites h) → ((v : ℕ) → InScope v sites → InScope v scope) → Good m (during c env scope all ∷ calls) w words
+  named_writes : (sites : List ℕ) (vs gone all : List Value) (c : Frame) (env : Env) (scope : List ℕ) (calls : List Frame) (g : Go) (w : World) (words : List ℕ) (h pc lo b : ℕ) → AreOf (map (site_type m.program) sites) vs → length gone ≡ h → all ≡ gone ++ vs
+      → Standing m.code c.fn pc (named_write_code (slots_of m.program.funcs c.func) sites h) → ((v : ℕ) → InScope v sites → InScope v scope) → Good m (during c env scope all ∷ calls) w words
       → ((w1 : World) (words1 : List ℕ) → Good m (during c env scope all ∷ calls) w1 words1 → At m (numbers (c ∷ calls)) lo 0 b (g w1) (pc + length sites) words1)
       → At m (numbers (c ∷ calls)) lo 0 b (Meaning.write_results sites vs env g w) pc words
-  named_writes [] vs gone all c env scope calls g w words h pc lo b many hg e has sub good post = place_is m (let q : pc + 0 ≡ pc = omega arith in q) (post w words good)
-  named_writes (site ∷ sites) [] gone all c env scope calls g w words h pc lo b many hg e has sub good post = absurd (omega arith)
-  named_writes (site ∷ sites) (v ∷ vs) gone all c env scope calls g w words h pc lo b many hg e has sub good post =
-      let s = slots_of m.funcs c.func in let x = slice_index words (temp s h) in
+  named_writes [] vs gone all c env scope calls g w words h pc lo b typed hg e has sub good post = place_is m (let q : pc + 0 ≡ pc = omega arith in q) (post w words good)
+  named_writes (site ∷ sites) [] gone all c env scope calls g w words h pc lo b typed hg e has sub good post = absurd typed
+  named_writes (site ∷ sites) (v ∷ vs) gone all c env scope calls g w words h pc lo b typed hg e has sub good post =
+      let s = slots_of m.program.funcs c.func in let x = slice_index words (temp s h) in
       let stands = held_word m (during c env scope all) calls w words gone vs v h hg (subst (λ l. Good m (during c env scope l ∷ calls) w words) e good) in
       let words1 = slice_set words (site_slot s site) x in
-      let good1 = written_site m (during c env scope all) calls w words v site x (sub site (inl refl)) stands good in
+      let good1 = written_site m (during c env scope all) calls w words v site x (sub site (inl refl)) stands typed.0 good in
       turned m {lo1 = suc lo} (omega arith) (write_of m _ _ _ (stepped m {lo = lo} {hi = 0} (Move (site_slot s site) (temp s h)) has.0.0 refl
-      (named_writes sites vs (gone ++ v ∷ []) all c env scope calls g (written w (env site) [] v) words1 (h + 1) (pc + 1) lo b (omega arith) (one_more gone v h hg) (e ∙ sym (append_assoc gone (v ∷ []) vs)) has.1 (λ u i. sub u (inr i)) good1
+      (named_writes sites vs (gone ++ v ∷ []) all c env scope calls g (written w (env site) [] v) words1 (h + 1) (pc + 1) lo b typed.1 (one_more gone v h hg) (e ∙ sym (append_assoc gone (v ∷ []) vs)) has.1 (λ u i. sub u (inr i)) good1
       (λ w1 words2 g2. place_is m (let q : pc + suc (length sites) ≡ pc + 1 + length sites = omega arith in q) (post w1 words2 g2)))))
 
   -- and read
-  named_reads : (sites : List ℕ) (gone : List Value) (c : Frame) (env : Env) (scope : List ℕ) (calls : List Frame) (k : Then (List Value)) (w : World) (words : List ℕ) (i pc lo b : ℕ) → i ≡ argument_words c.func + length gone → i + length sites ≤ room_of m calls → 0 < temps_of m.funcs c.func
-      → Standing m.code c.fn pc (named_read_code (slots_of m.funcs c.func) sites i) → ((v : ℕ) → InScope v sites → InScope v scope) → AreAt gone (depth m calls) (argument_words c.func) words → Good m (during c env scope [] ∷ calls) w words
-      → ((rs : List Value) (words1 : List ℕ) → length rs ≡ length sites → AreAt (gone ++ rs) (depth m calls) (argument_words c.func) words1 → Good m (during c env scope [] ∷ calls) w words1 → At m (numbers (c ∷ calls)) lo 0 b (k rs w) (pc + named_read_size sites) words1)
+  named_reads : (sites : List ℕ) (gone : List Value) (c : Frame) (env : Env) (scope : List ℕ) (calls : List Frame) (k : Then (List Value)) (w : World) (words : List ℕ) (i pc lo b : ℕ) → i ≡ argument_words c.func + length gone → i + length sites ≤ room_of m calls → 0 < temps_of m.program.funcs c.func
+      → Standing m.code c.fn pc (named_read_code (slots_of m.program.funcs c.func) sites i) → ((v : ℕ) → InScope v sites → InScope v scope) → AreAt gone (depth m calls) (argument_words c.func) words → Good m (during c env scope [] ∷ calls) w words
+      → ((rs : List Value) (words1 : List ℕ) → AreOf (map (site_type m.program) sites) rs → AreAt (gone ++ rs) (depth m calls) (argument_words c.func) words1 → Good m (during c env scope [] ∷ calls) w words1 → At m (numbers (c ∷ calls)) lo 0 b (k rs w) (pc + named_read_size sites) words1)
       → At m (numbers (c ∷ calls)) lo 0 b (Meaning.read_results sites env k w) pc words
   named_reads [] gone c env scope calls k w words i pc lo b ei room some has sub are good post =
       place_is m (let q : pc + 0 ≡ pc = omega arith in q)
-      (post [] words refl (λ j l. let n = length-append gone [] in
+      (post [] words tt (λ j l. let n = length-append gone [] in
       subst (λ v. Stands v (word_at words (depth m calls - (argument_words c.func + j)))) (sym (get_or_append_left gone [] no_value j (omega (arith, n)))) (are j (omega (arith, n)))) good)
   named_reads (site ∷ sites) gone c env scope calls k w words i pc lo b ei room some has sub are good post =
-      let s = slots_of m.funcs c.func in let fr = frame_of m.funcs c.func in let a = argument_words c.func in
+      let s = slots_of m.program.funcs c.func in let fr = frame_of m.program.funcs c.func in let a = argument_words c.func in
       let v = value_of w (env site) in let x = slice_index words (site_slot s site) in
       let long = good.long in let e = depth_is m calls in
       let c0 = during c env scope [] in
@@ -132,50 +138,51 @@ module _ (m : Built) where
             (held_words m c0 calls w words1 [] (v ∷ []) 0 0 refl (omega arith) g1))
       ])
       g3
-      (λ rs words3 many are3 g4. place_is m (let q : pc + suc (suc (named_read_size sites)) ≡ pc + 1 + 1 + named_read_size sites = omega arith in q)
-      (post (v ∷ rs) words3 (ap suc many) (subst (λ l. AreAt l (depth m calls) a words3) (append_assoc gone (v ∷ []) rs) are3) g4))))))
+      (λ rs words3 typed are3 g4. place_is m (let q : pc + suc (suc (named_read_size sites)) ≡ pc + 1 + 1 + named_read_size sites = omega arith in q)
+      (post (v ∷ rs) words3 (good.stack.0.types site (sub site (inl refl)), typed) (subst (λ l. AreAt l (depth m calls) a words3) (append_assoc gone (v ∷ []) rs) are3) g4))))))
 
-  -- a return with as many values as there are results, or with none where they have names
-  abbrev pub Gives : Func → ℕ → Type 0
-  Gives func count = (count ≡ result_words func) ⊎ ((count ≡ 0) × (result_words func ≡ length func.named))
+  -- a return with a value for each result, or with none where they have names
+  abbrev pub Given : Func → ℕ → List Value → Type 0
+  Given func count vs = ((count ≡ result_words func) × AreOf func.results vs) ⊎ ((count ≡ 0) × (length func.named ≡ result_words func))
 
   -- what a return does
   abbrev pub Returns : (lo b : ℕ) → Frame → List Frame → (List Value → Env → Go) → Type 0
   Returns lo b c calls r =
-      (vs : List Value) (count : ℕ) (env : Env) (scope : List ℕ) (w : World) (words : List ℕ) (pc : ℕ) → Standing m.code c.fn pc (values_code (slots_of m.funcs c.func) (argument_words c.func) count c.func.named ++ leave_code (slots_of m.funcs c.func) (argument_words c.func) c.func.named)
-      → length vs ≡ count → Gives c.func count → named_need m.funcs (length c.func.named) ≤ temps_of m.funcs c.func → ((v : ℕ) → InScope v c.func.named → InScope v scope) → Good m (during c env scope vs ∷ calls) w words → At m (numbers (c ∷ calls)) lo 0 b (r vs env w) pc words
+      (vs : List Value) (count : ℕ) (env : Env) (scope : List ℕ) (held : List Value) (w : World) (words : List ℕ) (h pc : ℕ) → length held ≡ h → Standing m.code c.fn pc (values_code (slots_of m.program.funcs c.func) (argument_words c.func) count c.func.named h ++ leave_code (slots_of m.program.funcs c.func) (argument_words c.func) c.func.named)
+      → length vs ≡ count → Given c.func count vs → named_need m.program.funcs (length c.func.named) ≤ temps_of m.program.funcs c.func → ((v : ℕ) → InScope v c.func.named → InScope v scope) → Good m (during c env scope (held ++ vs) ∷ calls) w words → At m (numbers (c ∷ calls)) lo 0 b (r vs env w) pc words
 
   pub returns_later : (lo lo1 b b1 : ℕ) (c : Frame) (calls : List Frame) (r : List Value → Env → Go) → lo ≤ lo1 → b1 ≤ b → Returns lo b c calls r → Returns lo1 b1 c calls r
-  returns_later lo lo1 b b1 c calls r p q h vs count env scope w words pc has many gives room sub g = later m {lo = lo} {hi = 0} {b = b} p (omega arith) q (h vs count env scope w words pc has many gives room sub g)
+  returns_later lo lo1 b b1 c calls r p q ret vs count env scope held w words h pc hh has many gives room sub g = later m {lo = lo} {hi = 0} {b = b} p (omega arith) q (ret vs count env scope held w words h pc hh has many gives room sub g)
 
   -- by the names of the results
   module _ (c : Frame) (calls : List Frame) (k : Then (List Value)) (n lo b : ℕ) (from : Linked m c.fn calls) (room : argument_words c.func + result_words c.func ≤ room_of m calls) (home : Home lo b c.func calls k) where
     -- results that have been written are read, and the call returns
-    reads_all : (sites : List ℕ) (env : Env) (scope : List ℕ) (w : World) (words : List ℕ) (pc : ℕ) → length sites ≡ result_words c.func → 0 < temps_of m.funcs c.func → Standing m.code c.fn pc (leave_code (slots_of m.funcs c.func) (argument_words c.func) sites) → ((v : ℕ) → InScope v sites → InScope v scope)
+    reads_all : (sites : List ℕ) (env : Env) (scope : List ℕ) (w : World) (words : List ℕ) (pc : ℕ) → map (site_type m.program) sites ≡ c.func.results → 0 < temps_of m.program.funcs c.func → Standing m.code c.fn pc (leave_code (slots_of m.program.funcs c.func) (argument_words c.func) sites) → ((v : ℕ) → InScope v sites → InScope v scope)
         → Good m (during c env scope [] ∷ calls) w words → At m (numbers (c ∷ calls)) lo 0 b (Meaning.read_results sites env (Meaning.leave_with n k) w) pc words
-    reads_all sites env scope w words pc all some has sub g =
-        let s = slots_of m.funcs c.func in let a = argument_words c.func in
+    reads_all sites env scope w words pc names some has sub g =
+        let s = slots_of m.program.funcs c.func in let a = argument_words c.func in
         let reads = named_read_code s sites a in
+        let all : length sites ≡ result_words c.func = sym (length-map sites (site_type m.program)) ∙ ap (λ l. length l) names in
         let has_r = back m.code c.fn pc (named_read_size sites) reads (Return ∷ []) (length_named_read s sites a) has in
-        named_reads sites [] c env scope calls (Meaning.leave_with n k) w words a pc lo b (omega arith) (omega arith) some (front m.code c.fn pc reads (Return ∷ []) has) sub (are_none (depth m calls) a words) g (λ rs words1 many are g1.
-        leave_end (during c env scope []) calls k w words1 rs n (pc + named_read_size sites) lo b has_r.0.0 has_r.0.1 from room home (many ∙ all) are g1)
+        named_reads sites [] c env scope calls (Meaning.leave_with n k) w words a pc lo b (omega arith) (omega arith) some (front m.code c.fn pc reads (Return ∷ []) has) sub (are_none (depth m calls) a words) g (λ rs words1 typed are g1.
+        leave_end (during c env scope []) calls k w words1 rs n (pc + named_read_size sites) lo b has_r.0.0 has_r.0.1 from room home (subst (λ ts. AreOf ts rs) names typed) are g1)
 
-    leaves : (sites : List ℕ) (vs : List Value) (count : ℕ) (env : Env) (scope : List ℕ) (w : World) (words : List ℕ) (pc : ℕ) → (sites ≡ []) ⊎ (length sites ≡ result_words c.func) → Standing m.code c.fn pc (values_code (slots_of m.funcs c.func) (argument_words c.func) count sites ++ leave_code (slots_of m.funcs c.func) (argument_words c.func) sites)
-        → length vs ≡ count → (count ≡ result_words c.func) ⊎ ((count ≡ 0) × (result_words c.func ≡ length sites)) → named_need m.funcs (length sites) ≤ temps_of m.funcs c.func → ((v : ℕ) → InScope v sites → InScope v scope) → Good m (during c env scope vs ∷ calls) w words → At m (numbers (c ∷ calls)) lo 0 b (Meaning.leave sites n k vs env w) pc words
-    leaves [] vs count env scope w words pc names has many gives some sub g =
-        unnamed (during c env scope []) calls k w words vs count n pc lo b has from room home (elim gives [ inl e ↦ e | inr e ↦ (let zero_count = e.0 in let none = e.1 in omega arith) ]) many g
-    leaves (site ∷ sites) [] zero env scope w words pc names has many gives some sub g =
-        reads_all (site ∷ sites) env scope w words pc (elim names [ inl e ↦ absurd cc e | inr e ↦ e ]) (omega arith) has sub g
-    leaves (site ∷ sites) (v ∷ vs) zero env scope w words pc names has many gives some sub g = absurd (omega arith)
-    leaves (site ∷ sites) [] (suc i) env scope w words pc names has many gives some sub g = absurd (omega arith)
-    leaves (site ∷ sites) (v ∷ vs) (suc i) env scope w words pc names has many gives some sub g =
-        let s = slots_of m.funcs c.func in let a = argument_words c.func in
-        let all : length (site ∷ sites) ≡ result_words c.func = elim names [ inl e ↦ absurd cc e | inr e ↦ e ] in
-        let given : suc i ≡ result_words c.func = elim gives [ inl e ↦ e | inr e ↦ (let no = e.0 in absurd (omega arith)) ] in
-        let writes = named_write_code s (site ∷ sites) 0 in
-        let has_l = back m.code c.fn pc (length (site ∷ sites)) writes (leave_code s a (site ∷ sites)) (length_named_write s (site ∷ sites) 0) has in
-        named_writes (site ∷ sites) (v ∷ vs) [] (v ∷ vs) c env scope calls _ w words 0 pc lo b (all ∙ sym given ∙ sym many) refl refl (front m.code c.fn pc writes (leave_code s a (site ∷ sites)) has) sub g (λ w1 words1 g1.
-        reads_all (site ∷ sites) env scope w1 words1 (pc + length (site ∷ sites)) all (omega arith) has_l sub (fewer m (during c env scope []) calls w1 words1 [] (v ∷ vs) g1))
+    leaves : (sites : List ℕ) (vs : List Value) (count : ℕ) (env : Env) (scope : List ℕ) (held : List Value) (w : World) (words : List ℕ) (h pc : ℕ) → (sites ≡ []) ⊎ (map (site_type m.program) sites ≡ c.func.results) → length held ≡ h → Standing m.code c.fn pc (values_code (slots_of m.program.funcs c.func) (argument_words c.func) count sites h ++ leave_code (slots_of m.program.funcs c.func) (argument_words c.func) sites)
+        → length vs ≡ count → ((count ≡ result_words c.func) × AreOf c.func.results vs) ⊎ ((count ≡ 0) × (length sites ≡ result_words c.func)) → named_need m.program.funcs (length sites) ≤ temps_of m.program.funcs c.func → ((v : ℕ) → InScope v sites → InScope v scope) → Good m (during c env scope (held ++ vs) ∷ calls) w words → At m (numbers (c ∷ calls)) lo 0 b (Meaning.leave sites n k vs env w) pc words
+    leaves [] vs count env scope held w words h pc names hh has many gives some sub g =
+        unnamed (during c env scope held) calls k w words vs count n h pc lo b hh has from room home many (elim gives [ inl e ↦ e.1 | inr e ↦ no_results c.func.results vs (sym e.1) (many ∙ e.0) ]) g
+    leaves (site ∷ sites) [] zero env scope held w words h pc names hh has many gives some sub g =
+        reads_all (site ∷ sites) env scope w words pc (elim names [ inl e ↦ absurd cc e | inr e ↦ e ]) (omega arith) has sub (fewer m (during c env scope []) calls w words [] (held ++ []) g)
+    leaves (site ∷ sites) (v ∷ vs) zero env scope held w words h pc names hh has many gives some sub g = absurd (omega arith)
+    leaves (site ∷ sites) [] (suc i) env scope held w words h pc names hh has many gives some sub g = absurd (omega arith)
+    leaves (site ∷ sites) (v ∷ vs) (suc i) env scope held w words h pc names hh has many gives some sub g =
+        let s = slots_of m.program.funcs c.func in let a = argument_words c.func in
+        let all : map (site_type m.program) (site ∷ sites) ≡ c.func.results = elim names [ inl e ↦ absurd cc e | inr e ↦ e ] in
+        let typed : AreOf c.func.results (v ∷ vs) = elim gives [ inl e ↦ e.1 | inr e ↦ (let no = e.0 in absurd (omega arith)) ] in
+        let writes = named_write_code s (site ∷ sites) h in
+        let has_l = back m.code c.fn pc (length (site ∷ sites)) writes (leave_code s a (site ∷ sites)) (length_named_write s (site ∷ sites) h) has in
+        named_writes (site ∷ sites) (v ∷ vs) held (held ++ v ∷ vs) c env scope calls _ w words h pc lo b (subst (λ ts. AreOf ts (v ∷ vs)) (sym all) typed) hh refl (front m.code c.fn pc writes (leave_code s a (site ∷ sites)) has) sub g (λ w1 words1 g1.
+        reads_all (site ∷ sites) env scope w1 words1 (pc + length (site ∷ sites)) all (omega arith) has_l sub (fewer m (during c env scope []) calls w1 words1 [] (held ++ v ∷ vs) g1))
 
-    pub home_returns : (c.func.named ≡ []) ⊎ (length c.func.named ≡ result_words c.func) → Returns lo b c calls (Meaning.leave c.func.named n k)
-    home_returns names vs count env scope w words pc has many gives some sub g = leaves c.func.named vs count env scope w words pc names has many gives some sub g
+    pub home_returns : (c.func.named ≡ []) ⊎ (map (site_type m.program) c.func.named ≡ c.func.results) → Returns lo b c calls (Meaning.leave c.func.named n k)
+    home_returns names vs count env scope held w words h pc hh has many gives some sub g = leaves c.func.named vs count env scope held w words h pc names hh has many gives some sub g

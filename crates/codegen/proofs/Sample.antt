@@ -1,14 +1,18 @@
--- A program that calls itself and gives several results: it is in form, and its meaning prints what it should.
-use Rattle.std.proofs.Common.{◌≡◌, ◌≤◌, inl, inr, ℕ, zero, suc, pos, true, List, [], ◌∷◌, Some, length, refl, sym, subst, arith}
+-- Two programs: one calls itself and gives several results, the other has a `range`, a `break` and a panic. They are in form, and
+-- their meaning shows what it should.
+use Rattle.std.proofs.Common.{◌≡◌, inl, inr, ℕ, zero, suc, pos, true, [], ◌∷◌, Some, refl, sym, ap, ◌∙◌, subst, arith}
 use Rattle.std.specs.Prelude.{None, slice_get}
 use Rattle.std.specs.Fmt.{digits}
 use Rattle.base.specs.declared.pos.Pos.{Pos}
-use Rattle.typed.specs.declared.operators.BinOp.TheVariants.{Add, LessEqual, Sub}
+use Rattle.typed.specs.declared.operators.BinOp.TheVariants.{Add, Div, Equal, LessEqual, Sub}
 use Rattle.typed.specs.Value.{int}
-use Rattle.typed.specs.Syntax.{Ex, Sts, Func, Program, constant, read, binary, local, here, none, more, results, new, to, shown, assign, choose, give_back, print, done, next}
-use Rattle.typed.specs.Form.{FuncFits, IsInForm}
-use Rattle.meaning.specs.Meaning.{Answer}
+use Rattle.typed.specs.Syntax.{Ex, Sts, Func, Program, constant, read, binary, local, here, none, more, results, blank, new, to, text, shown, over_int, assign, choose, range, break_off, give_back, print, done, next}
+use Rattle.typed.specs.View.{zero_values}
+use Rattle.typed.specs.Form.{IsPlain, site_type, FuncFits, IsInForm}
+use Rattle.meaning.specs.Trace.{Panic, divide_by_zero}
+use Rattle.meaning.specs.Meaning.{Item}
 use Rattle.meaning.specs.Output.{source, output}
+use Rattle.simulation.specs.Outcome.{ending_in}
 use Rattle.codegen.specs.Correct.{limits}
 
 abbrev pub number : ℕ → Ex
@@ -30,30 +34,44 @@ abbrev pub main_body : Sts
 main_body =
     next (assign (new 3 ∷ new 4 ∷ []) (results 0 (more (number 3) none)))
     (next (assign (to (local 3 here) ∷ to (local 4 here) ∷ []) (more (variable 4) (more (variable 3) none)))
-    (next (print true (shown (variable 3) ∷ shown (variable 4) ∷ [])) done))
+    (next (print true (shown 0 (variable 3) ∷ shown 0 (variable 4) ∷ [])) done))
 
 abbrev pub pair : Pos → Func
-pair at = record { first = 0; count = 3; params = Some 0 ∷ []; results = 0 ∷ 0 ∷ []; named = []; body = pair_body at }
+pair at = record { first = 0; count = 3; params = Some 0 ∷ []; param_types = 0 ∷ []; results = 0 ∷ 0 ∷ []; named = []; body = pair_body at }
 
 abbrev pub main_func : Func
-main_func = record { first = 3; count = 2; params = []; results = []; named = []; body = main_body }
+main_func = record { first = 3; count = 2; params = []; param_types = []; results = []; named = []; body = main_body }
 
-abbrev pub funcs : Pos → List Func
-funcs at = pair at ∷ main_func ∷ []
+abbrev pub sample : Pos → Program
+sample at = record { funcs = pair at ∷ main_func ∷ []; zeros = zero_values; sites = 0 ∷ 0 ∷ 0 ∷ 0 ∷ 0 ∷ []; strings = []; globals = []; main = 1 }
 
-pair_fits : (at : Pos) → FuncFits (funcs at) (pair at)
+-- for i := range 5 { if i == 2 { break }; println("i", i) }; println(1 / 0)
+abbrev pub stopped_body : Pos → Sts
+stopped_body at =
+    next (range (over_int (number 5)) (new 0) blank
+    (next (choose (binary at Equal (variable 0) (number 2)) (next break_off done) done)
+    (next (print true (text 0 ∷ shown 0 (variable 0) ∷ [])) done)))
+    (next (print true (shown 0 (binary at Div (number 1) (number 0)) ∷ [])) done)
+
+abbrev pub stopped_func : Pos → Func
+stopped_func at = record { first = 0; count = 1; params = []; param_types = []; results = []; named = []; body = stopped_body at }
+
+abbrev pub stopped : Pos → Program
+stopped at = record { funcs = stopped_func at ∷ []; zeros = zero_values; sites = 0 ∷ []; strings = (105 ∷ []) ∷ []; globals = []; main = 0 }
+
+pair_fits : (at : Pos) → FuncFits (sample at) (pair at)
 pair_fits at = record {
-  params = (refl, tt);
+  params = (refl, refl, tt);
   named = tt;
   names = inl refl;
   count = refl;
   body = (
-    ((tt, inl refl, omega arith), ((refl, (omega arith, (omega arith, tt))), tt), tt),
+    ((0, (refl, refl), (inl refl, refl), (refl, omega arith)), (((refl, omega arith), ((refl, omega arith), tt)), tt), tt),
     (
-      (refl, (refl, omega arith, (refl, omega arith, tt)), (pair at, refl, refl, ((tt, inl refl, omega arith), tt))),
+      (0 ∷ 0 ∷ [], (refl, omega arith, refl, (refl, omega arith, refl, tt)), (pair at, refl, refl, ((0, (refl, refl), (inl refl, refl), (refl, omega arith)), tt))),
       (
-        (refl, (inr (inl refl), (inl refl, tt)), ((tt, inr (inl refl), inl refl), (inr (inl refl), tt))),
-        ((refl, (inr (inl refl), (inl refl, tt))), tt),
+        (0 ∷ 0 ∷ [], ((inr (inl refl), refl), ((inl refl, refl), tt)), ((0, (refl, refl), (inr (inl refl), refl), (inl refl, refl)), ((inr (inl refl), refl), tt))),
+        (((inr (inl refl), refl), ((inl refl, refl), tt)), tt),
       ),
     ),
   );
@@ -61,18 +79,36 @@ pair_fits at = record {
   small = omega arith;
 }
 
-main_fits : (at : Pos) → FuncFits (funcs at) main_func
+main_fits : (at : Pos) → FuncFits (sample at) main_func
 main_fits at = record {
   params = tt;
   named = tt;
   names = inl refl;
   count = refl;
   body = (
-    (refl, (refl, omega arith, (refl, omega arith, tt)), (pair at, refl, refl, (omega arith, tt))),
+    (0 ∷ 0 ∷ [], (refl, omega arith, refl, (refl, omega arith, refl, tt)), (pair at, refl, refl, ((refl, omega arith), tt))),
     (
-      (refl, (inr (inl refl), (inl refl, tt)), (inl refl, (inr (inl refl), tt))),
-      ((inr (inl refl), (inl refl, tt)), tt),
+      (0 ∷ 0 ∷ [], ((inr (inl refl), refl), ((inl refl, refl), tt)), ((inl refl, refl), ((inr (inl refl), refl), tt))),
+      (((inr (inl refl), refl), ((inl refl, refl), tt)), tt),
     ),
+  );
+  end = inl refl;
+  small = omega arith;
+}
+
+stopped_fits : (at : Pos) → FuncFits (stopped at) (stopped_func at)
+stopped_fits at = record {
+  params = tt;
+  named = tt;
+  names = inl refl;
+  count = refl;
+  body = (
+    (
+      (refl, omega arith),
+      (refl, omega arith, refl, tt),
+      (((0, refl, (inl refl, refl), (refl, omega arith)), (refl, tt), tt), ((omega arith, ((inl refl, refl), tt)), tt)),
+    ),
+    (((0, (refl, refl), (refl, omega arith), (refl, omega arith)), tt), tt),
   );
   end = inl refl;
   small = omega arith;
@@ -84,27 +120,62 @@ same_some e = cc
 none_some : {A : Type 0} {x : A} → None ≡ Some x → ⊥
 none_some e = cc
 
-all_fit : (at : Pos) (f : ℕ) (func : Func) → slice_get (funcs at) f ≡ Some func → FuncFits (funcs at) func
-all_fit at zero func e = subst (λ (g : Func). FuncFits (funcs at) g) (same_some e) (pair_fits at)
-all_fit at (suc zero) func e = subst (λ (g : Func). FuncFits (funcs at) g) (same_some e) (main_fits at)
-all_fit at (suc (suc f)) func e = absurd (none_some e)
+sample_fits : (at : Pos) (f : ℕ) (func : Func) → slice_get (sample at).funcs f ≡ Some func → FuncFits (sample at) func
+sample_fits at zero func e = subst (λ (g : Func). FuncFits (sample at) g) (same_some e) (pair_fits at)
+sample_fits at (suc zero) func e = subst (λ (g : Func). FuncFits (sample at) g) (same_some e) (main_fits at)
+sample_fits at (suc (suc f)) func e = absurd (none_some e)
 
--- a program of these functions
-pub in_form : (p : Program) (at : Pos) → p.funcs ≡ funcs at → p.main ≡ 1 → IsInForm p
-in_form p at same first = record {
-  fits = subst (λ (fs : List Func). (f : ℕ) (func : Func) → slice_get fs f ≡ Some func → FuncFits fs func) (sym same) (all_fit at);
-  few = subst (λ (fs : List Func). length fs ≤ 4096) (sym same) (omega arith);
-  main = subst (λ (fs : List Func). (func : Func) × (slice_get fs p.main ≡ Some func) × (func.params ≡ []) × (func.results ≡ []) × (func.named ≡ [])) (sym same)
-      (subst (λ (m : ℕ). (func : Func) × (slice_get (funcs at) m ≡ Some func) × (func.params ≡ []) × (func.results ≡ []) × (func.named ≡ [])) (sym first) (main_func, refl, refl, refl, refl));
-}
+sample_plain : (at : Pos) (site : ℕ) → IsPlain (site_type (sample at) site)
+sample_plain at zero = inl refl
+sample_plain at (suc zero) = inl refl
+sample_plain at (suc (suc zero)) = inl refl
+sample_plain at (suc (suc (suc zero))) = inl refl
+sample_plain at (suc (suc (suc (suc zero)))) = inl refl
+sample_plain at (suc (suc (suc (suc (suc site))))) = inl refl
+
+sample_in_form : (at : Pos) → IsInForm (sample at)
+sample_in_form at = record { fits = sample_fits at; few = omega arith; main = (main_func, refl, refl, refl, refl); plain = sample_plain at; zeros = refl }
+
+all_stopped_fits : (at : Pos) (f : ℕ) (func : Func) → slice_get (stopped at).funcs f ≡ Some func → FuncFits (stopped at) func
+all_stopped_fits at zero func e = subst (λ (g : Func). FuncFits (stopped at) g) (same_some e) (stopped_fits at)
+all_stopped_fits at (suc f) func e = absurd (none_some e)
+
+stopped_plain : (at : Pos) (site : ℕ) → IsPlain (site_type (stopped at) site)
+stopped_plain at zero = inl refl
+stopped_plain at (suc site) = inl refl
+
+stopped_in_form : (at : Pos) → IsInForm (stopped at)
+stopped_in_form at = record { fits = all_stopped_fits at; few = omega arith; main = (stopped_func at, refl, refl, refl, refl); plain = stopped_plain at; zeros = refl }
+
+same_parts : (p q : Program) → p.funcs ≡ q.funcs → p.zeros ≡ q.zeros → p.sites ≡ q.sites → p.strings ≡ q.strings → p.globals ≡ q.globals → p.main ≡ q.main → p ≡ q
+same_parts p q e1 e2 e3 e4 e5 e6 =
+    ap (λ x. let r : Program = record { funcs = x; zeros = p.zeros; sites = p.sites; strings = p.strings; globals = p.globals; main = p.main } in r) e1
+    ∙ ap (λ x. let r : Program = record { funcs = q.funcs; zeros = x; sites = p.sites; strings = p.strings; globals = p.globals; main = p.main } in r) e2
+    ∙ ap (λ x. let r : Program = record { funcs = q.funcs; zeros = q.zeros; sites = x; strings = p.strings; globals = p.globals; main = p.main } in r) e3
+    ∙ ap (λ x. let r : Program = record { funcs = q.funcs; zeros = q.zeros; sites = q.sites; strings = x; globals = p.globals; main = p.main } in r) e4
+    ∙ ap (λ x. let r : Program = record { funcs = q.funcs; zeros = q.zeros; sites = q.sites; strings = q.strings; globals = x; main = p.main } in r) e5
+    ∙ ap (λ x. let r : Program = record { funcs = q.funcs; zeros = q.zeros; sites = q.sites; strings = q.strings; globals = q.globals; main = x } in r) e6
+
+-- a program of these parts
+pub is_sample : (at : Pos) (p : Program) → p.funcs ≡ (sample at).funcs → p.zeros ≡ zero_values → p.sites ≡ (sample at).sites → p.strings ≡ [] → p.globals ≡ [] → p.main ≡ 1 → IsInForm p
+is_sample at p e1 e2 e3 e4 e5 e6 = subst (λ (q : Program). IsInForm q) (sym (same_parts p (sample at) e1 e2 e3 e4 e5 e6)) (sample_in_form at)
+
+pub is_stopped : (at : Pos) (p : Program) → p.funcs ≡ (stopped at).funcs → p.zeros ≡ zero_values → p.sites ≡ (stopped at).sites → p.strings ≡ (stopped at).strings → p.globals ≡ [] → p.main ≡ 0 → IsInForm p
+is_stopped at p e1 e2 e3 e4 e5 e6 = subst (λ (q : Program). IsInForm q) (sym (same_parts p (stopped at) e1 e2 e3 e4 e5 e6)) (stopped_in_form at)
 
 at : Pos
 at = record { offset = 60; line = 5; col = 10 }
 
-abbrev sample : Program
-sample = record { funcs = funcs at; zeros = int (pos 0) ∷ []; sites = 0 ∷ 0 ∷ 0 ∷ 0 ∷ 0 ∷ []; globals = []; main = 1 }
-
 -- 2 3, in 200 turns
-prints : (item : List ℕ → Answer) → output (source item sample (limits sample 49) [] 200) ≡ 50 ∷ 32 ∷ 51 ∷ 10 ∷ []
+prints : (items : ℕ → Item) → output (source items (sample at) (limits (sample at) 49) 200) ≡ 50 ∷ 32 ∷ 51 ∷ 10 ∷ []
 unfolding at digits
-prints item = refl
+prints items = refl
+
+-- i 0 and i 1, and a panic
+stops : (items : ℕ → Item) → output (source items (stopped at) (limits (stopped at) 49) 200) ≡ 105 ∷ 32 ∷ 48 ∷ 10 ∷ 105 ∷ 32 ∷ 49 ∷ 10 ∷ []
+unfolding at digits
+stops items = refl
+
+stops_so : (items : ℕ → Item) → ending_in (source items (stopped at) (limits (stopped at) 49) 200) ≡ Some (Panic at divide_by_zero)
+unfolding at digits
+stops_so items = refl

@@ -4,7 +4,7 @@ use Rattle.std.specs.Prelude.{slice_get, slice_index_or, option_map}
 use Rattle.std.proofs.Math.Seq.{drop-cons}
 use Rattle.std.proofs.lemmas.List.{append-nil}
 use Rattle.std.proofs.lemmas.Option.{slice_get_read, slice_get-map, slice_get_within, get_or_from_slice_get}
-use Rattle.isa.specs.Code.{Tables, IsCode}
+use Rattle.isa.specs.Code.{Tables}
 use Rattle.isa.specs.declared.func.Func.{Func as Entry}
 use Rattle.isa.specs.declared.instr.Instr.{Instr}
 use Rattle.typed.specs.declared.program.Func.{Func as FuncData}
@@ -17,26 +17,25 @@ use Rattle.frame_layout.specs.Layout.{layout_in, layouts}
 use Rattle.codegen.specs.Temps.{FuncFitsIn}
 use Rattle.codegen.specs.Code.{Slots, slots_of, params_code, zeros_code, sts_code, leave_code, entry_size, func_code, func_size, entry_of, funcs_code, funcs_owners, funcs_entries, code_of}
 use Rattle.codegen.proofs.Sizes.{length_entry, length_func}
-use Rattle.codegen.proofs.IsCode as Tables
 use Rattle.codegen.proofs.IsCode.{all_fit}
 
 -- a function's parts, one behind the other
 pub func_emitted : (fs : List Func) (f : Func) (s : Slots) (old c1 c2 c3 c4 : List Instr) → s ≡ slots_of fs f → c1 ≡ old ++ params_code s f.params 0 → c2 ≡ c1 ++ zeros_code s f.named
-    → c3 ≡ c2 ++ sts_code fs (argument_words f) f.named s f.body (length c2) → c4 ≡ c3 ++ leave_code s (argument_words f) f.named → c4 ≡ old ++ func_code fs f (length old)
+    → c3 ≡ c2 ++ sts_code fs (argument_words f) f.named s f.body 0 0 0 (length c2) → c4 ≡ c3 ++ leave_code s (argument_words f) f.named → c4 ≡ old ++ func_code fs f (length old)
 func_emitted fs f s old c1 c2 c3 c4 same e1 e2 e3 e4 =
     let m = argument_words f in
     let params = params_code s f.params 0 in let zeros = zeros_code s f.named in let leave = leave_code s m f.named in
     let here = length old + entry_size fs f in
-    let body = sts_code fs m f.named s f.body here in
+    let body = sts_code fs m f.named s f.body 0 0 0 here in
     let f2 : c2 ≡ old ++ (params ++ zeros) = e2 ∙ ap (λ c. c ++ zeros) e1 ∙ append_assoc old params zeros in
     let entry : length (params ++ zeros) ≡ entry_size fs f = ap (λ (x : Slots). length (params_code x f.params 0 ++ zeros_code x f.named)) same ∙ length_entry fs f in
     let n : length c2 ≡ here = ap length f2 ∙ omega (arith, length-append old (params ++ zeros), entry) in
-    let f3 : c3 ≡ c2 ++ body = e3 ∙ ap (λ p. c2 ++ sts_code fs m f.named s f.body p) n in
+    let f3 : c3 ≡ c2 ++ body = e3 ∙ ap (λ p. c2 ++ sts_code fs m f.named s f.body 0 0 0 p) n in
     let all : c4 ≡ old ++ ((params ++ zeros) ++ (body ++ leave)) =
     e4 ∙ ap (λ c. c ++ leave) (f3 ∙ ap (λ c. c ++ body) f2)
     ∙ append_assoc (old ++ (params ++ zeros)) body leave
     ∙ append_assoc old (params ++ zeros) (body ++ leave) in
-    all ∙ ap (λ (x : Slots). old ++ ((params_code x f.params 0 ++ zeros_code x f.named) ++ (sts_code fs m f.named x f.body here ++ leave_code x m f.named))) same
+    all ∙ ap (λ (x : Slots). old ++ ((params_code x f.params 0 ++ zeros_code x f.named) ++ (sts_code fs m f.named x f.body 0 0 0 here ++ leave_code x m f.named))) same
 
 split : (gs : List FuncData) (i : ℕ) (g : FuncData) → i < length gs → g ≡ get_or gs i g → map func_of (drop i gs) ≡ func_of g ∷ map func_of (drop (i + 1) gs)
 split gs i g l is =
@@ -111,12 +110,13 @@ own_next whole owners more (suc left) number l e1 e2 =
     e1 ∙ sym (append_assoc owners (number ∷ []) (replicate left number)) ∙ ap (λ k. (owners ++ number ∷ []) ++ replicate k number) n ∙ ap (λ x. x ++ replicate (suc left - 1) number) (sym e2)
 
 -- tables by their parts
-tables_are : (p : Program) (instrs : List Instr) (owners : List ℕ) (funcs : List Entry) → instrs ≡ funcs_code p.funcs p.funcs 0 → owners ≡ funcs_owners p.funcs p.funcs 0 → funcs ≡ funcs_entries p.funcs p.funcs 0
-    → (let r : Tables = record { instrs = instrs; owners = owners; funcs = funcs } in r) ≡ code_of p
-tables_are p instrs owners funcs a b c =
-    ap (λ (f : List Entry). let r : Tables = record { instrs = instrs; owners = owners; funcs = f } in r) c
-    ∙ ap (λ (o : List ℕ). let r : Tables = record { instrs = instrs; owners = o; funcs = funcs_entries p.funcs p.funcs 0 } in r) b
-    ∙ ap (λ (i : List Instr). let r : Tables = record { instrs = i; owners = funcs_owners p.funcs p.funcs 0; funcs = funcs_entries p.funcs p.funcs 0 } in r) a
+tables_are : (p : Program) (instrs : List Instr) (owners : List ℕ) (funcs : List Entry) (strings : List (List ℕ)) → instrs ≡ funcs_code p.funcs p.funcs 0 → owners ≡ funcs_owners p.funcs p.funcs 0 → funcs ≡ funcs_entries p.funcs p.funcs 0 → strings ≡ p.strings
+    → (let r : Tables = record { instrs = instrs; owners = owners; funcs = funcs; strings = strings } in r) ≡ code_of p
+tables_are p instrs owners funcs strings a b c d =
+    ap (λ (t : List (List ℕ)). let r : Tables = record { instrs = instrs; owners = owners; funcs = funcs; strings = t } in r) d
+    ∙ ap (λ (f : List Entry). let r : Tables = record { instrs = instrs; owners = owners; funcs = f; strings = p.strings } in r) c
+    ∙ ap (λ (o : List ℕ). let r : Tables = record { instrs = instrs; owners = o; funcs = funcs_entries p.funcs p.funcs 0; strings = p.strings } in r) b
+    ∙ ap (λ (i : List Instr). let r : Tables = record { instrs = i; owners = funcs_owners p.funcs p.funcs 0; funcs = funcs_entries p.funcs p.funcs 0; strings = p.strings } in r) a
 
 past : (gs : List FuncData) (i : ℕ) → length gs ≤ i → drop i gs ≡ []
 past [] zero l = refl
@@ -125,19 +125,16 @@ past (g ∷ gs) zero l = absurd (omega arith)
 past (g ∷ gs) (suc i) l = past gs i (omega arith)
 
 -- behind the last function the tables are the program's
-pub finished : (p : ProgramData) (gs : List FuncData) (i number : ℕ) (instrs : List Instr) (owners : List ℕ) (entries : List Entry) → gs ≡ p.funcs.items → length gs ≤ i
+pub finished : (p : ProgramData) (gs : List FuncData) (i number : ℕ) (instrs : List Instr) (owners : List ℕ) (entries : List Entry) (strings : List (List ℕ)) → gs ≡ p.funcs.items → length gs ≤ i
     → funcs_code (map func_of gs) (map func_of gs) 0 ≡ instrs ++ funcs_code (map func_of gs) (map func_of (drop i gs)) (length instrs)
     → funcs_owners (map func_of gs) (map func_of gs) 0 ≡ owners ++ funcs_owners (map func_of gs) (map func_of (drop i gs)) number
     → funcs_entries (map func_of gs) (map func_of gs) 0 ≡ entries ++ funcs_entries (map func_of gs) (map func_of (drop i gs)) (length instrs)
-    → (let r : Tables = record { instrs = instrs; owners = owners; funcs = entries } in r) ≡ code_of (program_of p)
-finished p gs i number instrs owners entries same l a b c =
+    → strings ≡ map (λ bytes. bytes.items) p.strings.items → (let r : Tables = record { instrs = instrs; owners = owners; funcs = entries; strings = strings } in r) ≡ code_of (program_of p)
+finished p gs i number instrs owners entries strings same l a b c d =
     let fs = map func_of gs in
     let none : map func_of (drop i gs) ≡ [] = ap (map func_of) (past gs i l) in
     let all : fs ≡ map func_of p.funcs.items = ap (map func_of) same in
     let x : instrs ≡ funcs_code fs fs 0 = sym (a ∙ ap (λ hs. instrs ++ funcs_code fs hs (length instrs)) none ∙ append-nil instrs) in
     let y : owners ≡ funcs_owners fs fs 0 = sym (b ∙ ap (λ hs. owners ++ funcs_owners fs hs number) none ∙ append-nil owners) in
     let z : entries ≡ funcs_entries fs fs 0 = sym (c ∙ ap (λ hs. entries ++ funcs_entries fs hs (length instrs)) none ∙ append-nil entries) in
-    tables_are (program_of p) instrs owners entries (x ∙ ap (λ hs. funcs_code hs hs 0) all) (y ∙ ap (λ hs. funcs_owners hs hs 0) all) (z ∙ ap (λ hs. funcs_entries hs hs 0) all)
-
-pub is_code : (p : Program) → IsInForm p → IsCode (code_of p)
-is_code p form = Tables.is_code p.funcs (all_fit p form)
+    tables_are (program_of p) instrs owners entries strings (x ∙ ap (λ hs. funcs_code hs hs 0) all) (y ∙ ap (λ hs. funcs_owners hs hs 0) all) (z ∙ ap (λ hs. funcs_entries hs hs 0) all) d

@@ -1,25 +1,34 @@
 -- The code of a program: a table of each function's instructions, one function behind the other.
-use Rattle.std.specs.Prelude.{ℕ, zero, suc, ◌+◌, ◌-◌, true, List, [], ◌∷◌, ◌++◌, Option, Some, None, length, replicate}
+use Rattle.std.specs.Prelude.{ℕ, zero, suc, ◌+◌, ◌-◌, ◌==◌, Bool, true, false, if◌then◌else◌, List, [], ◌∷◌, ◌++◌, Option, Some, None, length, replicate}
 use Rattle.std.specs.Int.{w64, cast_unsigned}
 use Rattle.isa.specs.Bin.{bit_of}
 use Rattle.isa.specs.Code.{Tables}
 use Rattle.isa.specs.declared.instr.BinOp.{BinOp}
 use Rattle.isa.specs.declared.instr.BinOp.TheVariants as Word
+use Rattle.isa.specs.declared.instr.UnOp.TheVariants as WordOne
 use Rattle.isa.specs.declared.instr.Instr.{Instr}
-use Rattle.isa.specs.declared.instr.Instr.TheVariants.{Const, Move, Bin, Negate, Jump, JumpZero, MoveWords, Call, Argument, SetResults, PrintInt, PrintSpace, PrintLine, Return}
+use Rattle.isa.specs.declared.instr.Instr.TheVariants.{Const, Move, Bin, Un, Jump, JumpZero, MoveWords, Call, Argument, SetResults, PrintInt, PrintBool, PrintText, PrintSpace, PrintLine, Return, Exit, PanicText, PanicInt, PanicBool}
 use Rattle.isa.specs.declared.func.Func.{Func as Entry}
 use Rattle.typed.specs.declared.operators.BinOp.{BinOp as Operator}
-use Rattle.typed.specs.declared.operators.BinOp.TheVariants.{Add, Sub, Mul, Equal, NotEqual, Less, LessEqual, Greater, GreaterEqual}
+use Rattle.typed.specs.declared.operators.BinOp.TheVariants.{Add, Sub, Mul, Div, Rem, And, Or, Xor, AndNot, ShiftLeft, ShiftRight, Equal, NotEqual, Less, LessEqual, Greater, GreaterEqual}
 use Rattle.typed.specs.declared.operators.UnOp.{UnOp}
 use Rattle.typed.specs.declared.operators.UnOp.TheVariants as One
 use Rattle.typed.specs.Value.{Value, int, bool}
-use Rattle.typed.specs.Syntax.{Ex, Exs, Pl, Left, Piece, St, Sts, Func, Program, constant, read, unary, binary, call, local, none, more, results, blank, new, to, shown, assign, discard, block, choose, loop, give_back, print, done, next, argument_words, result_words, arguments_of, results_of}
+use Rattle.typed.specs.Syntax.{Ex, Exs, Pl, Left, Piece, St, Sts, Func, Program, constant, read, unary, binary, both, either, call, local, none, more, results, asked, blank, new, to, text, shown, over_int, declare, assign, update, bump, discard, block, choose, loop, range, break_off, go_on, give_back, print, raise, quit, done, next, bool_type, argument_words, result_words, arguments_of, results_of}
 use Rattle.typed.specs.Frames.{outgoing_of, temps_of, frame_of}
 
 abbrev pub operation : Operator → BinOp
 operation Add = Word.Add
 operation Sub = Word.Sub
 operation Mul = Word.Mul
+operation Div = Word.Div
+operation Rem = Word.Rem
+operation And = Word.And
+operation Or = Word.Or
+operation Xor = Word.Xor
+operation AndNot = Word.AndNot
+operation ShiftLeft = Word.ShiftLeft
+operation ShiftRight = Word.ShiftRight
 operation Equal = Word.Equal
 operation NotEqual = Word.NotEqual
 operation Less = Word.Less
@@ -28,7 +37,10 @@ operation Greater = Word.Greater
 operation GreaterEqual = Word.GreaterEqual
 
 abbrev pub unary_code : UnOp → ℕ → Instr
-unary_code One.Negate a = Negate a a
+unary_code One.Plus a = Move a a
+unary_code One.Negate a = Un WordOne.Negate a a
+unary_code One.Complement a = Un WordOne.Complement a a
+unary_code One.Not a = Un WordOne.IsZero a a
 
 -- the word of a value
 abbrev pub word_of : Value → ℕ
@@ -69,15 +81,34 @@ abbrev pub result_code : (n a b : ℕ) → List Instr
 result_code zero a b = []
 result_code (suc n) a b = SetResults a b (suc n) ∷ []
 
--- the operands in temps from h on are shown, each with a space before it
+-- a value of a type in a slot is shown, and a panic with it
+abbrev pub shown_code : (type a : ℕ) → Instr
+shown_code t a = if t == bool_type then PrintBool a else PrintInt a
+
+abbrev pub raised_code : (type a : ℕ) → Instr
+raised_code t a = if t == bool_type then PanicBool a else PanicInt a
+
+-- the operands, those that are values in temps from h on, are shown, each with a space before it
 abbrev pub show_more : Slots → List Piece → ℕ → List Instr
 show_more s [] h = PrintLine ∷ []
-show_more s (p ∷ ps) h = PrintSpace ∷ PrintInt (temp s h) ∷ show_more s ps (h + 1)
+show_more s (text number ∷ ps) h = PrintSpace ∷ PrintText number ∷ show_more s ps h
+show_more s (shown t e ∷ ps) h = PrintSpace ∷ shown_code t (temp s h) ∷ show_more s ps (h + 1)
 
 -- a line of them
 abbrev pub show_line : Slots → List Piece → ℕ → List Instr
 show_line s [] h = PrintLine ∷ []
-show_line s (p ∷ ps) h = PrintInt (temp s h) ∷ show_more s ps (h + 1)
+show_line s (text number ∷ ps) h = PrintText number ∷ show_more s ps h
+show_line s (shown t e ∷ ps) h = shown_code t (temp s h) ∷ show_more s ps (h + 1)
+
+-- without spaces and a newline
+abbrev pub show_plain : Slots → List Piece → ℕ → List Instr
+show_plain s [] h = []
+show_plain s (text number ∷ ps) h = PrintText number ∷ show_plain s ps h
+show_plain s (shown t e ∷ ps) h = shown_code t (temp s h) ∷ show_plain s ps (h + 1)
+
+abbrev pub show_code : Slots → Bool → List Piece → ℕ → List Instr
+show_code s true ps h = show_line s ps h
+show_code s false ps h = show_plain s ps h
 
 -- left sides get the values in temps from h on
 abbrev pub lefts_code : Slots → List Left → ℕ → List Instr
@@ -105,17 +136,17 @@ abbrev pub named_read_size : List ℕ → ℕ
 named_read_size [] = 0
 named_read_size (site ∷ sites) = suc (suc (named_read_size sites))
 
--- the end of a body, and what stands before it where there are n values
+-- the end of a body, and what stands before it where there are n values in temps from h on
 abbrev pub leave_code : Slots → (arguments : ℕ) → List ℕ → List Instr
 leave_code s arguments named = named_read_code s named arguments ++ Return ∷ []
 
 abbrev pub leave_size : List ℕ → ℕ
 leave_size named = named_read_size named + 1
 
-abbrev pub values_code : Slots → (arguments n : ℕ) → List ℕ → List Instr
-values_code s arguments n [] = result_code n (temp s 0) arguments
-values_code s arguments zero (site ∷ sites) = []
-values_code s arguments (suc n) (site ∷ sites) = named_write_code s (site ∷ sites) 0
+abbrev pub values_code : Slots → (arguments n : ℕ) → List ℕ → (h : ℕ) → List Instr
+values_code s arguments n [] h = result_code n (temp s h) arguments
+values_code s arguments zero (site ∷ sites) h = []
+values_code s arguments (suc n) (site ∷ sites) h = named_write_code s (site ∷ sites) h
 
 abbrev pub values_size : (n : ℕ) → List ℕ → ℕ
 values_size n [] = move_size n
@@ -132,10 +163,29 @@ abbrev pub zeros_code : Slots → List ℕ → List Instr
 zeros_code s [] = []
 zeros_code s (site ∷ sites) = Const (site_slot s site) 0 ∷ zeros_code s sites
 
+-- a new round's variables get the words of the old ones, through temp h
+abbrev pub renew_code : Slots → List ℕ → (h : ℕ) → List Instr
+renew_code s [] h = []
+renew_code s (site ∷ sites) h = Move (temp s h) (site_slot s site) ∷ Move (site_slot s site) (temp s h) ∷ renew_code s sites h
+
+abbrev pub renew_size : List ℕ → ℕ
+renew_size [] = 0
+renew_size (site ∷ sites) = suc (suc (renew_size sites))
+
 abbrev pub params_size : List (Option ℕ) → ℕ
 params_size [] = 0
 params_size (None ∷ ps) = params_size ps
 params_size (Some site ∷ ps) = suc (params_size ps)
+
+-- how many instructions show operands
+abbrev pub more_size : List Piece → ℕ
+more_size [] = 1
+more_size (p ∷ ps) = suc (suc (more_size ps))
+
+abbrev pub shown_size : Bool → List Piece → ℕ
+shown_size true [] = 1
+shown_size true (p ∷ ps) = suc (more_size ps)
+shown_size false ps = length ps
 
 module _ (fs : List Func) where
   -- how many values there are
@@ -143,6 +193,7 @@ module _ (fs : List Func) where
   count_of none = 0
   count_of (more e es) = 1 + count_of es
   count_of (results f es) = results_of fs f
+  count_of asked = 2
 
   -- a call whose arguments are in temps from h on; its results land there
   abbrev pub call_code : Slots → (f h : ℕ) → List Instr
@@ -151,24 +202,6 @@ module _ (fs : List Func) where
   abbrev pub call_size : ℕ → ℕ
   call_size f = move_size (arguments_of fs f) + suc (move_size (results_of fs f))
 
-  -- the value lands in temp h, values in temps from h on
-  abbrev mutual
-    pub ex_code : Slots → Ex → ℕ → List Instr
-    ex_code s (constant v) h = Const (temp s h) (word_of v) ∷ []
-    ex_code s (read p) h = read_code s p h ∷ []
-    ex_code s (unary op e) h = ex_code s e h ++ unary_code op (temp s h) ∷ []
-    ex_code s (binary at op a b) h = ex_code s a h ++ (ex_code s b (h + 1) ++ Bin (operation op) (temp s h) (temp s h) (temp s (h + 1)) ∷ [])
-    ex_code s (call f es) h = exs_code s es h ++ call_code s f h
-
-    pub exs_code : Slots → Exs → ℕ → List Instr
-    exs_code s none h = []
-    exs_code s (more e es) h = ex_code s e h ++ exs_code s es (h + 1)
-    exs_code s (results f es) h = exs_code s es h ++ call_code s f h
-
-  abbrev pub pieces_code : Slots → List Piece → ℕ → List Instr
-  pieces_code s [] h = []
-  pieces_code s (shown e ∷ ps) h = ex_code s e h ++ pieces_code s ps (h + 1)
-
   -- the numbers of instructions
   abbrev mutual
     pub size : Ex → ℕ
@@ -176,61 +209,126 @@ module _ (fs : List Func) where
     size (read p) = 1
     size (unary op a) = size a + 1
     size (binary at op a b) = size a + size b + 1
+    size (both a b) = size a + 1 + size b
+    size (either a b) = size a + 2 + size b
     size (call f es) = exs_size es + call_size f
 
     pub exs_size : Exs → ℕ
     exs_size none = 0
     exs_size (more e es) = size e + exs_size es
     exs_size (results f es) = exs_size es + call_size f
+    exs_size asked = 0
+
+  abbrev pub piece_size : Piece → ℕ
+  piece_size (text number) = 0
+  piece_size (shown t e) = size e
 
   abbrev pub pieces_size : List Piece → ℕ
   pieces_size [] = 0
-  pieces_size (shown e ∷ ps) = size e + pieces_size ps
+  pieces_size (p ∷ ps) = piece_size p + pieces_size ps
 
-  abbrev pub more_size : List Piece → ℕ
-  more_size [] = 1
-  more_size (p ∷ ps) = suc (suc (more_size ps))
+  -- a condition, where there is one, and the jump behind it
+  abbrev pub test_size : Option Ex → ℕ
+  test_size None = 0
+  test_size (Some e) = size e + 1
 
-  abbrev pub shown_size : List Piece → ℕ
-  shown_size [] = 1
-  shown_size (p ∷ ps) = suc (more_size ps)
+  -- at a place the value lands in temp h, values in temps from h on. The second operand of `&&` and `||` is passed over where the
+  -- first, which is then in the temp, decides.
+  abbrev mutual
+    pub ex_code : Slots → Ex → (h pc : ℕ) → List Instr
+    ex_code s (constant v) h pc = Const (temp s h) (word_of v) ∷ []
+    ex_code s (read p) h pc = read_code s p h ∷ []
+    ex_code s (unary op e) h pc = ex_code s e h pc ++ unary_code op (temp s h) ∷ []
+    ex_code s (binary at op a b) h pc = ex_code s a h pc ++ (ex_code s b (h + 1) (pc + size a) ++ Bin (operation op) (temp s h) (temp s h) (temp s (h + 1)) ∷ [])
+    ex_code s (both a b) h pc = ex_code s a h pc ++ JumpZero (temp s h) (pc + size a + 1 + size b) ∷ ex_code s b h (pc + size a + 1)
+    ex_code s (either a b) h pc =
+        ex_code s a h pc ++ JumpZero (temp s h) (pc + size a + 2) ∷ (Jump (pc + size a + 2 + size b) ∷ ex_code s b h (pc + size a + 2))
+    ex_code s (call f es) h pc = exs_code s es h pc ++ call_code s f h
+
+    pub exs_code : Slots → Exs → (h pc : ℕ) → List Instr
+    exs_code s none h pc = []
+    exs_code s (more e es) h pc = ex_code s e h pc ++ exs_code s es (h + 1) (pc + size e)
+    exs_code s (results f es) h pc = exs_code s es h pc ++ call_code s f h
+    exs_code s asked h pc = []
+
+  abbrev pub pieces_code : Slots → List Piece → (h pc : ℕ) → List Instr
+  pieces_code s [] h pc = []
+  pieces_code s (text number ∷ ps) h pc = pieces_code s ps h pc
+  pieces_code s (shown t e ∷ ps) h pc = ex_code s e h pc ++ pieces_code s ps (h + 1) (pc + size e)
+
+  abbrev pub test_code : Slots → Option Ex → (h pc goal : ℕ) → List Instr
+  test_code s None h pc goal = []
+  test_code s (Some e) h pc goal = ex_code s e h pc ++ JumpZero (temp s h) goal ∷ []
 
   -- the statements of a function with these results and so many argument words
   module _ (arguments : ℕ) (named : List ℕ) where
     abbrev mutual
       pub st_size : St → ℕ
+      st_size (declare sites) = length sites
       st_size (assign ls es) = exs_size es + lefts_size ls
+      st_size (update at p op e) = 1 + size e + 2
+      st_size (bump p op) = 4
       st_size (discard es) = exs_size es
       st_size (block ss) = sts_size ss
       st_size (choose e a b) = size e + 1 + sts_size a + 1 + sts_size b
-      st_size (loop [] None done body) = sts_size body + 1
-      st_size (loop [] (Some e) done body) = size e + 1 + sts_size body + 1
+      st_size (loop sites test post body) = test_size test + sts_size body + renew_size sites + sts_size post + 1
+      st_size (range (over_int e) key value body) = size e + 1 + 2 + lefts_size (key ∷ []) + sts_size body + 3
+      st_size break_off = 1
+      st_size go_on = 1
       st_size (give_back es) = exs_size es + (values_size (count_of es) named + leave_size named)
-      st_size (print true ps) = pieces_size ps + shown_size ps
-      st_size s = 0
+      st_size (print ln ps) = pieces_size ps + shown_size ln ps
+      st_size (raise at p) = piece_size p + 1
+      st_size (quit at e) = size e + 1
 
       pub sts_size : Sts → ℕ
       sts_size done = 0
       sts_size (next s ss) = st_size s + sts_size ss
 
-    -- at a place
+    -- At a place, with temps from h on. A `break` goes on at `out`, and a `continue` at `again`. A round of `for` is its test, its body,
+    -- the new round's variables, the post statement and a jump back. `range` over a number keeps that in temp h, and the index above it.
     abbrev mutual
-      pub st_code : Slots → St → ℕ → List Instr
-      st_code s (assign ls es) pc = exs_code s es 0 ++ lefts_code s ls 0
-      st_code s (discard es) pc = exs_code s es 0
-      st_code s (block ss) pc = sts_code s ss pc
-      st_code s (choose e a b) pc =
-          ex_code s e 0 ++ (JumpZero (temp s 0) (pc + size e + 1 + sts_size a + 1) ∷ (sts_code s a (pc + size e + 1) ++ (Jump (pc + size e + 1 + sts_size a + 1 + sts_size b) ∷ sts_code s b (pc + size e + 1 + sts_size a + 1))))
-      st_code s (loop [] None done body) pc = sts_code s body pc ++ Jump pc ∷ []
-      st_code s (loop [] (Some e) done body) pc =
-          ex_code s e 0 ++ (JumpZero (temp s 0) (pc + size e + 1 + sts_size body + 1) ∷ (sts_code s body (pc + size e + 1) ++ Jump pc ∷ []))
-      st_code s (give_back es) pc = exs_code s es 0 ++ (values_code s arguments (count_of es) named ++ leave_code s arguments named)
-      st_code s (print true ps) pc = pieces_code s ps 0 ++ show_line s ps 0
-      st_code s t pc = []
+      pub st_code : Slots → St → (h out again pc : ℕ) → List Instr
+      st_code s (declare sites) h out again pc = zeros_code s sites
+      st_code s (assign ls es) h out again pc = exs_code s es h pc ++ lefts_code s ls h
+      st_code s (update at p op e) h out again pc =
+          read_code s p h ∷ (ex_code s e (h + 1) (pc + 1) ++ Bin (operation op) (temp s h) (temp s h) (temp s (h + 1)) ∷ write_code s p h ∷ [])
+      st_code s (bump p op) h out again pc =
+          read_code s p h ∷ Const (temp s (h + 1)) 1 ∷ Bin (operation op) (temp s h) (temp s h) (temp s (h + 1)) ∷ write_code s p h ∷ []
+      st_code s (discard es) h out again pc = exs_code s es h pc
+      st_code s (block ss) h out again pc = sts_code s ss h out again pc
+      st_code s (choose e a b) h out again pc =
+          ex_code s e h pc
+          ++ (JumpZero (temp s h) (pc + size e + 1 + sts_size a + 1)
+          ∷ (sts_code s a h out again (pc + size e + 1) ++ (Jump (pc + size e + 1 + sts_size a + 1 + sts_size b) ∷ sts_code s b h out again (pc + size e + 1 + sts_size a + 1))))
+      st_code s (loop sites test post body) h out again pc =
+          let inside = pc + test_size test in
+          let turn = inside + sts_size body in
+          let behind = turn + renew_size sites + sts_size post + 1 in
+          test_code s test h pc behind
+          ++ (sts_code s body h behind turn inside ++ (renew_code s sites h ++ (sts_code s post h behind turn (turn + renew_size sites) ++ Jump pc ∷ [])))
+      st_code s (range (over_int e) key value body) h out again pc =
+          let test = pc + size e + 1 in
+          let inside = test + 2 + lefts_size (key ∷ []) in
+          let turn = inside + sts_size body in
+          let behind = turn + 3 in
+          ex_code s e h pc
+          ++ (Const (temp s (h + 1)) 0
+          ∷ (Bin Word.Less (temp s (h + 2)) (temp s (h + 1)) (temp s h)
+          ∷ (JumpZero (temp s (h + 2)) behind
+          ∷ (lefts_code s (key ∷ []) (h + 1)
+          ++ (sts_code s body (h + 2) behind turn inside
+          ++ (Const (temp s (h + 2)) 1 ∷ Bin Word.Add (temp s (h + 1)) (temp s (h + 1)) (temp s (h + 2)) ∷ Jump test ∷ []))))))
+      st_code s break_off h out again pc = Jump out ∷ []
+      st_code s go_on h out again pc = Jump again ∷ []
+      st_code s (give_back es) h out again pc = exs_code s es h pc ++ (values_code s arguments (count_of es) named h ++ leave_code s arguments named)
+      st_code s (print ln ps) h out again pc = pieces_code s ps h pc ++ show_code s ln ps h
+      st_code s (raise at (text number)) h out again pc = PanicText number ∷ []
+      st_code s (raise at (shown t e)) h out again pc = ex_code s e h pc ++ raised_code t (temp s h) ∷ []
+      st_code s (quit at e) h out again pc = ex_code s e h pc ++ Exit (temp s h) ∷ []
 
-      pub sts_code : Slots → Sts → ℕ → List Instr
-      sts_code s done pc = []
-      sts_code s (next x xs) pc = st_code s x pc ++ sts_code s xs (pc + st_size x)
+      pub sts_code : Slots → Sts → (h out again pc : ℕ) → List Instr
+      sts_code s done h out again pc = []
+      sts_code s (next x xs) h out again pc = st_code s x h out again pc ++ sts_code s xs h out again (pc + st_size x)
 
   abbrev pub slots_of : Func → Slots
   slots_of f = record { outgoing = outgoing_of fs f; temps = temps_of fs f; first = f.first }
@@ -242,9 +340,10 @@ module _ (fs : List Func) where
   abbrev pub entry_size : Func → ℕ
   entry_size f = params_size f.params + length f.named
 
-  -- the instructions of a function at a place
+  -- the instructions of a function at a place; nothing is around its body that a `break` leaves
   abbrev pub func_code : Func → ℕ → List Instr
-  func_code f pc = entry_code f ++ (sts_code (argument_words f) f.named (slots_of f) f.body (pc + entry_size f) ++ leave_code (slots_of f) (argument_words f) f.named)
+  func_code f pc =
+      entry_code f ++ (sts_code (argument_words f) f.named (slots_of f) f.body 0 0 0 (pc + entry_size f) ++ leave_code (slots_of f) (argument_words f) f.named)
 
   abbrev pub func_size : Func → ℕ
   func_size f = entry_size f + (sts_size (argument_words f) f.named f.body + leave_size f.named)
@@ -271,4 +370,5 @@ code_of p = record {
   instrs = funcs_code p.funcs p.funcs 0;
   owners = funcs_owners p.funcs p.funcs 0;
   funcs = funcs_entries p.funcs p.funcs 0;
+  strings = p.strings;
 }

@@ -16,7 +16,8 @@
 //! variable's value stands in its slot, which is named by its distance from the stack's upper end.
 //!
 //! A jump goes to a place that is known before the jump is emitted: the lengths of what it passes over are counted
-//! first, so nothing is patched afterwards. A loop's lemma is an induction on the fuel of the meaning, with the lemma of
+//! first, so nothing is patched afterwards, and the statements of a loop are emitted with the places where `break` and
+//! `continue` go on. `range` over a number keeps it and the index in two temps below those of its body. A loop's lemma is an induction on the fuel of the meaning, with the lemma of
 //! its body as a premise at every smaller bound on the turns.
 //!
 //! `run` stops after a number of steps, and refuses a first frame that passes the limit of the stack. Its contract
@@ -25,12 +26,17 @@
 //! what it shows in so many turns and in as many turns as there were steps.
 #![tactic(auto)]
 
+mod assigning;
 mod emitting;
+mod jumps;
 mod lengths;
+mod looping;
 mod program;
 mod returning;
 mod running;
+mod shown;
 mod slots;
+mod stmt_lengths;
 #[cfg(test)]
 mod tests;
 mod values;

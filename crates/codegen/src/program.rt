@@ -9,7 +9,7 @@ ghost use Rattle.codegen.specs.Code.{code_of, entry_of, func_code, func_size, pa
 ghost use Rattle.codegen.specs.Correct.{Simulated};
 
 use crate::emitting::emit_stmts;
-use crate::lengths::ahead;
+use crate::jumps::{Goals, here};
 use crate::returning::{emit_leave, emit_params, emit_zeros};
 use crate::slots::Frame;
 use base::NoMemory;
@@ -41,7 +41,9 @@ fn emit_func(
 {
     emit_params(code, frame, &func.params)?;
     emit_zeros(code, frame, &func.named)?;
-    emit_stmts(code, funcs, frame, func, &func.body)?;
+    // No loop is around the body.
+    let goals = Goals { out: 0, again: 0 };
+    emit_stmts(code, funcs, frame, func, &func.body, 0, goals)?;
     emit_leave(code, frame, func)?;
     Ok(())
 }
@@ -66,6 +68,26 @@ fn put_entry(entries: &mut Vec<isa::Func>, entry: isa::Func) -> Result<(), NoMem
     Ok(())
 }
 
+fn bytes_of(alloc: Global, bytes: &[u8]) -> Result<Vec<u8>, NoMemory>
+    ensures { IfOk result (λ copy. copy.items ≡ bytes.now) }
+{
+    let mut copy = Vec::new(alloc);
+    copy.extend_from_slice(bytes)?;
+    Ok(copy)
+}
+
+// The bytes of the strings, in their order.
+fn copied(alloc: Global, strings: &[Vec<u8>]) -> Result<Vec<Vec<u8>>, NoMemory>
+    ensures { IfOk result (λ all. map (λ bytes. bytes.items) all.items ≡ map (λ bytes. bytes.items) strings.now) }
+{
+    let mut all = Vec::new(alloc);
+    for bytes in strings {
+        let copy = bytes_of(alloc, bytes)?;
+        all.push(copy)?;
+    }
+    Ok(all)
+}
+
 // A function comes behind the others, with this number.
 fn add(
     parts: &mut Parts,
@@ -80,7 +102,7 @@ fn add(
     ensures owners { OnOk result (parts.new.owners.items ≡ parts.old.owners.items ++ replicate (func_size (map func_of funcs.now) (func_of func.now)) number) }
     ensures funcs { OnOk result (parts.new.funcs.items ≡ parts.old.funcs.items ++ entry_of (map func_of funcs.now) (func_of func.now) (length parts.old.instrs.items) ∷ []) }
 {
-    let start = ahead(&parts.instrs, 0, 0)?;
+    let start = here(&parts.instrs)?;
     let frame = Frame {
         outgoing: layout.outgoing,
         temps: layout.temps,
@@ -122,6 +144,7 @@ pub fn emit(alloc: Global, program: &Program, layouts: &Layouts) -> Result<Code,
         add(&mut parts, funcs, func, frames[number as usize], number)?;
         number += 1;
     }
-    ahead(&parts.instrs, 0, 0)?;
-    Ok(Code::made(parts.instrs, parts.owners, parts.funcs))
+    here(&parts.instrs)?;
+    let strings = copied(alloc, &program.strings)?;
+    Ok(Code::made(parts.instrs, parts.owners, parts.funcs, strings))
 }

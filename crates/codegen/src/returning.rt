@@ -6,9 +6,10 @@ ghost use Rattle.codegen.specs.Frame.{slots_in, IsSmall, Returns};
 ghost use Rattle.codegen.specs.Temps.{ExsFitIn, ParamsFitIn, SitesFit, ValuesFit};
 ghost use Rattle.codegen.specs.Code.{count_of, exs_code, leave_code, named_read_code, named_write_code, params_code, result_code, values_code, zeros_code};
 
+use crate::jumps::put;
 use crate::lengths::count;
 use crate::slots::Frame;
-use crate::values::{emit_values, put};
+use crate::values::emit_values;
 use base::{NoMemory, SiteId};
 use isa::Instr;
 use typed::{Func, Values};
@@ -35,7 +36,7 @@ pub fn emit_params(
     Ok(())
 }
 
-/// Results with names are 0.
+/// New variables are 0.
 pub fn emit_zeros(code: &mut Vec<Instr>, frame: Frame, sites: &[SiteId]) -> Result<(), NoMemory>
     requires fits { SitesFit (slots_in frame) frame.sites (map (λ site. site.0) sites.now) }
     requires frame { IsSmall frame }
@@ -48,29 +49,32 @@ pub fn emit_zeros(code: &mut Vec<Instr>, frame: Frame, sites: &[SiteId]) -> Resu
     Ok(())
 }
 
-// Results with names get the values in the lowest temps.
-fn emit_named_writes(code: &mut Vec<Instr>, frame: Frame, sites: &[SiteId]) -> Result<(), NoMemory>
+// Results with names get the values in temps from h on.
+fn emit_named_writes(
+    code: &mut Vec<Instr>,
+    frame: Frame,
+    sites: &[SiteId],
+    h: u16,
+) -> Result<(), NoMemory>
     requires fits { SitesFit (slots_in frame) frame.sites (map (λ site. site.0) sites.now) }
-    requires temps { length sites.now ≤ frame.temps }
+    requires temps { h + length sites.now ≤ frame.temps }
     requires frame { IsSmall frame }
-    ensures { OnOk result (code.new.items ≡ code.old.items ++ named_write_code (slots_in frame) (map (λ site. site.0) sites.now) 0) }
+    ensures { OnOk result (code.new.items ≡ code.old.items ++ named_write_code (slots_in frame) (map (λ site. site.0) sites.now) h) }
 {
-    let mut h: u16 = 0;
+    let mut next = h;
     for site in sites {
-        let (a, b) = (frame.of_site(*site), frame.temp(h));
+        let (a, b) = (frame.of_site(*site), frame.temp(next));
         put(code, Instr::Move { a, b })?;
-        h += 1;
+        next += 1;
     }
     Ok(())
 }
 
-// The n values in the lowest temps are the results from an incoming word on.
-fn emit_results(code: &mut Vec<Instr>, frame: Frame, n: u16, word: u16) -> Result<(), NoMemory>
-    requires frame { IsSmall frame }
-    ensures { OnOk result (code.new.items ≡ code.old.items ++ result_code n (slots_in frame).outgoing word) }
+// The n values in slots from a on are the results from an incoming word on.
+fn emit_results(code: &mut Vec<Instr>, n: u16, a: u16, word: u16) -> Result<(), NoMemory>
+    ensures { OnOk result (code.new.items ≡ code.old.items ++ result_code n a word) }
 {
     if n > 0 {
-        let a = frame.outgoing;
         put(code, Instr::SetResults { a, b: word, n })?;
     }
     Ok(())
@@ -118,17 +122,24 @@ pub fn emit_leave(code: &mut Vec<Instr>, frame: Frame, func: &Func) -> Result<()
     Ok(())
 }
 
-// So many values in the lowest temps become the results.
-fn emit_given(code: &mut Vec<Instr>, frame: Frame, func: &Func, count: u64) -> Result<(), NoMemory>
-    requires fits { ValuesFit frame.temps (result_words (func_of func.now)) count (func_of func.now).named }
+// So many values in temps from h on become the results.
+fn emit_given(
+    code: &mut Vec<Instr>,
+    frame: Frame,
+    func: &Func,
+    count: u64,
+    h: u16,
+) -> Result<(), NoMemory>
+    requires fits { ValuesFit frame.temps (result_words (func_of func.now)) h count (func_of func.now).named }
     requires returns { Returns frame (func_of func.now) }
     requires frame { IsSmall frame }
-    ensures { OnOk result (code.new.items ≡ code.old.items ++ values_code (slots_in frame) (argument_words (func_of func.now)) count (func_of func.now).named) }
+    ensures { OnOk result (code.new.items ≡ code.old.items ++ values_code (slots_in frame) (argument_words (func_of func.now)) count (func_of func.now).named h) }
 {
     if func.named.is_empty() {
-        emit_results(code, frame, count as u16, func.params.len() as u16)?;
+        let arguments = func.params.len() as u16;
+        emit_results(code, count as u16, frame.temp(h), arguments)?;
     } else if count > 0 {
-        emit_named_writes(code, frame, &func.named)?;
+        emit_named_writes(code, frame, &func.named, h)?;
     }
     Ok(())
 }
@@ -140,17 +151,18 @@ pub fn emit_return(
     frame: Frame,
     func: &Func,
     values: &Values,
+    h: u16,
 ) -> Result<(), NoMemory>
-    requires fits { ExsFitIn (map func_of funcs.now) (slots_in frame) frame.sites 0 (exs_of_values values.now)
-        × ValuesFit frame.temps (result_words (func_of func.now)) (count_of (map func_of funcs.now) (exs_of_values values.now)) (func_of func.now).named }
+    requires fits { ExsFitIn (map func_of funcs.now) (slots_in frame) frame.sites h (exs_of_values values.now)
+        × ValuesFit frame.temps (result_words (func_of func.now)) h (count_of (map func_of funcs.now) (exs_of_values values.now)) (func_of func.now).named }
     requires returns { Returns frame (func_of func.now) }
     requires frame { IsSmall frame }
-    ensures { OnOk result (code.new.items ≡ code.old.items ++ (exs_code (map func_of funcs.now) (slots_in frame) (exs_of_values values.now) 0
-        ++ (values_code (slots_in frame) (argument_words (func_of func.now)) (count_of (map func_of funcs.now) (exs_of_values values.now)) (func_of func.now).named
+    ensures { OnOk result (code.new.items ≡ code.old.items ++ (exs_code (map func_of funcs.now) (slots_in frame) (exs_of_values values.now) h (length code.old.items)
+        ++ (values_code (slots_in frame) (argument_words (func_of func.now)) (count_of (map func_of funcs.now) (exs_of_values values.now)) (func_of func.now).named h
         ++ leave_code (slots_in frame) (argument_words (func_of func.now)) (func_of func.now).named))) }
 {
-    emit_values(code, funcs, frame, values, 0)?;
-    emit_given(code, frame, func, count(funcs, values))?;
+    emit_values(code, funcs, frame, values, h)?;
+    emit_given(code, frame, func, count(funcs, values), h)?;
     emit_leave(code, frame, func)?;
     Ok(())
 }

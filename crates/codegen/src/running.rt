@@ -1,14 +1,15 @@
 //! Runs of a code to its end.
-ghost use Rattle.std.specs.Prelude.{◌≡◌, ◌/◌, ◌<◌, ◌≤◌, ◌^◌, ℕ, List, length, slice_get, Some};
+ghost use Rattle.std.specs.Prelude.{◌≡◌, ◌/◌, ◌<◌, ◌≤◌, ◌^◌, ℕ, length, slice_get, Some};
 ghost use Rattle.machine.specs.Inside.{Inside};
+ghost use Rattle.machine.specs.Answers.{StatusFits};
 ghost use Rattle.typed.specs.Syntax.{Program};
-ghost use Rattle.meaning.specs.Meaning.{Answer};
+ghost use Rattle.meaning.specs.Meaning.{Item};
 ghost use Rattle.meaning.specs.Output.{source};
 ghost use Rattle.codegen.specs.Correct.{Simulated, Ran, answer_to, limits};
 
 use base::FuncId;
 use isa::Code;
-use machine::{Ending, Place};
+use machine::{Ending, Panic, Place};
 use outside::Sink;
 use std::alloc::{AllocError, Global};
 use thiserror::Error;
@@ -22,6 +23,9 @@ pub enum RunFault {
     /// The sink failed, and took a part of the output.
     #[error("a write failed")]
     WriteFault,
+    /// The program panicked.
+    #[error("panic")]
+    Panic(Panic),
     /// The run was stopped after so many steps.
     #[error("no more steps")]
     Steps,
@@ -42,11 +46,13 @@ impl From<AllocError> for RunFault {
 
 // The code of a program meets no wild word, so it doesn't matter what stands for one here.
 fn answer(ending: Option<Ending>) -> Result<u8, RunFault>
+    requires { StatusFits ending }
     ensures { result ≡ answer_to ending }
 {
     match ending {
         None => Err(RunFault::Steps),
-        Some(Ending::Exit(status)) => Ok(status),
+        Some(Ending::Exit(status)) => Ok(status as u8),
+        Some(Ending::Panic(panic)) => Err(RunFault::Panic(panic)),
         Some(Ending::WriteFault) => Err(RunFault::WriteFault),
         Some(Ending::NoMemory) => Err(RunFault::NoMemory),
         Some(Ending::StackLimit { used, asked, limit }) => Err(RunFault::StackLimit {
@@ -84,8 +90,8 @@ pub fn run<O: Sink>(
     requires main { main.0 < length code.now.funcs }
     requires stack { stack_max ≤ 2 ^ 32 }
     requires small { length code.now.instrs < 2 ^ 40 }
-    ensures runs { (p : Program) → p.main ≡ main.0 → Simulated p code.now → (item : List ℕ → Answer) (input : List ℕ)
-        → Ran (source item p (limits p stack_max) input (steps / 16)) (source item p (limits p stack_max) input steps) result
+    ensures runs { (p : Program) → p.main ≡ main.0 → Simulated p code.now → (items : ℕ → Item)
+        → Ran p.strings (source items p (limits p stack_max) (steps / 16)) (source items p (limits p stack_max) steps) result
         (O.taken out.old) (O.taken out.new) (O.faults out.old) (O.faults out.new) }
 {
     let first = entry(code, main);

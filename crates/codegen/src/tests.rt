@@ -1,24 +1,29 @@
 //! What no clause says: that the calls succeed where memory is ample.
 ghost use Rattle.std.specs.Prelude.{◌≡◌, ◌∷◌, [], pos, true, Some, IfOk};
-ghost use Rattle.base.specs.declared.pos.Pos.{Pos};
 ghost use Rattle.typed.specs.declared.operators.BinOp.{BinOp};
 ghost use Rattle.typed.specs.Value.{int};
-ghost use Rattle.typed.specs.Syntax.{read, local, here, constant, binary, none, more, results, new, to, shown, assign, choose, give_back, print, done, next, Func as Function};
-ghost use Rattle.typed.specs.View.{ex_of, exs_of_values, func_of, st_of, sts_of, program_of};
+ghost use Rattle.typed.specs.Syntax.{read, local, here, constant, binary, none, more, results, blank, new, to, text, shown, over_int, assign, choose, range, break_off, give_back, print, done, next, Func as Function};
+ghost use Rattle.typed.specs.View.{ex_of, exs_of_values, func_of, piece_of, st_of, sts_of, program_of};
 ghost use Rattle.typed.specs.Form.{IsInForm};
 
 use crate::{RunFault, emit, run};
-use base::{FuncId, Pos, SiteId, TypeId};
+use base::{FuncId, Pos, SiteId};
 use frame_layout::layout_of;
+use machine::Panic;
 use outside::MemSink;
 use std::alloc::Global;
 use std::test::Fail;
-use typed::{BinOp, Const, Expr, Func, Left, Program, Stmt, Values};
+use typed::{BinOp, Const, Expr, Func, INT, Left, Piece, Program, Site, Stmt, Values};
 
 const AT: Pos = Pos {
     offset: 0,
     line: 1,
     col: 1,
+};
+
+const SITE: Site = Site {
+    pos: AT,
+    type_id: INT,
 };
 
 fn variable(site: u32) -> Expr
@@ -114,37 +119,43 @@ fn main_body(alloc: Global) -> Result<Vec<Stmt>, Fail>
     ensures { IfOk result (λ ss. sts_of ss.items ≡
         next (assign (new 3 ∷ new 4 ∷ []) (results 0 (more (constant (int (pos 3))) none)))
         (next (assign (to (local 3 here) ∷ to (local 4 here) ∷ []) (more (read (local 4 here)) (more (read (local 3 here)) none)))
-        (next (print true (shown (read (local 3 here)) ∷ shown (read (local 4 here)) ∷ [])) done))) }
+        (next (print true (shown 0 (read (local 3 here)) ∷ shown 0 (read (local 4 here)) ∷ [])) done))) }
 {
     let first = declared(alloc, 3, 4, number(3))?;
     let swapped = assigned(alloc, 3, 4, variable(4), variable(3))?;
-    let shown = vec![in alloc; variable(3), variable(4)]?;
-    Ok(vec![in alloc; first, swapped, Stmt::Print(shown)]?)
+    let pieces = vec![in alloc;
+        Piece::Shown(INT, variable(3)),
+        Piece::Shown(INT, variable(4)),
+    ]?;
+    Ok(vec![in alloc; first, swapped, Stmt::Print(true, pieces)]?)
 }
 
 // func pair(n int) (int, int)
 fn pair(alloc: Global, body: Vec<Stmt>) -> Result<Func, Fail>
-    ensures { IfOk result (λ f. func_of f ≡ (let g : Function = record { first = 0; count = 3; params = Some 0 ∷ []; results = 0 ∷ 0 ∷ []; named = []; body = sts_of body.items } in g)) }
+    ensures { IfOk result (λ f. func_of f ≡ (let g : Function = record { first = 0; count = 3; params = Some 0 ∷ []; param_types = 0 ∷ []; results = 0 ∷ 0 ∷ []; named = []; body = sts_of body.items } in g)) }
 {
     Ok(Func {
         pos: AT,
         first_site: 0,
         sites: 3,
         params: vec![in alloc; Some(SiteId(0))]?,
-        results: vec![in alloc; TypeId(0), TypeId(0)]?,
+        param_types: vec![in alloc; INT]?,
+        results: vec![in alloc; INT, INT]?,
         named: Vec::new(alloc),
         body,
     })
 }
 
-fn main(alloc: Global, body: Vec<Stmt>) -> Func
-    ensures { func_of result ≡ (let g : Function = record { first = 3; count = 2; params = []; results = []; named = []; body = sts_of body.items } in g) }
+// func main(), with sites from a first one on
+fn main(alloc: Global, first: u32, sites: u32, body: Vec<Stmt>) -> Func
+    ensures { func_of result ≡ (let g : Function = record { first = first; count = sites; params = []; param_types = []; results = []; named = []; body = sts_of body.items } in g) }
 {
     Func {
         pos: AT,
-        first_site: 3,
-        sites: 2,
+        first_site: first,
+        sites,
         params: Vec::new(alloc),
+        param_types: Vec::new(alloc),
         results: Vec::new(alloc),
         named: Vec::new(alloc),
         body,
@@ -158,12 +169,62 @@ fn program(alloc: Global, at: Pos) -> Result<Program, Fail>
     let body = pair_body(alloc, at)?;
     let first = pair(alloc, body)?;
     let lines = main_body(alloc)?;
-    let second = main(alloc, lines);
+    let second = main(alloc, 3, 2, lines);
     let funcs = vec![in alloc; first, second]?;
+    let sites = vec![in alloc; SITE, SITE, SITE, SITE, SITE]?;
     Ok(Program {
         funcs,
         main: FuncId(1),
-        sites: Vec::new(alloc),
+        sites,
+        strings: Vec::new(alloc),
+    })
+}
+
+// if i == 2 { break }; println("i", i)
+#[tactic(auto, using(typed::proofs::Rows::stmt_rows))]
+fn round(alloc: Global, at: Pos) -> Result<Vec<Stmt>, Fail>
+    ensures { IfOk result (λ ss. sts_of ss.items ≡
+        next (choose (binary at BinOp.Equal (read (local 0 here)) (constant (int (pos 2)))) (next break_off done) done)
+        (next (print true (text 0 ∷ shown 0 (read (local 0 here)) ∷ [])) done)) }
+{
+    let test = two_operands(alloc, at, BinOp::Equal, variable(0), number(2))?;
+    let leaves = vec![in alloc; Stmt::Break]?;
+    let pieces = vec![in alloc; Piece::Text(0), Piece::Shown(INT, variable(0))]?;
+    let choice = Stmt::If(test, leaves, Vec::new(alloc));
+    Ok(vec![in alloc; choice, Stmt::Print(true, pieces)]?)
+}
+
+// for i := range 5 { .. }; println(1 / 0)
+#[tactic(auto, using(typed::proofs::Rows::stmt_rows))]
+fn stopped_body(alloc: Global, at: Pos) -> Result<Vec<Stmt>, Fail>
+    ensures { IfOk result (λ ss. sts_of ss.items ≡
+        next (range (over_int (constant (int (pos 5)))) (new 0) blank
+        (next (choose (binary at BinOp.Equal (read (local 0 here)) (constant (int (pos 2)))) (next break_off done) done)
+        (next (print true (text 0 ∷ shown 0 (read (local 0 here)) ∷ [])) done)))
+        (next (print true (shown 0 (binary at BinOp.Div (constant (int (pos 1))) (constant (int (pos 0)))) ∷ [])) done)) }
+{
+    let body = round(alloc, at)?;
+    let quotient = two_operands(alloc, at, BinOp::Div, number(1), number(0))?;
+    let pieces = vec![in alloc; Piece::Shown(INT, quotient)]?;
+    let counting = Stmt::Count(number(5), Left::New(SiteId(0)), body);
+    Ok(vec![in alloc; counting, Stmt::Print(true, pieces)]?)
+}
+
+fn stopped(alloc: Global, at: Pos) -> Result<Program, Fail>
+    ensures form { IfOk result (λ p. IsInForm (program_of p)) }
+    ensures main { IfOk result (λ p. p.main.0 ≡ 0) }
+{
+    let lines = stopped_body(alloc, at)?;
+    let only = main(alloc, 0, 1, lines);
+    let funcs = vec![in alloc; only]?;
+    let sites = vec![in alloc; SITE]?;
+    let letter = vec![in alloc; b'i']?;
+    let strings = vec![in alloc; letter]?;
+    Ok(Program {
+        funcs,
+        main: FuncId(0),
+        sites,
+        strings,
     })
 }
 
@@ -204,5 +265,19 @@ fn a_failed_write_ends_the_run(rt: HostRuntime) -> Result<(), Fail> {
         Err(RunFault::WriteFault)
     );
     assert_eq!(rt; out.bytes(), b"2".as_slice());
+    Ok(())
+}
+
+#[test]
+fn a_panic_ends_the_run(rt: HostRuntime) -> Result<(), Fail> {
+    let program = stopped(rt.alloc(), AT)?;
+    let layouts = layout_of(rt.alloc(), &program)?;
+    let code = emit(rt.alloc(), &program, &layouts)?;
+    let mut out = MemSink::new(rt.alloc(), Vec::new(rt.alloc()));
+    assert_eq!(rt;
+        run(rt.alloc(), &code, program.main, 1000, 1000, &mut out),
+        Err(RunFault::Panic(Panic::DivideByZero))
+    );
+    assert_eq!(rt; out.bytes(), b"i 0\ni 1\n".as_slice());
     Ok(())
 }

@@ -1,31 +1,35 @@
 //! The code of expressions and calls.
-ghost use Rattle.std.specs.Prelude.{◌≡◌, ◌+◌, ◌≤◌, ◌++◌, ◌∷◌, [], map, OnOk};
+ghost use Rattle.std.specs.Prelude.{◌≡◌, ◌+◌, ◌≤◌, ◌++◌, ◌∷◌, [], length, map, OnOk};
+ghost use Rattle.isa.specs.declared.instr.Instr.{Instr};
 ghost use Rattle.typed.specs.View.{ex_of, exs_of, exs_of_values, func_of, value_of};
 ghost use Rattle.codegen.specs.Frame.{slots_in, IsSmall};
 ghost use Rattle.codegen.specs.Temps.{CallFits, Fits, ExsFitIn};
-ghost use Rattle.codegen.specs.Code.{call_code, ex_code, exs_code, move_code, operation as operation_of, unary_code, word_of};
+ghost use Rattle.codegen.specs.Code.{call_code, ex_code, exs_code, move_code, operation as operation_of, size, temp, unary_code, word_of};
 
+use crate::jumps::{jump, jump_if_zero, put};
+use crate::lengths::expr_len;
 use crate::slots::Frame;
 use base::{FuncId, NoMemory};
 use frame_layout::{arguments_of, results_of};
 use isa::Instr;
 use typed::{BinOp, Const, Expr, Func, UnOp, Values};
 
-/// Puts an instruction behind the code.
-pub fn put(code: &mut Vec<Instr>, instr: Instr) -> Result<(), NoMemory>
-    ensures { OnOk result (code.new.items ≡ code.old.items ++ instr ∷ []) }
-{
-    code.push(instr)?;
-    Ok(())
-}
-
-fn operation(op: BinOp) -> isa::BinOp
+/// The instruction's operation.
+pub fn operation(op: BinOp) -> isa::BinOp
     ensures { result ≡ operation_of op }
 {
     match op {
         BinOp::Add => isa::BinOp::Add,
         BinOp::Sub => isa::BinOp::Sub,
         BinOp::Mul => isa::BinOp::Mul,
+        BinOp::Div => isa::BinOp::Div,
+        BinOp::Rem => isa::BinOp::Rem,
+        BinOp::And => isa::BinOp::And,
+        BinOp::Or => isa::BinOp::Or,
+        BinOp::Xor => isa::BinOp::Xor,
+        BinOp::AndNot => isa::BinOp::AndNot,
+        BinOp::ShiftLeft => isa::BinOp::ShiftLeft,
+        BinOp::ShiftRight => isa::BinOp::ShiftRight,
         BinOp::Equal => isa::BinOp::Equal,
         BinOp::NotEqual => isa::BinOp::NotEqual,
         BinOp::Less => isa::BinOp::Less,
@@ -49,7 +53,22 @@ fn unary(op: UnOp, a: u16) -> Instr
     ensures { result ≡ unary_code op a }
 {
     match op {
-        UnOp::Negate => Instr::Negate { a, b: a },
+        UnOp::Plus => Instr::Move { a, b: a },
+        UnOp::Negate => Instr::Un {
+            op: isa::UnOp::Negate,
+            a,
+            b: a,
+        },
+        UnOp::Complement => Instr::Un {
+            op: isa::UnOp::Complement,
+            a,
+            b: a,
+        },
+        UnOp::Not => Instr::Un {
+            op: isa::UnOp::IsZero,
+            a,
+            b: a,
+        },
     }
 }
 
@@ -84,6 +103,62 @@ fn emit_call(
     Ok(())
 }
 
+// Where the first operand of `&&`, in temp h, is false, the second is passed over.
+fn pass_both(
+    code: &mut Vec<Instr>,
+    funcs: &[Func],
+    frame: Frame,
+    second: &Expr,
+    h: u16,
+) -> Result<(), NoMemory>
+    requires temp { h ≤ frame.temps }
+    requires frame { IsSmall frame }
+    ensures { OnOk result (code.new.items ≡ code.old.items
+        ++ Instr.JumpZero (temp (slots_in frame) h) (length code.old.items + 1 + size (map func_of funcs.now) (ex_of second.now)) ∷ []) }
+{
+    let len = expr_len(funcs, second)?;
+    jump_if_zero(code, frame.temp(h), 1, len)?;
+    Ok(())
+}
+
+// Where the first operand of `||`, in temp h, is true, the second is passed over.
+fn pass_either(
+    code: &mut Vec<Instr>,
+    funcs: &[Func],
+    frame: Frame,
+    second: &Expr,
+    h: u16,
+) -> Result<(), NoMemory>
+    requires temp { h ≤ frame.temps }
+    requires frame { IsSmall frame }
+    ensures { OnOk result (code.new.items ≡ code.old.items
+        ++ Instr.JumpZero (temp (slots_in frame) h) (length code.old.items + 2)
+        ∷ Instr.Jump (length code.old.items + 2 + size (map func_of funcs.now) (ex_of second.now)) ∷ []) }
+{
+    let len = expr_len(funcs, second)?;
+    // The second operand stands behind both jumps.
+    jump_if_zero(code, frame.temp(h), 2, 0)?;
+    jump(code, 1, len)?;
+    Ok(())
+}
+
+/// The operation on temps h and h + 1, to temp h.
+pub fn emit_operation(
+    code: &mut Vec<Instr>,
+    frame: Frame,
+    op: BinOp,
+    h: u16,
+) -> Result<(), NoMemory>
+    requires temp { h + 1 ≤ frame.temps }
+    requires frame { IsSmall frame }
+    ensures { OnOk result (code.new.items ≡ code.old.items
+        ++ Instr.Bin (operation_of op) (temp (slots_in frame) h) (temp (slots_in frame) h) (temp (slots_in frame) (h + 1)) ∷ []) }
+{
+    let (op, a, c) = (operation(op), frame.temp(h), frame.temp(h + 1));
+    put(code, Instr::Bin { op, a, b: a, c })?;
+    Ok(())
+}
+
 /// The value lands in temp h.
 #[cycle(values)]
 pub fn emit_expr(
@@ -95,7 +170,7 @@ pub fn emit_expr(
 ) -> Result<(), NoMemory>
     requires fits { Fits (map func_of funcs.now) (slots_in frame) frame.sites h (ex_of e.now) }
     requires frame { IsSmall frame }
-    ensures { OnOk result (code.new.items ≡ code.old.items ++ ex_code (map func_of funcs.now) (slots_in frame) (ex_of e.now) h) }
+    ensures { OnOk result (code.new.items ≡ code.old.items ++ ex_code (map func_of funcs.now) (slots_in frame) (ex_of e.now) h (length code.old.items)) }
 {
     match e {
         Expr::Constant(c) => {
@@ -116,8 +191,21 @@ pub fn emit_expr(
             let b: &Expr = b;
             emit_expr(code, funcs, frame, a, h)?;
             emit_expr(code, funcs, frame, b, h + 1)?;
-            let (op, a, c) = (operation(*op), frame.temp(h), frame.temp(h + 1));
-            put(code, Instr::Bin { op, a, b: a, c })?;
+            emit_operation(code, frame, *op, h)?;
+        }
+        Expr::Both(a, b) => {
+            let a: &Expr = a;
+            let b: &Expr = b;
+            emit_expr(code, funcs, frame, a, h)?;
+            pass_both(code, funcs, frame, b, h)?;
+            emit_expr(code, funcs, frame, b, h)?;
+        }
+        Expr::Either(a, b) => {
+            let a: &Expr = a;
+            let b: &Expr = b;
+            emit_expr(code, funcs, frame, a, h)?;
+            pass_either(code, funcs, frame, b, h)?;
+            emit_expr(code, funcs, frame, b, h)?;
         }
         Expr::Call(f, arguments) => {
             let arguments: &Values = arguments;
@@ -140,7 +228,7 @@ pub fn emit_values(
 ) -> Result<(), NoMemory>
     requires fits { ExsFitIn (map func_of funcs.now) (slots_in frame) frame.sites h (exs_of_values values.now) }
     requires frame { IsSmall frame }
-    ensures { OnOk result (code.new.items ≡ code.old.items ++ exs_code (map func_of funcs.now) (slots_in frame) (exs_of_values values.now) h) }
+    ensures { OnOk result (code.new.items ≡ code.old.items ++ exs_code (map func_of funcs.now) (slots_in frame) (exs_of_values values.now) h (length code.old.items)) }
 {
     match values {
         Values::Each(es) => emit_row(code, funcs, frame, es, h)?,
@@ -149,13 +237,15 @@ pub fn emit_values(
             emit_values(code, funcs, frame, arguments, h)?;
             emit_call(code, funcs, frame, *f, h)?;
         }
+        // No program that fits reads its input yet.
+        Values::ReadInt => {}
     }
     Ok(())
 }
 
-/// The values of expressions land in temps from h on.
+// The values of expressions land in temps from h on.
 #[cycle(values)]
-pub fn emit_row(
+fn emit_row(
     code: &mut Vec<Instr>,
     funcs: &[Func],
     frame: Frame,
@@ -164,7 +254,7 @@ pub fn emit_row(
 ) -> Result<(), NoMemory>
     requires fits { ExsFitIn (map func_of funcs.now) (slots_in frame) frame.sites h (exs_of es.now) }
     requires frame { IsSmall frame }
-    ensures { OnOk result (code.new.items ≡ code.old.items ++ exs_code (map func_of funcs.now) (slots_in frame) (exs_of es.now) h) }
+    ensures { OnOk result (code.new.items ≡ code.old.items ++ exs_code (map func_of funcs.now) (slots_in frame) (exs_of es.now) h (length code.old.items)) }
 {
     let mut next = h;
     for e in es {

@@ -11,9 +11,11 @@ use Rattle.compile.specs.declared.fault.CompileFault.TheVariants.{NoMemory}
 abbrev pub compiled_program : Compiled → Program
 compiled_program c = program_of c.program
 
--- the layouts are the program's, and the code does what the program means, turn by turn, from the entry of `main`
+-- the layouts and the strings are the program's, and the code does what the program means, turn by turn, from the entry
+-- of `main`
 pub record Does (c : Compiled) : Type 0 where
   pub layouts : c.layouts ≡ layouts (compiled_program c)
+  pub strings : c.code.strings ≡ (compiled_program c).strings
   pub code : Simulated (compiled_program c) c.code
   pub main : (compiled_program c).main < length c.code.funcs
   pub small : length c.code.instrs < 2 ^ 40

@@ -23,7 +23,7 @@ fn is_accepted(alloc: Global, text: &[u8]) -> bool {
 /// A text for each kind, and for each rule on where it stands.
 #[test]
 fn faults_and_their_places(rt: HostRuntime) -> Result<(), Fail> {
-    let table: [(&str, FaultKind, u32, u32); 89] = [
+    let table: [(&str, FaultKind, u32, u32); 108] = [
         (
             "package main\nfunc main() { println(\"a\") }",
             FaultKind::OutOfProfile,
@@ -31,22 +31,58 @@ fn faults_and_their_places(rt: HostRuntime) -> Result<(), Fail> {
             23,
         ),
         (
-            "package main\nfunc main() { a := 1; println(a == 1) }",
-            FaultKind::OutOfProfile,
-            2,
-            31,
-        ),
-        (
-            "package main\nfunc main() { a := 1; println(a / 2) }",
-            FaultKind::OutOfProfile,
-            2,
-            31,
-        ),
-        (
             "package main\nfunc main() { a := 1; println(!a) }",
-            FaultKind::OutOfProfile,
+            FaultKind::BadOperand,
             2,
             31,
+        ),
+        (
+            "package main\nfunc main() { a := 1; println(a + true) }",
+            FaultKind::Mismatch,
+            2,
+            31,
+        ),
+        (
+            "package main\nfunc main() { println(true < false) }",
+            FaultKind::BadOperand,
+            2,
+            23,
+        ),
+        (
+            "package main\nfunc main() { println(1 << true) }",
+            FaultKind::BadOperand,
+            2,
+            23,
+        ),
+        (
+            "package main\nfunc main() { println(1 && true) }",
+            FaultKind::Mismatch,
+            2,
+            23,
+        ),
+        (
+            "package main\nfunc main() { println(-true) }",
+            FaultKind::BadOperand,
+            2,
+            23,
+        ),
+        (
+            "package main\nfunc main() { a := 1; println(a / 0) }",
+            FaultKind::ConstZeroDivisor,
+            2,
+            35,
+        ),
+        (
+            "package main\nfunc main() { a := 1; println(a >> -1) }",
+            FaultKind::BadOperand,
+            2,
+            31,
+        ),
+        (
+            "package main\nfunc main() { a := 1; println(a == 9223372036854775808) }",
+            FaultKind::ConstRange,
+            2,
+            36,
         ),
         (
             "package main\nfunc main() { a := 1; println(*a) }",
@@ -121,16 +157,40 @@ fn faults_and_their_places(rt: HostRuntime) -> Result<(), Fail> {
             15,
         ),
         (
-            "package main\nfunc main() { a := 1; a += 1 }",
-            FaultKind::OutOfProfile,
+            "package main\nfunc main() { if a := true; a == 1 { } }",
+            FaultKind::Mismatch,
             2,
-            23,
+            29,
         ),
         (
-            "package main\nfunc main() { a := 1; a++ }",
-            FaultKind::OutOfProfile,
+            "package main\nfunc main() { for i := 0; i; i++ { } }",
+            FaultKind::BadOperand,
             2,
-            23,
+            15,
+        ),
+        (
+            "package main\nfunc main() { for range true { } }",
+            FaultKind::BadOperand,
+            2,
+            15,
+        ),
+        (
+            "package main\nfunc main() { for _ := range 3 { } }",
+            FaultKind::NothingNew,
+            2,
+            21,
+        ),
+        (
+            "package main\nfunc main() { for i, j := range 3 { } }",
+            FaultKind::ArgCount,
+            2,
+            15,
+        ),
+        (
+            "package main\nfunc main() { a := true; for a = range 3 { } }",
+            FaultKind::Mismatch,
+            2,
+            30,
         ),
         (
             "package main\nfunc main() { 1 = 2 }",
@@ -139,40 +199,70 @@ fn faults_and_their_places(rt: HostRuntime) -> Result<(), Fail> {
             15,
         ),
         (
-            "package main\nfunc main() { var a int }",
-            FaultKind::OutOfProfile,
+            "package main\nfunc main() { a := 1; a += true }",
+            FaultKind::Mismatch,
+            2,
+            23,
+        ),
+        (
+            "package main\nfunc main() { a := true; a++ }",
+            FaultKind::BadOperand,
+            2,
+            26,
+        ),
+        (
+            "package main\nfunc main() { a := 1; a %= 0 }",
+            FaultKind::ConstZeroDivisor,
+            2,
+            28,
+        ),
+        (
+            "package main\nfunc main() { a := 1; a = true }",
+            FaultKind::Mismatch,
+            2,
+            27,
+        ),
+        (
+            "package main\nfunc main() { a, b := 1, 2; a, b += 1, 2 }",
+            FaultKind::ArgCount,
+            2,
+            29,
+        ),
+        (
+            "package main\nfunc main() { _ += 1 }",
+            FaultKind::Unknown,
             2,
             15,
         ),
         (
-            "package main\nfunc main() { for { break } }",
+            "package main\nfunc main() { var a bool = 1 }",
+            FaultKind::Mismatch,
+            2,
+            28,
+        ),
+        (
+            "package main\nfunc main() { var a, b = 1 }",
+            FaultKind::ArgCount,
+            2,
+            15,
+        ),
+        (
+            "package main\nfunc main() { var a string }",
             FaultKind::OutOfProfile,
             2,
             21,
         ),
         (
-            "package main\nfunc main() { for { continue } }",
-            FaultKind::OutOfProfile,
-            2,
-            21,
-        ),
-        (
-            "package main\nfunc main() { if a := 1; a == 1 { } }",
-            FaultKind::OutOfProfile,
+            "package main\nfunc main() { break }",
+            FaultKind::BreakOutside,
             2,
             15,
         ),
         (
-            "package main\nfunc main() { for i := 0; i < 3; i++ { } }",
-            FaultKind::OutOfProfile,
+            "package main\nfunc main() { if true { continue } }",
+            FaultKind::BreakOutside,
             2,
-            15,
-        ),
-        (
-            "package main\nfunc main() { for range 3 { } }",
-            FaultKind::OutOfProfile,
-            2,
-            15,
+            25,
         ),
         (
             "package main\nconst c = 1; func main() { println(c) }",
@@ -349,6 +439,30 @@ fn faults_and_their_places(rt: HostRuntime) -> Result<(), Fail> {
             33,
         ),
         (
+            "package main\nfunc f(a int) {}; func main() { f(true) }",
+            FaultKind::Mismatch,
+            2,
+            35,
+        ),
+        (
+            "package main\nfunc g() (int, bool) { return 1, true }; func f(a, b int) {}; func main() { f(g()) }",
+            FaultKind::Mismatch,
+            2,
+            79,
+        ),
+        (
+            "package main\nfunc f() bool { return 1 }; func main() {}",
+            FaultKind::Mismatch,
+            2,
+            24,
+        ),
+        (
+            "package main\nfunc main() { panic() }",
+            FaultKind::ArgCount,
+            2,
+            15,
+        ),
+        (
             "package main\nfunc g() (int, int) { return 1, 2 }; func f(a int) {}; func main() { f(g()) }",
             FaultKind::ArgCount,
             2,
@@ -501,7 +615,7 @@ fn faults_and_their_places(rt: HostRuntime) -> Result<(), Fail> {
             1,
         ),
         (
-            "package main\nfunc f(a bool) {}; func main() {}",
+            "package main\nfunc f(a string) {}; func main() {}",
             FaultKind::OutOfProfile,
             2,
             10,
@@ -543,7 +657,7 @@ fn faults_and_their_places(rt: HostRuntime) -> Result<(), Fail> {
             8,
         ),
         (
-            "package main\nfunc main() { f() }; func f(a bool) {}",
+            "package main\nfunc main() { f() }; func f(a string) {}",
             FaultKind::OutOfProfile,
             2,
             31,
@@ -561,7 +675,7 @@ fn faults_and_their_places(rt: HostRuntime) -> Result<(), Fail> {
 
 #[test]
 fn accepted_texts(rt: HostRuntime) -> Result<(), Fail> {
-    let table: [&str; 8] = [
+    let table: [&str; 14] = [
         "package main\nfunc two(n int) (q, r int) { q = n + 1; r = n * 2; return }; func main() { a, b := two(5); a, b = b, a; println(a, b) }",
         "package main\nfunc f(_ int, _ int) {}; func _() int { return 1 }; func main() { f(1, 2) }",
         "package main\nfunc g() (int, int) { return 1, 2 }; func f(a, b int) {}; func main() { f(g()); _, _ = g(); (g()) }",
@@ -570,6 +684,12 @@ fn accepted_texts(rt: HostRuntime) -> Result<(), Fail> {
         "package main\nfunc main() { a := 1; { a, b := 2, a; println(a, b) } }",
         "package main\nfunc f(a, b (int)) (c (int)) { (c) = a; return }; func main() { println(f(1, 2)) }",
         "package main\nfunc main() { println(7/2, 1<<3|1, 7&^2, -7%2, ^0, +1, 5>>1, 6^3) }",
+        "package main\nfunc main() { a := 1; println(a == 1, a / 2, !(a < 2) || true); a += 1; a++; a <<= 2; a &^= 1; a--; print(a) }",
+        "package main\nfunc main() { var a int; var b, c = 1, true; var (d bool; e, f int = 2, 3); println(a, b, c, d, e, f) }",
+        "package main\nfunc main() { for i := 0; i < 3; i++ { if i == 1 { continue }; break }; for range 3 { }; for i := range 3 { println(i) } }",
+        "package main\nfunc main() { if a := 1; a == 1 { } else if b := a; b > 2 { panic(b) } }",
+        "package main\nfunc f(a, b bool) (c bool, d int) { c = a && !b; d = 1 << 3; return }; func main() { a, b := f(true, 1 < 2); println(a, b) }",
+        "package main\nfunc f(n int) int { for { if n > 0 { return n }; n++ } }; func g() bool { panic(true) }; func main() { println(f(-1), g()) }",
     ];
     for text in table {
         assert!(rt; is_accepted(rt.alloc(), text.as_bytes()), "{text}");

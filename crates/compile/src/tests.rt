@@ -67,8 +67,8 @@ fn faults_of_each_stage(rt: HostRuntime) -> Result<(), Fail> {
             type_fault(FaultKind::ConstRange, pos(32, 2, 20)),
         ),
         (
-            "x := true",
-            type_fault(FaultKind::OutOfProfile, pos(32, 2, 20)),
+            "x := true + 1",
+            type_fault(FaultKind::Mismatch, pos(32, 2, 20)),
         ),
         (
             "len := 1",

@@ -1,42 +1,46 @@
 -- Expressions side by side: where each gives something, their values are decided.
 use Rattle.std.proofs.Common.{◌≡◌, ℕ, zero, suc, Bool, true, false, cond, List, [], ◌∷◌, ◌⊎◌, inl, inr, Option, Some, None, refl, sym, ap, ◌∙◌, length, take, arith, subst}
-use Rattle.std.specs.Prelude.{⊤, option_and_then, is_some, ◌&&◌, ◌==◌, nat_le}
+use Rattle.std.specs.Prelude.{⊤, option_and_then, is_some, is_none, ◌&&◌, ◌==◌}
 use Rattle.std.specs.Option.{option_map}
 use Rattle.std.proofs.lemmas.Bool.{eqb-true}
 use Rattle.base.specs.declared.pos.Pos.{Pos}
-use Rattle.typed.specs.Syntax.{Ex, Exs}
+use Rattle.typed.specs.Value.{int}
+use Rattle.typed.specs.Syntax.{Ex, Exs, Piece, shown}
 use Rattle.typed.specs.Syntax as typed
 use Rattle.expression_types.specs.declared.fault.Fault.{Fault}
-use Rattle.expression_types.specs.declared.fault.FaultKind.TheVariants.{ConstRange, ResultCount}
-use Rattle.expression_types.specs.Typing.{Operand, untyped, value, Gives, one, called, printed, Seen, Many, single, operand_in, as_int, is_int, ints, are_single, many_in, many, count_of, count, each, taken_of, taken}
-use Rattle.expression_types.specs.Faults.{fault, SingleFails, SinglesFail, ValuesFail, OperandFails, RangeFails, CountFails, TakeFails, AreGiven}
-use Rattle.expression_types.proofs.Decided.{Decided, Tested, further, mapped, after, both_tested, turned}
+use Rattle.expression_types.specs.declared.fault.FaultKind.TheVariants.{ConstRange, Mismatch}
+use Rattle.expression_types.specs.declared.operand.Constant.TheVariants.{Number, Truth}
+use Rattle.expression_types.specs.declared.scope.ValueType.{ValueType}
+use Rattle.expression_types.specs.Least.{IsLeast}
+use Rattle.expression_types.specs.Scope.{type_number}
+use Rattle.expression_types.specs.Typing.{Operand, untyped, value, Gives, one, called, printed, panicked, Seen, Many, allowed, type_of, single, operand_in, as_value, as_piece, is_int, listed, values, pieces, are_single, many_in, many, count_of, count, each, types_agree, values_agree, fits_with, fits, all_values, taken, types_with, value_types, single_types, taken_types, panicked_with}
+use Rattle.expression_types.specs.Faults.{fault, IsFault, single_fault, SinglesFail, ValuesFail, range_fault, RangeFails, TypesFail, results_fault, MismatchFails, CountFails, TakeFails, refused_fault}
+use Rattle.expression_types.proofs.Decided.{Decided, Tested, further, mapped, after, both_tested, same, turned}
+use Rattle.expression_types.proofs.Items.{and_true}
+use Rattle.expression_types.proofs.Places.{agree_tested}
+use Rattle.expression_types.proofs.Options.{and_then_some, map_some, none_some, same_some}
 
 -- one value of what is given
-pub single_decided : (g : Gives) → Decided (single g) (SingleFails (Some g))
+pub single_decided : (g : Gives) → Decided (single g) (IsFault (single_fault (Some g)))
 single_decided (one x) = λ f h. h
-single_decided (called at n k es) = by (n == 1)
-  where
-    by : (b : Bool) → Decided (cond b (Some (value (typed.call k es))) None) (λ f. (b ≡ false) × (f ≡ fault ResultCount at))
-    by true = λ f h. cc h.0
-    by false = (fault ResultCount at, (refl, refl))
-single_decided (printed at ps) = (fault ResultCount at, refl)
+single_decided (called at [] k es) = (_, refl)
+single_decided (called at (t ∷ []) k es) = λ f h. h
+single_decided (called at (t ∷ u ∷ ts) k es) = (_, refl)
+single_decided (printed at line ps) = (_, refl)
+single_decided (panicked at p) = (_, refl)
 
-pub operand_decided : (o : Option Gives) (P : Fault → Type 0) → Decided o P → Decided (operand_in o) (λ f. P f ⊎ SingleFails o f)
+pub operand_decided : (o : Option Gives) (P : Fault → Type 0) → Decided o P → Decided (operand_in o) (λ f. P f ⊎ IsFault (single_fault o) f)
 operand_decided None P d = (d.0, inl d.1)
-operand_decided (Some g) P d = further P (SingleFails (Some g)) (single g) d (single_decided g)
+operand_decided (Some g) P d = further P (IsFault (single_fault (Some g))) (single g) d (single_decided g)
 
-pub as_int_decided : (at : Pos) (x : Operand) → Decided (as_int x) (OperandFails at (Some x))
-as_int_decided at (value x) = λ f h. h
-as_int_decided at (untyped z) = by (is_int z)
+pub as_value_decided : (at : Pos) (x : Operand) → Decided (as_value x) (IsFault (range_fault at (Some x)))
+as_value_decided at (value t x) = λ f h. h
+as_value_decided at (untyped (Truth b)) = λ f h. h
+as_value_decided at (untyped (Number z)) = by (is_int z)
   where
-    by : (b : Bool) → Decided (cond b (Some (typed.constant (Rattle.typed.specs.Value.int z))) None) (λ f. (b ≡ false) × (f ≡ fault ConstRange at))
-    by true = λ f h. cc h.0
-    by false = (fault ConstRange at, (refl, refl))
-
-pub int_decided : (at : Pos) (o : Option Operand) (P : Fault → Type 0) → Decided o P → Decided (option_and_then as_int o) (λ f. P f ⊎ OperandFails at o f)
-int_decided at None P d = (d.0, inl d.1)
-int_decided at (Some x) P d = further P (OperandFails at (Some x)) (as_int x) d (as_int_decided at x)
+    by : (b : Bool) → Decided (cond b (Some (typed.constant (int z))) None) (IsFault (cond b None (Some (fault ConstRange at))))
+    by true = λ f h. h
+    by false = (_, refl)
 
 abbrev pub IsGiven : Option Gives → Type 0
 IsGiven None = ⊥
@@ -48,60 +52,79 @@ AllGiven [] = Unit {0}
 AllGiven (o ∷ os) = IsGiven o.gives × AllGiven os
 
 -- where something is given, no more is asked than that it is one value
-one_decided : (o : Option Gives) → IsGiven o → Decided (operand_in o) (SingleFails o)
+one_decided : (o : Option Gives) → IsGiven o → Decided (operand_in o) (IsFault (single_fault o))
 one_decided None g = absurd g
 one_decided (Some g) t = single_decided g
 
-one_tested : (o : Option Gives) → IsGiven o → Tested (is_some (operand_in o)) (SingleFails o)
+one_tested : (o : Option Gives) → IsGiven o → Tested (is_some (operand_in o)) (IsFault (single_fault o))
 one_tested o g = by (operand_in o) (one_decided o g)
   where
-    by : (x : Option Operand) → Decided x (SingleFails o) → Tested (is_some x) (SingleFails o)
+    by : (x : Option Operand) → Decided x (IsFault (single_fault o)) → Tested (is_some x) (IsFault (single_fault o))
     by None d = d
     by (Some x) d = d
 
-singles_tested : (os : List Seen) → AllGiven os → Tested (are_single os) (SinglesFail os)
+pub singles_tested : (os : List Seen) → AllGiven os → Tested (are_single os) (SinglesFail os)
 singles_tested [] all = λ f h. h
-singles_tested (o ∷ os) all = both_tested (SingleFails o.gives) (SinglesFail os) (is_some (operand_in o.gives)) (are_single os) (one_tested o.gives all.0) (singles_tested os all.1)
+singles_tested (o ∷ os) all = both_tested (IsFault (single_fault o.gives)) (SinglesFail os) (is_some (operand_in o.gives)) (are_single os) (one_tested o.gives all.0) (singles_tested os all.1)
 
--- where each has one value, the ints are decided by the ranges
-ranges_decided : (os : List Seen) → are_single os ≡ true → Decided (ints os) (RangeFails os)
-ranges_decided [] are = λ f h. h
-ranges_decided (o ∷ os) are = by (operand_in o.gives) are (λ rest. ranges_decided os rest)
-  where
-    cons : (y : Option Ex) (P : Fault → Type 0) → Decided y P → Decided (ints os) (RangeFails os) → Decided (option_and_then (λ x. option_map (λ xs. x ∷ xs) (ints os)) y) (λ f. P f ⊎ RangeFails os f)
-    cons y P d rest = after y (λ x. option_map (λ xs. x ∷ xs) (ints os)) P (RangeFails os) d (λ x is. mapped (λ xs. x ∷ xs) (ints os) (RangeFails os) rest)
+-- ---- one value of each, in some form that is decided by the ranges
 
-    by : (x : Option Operand) → (is_some x && are_single os) ≡ true → (are_single os ≡ true → Decided (ints os) (RangeFails os))
-        → Decided (option_and_then (λ x1. option_map (λ xs. x1 ∷ xs) (ints os)) (option_and_then as_int x)) (λ f. OperandFails o.at x f ⊎ RangeFails os f)
-    by None is rest = let bad : false ≡ true = is in cc
-    by (Some x) is rest = cons (as_int x) (OperandFails o.at (Some x)) (as_int_decided o.at x) (rest is)
+module _ {A : Type 0} (k : Operand → Option A) (k_decided : (at : Pos) (x : Operand) → Decided (k x) (IsFault (range_fault at (Some x)))) where
+  abbrev In : Option Gives → Option A
+  In o = option_and_then k (operand_in o)
 
--- where one has not one value there are no ints
-no_ints : (os : List Seen) → are_single os ≡ false → ints os ≡ None
-no_ints [] are = let bad : true ≡ false = are in cc
-no_ints (o ∷ os) are = by (operand_in o.gives) are (λ rest. no_ints os rest)
-  where
-    nothing_behind : (y : Option Ex) → ints os ≡ None → option_and_then (λ x. option_map (λ xs. x ∷ xs) (ints os)) y ≡ None
-    nothing_behind None is = refl
-    nothing_behind (Some x) is = ap (option_map (λ xs. x ∷ xs)) is
+  -- where each has one value, the forms are decided by the ranges
+  pub ranges_decided : (os : List Seen) → are_single os ≡ true → Decided (listed In os) (RangeFails os)
+  ranges_decided [] are = λ f h. h
+  ranges_decided (o ∷ os) are = by (operand_in o.gives) are (λ rest. ranges_decided os rest)
+    where
+      cons : (y : Option A) (P : Fault → Type 0) → Decided y P → Decided (listed In os) (RangeFails os) → Decided (option_and_then (λ x. option_map (λ xs. x ∷ xs) (listed In os)) y) (λ f. P f ⊎ RangeFails os f)
+      cons y P d rest = after y (λ x. option_map (λ xs. x ∷ xs) (listed In os)) P (RangeFails os) d (λ x is. mapped (λ xs. x ∷ xs) (listed In os) (RangeFails os) rest)
 
-    by : (x : Option Operand) → (is_some x && are_single os) ≡ false → (are_single os ≡ false → ints os ≡ None)
-        → option_and_then (λ x1. option_map (λ xs. x1 ∷ xs) (ints os)) (option_and_then as_int x) ≡ None
-    by None is rest = refl
-    by (Some x) is rest = nothing_behind (as_int x) (rest is)
+      by : (x : Option Operand) → (is_some x && are_single os) ≡ true → (are_single os ≡ true → Decided (listed In os) (RangeFails os))
+          → Decided (option_and_then (λ x1. option_map (λ xs. x1 ∷ xs) (listed In os)) (option_and_then k x)) (λ f. IsFault (range_fault o.at x) f ⊎ RangeFails os f)
+      by None is rest = let bad : false ≡ true = is in cc
+      by (Some x) is rest = cons (k x) (IsFault (range_fault o.at (Some x))) (k_decided o.at x) (rest is)
 
-pub ints_decided : (os : List Seen) → AllGiven os → Decided (ints os) (λ f. SinglesFail os f ⊎ RangeFails os f)
-ints_decided os all = by (are_single os) refl (singles_tested os all)
-  where
-    none_by : (o : Option (List Ex)) → o ≡ None → (f : Fault) → SinglesFail os f → Decided o (λ g. SinglesFail os g ⊎ RangeFails os g)
-    none_by None is f h = (f, inl h)
-    none_by (Some x) is f h = cc is
+  -- where one has not one value there are none
+  pub no_list : (os : List Seen) → are_single os ≡ false → listed In os ≡ None
+  no_list [] are = let bad : true ≡ false = are in cc
+  no_list (o ∷ os) are = by (operand_in o.gives) are (λ rest. no_list os rest)
+    where
+      nothing_behind : (y : Option A) → listed In os ≡ None → option_and_then (λ x. option_map (λ xs. x ∷ xs) (listed In os)) y ≡ None
+      nothing_behind None is = refl
+      nothing_behind (Some x) is = ap (option_map (λ xs. x ∷ xs)) is
 
-    by : (b : Bool) → are_single os ≡ b → Tested b (SinglesFail os) → Decided (ints os) (λ f. SinglesFail os f ⊎ RangeFails os f)
-    by true is t = further (SinglesFail os) (RangeFails os) (ints os) t (ranges_decided os is)
-    by false is t = none_by (ints os) (no_ints os is) t.0 t.1
+      by : (x : Option Operand) → (is_some x && are_single os) ≡ false → (are_single os ≡ false → listed In os ≡ None)
+          → option_and_then (λ x1. option_map (λ xs. x1 ∷ xs) (listed In os)) (option_and_then k x) ≡ None
+      by None is rest = refl
+      by (Some x) is rest = nothing_behind (k x) (rest is)
 
--- ---- values for so many places
+  pub list_decided : (os : List Seen) → AllGiven os → Decided (listed In os) (λ f. SinglesFail os f ⊎ RangeFails os f)
+  list_decided os all = by (are_single os) refl (singles_tested os all)
+    where
+      none_by : (o : Option (List A)) → o ≡ None → (f : Fault) → SinglesFail os f → Decided o (λ g. SinglesFail os g ⊎ RangeFails os g)
+      none_by None is f h = (f, inl h)
+      none_by (Some x) is f h = cc is
+
+      by : (b : Bool) → are_single os ≡ b → Tested b (SinglesFail os) → Decided (listed In os) (λ f. SinglesFail os f ⊎ RangeFails os f)
+      by true is t = further (SinglesFail os) (RangeFails os) (listed In os) t (ranges_decided os is)
+      by false is t = none_by (listed In os) (no_list os is) t.0 t.1
+
+  pub list_long : (os : List Seen) (xs : List A) → listed In os ≡ Some xs → length xs ≡ length os
+  list_long [] xs is = ap length (sym (same_some is))
+  list_long (o ∷ os) xs is =
+      let r = and_then_some (λ x. option_map (λ ys. x ∷ ys) (listed In os)) (In o.gives) xs is in
+      let q = map_some (λ ys. r.0 ∷ ys) (listed In os) xs r.2 in
+      ap length (sym q.2) ∙ ap suc (list_long os q.0 q.1)
+
+as_piece_decided : (at : Pos) (x : Operand) → Decided (as_piece x) (IsFault (range_fault at (Some x)))
+as_piece_decided at x = mapped (shown (type_number (type_of x))) (as_value x) (IsFault (range_fault at (Some x))) (as_value_decided at x)
+
+pub pieces_decided : (os : List Seen) → AllGiven os → Decided (pieces os) (λ f. SinglesFail os f ⊎ RangeFails os f)
+pieces_decided os all = list_decided as_piece as_piece_decided os all
+
+-- ---- values at places
 
 take_whole : {A : Type 0} (n : ℕ) (xs : List A) → length xs ≡ n → take n xs ≡ xs
 take_whole zero [] is = refl
@@ -110,22 +133,19 @@ take_whole (suc n) [] is = refl
 take_whole (suc n) (x ∷ xs) is = ap (λ l. x ∷ l) (take_whole n xs (omega (arith, is)))
 
 -- a call with more than one value is no single value
-many_single : (o : Option Gives) (m : Many) → many_in o ≡ Some m → (at : Pos) (f : Fault) → OperandFails at (operand_in o) f → ⊥
-many_single None m is at f h = h
-many_single (Some (one x)) m is at f h = cc is
-many_single (Some (printed place ps)) m is at f h = h
-many_single (Some (called place n k es)) m is at f h = by (nat_le 2 n) refl is (n == 1) refl h
-  where
-    by : (b : Bool) → nat_le 2 n ≡ b → cond b (Some (record { count = n; function = k; arguments = es })) None ≡ Some m → (c : Bool) → (n == 1) ≡ c
-        → OperandFails at (cond c (Some (value (typed.call k es))) None) f → ⊥
-    by false long is1 c one1 h1 = cc is1
-    by true long is1 true one1 h1 = h1
-    by true long is1 false one1 h1 = h1
+many_single : (o : Option Gives) (m : Many) → many_in o ≡ Some m → operand_in o ≡ None
+many_single None m is = refl
+many_single (Some (one x)) m is = cc is
+many_single (Some (printed place line ps)) m is = refl
+many_single (Some (panicked place p)) m is = refl
+many_single (Some (called place [] k es)) m is = refl
+many_single (Some (called place (t ∷ []) k es)) m is = absurd (none_some is)
+many_single (Some (called place (t ∷ u ∷ ts) k es)) m is = refl
 
 many_ranges : (n : ℕ) (os : List Seen) (m : Many) → many os ≡ Some m → (f : Fault) → RangeFails (take n os) f → ⊥
 many_ranges n [] m is f h = cc is
 many_ranges zero (o ∷ []) m is f h = h
-many_ranges (suc n) (o ∷ []) m is f (inl h) = many_single o.gives m is o.at f h
+many_ranges (suc n) (o ∷ []) m is f (inl h) = subst (λ (x : Option Operand). IsFault (range_fault o.at x) f) (many_single o.gives m is) h
 many_ranges (suc n) (o ∷ []) m is f (inr h) = nothing_in n h
   where
     nothing_in : (k : ℕ) → RangeFails (take k []) f → ⊥
@@ -133,43 +153,89 @@ many_ranges (suc n) (o ∷ []) m is f (inr h) = nothing_in n h
     nothing_in (suc k) h1 = h1
 many_ranges n (o ∷ p ∷ os) m is f h = cc is
 
-module _ (own : Fault) (n : ℕ) (os : List Seen) (all : AllGiven os) where
-  abbrev Takes : Option Many → Option ℕ → Fault → Type 0
-  Takes m k f = (ValuesFail m os f ⊎ RangeFails (take n os) f) ⊎ CountFails k n own f
+-- values are of another number, or there are as many
+counted : (m n : ℕ) (own : Fault) → Tested (m == n) (CountFails (Some m) n own)
+counted m n own = by (m == n)
+  where
+    by : (b : Bool) → Tested b (IsFault (cond b None (Some own)))
+    by true = λ f h. h
+    by false = (own, refl)
 
-  of_many : (m : Many) → many os ≡ Some m → (b : Bool) → (m.count == n) ≡ b → Decided (cond b (Some (typed.results m.function m.arguments)) None) (Takes (Some m) (Some m.count))
-  of_many m is true same = λ f h. elim h [
-    | inl k ↦ elim k [ inl v ↦ v | inr r ↦ many_ranges n os m is f r ]
-    | inr k ↦ let bad : true ≡ false = sym same ∙ k.0 in cc
-  ]
-  of_many m is false same = (own, inr (same, refl))
+results_tested : (ps : List (Option ValueType)) (m : Many) → Tested (types_agree ps m.types) (IsFault (results_fault ps m))
+results_tested ps m = by (types_agree ps m.types)
+  where
+    by : (b : Bool) → Tested b (IsFault (cond b None (Some (fault Mismatch m.at))))
+    by true = λ f h. h
+    by false = (_, refl)
+
+-- two tests, the second of which is reported first
+two_tested : (P Q : Fault → Type 0) (a b : Bool) → Tested a P → Tested b Q → Tested (a && b) (λ f. Q f ⊎ P f)
+two_tested P Q false b p q = (p.0, inr p.1)
+two_tested P Q true false p q = (q.0, inl q.1)
+two_tested P Q true true p q = λ f h. elim h [ inl k ↦ q f k | inr k ↦ p f k ]
+
+module _ (own : Fault) (ps : List (Option ValueType)) (os : List Seen) (all : AllGiven os) where
+  abbrev Takes : Option Many → Option ℕ → Fault → Type 0
+  Takes m k f = ((ValuesFail m os f ⊎ RangeFails (take (length ps) os) f) ⊎ MismatchFails ps os m f) ⊎ CountFails k (length ps) own f
+
+  -- a test that says more than a rule that nothing else fails
+  test_then : {A : Type 0} (b : Bool) (o : Option A) (V T : Fault → Type 0) → Tested b T → (b ≡ true → Decided o V) → Decided (allowed b o) (λ f. V f ⊎ T f)
+  test_then false o V T t d = (t.0, inr t.1)
+  test_then true o V T t d = turned T V o (further T V o t (d refl))
+
+  regroup : {A : Type 0} (V M C : Fault → Type 0) (o : Option A) → Decided o (λ f. V f ⊎ (M f ⊎ C f)) → Decided o (λ f. (V f ⊎ M f) ⊎ C f)
+  regroup V M C o d = same (λ f. V f ⊎ (M f ⊎ C f)) (λ f. (V f ⊎ M f) ⊎ C f) o (λ f h. elim h [ inl v ↦ inl (inl v) | inr k ↦ elim k [ inl m ↦ inl (inr m) | inr c ↦ inr c ] ]) back d
+    where
+      back : (f : Fault) → (V f ⊎ M f) ⊎ C f → V f ⊎ (M f ⊎ C f)
+      back f (inl (inl v)) = inl v
+      back f (inl (inr m)) = inr (inl m)
+      back f (inr c) = inr (inr c)
+
+  of_many : (m : Many) → many os ≡ Some m → Decided (allowed (fits_with ps os (Some m)) (all_values os (Some m))) (Takes (Some m) (Some (length m.types)))
+  of_many m is =
+      let V = λ (f : Fault). ValuesFail (Some m) os f ⊎ RangeFails (take (length ps) os) f in
+      let M = IsFault (results_fault ps m) in
+      let C = CountFails (Some (length m.types)) (length ps) own in
+      let n = length m.types == length ps in
+      regroup V M C (allowed (n && types_agree ps m.types) (all_values os (Some m)))
+      (test_then (n && types_agree ps m.types) (all_values os (Some m)) V (λ f. M f ⊎ C f)
+      (two_tested C M n (types_agree ps m.types) (counted (length m.types) (length ps) own) (results_tested ps m))
+      (λ e f h. elim h [ inl v ↦ v | inr r ↦ many_ranges (length ps) os m is f r ]))
+
+  same_long : (b c : Bool) → (b && c) ≡ true → b ≡ true
+  same_long true c is = refl
+  same_long false c is = is
 
   -- each has one value
-  of_singles : are_single os ≡ true → ((f : Fault) → SinglesFail os f → ⊥) → (b : Bool) → (length os == n) ≡ b
-      → Decided (cond b (option_map each (ints os)) None) (Takes None (Some (length os)))
-  of_singles are none true same =
-      let whole : take n os ≡ os = take_whole n os (eqb-true (length os) n same) in
-      turned (CountFails (Some (length os)) n own) (λ f. SinglesFail os f ⊎ RangeFails (take n os) f) (option_map each (ints os))
-      (further (CountFails (Some (length os)) n own) (λ f. SinglesFail os f ⊎ RangeFails (take n os) f) (option_map each (ints os)) (λ f h. let bad : true ≡ false = sym same ∙ h.0 in cc)
-      (further (SinglesFail os) (RangeFails (take n os)) (option_map each (ints os)) none
-      (mapped each (ints os) (RangeFails (take n os)) (subst (λ (l : List Seen). Decided (ints os) (RangeFails l)) (sym whole) (ranges_decided os are)))))
-  of_singles are none false same = (own, inr (same, refl))
+  of_singles : are_single os ≡ true → ((f : Fault) → SinglesFail os f → ⊥) → Decided (allowed (fits_with ps os None) (all_values os None)) (Takes None (Some (length os)))
+  of_singles are none =
+      let V = λ (f : Fault). SinglesFail os f ⊎ RangeFails (take (length ps) os) f in
+      let M = TypesFail ps os in
+      let C = CountFails (Some (length os)) (length ps) own in
+      let n = length os == length ps in
+      regroup V M C (allowed (n && values_agree ps os) (option_map each (values os)))
+      (test_then (n && values_agree ps os) (option_map each (values os)) V (λ f. M f ⊎ C f)
+      (two_tested C M n (values_agree ps os) (counted (length os) (length ps) own) (agree_tested ps os))
+      (λ e.
+      let whole : take (length ps) os ≡ os = take_whole (length ps) os (eqb-true (length os) (length ps) (same_long n (values_agree ps os) e)) in
+      further (SinglesFail os) (RangeFails (take (length ps) os)) (option_map each (values os)) none
+      (mapped each (values os) (RangeFails (take (length ps) os)) (subst (λ (l : List Seen). Decided (values os) (RangeFails l)) (sym whole) (ranges_decided as_value as_value_decided os are)))))
 
-  of_none : (b : Bool) → are_single os ≡ b → Tested b (SinglesFail os) → Decided (cond (length os == n) (option_map each (ints os)) None) (Takes None (cond b (Some (length os)) None))
-  of_none true is t = of_singles is t (length os == n) refl
-  of_none false is t = nothing_by (ints os) (no_ints os is) (length os == n)
+  of_none : (b : Bool) → are_single os ≡ b → Tested b (SinglesFail os) → Decided (allowed (fits_with ps os None) (all_values os None)) (Takes None (cond b (Some (length os)) None))
+  of_none true is t = of_singles is t
+  of_none false is t = nothing_by (values os) (no_list as_value as_value_decided os is) (fits_with ps os None)
     where
-      nothing_by : (o : Option (List Ex)) → o ≡ None → (b : Bool) → Decided (cond b (option_map each o) None) (Takes None None)
-      nothing_by None e true = (t.0, inl (inl t.1))
-      nothing_by None e false = (t.0, inl (inl t.1))
+      nothing_by : (o : Option (List Ex)) → o ≡ None → (b : Bool) → Decided (allowed b (option_map each o)) (Takes None None)
+      nothing_by None e true = (t.0, inl (inl (inl t.1)))
+      nothing_by None e false = (t.0, inl (inl (inl t.1)))
       nothing_by (Some x) e b = cc e
 
-  pub taken_decided : Decided (taken n os) (TakeFails own n os)
+  pub taken_decided : Decided (taken ps os) (TakeFails own ps os)
   taken_decided = by (many os) refl
     where
-      by : (m : Option Many) → many os ≡ m → Decided (taken_of n os m) (Takes m (count_of os m))
+      by : (m : Option Many) → many os ≡ m → Decided (allowed (fits_with ps os m) (all_values os m)) (Takes m (count_of os m))
       by None is = of_none (are_single os) refl (singles_tested os all)
-      by (Some m) is = of_many m is (m.count == n) refl
+      by (Some m) is = of_many m is
 
 -- ---- where one gives nothing
 
@@ -207,10 +273,11 @@ no_many (o ∷ []) is = by o.gives is
     by (Some x) e = cc e
 no_many (o ∷ p ∷ os) is = refl
 
-no_values : (n : ℕ) (os : List Seen) → given_all os ≡ None → taken n os ≡ None
-no_values n os is = ap (taken_of n os) (no_many os is) ∙ by (length os == n) (ints os) (no_ints os (not_single os is))
+no_values : (ps : List (Option ValueType)) (os : List Seen) → given_all os ≡ None → taken ps os ≡ None
+no_values ps os is =
+    ap (λ (m : Option Many). allowed (fits_with ps os m) (all_values os m)) (no_many os is) ∙ by (fits_with ps os None) (values os) (no_list as_value as_value_decided os (not_single os is))
   where
-    by : (b : Bool) (o : Option (List Ex)) → o ≡ None → cond b (option_map each o) None ≡ None
+    by : (b : Bool) (o : Option (List Ex)) → o ≡ None → allowed b (option_map each o) ≡ None
     by true o e = ap (option_map each) e
     by false o e = refl
 
@@ -218,34 +285,142 @@ decided_none : {A : Type 0} (o : Option A) (P : Fault → Type 0) (f : Fault) �
 decided_none None P f is h = (f, h)
 decided_none (Some x) P f is h = cc is
 
+-- ---- the one operand of `panic`
+
+single_not_many : (os : List Seen) → are_single os ≡ true → many os ≡ None
+single_not_many [] are = refl
+single_not_many (o ∷ []) are = by (many_in o.gives) refl
+  where
+    no_one : (x : Option Operand) → x ≡ None → (is_some x && true) ≡ true → ⊥
+    no_one None e is = cc is
+    no_one (Some x) e is = none_some (sym e)
+
+    by : (m : Option Many) → many_in o.gives ≡ m → m ≡ None
+    by None is = refl
+    by (Some m) is = absurd (no_one (operand_in o.gives) (many_single o.gives m is) are)
+single_not_many (o ∷ p ∷ os) are = refl
+
+counted_singles : (os : List Seen) → are_single os ≡ true → count os ≡ Some (length os)
+counted_singles os are = ap (count_of os) (single_not_many os are) ∙ by (are_single os) are
+  where
+    by : (b : Bool) → b ≡ true → cond b (Some (length os)) None ≡ Some (length os)
+    by true is = refl
+    by false is = cc is
+
+pieces_single : (os : List Seen) (xs : List Piece) → pieces os ≡ Some xs → are_single os ≡ true
+pieces_single os xs is = by (are_single os) refl
+  where
+    by : (b : Bool) → are_single os ≡ b → b ≡ true
+    by true e = refl
+    by false e = absurd (none_some (sym (no_list as_piece as_piece_decided os e) ∙ is))
+
+panicked_decided : (at : Pos) (own : Fault) (xs : List Piece) → Decided (panicked_with at xs) (CountFails (Some (length xs)) 1 own)
+panicked_decided at own [] = (own, refl)
+panicked_decided at own (p ∷ []) = λ f h. h
+panicked_decided at own (p ∷ q ∷ ps) = (own, subst (λ (b : Bool). IsFault (cond b None (Some own)) own) (sym (not_one (length ps))) refl)
+  where
+    not_one : (n : ℕ) → (suc (suc n) == 1) ≡ false
+    not_one n = by (suc (suc n) == 1) refl
+      where
+        by : (b : Bool) → (suc (suc n) == 1) ≡ b → b ≡ false
+        by true is = absurd (omega (arith, eqb-true (suc (suc n)) 1 is))
+        by false is = refl
+
 -- what each gives is decided by rules, so the values are
 module _ (os : List Seen) (P : Fault → Type 0) (d : Decided (given_all os) P) where
-  pub take_decided : (own : Fault) (n : ℕ) → Decided (taken n os) (λ f. P f ⊎ TakeFails own n os f)
-  take_decided own n = by (given_all os) refl d
+  pub take_decided : (own : Fault) (ps : List (Option ValueType)) → Decided (taken ps os) (λ f. P f ⊎ TakeFails own ps os f)
+  take_decided own ps = by (given_all os) refl d
     where
-      by : (g : Option (Unit {0})) → given_all os ≡ g → Decided g P → Decided (taken n os) (λ f. P f ⊎ TakeFails own n os f)
-      by None is p = decided_none (taken n os) (λ f. P f ⊎ TakeFails own n os f) p.0 (no_values n os is) (inl p.1)
-      by (Some u) is p = further P (TakeFails own n os) (taken n os) p (taken_decided own n os (given os is))
+      by : (g : Option (Unit {0})) → given_all os ≡ g → Decided g P → Decided (taken ps os) (λ f. P f ⊎ TakeFails own ps os f)
+      by None is p = decided_none (taken ps os) (λ f. P f ⊎ TakeFails own ps os f) p.0 (no_values ps os is) (inl p.1)
+      by (Some u) is p = further P (TakeFails own ps os) (taken ps os) p (taken_decided own ps os (given os is))
 
-  pub print_decided : Decided (ints os) (λ f. P f ⊎ (SinglesFail os f ⊎ RangeFails os f))
+  pub print_decided : Decided (pieces os) (λ f. P f ⊎ (SinglesFail os f ⊎ RangeFails os f))
   print_decided = by (given_all os) refl d
     where
-      by : (g : Option (Unit {0})) → given_all os ≡ g → Decided g P → Decided (ints os) (λ f. P f ⊎ (SinglesFail os f ⊎ RangeFails os f))
-      by None is p = decided_none (ints os) (λ f. P f ⊎ (SinglesFail os f ⊎ RangeFails os f)) p.0 (no_ints os (not_single os is)) (inl p.1)
-      by (Some u) is p = further P (λ f. SinglesFail os f ⊎ RangeFails os f) (ints os) p (ints_decided os (given os is))
+      by : (g : Option (Unit {0})) → given_all os ≡ g → Decided g P → Decided (pieces os) (λ f. P f ⊎ (SinglesFail os f ⊎ RangeFails os f))
+      by None is p = decided_none (pieces os) (λ f. P f ⊎ (SinglesFail os f ⊎ RangeFails os f)) p.0 (no_list as_piece as_piece_decided os (not_single os is)) (inl p.1)
+      by (Some u) is p = further P (λ f. SinglesFail os f ⊎ RangeFails os f) (pieces os) p (pieces_decided os (given os is))
+
+  pub panic_decided : (at : Pos) (own : Fault) → Decided (option_and_then (panicked_with at) (pieces os)) (λ f. P f ⊎ ((SinglesFail os f ⊎ RangeFails os f) ⊎ CountFails (count os) 1 own f))
+  panic_decided at own =
+      let V = λ (f : Fault). SinglesFail os f ⊎ RangeFails os f in
+      let C = CountFails (count os) 1 own in
+      same (λ f. (P f ⊎ V f) ⊎ C f) (λ f. P f ⊎ (V f ⊎ C f)) (option_and_then (panicked_with at) (pieces os)) into back
+      (after (pieces os) (panicked_with at) (λ f. P f ⊎ V f) C print_decided (λ xs is.
+      let long : count os ≡ Some (length xs) = counted_singles os (pieces_single os xs is) ∙ ap Some (sym (list_long as_piece as_piece_decided os xs is)) in
+      subst (λ (n : Option ℕ). Decided (panicked_with at xs) (CountFails n 1 own)) (sym long) (panicked_decided at own xs)))
+    where
+      into : (f : Fault) → (P f ⊎ (SinglesFail os f ⊎ RangeFails os f)) ⊎ CountFails (count os) 1 own f → P f ⊎ ((SinglesFail os f ⊎ RangeFails os f) ⊎ CountFails (count os) 1 own f)
+      into f (inl (inl p)) = inl p
+      into f (inl (inr v)) = inr (inl v)
+      into f (inr c) = inr (inr c)
+
+      back : (f : Fault) → P f ⊎ ((SinglesFail os f ⊎ RangeFails os f) ⊎ CountFails (count os) 1 own f) → (P f ⊎ (SinglesFail os f ⊎ RangeFails os f)) ⊎ CountFails (count os) 1 own f
+      back f (inl p) = inl (inl p)
+      back f (inr (inl v)) = inl (inr v)
+      back f (inr (inr c)) = inr c
 
   -- a call that is refused: there is always a rule that fails
-  pub refused : (own : Fault) → (f : Fault) × (P f ⊎ (ValuesFail (many os) os f ⊎ (AreGiven (count os) × (f ≡ own))))
+  pub refused : (own : Fault) → (f : Fault) × (P f ⊎ (ValuesFail (many os) os f ⊎ IsFault (refused_fault (count os) own) f))
   refused own = by (given_all os) refl d
     where
-      counted : (b : Bool) → Tested b (SinglesFail os) → (f : Fault) × (SinglesFail os f ⊎ (AreGiven (cond b (Some (length os)) None) × (f ≡ own)))
-      counted true t = (own, inr (tt, refl))
-      counted false t = (t.0, inl t.1)
+      counted_by : (b : Bool) → Tested b (SinglesFail os) → (f : Fault) × (SinglesFail os f ⊎ IsFault (refused_fault (cond b (Some (length os)) None) own) f)
+      counted_by true t = (own, inr refl)
+      counted_by false t = (t.0, inl t.1)
 
-      valued : (m : Option Many) → AllGiven os → (f : Fault) × (ValuesFail m os f ⊎ (AreGiven (count_of os m) × (f ≡ own)))
-      valued None all = counted (are_single os) (singles_tested os all)
-      valued (Some m) all = (own, inr (tt, refl))
+      valued : (m : Option Many) → AllGiven os → (f : Fault) × (ValuesFail m os f ⊎ IsFault (refused_fault (count_of os m) own) f)
+      valued None all = counted_by (are_single os) (singles_tested os all)
+      valued (Some m) all = (own, inr refl)
 
-      by : (g : Option (Unit {0})) → given_all os ≡ g → Decided g P → (f : Fault) × (P f ⊎ (ValuesFail (many os) os f ⊎ (AreGiven (count os) × (f ≡ own))))
+      by : (g : Option (Unit {0})) → given_all os ≡ g → Decided g P → (f : Fault) × (P f ⊎ (ValuesFail (many os) os f ⊎ IsFault (refused_fault (count os) own) f))
       by None is p = (p.0, inl p.1)
       by (Some u) is p = let v = valued (many os) (given os is) in (v.0, inr v.1)
+
+-- ---- the types of values at places
+
+many_no_range : (os : List Seen) (m : Many) → many os ≡ Some m → (f : Fault) → RangeFails os f → ⊥
+many_no_range [] m is f h = cc is
+many_no_range (o ∷ []) m is f (inl h) = subst (λ (x : Option Operand). IsFault (range_fault o.at x) f) (many_single o.gives m is) h
+many_no_range (o ∷ []) m is f (inr h) = h
+many_no_range (o ∷ p ∷ os) m is f h = cc is
+
+no_types : (os : List Seen) → are_single os ≡ false → single_types os ≡ None
+no_types [] are = let bad : true ≡ false = are in cc
+no_types (o ∷ os) are = by (operand_in o.gives) are (λ rest. no_types os rest)
+  where
+    by : (x : Option Operand) → (is_some x && are_single os) ≡ false → (are_single os ≡ false → single_types os ≡ None) → option_and_then (λ t. option_map (λ ts. t ∷ ts) (single_types os)) (option_map type_of x) ≡ None
+    by None is rest = refl
+    by (Some x) is rest = ap (option_map (λ ts. type_of x ∷ ts)) (rest is)
+
+and_false : (b : Bool) → (b && false) ≡ false
+and_false true = refl
+and_false false = refl
+
+-- there are values at the places where they fit and no number is out of range
+pub types_taken : (ps : List (Option ValueType)) (os : List Seen) (r : Option Fault) → IsLeast (RangeFails os) r → cond (is_none r && fits ps os) (value_types os) None ≡ taken_types ps os
+types_taken ps os r least = by (many os) refl (fits ps os)
+  where
+    of_decided : (v : Option (List Ex)) (q : Option Fault) (t : Option (List ValueType)) → Decided v (RangeFails os) → IsLeast (RangeFails os) q → cond (is_none q) t None ≡ option_and_then (λ es. t) (option_map each v)
+    of_decided (Some xs) None t d l = refl
+    of_decided (Some xs) (Some f) t d l = absurd (d f l.0)
+    of_decided None None t d l = absurd (l d.0 d.1)
+    of_decided None (Some f) t d l = refl
+
+    of_nothing : (b : Bool) (v : Option (List Ex)) (t : Option (List ValueType)) → v ≡ None → t ≡ None → cond b t None ≡ option_and_then (λ es. t) (option_map each v)
+    of_nothing true None t e is = is
+    of_nothing false None t e is = refl
+    of_nothing b (Some xs) t e is = cc e
+
+    of_singles : (b : Bool) → are_single os ≡ b → cond (is_none r) (single_types os) None ≡ option_and_then (λ es. single_types os) (option_map each (values os))
+    of_singles true are = of_decided (values os) r (single_types os) (ranges_decided as_value as_value_decided os are) least
+    of_singles false are = of_nothing (is_none r) (values os) (single_types os) (no_list as_value as_value_decided os are) (no_types os are)
+
+    of_many : (m : Many) → many os ≡ Some m → (q : Option Fault) → IsLeast (RangeFails os) q → cond (is_none q) (Some m.types) None ≡ Some m.types
+    of_many m is None l = refl
+    of_many m is (Some f) l = absurd (many_no_range os m is f l.0)
+
+    by : (m : Option Many) → many os ≡ m → (b : Bool) → cond (is_none r && b) (types_with os m) None ≡ option_and_then (λ es. types_with os m) (allowed b (all_values os m))
+    by m is false = ap (λ c. cond c (types_with os m) None) (and_false (is_none r))
+    by None is true = ap (λ c. cond c (single_types os) None) (and_true (is_none r)) ∙ of_singles (are_single os) refl
+    by (Some m) is true = ap (λ c. cond c (Some m.types) None) (and_true (is_none r)) ∙ of_many m is r least

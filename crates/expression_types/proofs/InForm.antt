@@ -1,55 +1,185 @@
--- What expressions give is in form: what they read is in scope, constants are words, and calls have the arguments that they need.
-use Rattle.std.proofs.Common.{◌≡◌, ℕ, suc, ◌^◌, ℤ, pos, Bool, true, false, cond, List, [], ◌∷◌, map, Option, Some, None, Result, Ok, Err, refl, sym, ap, ◌∙◌, subst, arith, length}
-use Rattle.std.specs.Prelude.{option_and_then, nat_lt, nat_le, slice_get, ◌==◌}
+-- What expressions give is in form: what they read is in scope and has its type, constants are words, and operators and calls have operands
+-- of the types that they take.
+use Rattle.std.proofs.Common.{◌≡◌, ℕ, ◌^◌, ℤ, pos, Bool, true, false, cond, List, [], ◌∷◌, Option, Some, None, Result, Ok, Err, refl, sym, ap, ◌∙◌, subst, arith, length}
+use Rattle.std.specs.Prelude.{option_and_then, nat_lt, nat_le, slice_get, ◌==◌, ◌&&◌}
 use Rattle.std.specs.Option.{option_map}
 use Rattle.std.proofs.lemmas.Int.{ints as int_lemmas}
 use Rattle.std.proofs.lemmas.Bool.{eqb-true}
 use Rattle.base.specs.declared.pos.Pos.{Pos}
 use Rattle.base.specs.declared.ids.SiteId.{SiteId}
 use Rattle.syntax.specs.declared.operator.ArithmeticOp.{ArithmeticOp}
-use Rattle.syntax.specs.declared.operator.ArithmeticOp.TheVariants.{Add, Sub, Mul}
+use Rattle.syntax.specs.declared.operator.ArithmeticOp.TheVariants.{Add, Sub, Mul, Div, Rem, And, Or, Xor, AndNot, ShiftLeft, ShiftRight}
 use Rattle.syntax.specs.declared.operator.BinOp.{BinOp}
-use Rattle.syntax.specs.declared.operator.BinOp.TheVariants.{Arithmetic}
+use Rattle.syntax.specs.declared.operator.BinOp.TheVariants.{Arithmetic, Compare, Both, Either}
 use Rattle.syntax.specs.declared.operator.CompareOp.{CompareOp}
 use Rattle.syntax.specs.declared.operator.CompareOp.TheVariants.{Equal, NotEqual, Less, LessEqual, Greater, GreaterEqual}
 use Rattle.syntax.specs.declared.operator.UnOp.{UnOp}
+use Rattle.syntax.specs.declared.operator.UnOp.TheVariants.{Plus, Negate, Complement, Not, Star, Address}
 use Rattle.syntax.specs.declared.expression.Name.{Name}
 use Rattle.syntax.specs.FirstBytes.{first_place}
 use Rattle.syntax.specs.Expressions.{Ex as TreeEx, Exs as TreeExs, number, string, name, unary, binary, paren, call, selector, index, slice, array_type, slice_type, literal, elements, some, spelled}
 use Rattle.syntax.specs.Expressions as tree
-use Rattle.typed.specs.declared.operators.BinOp.{BinOp as TypedOp}
 use Rattle.typed.specs.declared.operators.UnOp.{UnOp as TypedPrefix}
+use Rattle.typed.specs.declared.program.Site.{Site}
 use Rattle.typed.specs.Value.{int}
-use Rattle.typed.specs.Syntax.{Ex, Exs, Piece, Func, shown, constant, more, none, argument_words, result_words, results_in, results_of}
+use Rattle.typed.specs.Syntax.{Ex, Exs, Piece, Func, Program, shown, constant, more, none, bool_type}
 use Rattle.typed.specs.Syntax as typed
-use Rattle.typed.specs.Form.{InScope, IsWord, IsArithmetic, IsComparison, values_of, ExFits, ExsFit, TestFits, PiecesFit}
+use Rattle.typed.specs.Form.{InScope, IsWord, TakesOne, site_type, ExFits, ExsFit, PieceFits, PiecesFit}
 use Rattle.names.specs.declared.constants.Const.{Const}
-use Rattle.names.specs.declared.constants.Const.TheVariants.{Int}
+use Rattle.names.specs.declared.constants.Const.TheVariants as const
 use Rattle.names.specs.declared.constants.ConstFault.{ConstFault}
+use Rattle.expression_types.specs.declared.operand.Constant.TheVariants.{Number, Truth}
+use Rattle.expression_types.specs.declared.profile.Word.{Word}
+use Rattle.expression_types.specs.declared.profile.Word.TheVariants as word
+use Rattle.expression_types.specs.declared.scope.ValueType.{ValueType}
+use Rattle.expression_types.specs.declared.scope.ValueType.TheVariants.{Int, Bool as Boolean}
 use Rattle.expression_types.specs.declared.scope.Declared.{Declared}
 use Rattle.expression_types.specs.declared.scope.Declared.TheVariants.{Variable, Untyped, Function, TypeName}
-use Rattle.expression_types.specs.Profile.{is_println, is_reserved}
-use Rattle.expression_types.specs.Scope.{Scope, Signature, declaration, signature}
-use Rattle.expression_types.specs.Typing.{Operand, untyped, value, Gives, one, called, printed, takes_constants, takes_constant, op_of, prefix_of, compare_of, is_int, as_int, constant_of, name_operand, prefixed, prefix_gives, both, combined, both_ints, pair_gives, compared_ints, compared_operands, single, operand_in, int_in, Seen, ints, Many, many_in, many, each, taken_of, taken, Callee, printer, function, no_function, no_spread, nothing, function_with, callee_declared, callee_value, spread_over, called_with, name_in, Comparison, comparison_in, callee, gives, seen, compared_in, condition, test}
+use Rattle.expression_types.specs.Profile.{word_of}
+use Rattle.expression_types.specs.Scope.{Scope, Signature, type_number, type_numbers, declaration, signature}
+use Rattle.expression_types.specs.Typing.{Operand, untyped, value, Gives, one, called, printed, panicked, allowed, same_type, type_of, is_int, as_value, constant_of, name_operand, has_rules, takes_one, prefix_of, prefixed, prefix_gives, takes, result_type, right_allowed, arithmetic_of, compare_of, typed_pair, both, both_values, value_pair, combined, pair_gives, single, operand_in, value_in, as_piece, piece_in, Seen, values, pieces, type_in_one, single_types, Many, many_in, many, types_with, value_types, accepts, types_agree, operand_agrees, values_agree, each, fits_with, all_values, taken, asked, Callee, printer, panicker, function, no_function, no_spread, nothing, function_with, callee_declared, callee_named, callee_value, spread_over, panicked_with, called_with, name_in, as_condition, callee, gives, seen, condition, test}
 use Rattle.expression_types.proofs.Options.{and_then_some, map_some, none_some, same_some}
 
 is_word : (z : ℤ) → is_int z ≡ true → IsWord (int z)
 is_word z h = grind (arith, int_lemmas)
 
--- the functions of a program have the parameters and results that their signatures say
-abbrev pub Agrees : List (Option Signature) → List Func → Type 0
-Agrees sigs fs = (f : ℕ) (sig : Signature) → option_and_then (λ o. o) (slice_get sigs f) ≡ Some sig
-    → (func : Func) × (slice_get fs f ≡ Some func) × (argument_words func ≡ length sig.params) × (result_words func ≡ length sig.results)
+-- what a program has at the sites and functions of a scope: sites of these types, and functions with these signatures
+pub record Agrees (s : Scope) (p : Program) : Type 0 where
+  pub sites : (k : ℕ) (site : Site) → slice_get s.sites k ≡ Some site → site_type p k ≡ site.type_id.0
+  pub functions : (f : ℕ) (sig : Signature) → signature s f ≡ Some sig
+      → (func : Func) × (slice_get p.funcs f ≡ Some func) × (func.param_types ≡ type_numbers sig.params) × (func.results ≡ type_numbers sig.results)
 
-module _ (fs : List Func) (scope : List ℕ) where
-  abbrev OperandFits : Operand → Type 0
-  OperandFits (untyped z) = Unit {0}
-  OperandFits (value x) = ExFits fs scope x
+-- a variable of a scope has a site of its type
+abbrev pub HasSite : Scope → ℕ → ValueType → Type 0
+HasSite s k t = (site : Site) × (slice_get s.sites k ≡ Some site) × (site.type_id.0 ≡ type_number t)
+
+-- the variables that names stand for are in scope
+abbrev pub AreShown : Scope → List ℕ → Type 0
+AreShown s scope = (n : List ℕ) (site : SiteId) (t : ValueType) → declaration s n ≡ Some (Variable site t) → InScope site.0 scope × HasSite s site.0 t
+
+-- values of these types are taken at these places
+abbrev pub AreAccepted : List (Option ValueType) → List ValueType → Type 0
+AreAccepted [] [] = Unit {0}
+AreAccepted (None ∷ ps) (t ∷ ts) = AreAccepted ps ts
+AreAccepted (Some s ∷ ps) (t ∷ ts) = (s ≡ t) × AreAccepted ps ts
+AreAccepted ps ts = ⊥
+
+both_true : (a b : Bool) → (a && b) ≡ true → (a ≡ true) × (b ≡ true)
+both_true true b is = (refl, is)
+both_true false b is = cc is
+
+allowed_some : {A : Type 0} (b : Bool) (o : Option A) (x : A) → allowed b o ≡ Some x → (b ≡ true) × (o ≡ Some x)
+allowed_some true o x is = (refl, is)
+allowed_some false o x is = absurd (none_some is)
+
+pub same_type_same : (s t : ValueType) → same_type s t ≡ true → s ≡ t
+same_type_same Int Int is = refl
+same_type_same Boolean Boolean is = refl
+same_type_same Int Boolean is = cc is
+same_type_same Boolean Int is = cc is
+
+accepted_all : (ps : List (Option ValueType)) (ts : List ValueType) → length ts ≡ length ps → types_agree ps ts ≡ true → AreAccepted ps ts
+accepted_all [] [] long is = tt
+accepted_all [] (t ∷ ts) long is = absurd (omega (arith, long))
+accepted_all (p ∷ ps) [] long is = absurd (omega (arith, long))
+accepted_all (None ∷ ps) (t ∷ ts) long is = accepted_all ps ts (omega (arith, long)) is
+accepted_all (Some s ∷ ps) (t ∷ ts) long is =
+    let k = both_true (same_type s t) (types_agree ps ts) is in (same_type_same s t k.0, accepted_all ps ts (omega (arith, long)) k.1)
+
+-- ---- the types of operators
+
+takes_fits : (op : BinOp) (s t : ValueType) → takes op s t ≡ true → (at : Pos) (x y : Ex) (p : Program) (scope : List ℕ)
+    → ExFits p scope (type_number s) x → ExFits p scope (type_number t) y → ExFits p scope (type_number (result_type op)) (typed_pair at op x y)
+takes_fits (Arithmetic op) Int Int is at x y p scope f g = by op
+  where
+    by : (k : ArithmeticOp) → ExFits p scope 0 (typed.binary at (arithmetic_of k) x y)
+    by Add = (0, (refl, refl), f, g)
+    by Sub = (0, (refl, refl), f, g)
+    by Mul = (0, (refl, refl), f, g)
+    by Div = (0, (refl, refl), f, g)
+    by Rem = (0, (refl, refl), f, g)
+    by And = (0, (refl, refl), f, g)
+    by Or = (0, (refl, refl), f, g)
+    by Xor = (0, (refl, refl), f, g)
+    by AndNot = (0, (refl, refl), f, g)
+    by ShiftLeft = (0, (refl, refl), f, g)
+    by ShiftRight = (0, (refl, refl), f, g)
+takes_fits (Arithmetic op) Int Boolean is at x y p scope f g = cc is
+takes_fits (Arithmetic op) Boolean Int is at x y p scope f g = cc is
+takes_fits (Arithmetic op) Boolean Boolean is at x y p scope f g = cc is
+takes_fits (Compare op) Int Int is at x y p scope f g = by op
+  where
+    by : (k : CompareOp) → ExFits p scope 1 (typed.binary at (compare_of k) x y)
+    by Equal = (0, refl, f, g)
+    by NotEqual = (0, refl, f, g)
+    by Less = (0, (refl, refl), f, g)
+    by LessEqual = (0, (refl, refl), f, g)
+    by Greater = (0, (refl, refl), f, g)
+    by GreaterEqual = (0, (refl, refl), f, g)
+takes_fits (Compare op) Boolean Boolean is at x y p scope f g = by op is
+  where
+    by : (k : CompareOp) → takes (Compare k) Boolean Boolean ≡ true → ExFits p scope 1 (typed.binary at (compare_of k) x y)
+    by Equal h = (1, refl, f, g)
+    by NotEqual h = (1, refl, f, g)
+    by Less h = cc h
+    by LessEqual h = cc h
+    by Greater h = cc h
+    by GreaterEqual h = cc h
+takes_fits (Compare op) Int Boolean is at x y p scope f g = by op is
+  where
+    by : (k : CompareOp) → takes (Compare k) Int Boolean ≡ true → ExFits p scope 1 (typed.binary at (compare_of k) x y)
+    by Equal h = cc h
+    by NotEqual h = cc h
+    by Less h = cc h
+    by LessEqual h = cc h
+    by Greater h = cc h
+    by GreaterEqual h = cc h
+takes_fits (Compare op) Boolean Int is at x y p scope f g = by op is
+  where
+    by : (k : CompareOp) → takes (Compare k) Boolean Int ≡ true → ExFits p scope 1 (typed.binary at (compare_of k) x y)
+    by Equal h = cc h
+    by NotEqual h = cc h
+    by Less h = cc h
+    by LessEqual h = cc h
+    by Greater h = cc h
+    by GreaterEqual h = cc h
+takes_fits Both Boolean Boolean is at x y p scope f g = (refl, f, g)
+takes_fits Both Int Int is at x y p scope f g = cc is
+takes_fits Both Int Boolean is at x y p scope f g = cc is
+takes_fits Both Boolean Int is at x y p scope f g = cc is
+takes_fits Either Boolean Boolean is at x y p scope f g = (refl, f, g)
+takes_fits Either Int Int is at x y p scope f g = cc is
+takes_fits Either Int Boolean is at x y p scope f g = cc is
+takes_fits Either Boolean Int is at x y p scope f g = cc is
+
+takes_prefix : (op : UnOp) (t : ValueType) (g : TypedPrefix) → takes_one op t ≡ true → prefix_of op ≡ Some g → TakesOne g (type_number t)
+takes_prefix Plus Int g is found = subst (λ (k : TypedPrefix). TakesOne k 0) (same_some found) refl
+takes_prefix Negate Int g is found = subst (λ (k : TypedPrefix). TakesOne k 0) (same_some found) refl
+takes_prefix Complement Int g is found = subst (λ (k : TypedPrefix). TakesOne k 0) (same_some found) refl
+takes_prefix Not Boolean g is found = subst (λ (k : TypedPrefix). TakesOne k 1) (same_some found) refl
+takes_prefix Plus Boolean g is found = cc is
+takes_prefix Negate Boolean g is found = cc is
+takes_prefix Complement Boolean g is found = cc is
+takes_prefix Not Int g is found = cc is
+takes_prefix Star Int g is found = cc is
+takes_prefix Star Boolean g is found = cc is
+takes_prefix Address Int g is found = cc is
+takes_prefix Address Boolean g is found = cc is
+
+module _ (p : Program) (scope : List ℕ) where
+  abbrev pub OperandFits : Operand → Type 0
+  OperandFits (untyped c) = Unit {0}
+  OperandFits (value t x) = ExFits p scope (type_number t) x
+
+  -- a call of a function with these results
+  abbrev pub CallFits : List ValueType → ℕ → Exs → Type 0
+  CallFits ts f es = (func : Func) × (slice_get p.funcs f ≡ Some func) × (func.results ≡ type_numbers ts) × ExsFit p scope func.param_types es
 
   abbrev pub GivesFit : Gives → Type 0
   GivesFit (one x) = OperandFits x
-  GivesFit (called at n f es) = (func : Func) × (slice_get fs f ≡ Some func) × (result_words func ≡ n) × (values_of fs es ≡ argument_words func) × ExsFit fs scope es
-  GivesFit (printed at ps) = PiecesFit fs scope ps
+  GivesFit (called at ts f es) = CallFits ts f es
+  GivesFit (printed at line ps) = PiecesFit p scope ps
+  GivesFit (panicked at q) = PieceFits p scope q
 
   abbrev MaybeFits : Option Gives → Type 0
   MaybeFits None = Unit {0}
@@ -59,11 +189,7 @@ module _ (fs : List Func) (scope : List ℕ) where
   AllFit [] = Unit {0}
   AllFit (o ∷ os) = MaybeFits o.gives × AllFit os
 
-  abbrev EachFits : List Ex → Type 0
-  EachFits [] = Unit {0}
-  EachFits (x ∷ xs) = ExFits fs scope x × EachFits xs
-
-  maybe_fits : (o : Option Gives) → ((g : Gives) → o ≡ Some g → GivesFit g) → MaybeFits o
+  pub maybe_fits : (o : Option Gives) → ((g : Gives) → o ≡ Some g → GivesFit g) → MaybeFits o
   maybe_fits None f = tt
   maybe_fits (Some g) f = f g refl
 
@@ -71,231 +197,279 @@ module _ (fs : List Func) (scope : List ℕ) where
   some_fits x y fits is = subst OperandFits (same_some is) fits
 
   constant_fits : (r : Result Const ConstFault) (x : Operand) → constant_of r ≡ Some x → OperandFits x
-  constant_fits (Ok (Int z)) x is = some_fits (untyped z) x tt is
-  constant_fits (Ok other) x is = absurd (none_some is)
+  constant_fits (Ok (const.Int z)) x is = some_fits (untyped (Number z)) x tt is
+  constant_fits (Ok (const.Bool b)) x is = some_fits (untyped (Truth b)) x tt is
+  constant_fits (Ok const.NoConst) x is = absurd (none_some is)
   constant_fits (Err e) x is = absurd (none_some is)
 
-  as_int_fits : (x : Operand) (e : Ex) → OperandFits x → as_int x ≡ Some e → ExFits fs scope e
-  as_int_fits (value x) e fits is = subst (ExFits fs scope) (same_some is) fits
-  as_int_fits (untyped z) e fits is = by (is_int z) refl is
+  -- an operand as a value of its type
+  pub value_fits : (x : Operand) (e : Ex) → OperandFits x → as_value x ≡ Some e → ExFits p scope (type_number (type_of x)) e
+  value_fits (value t x) e fits is = subst (ExFits p scope (type_number t)) (same_some is) fits
+  value_fits (untyped (Truth b)) e fits is = subst (ExFits p scope 1) (same_some is) (refl, tt)
+  value_fits (untyped (Number z)) e fits is = by (is_int z) refl is
     where
-      by : (b : Bool) → is_int z ≡ b → cond b (Some (constant (int z))) None ≡ Some e → ExFits fs scope e
-      by true h is1 = subst (ExFits fs scope) (same_some is1) (is_word z h)
+      by : (b : Bool) → is_int z ≡ b → cond b (Some (constant (int z))) None ≡ Some e → ExFits p scope 0 e
+      by true h is1 = subst (ExFits p scope 0) (same_some is1) (refl, is_word z h)
       by false h is1 = absurd (none_some is1)
 
   single_fits : (g : Gives) (x : Operand) → GivesFit g → single g ≡ Some x → OperandFits x
   single_fits (one y) x fits is = some_fits y x fits is
-  single_fits (called at n f es) x fits is = by (n == 1) refl is
-    where
-      by : (b : Bool) → (n == 1) ≡ b → cond b (Some (value (typed.call f es))) None ≡ Some x → OperandFits x
-      by true h is1 = some_fits (value (typed.call f es)) x (fits.0, fits.1, fits.2 ∙ eqb-true n 1 h, fits.3, fits.4) is1
-      by false h is1 = absurd (none_some is1)
-  single_fits (printed at ps) x fits is = absurd (none_some is)
+  single_fits (called at [] f es) x fits is = absurd (none_some is)
+  single_fits (called at (t ∷ []) f es) x fits is = some_fits (value t (typed.call f es)) x fits is
+  single_fits (called at (t ∷ u ∷ ts) f es) x fits is = absurd (none_some is)
+  single_fits (printed at line ps) x fits is = absurd (none_some is)
+  single_fits (panicked at q) x fits is = absurd (none_some is)
 
-  operand_fits : (o : Option Gives) (x : Operand) → MaybeFits o → operand_in o ≡ Some x → OperandFits x
+  pub operand_fits : (o : Option Gives) (x : Operand) → MaybeFits o → operand_in o ≡ Some x → OperandFits x
   operand_fits None x fits is = absurd (none_some is)
   operand_fits (Some g) x fits is = single_fits g x fits is
 
-  ints_fit : (os : List Seen) (xs : List Ex) → AllFit os → ints os ≡ Some xs → EachFits xs × (length xs ≡ length os)
-  ints_fit [] xs all is = let same : [] ≡ xs = same_some is in subst (λ l. EachFits l × (length l ≡ 0)) same (tt, refl)
-  ints_fit (o ∷ os) xs all is =
-      let r = and_then_some (λ x. option_map (λ ys. x ∷ ys) (ints os)) (int_in o.gives) xs is in
-      let q = map_some (λ ys. r.0 ∷ ys) (ints os) xs r.2 in
-      let p = and_then_some as_int (operand_in o.gives) r.0 r.1 in
-      let rest = ints_fit os q.0 all.1 q.1 in
-      subst (λ l. EachFits l × (length l ≡ suc (length os))) q.2 ((as_int_fits p.0 r.0 (operand_fits o.gives p.0 all.0 p.1) p.2, rest.0), ap suc rest.1)
+  -- ---- values at places
 
-  each_fits : (xs : List Ex) → EachFits xs → ExsFit fs scope (each xs) × (values_of fs (each xs) ≡ length xs)
-  each_fits [] all = (tt, refl)
-  each_fits (x ∷ xs) all = let rest = each_fits xs all.1 in ((all.0, rest.0), omega (arith, rest.1))
+  -- the values that there are, with their types
+  record Valued (ps : List (Option ValueType)) (os : List Seen) (xs : List Ex) : Type 0 where
+    types : List ValueType
+    found : single_types os ≡ Some types
+    accepted : AreAccepted ps types
+    fit : ExsFit p scope (type_numbers types) (each xs)
 
-  pieces_fit : (xs : List Ex) → EachFits xs → PiecesFit fs scope (map shown xs)
-  pieces_fit [] all = tt
-  pieces_fit (x ∷ xs) all = (all.0, pieces_fit xs all.1)
+  accepted_one : (q : Option ValueType) (t : ValueType) (ps : List (Option ValueType)) (ts : List ValueType) → accepts q t ≡ true → AreAccepted ps ts → AreAccepted (q ∷ ps) (t ∷ ts)
+  accepted_one None t ps ts is all = all
+  accepted_one (Some s) t ps ts is all = (same_type_same s t is, all)
 
-  -- values at so many places
-  abbrev pub TakenFit : ℕ → Exs → Type 0
-  TakenFit n es = (values_of fs es ≡ n) × ExsFit fs scope es
+  agrees_some : (q : Option ValueType) (o : Option Operand) (x : Operand) → o ≡ Some x → operand_agrees q o ≡ true → accepts q (type_of x) ≡ true
+  agrees_some q None x found is = absurd (none_some found)
+  agrees_some q (Some y) x found is = ap (λ (z : Operand). accepts q (type_of z)) (sym (same_some found)) ∙ is
 
-  many_fits : (o : Option Gives) (m : Many) → MaybeFits o → many_in o ≡ Some m → TakenFit m.count (typed.results m.function m.arguments)
+  values_fit : (ps : List (Option ValueType)) (os : List Seen) (xs : List Ex) → AllFit os → length os ≡ length ps → values_agree ps os ≡ true → values os ≡ Some xs → Valued ps os xs
+  values_fit [] [] xs all long agree is = subst (λ (l : List Ex). Valued [] [] l) (same_some is) (record { types = []; found = refl; accepted = tt; fit = tt })
+  values_fit (q ∷ ps) [] xs all long agree is = absurd (omega (arith, long))
+  values_fit [] (o ∷ os) xs all long agree is = absurd (omega (arith, long))
+  values_fit (q ∷ ps) (o ∷ os) xs all long agree is =
+      let r = and_then_some (λ x. option_map (λ ys. x ∷ ys) (values os)) (value_in o.gives) xs is in
+      let k = map_some (λ ys. r.0 ∷ ys) (values os) xs r.2 in
+      let m = and_then_some as_value (operand_in o.gives) r.0 r.1 in
+      let both1 = both_true (operand_agrees q (operand_in o.gives)) (values_agree ps os) agree in
+      let rest = values_fit ps os k.0 all.1 (omega (arith, long)) both1.1 k.1 in
+      let t = type_of m.0 in
+      let first1 : type_in_one o.gives ≡ Some t = ap (option_map type_of) m.1 in
+      subst (λ (l : List Ex). Valued (q ∷ ps) (o ∷ os) l) k.2 (record {
+        types = t ∷ rest.types;
+        found = ap (λ (y : Option ValueType). option_and_then (λ x. option_map (λ ts. x ∷ ts) (single_types os)) y) first1 ∙ ap (option_map (λ ts. t ∷ ts)) rest.found;
+        accepted = accepted_one q t ps rest.types (agrees_some q (operand_in o.gives) m.0 m.1 both1.0) rest.accepted;
+        fit = (value_fits m.0 r.0 (operand_fits o.gives m.0 all.0 m.1) m.2, rest.fit);
+      })
+
+  pieces_fit : (os : List Seen) (qs : List Piece) → AllFit os → pieces os ≡ Some qs → PiecesFit p scope qs
+  pieces_fit [] qs all is = subst (PiecesFit p scope) (same_some is) tt
+  pieces_fit (o ∷ os) qs all is =
+      let r = and_then_some (λ x. option_map (λ ys. x ∷ ys) (pieces os)) (piece_in o.gives) qs is in
+      let k = map_some (λ ys. r.0 ∷ ys) (pieces os) qs r.2 in
+      let m = and_then_some as_piece (operand_in o.gives) r.0 r.1 in
+      let v = map_some (shown (type_number (type_of m.0))) (as_value m.0) r.0 m.2 in
+      subst (PiecesFit p scope) k.2 (subst (PieceFits p scope) v.2 (value_fits m.0 v.0 (operand_fits o.gives m.0 all.0 m.1) v.1), pieces_fit os k.0 all.1 k.1)
+
+  -- values at these places: of types that these take
+  pub record TakenFit (ps : List (Option ValueType)) (os : List Seen) (es : Exs) : Type 0 where
+    pub types : List ValueType
+    pub found : value_types os ≡ Some types
+    pub accepted : AreAccepted ps types
+    pub fit : ExsFit p scope (type_numbers types) es
+
+  many_fits : (o : Option Gives) (m : Many) → MaybeFits o → many_in o ≡ Some m → CallFits m.types m.function m.arguments
   many_fits None m fits is = absurd (none_some is)
   many_fits (Some (one x)) m fits is = absurd (none_some is)
-  many_fits (Some (printed at ps)) m fits is = absurd (none_some is)
-  many_fits (Some (called at n f es)) m fits is = by (nat_le 2 n) is
+  many_fits (Some (printed at line ps)) m fits is = absurd (none_some is)
+  many_fits (Some (panicked at q)) m fits is = absurd (none_some is)
+  many_fits (Some (called at ts f es)) m fits is = by (nat_le 2 (length ts)) is
     where
-      by : (b : Bool) → cond b (Some (record { count = n; function = f; arguments = es })) None ≡ Some m → TakenFit m.count (typed.results m.function m.arguments)
-      by true is1 = subst (λ (k : Many). TakenFit k.count (typed.results k.function k.arguments)) (same_some is1) (ap results_in fits.1 ∙ fits.2, (fits.0, fits.1, fits.3, fits.4))
+      by : (b : Bool) → cond b (Some (record { at = at; types = ts; function = f; arguments = es })) None ≡ Some m → CallFits m.types m.function m.arguments
+      by true is1 = subst (λ (k : Many). CallFits k.types k.function k.arguments) (same_some is1) fits
       by false is1 = absurd (none_some is1)
 
-  many_all : (os : List Seen) (m : Many) → AllFit os → many os ≡ Some m → TakenFit m.count (typed.results m.function m.arguments)
+  many_all : (os : List Seen) (m : Many) → AllFit os → many os ≡ Some m → CallFits m.types m.function m.arguments
   many_all [] m all is = absurd (none_some is)
   many_all (o ∷ []) m all is = many_fits o.gives m all.0 is
-  many_all (o ∷ p ∷ os) m all is = absurd (none_some is)
+  many_all (o ∷ q ∷ os) m all is = absurd (none_some is)
 
-  pub taken_fits : (n : ℕ) (os : List Seen) (es : Exs) → AllFit os → taken n os ≡ Some es → TakenFit n es
-  taken_fits n os es all is = by (many os) refl is
+  many_exs : (ts : List ValueType) (f : ℕ) (es : Exs) → CallFits ts f es → ExsFit p scope (type_numbers ts) (typed.results f es)
+  many_exs [] f es fits = fits
+  many_exs (t ∷ ts) f es fits = fits
+
+  pub taken_fits : (ps : List (Option ValueType)) (os : List Seen) (es : Exs) → AllFit os → taken ps os ≡ Some es → TakenFit ps os es
+  taken_fits ps os es all is = by (many os) refl is
     where
-      of_many : (m : Many) → many os ≡ Some m → (b : Bool) → (m.count == n) ≡ b → cond b (Some (typed.results m.function m.arguments)) None ≡ Some es → TakenFit n es
-      of_many m found true same is1 =
-          let fit = many_all os m all found in
-          subst (λ e. TakenFit n e) (same_some is1) (fit.0 ∙ eqb-true m.count n same, fit.1)
-      of_many m found false same is1 = absurd (none_some is1)
+      of_many : (m : Many) → many os ≡ Some m → fits_with ps os (Some m) ≡ true → typed.results m.function m.arguments ≡ es → TakenFit ps os es
+      of_many m found good same =
+          let k = both_true (length m.types == length ps) (types_agree ps m.types) good in
+          subst (λ (e : Exs). TakenFit ps os e) same (record {
+            types = m.types;
+            found = ap (types_with os) found;
+            accepted = accepted_all ps m.types (eqb-true (length m.types) (length ps) k.0) k.1;
+            fit = many_exs m.types m.function m.arguments (many_all os m all found);
+          })
 
-      of_each : (b : Bool) → (length os == n) ≡ b → cond b (option_map each (ints os)) None ≡ Some es → TakenFit n es
-      of_each true same is1 =
-          let r = map_some each (ints os) es is1 in
-          let fit = ints_fit os r.0 all r.1 in
-          let whole = each_fits r.0 fit.0 in
-          subst (λ e. TakenFit n e) r.2 (whole.1 ∙ fit.1 ∙ eqb-true (length os) n same, whole.0)
-      of_each false same is1 = absurd (none_some is1)
+      of_each : many os ≡ None → fits_with ps os None ≡ true → (xs : List Ex) → values os ≡ Some xs → each xs ≡ es → TakenFit ps os es
+      of_each found good xs list same =
+          let k = both_true (length os == length ps) (values_agree ps os) good in
+          let v = values_fit ps os xs all (eqb-true (length os) (length ps) k.0) k.1 list in
+          subst (λ (e : Exs). TakenFit ps os e) same (record { types = v.types; found = ap (types_with os) found ∙ v.found; accepted = v.accepted; fit = v.fit })
 
-      by : (m : Option Many) → many os ≡ m → taken_of n os m ≡ Some es → TakenFit n es
-      by None found is1 = of_each (length os == n) refl is1
-      by (Some m) found is1 = of_many m found (m.count == n) refl is1
+      by : (m : Option Many) → many os ≡ m → allowed (fits_with ps os m) (all_values os m) ≡ Some es → TakenFit ps os es
+      by None found is1 =
+          let a = allowed_some (fits_with ps os None) (option_map each (values os)) es is1 in
+          let r = map_some each (values os) es a.1 in
+          of_each found a.0 r.0 r.1 r.2
+      by (Some m) found is1 =
+          let a = allowed_some (fits_with ps os (Some m)) (Some (typed.results m.function m.arguments)) es is1 in
+          of_many m found a.0 (same_some a.1)
 
-  arithmetic : (op : ArithmeticOp) (t : TypedOp) → op_of (Arithmetic op) ≡ Some t → IsArithmetic t
-  arithmetic Add t is = subst IsArithmetic (same_some is) tt
-  arithmetic Sub t is = subst IsArithmetic (same_some is) tt
-  arithmetic Mul t is = subst IsArithmetic (same_some is) tt
-  arithmetic op t is = absurd (none_some is)
+  -- where places ask for types the values have these
+  pub asked_types : (ts us : List ValueType) → AreAccepted (asked ts) us → ts ≡ us
+  asked_types [] [] all = refl
+  asked_types [] (u ∷ us) all = absurd all
+  asked_types (t ∷ ts) [] all = absurd all
+  asked_types (t ∷ ts) (u ∷ us) all = let front : t ≡ u = all.0 in let rest : ts ≡ us = asked_types ts us all.1 in cc (front, rest)
 
-  taken_op : (op : BinOp) (t : TypedOp) → op_of op ≡ Some t → IsArithmetic t
-  taken_op (Arithmetic op) t is = arithmetic op t is
-  taken_op op t is = absurd (none_some is)
+  -- ---- operators
 
-  both_fit : (at : Pos) (o : Option TypedOp) (a b : Option Ex) (x : Operand) → ((t : TypedOp) → o ≡ Some t → IsArithmetic t) → ((e : Ex) → a ≡ Some e → ExFits fs scope e) → ((e : Ex) → b ≡ Some e → ExFits fs scope e) → both_ints at o a b ≡ Some x → OperandFits x
-  both_fit at None a b x k f g is = absurd (none_some is)
-  both_fit at (Some t) None b x k f g is = absurd (none_some is)
-  both_fit at (Some t) (Some y) None x k f g is = absurd (none_some is)
-  both_fit at (Some t) (Some y) (Some z) x k f g is = some_fits _ x (k t refl, f y refl, g z refl) is
+  both_fit : (at : Pos) (op : BinOp) (s t : ValueType) (a b : Option Ex) (x : Operand) → takes op s t ≡ true → ((e : Ex) → a ≡ Some e → ExFits p scope (type_number s) e) → ((e : Ex) → b ≡ Some e → ExFits p scope (type_number t) e)
+      → both_values at op a b ≡ Some x → OperandFits x
+  both_fit at op s t None b x k f g is = absurd (none_some is)
+  both_fit at op s t (Some y) None x k f g is = absurd (none_some is)
+  both_fit at op s t (Some y) (Some z) x k f g is = some_fits (value (result_type op) (typed_pair at op y z)) x (takes_fits op s t k at y z p scope (f y refl) (g z refl)) is
 
-  value_prefix_fits : (o : Option TypedPrefix) (x : Ex) (y : Operand) → ExFits fs scope x → option_map (λ t. value (typed.unary t x)) o ≡ Some y → OperandFits y
-  value_prefix_fits None x y fits is = absurd (none_some is)
-  value_prefix_fits (Some t) x y fits is = some_fits _ y fits is
+  value_pair_fits : (at : Pos) (op : BinOp) (x y z : Operand) → OperandFits x → OperandFits y → value_pair at op x y ≡ Some z → OperandFits z
+  value_pair_fits at op x y z f g is =
+      let a = allowed_some (takes op (type_of x) (type_of y) && right_allowed op y) (both_values at op (as_value x) (as_value y)) z is in
+      let k = both_true (takes op (type_of x) (type_of y)) (right_allowed op y) a.0 in
+      both_fit at op (type_of x) (type_of y) (as_value x) (as_value y) z k.0 (λ e h. value_fits x e f h) (λ e h. value_fits y e g h) a.1
+
+  pub pair_fits : (at : Pos) (op : BinOp) (x y z : Operand) → OperandFits x → OperandFits y → combined at op x y ≡ Some z → OperandFits z
+  pair_fits at op (untyped c) (untyped d) z f g is = constant_fits _ z is
+  pair_fits at op (untyped c) (value t y) z f g is = value_pair_fits at op (untyped c) (value t y) z f g is
+  pair_fits at op (value s x) (untyped d) z f g is = value_pair_fits at op (value s x) (untyped d) z f g is
+  pair_fits at op (value s x) (value t y) z f g is = value_pair_fits at op (value s x) (value t y) z f g is
 
   prefix_fits : (op : UnOp) (x y : Operand) → OperandFits x → prefixed op x ≡ Some y → OperandFits y
-  prefix_fits op (untyped z) y fits is = constant_fits _ y is
-  prefix_fits op (value x) y fits is = value_prefix_fits (prefix_of op) x y fits is
+  prefix_fits op (untyped c) y fits is = constant_fits _ y is
+  prefix_fits op (value t x) y fits is =
+      let a = allowed_some (takes_one op t) (option_map (λ g. value t (typed.unary g x)) (prefix_of op)) y is in
+      let r = map_some (λ g. value t (typed.unary g x)) (prefix_of op) y a.1 in
+      subst OperandFits r.2 (takes_prefix op t r.0 a.0 r.1, fits)
 
-  pair_fits : (at : Pos) (op : BinOp) (x y z : Operand) → OperandFits x → OperandFits y → combined at op x y ≡ Some z → OperandFits z
-  pair_fits at op (untyped x) (untyped y) z f g is = constant_fits _ z is
-  pair_fits at op (untyped x) (value y) z f g is = both_fit at (op_of op) _ _ z (taken_op op) (λ e h. as_int_fits (untyped x) e tt h) (λ e h. as_int_fits (value y) e g h) is
-  pair_fits at op (value x) (untyped y) z f g is = both_fit at (op_of op) _ _ z (taken_op op) (λ e h. as_int_fits (value x) e f h) (λ e h. as_int_fits (untyped y) e tt h) is
-  pair_fits at op (value x) (value y) z f g is = both_fit at (op_of op) _ _ z (taken_op op) (λ e h. as_int_fits (value x) e f h) (λ e h. as_int_fits (value y) e g h) is
-
-  comparison : (op : CompareOp) → IsComparison (compare_of op)
-  comparison Equal = tt
-  comparison NotEqual = tt
-  comparison Less = tt
-  comparison LessEqual = tt
-  comparison Greater = tt
-  comparison GreaterEqual = tt
-
-  some_test : (x y : Ex) → TestFits fs scope x → Some x ≡ Some y → TestFits fs scope y
-  some_test x y fits is = subst (TestFits fs scope) (same_some is) fits
-
-  both_compared : (at : Pos) (op : CompareOp) (a b : Option Ex) (x : Ex) → ((e : Ex) → a ≡ Some e → ExFits fs scope e) → ((e : Ex) → b ≡ Some e → ExFits fs scope e) → compared_ints at op a b ≡ Some x → TestFits fs scope x
-  both_compared at op None b x f g is = absurd (none_some is)
-  both_compared at op (Some y) None x f g is = absurd (none_some is)
-  both_compared at op (Some y) (Some z) x f g is = some_test _ x (comparison op, f y refl, g z refl) is
-
-  compared_fit : (at : Pos) (op : CompareOp) (x y : Operand) (z : Ex) → OperandFits x → OperandFits y → compared_operands at op x y ≡ Some z → TestFits fs scope z
-  compared_fit at op (untyped x) (untyped y) z f g is = some_test _ z tt is
-  compared_fit at op (untyped x) (value y) z f g is = both_compared at op _ _ z (λ e h. as_int_fits (untyped x) e tt h) (λ e h. as_int_fits (value y) e g h) is
-  compared_fit at op (value x) (untyped y) z f g is = both_compared at op _ _ z (λ e h. as_int_fits (value x) e f h) (λ e h. as_int_fits (untyped y) e tt h) is
-  compared_fit at op (value x) (value y) z f g is = both_compared at op _ _ z (λ e h. as_int_fits (value x) e f h) (λ e h. as_int_fits (value y) e g h) is
+  condition_value_fits : (x : Operand) (e : Ex) → OperandFits x → as_condition x ≡ Some e → ExFits p scope bool_type e
+  condition_value_fits x e fits is =
+      let a = allowed_some (same_type Boolean (type_of x)) (as_value x) e is in
+      subst (λ (t : ValueType). ExFits p scope (type_number t) e) (sym (same_type_same Boolean (type_of x) a.0)) (value_fits x e fits a.1)
 
   abbrev pub OptionalFits : Option Ex → Type 0
   OptionalFits None = Unit {0}
-  OptionalFits (Some e) = TestFits fs scope e
+  OptionalFits (Some e) = ExFits p scope bool_type e
 
-  name_fits : (reserved : Bool) (d : Option Declared) (g : Gives) → ((site : SiteId) → d ≡ Some (Variable site) → InScope site.0 scope) → option_map one (name_operand reserved d) ≡ Some g → GivesFit g
-  name_fits true d g has is = absurd (none_some is)
-  name_fits false None g has is = absurd (none_some is)
-  name_fits false (Some Untyped) g has is = absurd (none_some is)
-  name_fits false (Some (Function f)) g has is = absurd (none_some is)
-  name_fits false (Some TypeName) g has is = absurd (none_some is)
-  name_fits false (Some (Variable site)) g has is = subst GivesFit (same_some is) (has site refl)
+  panicked_fits : (at : Pos) (qs : List Piece) (g : Gives) → PiecesFit p scope qs → panicked_with at qs ≡ Some g → GivesFit g
+  panicked_fits at [] g all is = absurd (none_some is)
+  panicked_fits at (q ∷ []) g all is = subst GivesFit (same_some is) all.0
+  panicked_fits at (q ∷ r ∷ qs) g all is = absurd (none_some is)
 
-  -- a function that is called has the parameters and results that are counted
+  -- a function that is called has parameters and results of these types
   abbrev CalleeFits : Callee → Type 0
-  CalleeFits (function f params wanted) = (func : Func) × (slice_get fs f ≡ Some func) × (argument_words func ≡ params) × (result_words func ≡ wanted)
-  CalleeFits printer = Unit {0}
+  CalleeFits (function f ps ts) = (func : Func) × (us : List ValueType) × (ps ≡ asked us) × (slice_get p.funcs f ≡ Some func) × (func.param_types ≡ type_numbers us) × (func.results ≡ type_numbers ts)
+  CalleeFits (printer line) = Unit {0}
+  CalleeFits panicker = Unit {0}
   CalleeFits no_function = Unit {0}
   CalleeFits no_spread = Unit {0}
   CalleeFits nothing = Unit {0}
 
   call_fits : (at : Pos) (k : Callee) (os : List Seen) (g : Gives) → CalleeFits k → AllFit os → called_with at k os ≡ Some g → GivesFit g
-  call_fits at printer os g k all is =
-      let r = map_some (λ xs. printed at (map shown xs)) (ints os) g is in subst GivesFit r.2 (pieces_fit r.0 (ints_fit os r.0 all r.1).0)
-  call_fits at (function f params wanted) os g k all is =
-      let r = map_some (λ es. called at wanted f es) (taken params os) g is in
-      let t = taken_fits params os r.0 all r.1 in
-      subst GivesFit r.2 (k.0, k.1, k.3, t.0 ∙ sym k.2, t.1)
+  call_fits at (printer line) os g k all is = let r = map_some (printed at line) (pieces os) g is in subst GivesFit r.2 (pieces_fit os r.0 all r.1)
+  call_fits at panicker os g k all is = let r = and_then_some (panicked_with at) (pieces os) g is in panicked_fits at r.0 g (pieces_fit os r.0 all r.1) r.2
+  call_fits at (function f ps ts) os g k all is =
+      let r = map_some (called at ts f) (taken ps os) g is in
+      let t = taken_fits ps os r.0 all r.1 in
+      let same1 : k.1 ≡ t.types = asked_types k.1 t.types (subst (λ (l : List (Option ValueType)). AreAccepted l t.types) k.2 t.accepted) in
+      subst GivesFit r.2 (k.0, k.3, k.5, subst (λ (l : List ℕ). ExsFit p scope l r.0) (ap type_numbers (sym same1) ∙ sym k.4) t.fit)
   call_fits at no_function os g k all is = absurd (none_some is)
   call_fits at no_spread os g k all is = absurd (none_some is)
   call_fits at nothing os g k all is = absurd (none_some is)
 
-  module _ (text : List ℕ) (s : Scope) (shown_in : (n : List ℕ) (site : SiteId) → declaration s n ≡ Some (Variable site) → InScope site.0 scope) (agrees : Agrees s.signatures fs) where
+  module _ (text : List ℕ) (s : Scope) (are_shown : AreShown s scope) (agrees : Agrees s p) where
+    variable_fits : (n : List ℕ) (site : SiteId) (t : ValueType) → declaration s n ≡ Some (Variable site t) → InScope site.0 scope × (site_type p site.0 ≡ type_number t)
+    variable_fits n site t is = let k = are_shown n site t is in (k.0, agrees.sites site.0 k.1.0 k.1.1 ∙ k.1.2)
+
+    name_fits : (w : Word) (d : Option Declared) (g : Gives) → ((site : SiteId) (t : ValueType) → d ≡ Some (Variable site t) → InScope site.0 scope × (site_type p site.0 ≡ type_number t))
+        → option_map one (name_operand w d) ≡ Some g → GivesFit g
+    name_fits (word.Truth b) d g has is = subst GivesFit (same_some is) tt
+    name_fits (word.Print line) d g has is = absurd (none_some is)
+    name_fits word.Panic d g has is = absurd (none_some is)
+    name_fits word.Reserved d g has is = absurd (none_some is)
+    name_fits word.Free None g has is = absurd (none_some is)
+    name_fits word.Free (Some Untyped) g has is = absurd (none_some is)
+    name_fits word.Free (Some (Function f)) g has is = absurd (none_some is)
+    name_fits word.Free (Some TypeName) g has is = absurd (none_some is)
+    name_fits word.Free (Some (Variable site t)) g has is = subst GivesFit (same_some is) (has site t refl)
+
     callee_signed : (f : ℕ) (sig : Option Signature) → signature s f ≡ sig → CalleeFits (function_with f sig)
     callee_signed f None is = tt
-    callee_signed f (Some sig) is = agrees f sig is
+    callee_signed f (Some sig) is = let k = agrees.functions f sig is in (k.0, sig.params, refl, k.1, k.2, k.3)
 
     declared_fits : (d : Option Declared) → CalleeFits (callee_declared s d)
     declared_fits None = tt
-    declared_fits (Some (Variable site)) = tt
+    declared_fits (Some (Variable site t)) = tt
     declared_fits (Some Untyped) = tt
     declared_fits (Some (Function f)) = callee_signed f.0 (signature s f.0) refl
     declared_fits (Some TypeName) = tt
 
-    value_fits : (o : Option Operand) → CalleeFits (callee_value o)
-    value_fits None = tt
-    value_fits (Some x) = tt
+    callee_value_fits : (o : Option Operand) → CalleeFits (callee_value o)
+    callee_value_fits None = tt
+    callee_value_fits (Some x) = tt
 
-    named_fits : (p r : Bool) (n : List ℕ) → CalleeFits (cond p printer (cond r nothing (callee_declared s (declaration s n))))
-    named_fits true r n = tt
-    named_fits false true n = tt
-    named_fits false false n = declared_fits (declaration s n)
+    named_fits : (w : Word) (d : Option Declared) → CalleeFits (callee_named s w d)
+    named_fits (word.Truth b) d = tt
+    named_fits (word.Print line) d = tt
+    named_fits word.Panic d = tt
+    named_fits word.Reserved d = tt
+    named_fits word.Free d = declared_fits d
 
     callee_fits : (n : Option Name) (o : Option Gives) → CalleeFits (callee text s n o)
-    callee_fits None o = value_fits (operand_in o)
-    callee_fits (Some n) o = named_fits (is_println (spelled text n)) (is_reserved (spelled text n)) (spelled text n)
+    callee_fits None o = callee_value_fits (operand_in o)
+    callee_fits (Some n) o = named_fits (word_of (spelled text n)) (declaration s (spelled text n))
 
     spread_fits : (spread : Bool) (k : Callee) → CalleeFits k → CalleeFits (spread_over spread k)
     spread_fits false k fits = fits
-    spread_fits true printer fits = tt
-    spread_fits true (function f params wanted) fits = tt
+    spread_fits true (printer line) fits = tt
+    spread_fits true panicker fits = tt
+    spread_fits true (function f ps ts) fits = tt
     spread_fits true no_function fits = tt
     spread_fits true no_spread fits = tt
     spread_fits true nothing fits = tt
 
-    unary_fits : (op : UnOp) (taken : Bool) (a : Option Operand) (g : Gives) → ((x : Operand) → a ≡ Some x → OperandFits x) → prefix_gives op taken a ≡ Some g → GivesFit g
+    unary_fits : (op : UnOp) (taken1 : Bool) (a : Option Operand) (g : Gives) → ((x : Operand) → a ≡ Some x → OperandFits x) → prefix_gives op taken1 a ≡ Some g → GivesFit g
     unary_fits op false a g fits is = absurd (none_some is)
     unary_fits op true a g fits is =
         let r = map_some one (option_and_then (prefixed op) a) g is in
         let q = and_then_some (prefixed op) a r.0 r.1 in
         subst GivesFit r.2 (prefix_fits op q.0 r.0 (fits q.0 q.1) q.2)
 
-    binary_fits : (at : Pos) (op : BinOp) (taken : Bool) (a b : Option Operand) (g : Gives) → ((x : Operand) → a ≡ Some x → OperandFits x) → ((x : Operand) → b ≡ Some x → OperandFits x) → pair_gives at op taken a b ≡ Some g → GivesFit g
-    binary_fits at op false a b g left right is = absurd (none_some is)
-    binary_fits at op true a b g left right is =
+    binary_fits : (at : Pos) (op : BinOp) (a b : Option Operand) (g : Gives) → ((x : Operand) → a ≡ Some x → OperandFits x) → ((x : Operand) → b ≡ Some x → OperandFits x) → pair_gives at op a b ≡ Some g → GivesFit g
+    binary_fits at op a b g left right is =
         let r = map_some one (both (combined at op) a b) g is in
         let q = and_then_some (λ x. option_and_then (combined at op x) b) a r.0 r.1 in
-        let p = and_then_some (combined at op q.0) b r.0 q.2 in
-        subst GivesFit r.2 (pair_fits at op q.0 p.0 r.0 (left q.0 q.1) (right p.0 p.1) p.2)
+        let k = and_then_some (combined at op q.0) b r.0 q.2 in
+        subst GivesFit r.2 (pair_fits at op q.0 k.0 r.0 (left q.0 q.1) (right k.0 k.1) k.2)
 
     mutual
       pub gives_fit : (e : TreeEx) (g : Gives) → gives text s e ≡ Some g → GivesFit g
       gives_fit (number at n) g is = by (nat_lt n (2 ^ 127)) is
         where
-          by : (b : Bool) → cond b (Some (one (untyped (pos n)))) None ≡ Some g → GivesFit g
+          by : (b : Bool) → cond b (Some (one (untyped (Number (pos n))))) None ≡ Some g → GivesFit g
           by true is1 = subst GivesFit (same_some is1) tt
           by false is1 = absurd (none_some is1)
-      gives_fit (name n) g is = name_fits (is_reserved (spelled text n)) (declaration s (spelled text n)) g (λ site h. shown_in (spelled text n) site h) is
+      gives_fit (name n) g is = name_fits (word_of (spelled text n)) (declaration s (spelled text n)) g (λ site t h. variable_fits (spelled text n) site t h) is
       gives_fit (unary at op e) g is =
-          unary_fits op (takes_constant op) (operand_in (gives text s e)) g (λ x h. operand_fits (gives text s e) x (maybe_fits (gives text s e) (λ k i. gives_fit e k i)) h) is
+          unary_fits op (has_rules op) (operand_in (gives text s e)) g (λ x h. operand_fits (gives text s e) x (maybe_fits (gives text s e) (λ k i. gives_fit e k i)) h) is
       gives_fit (binary at op a b) g is =
-          binary_fits (first_place a) op (takes_constants op) (operand_in (gives text s a)) (operand_in (gives text s b)) g (λ x h. operand_fits (gives text s a) x (maybe_fits (gives text s a) (λ k i. gives_fit a k i)) h)
+          binary_fits (first_place a) op (operand_in (gives text s a)) (operand_in (gives text s b)) g (λ x h. operand_fits (gives text s a) x (maybe_fits (gives text s a) (λ k i. gives_fit a k i)) h)
           (λ x h. operand_fits (gives text s b) x (maybe_fits (gives text s b) (λ k i. gives_fit b k i)) h) is
       gives_fit (paren at e) g is = gives_fit e g is
       gives_fit (call f es spread) g is =
@@ -313,17 +487,10 @@ module _ (fs : List Func) (scope : List ℕ) where
       seen_fit tree.none = tt
       seen_fit (some e es) = (maybe_fits (gives text s e) (λ h i. gives_fit e h i), seen_fit es)
 
-    compared_fits : (c : Option Comparison) (x : Ex) → compared_in text s c ≡ Some x → TestFits fs scope x
-    compared_fits None x is = absurd (none_some is)
-    compared_fits (Some c) x is =
-        let a = c.left in
-        let b = c.right in
-        let q = and_then_some (λ y. option_and_then (compared_operands (first_place a) c.op y) (operand_in (gives text s b))) (operand_in (gives text s a)) x is in
-        let p = and_then_some (compared_operands (first_place a) c.op q.0) (operand_in (gives text s b)) x q.2 in
-        compared_fit (first_place a) c.op q.0 p.0 x (operand_fits (gives text s a) q.0 (maybe_fits (gives text s a) (λ h i. gives_fit a h i)) q.1) (operand_fits (gives text s b) p.0 (maybe_fits (gives text s b) (λ h i. gives_fit b h i)) p.1) p.2
-
-    pub condition_fits : (e : TreeEx) (x : Ex) → condition text s e ≡ Some x → TestFits fs scope x
-    condition_fits e x is = compared_fits (comparison_in e) x is
+    pub condition_fits : (e : TreeEx) (x : Ex) → condition text s e ≡ Some x → ExFits p scope bool_type x
+    condition_fits e x is =
+        let q = and_then_some as_condition (operand_in (gives text s e)) x is in
+        condition_value_fits q.0 x (operand_fits (gives text s e) q.0 (maybe_fits (gives text s e) (λ h i. gives_fit e h i)) q.1) q.2
 
     pub test_fits : (o : Option TreeEx) (x : Option Ex) → test text s o ≡ Some x → OptionalFits x
     test_fits None x is = subst OptionalFits (same_some is) tt

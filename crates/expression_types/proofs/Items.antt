@@ -8,8 +8,8 @@ use Rattle.base.specs.declared.pos.Pos.{Pos}
 use Rattle.std.proofs.lemmas.List.{map-append}
 use Rattle.syntax.specs.declared.expression.Name.{Name}
 use Rattle.typed.specs.declared.expr.Expr.{Expr}
-use Rattle.typed.specs.View.{ex_of, exs_of, pieces_of}
-use Rattle.typed.specs.Syntax.{more, shown}
+use Rattle.typed.specs.View.{ex_of, exs_of}
+use Rattle.typed.specs.Syntax.{more}
 use Rattle.expression_types.specs.declared.operand.Item.{Item}
 use Rattle.expression_types.specs.Typing.{Seen, Gives, each}
 use Rattle.expression_types.specs.Passing.{seen_of, seens, with_last}
@@ -86,10 +86,6 @@ with_last_map f (Some v) (Some x) (Some r) is =
 pub no_items : {A : Type 0} (xs : List A) → length xs ≡ 0 → xs ≡ []
 no_items [] is = refl
 no_items (x ∷ xs) is = absurd (omega (arith, is))
-
-pub pieces_as : (es : List Expr) → pieces_of es ≡ map shown (map ex_of es)
-pieces_as [] = refl
-pieces_as (e ∷ es) = ap (λ l. shown (ex_of e) ∷ l) (pieces_as es)
 
 -- one more item, which an expression gives, in front of those to come
 pub pushed : (items : List Item) (item : Item) (g : Option Gives) (at : Pos) (all others : List Seen) → seen_of item ≡ record { at = at; gives = g } → all ≡ seens items ++ (record { at = at; gives = g } ∷ others)

@@ -4,6 +4,7 @@ use Rattle.std.specs.Prelude.{◌||◌, ◌&&◌}
 use Rattle.std.proofs.lemmas.Bool.{cases_Bool, ltb-true, ltb-false, eqb-true, eqb-false, leb-true, leb-false}
 use Rattle.expression_types.specs.declared.fault.Fault.{Fault}
 use Rattle.expression_types.specs.Least.{AtMost, IsLeast, lesser, kind_number}
+use Rattle.expression_types.specs.Faults.{IsFault}
 
 abbrev is_before : Fault → Fault → Bool
 is_before f g = ltb f.pos.offset g.pos.offset || (eqb f.pos.offset g.pos.offset && leb (kind_number f.kind) (kind_number g.kind))
@@ -164,3 +165,8 @@ just f = (refl, λ g h. same_fault f g h)
 pub unless : (b : Bool) (f : Fault) → IsLeast (λ g. (b ≡ false) × (g ≡ f)) (cond b None (Some f))
 unless true f = λ g h. cc h.0
 unless false f = ((refl, refl), λ g h. same_fault f g h.1)
+
+-- a rule with one fault, or none
+pub leaf : (o : Option Fault) → IsLeast (IsFault o) o
+leaf None = λ f h. h
+leaf (Some f) = just f

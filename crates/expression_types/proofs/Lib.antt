@@ -3,7 +3,7 @@ pub mod DecidedValues
 pub mod InForm
 pub mod Items
 pub mod Leasts
-pub mod Leaves
 pub mod Nodes
 pub mod Options
 pub mod Settled
+pub mod Places

@@ -1,40 +1,45 @@
 -- Where every variable has a type and every function a signature, an expression gives something, or a rule fails in it, and never both.
-use Rattle.std.proofs.Common.{◌≡◌, ℕ, zero, suc, ◌^◌, ℤ, pos, Bool, true, false, cond, List, [], ◌∷◌, ◌⊎◌, inl, inr, Option, Some, None, Result, Ok, Err, refl, subst, arith}
-use Rattle.std.specs.Prelude.{⊤, option_and_then, slice_get, nat_lt, ◌≤◌, neg_ℤ}
+use Rattle.std.proofs.Common.{◌≡◌, ℕ, zero, suc, ◌^◌, ℤ, pos, Bool, true, false, cond, List, [], ◌∷◌, ◌⊎◌, inl, inr, Option, Some, None, Result, Ok, Err, refl, subst}
+use Rattle.std.specs.Prelude.{⊤, option_and_then, slice_get, nat_lt, not, ◌&&◌, neg_ℤ}
 use Rattle.std.specs.List.{AllByRecursion}
 use Rattle.std.specs.Option.{option_map}
-use Rattle.std.proofs.lemmas.Bool.{false≢true, ltb-true, ltb-false}
+use Rattle.std.proofs.lemmas.Bool.{false≢true}
 use Rattle.base.specs.declared.pos.Pos.{Pos}
 use Rattle.syntax.specs.declared.operator.BinOp.{BinOp}
-use Rattle.syntax.specs.declared.operator.BinOp.TheVariants.{Arithmetic}
-use Rattle.syntax.specs.declared.operator.UnOp.{UnOp}
-use Rattle.syntax.specs.declared.operator.UnOp.TheVariants.{Plus, Negate, Complement}
+use Rattle.syntax.specs.declared.operator.BinOp.TheVariants.{Arithmetic, Compare, Both, Either}
 use Rattle.syntax.specs.declared.operator.CompareOp.{CompareOp}
+use Rattle.syntax.specs.declared.operator.CompareOp.TheVariants.{Equal, NotEqual, Less, LessEqual, Greater, GreaterEqual}
+use Rattle.syntax.specs.declared.operator.UnOp.{UnOp}
+use Rattle.syntax.specs.declared.operator.UnOp.TheVariants.{Plus, Negate, Complement, Not, Star, Address}
 use Rattle.syntax.specs.declared.expression.Name.{Name}
 use Rattle.syntax.specs.FirstBytes.{first_place}
 use Rattle.syntax.specs.Expressions.{Ex as TreeEx, Exs as TreeExs, number, string, name, unary, binary, paren, call, selector, index, slice, array_type, slice_type, literal, elements, some, spelled}
 use Rattle.syntax.specs.Expressions as tree
-use Rattle.typed.specs.declared.operators.BinOp.{BinOp as TypedOp}
 use Rattle.typed.specs.declared.operators.UnOp.{UnOp as TypedPrefix}
-use Rattle.typed.specs.Syntax.{Ex, constant}
+use Rattle.typed.specs.Syntax.{Ex}
 use Rattle.typed.specs.Syntax as typed
-use Rattle.typed.specs.Value.{int}
-use Rattle.names.specs.declared.constants.Const.TheVariants.{Int}
+use Rattle.names.specs.declared.constants.Const.{Const}
+use Rattle.names.specs.declared.constants.Const.TheVariants as const
 use Rattle.names.specs.declared.constants.ConstFault.{ConstFault}
 use Rattle.names.specs.declared.constants.ConstFault.TheVariants.{Overflow, ZeroDivisor, NegativeShift, NotConstant}
 use Rattle.names.specs.Blocks.{lookup}
-use Rattle.names.specs.Constants.{exact, in_range_or_fault, kept, as_constant, folded, folded_one}
+use Rattle.names.specs.Constants.{exact, in_range_or_fault, kept, as_constant, compared_bools, folded, folded_one}
 use Rattle.expression_types.specs.declared.fault.Fault.{Fault}
-use Rattle.expression_types.specs.declared.fault.FaultKind.TheVariants.{Unknown, NotCallable, ConstRange, BadOperand, OutOfProfile, ConstZeroDivisor}
-use Rattle.expression_types.specs.declared.scope.ValueType.TheVariants as value_type
+use Rattle.expression_types.specs.declared.fault.FaultKind.TheVariants.{NotCallable, ArgCount, ConstRange, BadOperand, OutOfProfile, ConstZeroDivisor}
+use Rattle.expression_types.specs.declared.operand.Constant.{Constant}
+use Rattle.expression_types.specs.declared.operand.Constant.TheVariants.{Number, Truth}
+use Rattle.expression_types.specs.declared.profile.Word.{Word}
+use Rattle.expression_types.specs.declared.profile.Word.TheVariants as word
+use Rattle.expression_types.specs.declared.scope.ValueType.{ValueType}
+use Rattle.expression_types.specs.declared.scope.ValueType.TheVariants.{Int, Bool as Boolean}
 use Rattle.expression_types.specs.declared.scope.Declared.{Declared}
 use Rattle.expression_types.specs.declared.scope.Declared.TheVariants.{Variable, Untyped, Function, TypeName}
-use Rattle.expression_types.specs.Profile.{is_int_type, is_type_name, is_value_name, is_println, is_reserved}
+use Rattle.expression_types.specs.Profile.{named_type, is_type_name, is_value_name, word_of}
 use Rattle.expression_types.specs.Scope.{Scope, Signature, declaration, signature}
-use Rattle.expression_types.specs.Typing.{Operand, untyped, value, Gives, one, is_int, takes_constants, takes_constant, op_of, prefix_of, constant_of, name_operand, prefixed, prefix_gives, both, combined, both_ints, pair_gives, compared_ints, compared_operands, operand_in, Seen, ints, taken, Callee, printer, function, no_function, no_spread, nothing, function_with, callee_declared, callee_named, callee_value, spread_over, called_with, name_in, Comparison, comparison_in, type_in, callee, gives, seen, compared_in, condition, test}
-use Rattle.expression_types.specs.Faults.{fault, FormFails, WhereTaken, WhereTyped, NameFails, CalleeNameFails, TypeNameFails, SingleFails, ConstantFails, PrefixFails, PairFails, OperatorFails, ComparisonFails, OneFails, BothFail, SinglesFail, RangeFails, CallFails, CalleeFails, FailsAsType, Fails, FailsInEach, FailsAsOperand, ComparedFails, FailsInCondition, FailsInTest}
+use Rattle.expression_types.specs.Typing.{Operand, untyped, value, Gives, one, allowed, constant_type, is_int, constant_value, const_of, constant_of, name_operand, has_rules, takes_one, prefix_of, prefixed, prefix_gives, takes, is_division, is_shift, is_zero, is_negative, stands_right, both, both_values, combined, operand_in, Seen, pieces, taken, Callee, printer, panicker, function, no_function, no_spread, nothing, function_with, callee_declared, callee_named, callee_value, spread_over, called_with, name_in, as_condition, type_in, callee, gives, seen, condition, test}
+use Rattle.expression_types.specs.Faults.{fault, IsFault, FormFails, WhereTaken, name_fault, callee_declared_fault, callee_name_fault, type_name_fault, single_fault, constant_range_fault, literal_fault, condition_fault, constant_fault, prefix_fault, unfit_kind, right_fault, two_fault, pair_fault, SinglesFail, RangeFails, CallFails, CalleeFails, FailsAsType, Fails, FailsInEach, FailsAsOperand, FailsInCondition, FailsInTest}
 use Rattle.expression_types.proofs.Decided.{Decided, further, same, mapped, after}
-use Rattle.expression_types.proofs.DecidedValues.{operand_decided, given_all, take_decided, print_decided, refused}
+use Rattle.expression_types.proofs.DecidedValues.{operand_decided, given_all, take_decided, print_decided, panic_decided, refused}
 
 abbrev pub HasSignature : Option Signature → Type 0
 HasSignature None = ⊥
@@ -42,7 +47,7 @@ HasSignature (Some sig) = ⊤
 
 -- a variable with a type, or a function with a signature; types of a program are left out
 abbrev pub IsTyped : List (Option Signature) → Declared → Type 0
-IsTyped sigs (Variable site) = ⊤
+IsTyped sigs (Variable site t) = ⊤
 IsTyped sigs Untyped = ⊥
 IsTyped sigs (Function f) = HasSignature (option_and_then (λ o. o) (slice_get sigs f.0))
 IsTyped sigs TypeName = ⊥
@@ -62,117 +67,216 @@ looked_up P ds (Some k) d all is = element P ds k d all is
 pub declared_typed : (s : Scope) → IsSettled s → (n : List ℕ) (d : Declared) → declaration s n ≡ Some d → IsTyped s.signatures d
 declared_typed s settled n d is = looked_up (IsTyped s.signatures) s.declared (lookup s.blocks n) d settled.all is
 
--- a constant expression on numbers has a value, or a fault
-constant_decided : (at right : Pos) (r : Result ℤ ConstFault) → Decided (constant_of (as_constant r)) (ConstantFails at right (as_constant r))
-constant_decided at right (Ok z) = λ f h. h
-constant_decided at right (Err Overflow) = (fault ConstRange at, refl)
-constant_decided at right (Err ZeroDivisor) = (fault ConstZeroDivisor right, refl)
-constant_decided at right (Err NegativeShift) = (fault BadOperand at, refl)
-constant_decided at right (Err NotConstant) = (fault BadOperand at, refl)
+-- ---- constants
 
-constant_prefix_decided : (at : Pos) (op : UnOp) → takes_constant op ≡ true → (z : ℤ) → Decided (constant_of (folded_one op (Int z))) (ConstantFails at at (folded_one op (Int z)))
-constant_prefix_decided at Plus is z = λ f h. h
-constant_prefix_decided at Negate is z = constant_decided at at (in_range_or_fault (neg_ℤ z))
-constant_prefix_decided at Complement is z = λ f h. h
-constant_prefix_decided at op is z = absurd (false≢true is)
+-- a constant expression has a value, or a fault
+abbrev IsConstant : Result Const ConstFault → Type 0
+IsConstant (Ok const.NoConst) = ⊥
+IsConstant other = ⊤
 
-value_prefix_decided : (at : Pos) (o : Option TypedPrefix) (x : Ex) → Decided (option_map (λ t. value (typed.unary t x)) o) (WhereTyped o at (λ g. ⊥))
-value_prefix_decided at None x = (fault OutOfProfile at, refl)
-value_prefix_decided at (Some t) x = λ f h. h
+constant_decided : (at right : Pos) (r : Result Const ConstFault) → IsConstant r → Decided (constant_of r) (IsFault (constant_fault at right r))
+constant_decided at right (Ok (const.Int z)) is = λ f h. h
+constant_decided at right (Ok (const.Bool b)) is = λ f h. h
+constant_decided at right (Ok const.NoConst) is = absurd is
+constant_decided at right (Err Overflow) is = (_, refl)
+constant_decided at right (Err ZeroDivisor) is = (_, refl)
+constant_decided at right (Err NegativeShift) is = (_, refl)
+constant_decided at right (Err NotConstant) is = (_, refl)
 
-prefix_decided : (at : Pos) (op : UnOp) → takes_constant op ≡ true → (x : Operand) → Decided (prefixed op x) (PrefixFails at op x)
-prefix_decided at op is (value x) = value_prefix_decided at (prefix_of op) x
-prefix_decided at op is (untyped z) = constant_prefix_decided at op is z
+number_is : (r : Result ℤ ConstFault) → IsConstant (as_constant r)
+number_is (Ok z) = tt
+number_is (Err e) = tt
 
-one_decided : (k : Operand → Option Operand) (R : Operand → Fault → Type 0) (o : Option Operand) (P : Fault → Type 0) → Decided o P → ((x : Operand) → Decided (k x) (R x)) → Decided (option_and_then k o) (λ f. P f ⊎ OneFails R o f)
+-- where a test holds there is a constant, and else no value
+abbrev FoldedIs : Bool → Result Const ConstFault → Type 0
+FoldedIs true r = IsConstant r
+FoldedIs false r = constant_of r ≡ None
+
+prefix_is : (op : UnOp) (c : Constant) → FoldedIs (takes_one op (constant_type c)) (folded_one op (const_of c))
+prefix_is Plus (Number z) = tt
+prefix_is Negate (Number z) = number_is (in_range_or_fault (neg_ℤ z))
+prefix_is Complement (Number z) = tt
+prefix_is Not (Number z) = refl
+prefix_is Star (Number z) = refl
+prefix_is Address (Number z) = refl
+prefix_is Plus (Truth b) = refl
+prefix_is Negate (Truth b) = refl
+prefix_is Complement (Truth b) = refl
+prefix_is Not (Truth b) = tt
+prefix_is Star (Truth b) = refl
+prefix_is Address (Truth b) = refl
+
+bools_is : (op : CompareOp) (p q : Bool) → FoldedIs (takes (Compare op) Boolean Boolean) (compared_bools op p q)
+bools_is Equal p q = tt
+bools_is NotEqual p q = tt
+bools_is Less p q = refl
+bools_is LessEqual p q = refl
+bools_is Greater p q = refl
+bools_is GreaterEqual p q = refl
+
+folded_is : (op : BinOp) (c d : Constant) → FoldedIs (takes op (constant_type c) (constant_type d)) (folded op (const_of c) (const_of d))
+folded_is (Arithmetic op) (Number x) (Number y) = number_is (kept (exact op x y))
+folded_is (Arithmetic op) (Number x) (Truth q) = refl
+folded_is (Arithmetic op) (Truth p) (Number y) = refl
+folded_is (Arithmetic op) (Truth p) (Truth q) = refl
+folded_is (Compare op) (Number x) (Number y) = tt
+folded_is (Compare op) (Number x) (Truth q) = mixed op
+  where
+    mixed : (k : CompareOp) → FoldedIs (takes (Compare k) Int Boolean) (folded (Compare k) (const.Int x) (const.Bool q))
+    mixed Equal = refl
+    mixed NotEqual = refl
+    mixed Less = refl
+    mixed LessEqual = refl
+    mixed Greater = refl
+    mixed GreaterEqual = refl
+folded_is (Compare op) (Truth p) (Number y) = mixed op
+  where
+    mixed : (k : CompareOp) → FoldedIs (takes (Compare k) Boolean Int) (folded (Compare k) (const.Bool p) (const.Int y))
+    mixed Equal = refl
+    mixed NotEqual = refl
+    mixed Less = refl
+    mixed LessEqual = refl
+    mixed Greater = refl
+    mixed GreaterEqual = refl
+folded_is (Compare op) (Truth p) (Truth q) = bools_is op p q
+folded_is Both (Number x) (Number y) = refl
+folded_is Both (Number x) (Truth q) = refl
+folded_is Both (Truth p) (Number y) = refl
+folded_is Both (Truth p) (Truth q) = tt
+folded_is Either (Number x) (Number y) = refl
+folded_is Either (Number x) (Truth q) = refl
+folded_is Either (Truth p) (Number y) = refl
+folded_is Either (Truth p) (Truth q) = tt
+
+-- what is taken is folded, and what isn't has the fault of the type
+constants_decided : (at right : Pos) (own : Fault) (b : Bool) (r : Result Const ConstFault) → FoldedIs b r → Decided (constant_of r) (IsFault (cond b (constant_fault at right r) (Some own)))
+constants_decided at right own true r is = constant_decided at right r is
+constants_decided at right own false r is = by (constant_of r) is
+  where
+    by : (o : Option Operand) → o ≡ None → Decided o (IsFault (Some own))
+    by None e = (own, refl)
+    by (Some x) e = cc e
+
+-- ---- operators
+
+value_prefix_decided : (own : Fault) (b : Bool) (o : Option TypedPrefix) (t : ValueType) (x : Ex) → (o ≡ None → b ≡ false) → Decided (allowed b (option_map (λ g. value t (typed.unary g x)) o)) (IsFault (cond b None (Some own)))
+value_prefix_decided own false o t x has = (own, refl)
+value_prefix_decided own true (Some g) t x has = λ f h. h
+value_prefix_decided own true None t x has = absurd (false≢true (Rattle.std.proofs.Common.sym (has refl)))
+
+no_prefix : (op : UnOp) (t : ValueType) → prefix_of op ≡ None → takes_one op t ≡ false
+no_prefix Plus t is = cc is
+no_prefix Negate t is = cc is
+no_prefix Complement t is = cc is
+no_prefix Not t is = cc is
+no_prefix Star Int is = refl
+no_prefix Star Boolean is = refl
+no_prefix Address Int is = refl
+no_prefix Address Boolean is = refl
+
+prefix_decided : (at : Pos) (op : UnOp) (x : Operand) → Decided (prefixed op x) (IsFault (prefix_fault at op (Some x)))
+prefix_decided at op (value t x) = value_prefix_decided (fault BadOperand at) (takes_one op t) (prefix_of op) t x (no_prefix op t)
+prefix_decided at op (untyped c) = constants_decided at at (fault BadOperand at) (takes_one op (constant_type c)) (folded_one op (const_of c)) (prefix_is op c)
+
+-- two values, where an operator takes them
+left_decided : (at : Pos) (op : BinOp) (c : Constant) (x : Ex) → Decided (both_values at op (constant_value c) (Some x)) (IsFault (constant_range_fault at c))
+left_decided at op (Truth b) x = λ f h. h
+left_decided at op (Number z) x = by (is_int z)
+  where
+    by : (b : Bool) → Decided (both_values at op (cond b (Some (typed.constant (Rattle.typed.specs.Value.int z))) None) (Some x)) (IsFault (cond b None (Some (fault ConstRange at))))
+    by true = λ f h. h
+    by false = (_, refl)
+
+right_value_decided : (at right : Pos) (op : BinOp) (x : Ex) (c : Constant) → Decided (both_values at op (Some x) (constant_value c)) (IsFault (constant_range_fault right c))
+right_value_decided at right op x (Truth b) = λ f h. h
+right_value_decided at right op x (Number z) = by (is_int z)
+  where
+    by : (b : Bool) → Decided (both_values at op (Some x) (cond b (Some (typed.constant (Rattle.typed.specs.Value.int z))) None)) (IsFault (cond b None (Some (fault ConstRange right))))
+    by true = λ f h. h
+    by false = (_, refl)
+
+right_decided : (own1 own2 : Fault) (z s : Bool) (o : Option Operand) (r : Option Fault) → Decided o (IsFault r)
+    → Decided (allowed (not z && not s) o) (IsFault (cond z (Some own1) (cond s (Some own2) r)))
+right_decided own1 own2 true s o r d = (own1, refl)
+right_decided own1 own2 false true o r d = (own2, refl)
+right_decided own1 own2 false false o r d = d
+
+-- what an operator doesn't take has a fault of its own
+where_taken : (own : Fault) (b c : Bool) (o : Option Operand) (r : Option Fault) → Decided (allowed c o) (IsFault r) → Decided (allowed (b && c) o) (IsFault (cond b r (Some own)))
+where_taken own true c o r d = d
+where_taken own false c o r d = (own, refl)
+
+two_decided : (at right : Pos) (op : BinOp) (x y : Operand) → Decided (combined at op x y) (IsFault (two_fault at right op x y))
+two_decided at right op (untyped c) (untyped d) =
+    constants_decided at right (fault (unfit_kind op (constant_type c) (constant_type d)) at) (takes op (constant_type c) (constant_type d)) (folded op (const_of c) (const_of d)) (folded_is op c d)
+two_decided at right op (untyped c) (value t x) =
+    where_taken (fault (unfit_kind op (constant_type c) t) at) (takes op (constant_type c) t) true (both_values at op (constant_value c) (Some x)) (constant_range_fault at c) (left_decided at op c x)
+two_decided at right op (value t x) (untyped d) =
+    where_taken (fault (unfit_kind op t (constant_type d)) at) (takes op t (constant_type d)) (stands_right op d) (both_values at op (Some x) (constant_value d)) (right_fault at right op d)
+    (right_decided (fault ConstZeroDivisor right) (fault BadOperand at) (is_division op && is_zero d) (is_shift op && is_negative d) (both_values at op (Some x) (constant_value d)) (constant_range_fault right d)
+    (right_value_decided at right op x d))
+two_decided at right op (value s x) (value t y) =
+    where_taken (fault (unfit_kind op s t) at) (takes op s t) true (both_values at op (Some x) (Some y)) None (λ f h. h)
+
+one_decided : {A : Type 0} (k : Operand → Option A) (R : Option Operand → Option Fault) (o : Option Operand) (P : Fault → Type 0) → Decided o P → ((x : Operand) → Decided (k x) (IsFault (R (Some x))))
+    → Decided (option_and_then k o) (λ f. P f ⊎ IsFault (R o) f)
 one_decided k R None P d r = (d.0, inl d.1)
-one_decided k R (Some x) P d r = further P (R x) (k x) d (r x)
+one_decided k R (Some x) P d r = further P (IsFault (R (Some x))) (k x) d (r x)
 
-two_decided : {C : Type 0} (k : Operand → Operand → Option C) (R : Operand → Operand → Fault → Type 0) (a b : Option Operand) (P Q : Fault → Type 0) → Decided a P → Decided b Q → ((x y : Operand) → Decided (k x y) (R x y))
-    → Decided (both k a b) (λ f. (P f ⊎ Q f) ⊎ BothFail R a b f)
-two_decided k R None b P Q p q r = (p.0, inl (inl p.1))
-two_decided k R (Some x) None P Q p q r = (q.0, inl (inr q.1))
-two_decided k R (Some x) (Some y) P Q p q r = further (λ f. P f ⊎ Q f) (R x y) (k x y) (λ f h. elim h [ inl u ↦ p f u | inr u ↦ q f u ]) (r x y)
+pub pair_decided : (at right : Pos) (op : BinOp) (a b : Option Operand) (P Q : Fault → Type 0) → Decided a P → Decided b Q
+    → Decided (both (combined at op) a b) (λ f. (P f ⊎ Q f) ⊎ IsFault (pair_fault at right op a b) f)
+pair_decided at right op None b P Q p q = (p.0, inl (inl p.1))
+pair_decided at right op (Some x) None P Q p q = (q.0, inl (inr q.1))
+pair_decided at right op (Some x) (Some y) P Q p q =
+    further (λ f. P f ⊎ Q f) (IsFault (two_fault at right op x y)) (combined at op x y) (λ f h. elim h [ inl u ↦ p f u | inr u ↦ q f u ]) (two_decided at right op x y)
 
-operator_decided : (k : Operand → Operand → Option Operand) (at right : Pos) (op : BinOp) (a b : Option Operand) (P Q : Fault → Type 0) → Decided a P → Decided b Q → ((x y : Operand) → Decided (k x y) (PairFails at right op x y))
-    → Decided (both k a b) (λ f. (P f ⊎ Q f) ⊎ OperatorFails at right op a b f)
-operator_decided k at right op None b P Q p q r = (p.0, inl (inl p.1))
-operator_decided k at right op (Some x) None P Q p q r = (q.0, inl (inr q.1))
-operator_decided k at right op (Some x) (Some y) P Q p q r = further (λ f. P f ⊎ Q f) (PairFails at right op x y) (k x y) (λ f h. elim h [ inl u ↦ p f u | inr u ↦ q f u ]) (r x y)
-
-folded_decided : (at right : Pos) (op : BinOp) → takes_constants op ≡ true → (y z : ℤ) → Decided (constant_of (folded op (Int y) (Int z))) (ConstantFails at right (folded op (Int y) (Int z)))
-folded_decided at right (Arithmetic op) is y z = constant_decided at right (kept (exact op y z))
-folded_decided at right op is y z = absurd (false≢true is)
-
-pair_decided : (at right : Pos) (op : BinOp) → takes_constants op ≡ true → (x y : Operand) → Decided (combined at op x y) (PairFails at right op x y)
-pair_decided at right op is (untyped y) (untyped z) = folded_decided at right op is y z
-pair_decided at right op is (untyped y) (value x) = by (op_of op) (is_int y)
+literal_decided : (at : Pos) (n : ℕ) → Decided (cond (nat_lt n (2 ^ 127)) (Some (one (untyped (Number (pos n))))) None) (IsFault (literal_fault at n))
+literal_decided at n = by (nat_lt n (2 ^ 127))
   where
-    by : (o : Option TypedOp) (b : Bool) → Decided (both_ints at o (cond b (Some (constant (int y))) None) (Some x)) (WhereTyped o at (λ f. (b ≡ false) × (f ≡ fault ConstRange at)))
-    by None b = (fault OutOfProfile at, refl)
-    by (Some t) true = λ f h. cc h.0
-    by (Some t) false = (fault ConstRange at, (refl, refl))
-pair_decided at right op is (value x) (untyped z) = by (op_of op) (is_int z)
-  where
-    by : (o : Option TypedOp) (b : Bool) → Decided (both_ints at o (Some x) (cond b (Some (constant (int z))) None)) (WhereTyped o at (λ f. (b ≡ false) × (f ≡ fault ConstRange right)))
-    by None b = (fault OutOfProfile at, refl)
-    by (Some t) true = λ f h. cc h.0
-    by (Some t) false = (fault ConstRange right, (refl, refl))
-pair_decided at right op is (value x) (value y) = by (op_of op)
-  where
-    by : (o : Option TypedOp) → Decided (both_ints at o (Some x) (Some y)) (WhereTyped o at (λ f. ⊥))
-    by None = (fault OutOfProfile at, refl)
-    by (Some t) = λ f h. h
+    by : (b : Bool) → Decided (cond b (Some (one (untyped (Number (pos n))))) None) (IsFault (cond b None (Some (fault ConstRange at))))
+    by true = λ f h. h
+    by false = (_, refl)
 
-comparison_decided : (at right : Pos) (op : CompareOp) (x y : Operand) → Decided (compared_operands at op x y) (ComparisonFails at right x y)
-comparison_decided at right op (untyped y) (untyped z) = λ f h. h
-comparison_decided at right op (untyped y) (value x) = by (is_int y)
-  where
-    by : (b : Bool) → Decided (compared_ints at op (cond b (Some (constant (int y))) None) (Some x)) (λ f. (b ≡ false) × (f ≡ fault ConstRange at))
-    by true = λ f h. cc h.0
-    by false = (fault ConstRange at, (refl, refl))
-comparison_decided at right op (value x) (untyped z) = by (is_int z)
-  where
-    by : (b : Bool) → Decided (compared_ints at op (Some x) (cond b (Some (constant (int z))) None)) (λ f. (b ≡ false) × (f ≡ fault ConstRange right))
-    by true = λ f h. cc h.0
-    by false = (fault ConstRange right, (refl, refl))
-comparison_decided at right op (value x) (value y) = λ f h. h
+condition_value_decided : (at : Pos) (x : Operand) → Decided (as_condition x) (IsFault (condition_fault at (Some x)))
+condition_value_decided at (untyped (Number z)) = (_, refl)
+condition_value_decided at (untyped (Truth b)) = λ f h. h
+condition_value_decided at (value Int x) = (_, refl)
+condition_value_decided at (value Boolean x) = λ f h. h
 
-literal_decided : (at : Pos) (n : ℕ) → Decided (cond (nat_lt n (2 ^ 127)) (Some (one (untyped (pos n)))) None) (λ f. (2 ^ 127 ≤ n) × (f ≡ fault ConstRange at))
-literal_decided at n = by (nat_lt n (2 ^ 127)) refl
-  where
-    by : (b : Bool) → nat_lt n (2 ^ 127) ≡ b → Decided (cond b (Some (one (untyped (pos n)))) None) (λ f. (2 ^ 127 ≤ n) × (f ≡ fault ConstRange at))
-    by true is = λ f h. absurd (omega (arith, ltb-true n (2 ^ 127) is, h.0))
-    by false is = (fault ConstRange at, (ltb-false n (2 ^ 127) is, refl))
+-- ---- names
 
-name_decided : (sigs : List (Option Signature)) (reserved : Bool) (d : Option Declared) (at : Pos) → ((x : Declared) → d ≡ Some x → IsTyped sigs x) → Decided (option_map one (name_operand reserved d)) (NameFails reserved d at)
-name_decided sigs true d at typed = (fault OutOfProfile at, refl)
-name_decided sigs false None at typed = (fault Unknown at, refl)
-name_decided sigs false (Some (Variable site)) at typed = λ f h. h
-name_decided sigs false (Some Untyped) at typed = absurd (typed Untyped refl)
-name_decided sigs false (Some (Function g)) at typed = (fault OutOfProfile at, refl)
-name_decided sigs false (Some TypeName) at typed = (fault BadOperand at, refl)
+name_decided : (sigs : List (Option Signature)) (w : Word) (d : Option Declared) (at : Pos) → ((x : Declared) → d ≡ Some x → IsTyped sigs x) → Decided (option_map one (name_operand w d)) (IsFault (name_fault w d at))
+name_decided sigs (word.Truth b) d at typed = λ f h. h
+name_decided sigs (word.Print line) d at typed = (_, refl)
+name_decided sigs word.Panic d at typed = (_, refl)
+name_decided sigs word.Reserved d at typed = (_, refl)
+name_decided sigs word.Free None at typed = (_, refl)
+name_decided sigs word.Free (Some (Variable site t)) at typed = λ f h. h
+name_decided sigs word.Free (Some Untyped) at typed = absurd (typed Untyped refl)
+name_decided sigs word.Free (Some (Function g)) at typed = (_, refl)
+name_decided sigs word.Free (Some TypeName) at typed = (_, refl)
 
-type_name_decided : (sigs : List (Option Signature)) (is_int is_type is_value : Bool) (d : Option Declared) (at : Pos) → ((x : Declared) → d ≡ Some x → IsTyped sigs x)
-    → Decided (cond is_int (Some value_type.Int) None) (TypeNameFails is_int is_type is_value d at)
-type_name_decided sigs true is_type is_value d at typed = λ f h. h
-type_name_decided sigs false true is_value d at typed = (fault OutOfProfile at, refl)
-type_name_decided sigs false false true d at typed = (fault BadOperand at, refl)
-type_name_decided sigs false false false None at typed = (fault Unknown at, refl)
-type_name_decided sigs false false false (Some (Variable site)) at typed = (fault BadOperand at, refl)
-type_name_decided sigs false false false (Some Untyped) at typed = (fault BadOperand at, refl)
-type_name_decided sigs false false false (Some (Function g)) at typed = (fault BadOperand at, refl)
-type_name_decided sigs false false false (Some TypeName) at typed = absurd (typed TypeName refl)
+type_name_decided : (sigs : List (Option Signature)) (t : Option ValueType) (is_type is_value : Bool) (d : Option Declared) (at : Pos) → ((x : Declared) → d ≡ Some x → IsTyped sigs x)
+    → Decided t (IsFault (type_name_fault t is_type is_value d at))
+type_name_decided sigs (Some t) is_type is_value d at typed = λ f h. h
+type_name_decided sigs None true is_value d at typed = (_, refl)
+type_name_decided sigs None false true d at typed = (_, refl)
+type_name_decided sigs None false false None at typed = (_, refl)
+type_name_decided sigs None false false (Some (Variable site t)) at typed = (_, refl)
+type_name_decided sigs None false false (Some Untyped) at typed = (_, refl)
+type_name_decided sigs None false false (Some (Function g)) at typed = (_, refl)
+type_name_decided sigs None false false (Some TypeName) at typed = absurd (typed TypeName refl)
 
 -- ---- calls
 
 -- what is called has a type, or a rule says why not
 abbrev CalleeIs : Callee → (Fault → Type 0) → Type 0
-CalleeIs printer C = (f : Fault) → C f → ⊥
-CalleeIs (function g params wanted) C = (f : Fault) → C f → ⊥
+CalleeIs nothing C = (f : Fault) × C f
+CalleeIs (printer line) C = (f : Fault) → C f → ⊥
+CalleeIs panicker C = (f : Fault) → C f → ⊥
+CalleeIs (function g ps ts) C = (f : Fault) → C f → ⊥
 CalleeIs no_function C = (f : Fault) → C f → ⊥
 CalleeIs no_spread C = (f : Fault) → C f → ⊥
-CalleeIs nothing C = (f : Fault) × C f
 
 callee_value_is : (o : Option Operand) (P : Fault → Type 0) → Decided o P → CalleeIs (callee_value o) P
 callee_value_is None P d = d
@@ -182,28 +286,28 @@ callee_function_is : (f : ℕ) (sig : Option Signature) (C : Fault → Type 0) �
 callee_function_is f None C has none = absurd has
 callee_function_is f (Some sig) C has none = none
 
-callee_declared_is : (s : Scope) (d : Option Declared) (at : Pos) → ((x : Declared) → d ≡ Some x → IsTyped s.signatures x) → CalleeIs (callee_declared s d) (CalleeNameFails false false d at)
-callee_declared_is s None at typed = (fault Unknown at, refl)
-callee_declared_is s (Some (Variable site)) at typed = λ f h. h
+callee_declared_is : (s : Scope) (d : Option Declared) (at : Pos) → ((x : Declared) → d ≡ Some x → IsTyped s.signatures x) → CalleeIs (callee_declared s d) (IsFault (callee_declared_fault d at))
+callee_declared_is s None at typed = (_, refl)
+callee_declared_is s (Some (Variable site t)) at typed = λ f h. h
 callee_declared_is s (Some Untyped) at typed = absurd (typed Untyped refl)
-callee_declared_is s (Some (Function g)) at typed = callee_function_is g.0 (signature s g.0) (CalleeNameFails false false (Some (Function g)) at) (typed (Function g) refl) (λ f h. h)
-callee_declared_is s (Some TypeName) at typed = (fault BadOperand at, refl)
+callee_declared_is s (Some (Function g)) at typed = callee_function_is g.0 (signature s g.0) (IsFault (callee_declared_fault (Some (Function g)) at)) (typed (Function g) refl) (λ f h. h)
+callee_declared_is s (Some TypeName) at typed = (_, refl)
 
 spread_is : (spread : Bool) (k : Callee) (C : Fault → Type 0) → CalleeIs k C → CalleeIs (spread_over spread k) C
 spread_is false k C is = is
-spread_is true printer C is = is
-spread_is true (function f params wanted) C is = is
+spread_is true (printer line) C is = is
+spread_is true panicker C is = is
+spread_is true (function f ps ts) C is = is
 spread_is true no_function C is = is
 spread_is true no_spread C is = is
 spread_is true nothing C is = is
 
-callee_named_is : (s : Scope) (settled : IsSettled s) (n : List ℕ) (at : Pos) → CalleeIs (callee_named s n) (CalleeNameFails (is_println n) (is_reserved n) (declaration s n) at)
-callee_named_is s settled n at = by (is_println n) (is_reserved n)
-  where
-    by : (p r : Bool) → CalleeIs (cond p printer (cond r nothing (callee_declared s (declaration s n)))) (CalleeNameFails p r (declaration s n) at)
-    by true r = λ f h. h
-    by false true = (fault OutOfProfile at, refl)
-    by false false = callee_declared_is s (declaration s n) at (λ x is. declared_typed s settled n x is)
+callee_named_is : (s : Scope) (w : Word) (d : Option Declared) (at : Pos) → ((x : Declared) → d ≡ Some x → IsTyped s.signatures x) → CalleeIs (callee_named s w d) (IsFault (callee_name_fault w d at))
+callee_named_is s (word.Truth b) d at typed = λ f h. h
+callee_named_is s (word.Print line) d at typed = λ f h. h
+callee_named_is s word.Panic d at typed = λ f h. h
+callee_named_is s word.Reserved d at typed = (_, refl)
+callee_named_is s word.Free d at typed = callee_declared_is s d at typed
 
 with_callee : {A : Type 0} (C E K : Fault → Type 0) (o : Option A) → ((f : Fault) → C f → ⊥) → Decided o (λ f. E f ⊎ K f) → Decided o (λ f. (C f ⊎ E f) ⊎ K f)
 with_callee C E K o none d = same (λ f. E f ⊎ K f) (λ f. (C f ⊎ E f) ⊎ K f) o (λ f h. elim h [ inl e ↦ inl (inr e) | inr k ↦ inr k ]) back d
@@ -218,45 +322,38 @@ refused_call C E K f (inl h) = inl (inr h)
 refused_call C E K f (inr h) = inr h
 
 call_decided : (at : Pos) (k : Callee) (os : List Seen) (C E : Fault → Type 0) → CalleeIs k C → Decided (given_all os) E → Decided (called_with at k os) (λ f. (C f ⊎ E f) ⊎ CallFails at k os f)
-call_decided at printer os C E c e = with_callee C E (CallFails at printer os) (called_with at printer os) c (mapped _ (ints os) (λ f. E f ⊎ (SinglesFail os f ⊎ RangeFails os f)) (print_decided os E e))
-call_decided at (function g params wanted) os C E c e =
-    with_callee C E (CallFails at (function g params wanted) os) (called_with at (function g params wanted) os) c
-    (mapped _ (taken params os) (λ f. E f ⊎ CallFails at (function g params wanted) os f) (take_decided os E e _ params))
+call_decided at (printer line) os C E c e =
+    with_callee C E (CallFails at (printer line) os) (called_with at (printer line) os) c (mapped _ (pieces os) (λ f. E f ⊎ (SinglesFail os f ⊎ RangeFails os f)) (print_decided os E e))
+call_decided at panicker os C E c e = with_callee C E (CallFails at panicker os) (called_with at panicker os) c (panic_decided os E e at (fault ArgCount at))
+call_decided at (function g ps ts) os C E c e =
+    with_callee C E (CallFails at (function g ps ts) os) (called_with at (function g ps ts) os) c
+    (mapped _ (taken ps os) (λ f. E f ⊎ CallFails at (function g ps ts) os f) (take_decided os E e _ ps))
 call_decided at no_function os C E c e = let u = refused os E e (fault NotCallable at) in (u.0, refused_call C E (CallFails at no_function os) u.0 u.1)
 call_decided at no_spread os C E c e = let u = refused os E e (fault BadOperand at) in (u.0, refused_call C E (CallFails at no_spread os) u.0 u.1)
 call_decided at nothing os C E c e = (c.0, inl (inl c.1))
 
 module _ (text : List ℕ) (s : Scope) (settled : IsSettled s) where
   callee_is : (o : Option Name) (g : Option Gives) (P : Fault → Type 0) → Decided g P → CalleeIs (callee text s o g) (CalleeFails text s o P g)
-  callee_is None g P d = callee_value_is (operand_in g) (λ f. P f ⊎ SingleFails g f) (operand_decided g P d)
-  callee_is (Some n) g P d = callee_named_is s settled (spelled text n) n.pos
+  callee_is None g P d = callee_value_is (operand_in g) (λ f. P f ⊎ IsFault (single_fault g) f) (operand_decided g P d)
+  callee_is (Some n) g P d = callee_named_is s (word_of (spelled text n)) (declaration s (spelled text n)) n.pos (λ x is. declared_typed s settled (spelled text n) x is)
 
-  unary_decided : (at : Pos) (op : UnOp) (e : TreeEx) (taken : Bool) → takes_constant op ≡ taken → Decided (operand_in (gives text s e)) (FailsAsOperand text s e)
-      → Decided (prefix_gives op taken (operand_in (gives text s e))) (WhereTaken taken (λ g. FailsAsOperand text s e g ⊎ OneFails (PrefixFails at op) (operand_in (gives text s e)) g) (λ g. FormFails at g))
-  unary_decided at op e false is d = (fault OutOfProfile at, refl)
-  unary_decided at op e true is d =
-      mapped one (option_and_then (prefixed op) (operand_in (gives text s e))) (λ g. FailsAsOperand text s e g ⊎ OneFails (PrefixFails at op) (operand_in (gives text s e)) g)
-      (one_decided (prefixed op) (PrefixFails at op) (operand_in (gives text s e)) (FailsAsOperand text s e) d (prefix_decided at op is))
-
-  binary_decided : (at : Pos) (op : BinOp) (a b : TreeEx) (taken : Bool) → takes_constants op ≡ taken → Decided (operand_in (gives text s a)) (FailsAsOperand text s a) → Decided (operand_in (gives text s b)) (FailsAsOperand text s b)
-      → Decided (pair_gives (first_place a) op taken (operand_in (gives text s a)) (operand_in (gives text s b)))
-      (WhereTaken taken (λ g. (FailsAsOperand text s a g ⊎ FailsAsOperand text s b g) ⊎ OperatorFails (first_place a) (first_place b) op (operand_in (gives text s a)) (operand_in (gives text s b)) g)
-      (λ g. Fails text s a g ⊎ FormFails (first_place a) g))
-  binary_decided at op a b false is d e = (fault OutOfProfile (first_place a), inr refl)
-  binary_decided at op a b true is d e =
-      mapped one (both (combined (first_place a) op) (operand_in (gives text s a)) (operand_in (gives text s b)))
-      (λ g. (FailsAsOperand text s a g ⊎ FailsAsOperand text s b g) ⊎ OperatorFails (first_place a) (first_place b) op (operand_in (gives text s a)) (operand_in (gives text s b)) g)
-      (operator_decided (combined (first_place a) op) (first_place a) (first_place b) op (operand_in (gives text s a)) (operand_in (gives text s b)) (FailsAsOperand text s a) (FailsAsOperand text s b)
-      d e (pair_decided (first_place a) (first_place b) op is))
+  unary_decided : (at : Pos) (op : UnOp) (e : TreeEx) (taken1 : Bool) → Decided (operand_in (gives text s e)) (FailsAsOperand text s e)
+      → Decided (prefix_gives op taken1 (operand_in (gives text s e))) (WhereTaken taken1 (λ g. FailsAsOperand text s e g ⊎ IsFault (prefix_fault at op (operand_in (gives text s e))) g) (λ g. FormFails at g))
+  unary_decided at op e false d = (fault OutOfProfile at, refl)
+  unary_decided at op e true d =
+      mapped one (option_and_then (prefixed op) (operand_in (gives text s e))) (λ g. FailsAsOperand text s e g ⊎ IsFault (prefix_fault at op (operand_in (gives text s e))) g)
+      (one_decided (prefixed op) (prefix_fault at op) (operand_in (gives text s e)) (FailsAsOperand text s e) d (prefix_decided at op))
 
   mutual
     -- an expression gives something, or a rule fails in it
     pub gives_decided : (e : TreeEx) → Decided (gives text s e) (Fails text s e)
     gives_decided (number at n) = literal_decided at n
-    gives_decided (name n) = name_decided s.signatures (is_reserved (spelled text n)) (declaration s (spelled text n)) n.pos (λ x is. declared_typed s settled (spelled text n) x is)
-    gives_decided (unary at op e) = unary_decided at op e (takes_constant op) refl (operand_decided (gives text s e) (Fails text s e) (gives_decided e))
+    gives_decided (name n) = name_decided s.signatures (word_of (spelled text n)) (declaration s (spelled text n)) n.pos (λ x is. declared_typed s settled (spelled text n) x is)
+    gives_decided (unary at op e) = unary_decided at op e (has_rules op) (operand_decided (gives text s e) (Fails text s e) (gives_decided e))
     gives_decided (binary at op a b) =
-        binary_decided at op a b (takes_constants op) refl (operand_decided (gives text s a) (Fails text s a) (gives_decided a)) (operand_decided (gives text s b) (Fails text s b) (gives_decided b))
+        mapped one (both (combined (first_place a) op) (operand_in (gives text s a)) (operand_in (gives text s b))) (λ g. Fails text s (binary at op a b) g)
+        (pair_decided (first_place a) (first_place b) op (operand_in (gives text s a)) (operand_in (gives text s b)) (FailsAsOperand text s a) (FailsAsOperand text s b)
+        (operand_decided (gives text s a) (Fails text s a) (gives_decided a)) (operand_decided (gives text s b) (Fails text s b) (gives_decided b)))
     gives_decided (paren at e) = gives_decided e
     gives_decided (call g es spread) =
         call_decided (first_place g) (spread_over spread (callee text s (name_in g) (gives text s g))) (seen text s es) (CalleeFails text s (name_in g) (λ f. Fails text s g f) (gives text s g)) (FailsInEach text s es)
@@ -276,22 +373,13 @@ module _ (text : List ℕ) (s : Scope) (settled : IsSettled s) where
 
   -- an expression is a type, or a rule of types fails in it
   pub type_decided : (e : TreeEx) → Decided (type_in text e) (FailsAsType text s e)
-  type_decided (name n) = type_name_decided s.signatures (is_int_type (spelled text n)) (is_type_name (spelled text n)) (is_value_name (spelled text n)) (declaration s (spelled text n)) n.pos (λ x is. declared_typed s settled (spelled text n) x is)
+  type_decided (name n) = type_name_decided s.signatures (named_type (spelled text n)) (is_type_name (spelled text n)) (is_value_name (spelled text n)) (declaration s (spelled text n)) n.pos (λ x is. declared_typed s settled (spelled text n) x is)
   type_decided (paren at e) = type_decided e
   type_decided e = (fault OutOfProfile (first_place e), refl)
 
-  compared_decided : (at : Pos) (e : TreeEx) (c : Option Comparison) → Decided (compared_in text s c) (ComparedFails text s at e c)
-  compared_decided at e (Some c) =
-      two_decided (compared_operands (first_place c.left) c.op) (ComparisonFails (first_place c.left) (first_place c.right)) (operand_in (gives text s c.left)) (operand_in (gives text s c.right)) (FailsAsOperand text s c.left) (FailsAsOperand text s c.right)
-      (operand_decided (gives text s c.left) (Fails text s c.left) (gives_decided c.left)) (operand_decided (gives text s c.right) (Fails text s c.right) (gives_decided c.right)) (comparison_decided (first_place c.left) (first_place c.right) c.op)
-  compared_decided at e None = value_refused (operand_in (gives text s e)) (operand_decided (gives text s e) (Fails text s e) (gives_decided e))
-    where
-      value_refused : (o : Option Operand) → Decided o (FailsAsOperand text s e) → (f : Fault) × (FailsAsOperand text s e f ⊎ OneFails (λ x g. g ≡ fault BadOperand at) o f)
-      value_refused None d = (d.0, inl d.1)
-      value_refused (Some x) d = (fault BadOperand at, inr refl)
-
   pub condition_decided : (at : Pos) (e : TreeEx) → Decided (condition text s e) (FailsInCondition text s at e)
-  condition_decided at e = compared_decided at e (comparison_in e)
+  condition_decided at e =
+      one_decided as_condition (condition_fault at) (operand_in (gives text s e)) (FailsAsOperand text s e) (operand_decided (gives text s e) (Fails text s e) (gives_decided e)) (condition_value_decided at)
 
   pub test_decided : (at : Pos) (o : Option TreeEx) → Decided (test text s o) (FailsInTest text s at o)
   test_decided at None = λ f h. h

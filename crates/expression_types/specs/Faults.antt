@@ -4,7 +4,7 @@
 -- A form that is left out of the profile fails at its first byte, and has no other rule of its own. The part that begins at the same byte
 -- keeps its rules, so that the fault with the least number stands there. What stands further right isn't looked at: the fault that is
 -- reported has the least offset.
-use Rattle.std.specs.Prelude.{◌≡◌, ⊤, ℕ, ◌≤◌, ◌^◌, ◌==◌, ◌⊎◌, Bool, true, false, take, List, [], ◌∷◌, Option, Some, None, Result, Ok, Err}
+use Rattle.std.specs.Prelude.{◌≡◌, ℕ, length, ◌^◌, ◌==◌, nat_lt, ◌⊎◌, Bool, true, false, ◌&&◌, ◌||◌, take, List, [], ◌∷◌, Option, Some, None, Result, Ok, Err, if◌then◌else◌}
 use Rattle.base.specs.declared.pos.Pos.{Pos}
 use Rattle.syntax.specs.declared.operator.BinOp.{BinOp}
 use Rattle.syntax.specs.declared.operator.UnOp.{UnOp}
@@ -13,21 +13,31 @@ use Rattle.syntax.specs.FirstBytes.{first_place}
 use Rattle.syntax.specs.Expressions.{Ex as TreeEx, Exs as TreeExs, number, string, name, unary, binary, paren, call, selector, index, slice, array_type, slice_type, literal, elements, some, spelled}
 use Rattle.syntax.specs.Expressions as tree
 use Rattle.names.specs.declared.constants.Const.{Const}
-use Rattle.names.specs.declared.constants.Const.TheVariants.{Int}
 use Rattle.names.specs.declared.constants.ConstFault.{ConstFault}
 use Rattle.names.specs.declared.constants.ConstFault.TheVariants.{Overflow, ZeroDivisor, NegativeShift, NotConstant}
 use Rattle.names.specs.Constants.{folded, folded_one}
 use Rattle.expression_types.specs.declared.fault.Fault.{Fault}
 use Rattle.expression_types.specs.declared.fault.FaultKind.{FaultKind}
-use Rattle.expression_types.specs.declared.fault.FaultKind.TheVariants.{Unknown, NotCallable, ArgCount, ResultCount, ConstRange, BadOperand, OutOfProfile, ConstZeroDivisor}
+use Rattle.expression_types.specs.declared.fault.FaultKind.TheVariants.{Unknown, Mismatch, NotCallable, ArgCount, ResultCount, ConstRange, BadOperand, OutOfProfile, ConstZeroDivisor}
+use Rattle.expression_types.specs.declared.operand.Constant.{Constant}
+use Rattle.expression_types.specs.declared.operand.Constant.TheVariants.{Number, Truth}
+use Rattle.expression_types.specs.declared.profile.Word.{Word}
+use Rattle.expression_types.specs.declared.profile.Word.TheVariants as word
 use Rattle.expression_types.specs.declared.scope.Declared.{Declared}
 use Rattle.expression_types.specs.declared.scope.Declared.TheVariants.{Variable, Untyped, Function, TypeName}
-use Rattle.expression_types.specs.Profile.{is_int_type, is_type_name, is_value_name, is_println, is_reserved}
+use Rattle.expression_types.specs.declared.scope.ValueType.{ValueType}
+use Rattle.expression_types.specs.declared.scope.ValueType.TheVariants.{Bool as Boolean}
+use Rattle.expression_types.specs.Profile.{named_type, is_type_name, is_value_name, word_of}
 use Rattle.expression_types.specs.Scope.{Scope, declaration}
-use Rattle.expression_types.specs.Typing.{Operand, untyped, value, Gives, one, called, printed, is_int, operand_in, Seen, Many, many, count, Callee, printer, function, no_function, no_spread, nothing, takes_constants, takes_constant, op_of, prefix_of, spread_over, name_in, callee, gives, seen, Comparison, comparison_in}
+use Rattle.expression_types.specs.Typing.{Operand, untyped, value, Gives, one, called, printed, panicked, same_type, type_of, is_int, const_of, has_rules, takes_one, takes, is_division, is_shift, is_zero, is_negative, operand_in, Seen, Many, many, count, types_agree, operand_agrees, Callee, printer, panicker, function, no_function, no_spread, nothing, spread_over, name_in, callee, gives, seen}
 
 abbrev pub fault : FaultKind → Pos → Fault
 fault kind at = record { kind = kind; pos = at }
+
+-- a rule that has this fault, or none
+abbrev pub IsFault : Option Fault → Fault → Type 0
+IsFault None f = ⊥
+IsFault (Some g) f = f ≡ g
 
 -- a form that is left out of the profile
 abbrev pub FormFails : Pos → Fault → Type 0
@@ -38,167 +48,222 @@ abbrev pub WhereTaken : Bool → (taken left_out : Fault → Type 0) → Fault �
 WhereTaken true taken left_out f = taken f
 WhereTaken false taken left_out f = left_out f
 
--- where an operator is typed, and where a use of it on what is no constant is left out
-abbrev pub WhereTyped : {A : Type 0} → Option A → Pos → (Fault → Type 0) → Fault → Type 0
-WhereTyped (Some op) at typed f = typed f
-WhereTyped None at typed f = FormFails at f
+-- ---- names
 
--- a name that is not the language's own is declared; a function or a type is no value
-abbrev pub NameFails : (reserved : Bool) → Option Declared → Pos → Fault → Type 0
-NameFails true d at f = f ≡ fault OutOfProfile at
-NameFails false None at f = f ≡ fault Unknown at
-NameFails false (Some (Variable site)) at f = ⊥
-NameFails false (Some Untyped) at f = ⊥
-NameFails false (Some (Function g)) at f = f ≡ fault OutOfProfile at
-NameFails false (Some TypeName) at f = f ≡ fault BadOperand at
+-- a function or a type is no value
+abbrev pub declared_fault : Option Declared → Pos → Option Fault
+declared_fault None at = Some (fault Unknown at)
+declared_fault (Some (Variable site t)) at = None
+declared_fault (Some Untyped) at = None
+declared_fault (Some (Function g)) at = Some (fault OutOfProfile at)
+declared_fault (Some TypeName) at = Some (fault BadOperand at)
+
+-- a name as a value: a truth value, or one that is declared and not the language's own
+abbrev pub name_fault : Word → Option Declared → Pos → Option Fault
+name_fault (word.Truth b) d at = None
+name_fault (word.Print line) d at = Some (fault OutOfProfile at)
+name_fault word.Panic d at = Some (fault OutOfProfile at)
+name_fault word.Reserved d at = Some (fault OutOfProfile at)
+name_fault word.Free d at = declared_fault d at
+
+abbrev pub callee_declared_fault : Option Declared → Pos → Option Fault
+callee_declared_fault None at = Some (fault Unknown at)
+callee_declared_fault (Some (Variable site t)) at = None
+callee_declared_fault (Some Untyped) at = None
+callee_declared_fault (Some (Function g)) at = None
+callee_declared_fault (Some TypeName) at = Some (fault BadOperand at)
 
 -- the name of what is called
-abbrev pub CalleeNameFails : (is_println reserved : Bool) → Option Declared → Pos → Fault → Type 0
-CalleeNameFails true reserved d at f = ⊥
-CalleeNameFails false true d at f = f ≡ fault OutOfProfile at
-CalleeNameFails false false None at f = f ≡ fault Unknown at
-CalleeNameFails false false (Some (Variable site)) at f = ⊥
-CalleeNameFails false false (Some Untyped) at f = ⊥
-CalleeNameFails false false (Some (Function g)) at f = ⊥
-CalleeNameFails false false (Some TypeName) at f = f ≡ fault BadOperand at
+abbrev pub callee_name_fault : Word → Option Declared → Pos → Option Fault
+callee_name_fault (word.Truth b) d at = None
+callee_name_fault (word.Print line) d at = None
+callee_name_fault word.Panic d at = None
+callee_name_fault word.Reserved d at = Some (fault OutOfProfile at)
+callee_name_fault word.Free d at = callee_declared_fault d at
 
--- the name of a type: `int`; another type of the language; what is no type; what is not declared; a type of the program
-abbrev pub TypeNameFails : (is_int is_type is_value : Bool) → Option Declared → Pos → Fault → Type 0
-TypeNameFails true is_type is_value d at f = ⊥
-TypeNameFails false true is_value d at f = f ≡ fault OutOfProfile at
-TypeNameFails false false true d at f = f ≡ fault BadOperand at
-TypeNameFails false false false None at f = f ≡ fault Unknown at
-TypeNameFails false false false (Some (Variable site)) at f = f ≡ fault BadOperand at
-TypeNameFails false false false (Some Untyped) at f = f ≡ fault BadOperand at
-TypeNameFails false false false (Some (Function g)) at f = f ≡ fault BadOperand at
-TypeNameFails false false false (Some TypeName) at f = ⊥
+-- the name of what may be a type of the program
+abbrev pub declared_type_fault : Option Declared → Pos → Option Fault
+declared_type_fault None at = Some (fault Unknown at)
+declared_type_fault (Some (Variable site t)) at = Some (fault BadOperand at)
+declared_type_fault (Some Untyped) at = Some (fault BadOperand at)
+declared_type_fault (Some (Function g)) at = Some (fault BadOperand at)
+declared_type_fault (Some TypeName) at = None
+
+-- the name of a type: `int` or `bool`; another type of the language; what is no type; what is declared
+abbrev pub type_name_fault : Option ValueType → (is_type is_value : Bool) → Option Declared → Pos → Option Fault
+type_name_fault (Some t) is_type is_value d at = None
+type_name_fault None true is_value d at = Some (fault OutOfProfile at)
+type_name_fault None false true d at = Some (fault BadOperand at)
+type_name_fault None false false d at = declared_type_fault d at
+
+-- ---- one value
 
 -- a call where one value is wanted has another number of them
-abbrev pub SingleFails : Option Gives → Fault → Type 0
-SingleFails None f = ⊥
-SingleFails (Some (one x)) f = ⊥
-SingleFails (Some (called at n g es)) f = ((n == 1) ≡ false) × (f ≡ fault ResultCount at)
-SingleFails (Some (printed at ps)) f = f ≡ fault ResultCount at
+abbrev pub single_result_fault : Pos → List ValueType → Option Fault
+single_result_fault at [] = Some (fault ResultCount at)
+single_result_fault at (t ∷ []) = None
+single_result_fault at (t ∷ u ∷ ts) = Some (fault ResultCount at)
+
+abbrev pub single_fault : Option Gives → Option Fault
+single_fault None = None
+single_fault (Some (one x)) = None
+single_fault (Some (called at ts g es)) = single_result_fault at ts
+single_fault (Some (printed at line ps)) = Some (fault ResultCount at)
+single_fault (Some (panicked at p)) = Some (fault ResultCount at)
+
+-- an int can't hold a constant
+abbrev pub constant_range_fault : Pos → Constant → Option Fault
+constant_range_fault at (Number z) = if is_int z then None else Some (fault ConstRange at)
+constant_range_fault at (Truth b) = None
+
+abbrev pub range_fault : Pos → Option Operand → Option Fault
+range_fault at None = None
+range_fault at (Some (untyped c)) = constant_range_fault at c
+range_fault at (Some (value t x)) = None
+
+-- a literal that leaves 128 bits
+abbrev pub literal_fault : Pos → ℕ → Option Fault
+literal_fault at n = if nat_lt n (2 ^ 127) then None else Some (fault ConstRange at)
+
+-- a condition is a truth value
+abbrev pub condition_fault : Pos → Option Operand → Option Fault
+condition_fault at None = None
+condition_fault at (Some x) = if same_type Boolean (type_of x) then None else Some (fault BadOperand at)
+
+-- ---- operators
 
 -- a constant expression has no value: the divisor is the operand on the right
-abbrev pub ConstantFails : Pos → Pos → Result Const ConstFault → Fault → Type 0
-ConstantFails at right (Ok c) f = ⊥
-ConstantFails at right (Err Overflow) f = f ≡ fault ConstRange at
-ConstantFails at right (Err ZeroDivisor) f = f ≡ fault ConstZeroDivisor right
-ConstantFails at right (Err NegativeShift) f = f ≡ fault BadOperand at
-ConstantFails at right (Err NotConstant) f = f ≡ fault BadOperand at
+abbrev pub constant_fault : Pos → Pos → Result Const ConstFault → Option Fault
+constant_fault at right (Ok c) = None
+constant_fault at right (Err Overflow) = Some (fault ConstRange at)
+constant_fault at right (Err ZeroDivisor) = Some (fault ConstZeroDivisor right)
+constant_fault at right (Err NegativeShift) = Some (fault BadOperand at)
+constant_fault at right (Err NotConstant) = Some (fault BadOperand at)
 
--- a prefix on a constant, or on an int
-abbrev pub PrefixFails : Pos → UnOp → Operand → Fault → Type 0
-PrefixFails at op (untyped z) f = ConstantFails at at (folded_one op (Int z)) f
-PrefixFails at op (value x) f = WhereTyped (prefix_of op) at (λ g. ⊥) f
+-- a prefix on an operand of a type that it takes
+abbrev pub fitting_prefix_fault : Pos → UnOp → Operand → Option Fault
+fitting_prefix_fault at op (untyped c) = constant_fault at at (folded_one op (const_of c))
+fitting_prefix_fault at op (value t x) = None
 
--- two constants have no value together; or one constant beside an int doesn't fit an int
+abbrev pub prefix_fault : Pos → UnOp → Option Operand → Option Fault
+prefix_fault at op None = None
+prefix_fault at op (Some x) = if takes_one op (type_of x) then fitting_prefix_fault at op x else Some (fault BadOperand at)
+
+-- operands that an operator doesn't take: of two types, where the operator is no shift; or of a type on which it isn't defined
+abbrev pub unfit_kind : BinOp → ValueType → ValueType → FaultKind
+unfit_kind op s t = if is_shift op || same_type s t then BadOperand else Mismatch
+
+-- a constant on the right of what is none: a divisor 0, a negative count, or what no int can hold
+abbrev pub right_fault : Pos → Pos → BinOp → Constant → Option Fault
+right_fault at right op c =
+    if is_division op && is_zero c then Some (fault ConstZeroDivisor right)
+    else (if is_shift op && is_negative c then Some (fault BadOperand at) else constant_range_fault right c)
+
+-- two operands of types that an operator takes
+abbrev pub fitting_fault : Pos → Pos → BinOp → Operand → Operand → Option Fault
+fitting_fault at right op (untyped c) (untyped d) = constant_fault at right (folded op (const_of c) (const_of d))
+fitting_fault at right op (untyped c) (value t x) = constant_range_fault at c
+fitting_fault at right op (value t x) (untyped d) = right_fault at right op d
+fitting_fault at right op (value s x) (value t y) = None
+
+abbrev pub two_fault : Pos → Pos → BinOp → Operand → Operand → Option Fault
+two_fault at right op x y = if takes op (type_of x) (type_of y) then fitting_fault at right op x y else Some (fault (unfit_kind op (type_of x) (type_of y)) at)
+
+-- a rule of an operator on two operands that give something
 abbrev pub PairFails : Pos → Pos → BinOp → Operand → Operand → Fault → Type 0
-PairFails at right op (untyped y) (untyped z) f = ConstantFails at right (folded op (Int y) (Int z)) f
-PairFails at right op (untyped y) (value x) f = WhereTyped (op_of op) at (λ g. (is_int y ≡ false) × (g ≡ fault ConstRange at)) f
-PairFails at right op (value x) (untyped z) f = WhereTyped (op_of op) at (λ g. (is_int z ≡ false) × (g ≡ fault ConstRange right)) f
-PairFails at right op (value x) (value y) f = WhereTyped (op_of op) at (λ g. ⊥) f
+PairFails at right op x y f = IsFault (two_fault at right op x y) f
 
--- an operand beside one in which a rule fails: an operator that isn't typed takes no int
-abbrev pub BesideFails : Pos → BinOp → Operand → Fault → Type 0
-BesideFails at op (untyped z) f = ⊥
-BesideFails at op (value x) f = WhereTyped (op_of op) at (λ g. ⊥) f
-
--- the rules of an operator on two operands
-abbrev pub OperatorFails : Pos → Pos → BinOp → Option Operand → Option Operand → Fault → Type 0
-OperatorFails at right op None None f = ⊥
-OperatorFails at right op None (Some y) f = BesideFails at op y f
-OperatorFails at right op (Some x) None f = BesideFails at op x f
-OperatorFails at right op (Some x) (Some y) f = PairFails at right op x y f
-
--- one constant in a comparison doesn't fit an int, beside an int; two constants compare exactly
-abbrev pub ComparisonFails : Pos → Pos → Operand → Operand → Fault → Type 0
-ComparisonFails at right (untyped y) (untyped z) f = ⊥
-ComparisonFails at right (untyped y) (value x) f = (is_int y ≡ false) × (f ≡ fault ConstRange at)
-ComparisonFails at right (value x) (untyped z) f = (is_int z ≡ false) × (f ≡ fault ConstRange right)
-ComparisonFails at right (value x) (value y) f = ⊥
-
--- a rule of what two operands give together, where both give something
-abbrev pub BothFail : (Operand → Operand → Fault → Type 0) → Option Operand → Option Operand → Fault → Type 0
-BothFail P None b f = ⊥
-BothFail P (Some x) None f = ⊥
-BothFail P (Some x) (Some y) f = P x y f
-
-abbrev pub OneFails : (Operand → Fault → Type 0) → Option Operand → Fault → Type 0
-OneFails P None f = ⊥
-OneFails P (Some x) f = P x f
+-- an operator on what its operands give
+abbrev pub pair_fault : Pos → Pos → BinOp → Option Operand → Option Operand → Option Fault
+pair_fault at right op (Some x) (Some y) = two_fault at right op x y
+pair_fault at right op x y = None
 
 -- ---- expressions side by side
 
 -- where one value of each is wanted
 abbrev pub SinglesFail : List Seen → Fault → Type 0
 SinglesFail [] f = ⊥
-SinglesFail (o ∷ os) f = SingleFails o.gives f ⊎ SinglesFail os f
+SinglesFail (o ∷ os) f = IsFault (single_fault o.gives) f ⊎ SinglesFail os f
 
 -- where a call that stands alone may give more than one value
 abbrev pub ValuesFail : Option Many → List Seen → Fault → Type 0
 ValuesFail None os f = SinglesFail os f
 ValuesFail (Some m) os f = ⊥
 
--- an int can't hold a constant
-abbrev pub OperandFails : Pos → Option Operand → Fault → Type 0
-OperandFails at None f = ⊥
-OperandFails at (Some (untyped z)) f = (is_int z ≡ false) × (f ≡ fault ConstRange at)
-OperandFails at (Some (value x)) f = ⊥
-
 abbrev pub RangeFails : List Seen → Fault → Type 0
 RangeFails [] f = ⊥
-RangeFails (o ∷ os) f = OperandFails o.at (operand_in o.gives) f ⊎ RangeFails os f
+RangeFails (o ∷ os) f = IsFault (range_fault o.at (operand_in o.gives)) f ⊎ RangeFails os f
+
+-- a value of another type than its place asks for
+abbrev pub type_fault : Option ValueType → Pos → Option Operand → Option Fault
+type_fault p at o = if operand_agrees p o then None else Some (fault Mismatch at)
+
+abbrev pub TypesFail : List (Option ValueType) → List Seen → Fault → Type 0
+TypesFail (p ∷ ps) (o ∷ os) f = IsFault (type_fault p o.at (operand_in o.gives)) f ⊎ TypesFail ps os f
+TypesFail ps os f = ⊥
+
+-- a result of another type, which is reported at its call
+abbrev pub results_fault : List (Option ValueType) → Many → Option Fault
+results_fault ps m = if types_agree ps m.types then None else Some (fault Mismatch m.at)
+
+abbrev pub MismatchFails : List (Option ValueType) → List Seen → Option Many → Fault → Type 0
+MismatchFails ps os None f = TypesFail ps os f
+MismatchFails ps os (Some m) f = IsFault (results_fault ps m) f
 
 -- another number of values than is wanted, where all give some
-abbrev pub CountFails : Option ℕ → ℕ → Fault → Fault → Type 0
-CountFails None n own f = ⊥
-CountFails (Some m) n own f = ((m == n) ≡ false) × (f ≡ own)
+abbrev pub count_fault : Option ℕ → ℕ → Fault → Option Fault
+count_fault None n own = None
+count_fault (Some m) n own = if m == n then None else Some own
 
--- the values at so many places for ints: each place has its own value, and `own` is the fault of another number
-abbrev pub TakeFails : Fault → ℕ → List Seen → Fault → Type 0
-TakeFails own n os f = (ValuesFail (many os) os f ⊎ RangeFails (take n os) f) ⊎ CountFails (count os) n own f
+abbrev pub CountFails : Option ℕ → ℕ → Fault → Fault → Type 0
+CountFails o n own f = IsFault (count_fault o n own) f
+
+-- the values themselves at these places: each place has its own value
+abbrev pub PlacedFail : List (Option ValueType) → List Seen → Fault → Type 0
+PlacedFail ps os f = (ValuesFail (many os) os f ⊎ RangeFails (take (length ps) os) f) ⊎ MismatchFails ps os (many os) f
+
+-- and `own` is the fault of another number
+abbrev pub TakeFails : Fault → List (Option ValueType) → List Seen → Fault → Type 0
+TakeFails own ps os f = PlacedFail ps os f ⊎ CountFails (count os) (length ps) own f
 
 -- ---- calls
 
--- there are values
-abbrev pub AreGiven : Option ℕ → Type 0
-AreGiven None = ⊥
-AreGiven (Some n) = ⊤
+-- a call that is refused, where there are values
+abbrev pub refused_fault : Option ℕ → Fault → Option Fault
+refused_fault None own = None
+refused_fault (Some n) own = Some own
 
 abbrev pub CallFails : Pos → Callee → List Seen → Fault → Type 0
-CallFails at printer os f = SinglesFail os f ⊎ RangeFails os f
-CallFails at (function g params wanted) os f = TakeFails (fault ArgCount at) params os f
-CallFails at no_function os f = ValuesFail (many os) os f ⊎ (AreGiven (count os) × (f ≡ fault NotCallable at))
-CallFails at no_spread os f = ValuesFail (many os) os f ⊎ (AreGiven (count os) × (f ≡ fault BadOperand at))
+CallFails at (printer line) os f = SinglesFail os f ⊎ RangeFails os f
+CallFails at panicker os f = (SinglesFail os f ⊎ RangeFails os f) ⊎ CountFails (count os) 1 (fault ArgCount at) f
+CallFails at (function g ps ts) os f = TakeFails (fault ArgCount at) ps os f
+CallFails at no_function os f = ValuesFail (many os) os f ⊎ IsFault (refused_fault (count os) (fault NotCallable at)) f
+CallFails at no_spread os f = ValuesFail (many os) os f ⊎ IsFault (refused_fault (count os) (fault BadOperand at)) f
 CallFails at nothing os f = ValuesFail (many os) os f
 
 module _ (text : List ℕ) where
   -- what is called is a name, or an expression with one value, in which this fails and which gives this
   abbrev pub CalleeFails : Scope → Option Name → (Fault → Type 0) → Option Gives → Fault → Type 0
-  CalleeFails s (Some n) P o f = CalleeNameFails (is_println (spelled text n)) (is_reserved (spelled text n)) (declaration s (spelled text n)) n.pos f
-  CalleeFails s None P o f = P f ⊎ SingleFails o f
+  CalleeFails s (Some n) P o f = IsFault (callee_name_fault (word_of (spelled text n)) (declaration s (spelled text n)) n.pos) f
+  CalleeFails s None P o f = P f ⊎ IsFault (single_fault o) f
 
   -- a rule of a type: the name of one, in parentheses or not; all others are left out
   abbrev pub FailsAsType : Scope → TreeEx → Fault → Type 0
-  FailsAsType s (name n) f = TypeNameFails (is_int_type (spelled text n)) (is_type_name (spelled text n)) (is_value_name (spelled text n)) (declaration s (spelled text n)) n.pos f
+  FailsAsType s (name n) f = IsFault (type_name_fault (named_type (spelled text n)) (is_type_name (spelled text n)) (is_value_name (spelled text n)) (declaration s (spelled text n)) n.pos) f
   FailsAsType s (paren at e) f = FailsAsType s e f
   FailsAsType s other f = FormFails (first_place other) f
 
   -- a rule fails in an expression, and in one of some
   abbrev mutual
     pub Fails : Scope → TreeEx → Fault → Type 0
-    Fails s (number at n) f = (2 ^ 127 ≤ n) × (f ≡ fault ConstRange at)
+    Fails s (number at n) f = IsFault (literal_fault at n) f
     Fails s (string at behind) f = FormFails at f
-    Fails s (name n) f = NameFails (is_reserved (spelled text n)) (declaration s (spelled text n)) n.pos f
+    Fails s (name n) f = IsFault (name_fault (word_of (spelled text n)) (declaration s (spelled text n)) n.pos) f
     Fails s (unary at op e) f =
-        WhereTaken (takes_constant op) (λ g. (Fails s e g ⊎ SingleFails (gives text s e) g) ⊎ OneFails (PrefixFails at op) (operand_in (gives text s e)) g)
-        (λ g. FormFails at g) f
+        WhereTaken (has_rules op) (λ g. (Fails s e g ⊎ IsFault (single_fault (gives text s e)) g) ⊎ IsFault (prefix_fault at op (operand_in (gives text s e))) g) (λ g. FormFails at g) f
     Fails s (binary at op a b) f =
-        WhereTaken (takes_constants op) (λ g. ((Fails s a g ⊎ SingleFails (gives text s a) g) ⊎ (Fails s b g ⊎ SingleFails (gives text s b) g))
-        ⊎ OperatorFails (first_place a) (first_place b) op (operand_in (gives text s a)) (operand_in (gives text s b)) g)
-        (λ g. Fails s a g ⊎ FormFails (first_place a) g) f
+        ((Fails s a f ⊎ IsFault (single_fault (gives text s a)) f) ⊎ (Fails s b f ⊎ IsFault (single_fault (gives text s b)) f))
+        ⊎ IsFault (pair_fault (first_place a) (first_place b) op (operand_in (gives text s a)) (operand_in (gives text s b))) f
     Fails s (paren at e) f = Fails s e f
     Fails s (call g es spread) f =
         (CalleeFails s (name_in g) (λ h. Fails s g h) (gives text s g) f ⊎ FailsInEach s es f)
@@ -217,18 +282,11 @@ module _ (text : List ℕ) where
 
   -- a rule fails in an expression with one value
   abbrev pub FailsAsOperand : Scope → TreeEx → Fault → Type 0
-  FailsAsOperand s e f = Fails s e f ⊎ SingleFails (gives text s e) f
+  FailsAsOperand s e f = Fails s e f ⊎ IsFault (single_fault (gives text s e)) f
 
-  -- a comparison, or another expression with one value, which is no condition: that is reported at the word of its statement
-  abbrev pub ComparedFails : Scope → Pos → TreeEx → Option Comparison → Fault → Type 0
-  ComparedFails s at e (Some c) f =
-      (FailsAsOperand s c.left f ⊎ FailsAsOperand s c.right f)
-      ⊎ BothFail (ComparisonFails (first_place c.left) (first_place c.right)) (operand_in (gives text s c.left)) (operand_in (gives text s c.right)) f
-  ComparedFails s at e None f = FailsAsOperand s e f ⊎ OneFails (λ x g. g ≡ fault BadOperand at) (operand_in (gives text s e)) f
-
-  -- a rule fails in the condition of a statement whose word stands at a place
+  -- a rule fails in the condition of a statement whose word stands at a place; what is no truth value is reported there
   abbrev pub FailsInCondition : Scope → Pos → TreeEx → Fault → Type 0
-  FailsInCondition s at e f = ComparedFails s at e (comparison_in e) f
+  FailsInCondition s at e f = FailsAsOperand s e f ⊎ IsFault (condition_fault at (operand_in (gives text s e))) f
 
   abbrev pub FailsInTest : Scope → Pos → Option TreeEx → Fault → Type 0
   FailsInTest s at None f = ⊥

@@ -8,6 +8,7 @@ abbrev pub kind_number : FaultKind → ℕ
 kind_number kind.Unknown = 1
 kind_number kind.Redeclared = 2
 kind_number kind.NothingNew = 3
+kind_number kind.Mismatch = 4
 kind_number kind.NotAssignable = 6
 kind_number kind.NotCallable = 7
 kind_number kind.ArgCount = 8
@@ -16,6 +17,7 @@ kind_number kind.NotUsedValue = 10
 kind_number kind.MissingReturn = 11
 kind_number kind.ConstRange = 12
 kind_number kind.BadOperand = 14
+kind_number kind.BreakOutside = 17
 kind_number kind.NoMain = 18
 kind_number kind.BadExternal = 19
 kind_number kind.OutOfProfile = 20

@@ -1,7 +1,11 @@
 -- The names that the language declares before every program, and those that a program of this part may neither declare nor use.
-use Rattle.std.specs.Prelude.{ℕ, Bool, List, [], ◌∷◌, codes, ◌||◌}
+use Rattle.std.specs.Prelude.{ℕ, Bool, true, false, List, [], ◌∷◌, codes, Option, Some, None, ◌||◌, if◌then◌else◌}
 use Rattle.std.specs.List.{list_any}
 use Rattle.std.specs.Str.{bytes_eq}
+use Rattle.expression_types.specs.declared.profile.Word.{Word}
+use Rattle.expression_types.specs.declared.profile.Word.TheVariants.{Truth, Print, Panic, Reserved, Free}
+use Rattle.expression_types.specs.declared.scope.ValueType.{ValueType}
+use Rattle.expression_types.specs.declared.scope.ValueType.TheVariants as value_type
 
 -- the predeclared types of Go 1.22
 abbrev pub type_names : List (List ℕ)
@@ -32,12 +36,19 @@ is_blank name = bytes_eq name (codes "_")
 abbrev pub is_main : List ℕ → Bool
 is_main name = bytes_eq name (codes "main")
 
-abbrev pub is_int_type : List ℕ → Bool
-is_int_type name = bytes_eq name (codes "int")
-
-abbrev pub is_println : List ℕ → Bool
-is_println name = bytes_eq name (codes "println")
-
 -- the blank name, `main`, and the predeclared identifiers
 abbrev pub is_reserved : List ℕ → Bool
 is_reserved name = is_blank name || (is_main name || is_predeclared name)
+
+-- the type of the language that a name stands for
+abbrev pub named_type : List ℕ → Option ValueType
+named_type name = if bytes_eq name (codes "int") then Some value_type.Int else (if bytes_eq name (codes "bool") then Some value_type.Bool else None)
+
+-- what a name means in every program where a value or a function stands
+abbrev pub call_word : List ℕ → Word
+call_word name =
+    if bytes_eq name (codes "println") then Print true
+    else (if bytes_eq name (codes "print") then Print false else (if bytes_eq name (codes "panic") then Panic else (if is_reserved name then Reserved else Free)))
+
+abbrev pub word_of : List ℕ → Word
+word_of name = if bytes_eq name (codes "true") then Truth true else (if bytes_eq name (codes "false") then Truth false else call_word name)

@@ -1,13 +1,24 @@
 -- What the names of a program stand for, at a place of it (Go specification, "Declarations and scope").
-use Rattle.std.specs.Prelude.{ℕ, Bool, List, map, [], ◌∷◌, ◌++◌, length, slice_get, Option, option_and_then, is_some, if◌then◌else◌}
+use Rattle.std.specs.Prelude.{ℕ, Bool, List, map, [], ◌∷◌, ◌++◌, length, slice_get, Option, Some, None, option_and_then, is_some}
 use Rattle.std.specs.Option.{option_map}
 use Rattle.base.specs.declared.pos.Pos.{Pos}
+use Rattle.typed.specs.declared.program.Site.{Site}
+use Rattle.typed.specs.Syntax.{int_type, bool_type}
 use Rattle.names.specs.Blocks.{Blocks, lookup, innermost, insert}
 use Rattle.expression_types.specs.declared.scope.ValueType.{ValueType}
+use Rattle.expression_types.specs.declared.scope.ValueType.TheVariants.{Int, Bool as Truth}
 use Rattle.expression_types.specs.declared.scope.Signature.{Signature as SignatureData}
 use Rattle.expression_types.specs.declared.scope.Declared.{Declared}
 use Rattle.expression_types.specs.declared.scope.Declared.TheVariants.{Variable, Untyped}
 use Rattle.expression_types.specs.declared.scope.Scope.{Scope as ScopeData}
+
+-- the number of a type in a typed program
+abbrev pub type_number : ValueType → ℕ
+type_number Int = int_type
+type_number Truth = bool_type
+
+abbrev pub type_numbers : List ValueType → List ℕ
+type_numbers ts = map type_number ts
 
 -- the types of a function's parameters and of its results
 pub record Signature : Type 0 where
@@ -17,16 +28,15 @@ pub record Signature : Type 0 where
 abbrev pub signature_of : SignatureData → Signature
 signature_of s = record { params = s.params.items; results = s.results.items }
 
--- the blocks that are open, which number the declarations; the declarations; the places of the variables with a type, each of
--- which has a site; and the signatures of the functions, where they have one
+-- the blocks that are open, which number the declarations; the declarations; the sites of the variables with a type; and the signatures of the functions, where they have one
 pub record Scope : Type 0 where
   pub blocks : Blocks
   pub declared : List Declared
-  pub sites : List Pos
+  pub sites : List Site
   pub signatures : List (Option Signature)
 
 abbrev pub scope_of : ScopeData → Scope
-scope_of s = record { blocks = s.names; declared = s.declared.items; sites = map (λ site. site.pos) s.sites.items; signatures = map (option_map signature_of) s.signatures.items }
+scope_of s = record { blocks = s.names; declared = s.declared.items; sites = s.sites.items; signatures = map (option_map signature_of) s.signatures.items }
 
 -- what a name stands for
 abbrev pub declaration : Scope → List ℕ → Option Declared
@@ -44,13 +54,14 @@ signature s f = option_and_then (λ o. o) (slice_get s.signatures f)
 abbrev pub with_declaration : Scope → List ℕ → Declared → Scope
 with_declaration s name d = record { blocks = insert s.blocks name (length s.declared); declared = s.declared ++ d ∷ []; sites = s.sites; signatures = s.signatures }
 
--- one more site, at a place
-abbrev pub with_site : Scope → Pos → Scope
-with_site s at = record { blocks = s.blocks; declared = s.declared; sites = s.sites ++ at ∷ []; signatures = s.signatures }
+-- one more site, of a type, at a place
+abbrev pub with_site : Scope → ValueType → Pos → Scope
+with_site s t at = record { blocks = s.blocks; declared = s.declared; sites = s.sites ++ record { pos = at; type_id = record { 0 = type_number t } } ∷ []; signatures = s.signatures }
 
 -- one more variable: with a type it has a site of its own
-abbrev pub with_variable : Bool → Scope → List ℕ → Pos → Scope
-with_variable has_type s name at = if has_type then with_site (with_declaration s name (Variable (record { 0 = length s.sites }))) at else with_declaration s name Untyped
+abbrev pub with_variable : Option ValueType → Scope → List ℕ → Pos → Scope
+with_variable (Some t) s name at = with_site (with_declaration s name (Variable (record { 0 = length s.sites }) t)) t at
+with_variable None s name at = with_declaration s name Untyped
 
 -- one more function, which has a signature or none
 abbrev pub with_signature : Scope → Option Signature → Scope

@@ -1,13 +1,13 @@
--- What the rules of the language give expressions (Go specification, "Constant expressions", "Arithmetic operators", "Calls",
--- "Bootstrapping").
-use Rattle.std.specs.Prelude.{ℕ, length, ◌-◌, ◌^◌, ◌==◌, ℤ, pos, negsuc, Bool, true, false, ◌&&◌, List, [], ◌∷◌, map, Option, Some, None, Result, Ok, Err, is_some, option_and_then, nat_lt, nat_le, int_le, if◌then◌else◌}
+-- What the rules of the language give expressions (Go specification, "Constant expressions", "Operators", "Calls", "Bootstrapping").
+use Rattle.std.specs.Prelude.{ℕ, length, ◌-◌, ◌^◌, ◌==◌, ℤ, pos, negsuc, Bool, true, false, not, ◌&&◌, List, [], ◌∷◌, map, Option, Some, None, Result, Ok, Err, is_some, option_and_then, nat_lt, nat_le, int_le, int_lt, if◌then◌else◌}
 use Rattle.std.specs.Option.{option_map}
 use Rattle.base.specs.declared.pos.Pos.{Pos}
+use Rattle.syntax.specs.declared.operator.ArithmeticOp.{ArithmeticOp}
 use Rattle.syntax.specs.declared.operator.ArithmeticOp.TheVariants as arithmetic
 use Rattle.syntax.specs.declared.operator.BinOp.{BinOp}
-use Rattle.syntax.specs.declared.operator.BinOp.TheVariants.{Arithmetic, Compare}
+use Rattle.syntax.specs.declared.operator.BinOp.TheVariants.{Arithmetic, Compare, Both, Either}
 use Rattle.syntax.specs.declared.operator.UnOp.{UnOp}
-use Rattle.syntax.specs.declared.operator.UnOp.TheVariants.{Plus, Negate, Complement}
+use Rattle.syntax.specs.declared.operator.UnOp.TheVariants.{Plus, Negate, Complement, Not}
 use Rattle.syntax.specs.declared.operator.CompareOp.{CompareOp}
 use Rattle.syntax.specs.declared.operator.CompareOp.TheVariants as compare
 use Rattle.syntax.specs.declared.expression.Name.{Name}
@@ -23,50 +23,178 @@ use Rattle.typed.specs.Value.{int, bool}
 use Rattle.typed.specs.Syntax.{Ex, Exs, Piece, constant, read, local, here, none, more, results, shown}
 use Rattle.typed.specs.Syntax as typed
 use Rattle.names.specs.declared.constants.Const.{Const}
-use Rattle.names.specs.declared.constants.Const.TheVariants.{Int}
+use Rattle.names.specs.declared.constants.Const.TheVariants as const
 use Rattle.names.specs.declared.constants.ConstFault.{ConstFault}
-use Rattle.names.specs.Constants.{folded, folded_one, compared}
+use Rattle.names.specs.Constants.{folded, folded_one}
+use Rattle.expression_types.specs.declared.operand.Constant.{Constant}
+use Rattle.expression_types.specs.declared.operand.Constant.TheVariants.{Number, Truth}
+use Rattle.expression_types.specs.declared.profile.Word.{Word}
+use Rattle.expression_types.specs.declared.profile.Word.TheVariants as word
 use Rattle.expression_types.specs.declared.scope.Declared.{Declared}
 use Rattle.expression_types.specs.declared.scope.Declared.TheVariants.{Variable, Untyped, Function, TypeName}
 use Rattle.expression_types.specs.declared.scope.ValueType.{ValueType}
-use Rattle.expression_types.specs.declared.scope.ValueType.TheVariants as value_type
-use Rattle.expression_types.specs.Profile.{is_int_type, is_println, is_reserved}
+use Rattle.expression_types.specs.declared.scope.ValueType.TheVariants.{Int, Bool as Boolean}
+use Rattle.expression_types.specs.Profile.{named_type, word_of}
+pub use Rattle.expression_types.specs.Scope.{type_number}
 use Rattle.expression_types.specs.Scope.{Scope, Signature, declaration, signature}
 
--- what an expression gives as one value: an untyped constant with its exact value, or an int
+-- what an expression gives as one value: an untyped constant with its exact value, or a value of a type that is worked out when the program
+-- runs
 pub data Operand : Type 0 where
-  untyped : ℤ → Operand
-  value : Ex → Operand
+  untyped : Constant → Operand
+  value : ValueType → Ex → Operand
 
 -- what an expression gives: one value, or what a call gives
 pub data Gives : Type 0 where
   one : Operand → Gives
-  -- the results of a call: its place, how many they are, the function's number, and the arguments
-  called : Pos → ℕ → ℕ → Exs → Gives
-  -- nothing: a `println` at a place
-  printed : Pos → List Piece → Gives
+  -- the results of a call: its place, their types, the function's number, and the arguments
+  called : Pos → List ValueType → ℕ → Exs → Gives
+  -- nothing: a `print` at a place, or a `println` where true is said
+  printed : Pos → Bool → List Piece → Gives
+  -- nothing: a `panic` at a place
+  panicked : Pos → Piece → Gives
 
--- the operators that combine two untyped constants; a use of any other is left out of the profile
-abbrev pub takes_constants : BinOp → Bool
-takes_constants (Arithmetic op) = true
-takes_constants other = false
+-- where a rule holds, and else nothing
+abbrev pub allowed : {A : Type 0} → Bool → Option A → Option A
+allowed b o = if b then o else None
 
-abbrev pub takes_constant : UnOp → Bool
-takes_constant Plus = true
-takes_constant Negate = true
-takes_constant Complement = true
-takes_constant other = false
+-- ---- types
 
--- of these the operators that combine ints as well, when the program runs
-abbrev pub op_of : BinOp → Option TypedOp
-op_of (Arithmetic arithmetic.Add) = Some op.Add
-op_of (Arithmetic arithmetic.Sub) = Some op.Sub
-op_of (Arithmetic arithmetic.Mul) = Some op.Mul
-op_of other = None
+abbrev pub same_type : ValueType → ValueType → Bool
+same_type Int Int = true
+same_type Boolean Boolean = true
+same_type s t = false
+
+-- an untyped constant is a number or a truth value
+abbrev pub constant_type : Constant → ValueType
+constant_type (Number z) = Int
+constant_type (Truth b) = Boolean
+
+abbrev pub type_of : Operand → ValueType
+type_of (untyped c) = constant_type c
+type_of (value t x) = t
+
+-- from -2^63 to 2^63 - 1
+abbrev pub is_int : ℤ → Bool
+is_int z = int_le (negsuc (2 ^ 63 - 1)) z && int_le z (pos (2 ^ 63 - 1))
+
+-- a constant as a value of its type, where the type has one
+abbrev pub constant_value : Constant → Option Ex
+constant_value (Number z) = if is_int z then Some (constant (int z)) else None
+constant_value (Truth b) = Some (constant (bool b))
+
+abbrev pub as_value : Operand → Option Ex
+as_value (untyped c) = constant_value c
+as_value (value t x) = Some x
+
+-- ---- constants
+
+abbrev pub const_of : Constant → Const
+const_of (Number z) = const.Int z
+const_of (Truth b) = const.Bool b
+
+-- a constant expression's value, where it has one
+abbrev pub constant_of : Result Const ConstFault → Option Operand
+constant_of (Ok (const.Int z)) = Some (untyped (Number z))
+constant_of (Ok (const.Bool b)) = Some (untyped (Truth b))
+constant_of (Ok const.NoConst) = None
+constant_of (Err e) = None
+
+-- ---- names
+
+-- a variable's read
+abbrev pub operand_of_name : Option Declared → Option Operand
+operand_of_name None = None
+operand_of_name (Some (Variable site t)) = Some (value t (read (local site.0 here)))
+operand_of_name (Some Untyped) = None
+operand_of_name (Some (Function f)) = None
+operand_of_name (Some TypeName) = None
+
+abbrev pub name_operand : Word → Option Declared → Option Operand
+name_operand (word.Truth b) d = Some (untyped (Truth b))
+name_operand (word.Print line) d = None
+name_operand word.Panic d = None
+name_operand word.Reserved d = None
+name_operand word.Free d = operand_of_name d
+
+-- ---- operators
+
+-- the prefixes that have rules; a use of any other is left out of the profile
+abbrev pub has_rules : UnOp → Bool
+has_rules Plus = true
+has_rules Negate = true
+has_rules Complement = true
+has_rules Not = true
+has_rules other = false
+
+-- the types of operand that a prefix takes
+abbrev pub takes_one : UnOp → ValueType → Bool
+takes_one Plus Int = true
+takes_one Negate Int = true
+takes_one Complement Int = true
+takes_one Not Boolean = true
+takes_one op t = false
 
 abbrev pub prefix_of : UnOp → Option TypedPrefix
+prefix_of Plus = Some prefix.Plus
 prefix_of Negate = Some prefix.Negate
+prefix_of Complement = Some prefix.Complement
+prefix_of Not = Some prefix.Not
 prefix_of other = None
+
+-- the types of operands that an operator takes
+abbrev pub takes : BinOp → ValueType → ValueType → Bool
+takes (Arithmetic op) Int Int = true
+takes (Compare op) Int Int = true
+takes (Compare compare.Equal) Boolean Boolean = true
+takes (Compare compare.NotEqual) Boolean Boolean = true
+takes Both Boolean Boolean = true
+takes Either Boolean Boolean = true
+takes op s t = false
+
+-- the type of what it gives
+abbrev pub result_type : BinOp → ValueType
+result_type (Arithmetic op) = Int
+result_type other = Boolean
+
+abbrev pub is_division : BinOp → Bool
+is_division (Arithmetic arithmetic.Div) = true
+is_division (Arithmetic arithmetic.Rem) = true
+is_division other = false
+
+abbrev pub is_shift : BinOp → Bool
+is_shift (Arithmetic arithmetic.ShiftLeft) = true
+is_shift (Arithmetic arithmetic.ShiftRight) = true
+is_shift other = false
+
+abbrev pub is_zero : Constant → Bool
+is_zero (Number z) = int_le z (pos 0) && int_le (pos 0) z
+is_zero (Truth b) = false
+
+abbrev pub is_negative : Constant → Bool
+is_negative (Number z) = int_lt z (pos 0)
+is_negative (Truth b) = false
+
+-- no constant divisor is 0, and no constant count of a shift is negative
+abbrev pub stands_right : BinOp → Constant → Bool
+stands_right op c = not (is_division op && is_zero c) && not (is_shift op && is_negative c)
+
+abbrev pub right_allowed : BinOp → Operand → Bool
+right_allowed op (untyped c) = stands_right op c
+right_allowed op (value t x) = true
+
+abbrev pub arithmetic_of : ArithmeticOp → TypedOp
+arithmetic_of arithmetic.Add = op.Add
+arithmetic_of arithmetic.Sub = op.Sub
+arithmetic_of arithmetic.Mul = op.Mul
+arithmetic_of arithmetic.Div = op.Div
+arithmetic_of arithmetic.Rem = op.Rem
+arithmetic_of arithmetic.And = op.And
+arithmetic_of arithmetic.Or = op.Or
+arithmetic_of arithmetic.Xor = op.Xor
+arithmetic_of arithmetic.AndNot = op.AndNot
+arithmetic_of arithmetic.ShiftLeft = op.ShiftLeft
+arithmetic_of arithmetic.ShiftRight = op.ShiftRight
 
 abbrev pub compare_of : CompareOp → TypedOp
 compare_of compare.Equal = op.Equal
@@ -76,78 +204,66 @@ compare_of compare.LessEqual = op.LessEqual
 compare_of compare.Greater = op.Greater
 compare_of compare.GreaterEqual = op.GreaterEqual
 
--- from -2^63 to 2^63 - 1
-abbrev pub is_int : ℤ → Bool
-is_int z = int_le (negsuc (2 ^ 63 - 1)) z && int_le z (pos (2 ^ 63 - 1))
-
--- a constant takes the type int where its value allows it
-abbrev pub as_int : Operand → Option Ex
-as_int (untyped z) = if is_int z then Some (constant (int z)) else None
-as_int (value x) = Some x
-
--- a constant expression's value, where it has one
-abbrev pub constant_of : Result Const ConstFault → Option Operand
-constant_of (Ok (Int z)) = Some (untyped z)
-constant_of (Ok other) = None
-constant_of (Err e) = None
-
--- a variable's read
-abbrev pub operand_of_name : Option Declared → Option Operand
-operand_of_name None = None
-operand_of_name (Some (Variable site)) = Some (value (read (local site.0 here)))
-operand_of_name (Some Untyped) = None
-operand_of_name (Some (Function f)) = None
-operand_of_name (Some TypeName) = None
-
-abbrev pub name_operand : Bool → Option Declared → Option Operand
-name_operand reserved d = if reserved then None else operand_of_name d
+-- an operator on two values, when the program runs
+abbrev pub typed_pair : Pos → BinOp → Ex → Ex → Ex
+typed_pair at (Arithmetic op) x y = typed.binary at (arithmetic_of op) x y
+typed_pair at (Compare op) x y = typed.binary at (compare_of op) x y
+typed_pair at Both x y = typed.both x y
+typed_pair at Either x y = typed.either x y
 
 -- constants are worked out exactly, all else is worked out when the program runs
 abbrev pub prefixed : UnOp → Operand → Option Operand
-prefixed op (untyped z) = constant_of (folded_one op (Int z))
-prefixed op (value x) = option_map (λ typed_op. value (typed.unary typed_op x)) (prefix_of op)
+prefixed op (untyped c) = constant_of (folded_one op (const_of c))
+prefixed op (value t x) = allowed (takes_one op t) (option_map (λ typed_op. value t (typed.unary typed_op x)) (prefix_of op))
 
 abbrev pub prefix_gives : UnOp → Bool → Option Operand → Option Gives
 prefix_gives op false a = None
 prefix_gives op true a = option_map one (option_and_then (prefixed op) a)
 
-abbrev pub both_ints : Pos → Option TypedOp → Option Ex → Option Ex → Option Operand
-both_ints at (Some typed_op) (Some x) (Some y) = Some (value (typed.binary at typed_op x y))
-both_ints at typed_op x y = None
+abbrev pub both_values : Pos → BinOp → Option Ex → Option Ex → Option Operand
+both_values at op (Some x) (Some y) = Some (value (result_type op) (typed_pair at op x y))
+both_values at op x y = None
+
+-- two operands, one of which at least is no constant
+abbrev pub value_pair : Pos → BinOp → Operand → Operand → Option Operand
+value_pair at op a b = allowed (takes op (type_of a) (type_of b) && right_allowed op b) (both_values at op (as_value a) (as_value b))
 
 abbrev pub combined : Pos → BinOp → Operand → Operand → Option Operand
-combined at op (untyped y) (untyped z) = constant_of (folded op (Int y) (Int z))
-combined at op a b = both_ints at (op_of op) (as_int a) (as_int b)
+combined at op (untyped c) (untyped d) = constant_of (folded op (const_of c) (const_of d))
+combined at op a b = value_pair at op a b
 
 -- what two operands give together, where both give something
 abbrev pub both : {A B C : Type 0} → (A → B → Option C) → Option A → Option B → Option C
 both k a b = option_and_then (λ x. option_and_then (k x) b) a
 
-abbrev pub pair_gives : Pos → BinOp → Bool → Option Operand → Option Operand → Option Gives
-pair_gives at op false a b = None
-pair_gives at op true a b = option_map one (both (combined at op) a b)
-
-abbrev pub compared_ints : Pos → CompareOp → Option Ex → Option Ex → Option Ex
-compared_ints at op (Some x) (Some y) = Some (typed.binary at (compare_of op) x y)
-compared_ints at op x y = None
-
--- a comparison of constants is a constant
-abbrev pub compared_operands : Pos → CompareOp → Operand → Operand → Option Ex
-compared_operands at op (untyped y) (untyped z) = Some (constant (bool (compared op y z)))
-compared_operands at op a b = compared_ints at op (as_int a) (as_int b)
+abbrev pub pair_gives : Pos → BinOp → Option Operand → Option Operand → Option Gives
+pair_gives at op a b = option_map one (both (combined at op) a b)
 
 -- ---- where one value is wanted
 
+abbrev pub single_result : List ValueType → ℕ → Exs → Option Operand
+single_result [] f es = None
+single_result (t ∷ []) f es = Some (value t (typed.call f es))
+single_result (t ∷ u ∷ ts) f es = None
+
 abbrev pub single : Gives → Option Operand
 single (one x) = Some x
-single (called at n f es) = if n == 1 then Some (value (typed.call f es)) else None
-single (printed at ps) = None
+single (called at ts f es) = single_result ts f es
+single (printed at line ps) = None
+single (panicked at p) = None
 
 abbrev pub operand_in : Option Gives → Option Operand
 operand_in o = option_and_then single o
 
-abbrev pub int_in : Option Gives → Option Ex
-int_in o = option_and_then as_int (operand_in o)
+abbrev pub value_in : Option Gives → Option Ex
+value_in o = option_and_then as_value (operand_in o)
+
+-- an operand of `print`, `println` or `panic`
+abbrev pub as_piece : Operand → Option Piece
+as_piece x = option_map (shown (type_number (type_of x))) (as_value x)
+
+abbrev pub piece_in : Option Gives → Option Piece
+piece_in o = option_and_then as_piece (operand_in o)
 
 -- ---- expressions side by side: the first byte of each, and what it gives
 
@@ -155,27 +271,36 @@ pub record Seen : Type 0 where
   pub at : Pos
   pub gives : Option Gives
 
--- one int of each
-abbrev pub ints : List Seen → Option (List Ex)
-ints [] = Some []
-ints (o ∷ os) = option_and_then (λ x. option_map (λ xs. x ∷ xs) (ints os)) (int_in o.gives)
+-- what each has, where all have it
+abbrev pub listed : {A : Type 0} → (Option Gives → Option A) → List Seen → Option (List A)
+listed k [] = Some []
+listed k (o ∷ os) = option_and_then (λ x. option_map (λ xs. x ∷ xs) (listed k os)) (k o.gives)
+
+-- one value of each
+abbrev pub values : List Seen → Option (List Ex)
+values os = listed value_in os
+
+abbrev pub pieces : List Seen → Option (List Piece)
+pieces os = listed piece_in os
 
 -- each gives one value
 abbrev pub are_single : List Seen → Bool
 are_single [] = true
 are_single (o ∷ os) = is_some (operand_in o.gives) && are_single os
 
--- a call that stands alone may give more than one value: how many, the function's number, and the arguments
+-- a call that stands alone may give more than one value: its place, their types, the function's number, and the arguments
 pub record Many : Type 0 where
-  pub count : ℕ
+  pub at : Pos
+  pub types : List ValueType
   pub function : ℕ
   pub arguments : Exs
 
 abbrev pub many_in : Option Gives → Option Many
 many_in None = None
 many_in (Some (one x)) = None
-many_in (Some (called at n f es)) = if nat_le 2 n then Some (record { count = n; function = f; arguments = es }) else None
-many_in (Some (printed at ps)) = None
+many_in (Some (called at ts f es)) = if nat_le 2 (length ts) then Some (record { at = at; types = ts; function = f; arguments = es }) else None
+many_in (Some (printed at line ps)) = None
+many_in (Some (panicked at p)) = None
 
 abbrev pub many : List Seen → Option Many
 many [] = None
@@ -185,47 +310,101 @@ many (o ∷ p ∷ os) = None
 -- how many values there are, where all give some
 abbrev pub count_of : List Seen → Option Many → Option ℕ
 count_of os None = if are_single os then Some (length os) else None
-count_of os (Some m) = Some m.count
+count_of os (Some m) = Some (length m.types)
 
 abbrev pub count : List Seen → Option ℕ
 count os = count_of os (many os)
+
+-- their types, where all give some
+abbrev pub type_in_one : Option Gives → Option ValueType
+type_in_one o = option_map type_of (operand_in o)
+
+abbrev pub single_types : List Seen → Option (List ValueType)
+single_types os = listed type_in_one os
+
+abbrev pub types_with : List Seen → Option Many → Option (List ValueType)
+types_with os None = single_types os
+types_with os (Some m) = Some m.types
+
+abbrev pub value_types : List Seen → Option (List ValueType)
+value_types os = types_with os (many os)
+
+-- ---- places for values: the type that each asks for, or none where the value's own type holds
+
+abbrev pub accepts : Option ValueType → ValueType → Bool
+accepts None t = true
+accepts (Some s) t = same_type s t
+
+-- whether each type is one that its place asks for, as far as there are both
+abbrev pub types_agree : List (Option ValueType) → List ValueType → Bool
+types_agree (p ∷ ps) (t ∷ ts) = accepts p t && types_agree ps ts
+types_agree ps ts = true
+
+abbrev pub operand_agrees : Option ValueType → Option Operand → Bool
+operand_agrees p None = true
+operand_agrees p (Some x) = accepts p (type_of x)
+
+abbrev pub values_agree : List (Option ValueType) → List Seen → Bool
+values_agree (p ∷ ps) (o ∷ os) = operand_agrees p (operand_in o.gives) && values_agree ps os
+values_agree ps os = true
 
 abbrev pub each : List Ex → Exs
 each [] = none
 each (x ∷ xs) = more x (each xs)
 
--- the values at so many places for ints
-abbrev pub taken_of : ℕ → List Seen → Option Many → Option Exs
-taken_of n os None = if length os == n then option_map each (ints os) else None
-taken_of n os (Some m) = if m.count == n then Some (results m.function m.arguments) else None
+-- whether there are as many values as places, of the types that these ask for
+abbrev pub fits_with : List (Option ValueType) → List Seen → Option Many → Bool
+fits_with ps os None = (length os == length ps) && values_agree ps os
+fits_with ps os (Some m) = (length m.types == length ps) && types_agree ps m.types
 
-abbrev pub taken : ℕ → List Seen → Option Exs
-taken n os = taken_of n os (many os)
+abbrev pub fits : List (Option ValueType) → List Seen → Bool
+fits ps os = fits_with ps os (many os)
+
+-- the values, and those at these places
+abbrev pub all_values : List Seen → Option Many → Option Exs
+all_values os None = option_map each (values os)
+all_values os (Some m) = Some (results m.function m.arguments)
+
+abbrev pub taken : List (Option ValueType) → List Seen → Option Exs
+taken ps os = allowed (fits ps os) (all_values os (many os))
+
+-- the types of these values
+abbrev pub taken_types : List (Option ValueType) → List Seen → Option (List ValueType)
+taken_types ps os = option_and_then (λ es. value_types os) (taken ps os)
+
+-- a place for each of these types
+abbrev pub asked : List ValueType → List (Option ValueType)
+asked ts = map (λ t. Some t) ts
 
 -- ---- calls
 
--- what is called: `println`, a function by its number with the numbers of its parameters and results, a value that is no function, what
--- takes no `...`, or what has no type
+-- what is called: `print`, or `println` where true is said; `panic`; a function by its number, with the places for its arguments and the
+-- types of its results; a value that is no function; what takes no `...`; or what has no type
 pub data Callee : Type 0 where
-  printer : Callee
-  function : ℕ → (params results : ℕ) → Callee
+  printer : Bool → Callee
+  panicker : Callee
+  function : ℕ → List (Option ValueType) → (results : List ValueType) → Callee
   no_function : Callee
   no_spread : Callee
   nothing : Callee
 
 abbrev pub function_with : ℕ → Option Signature → Callee
 function_with f None = nothing
-function_with f (Some sig) = function f (length sig.params) (length sig.results)
+function_with f (Some sig) = function f (asked sig.params) sig.results
 
 abbrev pub callee_declared : Scope → Option Declared → Callee
 callee_declared s None = nothing
-callee_declared s (Some (Variable site)) = no_function
+callee_declared s (Some (Variable site t)) = no_function
 callee_declared s (Some Untyped) = nothing
 callee_declared s (Some (Function f)) = function_with f.0 (signature s f.0)
 callee_declared s (Some TypeName) = nothing
 
-abbrev pub callee_named : Scope → List ℕ → Callee
-callee_named s n = if is_println n then printer else (if is_reserved n then nothing else callee_declared s (declaration s n))
+abbrev pub callee_named : Scope → Word → Option Declared → Callee
+callee_named s (word.Truth b) d = no_function
+callee_named s (word.Print line) d = printer line
+callee_named s word.Panic d = panicker
+callee_named s word.Reserved d = nothing
+callee_named s word.Free d = callee_declared s d
 
 abbrev pub callee_value : Option Operand → Callee
 callee_value None = nothing
@@ -234,13 +413,21 @@ callee_value (Some x) = no_function
 -- what is called where `...` stands behind the arguments: nothing takes it yet
 abbrev pub spread_over : Bool → Callee → Callee
 spread_over false callee = callee
-spread_over true printer = no_spread
-spread_over true (function f params wanted) = no_spread
+spread_over true (printer line) = no_spread
+spread_over true panicker = no_spread
+spread_over true (function f ps ts) = no_spread
 spread_over true callee = callee
 
+-- `panic` has one operand
+abbrev pub panicked_with : Pos → List Piece → Option Gives
+panicked_with at [] = None
+panicked_with at (p ∷ []) = Some (panicked at p)
+panicked_with at (p ∷ q ∷ ps) = None
+
 abbrev pub called_with : Pos → Callee → List Seen → Option Gives
-called_with at printer os = option_map (λ xs. printed at (map shown xs)) (ints os)
-called_with at (function f params wanted) os = option_map (λ es. called at wanted f es) (taken params os)
+called_with at (printer line) os = option_map (printed at line) (pieces os)
+called_with at panicker os = option_and_then (panicked_with at) (pieces os)
+called_with at (function f ps ts) os = option_map (called at ts f) (taken ps os)
 called_with at no_function os = None
 called_with at no_spread os = None
 called_with at nothing os = None
@@ -253,15 +440,9 @@ name_in other = None
 
 -- ---- conditions
 
--- the comparison that an expression is, which stands in no parentheses
-pub record Comparison : Type 0 where
-  pub op : CompareOp
-  pub left : TreeEx
-  pub right : TreeEx
-
-abbrev pub comparison_in : TreeEx → Option Comparison
-comparison_in (binary at (Compare op) a b) = Some (record { op = op; left = a; right = b })
-comparison_in other = None
+-- a truth value
+abbrev pub as_condition : Operand → Option Ex
+as_condition x = allowed (same_type Boolean (type_of x)) (as_value x)
 
 -- the condition of a loop, where it has one
 abbrev pub condition_in : Clause → Option TreeEx
@@ -273,23 +454,23 @@ condition_in (ranging _ at e) = None
 module _ (text : List ℕ) where
   -- the type that an expression is, in parentheses or not
   abbrev pub type_in : TreeEx → Option ValueType
-  type_in (name n) = if is_int_type (spelled text n) then Some value_type.Int else None
+  type_in (name n) = named_type (spelled text n)
   type_in (paren at e) = type_in e
   type_in other = None
 
   -- what a name stands for where it is called, or else an expression that gives this
   abbrev pub callee : Scope → Option Name → Option Gives → Callee
   callee s None o = callee_value (operand_in o)
-  callee s (Some n) o = callee_named s (spelled text n)
+  callee s (Some n) o = callee_named s (word_of (spelled text n)) (declaration s (spelled text n))
 
   -- what an expression gives in a scope, where no rule fails in it; a form that is left out of the profile gives nothing
   abbrev mutual
     pub gives : Scope → TreeEx → Option Gives
-    gives s (number at n) = if nat_lt n (2 ^ 127) then Some (one (untyped (pos n))) else None
+    gives s (number at n) = if nat_lt n (2 ^ 127) then Some (one (untyped (Number (pos n)))) else None
     gives s (string at behind) = None
-    gives s (name n) = option_map one (name_operand (is_reserved (spelled text n)) (declaration s (spelled text n)))
-    gives s (unary at op e) = prefix_gives op (takes_constant op) (operand_in (gives s e))
-    gives s (binary at op a b) = pair_gives (first_place a) op (takes_constants op) (operand_in (gives s a)) (operand_in (gives s b))
+    gives s (name n) = option_map one (name_operand (word_of (spelled text n)) (declaration s (spelled text n)))
+    gives s (unary at op e) = prefix_gives op (has_rules op) (operand_in (gives s e))
+    gives s (binary at op a b) = pair_gives (first_place a) op (operand_in (gives s a)) (operand_in (gives s b))
     gives s (paren at e) = gives s e
     gives s (call f es spread) = called_with (first_place f) (spread_over spread (callee s (name_in f) (gives s f))) (seen s es)
     gives s (selector e at n) = None
@@ -304,19 +485,11 @@ module _ (text : List ℕ) where
     seen s tree.none = []
     seen s (some e es) = record { at = first_place e; gives = gives s e } ∷ seen s es
 
-  -- what a condition is: a comparison, and nothing else yet
-  abbrev pub compared_in : Scope → Option Comparison → Option Ex
-  compared_in s None = None
-  compared_in s (Some c) = both (compared_operands (first_place c.left) c.op) (operand_in (gives s c.left)) (operand_in (gives s c.right))
-
+  -- what a condition is
   abbrev pub condition : Scope → TreeEx → Option Ex
-  condition s e = compared_in s (comparison_in e)
+  condition s e = option_and_then as_condition (operand_in (gives s e))
 
   -- a condition, where there is one
   abbrev pub test : Scope → Option TreeEx → Option (Option Ex)
   test s None = Some None
   test s (Some e) = option_map Some (condition s e)
-
--- where a rule holds, and else nothing
-abbrev pub allowed : {A : Type 0} → Bool → Option A → Option A
-allowed b o = if b then o else None

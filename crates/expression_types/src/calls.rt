@@ -5,20 +5,24 @@ ghost use Rattle.std.specs.Option.{option_map};
 ghost use Rattle.syntax.specs.Expressions.{ex_of as tree_of, spelled};
 ghost use Rattle.expression_types.specs.Least.{IsLeast};
 ghost use Rattle.expression_types.specs.Scope.{scope_of, declaration, signature};
-ghost use Rattle.expression_types.specs.Profile.{is_println, is_reserved};
-ghost use Rattle.expression_types.specs.Typing.{operand_in, name_in, function_with, callee_declared, callee_named, callee_value, spread_over, many, count, called_with};
-ghost use Rattle.expression_types.specs.Faults.{fault as fault_at, ValuesFail, AreGiven, CallFails, CalleeNameFails};
-ghost use Rattle.expression_types.specs.Passing.{gives_of, operand_of, seens, callee_of, callee_name_fault, refused_fault};
+ghost use Rattle.expression_types.specs.Profile.{word_of};
+ghost use Rattle.expression_types.specs.Typing.{operand_in, name_in, function_with, callee_declared, callee_named, callee_value, spread_over, many, count, panicked_with, called_with};
+ghost use Rattle.expression_types.specs.Faults.{fault as fault_at, IsFault, SinglesFail, ValuesFail, RangeFails, CallFails, callee_declared_fault, callee_name_fault, refused_fault};
+ghost use Rattle.expression_types.specs.Passing.{gives_of, operand_of, seens, callee_of};
+ghost use Rattle.typed.specs.View.{piece_of};
 
 use crate::fault::{Fault, FaultKind, lesser};
 use crate::naming::spelled;
 use crate::operand::{Callee, Gives, Item, Operand};
-use crate::profile::{is_println, is_reserved};
-use crate::scope::{Declared, Scope, declaration};
-use crate::values::{count, ints, range_faults, singles_fault, take_fault, taken, values_fault};
+use crate::profile::{Word, word_of};
+use crate::scope::{Declared, Scope, ValueType, declaration};
+use crate::values::{
+    asked, count, count_fault, pieces, range_faults, singles_fault, take_fault, taken, values_fault,
+};
 use base::{FuncId, NoMemory, Pos};
 use std::alloc::Global;
 use syntax::{Expr, Name};
+use typed::Piece;
 
 /// The name that an expression is, in parentheses or not.
 pub fn name_in(e: &Expr) -> Option<Name>
@@ -35,78 +39,77 @@ pub fn name_in(e: &Expr) -> Option<Name>
 }
 
 /// A function as what is called, where it has a signature.
-fn callee_function(scope: &Scope, function: FuncId) -> Callee
-    ensures { callee_of result ≡ function_with function.0 (signature (scope_of scope.now) function.0) }
+fn callee_function(alloc: Global, scope: &Scope, function: FuncId) -> Result<Callee, NoMemory>
+    ensures { IfOk result (λ c. callee_of c ≡ function_with function.0 (signature (scope_of scope.now) function.0)) }
 {
     match scope.signatures.get(function.0 as usize) {
-        Some(Some(signature)) => Callee::Function(
-            function,
-            signature.params.len(),
-            signature.results.len(),
-        ),
-        _ => Callee::Nothing,
+        Some(Some(signature)) => {
+            let places = asked(alloc, &signature.params)?;
+            let results = Vec::from_slice(alloc, &signature.results)?;
+            Ok(Callee::Function(function, places, results))
+        }
+        _ => Ok(Callee::Nothing),
     }
 }
 
-fn callee_declared(scope: &Scope, declared: Option<Declared>) -> Callee
-    ensures { callee_of result ≡ callee_declared (scope_of scope.now) declared }
+fn callee_declared(
+    alloc: Global,
+    scope: &Scope,
+    declared: Option<Declared>,
+) -> Result<Callee, NoMemory>
+    ensures { IfOk result (λ c. callee_of c ≡ callee_declared (scope_of scope.now) declared) }
 {
     match declared {
-        Some(Declared::Function(function)) => callee_function(scope, function),
-        Some(Declared::Variable(_)) => Callee::NoFunction,
-        _ => Callee::Nothing,
+        Some(Declared::Function(function)) => callee_function(alloc, scope, function),
+        Some(Declared::Variable(_, _)) => Ok(Callee::NoFunction),
+        _ => Ok(Callee::Nothing),
     }
 }
 
 /// What a name stands for where it is called.
-pub fn callee_named(text: &[u8], scope: &Scope, name: Name) -> Callee
-    ensures { callee_of result ≡ callee_named (scope_of scope.now) (spelled text.now name) }
+pub fn callee_named(
+    alloc: Global,
+    text: &[u8],
+    scope: &Scope,
+    name: Name,
+) -> Result<Callee, NoMemory>
+    ensures { IfOk result (λ c. callee_of c ≡ callee_named (scope_of scope.now) (word_of (spelled text.now name)) (declaration (scope_of scope.now) (spelled text.now name))) }
 {
     let bytes = spelled(text, name);
-    if is_println(bytes) {
-        Callee::Printer
-    } else if is_reserved(bytes) {
-        Callee::Nothing
-    } else {
-        callee_declared(scope, declaration(scope, bytes))
+    match word_of(bytes) {
+        Word::Truth(_) => Ok(Callee::NoFunction),
+        Word::Print(line) => Ok(Callee::Printer(line)),
+        Word::Panic => Ok(Callee::Panicker),
+        Word::Reserved => Ok(Callee::Nothing),
+        Word::Free => callee_declared(alloc, scope, declaration(scope, bytes)),
     }
 }
 
-fn unknown_fault(
-    printer: bool,
-    reserved: bool,
-    declared: Option<Declared>,
-    pos: Pos,
-) -> Option<Fault>
-    ensures { result ≡ callee_name_fault printer reserved declared pos }
+fn declared_fault(declared: Option<Declared>, pos: Pos) -> Option<Fault>
+    ensures { result ≡ callee_declared_fault declared pos }
 {
-    if printer {
-        return None;
-    }
-    let kind = if reserved {
-        FaultKind::OutOfProfile
-    } else {
-        match declared {
-            Some(Declared::TypeName) => FaultKind::BadOperand,
-            Some(_) => return None,
-            None => FaultKind::Unknown,
-        }
+    let kind = match declared {
+        Some(Declared::TypeName) => FaultKind::BadOperand,
+        Some(_) => return None,
+        None => FaultKind::Unknown,
     };
     Some(Fault { kind, pos })
 }
 
 /// The fault of a name that is called.
-#[tactic(auto, using(crate::proofs::Leaves::callee_name_least))]
+#[tactic(auto, using(crate::proofs::Leasts::leaf))]
 pub fn callee_name_fault(text: &[u8], scope: &Scope, name: Name) -> Option<Fault>
-    ensures { IsLeast (CalleeNameFails (is_println (spelled text.now name)) (is_reserved (spelled text.now name)) (declaration (scope_of scope.now) (spelled text.now name)) name.pos) result }
+    ensures { IsLeast (IsFault (callee_name_fault (word_of (spelled text.now name)) (declaration (scope_of scope.now) (spelled text.now name)) name.pos)) result }
 {
     let bytes = spelled(text, name);
-    unknown_fault(
-        is_println(bytes),
-        is_reserved(bytes),
-        declaration(scope, bytes),
-        name.pos,
-    )
+    match word_of(bytes) {
+        Word::Reserved => Some(Fault {
+            kind: FaultKind::OutOfProfile,
+            pos: name.pos,
+        }),
+        Word::Free => declared_fault(declaration(scope, bytes), name.pos),
+        _ => None,
+    }
 }
 
 /// An expression that is no name, as what is called.
@@ -123,10 +126,12 @@ pub fn callee_value(operand: &Option<Operand>) -> Callee
 pub fn spread_over(spread: bool, callee: Callee) -> Callee
     ensures { callee_of result ≡ spread_over spread (callee_of callee) }
 {
+    if !spread {
+        return callee;
+    }
     match callee {
-        Callee::Printer if spread => Callee::NoSpread,
-        Callee::Function(_, _, _) if spread => Callee::NoSpread,
-        _ => callee,
+        Callee::Printer(_) | Callee::Panicker | Callee::Function(_, _, _) => Callee::NoSpread,
+        other => other,
     }
 }
 
@@ -142,7 +147,7 @@ fn refused_fault(count: Option<usize>, own: Fault) -> Option<Fault>
 
 /// The fault of a call that is refused for a kind, with these arguments.
 fn refused(kind: FaultKind, pos: Pos, arguments: &[Item]) -> Option<Fault>
-    ensures { IsLeast (λ f. ValuesFail (many (seens arguments.now)) (seens arguments.now) f ⊎ (AreGiven (count (seens arguments.now)) × (f ≡ fault_at kind pos))) result }
+    ensures { IsLeast (λ f. ValuesFail (many (seens arguments.now)) (seens arguments.now) f ⊎ IsFault (refused_fault (count (seens arguments.now)) (fault_at kind pos)) f) result }
 {
     lesser(
         values_fault(arguments),
@@ -150,18 +155,40 @@ fn refused(kind: FaultKind, pos: Pos, arguments: &[Item]) -> Option<Fault>
     )
 }
 
+/// The fault of operands of `print`, `println` or `panic`.
+fn pieces_fault(arguments: &[Item]) -> Option<Fault>
+    ensures { IsLeast (λ f. SinglesFail (seens arguments.now) f ⊎ RangeFails (seens arguments.now) f) result }
+{
+    lesser(singles_fault(arguments), range_faults(arguments))
+}
+
+/// The fault of a `panic`, which has one operand.
+fn panic_fault(pos: Pos, arguments: &[Item]) -> Option<Fault>
+    ensures { IsLeast (CallFails pos Rattle.expression_types.specs.Typing.panicker (seens arguments.now)) result }
+{
+    let own = Fault {
+        kind: FaultKind::ArgCount,
+        pos,
+    };
+    lesser(
+        pieces_fault(arguments),
+        count_fault(count(arguments), 1, own),
+    )
+}
+
 /// The fault of a call with these arguments.
-pub fn call_fault(pos: Pos, callee: Callee, arguments: &[Item]) -> Option<Fault>
-    ensures { IsLeast (CallFails pos (callee_of callee) (seens arguments.now)) result }
+pub fn call_fault(pos: Pos, callee: &Callee, arguments: &[Item]) -> Option<Fault>
+    ensures { IsLeast (CallFails pos (callee_of callee.now) (seens arguments.now)) result }
 {
     match callee {
-        Callee::Printer => lesser(singles_fault(arguments), range_faults(arguments)),
-        Callee::Function(_, params, _) => {
+        Callee::Printer(_) => pieces_fault(arguments),
+        Callee::Panicker => panic_fault(pos, arguments),
+        Callee::Function(_, places, _) => {
             let own = Fault {
                 kind: FaultKind::ArgCount,
                 pos,
             };
-            take_fault(own, params, arguments)
+            take_fault(own, places, arguments)
         }
         Callee::NoFunction => refused(FaultKind::NotCallable, pos, arguments),
         Callee::NoSpread => refused(FaultKind::BadOperand, pos, arguments),
@@ -169,11 +196,38 @@ pub fn call_fault(pos: Pos, callee: Callee, arguments: &[Item]) -> Option<Fault>
     }
 }
 
-fn printed(alloc: Global, pos: Pos, arguments: Vec<Item>) -> Result<Option<Gives>, NoMemory>
-    ensures { IfOk result (λ r. option_map gives_of r ≡ called_with pos Rattle.expression_types.specs.Typing.printer (seens arguments.items)) }
+fn printed(
+    alloc: Global,
+    pos: Pos,
+    line: bool,
+    arguments: Vec<Item>,
+) -> Result<Option<Gives>, NoMemory>
+    ensures { IfOk result (λ r. option_map gives_of r ≡ called_with pos (Rattle.expression_types.specs.Typing.printer line) (seens arguments.items)) }
 {
-    match ints(alloc, arguments)? {
-        Some(values) => Ok(Some(Gives::Printed(pos, values))),
+    match pieces(alloc, arguments)? {
+        Some(pieces) => Ok(Some(Gives::Printed(pos, line, pieces))),
+        None => Ok(None),
+    }
+}
+
+fn panicked_with(pos: Pos, pieces: Vec<Piece>) -> Option<Gives>
+    ensures { option_map gives_of result ≡ panicked_with pos (Rattle.std.specs.Prelude.map piece_of pieces.items) }
+{
+    let mut pieces = pieces;
+    if pieces.len() != 1 {
+        return None;
+    }
+    match pieces.pop() {
+        Some(piece) => Some(Gives::Panicked(pos, piece)),
+        None => None,
+    }
+}
+
+fn panicked(alloc: Global, pos: Pos, arguments: Vec<Item>) -> Result<Option<Gives>, NoMemory>
+    ensures { IfOk result (λ r. option_map gives_of r ≡ called_with pos Rattle.expression_types.specs.Typing.panicker (seens arguments.items)) }
+{
+    match pieces(alloc, arguments)? {
+        Some(pieces) => Ok(panicked_with(pos, pieces)),
         None => Ok(None),
     }
 }
@@ -182,13 +236,13 @@ fn called(
     alloc: Global,
     pos: Pos,
     function: FuncId,
-    params: usize,
-    results: usize,
+    places: &[Option<ValueType>],
+    results: Vec<ValueType>,
     arguments: Vec<Item>,
 ) -> Result<Option<Gives>, NoMemory>
-    ensures { IfOk result (λ r. option_map gives_of r ≡ called_with pos (Rattle.expression_types.specs.Typing.function function.0 params results) (seens arguments.items)) }
+    ensures { IfOk result (λ r. option_map gives_of r ≡ called_with pos (Rattle.expression_types.specs.Typing.function function.0 places.now results.items) (seens arguments.items)) }
 {
-    match taken(alloc, params, arguments)? {
+    match taken(alloc, places, arguments)? {
         Some(values) => {
             let values = Box::new(alloc, values)?;
             Ok(Some(Gives::Called(pos, results, function, values)))
@@ -207,9 +261,10 @@ pub fn call_value(
     ensures { IfOk result (λ r. option_map gives_of r ≡ called_with pos (callee_of callee) (seens arguments.items)) }
 {
     match callee {
-        Callee::Printer => printed(alloc, pos, arguments),
-        Callee::Function(function, params, results) => {
-            called(alloc, pos, function, params, results, arguments)
+        Callee::Printer(line) => printed(alloc, pos, line, arguments),
+        Callee::Panicker => panicked(alloc, pos, arguments),
+        Callee::Function(function, places, results) => {
+            called(alloc, pos, function, &places, results, arguments)
         }
         _ => Ok(None),
     }

@@ -7,18 +7,16 @@ ghost use Rattle.syntax.specs.Expressions.{ex_of as tree_of, exs_of as trees_of,
 ghost use Rattle.expression_types.specs.Least.{IsLeast, IsLesserWith, lesser as least};
 ghost use Rattle.expression_types.specs.Scope.{scope_of};
 ghost use Rattle.expression_types.specs.Typing.{one as one_gives, pair_gives, spread_over, called_with, operand_in, name_in, callee, gives, seen};
-ghost use Rattle.expression_types.specs.Faults.{FormFails, CallFails, FailsAsType, Fails, FailsInEach, FailsAsOperand, CalleeFails};
-ghost use Rattle.expression_types.specs.Passing.{operand_of, gives_of, seens, callee_of, pair_fault, literal_operand, literal_fault, single_fault};
+ghost use Rattle.expression_types.specs.Faults.{FormFails, CallFails, FailsAsType, Fails, FailsInEach, FailsAsOperand, CalleeFails, pair_fault, literal_fault, single_fault};
+ghost use Rattle.expression_types.specs.Passing.{operand_of, gives_of, seens, callee_of, literal_operand};
 
 use crate::calls::{
     call_fault, call_value, callee_name_fault, callee_named, callee_value, name_in, spread_over,
 };
 use crate::fault::{Fault, FaultKind, lesser};
 use crate::naming::{name_fault, name_value};
-use crate::operand::{Callee, Gives, Item, Operand, one_operand, single_fault};
-use crate::operators::{
-    operator_fault, paired, prefix_fault, prefixed, takes_constant, takes_constants,
-};
+use crate::operand::{Callee, Constant, Gives, Item, Operand, one_operand, single_fault};
+use crate::operators::{has_rules, pair_fault, paired, prefix_fault, prefixed};
 use crate::scope::Scope;
 use crate::type_names::type_fault;
 use base::{NoMemory, Pos};
@@ -79,7 +77,6 @@ fn left_out(pos: Pos) -> Checked
 }
 
 /// A number.
-#[tactic(auto, using(crate::proofs::Leaves::literal_least))]
 fn literal(pos: Pos, number: u128) -> Checked
     ensures pos { result.pos ≡ pos }
     ensures gives { option_map gives_of result.gives ≡ literal_operand number }
@@ -88,7 +85,7 @@ fn literal(pos: Pos, number: u128) -> Checked
     match i128::try_from(number) {
         Ok(value) => Checked {
             pos,
-            gives: Some(Gives::One(Operand::Untyped(value))),
+            gives: Some(Gives::One(Operand::Untyped(Constant::Number(value)))),
             fault: None,
         },
         Err(_) => Checked {
@@ -129,10 +126,10 @@ fn one(operand: Option<Operand>) -> Option<Gives>
 /// An operator on its operands.
 fn pair(alloc: Global, op: BinOp, left: Single, right: Single) -> Result<Checked, NoMemory>
     ensures pos { IfOk result (λ c. c.pos ≡ left.pos) }
-    ensures gives { IfOk result (λ c. option_map gives_of c.gives ≡ pair_gives left.pos op true (option_map operand_of left.operand) (option_map operand_of right.operand)) }
+    ensures gives { IfOk result (λ c. option_map gives_of c.gives ≡ pair_gives left.pos op (option_map operand_of left.operand) (option_map operand_of right.operand)) }
     ensures fault { IfOk result (λ c. c.fault ≡ least (least left.fault right.fault) (pair_fault left.pos right.pos op (option_map operand_of left.operand) (option_map operand_of right.operand))) }
 {
-    let own = operator_fault(op, left.pos, right.pos, &left.operand, &right.operand);
+    let own = pair_fault(op, left.pos, right.pos, &left.operand, &right.operand);
     let operand = paired(alloc, op, left.pos, left.operand, right.operand)?;
     Ok(Checked {
         pos: left.pos,
@@ -147,7 +144,7 @@ fn call_of(alloc: Global, pos: Pos, called: Called, arguments: Listed) -> Result
     ensures gives { IfOk result (λ c. option_map gives_of c.gives ≡ called_with pos (callee_of called.callee) (seens arguments.items.items)) }
     ensures fault { IfOk result (λ c. IsLesserWith (CallFails pos (callee_of called.callee) (seens arguments.items.items)) (least called.fault arguments.fault) c.fault) }
 {
-    let own = call_fault(pos, called.callee, &arguments.items);
+    let own = call_fault(pos, &called.callee, &arguments.items);
     let gives = call_value(alloc, pos, called.callee, arguments.items)?;
     Ok(Checked {
         pos,
@@ -213,13 +210,9 @@ pub fn check_expr(alloc: Global, text: &[u8], scope: &Scope, e: &Expr) -> Result
         Expr::Name(name) => Ok(named(text, scope, *name)),
         Expr::Unary(pos, op, inner) => check_prefix(alloc, text, scope, *pos, *op, inner),
         Expr::Binary(_, op, left, right) => {
-            if takes_constants(*op) {
-                let left = check_single(alloc, text, scope, left)?;
-                let right = check_single(alloc, text, scope, right)?;
-                pair(alloc, *op, left, right)
-            } else {
-                check_left_out(alloc, text, scope, left)
-            }
+            let left = check_single(alloc, text, scope, left)?;
+            let right = check_single(alloc, text, scope, right)?;
+            pair(alloc, *op, left, right)
         }
         Expr::Paren(pos, inner) => {
             let inner = check_expr(alloc, text, scope, inner)?;
@@ -254,7 +247,7 @@ fn check_prefix(
     ensures gives { IfOk result (λ c. option_map gives_of c.gives ≡ gives text.now (scope_of scope.now) (unary pos op (tree_of inner.now))) }
     ensures fault { IfOk result (λ c. IsLeast (Fails text.now (scope_of scope.now) (unary pos op (tree_of inner.now))) c.fault) }
 {
-    if !takes_constant(op) {
+    if !has_rules(op) {
         return Ok(left_out(pos));
     }
     let inner = check_single(alloc, text, scope, inner)?;
@@ -300,10 +293,13 @@ fn check_callee(
     ensures fault { IfOk result (λ c. IsLeast (CalleeFails text.now (scope_of scope.now) (name_in (tree_of e.now)) (λ f. Fails text.now (scope_of scope.now) (tree_of e.now) f) (gives text.now (scope_of scope.now) (tree_of e.now))) c.fault) }
 {
     match name_in(e) {
-        Some(name) => Ok(Called {
-            callee: spread_over(spread, callee_named(text, scope, name)),
-            fault: callee_name_fault(text, scope, name),
-        }),
+        Some(name) => {
+            let callee = callee_named(alloc, text, scope, name)?;
+            Ok(Called {
+                callee: spread_over(spread, callee),
+                fault: callee_name_fault(text, scope, name),
+            })
+        }
         None => {
             let checked = check_single(alloc, text, scope, e)?;
             Ok(Called {

@@ -17,6 +17,8 @@ pub enum FaultKind {
     Redeclared,
     /// A `:=` that declares no new variable.
     NothingNew,
+    /// A value of another type than its place asks for, or operands of two types.
+    Mismatch,
     /// A left side that is no variable.
     NotAssignable,
     /// A call of what is no function.
@@ -31,9 +33,11 @@ pub enum FaultKind {
     MissingReturn,
     /// A constant that an int cannot hold, or that leaves 128 bits.
     ConstRange,
-    /// What does not fit its place: a value for a type, a type for a value, a condition that is none, `...` behind arguments,
-    /// a shift by a negative count.
+    /// What does not fit its place: a value for a type, a type for a value, an operand that its operator doesn't take, a condition that
+    /// is none, `...` behind arguments, a shift by a negative count.
     BadOperand,
+    /// A `break` or `continue` outside of a loop.
+    BreakOutside,
     /// A package other than `main`, or one without a function `main` that has no parameters and results.
     NoMain,
     /// A function without a body that is none of those that the language has outside of the program.
@@ -55,6 +59,7 @@ impl FaultKind {
             FaultKind::Unknown => 1,
             FaultKind::Redeclared => 2,
             FaultKind::NothingNew => 3,
+            FaultKind::Mismatch => 4,
             FaultKind::NotAssignable => 6,
             FaultKind::NotCallable => 7,
             FaultKind::ArgCount => 8,
@@ -63,6 +68,7 @@ impl FaultKind {
             FaultKind::MissingReturn => 11,
             FaultKind::ConstRange => 12,
             FaultKind::BadOperand => 14,
+            FaultKind::BreakOutside => 17,
             FaultKind::NoMain => 18,
             FaultKind::BadExternal => 19,
             FaultKind::OutOfProfile => 20,

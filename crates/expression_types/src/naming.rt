@@ -5,17 +5,17 @@ ghost use Rattle.std.specs.Option.{option_map};
 ghost use Rattle.syntax.specs.Expressions.{name as name_of, spelled};
 ghost use Rattle.expression_types.specs.Least.{IsLeast};
 ghost use Rattle.expression_types.specs.Scope.{scope_of, declaration};
-ghost use Rattle.expression_types.specs.Profile.{is_reserved};
 ghost use Rattle.expression_types.specs.Typing.{one, name_operand, gives};
-ghost use Rattle.expression_types.specs.Faults.{Fails};
-ghost use Rattle.expression_types.specs.Passing.{gives_of, name_fault};
+ghost use Rattle.expression_types.specs.Faults.{declared_fault, name_fault, Fails};
+ghost use Rattle.expression_types.specs.Passing.{gives_of};
 
 use crate::fault::{Fault, FaultKind};
-use crate::operand::{Gives, Operand};
-use crate::profile::is_reserved;
+use crate::operand::{Constant, Gives, Operand};
+use crate::profile::{Word, word_of};
 use crate::scope::{Declared, Scope, declaration};
 use base::Pos;
 use syntax::Name;
+use typed::Expr;
 
 /// The bytes of a name.
 pub fn spelled(text: &[u8], name: Name) -> &[u8]
@@ -29,49 +29,56 @@ pub fn spelled(text: &[u8], name: Name) -> &[u8]
     &rest[..long]
 }
 
-fn value_of(reserved: bool, declared: Option<Declared>) -> Option<Gives>
-    ensures { option_map gives_of result ≡ option_map one (name_operand reserved declared) }
+fn value_of(word: Word, declared: Option<Declared>) -> Option<Gives>
+    ensures { option_map gives_of result ≡ option_map one (name_operand word declared) }
 {
-    if reserved {
-        return None;
-    }
-    match declared {
-        Some(Declared::Variable(site)) => {
-            Some(Gives::One(Operand::Value(typed::Expr::Local(site))))
+    match (word, declared) {
+        (Word::Truth(truth), _) => Some(Gives::One(Operand::Untyped(Constant::Truth(truth)))),
+        (Word::Free, Some(Declared::Variable(site, value_type))) => {
+            Some(Gives::One(Operand::Value(value_type, Expr::Local(site))))
         }
         _ => None,
     }
 }
 
-/// The variable that a name stands for.
+/// The truth value or the variable that a name stands for.
 pub fn name_value(text: &[u8], scope: &Scope, name: Name) -> Option<Gives>
     ensures { option_map gives_of result ≡ gives text.now (scope_of scope.now) (name_of name) }
 {
     let bytes = spelled(text, name);
-    value_of(is_reserved(bytes), declaration(scope, bytes))
+    value_of(word_of(bytes), declaration(scope, bytes))
 }
 
-fn fault_of(reserved: bool, declared: Option<Declared>, pos: Pos) -> Option<Fault>
-    ensures { result ≡ name_fault reserved declared pos }
+fn declared_fault(declared: Option<Declared>, pos: Pos) -> Option<Fault>
+    ensures { result ≡ declared_fault declared pos }
 {
-    let kind = if reserved {
-        FaultKind::OutOfProfile
-    } else {
-        match declared {
-            Some(Declared::Function(_)) => FaultKind::OutOfProfile,
-            Some(Declared::TypeName) => FaultKind::BadOperand,
-            Some(_) => return None,
-            None => FaultKind::Unknown,
-        }
+    let kind = match declared {
+        Some(Declared::Function(_)) => FaultKind::OutOfProfile,
+        Some(Declared::TypeName) => FaultKind::BadOperand,
+        Some(_) => return None,
+        None => FaultKind::Unknown,
     };
     Some(Fault { kind, pos })
 }
 
+fn fault_of(word: Word, declared: Option<Declared>, pos: Pos) -> Option<Fault>
+    ensures { result ≡ name_fault word declared pos }
+{
+    match word {
+        Word::Truth(_) => None,
+        Word::Free => declared_fault(declared, pos),
+        _ => Some(Fault {
+            kind: FaultKind::OutOfProfile,
+            pos,
+        }),
+    }
+}
+
 /// The fault of a name as a value.
-#[tactic(auto, using(crate::proofs::Leaves::name_least))]
+#[tactic(auto, using(crate::proofs::Leasts::leaf))]
 pub fn name_fault(text: &[u8], scope: &Scope, name: Name) -> Option<Fault>
     ensures { IsLeast (Fails text.now (scope_of scope.now) (name_of name)) result }
 {
     let bytes = spelled(text, name);
-    fault_of(is_reserved(bytes), declaration(scope, bytes), name.pos)
+    fault_of(word_of(bytes), declaration(scope, bytes), name.pos)
 }

@@ -2,29 +2,40 @@
 
 ghost use Rattle.std.specs.Prelude.{◌≡◌, Option, Some, None, if◌then◌else◌, option_and_then, is_some};
 ghost use Rattle.std.specs.Option.{option_map};
-ghost use Rattle.typed.specs.View.{ex_of};
-ghost use Rattle.expression_types.specs.Typing.{as_int, is_int, untyped, operand_in};
-ghost use Rattle.expression_types.specs.Passing.{operand_of, gives_of, int_fault, single_fault};
+ghost use Rattle.typed.specs.View.{ex_of, piece_of};
+ghost use Rattle.expression_types.specs.Typing.{constant_type, type_of, constant_value, as_value, as_piece, is_int, operand_in};
+ghost use Rattle.expression_types.specs.Faults.{constant_range_fault, range_fault, single_fault};
+ghost use Rattle.expression_types.specs.Passing.{operand_of, gives_of};
 
 use crate::fault::{Fault, FaultKind};
+use crate::scope::ValueType;
 use base::{FuncId, Pos};
-use typed::{Const, Expr, Values};
+use typed::{Const, Expr, Piece, Values};
 
-/// What an expression gives as one value: an untyped constant, or an int.
+/// An untyped constant, with its exact value.
+#[derive(Clone, Copy)]
+pub enum Constant {
+    Number(i128),
+    Truth(bool),
+}
+
+/// What an expression gives as one value: an untyped constant, or a value of a type that is worked out when the program runs.
 #[derive(Drop)]
 pub enum Operand {
-    Untyped(i128),
-    Value(Expr),
+    Untyped(Constant),
+    Value(ValueType, Expr),
 }
 
 /// What an expression gives.
 #[derive(Drop)]
 pub enum Gives {
     One(Operand),
-    /// The results of a call: its place, how many they are, the function and the arguments.
-    Called(Pos, usize, FuncId, Box<Values>),
-    /// Nothing: a `println` at a place, and its operands.
-    Printed(Pos, Vec<Expr>),
+    /// The results of a call: its place, their types, the function and the arguments.
+    Called(Pos, Vec<ValueType>, FuncId, Box<Values>),
+    /// Nothing: a `print` at a place, or a `println` where true is said, and its operands.
+    Printed(Pos, bool, Vec<Piece>),
+    /// Nothing: a `panic` at a place, and its operand.
+    Panicked(Pos, Piece),
 }
 
 /// One of some expressions: its first byte, and what it gives.
@@ -35,12 +46,14 @@ pub struct Item {
 }
 
 /// What is called.
-#[derive(Clone, Copy, Debug, PartialEq, Eq)]
+#[derive(Drop)]
 pub enum Callee {
-    /// `println`.
-    Printer,
-    /// A function, and the numbers of its parameters and results.
-    Function(FuncId, usize, usize),
+    /// `print`, or `println` where true is said.
+    Printer(bool),
+    /// `panic`.
+    Panicker,
+    /// A function, the places for its arguments, and the types of its results.
+    Function(FuncId, Vec<Option<ValueType>>, Vec<ValueType>),
     /// A value that is no function.
     NoFunction,
     /// What takes no `...`, which stands behind the arguments.
@@ -60,39 +73,92 @@ fn int_constant(value: i128) -> Option<i64>
     }
 }
 
-/// The int that an operand gives where an int is wanted (Go specification, "Representability").
-pub fn as_int(operand: Operand) -> Option<Expr>
-    ensures { option_map ex_of result ≡ as_int (operand_of operand) }
+fn constant_type(constant: Constant) -> ValueType
+    ensures { result ≡ constant_type constant }
 {
-    match operand {
-        Operand::Untyped(value) => match int_constant(value) {
-            Some(number) => Some(Expr::Constant(Const::Int(number))),
-            None => None,
-        },
-        Operand::Value(e) => Some(e),
+    match constant {
+        Constant::Number(_) => ValueType::Int,
+        Constant::Truth(_) => ValueType::Bool,
     }
 }
 
-/// The int of an operand that may have failed.
-pub fn int_of(operand: Option<Operand>) -> Option<Expr>
-    ensures { option_map ex_of result ≡ option_and_then as_int (option_map operand_of operand) }
+/// The type of an operand.
+pub fn type_of(operand: &Operand) -> ValueType
+    ensures { result ≡ type_of (operand_of operand.now) }
 {
     match operand {
-        Some(operand) => as_int(operand),
+        Operand::Untyped(constant) => constant_type(*constant),
+        Operand::Value(value_type, _) => *value_type,
+    }
+}
+
+/// A constant as a value of its type (Go specification, "Representability").
+fn constant_value(constant: Constant) -> Option<Expr>
+    ensures { option_map ex_of result ≡ constant_value constant }
+{
+    match constant {
+        Constant::Number(value) => match int_constant(value) {
+            Some(number) => Some(Expr::Constant(Const::Int(number))),
+            None => None,
+        },
+        Constant::Truth(truth) => Some(Expr::Constant(Const::Bool(truth))),
+    }
+}
+
+/// The value that an operand gives when the program runs.
+pub fn as_value(operand: Operand) -> Option<Expr>
+    ensures { option_map ex_of result ≡ as_value (operand_of operand) }
+{
+    match operand {
+        Operand::Untyped(constant) => constant_value(constant),
+        Operand::Value(_, e) => Some(e),
+    }
+}
+
+/// The value of an operand that may have failed.
+pub fn value_of(operand: Option<Operand>) -> Option<Expr>
+    ensures { option_map ex_of result ≡ option_and_then as_value (option_map operand_of operand) }
+{
+    match operand {
+        Some(operand) => as_value(operand),
         None => None,
     }
 }
 
-/// The fault of a constant at a place where an int is wanted: no int can hold it.
-pub fn range_fault(pos: Pos, value: i128) -> Option<Fault>
-    ensures { result ≡ int_fault pos (Some (untyped value)) }
+/// An operand as one of `print`, `println` or `panic`.
+fn as_piece(operand: Operand) -> Option<Piece>
+    ensures { option_map piece_of result ≡ as_piece (operand_of operand) }
 {
-    match int_constant(value) {
-        Some(_) => None,
-        None => Some(Fault {
-            kind: FaultKind::ConstRange,
-            pos,
-        }),
+    let type_id = type_of(&operand).id();
+    match as_value(operand) {
+        Some(value) => Some(Piece::Shown(type_id, value)),
+        None => None,
+    }
+}
+
+/// The same of an operand that may have failed.
+pub fn piece_of(operand: Option<Operand>) -> Option<Piece>
+    ensures { option_map piece_of result ≡ option_and_then as_piece (option_map operand_of operand) }
+{
+    match operand {
+        Some(operand) => as_piece(operand),
+        None => None,
+    }
+}
+
+/// The fault of a constant as a value: no int can hold it.
+pub fn constant_range_fault(pos: Pos, constant: Constant) -> Option<Fault>
+    ensures { result ≡ constant_range_fault pos constant }
+{
+    match constant {
+        Constant::Number(value) => match int_constant(value) {
+            Some(_) => None,
+            None => Some(Fault {
+                kind: FaultKind::ConstRange,
+                pos,
+            }),
+        },
+        Constant::Truth(_) => None,
     }
 }
 
@@ -102,9 +168,24 @@ pub fn one_operand(gives: Option<Gives>) -> Option<Operand>
 {
     match gives {
         Some(Gives::One(operand)) => Some(operand),
-        Some(Gives::Called(_, 1, function, arguments)) => {
-            Some(Operand::Value(Expr::Call(function, arguments)))
-        }
+        Some(Gives::Called(_, types, function, arguments)) => match types.as_slice() {
+            [value_type] => Some(Operand::Value(*value_type, Expr::Call(function, arguments))),
+            _ => None,
+        },
+        _ => None,
+    }
+}
+
+/// The type of the one value of an expression.
+pub fn one_type(gives: &Option<Gives>) -> Option<ValueType>
+    ensures { result ≡ option_map type_of (operand_in (option_map gives_of gives.now)) }
+{
+    match gives {
+        Some(Gives::One(operand)) => Some(type_of(operand)),
+        Some(Gives::Called(_, types, _, _)) => match types.as_slice() {
+            [value_type] => Some(*value_type),
+            _ => None,
+        },
         _ => None,
     }
 }
@@ -113,11 +194,7 @@ pub fn one_operand(gives: Option<Gives>) -> Option<Operand>
 pub fn is_single(gives: &Option<Gives>) -> bool
     ensures { result ≡ is_some (operand_in (option_map gives_of gives.now)) }
 {
-    match gives {
-        Some(Gives::One(_)) => true,
-        Some(Gives::Called(_, 1, _, _)) => true,
-        _ => false,
-    }
+    one_type(gives).is_some()
 }
 
 /// The fault of an expression where one value is wanted: a call that has another number of them.
@@ -125,9 +202,12 @@ pub fn single_fault(gives: &Option<Gives>) -> Option<Fault>
     ensures { result ≡ single_fault (option_map gives_of gives.now) }
 {
     let pos = match gives {
-        Some(Gives::Called(_, 1, _, _)) => return None,
-        Some(Gives::Called(pos, _, _, _)) => *pos,
-        Some(Gives::Printed(pos, _)) => *pos,
+        Some(Gives::Called(pos, types, _, _)) => match types.as_slice() {
+            [_] => return None,
+            _ => *pos,
+        },
+        Some(Gives::Printed(pos, _, _)) => *pos,
+        Some(Gives::Panicked(pos, _)) => *pos,
         _ => return None,
     };
     Some(Fault {
@@ -136,12 +216,12 @@ pub fn single_fault(gives: &Option<Gives>) -> Option<Fault>
     })
 }
 
-/// The fault of an expression where an int is wanted: a constant that none can hold.
-pub fn int_fault(pos: Pos, gives: &Option<Gives>) -> Option<Fault>
-    ensures { result ≡ int_fault pos (operand_in (option_map gives_of gives.now)) }
+/// The fault of an expression as a value: a constant that no int can hold.
+pub fn range_fault(pos: Pos, gives: &Option<Gives>) -> Option<Fault>
+    ensures { result ≡ range_fault pos (operand_in (option_map gives_of gives.now)) }
 {
     match gives {
-        Some(Gives::One(Operand::Untyped(value))) => range_fault(pos, *value),
+        Some(Gives::One(Operand::Untyped(constant))) => constant_range_fault(pos, *constant),
         _ => None,
     }
 }

@@ -1,50 +1,50 @@
 //! Operators and prefixes: what each gives on what its operands give, and the rule of it that fails.
 //!
-//! Constants are worked out exactly. What is no constant is worked out when the program runs, by the operators that are typed; any other
-//! use is left out of the profile.
+//! Constants are worked out exactly. What is no constant is worked out when the program runs.
 
 ghost use Rattle.std.specs.Prelude.{◌≡◌, Option, Some, None, option_and_then, IfOk};
 ghost use Rattle.std.specs.Option.{option_map};
 ghost use Rattle.typed.specs.View.{ex_of};
-ghost use Rattle.expression_types.specs.Typing.{takes_constants, takes_constant, op_of, prefix_of, prefixed, as_int, constant_of, value, both, combined, both_ints};
-ghost use Rattle.expression_types.specs.Passing.{operand_of, prefix_fault, pair_fault, constant_fault, where_typed, beside_fault};
+ghost use Rattle.expression_types.specs.Typing.{same_type, const_of, constant_of, has_rules, takes_one, prefix_of, prefixed, takes, result_type, is_division, is_shift, is_zero, is_negative, stands_right, right_allowed, arithmetic_of, compare_of, typed_pair, as_value, value, both, both_values, value_pair, combined};
+ghost use Rattle.expression_types.specs.Faults.{constant_fault, fitting_prefix_fault, prefix_fault, unfit_kind, right_fault, fitting_fault, two_fault, pair_fault};
+ghost use Rattle.expression_types.specs.Passing.{operand_of};
 
 use crate::fault::{Fault, FaultKind};
-use crate::operand::{Operand, as_int, range_fault};
+use crate::operand::{Constant, Operand, as_value, constant_range_fault, type_of};
+use crate::scope::ValueType;
 use base::{NoMemory, Pos};
 use names::{Const, ConstFault, fold, fold_one};
 use std::alloc::Global;
-use syntax::{ArithmeticOp, BinOp, UnOp};
+use syntax::{ArithmeticOp, BinOp, CompareOp, UnOp};
+use typed::Expr;
 
-/// Whether an operator combines two untyped constants.
-pub fn takes_constants(op: BinOp) -> bool
-    ensures { result ≡ takes_constants op }
+pub fn same_type(s: ValueType, t: ValueType) -> bool
+    ensures { result ≡ same_type s t }
 {
-    match op {
-        BinOp::Arithmetic(_) => true,
+    match (s, t) {
+        (ValueType::Int, ValueType::Int) | (ValueType::Bool, ValueType::Bool) => true,
         _ => false,
     }
 }
 
-/// Whether a prefix stands before an untyped constant.
-pub fn takes_constant(op: UnOp) -> bool
-    ensures { result ≡ takes_constant op }
+/// Whether a prefix has rules.
+pub fn has_rules(op: UnOp) -> bool
+    ensures { result ≡ has_rules op }
 {
     match op {
-        UnOp::Plus | UnOp::Negate | UnOp::Complement => true,
+        UnOp::Plus | UnOp::Negate | UnOp::Complement | UnOp::Not => true,
         _ => false,
     }
 }
 
-/// The operator on ints that an operator is, of those that are typed.
-fn op_of(op: BinOp) -> Option<typed::BinOp>
-    ensures { result ≡ op_of op }
+/// Whether a prefix takes an operand of a type.
+fn takes_one(op: UnOp, operand: ValueType) -> bool
+    ensures { result ≡ takes_one op operand }
 {
-    match op {
-        BinOp::Arithmetic(ArithmeticOp::Add) => Some(typed::BinOp::Add),
-        BinOp::Arithmetic(ArithmeticOp::Sub) => Some(typed::BinOp::Sub),
-        BinOp::Arithmetic(ArithmeticOp::Mul) => Some(typed::BinOp::Mul),
-        _ => None,
+    match (op, operand) {
+        (UnOp::Plus | UnOp::Negate | UnOp::Complement, ValueType::Int) => true,
+        (UnOp::Not, ValueType::Bool) => true,
+        _ => false,
     }
 }
 
@@ -52,8 +52,124 @@ fn prefix_of(op: UnOp) -> Option<typed::UnOp>
     ensures { result ≡ prefix_of op }
 {
     match op {
+        UnOp::Plus => Some(typed::UnOp::Plus),
         UnOp::Negate => Some(typed::UnOp::Negate),
+        UnOp::Complement => Some(typed::UnOp::Complement),
+        UnOp::Not => Some(typed::UnOp::Not),
         _ => None,
+    }
+}
+
+/// Whether an operator takes operands of two types.
+fn takes(op: BinOp, left: ValueType, right: ValueType) -> bool
+    ensures { result ≡ takes op left right }
+{
+    match (op, left, right) {
+        (BinOp::Arithmetic(_) | BinOp::Compare(_), ValueType::Int, ValueType::Int) => true,
+        (
+            BinOp::Compare(CompareOp::Equal | CompareOp::NotEqual),
+            ValueType::Bool,
+            ValueType::Bool,
+        ) => true,
+        (BinOp::Both | BinOp::Either, ValueType::Bool, ValueType::Bool) => true,
+        _ => false,
+    }
+}
+
+fn result_type(op: BinOp) -> ValueType
+    ensures { result ≡ result_type op }
+{
+    match op {
+        BinOp::Arithmetic(_) => ValueType::Int,
+        _ => ValueType::Bool,
+    }
+}
+
+fn is_division(op: BinOp) -> bool
+    ensures { result ≡ is_division op }
+{
+    match op {
+        BinOp::Arithmetic(ArithmeticOp::Div | ArithmeticOp::Rem) => true,
+        _ => false,
+    }
+}
+
+fn is_shift(op: BinOp) -> bool
+    ensures { result ≡ is_shift op }
+{
+    match op {
+        BinOp::Arithmetic(ArithmeticOp::ShiftLeft | ArithmeticOp::ShiftRight) => true,
+        _ => false,
+    }
+}
+
+fn is_zero(constant: Constant) -> bool
+    ensures { result ≡ is_zero constant }
+{
+    match constant {
+        Constant::Number(value) => value == 0,
+        Constant::Truth(_) => false,
+    }
+}
+
+fn is_negative(constant: Constant) -> bool
+    ensures { result ≡ is_negative constant }
+{
+    match constant {
+        Constant::Number(value) => value < 0,
+        Constant::Truth(_) => false,
+    }
+}
+
+/// Whether an operand may stand on the right of one that is no constant: it is no divisor 0 and no negative count.
+fn right_allowed(op: BinOp, operand: &Operand) -> bool
+    ensures { result ≡ right_allowed op (operand_of operand.now) }
+{
+    match operand {
+        Operand::Untyped(constant) => {
+            !(is_division(op) && is_zero(*constant)) && !(is_shift(op) && is_negative(*constant))
+        }
+        Operand::Value(_, _) => true,
+    }
+}
+
+fn arithmetic_of(op: ArithmeticOp) -> typed::BinOp
+    ensures { result ≡ arithmetic_of op }
+{
+    match op {
+        ArithmeticOp::Add => typed::BinOp::Add,
+        ArithmeticOp::Sub => typed::BinOp::Sub,
+        ArithmeticOp::Mul => typed::BinOp::Mul,
+        ArithmeticOp::Div => typed::BinOp::Div,
+        ArithmeticOp::Rem => typed::BinOp::Rem,
+        ArithmeticOp::And => typed::BinOp::And,
+        ArithmeticOp::Or => typed::BinOp::Or,
+        ArithmeticOp::Xor => typed::BinOp::Xor,
+        ArithmeticOp::AndNot => typed::BinOp::AndNot,
+        ArithmeticOp::ShiftLeft => typed::BinOp::ShiftLeft,
+        ArithmeticOp::ShiftRight => typed::BinOp::ShiftRight,
+    }
+}
+
+fn compare_of(op: CompareOp) -> typed::BinOp
+    ensures { result ≡ compare_of op }
+{
+    match op {
+        CompareOp::Equal => typed::BinOp::Equal,
+        CompareOp::NotEqual => typed::BinOp::NotEqual,
+        CompareOp::Less => typed::BinOp::Less,
+        CompareOp::LessEqual => typed::BinOp::LessEqual,
+        CompareOp::Greater => typed::BinOp::Greater,
+        CompareOp::GreaterEqual => typed::BinOp::GreaterEqual,
+    }
+}
+
+fn const_of(constant: Constant) -> Const
+    ensures { result ≡ const_of constant }
+{
+    match constant {
+        Constant::Number(value) => Const::Int(value),
+        Constant::Truth(truth) => Const::Bool(truth),
     }
 }
 
@@ -62,7 +178,8 @@ fn constant(value: Result<Const, ConstFault>) -> Option<Operand>
     ensures { option_map operand_of result ≡ constant_of value }
 {
     match value {
-        Ok(Const::Int(number)) => Some(Operand::Untyped(number)),
+        Ok(Const::Int(number)) => Some(Operand::Untyped(Constant::Number(number))),
+        Ok(Const::Bool(truth)) => Some(Operand::Untyped(Constant::Truth(truth))),
         _ => None,
     }
 }
@@ -80,27 +197,22 @@ fn constant_fault(pos: Pos, right_pos: Pos, value: Result<Const, ConstFault>) ->
     Some(Fault { kind, pos })
 }
 
-/// The fault of a use of an operator on what is no constant: its own where it is typed.
-fn where_typed<T: Copy>(op: Option<T>, pos: Pos, own: Option<Fault>) -> Option<Fault>
-    ensures { result ≡ where_typed op pos own }
+/// A prefix on a value of a type.
+fn prefixed_value(
+    alloc: Global,
+    op: UnOp,
+    value_type: ValueType,
+    e: Expr,
+) -> Result<Option<Operand>, NoMemory>
+    ensures { IfOk result (λ o. option_map operand_of o ≡ prefixed op (value value_type (ex_of e))) }
 {
-    match op {
-        Some(_) => own,
-        None => Some(Fault {
-            kind: FaultKind::OutOfProfile,
-            pos,
-        }),
+    if !takes_one(op, value_type) {
+        return Ok(None);
     }
-}
-
-/// A prefix on an int.
-fn prefixed_value(alloc: Global, op: UnOp, e: typed::Expr) -> Result<Option<Operand>, NoMemory>
-    ensures { IfOk result (λ o. option_map operand_of o ≡ prefixed op (value (ex_of e))) }
-{
     match prefix_of(op) {
         Some(typed_op) => {
             let e = Box::new(alloc, e)?;
-            Ok(Some(Operand::Value(typed::Expr::Unary(typed_op, e))))
+            Ok(Some(Operand::Value(value_type, Expr::Unary(typed_op, e))))
         }
         None => Ok(None),
     }
@@ -116,8 +228,18 @@ pub fn prefixed(
 {
     match operand {
         None => Ok(None),
-        Some(Operand::Untyped(value)) => Ok(constant(fold_one(op, Const::Int(value)))),
-        Some(Operand::Value(e)) => prefixed_value(alloc, op, e),
+        Some(Operand::Untyped(value)) => Ok(constant(fold_one(op, const_of(value)))),
+        Some(Operand::Value(value_type, e)) => prefixed_value(alloc, op, value_type, e),
+    }
+}
+
+/// The fault of a prefix on an operand of a type that it takes.
+fn fitting_prefix_fault(op: UnOp, pos: Pos, operand: &Operand) -> Option<Fault>
+    ensures { result ≡ fitting_prefix_fault pos op (operand_of operand.now) }
+{
+    match operand {
+        Operand::Untyped(value) => constant_fault(pos, pos, fold_one(op, const_of(*value))),
+        Operand::Value(_, _) => None,
     }
 }
 
@@ -127,63 +249,137 @@ pub fn prefix_fault(op: UnOp, pos: Pos, operand: &Option<Operand>) -> Option<Fau
 {
     match operand {
         None => None,
-        Some(Operand::Untyped(value)) => {
-            constant_fault(pos, pos, fold_one(op, Const::Int(*value)))
+        Some(operand) => {
+            if takes_one(op, type_of(operand)) {
+                fitting_prefix_fault(op, pos, operand)
+            } else {
+                Some(Fault {
+                    kind: FaultKind::BadOperand,
+                    pos,
+                })
+            }
         }
-        Some(Operand::Value(_)) => where_typed(prefix_of(op), pos, None),
     }
 }
 
-/// An operator on two ints.
-fn int_pair(
+/// An operator on two values.
+fn typed_pair(alloc: Global, pos: Pos, op: BinOp, left: Expr, right: Expr) -> Result<Expr, NoMemory>
+    ensures { IfOk result (λ e. ex_of e ≡ typed_pair pos op (ex_of left) (ex_of right)) }
+{
+    let left = Box::new(alloc, left)?;
+    let right = Box::new(alloc, right)?;
+    Ok(match op {
+        BinOp::Arithmetic(op) => Expr::Binary(pos, arithmetic_of(op), left, right),
+        BinOp::Compare(op) => Expr::Binary(pos, compare_of(op), left, right),
+        BinOp::Both => Expr::Both(left, right),
+        BinOp::Either => Expr::Either(left, right),
+    })
+}
+
+/// An operator on two operands as values.
+fn both_values(
     alloc: Global,
     pos: Pos,
-    op: Option<typed::BinOp>,
+    op: BinOp,
     left: Operand,
     right: Operand,
 ) -> Result<Option<Operand>, NoMemory>
-    ensures { IfOk result (λ o. option_map operand_of o ≡ both_ints pos op (as_int (operand_of left)) (as_int (operand_of right))) }
+    ensures { IfOk result (λ o. option_map operand_of o ≡ both_values pos op (as_value (operand_of left)) (as_value (operand_of right))) }
 {
-    match (op, as_int(left), as_int(right)) {
-        (Some(op), Some(x), Some(y)) => {
-            let x = Box::new(alloc, x)?;
-            let y = Box::new(alloc, y)?;
-            Ok(Some(Operand::Value(typed::Expr::Binary(pos, op, x, y))))
+    match (as_value(left), as_value(right)) {
+        (Some(x), Some(y)) => {
+            let e = typed_pair(alloc, pos, op, x, y)?;
+            Ok(Some(Operand::Value(result_type(op), e)))
         }
         _ => Ok(None),
     }
 }
 
-/// The fault of an operator between two operands that give something.
-fn between(op: BinOp, pos: Pos, right_pos: Pos, left: &Operand, right: &Operand) -> Option<Fault>
-    ensures { result ≡ pair_fault pos right_pos op (Some (operand_of left.now)) (Some (operand_of right.now)) }
+/// Two operands, one of which at least is no constant.
+fn value_pair(
+    alloc: Global,
+    pos: Pos,
+    op: BinOp,
+    left: Operand,
+    right: Operand,
+) -> Result<Option<Operand>, NoMemory>
+    ensures { IfOk result (λ o. option_map operand_of o ≡ value_pair pos op (operand_of left) (operand_of right)) }
 {
-    match (left, right) {
-        (Operand::Untyped(y), Operand::Untyped(z)) => {
-            constant_fault(pos, right_pos, fold(op, Const::Int(*y), Const::Int(*z)))
-        }
-        (Operand::Untyped(y), Operand::Value(_)) => {
-            where_typed(op_of(op), pos, range_fault(pos, *y))
-        }
-        (Operand::Value(_), Operand::Untyped(z)) => {
-            where_typed(op_of(op), pos, range_fault(right_pos, *z))
-        }
-        (Operand::Value(_), Operand::Value(_)) => where_typed(op_of(op), pos, None),
+    if takes(op, type_of(&left), type_of(&right)) && right_allowed(op, &right) {
+        both_values(alloc, pos, op, left, right)
+    } else {
+        Ok(None)
     }
 }
 
-/// The fault of an operator beside an operand in which a rule fails.
-fn beside(op: BinOp, pos: Pos, operand: &Operand) -> Option<Fault>
-    ensures { result ≡ beside_fault pos op (operand_of operand.now) }
+/// The kind of the fault of operands that an operator doesn't take.
+fn unfit_kind(op: BinOp, left: ValueType, right: ValueType) -> FaultKind
+    ensures { result ≡ unfit_kind op left right }
 {
-    match operand {
-        Operand::Untyped(_) => None,
-        Operand::Value(_) => where_typed(op_of(op), pos, None),
+    if is_shift(op) || same_type(left, right) {
+        FaultKind::BadOperand
+    } else {
+        FaultKind::Mismatch
+    }
+}
+
+/// The fault of a constant on the right of what is none.
+fn right_fault(pos: Pos, right_pos: Pos, op: BinOp, constant: Constant) -> Option<Fault>
+    ensures { result ≡ right_fault pos right_pos op constant }
+{
+    if is_division(op) && is_zero(constant) {
+        Some(Fault {
+            kind: FaultKind::ConstZeroDivisor,
+            pos: right_pos,
+        })
+    } else if is_shift(op) && is_negative(constant) {
+        Some(Fault {
+            kind: FaultKind::BadOperand,
+            pos,
+        })
+    } else {
+        constant_range_fault(right_pos, constant)
+    }
+}
+
+/// The fault of an operator between operands of types that it takes.
+fn fitting_fault(
+    op: BinOp,
+    pos: Pos,
+    right_pos: Pos,
+    left: &Operand,
+    right: &Operand,
+) -> Option<Fault>
+    ensures { result ≡ fitting_fault pos right_pos op (operand_of left.now) (operand_of right.now) }
+{
+    match (left, right) {
+        (Operand::Untyped(y), Operand::Untyped(z)) => {
+            constant_fault(pos, right_pos, fold(op, const_of(*y), const_of(*z)))
+        }
+        (Operand::Untyped(y), Operand::Value(_, _)) => constant_range_fault(pos, *y),
+        (Operand::Value(_, _), Operand::Untyped(z)) => right_fault(pos, right_pos, op, *z),
+        (Operand::Value(_, _), Operand::Value(_, _)) => None,
+    }
+}
+
+/// The fault of an operator between two operands that give something.
+fn two_fault(op: BinOp, pos: Pos, right_pos: Pos, left: &Operand, right: &Operand) -> Option<Fault>
+    ensures { result ≡ two_fault pos right_pos op (operand_of left.now) (operand_of right.now) }
+{
+    let left_type = type_of(left);
+    let right_type = type_of(right);
+    if takes(op, left_type, right_type) {
+        fitting_fault(op, pos, right_pos, left, right)
+    } else {
+        Some(Fault {
+            kind: unfit_kind(op, left_type, right_type),
+            pos,
+        })
     }
 }
 
 /// The fault of an operator on what its operands give.
-pub fn operator_fault(
+pub fn pair_fault(
     op: BinOp,
     pos: Pos,
     right_pos: Pos,
@@ -193,14 +389,13 @@ pub fn operator_fault(
     ensures { result ≡ pair_fault pos right_pos op (option_map operand_of left.now) (option_map operand_of right.now) }
 {
     match (left, right) {
-        (Some(left), Some(right)) => between(op, pos, right_pos, left, right),
-        (Some(operand), None) | (None, Some(operand)) => beside(op, pos, operand),
-        (None, None) => None,
+        (Some(left), Some(right)) => two_fault(op, pos, right_pos, left, right),
+        _ => None,
     }
 }
 
 /// What two operands that give something give together.
-fn combined(
+pub fn combined(
     alloc: Global,
     op: BinOp,
     pos: Pos,
@@ -210,12 +405,10 @@ fn combined(
     ensures { IfOk result (λ o. option_map operand_of o ≡ combined pos op (operand_of left) (operand_of right)) }
 {
     match (left, right) {
-        (Operand::Untyped(y), Operand::Untyped(z)) => Ok(constant(fold(
-            op,
-            Const::Int(y),
-            Const::Int(z),
-        ))),
-        (left, right) => int_pair(alloc, pos, op_of(op), left, right),
+        (Operand::Untyped(y), Operand::Untyped(z)) => {
+            Ok(constant(fold(op, const_of(y), const_of(z))))
+        }
+        (left, right) => value_pair(alloc, pos, op, left, right),
     }
 }
 

@@ -3,7 +3,24 @@
 ghost use Rattle.std.specs.Prelude.{◌≡◌, ◌||◌, codes};
 ghost use Rattle.std.specs.List.{list_any};
 ghost use Rattle.std.specs.Str.{bytes_eq};
-ghost use Rattle.expression_types.specs.Profile.{is_type_name, is_value_name, is_predeclared, is_blank, is_main, is_int_type, is_println, is_reserved};
+ghost use Rattle.expression_types.specs.Profile.{is_type_name, is_value_name, is_predeclared, is_blank, is_main, is_reserved, named_type, call_word, word_of};
+
+use crate::scope::ValueType;
+
+/// What a name means in every program, where a value or what is called stands.
+#[derive(Clone, Copy)]
+pub enum Word {
+    /// `true` or `false`.
+    Truth(bool),
+    /// `print`, or `println` where true is said.
+    Print(bool),
+    /// `panic`.
+    Panic,
+    /// A name that a body may neither declare nor use.
+    Reserved,
+    /// What its declaration says.
+    Free,
+}
 
 /// The predeclared types of Go 1.22 (Go specification, "Predeclared identifiers").
 static TYPE_NAMES: [&str; 22] = [
@@ -72,24 +89,53 @@ pub fn is_main(name: &[u8]) -> bool
     name == "main".as_bytes()
 }
 
-/// Whether a name is that of the type of this part.
-pub fn is_int_type(name: &[u8]) -> bool
-    ensures { result ≡ is_int_type name.now }
-{
-    name == "int".as_bytes()
-}
-
-pub fn is_println(name: &[u8]) -> bool
-    ensures { result ≡ is_println name.now }
-{
-    name == "println".as_bytes()
-}
-
-/// Whether a name is none that a body may declare or use.
+/// Whether a name is none that a body may declare.
 pub fn is_reserved(name: &[u8]) -> bool
     ensures { result ≡ is_reserved name.now }
 {
     is_blank(name) || is_main(name) || is_predeclared(name)
+}
+
+/// The type of the language that a name stands for.
+pub fn named_type(name: &[u8]) -> Option<ValueType>
+    ensures { result ≡ named_type name.now }
+{
+    if name == "int".as_bytes() {
+        Some(ValueType::Int)
+    } else if name == "bool".as_bytes() {
+        Some(ValueType::Bool)
+    } else {
+        None
+    }
+}
+
+fn call_word(name: &[u8]) -> Word
+    ensures { result ≡ call_word name.now }
+{
+    if name == "println".as_bytes() {
+        Word::Print(true)
+    } else if name == "print".as_bytes() {
+        Word::Print(false)
+    } else if name == "panic".as_bytes() {
+        Word::Panic
+    } else if is_reserved(name) {
+        Word::Reserved
+    } else {
+        Word::Free
+    }
+}
+
+/// What a name means in every program.
+pub fn word_of(name: &[u8]) -> Word
+    ensures { result ≡ word_of name.now }
+{
+    if name == "true".as_bytes() {
+        Word::Truth(true)
+    } else if name == "false".as_bytes() {
+        Word::Truth(false)
+    } else {
+        call_word(name)
+    }
 }
 
 fn is_among(words: &[&str], name: &[u8]) -> bool

@@ -1,18 +1,31 @@
 //! What names stand for.
 
-ghost use Rattle.std.specs.Prelude.{◌≡◌, ◌<◌, length, OnOk, IfOk, Option, None, Some, if◌then◌else◌, ◌+◌};
+ghost use Rattle.std.specs.Prelude.{◌≡◌, ◌<◌, length, OnOk, IfOk, Option, None, Some, ◌+◌};
 ghost use Rattle.std.specs.Option.{option_map};
-ghost use Rattle.expression_types.specs.Scope.{scope_of, signature_of, declaration, is_here, signature, beginning, with_declaration, with_variable, with_signature, opened, closed};
+ghost use Rattle.expression_types.specs.Scope.{type_number, scope_of, signature_of, declaration, is_here, signature, beginning, with_declaration, with_variable, with_signature, opened, closed};
 
-use base::{FuncId, NoMemory, Pos, SiteId};
+use base::{FuncId, NoMemory, Pos, SiteId, TypeId};
 use names::Block;
 use std::alloc::Global;
-use typed::Site;
+use typed::{BOOL, INT, Site};
 
 /// A type of this part.
 #[derive(Clone, Copy, Debug, PartialEq, Eq)]
 pub enum ValueType {
     Int,
+    Bool,
+}
+
+impl ValueType {
+    /// Its number in a typed program.
+    pub fn id(self) -> TypeId
+        ensures { result.0 ≡ type_number self }
+    {
+        match self {
+            ValueType::Int => INT,
+            ValueType::Bool => BOOL,
+        }
+    }
 }
 
 /// The types of a function's parameters and of its results.
@@ -25,8 +38,8 @@ pub struct Signature {
 /// What a name stands for.
 #[derive(Clone, Copy, Debug, PartialEq, Eq)]
 pub enum Declared {
-    /// A variable of type int.
-    Variable(SiteId),
+    /// A variable of a type.
+    Variable(SiteId, ValueType),
     /// A variable or constant whose value or type has no type.
     Untyped,
     /// A function of the program.
@@ -142,16 +155,18 @@ pub fn declare_variable(
     scope: &mut Scope,
     name: &[u8],
     pos: Pos,
-    has_type: bool,
+    value_type: Option<ValueType>,
 ) -> Result<(), NoMemory>
-    ensures { OnOk result (scope_of scope.new ≡ with_variable has_type (scope_of scope.old) name.now pos) }
+    ensures { OnOk result (scope_of scope.new ≡ with_variable value_type (scope_of scope.old) name.now pos) }
 {
-    if has_type {
-        let site = next_site(scope)?;
-        declare(scope, name, Declared::Variable(site))?;
-        scope.sites.push(Site { pos })?;
-        Ok(())
-    } else {
-        declare(scope, name, Declared::Untyped)
+    match value_type {
+        Some(value_type) => {
+            let site = next_site(scope)?;
+            declare(scope, name, Declared::Variable(site, value_type))?;
+            let type_id = value_type.id();
+            scope.sites.push(Site { pos, type_id })?;
+            Ok(())
+        }
+        None => declare(scope, name, Declared::Untyped),
     }
 }

@@ -2,17 +2,21 @@
 
 ghost use Rattle.std.specs.Prelude.{◌≡◌, ◌⊎◌, Option, Some, None, IfOk, map, take};
 ghost use Rattle.std.specs.Option.{option_map};
-ghost use Rattle.typed.specs.View.{ex_of, exs_of_values};
+ghost use Rattle.typed.specs.View.{ex_of, piece_of, exs_of_values};
 ghost use Rattle.expression_types.specs.Least.{IsLeast};
-ghost use Rattle.expression_types.specs.Typing.{ints, are_single, many_in, many, count, each, taken};
-ghost use Rattle.expression_types.specs.Faults.{SinglesFail, ValuesFail, RangeFails, TakeFails};
-ghost use Rattle.expression_types.specs.Passing.{gives_of, seens, with_last, results_of, count_fault};
+ghost use Rattle.expression_types.specs.Typing.{values, pieces, are_single, single_types, many_in, many, count, value_types, accepts, types_agree, operand_agrees, each, asked, fits, all_values, taken, taken_types};
+ghost use Rattle.expression_types.specs.Faults.{fault as fault_at, type_fault, SinglesFail, ValuesFail, RangeFails, TypesFail, MismatchFails, PlacedFail, TakeFails, count_fault};
+ghost use Rattle.expression_types.specs.Passing.{gives_of, seens, with_last, results_of};
 
-use crate::fault::{Fault, lesser};
-use crate::operand::{Gives, Item, int_fault, int_of, is_single, one_operand, single_fault};
-use base::NoMemory;
+use crate::fault::{Fault, FaultKind, lesser};
+use crate::operand::{
+    Gives, Item, is_single, one_operand, one_type, piece_of, range_fault, single_fault, value_of,
+};
+use crate::operators::same_type;
+use crate::scope::ValueType;
+use base::{NoMemory, Pos};
 use std::alloc::Global;
-use typed::{Expr, Values};
+use typed::{Expr, Piece, Values};
 
 /// The fault of expressions each of which is to have one value.
 pub fn singles_fault(items: &[Item]) -> Option<Fault>
@@ -25,24 +29,25 @@ pub fn singles_fault(items: &[Item]) -> Option<Fault>
     fault
 }
 
-/// The fault of expressions that are to be ints: a constant that none can hold.
+/// The fault of expressions as values: a constant that no int can hold.
 pub fn range_faults(items: &[Item]) -> Option<Fault>
     ensures { IsLeast (RangeFails (seens items.now)) result }
 {
     let mut fault = None;
     for item in items {
-        fault = lesser(fault, int_fault(item.pos, &item.gives));
+        fault = lesser(fault, range_fault(item.pos, &item.gives));
     }
     fault
 }
 
-/// How many values a call has that stands alone and has more than one.
-fn many_count(items: &[Item]) -> Option<usize>
-    ensures { result ≡ option_map (λ m. m.count) (many (seens items.now)) }
+/// The place of a call that stands alone and has more than one value, and the types of these.
+fn many_types(items: &[Item]) -> Option<(Pos, &[ValueType])>
+    ensures place { option_map (λ r. r.0) result ≡ option_map (λ m. m.at) (many (seens items.now)) }
+    ensures types { option_map (λ r. r.1.now) result ≡ option_map (λ m. m.types) (many (seens items.now)) }
 {
     match items {
         [item] => match &item.gives {
-            Some(Gives::Called(_, count, _, _)) if *count >= 2 => Some(*count),
+            Some(Gives::Called(pos, types, _, _)) if types.len() >= 2 => Some((*pos, types)),
             _ => None,
         },
         _ => None,
@@ -53,7 +58,7 @@ fn many_count(items: &[Item]) -> Option<usize>
 pub fn values_fault(items: &[Item]) -> Option<Fault>
     ensures { IsLeast (ValuesFail (many (seens items.now)) (seens items.now)) result }
 {
-    match many_count(items) {
+    match many_types(items) {
         Some(_) => None,
         None => singles_fault(items),
     }
@@ -73,8 +78,8 @@ fn are_single(items: &[Item]) -> bool
 pub fn count(items: &[Item]) -> Option<usize>
     ensures { result ≡ count (seens items.now) }
 {
-    match many_count(items) {
-        Some(count) => Some(count),
+    match many_types(items) {
+        Some((_, types)) => Some(types.len()),
         None => {
             if are_single(items) {
                 Some(items.len())
@@ -85,6 +90,40 @@ pub fn count(items: &[Item]) -> Option<usize>
     }
 }
 
+/// One more, where all are some.
+fn with_last<T: Drop>(list: Option<Vec<T>>, last: Option<T>) -> Result<Option<Vec<T>>, NoMemory>
+    ensures { IfOk result (λ r. option_map (λ v. v.items) r ≡ with_last (option_map (λ v. v.items) list) last) }
+{
+    match (list, last) {
+        (Some(mut list), Some(last)) => {
+            list.push(last)?;
+            Ok(Some(list))
+        }
+        _ => Ok(None),
+    }
+}
+
+/// The types of expressions each of which has one value.
+fn single_types(alloc: Global, items: &[Item]) -> Result<Option<Vec<ValueType>>, NoMemory>
+    ensures { IfOk result (λ r. option_map (λ v. v.items) r ≡ single_types (seens items.now)) }
+{
+    let mut types = Some(Vec::new(alloc));
+    for item in items {
+        types = with_last(types, one_type(&item.gives))?;
+    }
+    Ok(types)
+}
+
+/// The types of the values, where all expressions give some.
+pub fn value_types(alloc: Global, items: &[Item]) -> Result<Option<Vec<ValueType>>, NoMemory>
+    ensures { IfOk result (λ r. option_map (λ v. v.items) r ≡ value_types (seens items.now)) }
+{
+    match many_types(items) {
+        Some((_, types)) => Ok(Some(Vec::from_slice(alloc, types)?)),
+        None => single_types(alloc, items),
+    }
+}
+
 /// The fault of another number of values than is wanted.
 pub fn count_fault(count: Option<usize>, wanted: usize, own: Fault) -> Option<Fault>
     ensures { result ≡ count_fault count wanted own }
@@ -92,6 +131,76 @@ pub fn count_fault(count: Option<usize>, wanted: usize, own: Fault) -> Option<Fa
     match count {
         Some(count) if count != wanted => Some(own),
         _ => None,
+    }
+}
+
+/// A place for each of these types.
+pub fn asked(alloc: Global, types: &[ValueType]) -> Result<Vec<Option<ValueType>>, NoMemory>
+    ensures { IfOk result (λ r. r.items ≡ asked types.now) }
+{
+    Ok(types.iter().map(|t| Some(*t)).collect(alloc)?)
+}
+
+/// Whether a place takes values of a type.
+pub fn accepts(place: Option<ValueType>, value_type: ValueType) -> bool
+    ensures { result ≡ accepts place value_type }
+{
+    match place {
+        None => true,
+        Some(wanted) => same_type(wanted, value_type),
+    }
+}
+
+/// Whether each type is one that its place asks for.
+fn types_agree(places: &[Option<ValueType>], types: &[ValueType]) -> bool
+    ensures { result ≡ types_agree places.now types.now }
+{
+    let mut agree = true;
+    for index in 0..places.len().min(types.len()) {
+        agree = agree && accepts(places[index], types[index]);
+    }
+    agree
+}
+
+/// The fault of a value of another type than its place asks for.
+fn type_fault(place: Option<ValueType>, item: &Item) -> Option<Fault>
+    ensures { result ≡ type_fault place item.now.pos (Rattle.expression_types.specs.Typing.operand_in (option_map gives_of item.now.gives)) }
+{
+    match one_type(&item.gives) {
+        Some(value_type) if !accepts(place, value_type) => Some(Fault {
+            kind: FaultKind::Mismatch,
+            pos: item.pos,
+        }),
+        _ => None,
+    }
+}
+
+fn types_fault(places: &[Option<ValueType>], items: &[Item]) -> Option<Fault>
+    ensures { IsLeast (TypesFail places.now (seens items.now)) result }
+{
+    let mut fault = None;
+    for index in 0..places.len().min(items.len()) {
+        fault = lesser(fault, type_fault(places[index], &items[index]));
+    }
+    fault
+}
+
+/// The fault of values of other types than their places ask for.
+fn mismatch_fault(places: &[Option<ValueType>], items: &[Item]) -> Option<Fault>
+    ensures { IsLeast (MismatchFails places.now (seens items.now) (many (seens items.now))) result }
+{
+    match many_types(items) {
+        Some((pos, types)) => {
+            if types_agree(places, types) {
+                None
+            } else {
+                Some(Fault {
+                    kind: FaultKind::Mismatch,
+                    pos,
+                })
+            }
+        }
+        None => types_fault(places, items),
     }
 }
 
@@ -107,45 +216,49 @@ fn first(items: &[Item], wanted: usize) -> &[Item]
     }
 }
 
-/// The fault of the values themselves at so many places for ints.
-pub fn placed_fault(wanted: usize, items: &[Item]) -> Option<Fault>
-    ensures { IsLeast (λ f. ValuesFail (many (seens items.now)) (seens items.now) f ⊎ RangeFails (take wanted (seens items.now)) f) result }
+/// The fault of the values themselves at these places.
+pub fn placed_fault(places: &[Option<ValueType>], items: &[Item]) -> Option<Fault>
+    ensures { IsLeast (PlacedFail places.now (seens items.now)) result }
 {
-    lesser(values_fault(items), range_faults(first(items, wanted)))
+    let own = lesser(
+        values_fault(items),
+        range_faults(first(items, places.len())),
+    );
+    lesser(own, mismatch_fault(places, items))
 }
 
-/// The fault of values at so many places for ints; `own` is that of another number.
-pub fn take_fault(own: Fault, wanted: usize, items: &[Item]) -> Option<Fault>
-    ensures { IsLeast (TakeFails own wanted (seens items.now)) result }
+/// The fault of values at these places; `own` is that of another number.
+pub fn take_fault(own: Fault, places: &[Option<ValueType>], items: &[Item]) -> Option<Fault>
+    ensures { IsLeast (TakeFails own places.now (seens items.now)) result }
 {
     lesser(
-        placed_fault(wanted, items),
-        count_fault(count(items), wanted, own),
+        placed_fault(places, items),
+        count_fault(count(items), places.len(), own),
     )
 }
 
-fn with_int(values: Option<Vec<Expr>>, value: Option<Expr>) -> Result<Option<Vec<Expr>>, NoMemory>
-    ensures { IfOk result (λ r. option_map (λ v. v.items) r ≡ with_last (option_map (λ v. v.items) values) value) }
-{
-    match (values, value) {
-        (Some(mut values), Some(value)) => {
-            values.push(value)?;
-            Ok(Some(values))
-        }
-        _ => Ok(None),
-    }
-}
-
-/// The int of each expression.
-pub fn ints(alloc: Global, items: Vec<Item>) -> Result<Option<Vec<Expr>>, NoMemory>
-    ensures { IfOk result (λ r. option_map (λ v. map ex_of v.items) r ≡ ints (seens items.items)) }
+/// The value of each expression.
+fn values(alloc: Global, items: Vec<Item>) -> Result<Option<Vec<Expr>>, NoMemory>
+    ensures { IfOk result (λ r. option_map (λ v. map ex_of v.items) r ≡ values (seens items.items)) }
 {
     let mut values = Some(Vec::new(alloc));
     for item in items {
-        let value = int_of(one_operand(item.gives));
-        values = with_int(values, value)?;
+        let value = value_of(one_operand(item.gives));
+        values = with_last(values, value)?;
     }
     Ok(values)
+}
+
+/// Each expression as an operand of `print`, `println` or `panic`.
+pub fn pieces(alloc: Global, items: Vec<Item>) -> Result<Option<Vec<Piece>>, NoMemory>
+    ensures { IfOk result (λ r. option_map (λ v. map piece_of v.items) r ≡ pieces (seens items.items)) }
+{
+    let mut pieces = Some(Vec::new(alloc));
+    for item in items {
+        let piece = piece_of(one_operand(item.gives));
+        pieces = with_last(pieces, piece)?;
+    }
+    Ok(pieces)
 }
 
 /// All results of a call that has more than one.
@@ -153,8 +266,12 @@ fn results_in(gives: Option<Gives>) -> Option<Values>
     ensures { option_map exs_of_values result ≡ option_map results_of (many_in (option_map gives_of gives)) }
 {
     match gives {
-        Some(Gives::Called(_, count, function, arguments)) if count >= 2 => {
-            Some(Values::Results(function, arguments))
+        Some(Gives::Called(_, types, function, arguments)) => {
+            if types.len() >= 2 {
+                Some(Values::Results(function, arguments))
+            } else {
+                None
+            }
         }
         _ => None,
     }
@@ -184,22 +301,58 @@ fn results(items: Vec<Item>) -> Option<Values>
     }
 }
 
-/// The values at so many places for ints.
-pub fn taken(alloc: Global, wanted: usize, items: Vec<Item>) -> Result<Option<Values>, NoMemory>
-    ensures { IfOk result (λ r. option_map exs_of_values r ≡ taken wanted (seens items.items)) }
+/// Whether there are as many values as places, of the types that these ask for.
+fn fits(places: &[Option<ValueType>], items: &[Item]) -> bool
+    ensures { result ≡ fits places.now (seens items.now) }
 {
-    match many_count(&items) {
-        Some(count) => Ok(if count == wanted {
-            results(items)
-        } else {
-            None
-        }),
+    match many_types(items) {
+        Some((_, types)) => types.len() == places.len() && types_agree(places, types),
+        None => items.len() == places.len() && types_fault(places, items).is_none(),
+    }
+}
+
+/// The values of expressions that have some.
+fn all_values(alloc: Global, items: Vec<Item>) -> Result<Option<Values>, NoMemory>
+    ensures { IfOk result (λ r. option_map exs_of_values r ≡ all_values (seens items.items) (many (seens items.items))) }
+{
+    if many_types(&items).is_some() {
+        return Ok(results(items));
+    }
+    let values = values(alloc, items)?;
+    Ok(each(values))
+}
+
+/// The values at these places.
+pub fn taken(
+    alloc: Global,
+    places: &[Option<ValueType>],
+    items: Vec<Item>,
+) -> Result<Option<Values>, NoMemory>
+    ensures { IfOk result (λ r. option_map exs_of_values r ≡ taken places.now (seens items.items)) }
+{
+    if fits(places, &items) {
+        all_values(alloc, items)
+    } else {
+        Ok(None)
+    }
+}
+
+/// The types of the values at these places.
+pub fn taken_types(
+    alloc: Global,
+    places: &[Option<ValueType>],
+    items: &[Item],
+) -> Result<Option<Vec<ValueType>>, NoMemory>
+    ensures { IfOk result (λ r. option_map (λ v. v.items) r ≡ taken_types places.now (seens items.now)) }
+{
+    match range_faults(items) {
+        Some(_) => Ok(None),
         None => {
-            if items.len() != wanted {
-                return Ok(None);
+            if fits(places, items) {
+                value_types(alloc, items)
+            } else {
+                Ok(None)
             }
-            let values = ints(alloc, items)?;
-            Ok(each(values))
         }
     }
 }

@@ -2,12 +2,12 @@
 
 ghost use Rattle.std.specs.Prelude.{◌≡◌, ◌+◌, max, map, IfOk};
 ghost use Rattle.typed.specs.Syntax.{arguments_of as arguments, results_of as results};
-ghost use Rattle.typed.specs.View.{ex_of, exs_of, exs_of_values, pieces_of, st_of, sts_of, func_of};
-ghost use Rattle.typed.specs.Frames.{reach, reach_all, reach_pieces, st_reach, sts_reach};
+ghost use Rattle.typed.specs.View.{ex_of, exs_of, exs_of_values, piece_of, test_of, st_of, sts_of, func_of};
+ghost use Rattle.typed.specs.Frames.{reach, reach_all, piece_reach as reach_in, reach_pieces, test_reach, st_reach, sts_reach};
 
 use crate::words::{arguments_of, results_of};
 use base::{FuncId, NoMemory};
-use typed::{Expr, Func, Stmt, Values};
+use typed::{Expr, Func, Piece, Stmt, Values};
 
 /// The words of the arguments and results of a call.
 fn call_reach(funcs: &[Func], f: FuncId) -> Result<u64, NoMemory>
@@ -30,6 +30,20 @@ pub fn expr_reach(funcs: &[Func], e: &Expr) -> Result<u64, NoMemory>
             expr_reach(funcs, a)
         }
         Expr::Binary(_, _, a, b) => {
+            let a: &Expr = a;
+            let b: &Expr = b;
+            let first = expr_reach(funcs, a)?;
+            let second = expr_reach(funcs, b)?;
+            Ok(first.max(second))
+        }
+        Expr::Both(a, b) => {
+            let a: &Expr = a;
+            let b: &Expr = b;
+            let first = expr_reach(funcs, a)?;
+            let second = expr_reach(funcs, b)?;
+            Ok(first.max(second))
+        }
+        Expr::Either(a, b) => {
             let a: &Expr = a;
             let b: &Expr = b;
             let first = expr_reach(funcs, a)?;
@@ -59,6 +73,7 @@ pub fn values_reach(funcs: &[Func], values: &Values) -> Result<u64, NoMemory>
             let own = call_reach(funcs, *f)?;
             Ok(words.max(own))
         }
+        Values::ReadInt => Ok(0),
     }
 }
 
@@ -74,12 +89,36 @@ fn row_reach(funcs: &[Func], es: &[Expr]) -> Result<u64, NoMemory>
     Ok(words)
 }
 
-/// The most words that a call inside of the operands of a line wants.
-#[tactic(auto, using(crate::proofs::Pieces::reaches))]
-fn line_reach(funcs: &[Func], es: &[Expr]) -> Result<u64, NoMemory>
-    ensures { IfOk result (λ n. n ≡ reach_pieces (map func_of funcs.now) (pieces_of es.now)) }
+/// The most words that a call inside of an operand of `panic` wants.
+fn piece_reach(funcs: &[Func], p: &Piece) -> Result<u64, NoMemory>
+    ensures { IfOk result (λ n. n ≡ reach_in (map func_of funcs.now) (piece_of p.now)) }
 {
-    row_reach(funcs, es)
+    match p {
+        Piece::Text(_) => Ok(0),
+        Piece::Shown(_, e) => expr_reach(funcs, e),
+    }
+}
+
+/// The most words that a call inside of operands that are shown wants.
+#[tactic(auto, using(crate::proofs::Pieces::reaches_first))]
+fn line_reach(funcs: &[Func], ps: &[Piece]) -> Result<u64, NoMemory>
+    ensures { IfOk result (λ n. n ≡ reach_pieces (map func_of funcs.now) (map piece_of ps.now)) }
+{
+    let mut words: u64 = 0;
+    for p in ps {
+        words = words.max(piece_reach(funcs, p)?);
+    }
+    Ok(words)
+}
+
+/// The most words that a call inside of a condition wants, where there is one.
+fn test_words(funcs: &[Func], test: &Option<Expr>) -> Result<u64, NoMemory>
+    ensures { IfOk result (λ n. n ≡ test_reach (map func_of funcs.now) (test_of test.now)) }
+{
+    match test {
+        None => Ok(0),
+        Some(e) => expr_reach(funcs, e),
+    }
 }
 
 /// The most words that a call inside of a statement wants.
@@ -89,7 +128,10 @@ pub fn stmt_reach(funcs: &[Func], s: &Stmt) -> Result<u64, NoMemory>
     ensures { IfOk result (λ n. n ≡ st_reach (map func_of funcs.now) (st_of s.now)) }
 {
     match s {
+        Stmt::Declare(_) => Ok(0),
         Stmt::Assign(_, values) => values_reach(funcs, values),
+        Stmt::Update(_, _, _, e) => expr_reach(funcs, e),
+        Stmt::Bump(_, _) => Ok(0),
         Stmt::Discard(values) => values_reach(funcs, values),
         Stmt::Block(ss) => body_reach(funcs, ss),
         Stmt::If(e, a, b) => {
@@ -98,14 +140,23 @@ pub fn stmt_reach(funcs: &[Func], s: &Stmt) -> Result<u64, NoMemory>
             let second = body_reach(funcs, b)?;
             Ok(test.max(first.max(second)))
         }
-        Stmt::Loop(None, body) => body_reach(funcs, body),
-        Stmt::Loop(Some(e), body) => {
-            let test = expr_reach(funcs, e)?;
+        Stmt::Loop(_, test, post, body) => {
+            let header = test_words(funcs, test)?;
+            let behind = body_reach(funcs, post)?;
             let round = body_reach(funcs, body)?;
-            Ok(test.max(round))
+            Ok(header.max(behind.max(round)))
         }
+        Stmt::Count(e, _, body) => {
+            let operand = expr_reach(funcs, e)?;
+            let round = body_reach(funcs, body)?;
+            Ok(operand.max(round))
+        }
+        Stmt::Break => Ok(0),
+        Stmt::Continue => Ok(0),
         Stmt::Return(values) => values_reach(funcs, values),
-        Stmt::Print(es) => line_reach(funcs, es),
+        Stmt::Print(_, ps) => line_reach(funcs, ps),
+        Stmt::Panic(_, p) => piece_reach(funcs, p),
+        Stmt::Exit(_, e) => expr_reach(funcs, e),
     }
 }
 

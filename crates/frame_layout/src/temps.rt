@@ -1,12 +1,18 @@
 //! The temps that values want. A number of temps that passes 64 bits counts as want of memory.
 
-ghost use Rattle.std.specs.Prelude.{◌≡◌, ◌+◌, max, map, IfOk};
-ghost use Rattle.typed.specs.View.{ex_of, exs_of, exs_of_values, pieces_of, st_of, sts_of, func_of};
-ghost use Rattle.typed.specs.Frames.{need, need_all, need_pieces, named_need, st_need, sts_need};
+ghost use Rattle.std.specs.Prelude.{◌≡◌, ◌≤◌, ◌+◌, max, map, List, IfOk};
+ghost use Rattle.typed.specs.Syntax.{Func as Function};
+ghost use Rattle.typed.specs.View.{ex_of, exs_of, exs_of_values, piece_of, test_of, site_numbers, left_of, st_of, sts_of, func_of};
+ghost use Rattle.typed.specs.Frames.{need, need_all, piece_need, need_pieces, test_need, renewal_need, key_need, named_need, st_need, sts_need};
 
 use crate::words::results_of;
-use base::NoMemory;
-use typed::{Expr, Func, Stmt, Values};
+use base::{NoMemory, SiteId};
+use typed::{Expr, Func, Left, Piece, Stmt, Values};
+
+/// What a `range` over a number keeps, the number and the index, and the most that it counts with above them.
+const KEPT: u64 = 2;
+
+const COUNTING: u64 = 2;
 
 /// One temp more.
 fn above(temps: u64) -> Result<u64, NoMemory>
@@ -35,6 +41,20 @@ pub fn expr_temps(funcs: &[Func], e: &Expr) -> Result<u64, NoMemory>
             let beside = above(second)?;
             Ok(first.max(beside))
         }
+        Expr::Both(a, b) => {
+            let a: &Expr = a;
+            let b: &Expr = b;
+            let first = expr_temps(funcs, a)?;
+            let second = expr_temps(funcs, b)?;
+            Ok(first.max(second))
+        }
+        Expr::Either(a, b) => {
+            let a: &Expr = a;
+            let b: &Expr = b;
+            let first = expr_temps(funcs, a)?;
+            let second = expr_temps(funcs, b)?;
+            Ok(first.max(second))
+        }
         Expr::Call(f, arguments) => {
             let arguments: &Values = arguments;
             let temps = values_temps(funcs, arguments)?;
@@ -56,6 +76,7 @@ pub fn values_temps(funcs: &[Func], values: &Values) -> Result<u64, NoMemory>
             let temps = values_temps(funcs, arguments)?;
             Ok(temps.max(results_of(funcs, *f)))
         }
+        Values::ReadInt => Ok(2),
     }
 }
 
@@ -74,12 +95,85 @@ fn row_temps(funcs: &[Func], es: &[Expr]) -> Result<u64, NoMemory>
     Ok(temps.max(kept))
 }
 
-/// The temps of the operands of a line.
-#[tactic(auto, using(crate::proofs::Pieces::needs))]
-fn line_temps(funcs: &[Func], es: &[Expr]) -> Result<u64, NoMemory>
-    ensures { IfOk result (λ n. n ≡ need_pieces (map func_of funcs.now) (pieces_of es.now)) }
+/// The temps of an operand of `panic`.
+fn piece_temps(funcs: &[Func], p: &Piece) -> Result<u64, NoMemory>
+    ensures { IfOk result (λ n. n ≡ piece_need (map func_of funcs.now) (piece_of p.now)) }
 {
-    row_temps(funcs, es)
+    match p {
+        Piece::Text(_) => Ok(0),
+        Piece::Shown(_, e) => expr_temps(funcs, e),
+    }
+}
+
+/// The temps of operands that are shown: strings take none.
+fn line_temps(funcs: &[Func], ps: &[Piece]) -> Result<u64, NoMemory>
+    ensures { IfOk result (λ n. n ≡ need_pieces (map func_of funcs.now) (map piece_of ps.now)) }
+{
+    let mut temps: u64 = 0;
+    let mut kept: u64 = 0;
+    for p in ps {
+        match p {
+            Piece::Text(_) => {}
+            Piece::Shown(_, e) => {
+                let top = kept.checked_add(expr_temps(funcs, e)?).ok_or(NoMemory)?;
+                temps = temps.max(top);
+                kept = above(kept)?;
+            }
+        }
+    }
+    Ok(temps.max(kept))
+}
+
+/// The temps of an assignment with an operator: the variable's value stands below the operand's.
+fn update_temps(funcs: &[Func], e: &Expr) -> Result<u64, NoMemory>
+    ensures { IfOk result (λ n. n ≡ 1 + need (map func_of funcs.now) (ex_of e.now)) }
+{
+    let temps = expr_temps(funcs, e)?;
+    above(temps)
+}
+
+/// The temps of a condition, where there is one.
+fn test_temps(funcs: &[Func], test: &Option<Expr>) -> Result<u64, NoMemory>
+    ensures { IfOk result (λ n. n ≡ test_need (map func_of funcs.now) (test_of test.now)) }
+{
+    match test {
+        None => Ok(0),
+        Some(e) => expr_temps(funcs, e),
+    }
+}
+
+/// The temps of a loop's header: those of its condition, and the one through which a new round's variables are moved.
+fn header_temps(funcs: &[Func], test: &Option<Expr>, sites: &[SiteId]) -> Result<u64, NoMemory>
+    ensures { IfOk result (λ n. n ≡ max (test_need (map func_of funcs.now) (test_of test.now)) (renewal_need (map func_of funcs.now) (site_numbers sites.now))) }
+{
+    let temps = test_temps(funcs, test)?;
+    if sites.is_empty() {
+        return Ok(temps);
+    }
+    Ok(temps.max(1))
+}
+
+/// The temp of the index that a left side gets.
+fn key_temps(key: Left) -> u64
+    ensures need { (fs : List Function) → result ≡ key_need fs (left_of key) }
+    ensures few { result ≤ 1 }
+{
+    match key {
+        Left::Blank => 0,
+        Left::New(_) => 1,
+        Left::To(_) => 1,
+    }
+}
+
+/// The temps of a `range` over a number whose body wants so many.
+fn count_temps(funcs: &[Func], e: &Expr, key: Left, body: u64) -> Result<u64, NoMemory>
+    ensures { IfOk result (λ n. n ≡ max (need (map func_of funcs.now) (ex_of e.now)) (max (2 + 2) (max (2 + key_need (map func_of funcs.now) (left_of key)) (2 + body)))) }
+{
+    let operand = expr_temps(funcs, e)?;
+    let inside = body.checked_add(KEPT).ok_or(NoMemory)?;
+    let index = KEPT + key_temps(key);
+    let counting = KEPT + COUNTING;
+    Ok(operand.max(counting.max(index.max(inside))))
 }
 
 /// The temps of a return from a function with so many results with names: these are moved through one.
@@ -100,7 +194,10 @@ pub fn stmt_temps(funcs: &[Func], named: u64, s: &Stmt) -> Result<u64, NoMemory>
     ensures { IfOk result (λ n. n ≡ st_need (map func_of funcs.now) named (st_of s.now)) }
 {
     match s {
+        Stmt::Declare(_) => Ok(0),
         Stmt::Assign(_, values) => values_temps(funcs, values),
+        Stmt::Update(_, _, _, e) => update_temps(funcs, e),
+        Stmt::Bump(_, _) => Ok(2),
         Stmt::Discard(values) => values_temps(funcs, values),
         Stmt::Block(ss) => body_temps(funcs, named, ss),
         Stmt::If(e, a, b) => {
@@ -109,14 +206,22 @@ pub fn stmt_temps(funcs: &[Func], named: u64, s: &Stmt) -> Result<u64, NoMemory>
             let second = body_temps(funcs, named, b)?;
             Ok(test.max(first.max(second)))
         }
-        Stmt::Loop(None, body) => body_temps(funcs, named, body),
-        Stmt::Loop(Some(e), body) => {
-            let test = expr_temps(funcs, e)?;
+        Stmt::Loop(sites, test, post, body) => {
+            let header = header_temps(funcs, test, sites)?;
+            let behind = body_temps(funcs, named, post)?;
             let round = body_temps(funcs, named, body)?;
-            Ok(test.max(round))
+            Ok(header.max(behind.max(round)))
         }
+        Stmt::Count(e, key, body) => {
+            let round = body_temps(funcs, named, body)?;
+            count_temps(funcs, e, *key, round)
+        }
+        Stmt::Break => Ok(0),
+        Stmt::Continue => Ok(0),
         Stmt::Return(values) => return_temps(funcs, named, values),
-        Stmt::Print(es) => line_temps(funcs, es),
+        Stmt::Print(_, ps) => line_temps(funcs, ps),
+        Stmt::Panic(_, p) => piece_temps(funcs, p),
+        Stmt::Exit(_, e) => expr_temps(funcs, e),
     }
 }
 

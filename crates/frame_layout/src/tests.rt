@@ -23,6 +23,7 @@ fn caller_and_callee(alloc: Global) -> Result<Program, Fail> {
         first_site: 0,
         sites: 0,
         params: vec![in alloc; None]?,
+        param_types: vec![in alloc; TypeId(0)]?,
         results: vec![in alloc; TypeId(0)]?,
         named: Vec::new(alloc),
         body: vec![in alloc; Stmt::Return(number(alloc)?)]?,
@@ -33,6 +34,7 @@ fn caller_and_callee(alloc: Global) -> Result<Program, Fail> {
         first_site: 0,
         sites: 0,
         params: Vec::new(alloc),
+        param_types: Vec::new(alloc),
         results: Vec::new(alloc),
         named: Vec::new(alloc),
         body: vec![in alloc; Stmt::Discard(call)]?,
@@ -41,6 +43,7 @@ fn caller_and_callee(alloc: Global) -> Result<Program, Fail> {
         funcs: vec![in alloc; callee, main]?,
         main: FuncId(1),
         sites: Vec::new(alloc),
+        strings: Vec::new(alloc),
     })
 }
 

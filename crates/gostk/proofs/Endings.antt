@@ -1,20 +1,22 @@
 -- A program exits with a status that an exit can have.
-use Rattle.std.proofs.Common.{◌≡◌, ℕ, zero, suc, ◌+◌, ◌≤◌, Bool, true, false, List, [], ◌∷◌, Option, Some, None, Result, Ok, Err, subst, arith, slice_get, nat_le, if◌then◌else◌, length, ◌-◌}
-use Rattle.std.specs.Prelude.{⊤}
+use Rattle.std.proofs.Common.{◌≡◌, refl, ℕ, zero, suc, ◌+◌, ◌≤◌, ℤ, pos, negsuc, Bool, true, false, List, [], ◌∷◌, Option, Some, None, Result, Ok, Err, subst, arith, slice_get, nat_le, if◌then◌else◌, length, ◌-◌}
+use Rattle.std.specs.Prelude.{⊤, nat_lt}
+use Rattle.std.proofs.lemmas.Bool.{ltb-true}
 use Rattle.base.specs.declared.pos.Pos.{Pos}
-use Rattle.typed.specs.Value.{Value}
-use Rattle.typed.specs.Syntax.{Ex, Exs, Left, Piece, St, Sts, Func, Program, constant, read, unary, binary, call, none, more, results, local, here, blank, new, to, shown, assign, discard, block, choose, loop, give_back, print, done, next}
-use Rattle.simulation.specs.Outcome.{Lines, Outcome, Gives, Ends, Unfinished, upto, ending_in}
-use Rattle.meaning.specs.Trace.{World, Call, Return, Born, Read, Write, Print, Fault, Ending, Turns, Exit, Panic, StackLimit, Trace, Turn, Note, Seen, End, Cut}
+use Rattle.typed.specs.Value.{Value, int}
+use Rattle.typed.specs.Syntax.{Ex, Exs, Left, Piece, St, Sts, Func, Program, constant, read, unary, binary, both, either, call, none, more, results, asked, local, here, blank, new, to, text, shown, over_int, declare, assign, update, bump, discard, block, choose, loop, range, break_off, go_on, give_back, print, raise, quit, done, next}
+use Rattle.simulation.specs.Outcome.{Outcome, Gives, Ends, Unfinished, upto, ending_in}
+use Rattle.meaning.specs.Trace.{World, Call, Return, Born, Read, Write, Print, Fault, exit_code, Ending, Turns, Exit, Panic, StackLimit, Trace, Turn, Note, Seen, End, Cut, Asked}
+use Rattle.meaning.specs.Store.{read_at, written}
 use Rattle.meaning.specs.Operators.{unary_of, binary_of}
-use Rattle.meaning.specs.Meaning.{Go, Then, Env, Ways, Calls, Answer, Setting, give, or_panic, holding, holding_all, when, is_true, Step, fixed, Aim, Spot, settle_steps, settle, ev, evs, Landing, nowhere, birth, on, landing_values, ready, ready_all, land, land_all, shown_bytes, emit_more, emit_plain, emit, pieces, test_of, renew, rounds, to_next, exec, exec_all, bear_params, bear_zeros, write_results, read_results, leave, leave_with, run_body, call_at, bear_globals, setting_of, at_top, beginning, trace}
-use Rattle.meaning.specs.Output.{Limits, out, source, used_by, tail_of}
+use Rattle.meaning.specs.Meaning.{Go, Then, Env, Ways, Calls, stop, write_part, no_pos, Item, Setting, counted, count_of, int_of, quit_with, give, or_panic, holding, holding_all, when, is_true, Step, fixed, Aim, Spot, settle_steps, settle, ev, evs, Landing, nowhere, birth, on, landing_values, ready, ready_all, land, land_all, shown_bytes, emit_more, emit_plain, emit, pieces, test_of, renew, rounds, to_next, exec, exec_all, bear_params, bear_zeros, write_results, read_results, leave, leave_with, run_body, call_at, bear_globals, setting_of, at_top, beginning, trace}
+use Rattle.meaning.specs.Output.{Limits, Sight, out, source, used_by, tail_of}
 
 abbrev IsGood : Ending → Type 0
 IsGood Turns = ⊤
 IsGood (Exit status) = status ≤ 125
 IsGood (Panic at f) = ⊤
-IsGood (StackLimit used asked max) = ⊤
+IsGood (StackLimit used wanted most) = ⊤
 
 -- each end of a trace is good
 abbrev EndsWell : Trace → Type 0
@@ -69,12 +71,15 @@ module _ (around : Setting) (calls : Calls) (gc : GoodCalls calls) where
     good_ev (unary op e) ws env k s h = good_ev e ws env _ s (λ v w. h (unary_of op v) w)
     good_ev (binary at op a b) ws env k s h =
         good_ev a ws env _ s (λ v. good_ev b (holding ws v) env _ (good_holding ws v s) (λ u w. good_or_panic ws env at (binary_of op v u) (give ws k) s (λ x y. h x y) w))
+    good_ev (both a b) ws env k s h = good_ev a ws env _ s (λ v w. good_when (is_true v) _ _ (good_ev b ws env k s h) (λ w1. h _ w1) w)
+    good_ev (either a b) ws env k s h = good_ev a ws env _ s (λ v w. good_when (is_true v) _ _ (λ w1. h _ w1) (good_ev b ws env k s h) w)
     good_ev (call f es) ws env k s h = good_evs es ws env _ s (λ vs w. gc.by f vs ws env _ s (λ rs w1. h _ w1) w)
 
     good_evs : (es : Exs) (ws : Ways) (env : Env) (k : Then (List Value)) → GoodWays ws → GoodThen k → Good (evs around calls es ws env k)
     good_evs none ws env k s h = h []
     good_evs (more e es) ws env k s h = good_ev e ws env _ s (λ v. good_evs es (holding ws v) env _ (good_holding ws v s) (λ vs. h (v ∷ vs)))
     good_evs (results f es) ws env k s h = good_evs es ws env _ s (λ vs w. gc.by f vs ws env _ s (λ rs w1. h rs w1) w)
+    good_evs asked ws env k s h = λ w. h _ _
 
   good_ready : (l : Left) (ws : Ways) (env : Env) (k : Then Landing) → GoodWays ws → GoodThen k → Good (ready around calls l ws env k)
   good_ready blank ws env k s h = h nowhere
@@ -89,7 +94,8 @@ module _ (around : Setting) (calls : Calls) (gc : GoodCalls calls) where
 
   good_pieces : (ps : List Piece) (ws : Ways) (env : Env) (k : Then (List (List ℕ))) → GoodWays ws → GoodThen k → Good (pieces around calls ps ws env k)
   good_pieces [] ws env k s h = h []
-  good_pieces (shown e ∷ ps) ws env k s h = good_ev e ws env _ s (λ v. good_pieces ps (holding ws v) env _ (good_holding ws v s) (λ r. h (shown_bytes v ∷ r)))
+  good_pieces (text number ∷ ps) ws env k s h = good_pieces ps ws env _ s (λ r. h _)
+  good_pieces (shown t e ∷ ps) ws env k s h = good_ev e ws env _ s (λ v. good_pieces ps (holding ws v) env _ (good_holding ws v s) (λ r. h (shown_bytes v ∷ r)))
 
   good_test : (t : Option Ex) (ws : Ways) (env : Env) (k : Then Value) → GoodWays ws → GoodThen k → Good (test_of around calls t ws env k)
   good_test None ws env k s h = h _
@@ -136,6 +142,28 @@ good_next : (around : Setting) (ws : Ways) (n : ℕ) (sites : List ℕ) (post : 
     → (env : Env) → Good (to_next around n sites post ws j env)
 good_next around ws n sites post j p g env = λ w. good_renew around ws.call sites env _ (λ env1. p env1 _ (λ env2. g _ env2)) w
 
+good_zeros : (around : Setting) (entry : ℕ) (sites : List ℕ) (env : Env) (k : Env → Go) → ((env1 : Env) → Good (k env1)) → Good (bear_zeros around entry sites env k)
+good_zeros around entry [] env k h = h env
+good_zeros around entry (site ∷ sites) env k h = λ w. good_zeros around entry sites _ k h _
+
+good_counted : (fuel i left : ℕ) (body : ℕ → ℕ → Env → (ℕ → Env → Go) → Go) (k : ℕ → Env → Go)
+    → ((i n : ℕ) (env : Env) (j : ℕ → Env → Go) → ((n1 : ℕ) (env1 : Env) → Good (j n1 env1)) → Good (body i n env j))
+    → ((n : ℕ) (env : Env) → Good (k n env)) → (n : ℕ) (env : Env) → Good (counted fuel i left body k n env)
+good_counted zero i left body k b h n env = λ w. tt
+good_counted (suc fuel) i zero body k b h n env = λ w. h n env w
+good_counted (suc fuel) i (suc left) body k b h n env = λ w. b i n env _ (λ n1 env1 w1. good_counted fuel (suc i) left body k b h n1 env1 w1) w
+
+ltb_below : (n : ℕ) → nat_lt n 126 ≡ true → n ≤ 125
+ltb_below n e = let l = ltb-true n 126 e in omega arith
+
+status_of : (n : ℕ) (b : Bool) → nat_lt n 126 ≡ b → (ws : Ways) (env : Env) (at : Pos) → GoodWays ws → Good (when b (stop (Exit n)) (ws.panicked at (exit_code (pos n)) env))
+status_of n true e ws env at s = λ w. ltb_below n e
+status_of n false e ws env at s = s.panicked at _ env
+
+good_quit : (ws : Ways) (env : Env) (at : Pos) (z : ℤ) → GoodWays ws → Good (quit_with ws env at z)
+good_quit ws env at (pos n) s = status_of n (nat_lt n 126) refl ws env at s
+good_quit ws env at (negsuc n) s = s.panicked at _ env
+
 module _ (around : Setting) (calls : Calls) (gc : GoodCalls calls) (fuel : ℕ) where
   mutual
     good_exec : (st : St) (ws : Ways) (env : Env) (k : Env → Go) → GoodWays ws → ((env1 : Env) → Good (k env1)) → Good (exec around calls fuel st ws env k)
@@ -156,6 +184,22 @@ module _ (around : Setting) (calls : Calls) (gc : GoodCalls calls) (fuel : ℕ) 
         })
         (good_next around ws n1 sites (exec_all around calls fuel post) j (λ env3 k3 h3. good_exec_all post ws env3 k3 s h3) g))
         (λ n1 env1 w1. h env1 w1) (length w.store - length sites) env w
+    good_exec (declare sites) ws env k s h = good_zeros around ws.call sites env k h
+    good_exec (update at (local site here) op e) ws env k s h =
+        λ w. good_ev around calls gc e (holding ws _) env _ (good_holding ws _ s) (λ u. good_or_panic ws env at (binary_of op _ u) _ s (λ x w1. h env _)) w
+    good_exec (bump (local site here) op) ws env k s h =
+        λ w. good_or_panic ws env no_pos (binary_of op (read_at w (env site) []) (int (pos 1))) (λ x. write_part (env site) [] x (k env)) s (λ x w1. h env (written w1 (env site) [] x)) w
+    good_exec (range (over_int e) key value body) ws env k s h =
+        good_ev around calls gc e ws env _ s (λ v w. good_counted fuel 0 (count_of v) _ _
+        (λ i n1 env1 j g. good_ready around calls gc key (holding ws v) env1 _ (good_holding ws v s) (λ a. good_land around a _ (holding ws v) env1 _ (λ env2. good_exec_all body _ env2 _
+        (record { broken = λ env3 w3. h env3 w3; continued = λ env3 w3. g _ env3 w3; returned = s.returned; panicked = s.panicked })
+        (λ env3 w3. g _ env3 w3))))
+        (λ n1 env1 w1. h env1 w1) (length w.store) env w)
+    good_exec break_off ws env k s h = λ w. s.broken env w
+    good_exec go_on ws env k s h = λ w. s.continued env w
+    good_exec (raise at (text number)) ws env k s h = λ w. s.panicked at _ env w
+    good_exec (raise at (shown t e)) ws env k s h = good_ev around calls gc e ws env _ s (λ v w. s.panicked at _ env w)
+    good_exec (quit at e) ws env k s h = good_ev around calls gc e ws env _ s (λ v w. good_quit ws env at (int_of v) s w)
     good_exec (give_back es) ws env k s h = good_evs around calls gc es ws env _ s (λ vs. s.returned vs env)
     good_exec (print ln ps) ws env k s h = good_pieces around calls gc ps ws env _ s (λ bs. good_emit ln bs _ (h env))
 
@@ -168,10 +212,6 @@ good_params around entry [] vs env k h = h env
 good_params around entry (p ∷ ps) [] env k h = h env
 good_params around entry (None ∷ ps) (v ∷ vs) env k h = good_params around entry ps vs env k h
 good_params around entry (Some site ∷ ps) (v ∷ vs) env k h = λ w. good_params around entry ps vs _ k h _
-
-good_zeros : (around : Setting) (entry : ℕ) (sites : List ℕ) (env : Env) (k : Env → Go) → ((env1 : Env) → Good (k env1)) → Good (bear_zeros around entry sites env k)
-good_zeros around entry [] env k h = h env
-good_zeros around entry (site ∷ sites) env k h = λ w. good_zeros around entry sites _ k h _
 
 good_writes : (sites : List ℕ) (vs : List Value) (env : Env) (g : Go) → Good g → Good (write_results sites vs env g)
 good_writes [] vs env g h = h
@@ -209,12 +249,12 @@ good_globals around ((site, v) ∷ gs) g h = λ w. good_globals around gs g h _
 good_top : GoodWays at_top
 good_top = record { broken = λ env w. omega arith; continued = λ env w. omega arith; returned = λ vs env w. omega arith; panicked = λ at f env w. tt }
 
-ends_well : (item : List ℕ → Answer) (p : Program) (input : List ℕ) (n : ℕ) → EndsWell (trace item p input n)
-ends_well item p input n =
-    good_globals (setting_of item p) p.globals _ ((good_call (setting_of item p) p.funcs (suc n)).by p.main [] at_top (λ x. 0) _ good_top (λ rs w. omega arith)) (beginning input)
+ends_well : (items : ℕ → Item) (p : Program) (n : ℕ) → EndsWell (trace items p n)
+ends_well items p n =
+    good_globals (setting_of items p) p.globals _ ((good_call (setting_of items p) p.funcs (suc n)).by p.main [] at_top (λ x. 0) _ good_top (λ rs w. omega arith)) beginning
 
 -- what is shown ends well, too
-abbrev ShowsWell : Outcome (List ℕ) Ending → Type 0
+abbrev ShowsWell : Outcome Sight Ending → Type 0
 ShowsWell (Gives bytes o) = ShowsWell o
 ShowsWell (Ends e) = IsGood e
 ShowsWell Unfinished = ⊤
@@ -231,13 +271,14 @@ shows_well l calls (Seen m t) n h = shows_well l calls t n h
 shows_well l calls (End e) n h = h
 shows_well l calls Cut n h = tt
 shows_well l calls (Note (Print bytes) t) n h = shows_well l calls t n h
+shows_well l calls (Note Asked t) n h = shows_well l calls t n h
 shows_well l calls (Note (Call f) t) n h = called l calls f t n (nat_le (used_by l calls + l.frame f) l.stack_max) (shows_well l (f ∷ calls) t n h)
 shows_well l calls (Note Return t) n h = shows_well l (tail_of calls) t n h
 shows_well l calls (Note (Born site k) t) n h = shows_well l calls t n h
 shows_well l calls (Note (Read v path k) t) n h = shows_well l calls t n h
 shows_well l calls (Note (Write v path k) t) n h = shows_well l calls t n h
 
-exits_well : (o : Outcome (List ℕ) Ending) → ShowsWell o → (status : ℕ) → ending_in o ≡ Some (Exit status) → status ≤ 125
+exits_well : (o : Outcome Sight Ending) → ShowsWell o → (status : ℕ) → ending_in o ≡ Some (Exit status) → status ≤ 125
 exits_well (Gives bytes o) h status e = exits_well o h status e
 exits_well (Ends x) h status e =
     let is : x ≡ Exit status = cc in
@@ -245,5 +286,5 @@ exits_well (Ends x) h status e =
 exits_well Unfinished h status e = cc
 
 -- an exit's status is at most 125
-pub exit_status : (item : List ℕ → Answer) (p : Program) (l : Limits) (input : List ℕ) (n status : ℕ) → ending_in (source item p l input n) ≡ Some (Exit status) → status ≤ 125
-exit_status item p l input n status e = exits_well (source item p l input n) (shows_well l [] (trace item p input n) n (ends_well item p input n)) status e
+pub exit_status : (items : ℕ → Item) (p : Program) (l : Limits) (n status : ℕ) → ending_in (source items p l n) ≡ Some (Exit status) → status ≤ 125
+exit_status items p l n status e = exits_well (source items p l n) (shows_well l [] (trace items p n) n (ends_well items p n)) status e

@@ -1,6 +1,10 @@
--- The line of a refusal, from its pieces.
-use Rattle.std.proofs.Common.{◌≡◌, ℕ, List, ◌++◌, Option, Result, OnErr, subst, codes, decimal}
+-- Lines from their pieces.
+use Rattle.std.proofs.Common.{◌≡◌, ◌∙◌, ap, sym, ℕ, List, ◌++◌, Option, Result, OnErr, Vec, subst, codes, decimal}
+use Rattle.std.specs.declared.alloc.Global.{Global}
 use Rattle.outside.specs.Took.{TookPrefix}
+use Rattle.gostk.specs.Answer.{reason_text, panic_line}
+use Rattle.gostk.specs.declared.answer.Reason.{Reason}
+use Rattle.gostk.specs.declared.answer.Reason.TheVariants.{Text}
 use Rattle.gostk.specs.Refusal.{stage_text, words_text, refusal_line}
 use Rattle.gostk.specs.declared.refusal.Refusal.{Refusal}
 
@@ -11,4 +15,12 @@ pub part_of_line : {T E : Type 0} (r : Result T E) (old new : Option (List ℕ))
     → OnErr r (TookPrefix old new (refusal_line file x))
 part_of_line r old new name file line col kind stage tail x en el ec es ek et h =
     let e : name ++ (codes ":" ++ (decimal line ++ (codes ":" ++ (decimal col ++ (codes ": " ++ (stage ++ (codes " kind " ++ (decimal kind ++ tail)))))))) ≡ refusal_line file x = cc in
+    subst (λ (t : List ℕ). OnErr r (TookPrefix old new t)) e h
+
+-- likewise of a panic with the bytes of a string
+pub part_of_panic : {T E : Type 0} (r : Result T E) (old new : Option (List ℕ)) (taken : List ℕ) (bytes : Vec ℕ Global) (reason : Reason) → taken ≡ bytes.items → reason ≡ Text bytes
+    → OnErr r (TookPrefix old new (codes "panic: " ++ (taken ++ codes "\n"))) → OnErr r (TookPrefix old new (panic_line (reason_text reason)))
+part_of_panic r old new taken bytes reason same is h =
+    let e : codes "panic: " ++ (taken ++ codes "\n") ≡ panic_line (reason_text reason) =
+    ap (λ (t : List ℕ). panic_line t) (same ∙ ap reason_text (sym is)) in
     subst (λ (t : List ℕ). OnErr r (TookPrefix old new t)) e h

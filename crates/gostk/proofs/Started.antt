@@ -1,6 +1,6 @@
--- Some reading of an item.
-use Rattle.std.proofs.Common.{List, ℕ, false, pos}
-use Rattle.meaning.specs.Meaning.{Answer}
+-- Some items of an input.
+use Rattle.std.proofs.Common.{ℕ, None}
+use Rattle.meaning.specs.Meaning.{Item}
 
-pub some_item : List ℕ → Answer
-some_item input = record { value = pos 0; is_good = false; rest = input }
+pub some_items : ℕ → Item
+some_items n = None

@@ -1,5 +1,5 @@
 -- The table of answers, read by the status.
-use Rattle.std.proofs.Common.{◌≡◌, ◌∙◌, sym, ap, subst, ◌⊎◌, inl, inr, arith, ℕ, ◌++◌, true, false, List, [], ◌∷◌, length, Option, Some, None, length-append}
+use Rattle.std.proofs.Common.{◌≡◌, ◌∙◌, sym, ap, subst, ◌⊎◌, inl, inr, arith, ℕ, ◌≤◌, ◌++◌, true, false, List, [], ◌∷◌, length, Option, Some, None, length-append}
 use Rattle.limits.specs.Limits.{Bounds, AreLimits, IsFirstFault}
 use Rattle.limits.specs.declared.limits.LimitFault.{LimitFault}
 use Rattle.limits.specs.declared.limits.LimitFault.TheVariants.{StartTooSmall, StartOverMax, OverTop}
@@ -9,14 +9,15 @@ use Rattle.outside.specs.Took.{Took}
 use Rattle.simulation.specs.Outcome.{Outcome, ending_in}
 use Rattle.typed.specs.Syntax.{Program}
 use Rattle.meaning.specs.Trace as source
-use Rattle.meaning.specs.Output.{output}
+use Rattle.meaning.specs.Output.{Sight, output}
 use Rattle.compile.specs.Accepted.{Accepted}
-use Rattle.gostk.specs.Answer.{status_of, line_of, steps_line, stack_line}
-use Rattle.gostk.specs.Programs.{EndsBy, GoesOn, Reading, few_turns}
+use Rattle.base.specs.declared.pos.Pos.{Pos}
+use Rattle.gostk.specs.Answer.{status_of, line_of, reason_text, fault_text, panic_line, steps_line, stack_line}
+use Rattle.gostk.specs.Programs.{EndsBy, PanicsWith, PanicsBy, GoesOn, Reading, few_turns, all_turns}
 use Rattle.gostk.specs.Words.{bounds_of, is_source, path_of, Asks, IsOffLimits, IsNoSource}
-use Rattle.gostk.specs.Rows.{Seen, Reads, IsNoText, IsRunOf, GainedRead, Allowed, Reported, WriteFailed, StepsPassed, IsWrong, IsMissing, IsUnaccepted, Comes, IsCalm, Completes, Does}
+use Rattle.gostk.specs.Rows.{Seen, Reads, IsNoText, IsRunOf, GainedRead, Allowed, Reported, FinishedOrPanicked, WriteFailed, StepsPassed, IsWrong, IsMissing, IsUnaccepted, Comes, IsCalm, Completes, Does}
 use Rattle.gostk.specs.declared.answer.Answer.{Answer}
-use Rattle.gostk.specs.declared.answer.Answer.TheVariants.{Ended, Usage, Limits, SourceOnly, Refused, ReadFault, WriteFault, Steps, StackLimit, NoMemory}
+use Rattle.gostk.specs.declared.answer.Answer.TheVariants.{Ended, Panicked, Usage, Limits, SourceOnly, Refused, ReadFault, WriteFault, Steps, StackLimit, NoMemory}
 
 -- words that are refused ask for nothing
 on_limits : (b : Bounds) (f : LimitFault) → AreLimits b → IsFirstFault b f → ⊥
@@ -57,15 +58,33 @@ early_end : (p : Program) (b : Bounds) (x y : source.Ending) (old new : Option (
 early_end p b x y old new r ends e =
     let same = ends.early r y e in
     let is : Some x ≡ Some y = sym (ends.ends r) ∙ (ap ending_in (sym same) ∙ e) in
-    (cc, subst (λ (o : Outcome (List ℕ) source.Ending). Took old new (output o)) (sym same) (ends.took r))
+    (cc, subst (λ (o : Outcome Sight source.Ending). Took old new (output o)) (sym same) (ends.took r))
+
+-- what panics, and ends in the sixteenth of the turns, panics so in these
+early_panic : (p : Program) (b : Bounds) (text : List ℕ) (y : source.Ending) (old new : Option (List ℕ)) (r : Reading) → PanicsBy p b text old new → ending_in (few_turns p b r) ≡ Some y
+    → PanicsWith text (Some y) × Took old new (output (few_turns p b r))
+early_panic p b text y old new r ends e =
+    let same = ends.early r y e in
+    let is : ending_in (all_turns p b r) ≡ Some y = ap ending_in (sym same) ∙ e in
+    (subst (λ (o : Option source.Ending). PanicsWith text o) is (ends.ends r), subst (λ (o : Outcome Sight source.Ending). Took old new (output o)) (sym same) (ends.took r))
+
+no_panic : (text : List ℕ) (x : source.Ending) → PanicsWith text (Some x) → ((at : Pos) (f : source.Fault) → x ≡ source.Panic at f → ⊥) → ⊥
+no_panic text x h other = other h.0 h.1 cc
+
+-- the reason of a panic is told by its text
+same_panic : (text : List ℕ) (at : Pos) (f : source.Fault) → PanicsWith text (Some (source.Panic at f)) → text ≡ fault_text f
+same_panic text at f h =
+    let is : h.1 ≡ f = cc in
+    sym h.3 ∙ ap fault_text is
 
 module _ (p : Program) (b : Bounds) (old new : Seen) (status : ℕ) (err err' : Option (List ℕ)) where
   does_nothing : status ≡ 209 → Does p b old new status err err'
-  does_nothing h = record { ends = λ r n e. inr h; meets = λ r u a l e. inr h; stops = λ r e. inr h }
+  does_nothing h = record { ends = λ r n e. inr h; panics = λ r at f e. inr h; meets = λ r u a l e. inr h; stops = λ r e. inr h }
 
   does_end : (n : ℕ) → EndsBy p b (source.Exit n) old.taken new.taken → status ≡ n → Took err err' [] → Does p b old new status err err'
   does_end n ends is line = record {
     ends = λ r m e. let h = early_end p b (source.Exit n) (source.Exit m) old.taken new.taken r ends e in inl (is ∙ same n m h.0, h.1, line);
+    panics = λ r at f e. absurd (no_fault n at f (early_end p b (source.Exit n) (source.Panic at f) old.taken new.taken r ends e).0);
     meets = λ r u a l e. absurd (other n u a l (early_end p b (source.Exit n) (source.StackLimit u a l) old.taken new.taken r ends e).0);
     stops = λ r e. absurd (none n (sym (ends.ends r) ∙ e));
   }
@@ -76,13 +95,36 @@ module _ (p : Program) (b : Bounds) (old new : Seen) (status : ℕ) (err err' : 
       other : (n u a l : ℕ) → source.Exit n ≡ source.StackLimit u a l → ⊥
       other n u a l e = cc
 
+      no_fault : (n : ℕ) (at : Pos) (f : source.Fault) → source.Exit n ≡ source.Panic at f → ⊥
+      no_fault n at f e = cc
+
       none : (n : ℕ) → Some (source.Exit n) ≡ None → ⊥
       none n e = cc
+
+  does_panic : (text : List ℕ) → PanicsBy p b text old.taken new.taken → status ≡ 2 → Took err err' (panic_line text) → Does p b old new status err err'
+  does_panic text ends is line = record {
+    ends = λ r m e. absurd (no_panic text (source.Exit m) (early_panic p b text (source.Exit m) old.taken new.taken r ends e).0 (λ at f same. no_exit m at f same));
+    panics = λ r at f e.
+        let h = early_panic p b text (source.Panic at f) old.taken new.taken r ends e in
+        inl (is, h.1, subst (λ (t : List ℕ). Took err err' (panic_line t)) (same_panic text at f h.0) line);
+    meets = λ r u a l e. absurd (no_panic text (source.StackLimit u a l) (early_panic p b text (source.StackLimit u a l) old.taken new.taken r ends e).0 (λ at f same. no_limit u a l at f same));
+    stops = λ r e. absurd (let h = ends.ends r in none h.0 h.1 (sym h.2 ∙ e));
+  }
+    where
+      no_exit : (m : ℕ) (at : Pos) (f : source.Fault) → source.Exit m ≡ source.Panic at f → ⊥
+      no_exit m at f e = cc
+
+      no_limit : (u a l : ℕ) (at : Pos) (f : source.Fault) → source.StackLimit u a l ≡ source.Panic at f → ⊥
+      no_limit u a l at f e = cc
+
+      none : (at : Pos) (f : source.Fault) → Some (source.Panic at f) ≡ None → ⊥
+      none at f e = cc
 
   does_meet : (used asked limit : ℕ) → EndsBy p b (source.StackLimit used asked limit) old.taken new.taken → status ≡ 207 → Took err err' (stack_line used asked limit)
       → Does p b old new status err err'
   does_meet used asked limit ends is line = record {
     ends = λ r m e. absurd (other m (early_end p b (source.StackLimit used asked limit) (source.Exit m) old.taken new.taken r ends e).0);
+    panics = λ r at f e. absurd (no_fault at f (early_end p b (source.StackLimit used asked limit) (source.Panic at f) old.taken new.taken r ends e).0);
     meets = λ r u a l e.
         let h = early_end p b (source.StackLimit used asked limit) (source.StackLimit u a l) old.taken new.taken r ends e in
         inl (is, h.1, subst (λ (t : List ℕ). Took err err' t) (same u a l h.0) line);
@@ -95,12 +137,16 @@ module _ (p : Program) (b : Bounds) (old new : Seen) (status : ℕ) (err err' : 
       other : (m : ℕ) → source.StackLimit used asked limit ≡ source.Exit m → ⊥
       other m e = cc
 
+      no_fault : (at : Pos) (f : source.Fault) → source.StackLimit used asked limit ≡ source.Panic at f → ⊥
+      no_fault at f e = cc
+
       none : Some (source.StackLimit used asked limit) ≡ None → ⊥
       none e = cc
 
   does_stop : (n : ℕ) → GoesOn p b old.taken new.taken → n ≡ b.steps → status ≡ 205 → Took err err' (steps_line n) → Does p b old new status err err'
   does_stop n on steps is line = record {
     ends = λ r m e. absurd (none (source.Exit m) (sym (on.goes_on r) ∙ e));
+    panics = λ r at f e. absurd (none (source.Panic at f) (sym (on.goes_on r) ∙ e));
     meets = λ r u a l e. absurd (none (source.StackLimit u a l) (sym (on.goes_on r) ∙ e));
     stops = λ r e. inl (is, subst (λ (k : ℕ). Took err err' (steps_line k)) steps line);
   }
@@ -120,6 +166,7 @@ module _ (old new : Seen) (words : List (List ℕ)) (status : ℕ) (err err' : O
 
   by_answer : (a : Answer) → Allowed old new words a → status ≡ status_of a → Took err err' (line_of a) → Does program (bounds_of words) old new status err err'
   by_answer (Ended n) h is line = of_program h.0 h.1 (does_end h.0 (bounds_of words) old new status err err' n h.2 is line)
+  by_answer (Panicked reason) h is line = of_program h.0 h.1 (does_panic h.0 (bounds_of words) old new status err err' (reason_text reason) h.2 is line)
   by_answer (Usage t) h is line = absurd (h.0 asks.taken)
   by_answer (Limits f) h is line = absurd (off_limits words path f asks h.0)
   by_answer SourceOnly h is line = absurd (no_source words path asks h.0)
@@ -148,6 +195,7 @@ module _ (old new : Seen) (words : List (List ℕ)) (status : ℕ) (before now :
   wrong_by : (a : Answer) → Allowed old new words a → IsWrong words → (status ≡ status_of a) ⊎ ((status ≡ 204) × Rose before now) → Wanted 200
   wrong_by a h wrong (inr r) = inl (inr r)
   wrong_by (Ended n) h wrong (inl is) = absurd (wrong h.1.path h.1.reads.asks)
+  wrong_by (Panicked reason) h wrong (inl is) = absurd (wrong h.1.path h.1.reads.asks)
   wrong_by (Usage t) h wrong (inl is) = inl (inl is)
   wrong_by (Limits f) h wrong (inl is) = inl (inl is)
   wrong_by SourceOnly h wrong (inl is) = inl (inl is)
@@ -167,6 +215,7 @@ module _ (old new : Seen) (words : List (List ℕ)) (status : ℕ) (before now :
   missing_by : (a : Answer) → Allowed old new words a → IsMissing old.content words → (status ≡ status_of a) ⊎ ((status ≡ 204) × Rose before now) → Wanted 203
   missing_by a h m (inr r) = inl (inr r)
   missing_by (Ended n) h m (inl is) = absurd (no_file m.0 m.1 m.2 h.1.path h.1.text h.1.reads)
+  missing_by (Panicked reason) h m (inl is) = absurd (no_file m.0 m.1 m.2 h.1.path h.1.text h.1.reads)
   missing_by (Usage t) h m (inl is) = absurd (h.0 m.1.taken)
   missing_by (Limits f) h m (inl is) = absurd (off_limits words m.0 f m.1 h.0)
   missing_by SourceOnly h m (inl is) = absurd (no_source words m.0 m.1 h.0)
@@ -187,6 +236,7 @@ module _ (old new : Seen) (words : List (List ℕ)) (status : ℕ) (before now :
       → Comes 201 status before now ⊎ ((status ≡ 209) ⊎ GainedRead old.failed new.failed words)
   unaccepted_by a h u (inr r) = inl (inr r)
   unaccepted_by (Ended n) h u (inl is) = absurd (no_run u.0 u.1 u.2 u.3 u.4 h.0 h.1)
+  unaccepted_by (Panicked reason) h u (inl is) = absurd (no_run u.0 u.1 u.2 u.3 u.4 h.0 h.1)
   unaccepted_by (Usage t) h u (inl is) = absurd (h.0 u.2.taken)
   unaccepted_by (Limits f) h u (inl is) = absurd (off_limits words u.0 f u.2 h.0)
   unaccepted_by SourceOnly h u (inl is) = absurd (no_source words u.0 u.2 h.0)
@@ -215,10 +265,30 @@ pub wrong_text : (old new : Seen) (words : List (List ℕ)) (a : Answer) (status
 wrong_text old new words a status err err' before now allowed reported u = unaccepted_by old new words status before now a allowed u (how a status err err' before now reported)
 
 -- by the status
+pub finished : (old new : Seen) (words : List (List ℕ)) (a : Answer) (status : ℕ) (err err' : Option (List ℕ)) (before now : ℕ)
+    → Allowed old new words a → Reported a status err err' before now → status ≤ 125 → FinishedOrPanicked status old new words err err'
+finished old new words a status err err' before now al (inr h) le = absurd (omega (arith, h.0, le))
+finished old new words (Ended n) status err err' before now al (inl h) le =
+    let out : EndsBy al.0 (bounds_of words) (source.Exit status) old.taken new.taken =
+    subst (λ (k : ℕ). EndsBy al.0 (bounds_of words) (source.Exit k) old.taken new.taken) (sym h.0) al.2 in
+    inl (record { program = al.0; run = al.1; out = out; line = h.1 })
+finished old new words (Panicked reason) status err err' before now al (inl h) le =
+    inr (h.0, record { program = al.0; text = reason_text reason; run = al.1; out = al.2; line = h.1 })
+finished old new words (Usage t) status err err' before now al (inl h) le = absurd (omega (arith, h.0, le))
+finished old new words (Limits f) status err err' before now al (inl h) le = absurd (omega (arith, h.0, le))
+finished old new words SourceOnly status err err' before now al (inl h) le = absurd (omega (arith, h.0, le))
+finished old new words (Refused file refusal) status err err' before now al (inl h) le = absurd (omega (arith, h.0, le))
+finished old new words ReadFault status err err' before now al (inl h) le = absurd (omega (arith, h.0, le))
+finished old new words WriteFault status err err' before now al (inl h) le = absurd (omega (arith, h.0, le))
+finished old new words (Steps n) status err err' before now al (inl h) le = absurd (omega (arith, h.0, le))
+finished old new words (StackLimit u x l) status err err' before now al (inl h) le = absurd (omega (arith, h.0, le))
+finished old new words NoMemory status err err' before now al (inl h) le = absurd (omega (arith, h.0, le))
+
 pub write_failed : (old new : Seen) (words : List (List ℕ)) (a : Answer) (status : ℕ) (err err' : Option (List ℕ)) (before now : ℕ)
     → Allowed old new words a → Reported a status err err' before now → status ≡ 204 → WriteFailed old new words err err' before now
 write_failed old new words a status err err' before now al (inr h) is = inr (record { answer = a; allowed = al; rose = h.1; line = h.2 })
 write_failed old new words (Ended n) status err err' before now al (inl h) is = absurd (omega (arith, h.0, is, al.3))
+write_failed old new words (Panicked reason) status err err' before now al (inl h) is = absurd (omega (arith, h.0, is))
 write_failed old new words (Usage t) status err err' before now al (inl h) is = absurd (omega (arith, h.0, is))
 write_failed old new words (Limits f) status err err' before now al (inl h) is = absurd (omega (arith, h.0, is))
 write_failed old new words SourceOnly status err err' before now al (inl h) is = absurd (omega (arith, h.0, is))
@@ -233,6 +303,7 @@ pub steps_passed : (old new : Seen) (words : List (List ℕ)) (a : Answer) (stat
     → Allowed old new words a → Reported a status err err' before now → status ≡ 205 → StepsPassed old new words err err'
 steps_passed old new words a status err err' before now al (inr h) is = absurd (omega (arith, h.0, is))
 steps_passed old new words (Ended n) status err err' before now al (inl h) is = absurd (omega (arith, h.0, is, al.3))
+steps_passed old new words (Panicked reason) status err err' before now al (inl h) is = absurd (omega (arith, h.0, is))
 steps_passed old new words (Usage t) status err err' before now al (inl h) is = absurd (omega (arith, h.0, is))
 steps_passed old new words (Limits f) status err err' before now al (inl h) is = absurd (omega (arith, h.0, is))
 steps_passed old new words SourceOnly status err err' before now al (inl h) is = absurd (omega (arith, h.0, is))

@@ -1,13 +1,19 @@
 -- The status and the line of each answer.
-use Rattle.std.specs.Prelude.{ℕ, List, [], ◌++◌, codes, decimal, string_bytes}
+use Rattle.std.specs.Prelude.{ℕ, Bool, true, false, List, [], ◌++◌, codes, decimal, string_bytes}
+use Rattle.std.specs.Fmt.{signed_decimal}
+use Rattle.typed.specs.Value.{Value, int, bool}
+use Rattle.meaning.specs.Trace.{Fault, divide_by_zero, shift_count, exit_code, raised_text, raised}
 use Rattle.limits.specs.declared.limits.LimitFault.{LimitFault}
 use Rattle.limits.specs.Limits.{fault_number}
 use Rattle.gostk.specs.Refusal.{refusal_line}
 use Rattle.gostk.specs.declared.answer.Answer.{Answer}
-use Rattle.gostk.specs.declared.answer.Answer.TheVariants.{Ended, Usage, Limits, SourceOnly, Refused, ReadFault, WriteFault, Steps, StackLimit, NoMemory}
+use Rattle.gostk.specs.declared.answer.Reason.{Reason}
+use Rattle.gostk.specs.declared.answer.Reason.TheVariants.{DivideByZero, ShiftCount, ExitCode, Text, Int, Bool as Truth}
+use Rattle.gostk.specs.declared.answer.Answer.TheVariants.{Ended, Panicked, Usage, Limits, SourceOnly, Refused, ReadFault, WriteFault, Steps, StackLimit, NoMemory}
 
 abbrev pub status_of : Answer → ℕ
 status_of (Ended status) = status
+status_of (Panicked reason) = 2
 status_of (Usage text) = 200
 status_of (Limits fault) = 200
 status_of SourceOnly = 200
@@ -28,8 +34,37 @@ abbrev pub stack_line : (used asked limit : ℕ) → List ℕ
 stack_line used asked limit =
     codes "gostk: stack used " ++ (decimal used ++ (codes " asked " ++ (decimal asked ++ (codes " limit " ++ (decimal limit ++ codes "\n")))))
 
+-- why a program panics, in words
+abbrev pub truth_text : Bool → List ℕ
+truth_text true = codes "true"
+truth_text false = codes "false"
+
+abbrev pub reason_text : Reason → List ℕ
+reason_text DivideByZero = codes "divide by zero"
+reason_text (ShiftCount n) = codes "shift count " ++ signed_decimal n
+reason_text (ExitCode n) = codes "exit code " ++ signed_decimal n
+reason_text (Text bytes) = bytes.items
+reason_text (Int n) = signed_decimal n
+reason_text (Truth b) = truth_text b
+
+-- the same of a panic of the source
+abbrev pub value_text : Value → List ℕ
+value_text (int z) = signed_decimal z
+value_text (bool b) = truth_text b
+
+abbrev pub fault_text : Fault → List ℕ
+fault_text divide_by_zero = codes "divide by zero"
+fault_text (shift_count n) = codes "shift count " ++ signed_decimal n
+fault_text (exit_code n) = codes "exit code " ++ signed_decimal n
+fault_text (raised_text bytes) = bytes
+fault_text (raised v) = value_text v
+
+abbrev pub panic_line : List ℕ → List ℕ
+panic_line text = codes "panic: " ++ (text ++ codes "\n")
+
 abbrev pub line_of : Answer → List ℕ
 line_of (Ended status) = []
+line_of (Panicked reason) = panic_line (reason_text reason)
 line_of (Usage text) = string_bytes text
 line_of (Limits fault) = limits_line fault
 line_of SourceOnly = codes "gostk: source only\n"

@@ -5,12 +5,14 @@ use Rattle.outside.specs.Causes.{Rose}
 use Rattle.outside.specs.Took.{Took, TookPrefix}
 use Rattle.simulation.specs.Outcome.{Outcome, ending_in}
 use Rattle.typed.specs.Syntax.{Program}
-use Rattle.meaning.specs.Trace.{Ending}
-use Rattle.meaning.specs.Meaning.{Answer as Item}
-use Rattle.meaning.specs.Output.{source, output}
+use Rattle.base.specs.declared.pos.Pos.{Pos}
+use Rattle.meaning.specs.Trace.{Ending, Panic, Fault}
+use Rattle.meaning.specs.Meaning.{Item}
+use Rattle.meaning.specs.Output.{Sight, source, output}
 use Rattle.codegen.specs.Correct.{Between, limits}
 use Rattle.compile.specs.Accepted.{Refuses as HasFault}
 use Rattle.compile.specs.declared.fault.CompileFault.{CompileFault}
+use Rattle.gostk.specs.Answer.{fault_text}
 use Rattle.gostk.specs.Refusal.{refusal_of}
 use Rattle.gostk.specs.declared.refusal.Refusal.{Refusal}
 
@@ -20,22 +22,33 @@ pub record Refuses (text : List ℕ) (refusal : Refusal) : Type 0 where
   pub cause : HasFault text fault
   pub is : refusal_of fault ≡ Some refusal
 
--- how an item of the input is read, and the input: each run is told for all of them, since no program of this part reads
+-- the items of the input: each run is told for all of them, since no program of this part reads
 abbrev pub Reading : Type 0
-Reading = (List ℕ → Item) × List ℕ
+Reading = ℕ → Item
 
 -- what the source of a program shows in as many turns as steps are allowed, under the limit of the stack
-abbrev pub all_turns : Program → Bounds → Reading → Outcome (List ℕ) Ending
-all_turns p b r = source r.0 p (limits p b.stack_max) r.1 b.steps
+abbrev pub all_turns : Program → Bounds → Reading → Outcome Sight Ending
+all_turns p b r = source r p (limits p b.stack_max) b.steps
 
 -- and in a sixteenth of them, rounded down
-abbrev pub few_turns : Program → Bounds → Reading → Outcome (List ℕ) Ending
-few_turns p b r = source r.0 p (limits p b.stack_max) r.1 (b.steps / 16)
+abbrev pub few_turns : Program → Bounds → Reading → Outcome Sight Ending
+few_turns p b r = source r p (limits p b.stack_max) (b.steps / 16)
 
 -- within the turns the source ends so, and out took exactly what it prints; where it ends in the sixteenth of them
 -- already, that is the same run
 pub record EndsBy (p : Program) (b : Bounds) (e : Ending) (old new : Option (List ℕ)) : Type 0 where
   pub ends : (r : Reading) → ending_in (all_turns p b r) ≡ Some e
+  pub took : (r : Reading) → Took old new (output (all_turns p b r))
+  pub early : (r : Reading) (x : Ending) → ending_in (few_turns p b r) ≡ Some x → few_turns p b r ≡ all_turns p b r
+
+-- an ending by a panic with this text
+abbrev pub PanicsWith : List ℕ → Option Ending → Type 0
+PanicsWith text o = (at : Pos) × (f : Fault) × (o ≡ Some (Panic at f)) × (fault_text f ≡ text)
+
+-- within the turns the source panics with this text, and out took exactly what it prints; where it ends in the sixteenth of
+-- them already, that is the same run
+pub record PanicsBy (p : Program) (b : Bounds) (text : List ℕ) (old new : Option (List ℕ)) : Type 0 where
+  pub ends : (r : Reading) → PanicsWith text (ending_in (all_turns p b r))
   pub took : (r : Reading) → Took old new (output (all_turns p b r))
   pub early : (r : Reading) (x : Ending) → ending_in (few_turns p b r) ≡ Some x → few_turns p b r ≡ all_turns p b r
 

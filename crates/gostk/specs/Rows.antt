@@ -9,13 +9,16 @@ use Rattle.simulation.specs.Outcome.{ending_in}
 use Rattle.typed.specs.Syntax.{Program}
 use Rattle.meaning.specs.Trace as source
 use Rattle.meaning.specs.Output.{output}
-use Rattle.gostk.specs.Answer.{status_of, line_of, limits_line, steps_line, stack_line}
+use Rattle.base.specs.declared.pos.Pos.{Pos}
+use Rattle.gostk.specs.Answer.{status_of, line_of, reason_text, fault_text, panic_line, limits_line, steps_line, stack_line}
+use Rattle.machine.specs.declared.place.Panic.{Panic as MachinePanic}
+use Rattle.codegen.specs.Correct.{same_fault}
 use Rattle.compile.specs.Accepted.{Accepted}
-use Rattle.gostk.specs.Programs.{EndsBy, GoesOn, PrintedFront, PrintedPart, Reading, Refuses, few_turns, all_turns}
+use Rattle.gostk.specs.Programs.{EndsBy, PanicsBy, GoesOn, PrintedFront, PrintedPart, Reading, Refuses, few_turns, all_turns}
 use Rattle.gostk.specs.Refusal.{refusal_line}
 use Rattle.gostk.specs.Words.{bounds_of, Asks, IsUsage, IsOffLimits, IsNoSource}
 use Rattle.gostk.specs.declared.answer.Answer.{Answer}
-use Rattle.gostk.specs.declared.answer.Answer.TheVariants.{Ended, Usage, Limits, SourceOnly, Refused, ReadFault, WriteFault, Steps, StackLimit, NoMemory}
+use Rattle.gostk.specs.declared.answer.Answer.TheVariants.{Ended, Panicked, Usage, Limits, SourceOnly, Refused, ReadFault, WriteFault, Steps, StackLimit, NoMemory}
 use Rattle.gostk.specs.declared.refusal.Refusal.{Refusal}
 use Rattle.gostk.specs.declared.words.WordsFault.{WordsFault}
 use Rattle.gostk.specs.declared.words.WordsFault.TheVariants as words
@@ -65,6 +68,8 @@ pub record IsRunOf (program : Program) (old new : Seen) (words : List (List ℕ)
 abbrev pub Allowed : Seen → Seen → List (List ℕ) → Answer → Type 0
 Allowed old new words (Ended status) =
     (p : Program) × IsRunOf p old new words × EndsBy p (bounds_of words) (source.Exit status) old.taken new.taken × (status ≤ 125)
+Allowed old new words (Panicked reason) =
+    (p : Program) × IsRunOf p old new words × PanicsBy p (bounds_of words) (reason_text reason) old.taken new.taken
 Allowed old new words (Usage text) = IsUsage words × IsUntouched old new
 Allowed old new words (Limits fault) = IsOffLimits words fault × IsUntouched old new
 Allowed old new words SourceOnly = IsNoSource words × IsUntouched old new
@@ -93,6 +98,18 @@ pub record Finished (status : ℕ) (old new : Seen) (words : List (List ℕ)) (e
   pub run : IsRunOf program old new words
   pub out : EndsBy program (bounds_of words) (source.Exit status) old.taken new.taken
   pub line : Took err err' []
+
+-- 2, beside an exit with that status: the text is accepted, and within the turns its program panics, for the reason that the line
+-- has; out took exactly what it prints
+pub record HasPanicked (old new : Seen) (words : List (List ℕ)) (err err' : Option (List ℕ)) : Type 0 where
+  pub program : Program
+  pub text : List ℕ
+  pub run : IsRunOf program old new words
+  pub out : PanicsBy program (bounds_of words) text old.taken new.taken
+  pub line : Took err err' (panic_line text)
+
+abbrev pub FinishedOrPanicked : (status : ℕ) → Seen → Seen → List (List ℕ) → Option (List ℕ) → Option (List ℕ) → Type 0
+FinishedOrPanicked status old new words err err' = Finished status old new words err err' ⊎ ((status ≡ 2) × HasPanicked old new words err err')
 
 -- 200: clap refuses the words, and its text is shown; or the numbers of the options are no limits, or the file is not
 -- source, and the line says so
@@ -189,6 +206,12 @@ EndsHere p b old new status err err' =
     (r : Reading) (n : ℕ) → ending_in (few_turns p b r) ≡ Some (source.Exit n)
     → ((status ≡ n) × Took old.taken new.taken (output (few_turns p b r)) × Took err err' []) ⊎ (status ≡ 209)
 
+-- the program panics in a sixteenth of the turns, so it does here
+abbrev pub PanicsHere : Program → Bounds → Seen → Seen → ℕ → Option (List ℕ) → Option (List ℕ) → Type 0
+PanicsHere p b old new status err err' =
+    (r : Reading) (at : Pos) (f : source.Fault) → ending_in (few_turns p b r) ≡ Some (source.Panic at f)
+    → ((status ≡ 2) × Took old.taken new.taken (output (few_turns p b r)) × Took err err' (panic_line (fault_text f))) ⊎ (status ≡ 209)
+
 -- the program meets the limit of the stack in a sixteenth of the turns, so it does here
 abbrev pub MeetsLimit : Program → Bounds → Seen → Seen → ℕ → Option (List ℕ) → Option (List ℕ) → Type 0
 MeetsLimit p b old new status err err' =
@@ -204,6 +227,7 @@ StopsHere p b status err err' =
 -- what comes where a text is accepted and nothing fails
 pub record Does (p : Program) (b : Bounds) (old new : Seen) (status : ℕ) (err err' : Option (List ℕ)) : Type 0 where
   pub ends : EndsHere p b old new status err err'
+  pub panics : PanicsHere p b old new status err err'
   pub meets : MeetsLimit p b old new status err err'
   pub stops : StopsHere p b status err err'
 
@@ -215,6 +239,7 @@ Completes old new words status err err' before now =
 -- what a run of the program leaves, by its answer
 abbrev pub Ran : Program → Bounds → Answer → Option (List ℕ) → Option (List ℕ) → ℕ → ℕ → Type 0
 Ran p b (Ended status) old new before now = EndsBy p b (source.Exit status) old new × (status ≤ 125)
+Ran p b (Panicked reason) old new before now = PanicsBy p b (reason_text reason) old new
 Ran p b (Steps n) old new before now = GoesOn p b old new × (n ≡ b.steps)
 Ran p b (StackLimit used asked limit) old new before now = EndsBy p b (source.StackLimit used asked limit) old new
 Ran p b WriteFault old new before now = PrintedPart p b old new before now
@@ -226,6 +251,12 @@ abbrev pub RanText : (file text : List ℕ) → Bounds → Answer → Option (Li
 RanText file text b (Refused name refusal) old new before now = (name.now ≡ file) × Refuses text refusal × IsNoText text × Took old new []
 RanText file text b NoMemory old new before now = Took old new [] ⊎ ((p : Program) × IsTextOf text p × PrintedFront p b old new)
 RanText file text b answer old new before now = (p : Program) × IsTextOf text p × Ran p b answer old new before now
+
+-- what a panic comes to: it has the text that any panic of the source has that is the same; or memory was refused
+abbrev pub Tells : MachinePanic → List (List ℕ) → Answer → Type 0
+Tells x strings (Panicked reason) = (f : source.Fault) → same_fault strings f x → fault_text f ≡ reason_text reason
+Tells x strings NoMemory = Unit {0}
+Tells x strings answer = ⊥
 
 -- what words that are refused come to
 abbrev pub words_answer : WordsFault → Answer

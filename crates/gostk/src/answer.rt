@@ -5,11 +5,27 @@ ghost use Rattle.gostk.specs.Answer.{status_of};
 use crate::refusal::Refusal;
 use limits::LimitFault;
 
+/// Why a program panicked.
+#[derive(Debug, Drop)]
+pub enum Reason {
+    DivideByZero,
+    /// The count of a shift, which is below 0.
+    ShiftCount(i64),
+    /// The status of an exit, which is not from 0 to 125.
+    ExitCode(i64),
+    /// The bytes of a string, a number, or a truth value.
+    Text(Vec<u8>),
+    Int(i64),
+    Bool(bool),
+}
+
 /// What a call of the program comes to, a case for each row of the table of answers.
 #[derive(Debug, Drop)]
 pub enum Answer<'a> {
     /// The text was accepted, and its program ended with this status.
     Ended(u8),
+    /// The text was accepted, and its program panicked.
+    Panicked(Reason),
     /// The words are no command, or ask for help: the text to show.
     Usage(String),
     /// The numbers of the options are no limits.
@@ -37,6 +53,7 @@ impl Answer<'_> {
     {
         match self {
             Answer::Ended(status) => *status,
+            Answer::Panicked(_) => 2,
             Answer::Usage(_) | Answer::Limits(_) | Answer::SourceOnly => 200,
             Answer::Refused { .. } => 201,
             Answer::ReadFault => 203,

@@ -1,12 +1,13 @@
 //! How an answer is reported: its line on the error output, and its status.
-ghost use Rattle.std.specs.Prelude.{OnOk, OnErr};
+ghost use Rattle.std.specs.Fmt.{signed_decimal};
+ghost use Rattle.std.specs.Prelude.{◌++◌, OnOk, OnErr, codes};
 ghost use Rattle.outside.specs.Causes.{HasCause};
 ghost use Rattle.outside.specs.Took.{Took, TookPrefix};
-ghost use Rattle.gostk.specs.Answer.{line_of, limits_line, steps_line, stack_line};
+ghost use Rattle.gostk.specs.Answer.{line_of, reason_text, panic_line, limits_line, steps_line, stack_line};
 ghost use Rattle.gostk.specs.Refusal.{refusal_line};
 ghost use Rattle.gostk.specs.Rows.{Reported};
 
-use crate::answer::Answer;
+use crate::answer::{Answer, Reason};
 use crate::refusal::Refusal;
 use limits::LimitFault;
 use outside::{Piece, Sink, WriteFault, put_bytes, put_line};
@@ -33,6 +34,7 @@ fn put_answer<E: Sink>(answer: &Answer<'_>, err: &mut E) -> Result<(), WriteFaul
 {
     match answer {
         Answer::Ended(_) => put_bytes(err, b""),
+        Answer::Panicked(reason) => put_panic(reason, err),
         Answer::Usage(text) => put_bytes(err, text.as_bytes()),
         Answer::Limits(fault) => put_limits(*fault, err),
         Answer::SourceOnly => put_bytes(err, b"gostk: source only\n"),
@@ -43,6 +45,42 @@ fn put_answer<E: Sink>(answer: &Answer<'_>, err: &mut E) -> Result<(), WriteFaul
         Answer::StackLimit { used, asked, limit } => put_stack(*used, *asked, *limit, err),
         Answer::NoMemory => put_bytes(err, b"gostk: no memory\n"),
     }
+}
+
+// Writes the line of a panic.
+fn put_panic<E: Sink>(reason: &Reason, err: &mut E) -> Result<(), WriteFault>
+    ensures whole { OnOk result (Took (E.taken err.old) (E.taken err.new) (panic_line (reason_text reason.now))) }
+    ensures part { OnErr result (TookPrefix (E.taken err.old) (E.taken err.new) (panic_line (reason_text reason.now))) }
+    ensures cause { HasCause (E.faults err.old) (E.faults err.new) result }
+{
+    match reason {
+        Reason::DivideByZero => put_bytes(err, b"panic: divide by zero\n"),
+        Reason::ShiftCount(n) => put_panic_number(b"panic: shift count ", *n, err),
+        Reason::ExitCode(n) => put_panic_number(b"panic: exit code ", *n, err),
+        Reason::Text(bytes) => put_line(
+            err,
+            &[
+                Piece::Text(b"panic: "),
+                Piece::Text(bytes.as_slice()),
+                Piece::Text(b"\n"),
+            ],
+        ),
+        Reason::Int(n) => put_panic_number(b"panic: ", *n, err),
+        Reason::Bool(true) => put_bytes(err, b"panic: true\n"),
+        Reason::Bool(false) => put_bytes(err, b"panic: false\n"),
+    }
+}
+
+// Writes the line of a panic that has a number.
+fn put_panic_number<E: Sink>(before: &[u8], n: i64, err: &mut E) -> Result<(), WriteFault>
+    ensures whole { OnOk result (Took (E.taken err.old) (E.taken err.new) (before.now ++ (signed_decimal n ++ codes "\n"))) }
+    ensures part { OnErr result (TookPrefix (E.taken err.old) (E.taken err.new) (before.now ++ (signed_decimal n ++ codes "\n"))) }
+    ensures cause { HasCause (E.faults err.old) (E.faults err.new) result }
+{
+    put_line(
+        err,
+        &[Piece::Text(before), Piece::Int(n), Piece::Text(b"\n")],
+    )
 }
 
 // Writes the line of limits that are refused.

@@ -408,13 +408,42 @@ fn texts(rt: HostRuntime) -> Result<(), Fail> {
     Ok(())
 }
 
+// A panic's line stands alone on err, and what was printed before it is kept. A shift's count is named.
+#[test]
+fn panics(rt: HostRuntime) -> Result<(), Fail> {
+    let table: [(&str, &str, &str); 4] = [
+        ("x := 0; println(1/x)", "", "panic: divide by zero\n"),
+        (
+            "x := 1; for { println(6 % x); x = x - 1 }",
+            "0\n",
+            "panic: divide by zero\n",
+        ),
+        ("n := -1; println(1<<n)", "", "panic: shift count -1\n"),
+        (
+            "n := -9223372036854775808; println(1); println(1>>n)",
+            "1\n",
+            "panic: shift count -9223372036854775808\n",
+        ),
+    ];
+    for (i, (body, out, err)) in table.iter().enumerate() {
+        let text = format!(in rt.alloc(); "package main\nfunc main() {{ {body} }}\n")?;
+        let got = run_on(rt.alloc(), &["gostk", "run", "a.go"], text.as_bytes(), 0, 0)?;
+        assert_eq!(rt; got.status, 2, "row {i}");
+        assert_eq!(rt; got.out.as_slice(), out.as_bytes(), "row {i}");
+        assert_eq!(rt; got.err.as_slice(), err.as_bytes(), "row {i}");
+    }
+    Ok(())
+}
+
 #[test]
 fn devices_fail(rt: HostRuntime) -> Result<(), Fail> {
     let two_lines = "package main\nfunc main() { println(1); println(2) }";
-    let table: [(&str, u64, u64, u8, &str, &str); 4] = [
+    let panic = "package main\nfunc main() { x := 0; println(2); println(1/x) }";
+    let table: [(&str, u64, u64, u8, &str, &str); 5] = [
         (two_lines, 3, 0, 204, "1\n", "gostk: write fault\n"),
         (two_lines, 3, 1, 204, "1\n", ""),
         (two_lines, 0, 1, 0, "1\n2\n", ""),
+        (panic, 0, 1, 204, "2\n", ""),
         ("", 0, 4, 204, "", "a.go:1"),
     ];
     for (i, (text, out_fails, err_fails, status, out, err)) in table.iter().enumerate() {

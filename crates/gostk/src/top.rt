@@ -1,19 +1,50 @@
 //! The top call.
-ghost use Rattle.std.specs.Prelude.{◌≡◌, ◌⊎◌, ℕ, ◌≤◌, List};
+ghost use Rattle.std.specs.Prelude.{◌≡◌, ◌⊎◌, ℕ, ◌≤◌, List, [], map, get_or, IfOk};
 ghost use Rattle.compile.specs.Compiled.{Does, compiled_program};
 ghost use Rattle.gostk.specs.Words.{texts_of};
-ghost use Rattle.gostk.specs.Rows.{seen, Allowed, Reported, Finished, WordsRefused, TextRefused, ReadFailed, WriteFailed, StepsPassed, StackPassed, MemoryRefused, GainedRead, IsWrong, IsMissing, IsUnaccepted, Comes, Completes, Ran, RanText, words_answer};
+ghost use Rattle.gostk.specs.Rows.{seen, Tells, Allowed, Reported, FinishedOrPanicked, WordsRefused, TextRefused, ReadFailed, WriteFailed, StepsPassed, StackPassed, MemoryRefused, GainedRead, IsWrong, IsMissing, IsUnaccepted, Comes, Completes, Ran, RanText, words_answer};
 ghost use Rattle.gostk.specs.declared.answer.Answer.{Answer};
 
-use crate::answer::Answer;
+use crate::answer::{Answer, Reason};
 use crate::refusal::refusal_of;
 use crate::reporting::report;
 use crate::words::{Request, WordsFault, read_words};
+use base::NoMemory;
 use codegen::{RunFault, run};
 use compile::{Compiled, compile};
 use limits::Limits;
+use machine::Panic;
 use outside::{FileFault, Files, Sink, Source};
 use std::alloc::Global;
+
+// What a panic comes to. Of a string the bytes are copied, for which memory may be refused.
+fn panicked(alloc: Global, panic: Panic, strings: &[Vec<u8>]) -> Answer<'static>
+    ensures { Tells panic (map (λ bytes. bytes.items) strings.now) result }
+{
+    let reason = match panic {
+        Panic::DivideByZero => Reason::DivideByZero,
+        Panic::ShiftCount(n) => Reason::ShiftCount(n),
+        Panic::ExitCode(n) => Reason::ExitCode(n),
+        Panic::Text(number) => match text_of(alloc, number, strings) {
+            Ok(bytes) => Reason::Text(bytes),
+            Err(_) => return Answer::NoMemory,
+        },
+        Panic::Int(n) => Reason::Int(n),
+        Panic::Bool(b) => Reason::Bool(b),
+    };
+    Answer::Panicked(reason)
+}
+
+// The bytes of a string by its number; none where there is no such string.
+fn text_of(alloc: Global, number: u32, strings: &[Vec<u8>]) -> Result<Vec<u8>, NoMemory>
+    ensures { IfOk result (λ bytes. bytes.items ≡ get_or (map (λ text. text.items) strings.now) number []) }
+{
+    let mut bytes = Vec::new(alloc);
+    if let Some(text) = strings.get(number as usize) {
+        bytes.extend_from_slice(text)?;
+    }
+    Ok(bytes)
+}
 
 // Runs a compiled text to its end or to its limits.
 fn run_compiled<O: Sink>(
@@ -29,6 +60,7 @@ fn run_compiled<O: Sink>(
     let main = compiled.program.main;
     match run(alloc, &compiled.code, main, limits.stack_max(), steps, out) {
         Ok(status) => Answer::Ended(status),
+        Err(RunFault::Panic(panic)) => panicked(alloc, panic, compiled.code.strings()),
         Err(RunFault::Steps) => Answer::Steps(steps),
         Err(RunFault::StackLimit { used, asked, limit }) => Answer::StackLimit {
             used,
@@ -105,6 +137,7 @@ fn carry_out<'a, F: Files, O: Sink>(
 /// | Status | When | Line on `err` |
 /// |---|---|---|
 /// | 0 to 125 | the text is accepted, and its program ended with this status | none |
+/// | 2 | the text is accepted, and its program panicked | `panic: TEXT` |
 /// | 200 | clap refuses the words or is asked for help | clap's text |
 /// | 200 | the numbers of the options are no limits | `gostk: limits kind N` |
 /// | 200 | the file does not end in `.go` | `gostk: source only` |
@@ -129,7 +162,7 @@ pub fn gostk<F: Files, I: Source, O: Sink, E: Sink>(
         × Reported answer result (E.taken err.old) (E.taken err.new) (E.faults err.old) (E.faults err.new) }
 
     // The rows, each by its status.
-    ensures finished { result ≤ 125 → Finished result
+    ensures finished { result ≤ 125 → FinishedOrPanicked result
         (seen (F.content files.old) (F.failed files.old) (O.taken out.old) (O.faults out.old))
         (seen (F.content files.new) (F.failed files.new) (O.taken out.new) (O.faults out.new)) (texts_of words.now)
         (E.taken err.old) (E.taken err.new) }

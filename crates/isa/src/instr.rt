@@ -1,6 +1,6 @@
 //! Instructions.
 ghost use Rattle.std.specs.Prelude.{◌≡◌};
-ghost use Rattle.isa.specs.Bin.{bin_of, bit_of, negated};
+ghost use Rattle.isa.specs.Bin.{bin_of, bit_of, of_numbers, un_of};
 
 /// An operation on two words, which are read as numbers with a sign. A comparison gives 1 where it holds, else 0.
 #[derive(Clone, Copy, Debug, PartialEq, Eq)]
@@ -8,12 +8,37 @@ pub enum BinOp {
     Add,
     Sub,
     Mul,
+    Div,
+    Rem,
+    And,
+    Or,
+    Xor,
+    AndNot,
+    ShiftLeft,
+    ShiftRight,
     Equal,
     NotEqual,
     Less,
     LessEqual,
     Greater,
     GreaterEqual,
+}
+
+/// An operation on one word.
+#[derive(Clone, Copy, Debug, PartialEq, Eq)]
+pub enum UnOp {
+    Negate,
+    Complement,
+    /// 1 where the word is 0, else 0.
+    IsZero,
+}
+
+/// Why an operation on two words gives nothing.
+#[derive(Clone, Copy, Debug, PartialEq, Eq)]
+pub enum BinFault {
+    DivideByZero,
+    /// The count of a shift, which is below 0.
+    ShiftCount(i64),
 }
 
 /// An instruction of 16 bytes. Its slots are words of the running frame, counted from the frame's lowest word, 0; they
@@ -28,10 +53,10 @@ pub enum Instr {
     Move { a: u16, b: u16 },
     /// The n slots from a on get the words of the slots from b on, as through a copy.
     MoveWords { a: u16, b: u16, n: u16 },
-    /// The slot a gets what the operation gives of the words of b and c.
+    /// The slot a gets what the operation gives of the words of b and c; where it gives nothing, the program panics.
     Bin { op: BinOp, a: u16, b: u16, c: u16 },
-    /// The slot a gets the negative of the word of b.
-    Negate { a: u16, b: u16 },
+    /// The slot a gets what the operation gives of the word of b.
+    Un { op: UnOp, a: u16, b: u16 },
     /// Goes on at a place of the same function, counted over all code.
     Jump { to: u32 },
     /// Goes on there if the slot's word is 0.
@@ -44,12 +69,22 @@ pub enum Instr {
     SetResults { a: u16, b: u16, n: u16 },
     /// Prints the slot's number in decimal.
     PrintInt { a: u16 },
+    /// Prints `true` or `false`; every word but 0 is true.
+    PrintBool { a: u16 },
+    /// Prints a string, by its number.
+    PrintText { text: u32 },
     /// Prints a space.
     PrintSpace,
     /// Prints a newline.
     PrintLine,
     /// Returns to the frame above, behind the call; from the highest frame the run ends.
     Return,
+    /// Ends the run with the slot's number as its status, if that is from 0 to 125; else the program panics.
+    Exit { a: u16 },
+    /// The program panics with a string, with the slot's number, or with its truth value.
+    PanicText { text: u32 },
+    PanicInt { a: u16 },
+    PanicBool { a: u16 },
 }
 
 #[inline(always)]
@@ -59,30 +94,90 @@ fn bit(holds: bool) -> u64
     if holds { 1 } else { 0 }
 }
 
-/// What an operation on two words gives; sums, differences and products modulo 2^64.
 #[inline(always)]
-pub fn bin(op: BinOp, x: u64, y: u64) -> u64
+fn quotient(a: i64, b: i64) -> Result<u64, BinFault>
+    ensures { result ≡ of_numbers BinOp.Div a b }
+{
+    if b == 0 {
+        return Err(BinFault::DivideByZero);
+    }
+    Ok(a.wrapping_div(b).cast_unsigned())
+}
+
+#[inline(always)]
+fn remainder(a: i64, b: i64) -> Result<u64, BinFault>
+    ensures { result ≡ of_numbers BinOp.Rem a b }
+{
+    if b == 0 {
+        return Err(BinFault::DivideByZero);
+    }
+    Ok(a.wrapping_rem(b).cast_unsigned())
+}
+
+#[inline(always)]
+fn shifted_left(a: i64, b: i64) -> Result<u64, BinFault>
+    ensures { result ≡ of_numbers BinOp.ShiftLeft a b }
+{
+    if b < 0 {
+        return Err(BinFault::ShiftCount(b));
+    }
+    if b > 63 {
+        return Ok(0);
+    }
+    Ok((a << b).cast_unsigned())
+}
+
+#[inline(always)]
+fn shifted_right(a: i64, b: i64) -> Result<u64, BinFault>
+    ensures { result ≡ of_numbers BinOp.ShiftRight a b }
+{
+    if b < 0 {
+        return Err(BinFault::ShiftCount(b));
+    }
+    if b > 63 {
+        return Ok((a >> 63).cast_unsigned());
+    }
+    Ok((a >> b).cast_unsigned())
+}
+
+/// What an operation on two words gives; sums, differences and products modulo 2^64.
+///
+/// `DivideByZero` where a quotient or remainder is by 0, `ShiftCount` where a shift is by a count below 0.
+#[inline(always)]
+pub fn bin(op: BinOp, x: u64, y: u64) -> Result<u64, BinFault>
     ensures { result ≡ bin_of op x y }
 {
     let a = x.cast_signed();
     let b = y.cast_signed();
     match op {
-        BinOp::Add => a.wrapping_add(b).cast_unsigned(),
-        BinOp::Sub => a.wrapping_sub(b).cast_unsigned(),
-        BinOp::Mul => a.wrapping_mul(b).cast_unsigned(),
-        BinOp::Equal => bit(a == b),
-        BinOp::NotEqual => bit(a != b),
-        BinOp::Less => bit(a < b),
-        BinOp::LessEqual => bit(a <= b),
-        BinOp::Greater => bit(b < a),
-        BinOp::GreaterEqual => bit(b <= a),
+        BinOp::Add => Ok(a.wrapping_add(b).cast_unsigned()),
+        BinOp::Sub => Ok(a.wrapping_sub(b).cast_unsigned()),
+        BinOp::Mul => Ok(a.wrapping_mul(b).cast_unsigned()),
+        BinOp::Div => quotient(a, b),
+        BinOp::Rem => remainder(a, b),
+        BinOp::And => Ok((a & b).cast_unsigned()),
+        BinOp::Or => Ok((a | b).cast_unsigned()),
+        BinOp::Xor => Ok((a ^ b).cast_unsigned()),
+        BinOp::AndNot => Ok((a & !b).cast_unsigned()),
+        BinOp::ShiftLeft => shifted_left(a, b),
+        BinOp::ShiftRight => shifted_right(a, b),
+        BinOp::Equal => Ok(bit(a == b)),
+        BinOp::NotEqual => Ok(bit(a != b)),
+        BinOp::Less => Ok(bit(a < b)),
+        BinOp::LessEqual => Ok(bit(a <= b)),
+        BinOp::Greater => Ok(bit(b < a)),
+        BinOp::GreaterEqual => Ok(bit(b <= a)),
     }
 }
 
-/// The negative of a word, modulo 2^64.
+/// What an operation on one word gives; the negative modulo 2^64.
 #[inline(always)]
-pub fn negate(x: u64) -> u64
-    ensures { result ≡ negated x }
+pub fn un(op: UnOp, x: u64) -> u64
+    ensures { result ≡ un_of op x }
 {
-    x.cast_signed().wrapping_neg().cast_unsigned()
+    match op {
+        UnOp::Negate => x.cast_signed().wrapping_neg().cast_unsigned(),
+        UnOp::Complement => (!x.cast_signed()).cast_unsigned(),
+        UnOp::IsZero => bit(x == 0),
+    }
 }

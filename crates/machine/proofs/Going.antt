@@ -12,7 +12,7 @@ use Rattle.machine.specs.Machine.{State, Does, Event, Printed, bytes_of, act}
 use Rattle.machine.specs.Inside.{Inside}
 use Rattle.machine.specs.Answers.{Answers, CallFits, Refused, printed_by}
 use Rattle.machine.specs.declared.place.Ending.{Ending}
-use Rattle.machine.specs.declared.place.Ending.TheVariants.{Exit, WriteFault, NoMemory, StackLimit, WildAddress, WildReturn, WildLink}
+use Rattle.machine.specs.declared.place.Ending.TheVariants.{Exit, Panic, WriteFault, NoMemory, StackLimit, WildAddress, WildReturn, WildLink}
 
 -- a run that has come so far
 pub record Going (t : Tables) (max steps : ℕ) (first : State) (left : ℕ) (s : State) (inside : Type 0) (old now : Option (List ℕ)) (before later : ℕ) : Type 0 where
@@ -108,6 +108,7 @@ module _ (t : Tables) (max steps : ℕ) (first : State) (left : ℕ) (s new : St
   ends WriteFault a = (part_taken a.0, let rose = a.1 in let grown = g.grown in omega arith)
   ends NoMemory a = part_taken a
   ends (Exit n) a = stopped (Exit n) a
+  ends (Panic x) a = stopped (Panic x) a
   ends (StackLimit used asked limit) a = stopped (StackLimit used asked limit) a
   ends (WildAddress n) a = stopped (WildAddress n) a
   ends (WildReturn n) a = stopped (WildReturn n) a
@@ -121,10 +122,10 @@ runs_out t max steps first left s here old now before later g none =
     let told : events_of (many (act t max) steps first) ≡ g.done = ap (λ (d : Does). events_of d) whole ∙ append-nil g.done in
     (whole ∙ ap (λ (l : List Event). let d : Does = Goes l s in d) (append-nil g.done ∙ sym told), rw told g.took)
 
--- the tables that three slices show
-pub shown : (t : Tables) (instrs : List Instr) (owners : List ℕ) (funcs : List Func) → instrs ≡ t.instrs → owners ≡ t.owners → funcs ≡ t.funcs
-    → (let r : Tables = record { instrs = instrs; owners = owners; funcs = funcs } in r) ≡ t
-shown t instrs owners funcs a b c = rw (a, b, c) refl
+-- the tables that four slices show
+pub shown : (t : Tables) (instrs : List Instr) (owners : List ℕ) (funcs : List Func) (strings : List (List ℕ)) → instrs ≡ t.instrs → owners ≡ t.owners → funcs ≡ t.funcs → strings ≡ t.strings
+    → (let r : Tables = record { instrs = instrs; owners = owners; funcs = funcs; strings = strings } in r) ≡ t
+shown t instrs owners funcs strings a b c d = rw (a, b, c, d) refl
 
 pub below : (t : Tables) (long pc base : ℕ) → IsCode t → Inside t long pc base → pc < length t.instrs
 below t long pc base code inside = subst (λ n. pc < n) code.same (slice_get_within t.owners pc inside.f inside.owner)

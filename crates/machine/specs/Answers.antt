@@ -8,7 +8,7 @@ use Rattle.isa.specs.declared.instr.Instr.TheVariants.{Call}
 use Rattle.machine.specs.Machine.{State, Event, Does, act, bytes_of, frame_of}
 use Rattle.machine.specs.declared.place.Place.{Place}
 use Rattle.machine.specs.declared.place.Ending.{Ending}
-use Rattle.machine.specs.declared.place.Ending.TheVariants.{WriteFault, NoMemory}
+use Rattle.machine.specs.declared.place.Ending.TheVariants.{Exit, WriteFault, NoMemory}
 
 -- the state whose frame begins at an index of a block of words
 abbrev pub state_of : List ℕ → Place → State
@@ -29,6 +29,11 @@ Comes d s (Some WriteFault) = ⊥
 Comes d s (Some NoMemory) = ⊤
 Comes d s None = d ≡ Goes [] s
 Comes d s (Some e) = d ≡ Stops [] e
+
+-- a program that ended by itself has a status that a process can end with
+abbrev pub StatusFits : Option Ending → Type 0
+StatusFits (Some (Exit status)) = status ≤ 125
+StatusFits _ = ⊤
 
 -- the next instruction is a call whose frame the limit allows
 abbrev pub CallFits : Tables → ℕ → State → Type 0

@@ -1,8 +1,8 @@
 -- Places whose frame lies inside the words.
-use Rattle.std.specs.Prelude.{◌≡◌, ℕ, ◌+◌, ◌<◌, ◌≤◌, ⊤, slice_get, Some}
+use Rattle.std.specs.Prelude.{◌≡◌, ℕ, ◌+◌, ◌<◌, ◌≤◌, ⊤, length, slice_get, Some}
 use Rattle.isa.specs.Code.{Tables}
 use Rattle.isa.specs.declared.instr.Instr.{Instr}
-use Rattle.isa.specs.declared.instr.Instr.TheVariants.{Const, Move, MoveWords, Bin, Negate, Jump, JumpZero, Call, Argument, SetResults, PrintInt, Return}
+use Rattle.isa.specs.declared.instr.Instr.TheVariants.{Const, Move, MoveWords, Bin, Un, Jump, JumpZero, Call, Argument, SetResults, PrintInt, PrintBool, PrintText, Return, Exit, PanicText, PanicInt, PanicBool}
 use Rattle.isa.specs.declared.func.Func.{Func}
 
 pub record Inside (t : Tables) (long pc base : ℕ) : Type 0 where
@@ -12,9 +12,14 @@ pub record Inside (t : Tables) (long pc base : ℕ) : Type 0 where
   pub is : slice_get t.funcs f ≡ Some fn
   pub room : base + fn.frame ≤ long
 
--- where an instruction leads, but for returns, the same frame lies inside; a call comes back to it
+-- where an instruction leads, but for returns, the same frame lies inside; a call comes back to it, and one that ends the run leads
+-- nowhere
 abbrev pub Leads : Tables → ℕ → ℕ → ℕ → Instr → Type 0
 Leads t long pc base Return = ⊤
+Leads t long pc base (Exit a) = ⊤
+Leads t long pc base (PanicText text) = ⊤
+Leads t long pc base (PanicInt a) = ⊤
+Leads t long pc base (PanicBool a) = ⊤
 Leads t long pc base (Jump to) = Inside t long to base
 Leads t long pc base (JumpZero a to) = Inside t long to base × Inside t long (pc + 1) base
 Leads t long pc base _ = Inside t long (pc + 1) base
@@ -27,16 +32,22 @@ pub record Callable (t : Tables) (long base g : ℕ) : Type 0 where
   pub starts : slice_get t.owners fn.start ≡ Some g
   pub room : base + (fn.arguments + fn.results) ≤ long
 
--- the slots that an instruction touches lie inside so many words, and the function that it calls can be called
+-- the slots that an instruction touches lie inside so many words, the function that it calls can be called, and the string that it
+-- prints is there
 abbrev pub Touches : Tables → ℕ → ℕ → Instr → Type 0
 Touches t long base (Const a word) = base + a < long
 Touches t long base (Move a b) = (base + a < long) × (base + b < long)
 Touches t long base (MoveWords a b n) = (base + (a + n) ≤ long) × (base + (b + n) ≤ long)
 Touches t long base (Bin op a b c) = (base + a < long) × (base + b < long) × (base + c < long)
-Touches t long base (Negate a b) = (base + a < long) × (base + b < long)
+Touches t long base (Un op a b) = (base + a < long) × (base + b < long)
 Touches t long base (JumpZero a to) = base + a < long
 Touches t long base (Call g) = Callable t long base g
 Touches t long base (Argument a b) = base + a < long
 Touches t long base (SetResults a b n) = base + (a + n) ≤ long
 Touches t long base (PrintInt a) = base + a < long
+Touches t long base (PrintBool a) = base + a < long
+Touches t long base (PrintText text) = text < length t.strings
+Touches t long base (Exit a) = base + a < long
+Touches t long base (PanicInt a) = base + a < long
+Touches t long base (PanicBool a) = base + a < long
 Touches t long base _ = ⊤

@@ -30,6 +30,6 @@ mod steps;
 mod tests;
 mod whole;
 
-pub use place::{Ending, Next, Place};
+pub use place::{Ending, Next, Panic, Place};
 pub use steps::step;
 pub use whole::run;

@@ -1,10 +1,10 @@
 //! Calls and returns.
-ghost use Rattle.std.specs.Prelude.{◌≡◌, ◌≢◌, ◌↔◌, ◌+◌, ◌-◌, ◌<◌, ◌≤◌, ◌^◌, length, drop, slice_get, IsTrue, Some, None, []};
+ghost use Rattle.std.specs.Prelude.{◌≡◌, ◌≢◌, ◌↔◌, ◌+◌, ◌-◌, ◌<◌, ◌≤◌, ◌^◌, length, drop, map, slice_get, IsTrue, Some, None, []};
 ghost use Rattle.simulation.specs.Steps.{Stops};
 ghost use Rattle.isa.specs.Code.{Tables, IsCode};
 ghost use Rattle.machine.specs.Machine.{address_of, entered, calls, exits, returns, follows_call, owner_of};
 ghost use Rattle.machine.specs.Inside.{Inside};
-ghost use Rattle.machine.specs.Answers.{Comes, state_of};
+ghost use Rattle.machine.specs.Answers.{Comes, StatusFits, state_of};
 
 use crate::block::make_room;
 use crate::functions::{frame_at, own_frame};
@@ -56,6 +56,7 @@ pub fn call(
     ensures calls { Comes (calls stack_max frame (Some callee) (state_of words.old.items at)) (state_of words.new.items result.at) result.ending }
     ensures entered { result.ending ≡ None → (result.at.pc ≡ callee.start) × (result.at.base + callee.frame ≤ length words.new.items) }
     ensures length { length words.new.items ≤ stack_max }
+    ensures status { StatusFits result.ending }
     ensures refused { result.ending ≡ Some Ending.NoMemory → (at.base < callee.frame) × (length (drop at.base words.old.items) + callee.frame ≤ stack_max) × (words.new ≡ words.old) }
 {
     let asked = callee.frame as usize;
@@ -88,8 +89,15 @@ pub fn call(
 
 // Whether a place stands behind a call of a function.
 #[inline(always)]
-fn follows(instrs: &[Instr], _owners: &[u16], _funcs: &[Func], f: u16, ret: u64) -> bool
-    ensures is { result ≡ follows_call (record { instrs = instrs.now; owners = _owners.now; funcs = _funcs.now }) f ret }
+fn follows(
+    instrs: &[Instr],
+    _owners: &[u16],
+    _funcs: &[Func],
+    _strings: &[Vec<u8>],
+    f: u16,
+    ret: u64,
+) -> bool
+    ensures is { result ≡ follows_call (record { instrs = instrs.now; owners = _owners.now; funcs = _funcs.now; strings = map (λ bytes. bytes.items) _strings.now }) f ret }
     ensures inside { IsTrue result → (0 < ret) × (ret ≤ length instrs.now) }
     ensures named { IsTrue result → slice_get instrs.now (ret - 1) ≡ Some (Instr.Call f) }
 {
@@ -106,6 +114,7 @@ fn follows(instrs: &[Instr], _owners: &[u16], _funcs: &[Func], f: u16, ret: u64)
 #[inline(always)]
 fn exit(ret: u64, link: u64) -> Ending
     ensures exits { exits ret link ≡ Stops [] result }
+    ensures status { StatusFits (Some result) }
     ensures memory { result ≢ Ending.NoMemory }
     ensures write { result ≢ Ending.WriteFault }
 {
@@ -133,29 +142,31 @@ pub fn leave(
     instrs: &[Instr],
     owners: &[u16],
     funcs: &[Func],
+    strings: &[Vec<u8>],
     words: &Vec<u64>,
     stack_max: u64,
     at: Place,
 ) -> Next
-    requires code { IsCode (record { instrs = instrs.now; owners = owners.now; funcs = funcs.now }) }
+    requires code { IsCode (record { instrs = instrs.now; owners = owners.now; funcs = funcs.now; strings = map (λ bytes. bytes.items) strings.now }) }
     requires words { (length words.now.items ≤ stack_max) × (stack_max ≤ 2 ^ 32) }
-    requires inside { Inside (record { instrs = instrs.now; owners = owners.now; funcs = funcs.now }) (length words.now.items) at.pc at.base }
+    requires inside { Inside (record { instrs = instrs.now; owners = owners.now; funcs = funcs.now; strings = map (λ bytes. bytes.items) strings.now }) (length words.now.items) at.pc at.base }
     requires place { at.pc < length instrs.now }
-    ensures returns { let t : Tables = record { instrs = instrs.now; owners = owners.now; funcs = funcs.now } in Comes (returns t stack_max (owner_of t at.pc) (state_of words.now.items at)) (state_of words.now.items result.at) result.ending }
-    ensures stays { result.ending ≡ None → Inside (record { instrs = instrs.now; owners = owners.now; funcs = funcs.now }) (length words.now.items) result.at.pc result.at.base }
+    ensures returns { let t : Tables = record { instrs = instrs.now; owners = owners.now; funcs = funcs.now; strings = map (λ bytes. bytes.items) strings.now } in Comes (returns t stack_max (owner_of t at.pc) (state_of words.now.items at)) (state_of words.now.items result.at) result.ending }
+    ensures stays { result.ending ≡ None → Inside (record { instrs = instrs.now; owners = owners.now; funcs = funcs.now; strings = map (λ bytes. bytes.items) strings.now }) (length words.now.items) result.at.pc result.at.base }
+    ensures status { StatusFits result.ending }
     ensures memory { result.ending ≢ Some Ending.NoMemory }
 {
-    let frame = own_frame(instrs, owners, funcs, words, at);
+    let frame = own_frame(instrs, owners, funcs, strings, words, at);
     let ret = slot(words, at.base, frame - 1);
     let link = slot(words, at.base, frame - 2);
     let end = at.base + frame;
     if end == words.len() {
         return Next::ended(at, exit(ret, link));
     }
-    if !follows(instrs, owners, funcs, owners[at.pc], ret) {
+    if !follows(instrs, owners, funcs, strings, owners[at.pc], ret) {
         return Next::ended(at, Ending::WildReturn(ret));
     }
-    let above = frame_at(instrs, owners, funcs, (ret - 1) as usize);
+    let above = frame_at(instrs, owners, funcs, strings, (ret - 1) as usize);
     if !links(words, stack_max, end + above, link) {
         return Next::ended(at, Ending::WildLink(link));
     }

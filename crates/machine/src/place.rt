@@ -8,11 +8,28 @@ pub struct Place {
     pub base: usize,
 }
 
+/// Why a program panics.
+#[derive(Clone, Copy, Debug, PartialEq, Eq)]
+pub enum Panic {
+    DivideByZero,
+    /// The count of a shift, which is below 0.
+    ShiftCount(i64),
+    /// The status of an exit, which is not from 0 to 125.
+    ExitCode(i64),
+    /// A panic with a string, by its number, with a number, or with a truth value.
+    Text(u32),
+    Int(i64),
+    Bool(bool),
+}
+
 /// How a run ends.
 #[derive(Clone, Copy, Debug, PartialEq, Eq)]
 pub enum Ending {
-    /// The program ended by itself, with this status.
-    Exit(u8),
+    /// The program ended by itself, with this status, which is at most 125. As a `u8` it would leave a gap behind it that
+    /// each step writes.
+    Exit(u32),
+    /// The program panicked.
+    Panic(Panic),
     /// The sink failed.
     WriteFault,
     /// A call needed a larger block of words, and memory for it was refused.

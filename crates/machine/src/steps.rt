@@ -3,34 +3,78 @@ ghost use Rattle.outside.specs.Causes.{Rose};
 ghost use Rattle.outside.specs.Took.{Took, TookPrefix};
 ghost use Rattle.std.specs.Fmt.{signed_decimal};
 ghost use Rattle.std.specs.Int.{w64, cast_signed};
-ghost use Rattle.std.specs.Prelude.{◌≡◌, ◌⊎◌, ◌≢◌, [], OnOk, OnErr, IfOk, IfErr, ◌+◌, ◌-◌, ◌<◌, ◌≤◌, ◌^◌, length, drop, slice_get, slice_index, slice_set, Some, None};
+ghost use Rattle.std.specs.Prelude.{◌≡◌, ◌⊎◌, ◌≢◌, [], OnOk, OnErr, IfOk, IfErr, ◌+◌, ◌-◌, ◌<◌, ◌≤◌, ◌^◌, ◌==◌, length, drop, map, if◌then◌else◌, slice_get, slice_index, slice_set, Some, None};
+ghost use Rattle.simulation.specs.Steps.{Stops};
 ghost use Rattle.isa.specs.Code.{Tables, IsCode};
-ghost use Rattle.machine.specs.Machine.{act, address_of, frame_of, owner_of};
+ghost use Rattle.machine.specs.Machine.{act, exits_with, prints, truth_bytes, panic_of, address_of, frame_of, owner_of};
 ghost use Rattle.machine.specs.Inside.{Inside, Callable, Touches, Leads};
-ghost use Rattle.machine.specs.Answers.{Answers, CallFits, NoRoom, state_of};
+ghost use Rattle.machine.specs.Answers.{Answers, Comes, StatusFits, CallFits, NoRoom, state_of};
 
-use crate::functions::{callee, own_frame};
+use crate::functions::{callee, own_frame, string};
 use crate::links::{address, call, leave};
 use crate::slots::{copy_slots, set_slot, slot};
-use crate::{Ending, Next, Place};
-use isa::{Func, Instr, bin, negate};
-use outside::{Sink, WriteFault, put_bytes, put_int};
+use crate::{Ending, Next, Panic, Place};
+use isa::{BinFault, Func, Instr, bin, un};
+use outside::{Sink, WriteFault, put_bool, put_bytes, put_int};
 use std::alloc::Global;
 
-// Writes the number of a slot.
+const LARGEST_STATUS: i64 = 125;
+
+// The run goes on behind a piece, if it was written.
 #[inline(always)]
-fn put_slot<O: Sink>(words: &Vec<u64>, at: Place, a: u16, out: &mut O) -> Next
-    requires slot { at.base + a < length words.now.items }
-    requires place { at.pc < 2 ^ 40 }
-    ensures ok { result.ending ≡ None → (result.at ≡ record { pc = at.pc + 1; base = at.base }) × Took (O.taken out.old) (O.taken out.new) (signed_decimal (cast_signed w64 (slice_index (drop at.base words.now.items) a))) }
-    ensures err { result.ending ≢ None → (result ≡ record { at = at; ending = Some Ending.WriteFault }) × TookPrefix (O.taken out.old) (O.taken out.new) (signed_decimal (cast_signed w64 (slice_index (drop at.base words.now.items) a))) × Rose (O.faults out.old) (O.faults out.new) }
+fn printed(at: Place, written: Result<(), WriteFault>) -> Next
+    requires { at.pc < 2 ^ 40 }
+    ensures ok { OnOk written (result ≡ record { at = record { pc = at.pc + 1; base = at.base }; ending = None }) }
+    ensures err { OnErr written (result ≡ record { at = at; ending = Some Ending.WriteFault }) }
+{
+    match written {
+        Ok(()) => Next::on(at),
+        Err(_fault) => Next::ended(at, Ending::WriteFault),
+    }
+}
+
+// Prints a piece.
+#[inline(always)]
+fn print<O: Sink>(_words: &Vec<u64>, at: Place, piece: &[u8], out: &mut O) -> Next
+    requires { at.pc < 2 ^ 40 }
+    ensures step { Answers (prints (state_of _words.now.items at) piece.now) (state_of _words.now.items result.at) result.ending (O.taken out.old) (O.taken out.new) (O.faults out.old) (O.faults out.new) }
     ensures later { O.faults out.old ≤ O.faults out.new }
+    ensures on { result.ending ≡ None → result.at ≡ record { pc = at.pc + 1; base = at.base } }
+    ensures status { StatusFits result.ending }
     ensures which { (result.ending ≡ None) ⊎ (result.ending ≡ Some Ending.WriteFault) }
 {
-    match put_int(out, slot(words, at.base, a as usize).cast_signed()) {
-        Ok(()) => Next::on(at),
-        Err(_) => Next::ended(at, Ending::WriteFault),
-    }
+    let written = put_bytes(out, piece);
+    printed(at, written)
+}
+
+// Prints the number of a slot.
+#[inline(always)]
+fn print_int<O: Sink>(words: &Vec<u64>, at: Place, a: u16, out: &mut O) -> Next
+    requires slot { at.base + a < length words.now.items }
+    requires place { at.pc < 2 ^ 40 }
+    ensures step { Answers (prints (state_of words.now.items at) (signed_decimal (cast_signed w64 (slice_index (drop at.base words.now.items) a)))) (state_of words.now.items result.at) result.ending (O.taken out.old) (O.taken out.new) (O.faults out.old) (O.faults out.new) }
+    ensures later { O.faults out.old ≤ O.faults out.new }
+    ensures on { result.ending ≡ None → result.at ≡ record { pc = at.pc + 1; base = at.base } }
+    ensures status { StatusFits result.ending }
+    ensures which { (result.ending ≡ None) ⊎ (result.ending ≡ Some Ending.WriteFault) }
+{
+    let written = put_int(out, slot(words, at.base, a as usize).cast_signed());
+    printed(at, written)
+}
+
+// Prints the truth value of a slot.
+#[inline(always)]
+fn print_bool<O: Sink>(words: &Vec<u64>, at: Place, a: u16, out: &mut O) -> Next
+    requires slot { at.base + a < length words.now.items }
+    requires place { at.pc < 2 ^ 40 }
+    ensures step { Answers (prints (state_of words.now.items at) (truth_bytes (slice_index (drop at.base words.now.items) a))) (state_of words.now.items result.at) result.ending (O.taken out.old) (O.taken out.new) (O.faults out.old) (O.faults out.new) }
+    ensures later { O.faults out.old ≤ O.faults out.new }
+    ensures on { result.ending ≡ None → result.at ≡ record { pc = at.pc + 1; base = at.base } }
+    ensures status { StatusFits result.ending }
+    ensures which { (result.ending ≡ None) ⊎ (result.ending ≡ Some Ending.WriteFault) }
+{
+    let written = put_bool(out, slot(words, at.base, a as usize) != 0);
+    printed(at, written)
 }
 
 // The index of incoming words, so many, behind a frame of so many words; counted from the frame's lowest word.
@@ -55,28 +99,53 @@ fn incoming(
     Err(Ending::WildAddress(address(stack_max, words.len() - base) + index as u64))
 }
 
-// The run goes on behind a piece, if it was written.
-#[inline(always)]
-fn printed(at: Place, written: Result<(), WriteFault>) -> Next
-    requires { at.pc < 2 ^ 40 }
-    ensures ok { OnOk written (result ≡ record { at = record { pc = at.pc + 1; base = at.base }; ending = None }) }
-    ensures err { OnErr written (result ≡ record { at = at; ending = Some Ending.WriteFault }) }
+// The panic of an operation that gives nothing.
+fn panic_of(fault: BinFault) -> Panic
+    ensures { result ≡ panic_of fault }
 {
-    match written {
-        Ok(()) => Next::on(at),
-        Err(_fault) => Next::ended(at, Ending::WriteFault),
+    match fault {
+        BinFault::DivideByZero => Panic::DivideByZero,
+        BinFault::ShiftCount(count) => Panic::ShiftCount(count),
     }
+}
+
+// The program panics at a place.
+#[inline(always)]
+fn panicked(at: Place, panic: Panic) -> Next
+    ensures { result ≡ record { at = at; ending = Some (Ending.Panic panic) } }
+{
+    Next::ended(at, Ending::Panic(panic))
+}
+
+// How an exit with a status ends.
+fn exit(status: i64) -> Ending
+    ensures exits { exits_with status ≡ Stops [] result }
+    ensures status { StatusFits (Some result) }
+    ensures memory { result ≢ Ending.NoMemory }
+    ensures write { result ≢ Ending.WriteFault }
+{
+    if (0..=LARGEST_STATUS).contains(&status) {
+        return Ending::Exit(status as u32);
+    }
+    Ending::Panic(Panic::ExitCode(status))
 }
 
 // The instruction at a place.
 #[inline(always)]
-fn fetch(instrs: &[Instr], _owners: &[u16], _funcs: &[Func], _words: &Vec<u64>, at: Place) -> Instr
-    requires code { IsCode (record { instrs = instrs.now; owners = _owners.now; funcs = _funcs.now }) }
-    requires inside { Inside (record { instrs = instrs.now; owners = _owners.now; funcs = _funcs.now }) (length _words.now.items) at.pc at.base }
+fn fetch(
+    instrs: &[Instr],
+    _owners: &[u16],
+    _funcs: &[Func],
+    _strings: &[Vec<u8>],
+    _words: &Vec<u64>,
+    at: Place,
+) -> Instr
+    requires code { IsCode (record { instrs = instrs.now; owners = _owners.now; funcs = _funcs.now; strings = map (λ bytes. bytes.items) _strings.now }) }
+    requires inside { Inside (record { instrs = instrs.now; owners = _owners.now; funcs = _funcs.now; strings = map (λ bytes. bytes.items) _strings.now }) (length _words.now.items) at.pc at.base }
     requires place { at.pc < length instrs.now }
     ensures is { slice_get instrs.now at.pc ≡ Some result }
-    ensures touches { Touches (record { instrs = instrs.now; owners = _owners.now; funcs = _funcs.now }) (length _words.now.items) at.base result }
-    ensures leads { Leads (record { instrs = instrs.now; owners = _owners.now; funcs = _funcs.now }) (length _words.now.items) at.pc at.base result }
+    ensures touches { Touches (record { instrs = instrs.now; owners = _owners.now; funcs = _funcs.now; strings = map (λ bytes. bytes.items) _strings.now }) (length _words.now.items) at.base result }
+    ensures leads { Leads (record { instrs = instrs.now; owners = _owners.now; funcs = _funcs.now; strings = map (λ bytes. bytes.items) _strings.now }) (length _words.now.items) at.pc at.base result }
 {
     instrs[at.pc]
 }
@@ -89,25 +158,27 @@ pub fn step<O: Sink>(
     instrs: &[Instr],
     owners: &[u16],
     funcs: &[Func],
+    strings: &[Vec<u8>],
     words: &mut Vec<u64>,
     stack_max: u64,
     at: Place,
     out: &mut O,
 ) -> Next
-    requires code { IsCode (record { instrs = instrs.now; owners = owners.now; funcs = funcs.now }) }
+    requires code { IsCode (record { instrs = instrs.now; owners = owners.now; funcs = funcs.now; strings = map (λ bytes. bytes.items) strings.now }) }
     requires words { (length words.old.items ≤ stack_max) × (stack_max ≤ 2 ^ 32) }
-    requires inside { Inside (record { instrs = instrs.now; owners = owners.now; funcs = funcs.now }) (length words.old.items) at.pc at.base }
+    requires inside { Inside (record { instrs = instrs.now; owners = owners.now; funcs = funcs.now; strings = map (λ bytes. bytes.items) strings.now }) (length words.old.items) at.pc at.base }
     requires place { (at.pc < length instrs.now) × (length instrs.now < 2 ^ 40) }
-    ensures step { Answers (act (record { instrs = instrs.now; owners = owners.now; funcs = funcs.now }) stack_max (state_of words.old.items at)) (state_of words.new.items result.at) result.ending
+    ensures step { Answers (act (record { instrs = instrs.now; owners = owners.now; funcs = funcs.now; strings = map (λ bytes. bytes.items) strings.now }) stack_max (state_of words.old.items at)) (state_of words.new.items result.at) result.ending
         (O.taken out.old) (O.taken out.new) (O.faults out.old) (O.faults out.new) }
     ensures later { O.faults out.old ≤ O.faults out.new }
-    ensures stays { result.ending ≡ None → Inside (record { instrs = instrs.now; owners = owners.now; funcs = funcs.now }) (length words.new.items) result.at.pc result.at.base }
+    ensures stays { result.ending ≡ None → Inside (record { instrs = instrs.now; owners = owners.now; funcs = funcs.now; strings = map (λ bytes. bytes.items) strings.now }) (length words.new.items) result.at.pc result.at.base }
     ensures length { length words.new.items ≤ stack_max }
-    ensures memory { result.ending ≡ Some Ending.NoMemory → CallFits (record { instrs = instrs.now; owners = owners.now; funcs = funcs.now }) stack_max (state_of words.old.items at) × Took (O.taken out.old) (O.taken out.new) [] × (words.new ≡ words.old) }
-    ensures room { result.ending ≡ Some Ending.NoMemory → NoRoom (record { instrs = instrs.now; owners = owners.now; funcs = funcs.now }) at }
+    ensures status { StatusFits result.ending }
+    ensures memory { result.ending ≡ Some Ending.NoMemory → CallFits (record { instrs = instrs.now; owners = owners.now; funcs = funcs.now; strings = map (λ bytes. bytes.items) strings.now }) stack_max (state_of words.old.items at) × Took (O.taken out.old) (O.taken out.new) [] × (words.new ≡ words.old) }
+    ensures room { result.ending ≡ Some Ending.NoMemory → NoRoom (record { instrs = instrs.now; owners = owners.now; funcs = funcs.now; strings = map (λ bytes. bytes.items) strings.now }) at }
 {
     let base = at.base;
-    match fetch(instrs, owners, funcs, words, at) {
+    match fetch(instrs, owners, funcs, strings, words, at) {
         Instr::Const { a, word } => {
             set_slot(words, base, a as usize, word);
             Next::on(at)
@@ -122,16 +193,21 @@ pub fn step<O: Sink>(
             Next::on(at)
         }
         Instr::Bin { op, a, b, c } => {
-            let word = bin(
+            let given = bin(
                 op,
                 slot(words, base, b as usize),
                 slot(words, base, c as usize),
             );
-            set_slot(words, base, a as usize, word);
-            Next::on(at)
+            match given {
+                Ok(word) => {
+                    set_slot(words, base, a as usize, word);
+                    Next::on(at)
+                }
+                Err(fault) => panicked(at, panic_of(fault)),
+            }
         }
-        Instr::Negate { a, b } => {
-            let word = negate(slot(words, base, b as usize));
+        Instr::Un { op, a, b } => {
+            let word = un(op, slot(words, base, b as usize));
             set_slot(words, base, a as usize, word);
             Next::on(at)
         }
@@ -144,12 +220,12 @@ pub fn step<O: Sink>(
             }
         }
         Instr::Call { func } => {
-            let frame = own_frame(instrs, owners, funcs, words, at);
-            let callee = callee(instrs, owners, funcs, words, base, func);
+            let frame = own_frame(instrs, owners, funcs, strings, words, at);
+            let callee = callee(instrs, owners, funcs, strings, words, base, func);
             call(alloc, words, stack_max, at, frame, callee)
         }
         Instr::Argument { a, b } => {
-            let frame = own_frame(instrs, owners, funcs, words, at);
+            let frame = own_frame(instrs, owners, funcs, strings, words, at);
             match incoming(words, stack_max, base, frame, b, 1) {
                 Ok(index) => {
                     let word = slot(words, base, index);
@@ -160,7 +236,7 @@ pub fn step<O: Sink>(
             }
         }
         Instr::SetResults { a, b, n } => {
-            let frame = own_frame(instrs, owners, funcs, words, at);
+            let frame = own_frame(instrs, owners, funcs, strings, words, at);
             match incoming(words, stack_max, base, frame, b, n) {
                 Ok(index) => {
                     copy_slots(words, base, a as usize, index, n as usize);
@@ -169,15 +245,18 @@ pub fn step<O: Sink>(
                 Err(ending) => Next::ended(at, ending),
             }
         }
-        Instr::PrintInt { a } => put_slot(words, at, a, out),
-        Instr::PrintSpace => {
-            let written = put_bytes(out, b" ");
-            printed(at, written)
-        }
-        Instr::PrintLine => {
-            let written = put_bytes(out, b"\n");
-            printed(at, written)
-        }
-        Instr::Return => leave(instrs, owners, funcs, words, stack_max, at),
+        Instr::PrintInt { a } => print_int(words, at, a, out),
+        Instr::PrintBool { a } => print_bool(words, at, a, out),
+        Instr::PrintText { text } => print(words, at, string(strings, text), out),
+        Instr::PrintSpace => print(words, at, b" ", out),
+        Instr::PrintLine => print(words, at, b"\n", out),
+        Instr::Return => leave(instrs, owners, funcs, strings, words, stack_max, at),
+        Instr::Exit { a } => { Next::ended(at, exit(slot(words, base, a as usize).cast_signed())) }
+        Instr::PanicText { text } => panicked(at, Panic::Text(text)),
+        Instr::PanicInt { a } => panicked(
+            at,
+            Panic::Int(slot(words, base, a as usize).cast_signed()),
+        ),
+        Instr::PanicBool { a } => panicked(at, Panic::Bool(slot(words, base, a as usize) != 0)),
     }
 }

@@ -4,7 +4,7 @@ ghost use Rattle.isa.specs.declared.instr.BinOp.{BinOp};
 ghost use Rattle.isa.specs.declared.instr.Instr.{Instr};
 ghost use Rattle.machine.specs.Inside.{Inside};
 
-use crate::{Ending, Place, run};
+use crate::{Ending, Panic, Place, run};
 use isa::{BinOp, Code, Func, Instr};
 use outside::MemSink;
 use std::alloc::Global;
@@ -34,6 +34,7 @@ fn sums(alloc: Global) -> Result<Code, Fail>
           (Instr.Argument 2 0 ∷ (Instr.JumpZero 2 15 ∷ (Instr.Const 3 1 ∷ (Instr.Bin BinOp.Sub 0 2 3 ∷ (Instr.Call 1 ∷ (Instr.Bin BinOp.Add 2 2 1 ∷ (Instr.SetResults 2 1 1 ∷ (Instr.Return ∷ [])))))))))))))));
       owners = 0 ∷ (0 ∷ (0 ∷ (0 ∷ (0 ∷ (0 ∷ (0 ∷ (0 ∷ (1 ∷ (1 ∷ (1 ∷ (1 ∷ (1 ∷ (1 ∷ (1 ∷ (1 ∷ [])))))))))))))));
       funcs = MAIN ∷ (SUM ∷ []);
+      strings = [];
     }) }
 {
     let instrs = vec![in alloc;
@@ -66,7 +67,39 @@ fn sums(alloc: Global) -> Result<Code, Fail>
     ]?;
     let owners = vec![in alloc; 0, 0, 0, 0, 0, 0, 0, 0, 1, 1, 1, 1, 1, 1, 1, 1]?;
     let funcs = vec![in alloc; MAIN, SUM]?;
-    Ok(Code::made(instrs, owners, funcs))
+    Ok(Code::made(instrs, owners, funcs, Vec::new(alloc)))
+}
+
+// Some of the instructions that end a run or print, with one string. The numbers that they take are in slots 0 and 1.
+fn endings(alloc: Global) -> Result<Code, Fail>
+    ensures { IfOk result (λ c. length c.instrs ≡ 9) }
+{
+    let instrs = vec![in alloc;
+        Instr::Bin {
+            op: BinOp::Div,
+            a: 2,
+            b: 0,
+            c: 1
+        },
+        Instr::PrintInt { a: 2 },
+        Instr::Return,
+        Instr::Bin {
+            op: BinOp::ShiftLeft,
+            a: 2,
+            b: 0,
+            c: 1
+        },
+        Instr::Jump { to: 1 },
+        Instr::Exit { a: 0 },
+        Instr::PrintBool { a: 0 },
+        Instr::PrintText { text: 0 },
+        Instr::PanicText { text: 0 },
+    ]?;
+    let owners = vec![in alloc; 0, 0, 0, 0, 0, 0, 0, 0, 0]?;
+    let funcs = vec![in alloc; MAIN]?;
+    let text = vec![in alloc; b' ', b'i', b's']?;
+    let strings = vec![in alloc; text]?;
+    Ok(Code::made(instrs, owners, funcs, strings))
 }
 
 // Whether a frame lies inside so many words.
@@ -131,6 +164,34 @@ fn a_run_goes_on(rt: HostRuntime) -> Result<(), Fail> {
     let next = run(rt.alloc(), &code, &mut words, 100, first.at, &mut out, 60);
     assert_eq!(rt; next.ending, Some(Ending::Exit(0)));
     assert_eq!(rt; out.bytes(), b"10 55\n".as_slice());
+    Ok(())
+}
+
+#[test]
+fn runs_end(rt: HostRuntime) -> Result<(), Fail> {
+    let code = endings(rt.alloc())?;
+    let cases: [(usize, i64, i64, Ending, &[u8]); 9] = [
+        (0, -7, 2, Ending::Exit(0), b"-3"),
+        (0, 7, 0, Ending::Panic(Panic::DivideByZero), b""),
+        (3, 3, 62, Ending::Exit(0), b"-4611686018427387904"),
+        (3, 1, 64, Ending::Exit(0), b"0"),
+        (3, 1, -1, Ending::Panic(Panic::ShiftCount(-1)), b""),
+        (5, 7, 0, Ending::Exit(7), b""),
+        (5, 126, 0, Ending::Panic(Panic::ExitCode(126)), b""),
+        (6, 0, 0, Ending::Panic(Panic::Text(0)), b"false is"),
+        (6, 2, 0, Ending::Panic(Panic::Text(0)), b"true is"),
+    ];
+    for (pc, first, second, want, printed) in cases {
+        let mut words = vec![in rt.alloc(); 0; 6]?;
+        words[0] = first.cast_unsigned();
+        words[1] = second.cast_unsigned();
+        let mut out = MemSink::new(rt.alloc(), Vec::new(rt.alloc()));
+        let at = Place { pc, base: 0 };
+        assert!(rt; is_inside(&code, words.len(), at));
+        let end = run(rt.alloc(), &code, &mut words, 100, at, &mut out, 1000);
+        assert_eq!(rt; end.ending, Some(want));
+        assert_eq!(rt; out.bytes(), printed);
+    }
     Ok(())
 }
 

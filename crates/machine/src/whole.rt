@@ -3,7 +3,7 @@ ghost use Rattle.std.specs.Prelude.{◌≡◌, ◌<◌, ◌≤◌, ◌^◌, leng
 ghost use Rattle.simulation.specs.Steps.{many};
 ghost use Rattle.machine.specs.Machine.{act};
 ghost use Rattle.machine.specs.Inside.{Inside};
-ghost use Rattle.machine.specs.Answers.{Answers, Refused, state_of};
+ghost use Rattle.machine.specs.Answers.{Answers, Refused, StatusFits, state_of};
 ghost use Rattle.machine.specs.declared.place.Ending.{Ending};
 
 use crate::steps::step;
@@ -30,15 +30,19 @@ pub fn run<O: Sink>(
         (O.taken out.old) (O.taken out.new) (O.faults out.old) (O.faults out.new) }
     ensures stays { result.ending ≡ None → Inside code.now (length words.new.items) result.at.pc result.at.base }
     ensures length { length words.new.items ≤ stack_max }
+    ensures status { StatusFits result.ending }
     ensures memory { result.ending ≡ Some Ending.NoMemory → Refused code.now stack_max steps (state_of words.old.items at) (O.taken out.old) (O.taken out.new) }
 {
     let instrs = code.instrs();
     let owners = code.owners();
     let funcs = code.funcs();
+    let strings = code.strings();
     let mut at = at;
     let mut left = steps;
     'steps: while left > 0 {
-        let next = step(alloc, instrs, owners, funcs, words, stack_max, at, out);
+        let next = step(
+            alloc, instrs, owners, funcs, strings, words, stack_max, at, out,
+        );
         match next.ending {
             None => at = next.at,
             Some(_) => return next,

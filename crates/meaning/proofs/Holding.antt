@@ -1,19 +1,22 @@
 -- Each run of a program keeps each family: a line for each form of syntax.
-use Rattle.std.proofs.Common.{◌≡◌, refl, ℕ, zero, suc, ◌+◌, ◌-◌, ◌≤◌, List, [], ◌∷◌, ◌++◌, Option, Some, None, Result, Ok, Err, Bool, true, false, subst, arith}
-use Rattle.std.specs.Prelude.{length, slice_get}
+use Rattle.std.proofs.Common.{◌≡◌, refl, ℕ, zero, suc, ◌+◌, ◌-◌, ◌≤◌, List, [], ◌∷◌, ◌++◌, Option, Some, None, Result, Ok, Err, Bool, true, false, ℤ, pos, negsuc, subst, arith}
+use Rattle.std.specs.Prelude.{length, slice_get, nat_lt}
 use Rattle.base.specs.declared.pos.Pos.{Pos}
-use Rattle.typed.specs.Value.{Value}
-use Rattle.typed.specs.Syntax.{Ex, Exs, Pl, Steps, Left, Piece, St, Sts, Func, Program, constant, read, unary, binary, call, none, more, results, local, here, blank, new, to, shown, assign, discard, block, choose, loop, give_back, print, done, next}
+use Rattle.typed.specs.Value.{Value, int}
+use Rattle.typed.specs.Syntax.{Ex, Exs, Pl, Steps, Left, Piece, Over, St, Sts, Func, Program, constant, read, unary, binary, both, either, call, none, more, results, asked, local, here, blank, new, to, text, shown, over_int, declare, assign, update, bump, discard, block, choose, loop, range, break_off, go_on, give_back, print, raise, quit, done, next}
 use Rattle.meaning.specs.Trace.{Return, Fault, Exit, Panic, World, Mark, entered, ended, copied, Trace, Turn, Seen, Cut}
-use Rattle.meaning.specs.Store.{written, born}
+use Rattle.meaning.specs.Store.{written, born, read_at}
 use Rattle.meaning.specs.Operators.{binary_of}
 use Rattle.meaning.specs.Meaning
-use Rattle.meaning.specs.Meaning.{Go, Then, Env, Ways, Calls, Answer, Setting, Step, fixed, Aim, Spot, Landing, nowhere, birth, on}
+use Rattle.meaning.specs.Meaning.{Go, Then, Env, Ways, Calls, Item, Setting, Step, fixed, Aim, Spot, Landing, nowhere, birth, on}
 use Rattle.meaning.specs.Laws.{IsOther}
-use Rattle.meaning.proofs.Later.{written_later, born_later}
+use Rattle.meaning.proofs.Later.{later_same, written_later, born_later}
 use Rattle.meaning.proofs.Family.{Family, WaysHold, Pair, CallsHold, turning, noting, seeing, keeping, keeping_all, lower, looping, ways_fewer}
 
 module _ (F : Family) where
+  give_all_holds : {b : ℕ} (ws us : Ways) (k j : Then (List Value)) → ((vs : List Value) (w : World) → F.Holds b w (k vs w) (j vs w)) → (vs : List Value) (w : World) → F.Holds b w (Meaning.give_all ws k vs w) (Meaning.give_all us j vs w)
+  give_all_holds ws us k j h vs w = seeing F (h vs w)
+
   marking : {b : ℕ} (m : Mark) → IsOther m → {w : World} {s t : Trace} → F.Holds b w s t → F.Holds b w (Seen m s) (Seen m t)
   marking {b} m is {w} {s} {t} h = F.marks b w m is s t h
 
@@ -25,6 +28,9 @@ module _ (F : Family) where
 
   bear_holds : {b : ℕ} (around : Setting) (entry site : ℕ) (x : Value) (k j : Then ℕ) → ((v : ℕ) (w : World) → F.Holds b w (k v w) (j v w)) → (w : World) → F.Holds b w (Meaning.bear around entry site x k w) (Meaning.bear around entry site x j w)
   bear_holds around entry site x k j all w = noting F (F.later _ w _ _ _ (born_later w (Meaning.new_cell around entry site x)) (all (length w.store) (born w (Meaning.new_cell around entry site x))))
+
+  ask_holds : {b : ℕ} (around : Setting) (k j : Then (List Value)) → ((vs : List Value) (w : World) → F.Holds b w (k vs w) (j vs w)) → (w : World) → F.Holds b w (Meaning.ask around k w) (Meaning.ask around j w)
+  ask_holds around k j all w = noting F (F.later _ w _ _ _ (later_same w) (all (Meaning.item_values (around.items w.reads)) (record { store = w.store; reads = suc w.reads })))
 
   when_holds : {b : ℕ} (c : Bool) (g h g1 h1 : Go) (w : World) → F.Holds b w (g w) (g1 w) → F.Holds b w (h w) (h1 w) → F.Holds b w (Meaning.when c g h w) (Meaning.when c g1 h1 w)
   when_holds true g h g1 h1 w a c = a
@@ -59,12 +65,15 @@ module _ (F : Family) where
       ev_holds (read q) p env k j h w = aim_holds q p env _ _ (λ a. settle_holds a _ _ (λ s u. noting F (seeing F (h _ u)))) w
       ev_holds (unary op e) p env k j h w = ev_holds e p env _ _ (λ v u. turning F (seeing F (h _ u))) w
       ev_holds (binary at op a c) p env k j h w = ev_holds a p env _ _ (λ v. ev_holds c (keeping F v p) env _ _ (λ x u. turning F (or_panic_holds p env at (binary_of op v x) _ _ (λ y z. seeing F (h y z)) u))) w
+      ev_holds (both a c) p env k j h w = ev_holds a p env _ _ (λ v u. turning F (when_holds (Meaning.is_true v) _ _ _ _ u (ev_holds c p env k j h u) (seeing F (h _ u)))) w
+      ev_holds (either a c) p env k j h w = ev_holds a p env _ _ (λ v u. turning F (when_holds (Meaning.is_true v) _ _ _ _ u (seeing F (h _ u)) (ev_holds c p env k j h u))) w
       ev_holds (call f es) p env k j h w = evs_hold es p env _ _ (λ vs. call_holds p f vs env _ _ (λ rs u. seeing F (h _ u))) w
 
       evs_hold : (es : Exs) {b : ℕ} (p : Pair F (suc n) b) (env : Env) (k j : Then (List Value)) → ((vs : List Value) (w : World) → F.Holds b w (k vs w) (j vs w)) → (w : World) → F.Holds b w (Meaning.evs around calls es p.left env k w) (Meaning.evs around dalls es p.right env j w)
       evs_hold none p env k j h w = h [] w
       evs_hold (more e es) p env k j h w = ev_holds e p env _ _ (λ v. evs_hold es (keeping F v p) env _ _ (λ vs. h (v ∷ vs))) w
       evs_hold (results f es) p env k j h w = evs_hold es p env _ _ (λ vs. call_holds p f vs env _ _ (λ rs u. seeing F (h rs u))) w
+      evs_hold asked p env k j h w = turning F (ask_holds around (Meaning.give_all p.left k) (Meaning.give_all p.right j) (give_all_holds p.left p.right k j h) w)
 
     ready_holds : (l : Left) {b : ℕ} (p : Pair F (suc n) b) (env : Env) (k j : Then Landing) → ((x : Landing) (w : World) → F.Holds b w (k x w) (j x w)) → (w : World) → F.Holds b w (Meaning.ready around calls l p.left env k w) (Meaning.ready around dalls l p.right env j w)
     ready_holds blank p env k j h w = h nowhere w
@@ -89,7 +98,8 @@ module _ (F : Family) where
 
     pieces_hold : (ps : List Piece) {b : ℕ} (p : Pair F (suc n) b) (env : Env) (k j : Then (List (List ℕ))) → ((r : List (List ℕ)) (w : World) → F.Holds b w (k r w) (j r w)) → (w : World) → F.Holds b w (Meaning.pieces around calls ps p.left env k w) (Meaning.pieces around dalls ps p.right env j w)
     pieces_hold [] p env k j h w = h [] w
-    pieces_hold (shown e ∷ ps) p env k j h w = ev_holds e p env _ _ (λ v. pieces_hold ps (keeping F v p) env _ _ (λ r. h _)) w
+    pieces_hold (text number ∷ ps) p env k j h w = pieces_hold ps p env _ _ (λ r. h _) w
+    pieces_hold (shown t e ∷ ps) p env k j h w = ev_holds e p env _ _ (λ v. pieces_hold ps (keeping F v p) env _ _ (λ r. h _)) w
 
     more_hold : (bs : List (List ℕ)) {b : ℕ} (g h : Go) → ((w : World) → F.Holds b w (g w) (h w)) → (w : World) → F.Holds b w (Meaning.emit_more bs g w) (Meaning.emit_more bs h w)
     more_hold [] g h all w = turning F (noting F (all w))
@@ -122,6 +132,14 @@ module _ (F : Family) where
         (hb c cb v env _ _ (λ v1 e z. F.turns c z _ _ (rounds_hold test nest ht body nody hb k j h x y (omega arith) (c - 1) (omega arith) (omega arith) v1 e z)) u)
         (F.fewer c b u _ _ cb (h v env u))) w
 
+    counted_holds : {b : ℕ} → (body nody : ℕ → ℕ → Env → (ℕ → Env → Go) → Go) → ((c : ℕ) → c ≤ b → (i v : ℕ) (env : Env) (k j : ℕ → Env → Go) → ((u : ℕ) (e : Env) (w : World) → F.Holds c w (k u e w) (j u e w)) → (w : World) → F.Holds c w (body i v env k w) (nody i v env j w)) →
+        (k j : ℕ → Env → Go) → ((v : ℕ) (e : Env) (w : World) → F.Holds b w (k v e w) (j v e w)) → (x y : ℕ) → x ≤ y → (c : ℕ) → c ≤ b → c ≤ x → (i left v : ℕ) (env : Env) (w : World) → F.Holds c w (Meaning.counted x i left body k v env w) (Meaning.counted y i left nody j v env w)
+    counted_holds body nody hb k j h zero y xy c cb cx i left v env w = let q : 0 ≡ c = omega arith in subst (λ a. F.Holds a w Cut (Meaning.counted y i left nody j v env w)) q (F.cuts w _)
+    counted_holds body nody hb k j h (suc x) zero xy c cb cx i left v env w = absurd (omega arith)
+    counted_holds {b} body nody hb k j h (suc x) (suc y) xy c cb cx i zero v env w = turning F (F.fewer c b w _ _ cb (h v env w))
+    counted_holds body nody hb k j h (suc x) (suc y) xy c cb cx i (suc left) v env w =
+        turning F (hb c cb i v env _ _ (λ v1 e z. F.turns c z _ _ (counted_holds body nody hb k j h x y (omega arith) (c - 1) (omega arith) (omega arith) (suc i) left v1 e z)) w)
+
     abbrev Part : Type 0
     Part = Ways → Env → (Env → Go) → Go
 
@@ -132,6 +150,13 @@ module _ (F : Family) where
     test_holds None p env k j h w = h _ w
     test_holds (Some e) p env k j h w = ev_holds e p env _ _ (λ v u. turning F (h v u)) w
 
+    begin_holds : (o : Over) {b : ℕ} (p : Pair F (suc n) b) (env : Env) (k j : ℕ → Ways → Go) → ((x : ℕ) (q : Pair F (suc n) b) (w : World) → F.Holds b w (k x q.left w) (j x q.right w)) → (w : World) → F.Holds b w (Meaning.begin_range around calls (suc n) o p.left env k w) (Meaning.begin_range around dalls (suc m) o p.right env j w)
+    begin_holds (over_int e) p env k j h w = ev_holds e p env _ _ (λ v u. turning F (h _ (keeping F v p) u)) w
+
+    quit_holds : (z : ℤ) {b : ℕ} (p : Pair F (suc n) b) (env : Env) (at : Pos) (w : World) → F.Holds b w (Meaning.quit_with p.left env at z w) (Meaning.quit_with p.right env at z w)
+    quit_holds (pos x) p env at w = when_holds (nat_lt x 126) _ _ _ _ w (F.ends _ w (Exit x)) (p.hold.panicked at _ env w)
+    quit_holds (negsuc x) p env at w = p.hold.panicked at _ env w
+
     -- rounds, of a body and a post statement that keep the family
     around_hold : (body nody post nost : Part) (sites : List ℕ) {b : ℕ} → PartHolds b body nody → PartHolds b post nost → (p : Pair F (suc n) b) (out nout : Env → Go) → ((e : Env) (w : World) → F.Holds b w (out e w) (nout e w)) → (v : ℕ) (env : Env) (k j : ℕ → Env → Go) → ((u : ℕ) (e : Env) (w : World) → F.Holds b w (k u e w) (j u e w)) → (w : World) →
         F.Holds b w (Meaning.in_loop body p.left out (Meaning.to_next around v sites post p.left k) env w) (Meaning.in_loop nody p.right nout (Meaning.to_next around v sites nost p.right j) env w)
@@ -141,9 +166,25 @@ module _ (F : Family) where
         (renew_holds sites p.left.call e (λ e1. post p.left e1 (k (length u.store))) (λ e1. nost p.right e1 (j (length u.store))) (λ e1. hp.by p e1 _ _ (h (length u.store))) u)) in
         hb.by (looping F p out nout _ _ ho again) env _ _ again w
 
+    round_holds : (key : Left) (body nody : Part) (i : ℕ) {b : ℕ} → PartHolds b body nody → (p : Pair F (suc n) b) (out nout : ℕ → Env → Go) → ((u : ℕ) (e : Env) (w : World) → F.Holds b w (out u e w) (nout u e w)) → (v : ℕ) (env : Env) (k j : ℕ → Env → Go) → ((u : ℕ) (e : Env) (w : World) → F.Holds b w (k u e w) (j u e w)) → (w : World) →
+        F.Holds b w (Meaning.range_round around calls (suc n) key body p.left out i v env k w) (Meaning.range_round around dalls (suc m) key nody p.right nout i v env j w)
+    round_holds key body nody i {b} hb p out nout ho v env k j h w =
+        let again : (e : Env) (u : World) → F.Holds b u (Meaning.to_next_count v k e u) (Meaning.to_next_count v j e u) = λ e u. marking (ended v) tt (h (length u.store) e u) in
+        ready_holds key p env _ _ (λ a. land_holds a (int (pos i)) p env _ _ (λ e1. hb.by (looping F p (out v) (nout v) _ _ (ho v) again) e1 _ _ again)) w
+
+    zeros_hold : (sites : List ℕ) {b : ℕ} (entry : ℕ) (env : Env) (k j : Env → Go) → ((e : Env) (w : World) → F.Holds b w (k e w) (j e w)) → (w : World) → F.Holds b w (Meaning.bear_zeros around entry sites env k w) (Meaning.bear_zeros around entry sites env j w)
+    zeros_hold [] entry env k j h w = h env w
+    zeros_hold (site ∷ sites) entry env k j h w = turning F (bear_holds around entry site _ _ _ (λ x. zeros_hold sites entry (Meaning.with_home env site x) k j h) w)
+
     mutual
       exec_holds : (s : St) {b : ℕ} (p : Pair F (suc n) b) (env : Env) (k j : Env → Go) → ((e : Env) (w : World) → F.Holds b w (k e w) (j e w)) → (w : World) → F.Holds b w (Meaning.exec around calls (suc n) s p.left env k w) (Meaning.exec around dalls (suc m) s p.right env j w)
+      exec_holds (declare sites) {b} p env k j h w =
+          subst (λ c. F.Holds b w (Meaning.bear_zeros around p.left.call sites env k w) (Meaning.bear_zeros around c sites env j w)) p.same (zeros_hold sites p.left.call env k j h w)
       exec_holds (assign ls es) p env k j h w = ready_all_hold ls p env _ _ (λ those q. evs_hold es q env _ _ (λ vs. land_all_hold those vs p env k j h)) w
+      exec_holds (update at q op e) p env k j h w =
+          aim_holds q p env _ _ (λ a. settle_holds a _ _ (λ s u. noting F (ev_holds e (keeping F (read_at u s.variable s.path) p) env _ _ (λ x. or_panic_holds p env at (binary_of op (read_at u s.variable s.path) x) _ _ (λ y. write_holds s.variable s.path y _ _ (h env))) u))) w
+      exec_holds (bump q op) p env k j h w =
+          aim_holds q p env _ _ (λ a. settle_holds a _ _ (λ s u. noting F (or_panic_holds p env _ (binary_of op (read_at u s.variable s.path) (int (pos 1))) _ _ (λ y. write_holds s.variable s.path y _ _ (h env)) u))) w
       exec_holds (discard es) p env k j h w = evs_hold es p env _ _ (λ vs. h env) w
       exec_holds (block ss) p env k j h w = all_hold ss p env k j h w
       exec_holds (choose e a c) p env k j h w = ev_holds e p env _ _ (λ v u. turning F (when_holds (Meaning.is_true v) _ _ _ _ u (all_hold a p env k j h u) (all_hold c p env k j h u))) w
@@ -151,8 +192,17 @@ module _ (F : Family) where
           rounds_hold _ _ (λ c cb e k1 j1 h1. test_holds test (lower F p c cb) e k1 j1 h1) _ _
           (λ c cb v e k1 j1 h1. around_hold _ _ _ _ sites (record { by = all_hold body }) (record { by = all_hold post }) (lower F p c cb) _ _ (λ e1 u. F.fewer c _ u _ _ cb (outside_holds k j h v e1 u)) v e k1 j1 h1)
           _ _ (outside_holds k j h) (suc n) (suc m) (omega arith) _ (omega arith) p.within (length w.store - length sites) env w
+      exec_holds (range over key value body) p env k j h w =
+          begin_holds over p env _ _ (λ x q u. counted_holds _ _
+          (λ c cb i v e k1 j1 h1. round_holds key _ _ i (record { by = all_hold body }) (lower F q c cb) _ _ (λ y e1 z. F.fewer c _ z _ _ cb (outside_holds k j h y e1 z)) v e k1 j1 h1)
+          _ _ (outside_holds k j h) (suc n) (suc m) (omega arith) _ (omega arith) p.within 0 x (length u.store) env u) w
+      exec_holds break_off p env k j h w = turning F (p.hold.broken env w)
+      exec_holds go_on p env k j h w = turning F (p.hold.continued env w)
       exec_holds (give_back es) p env k j h w = evs_hold es p env _ _ (λ vs. p.hold.returned vs env) w
       exec_holds (print ln ps) p env k j h w = pieces_hold ps p env _ _ (λ bs. emit_holds ln bs _ _ (h env)) w
+      exec_holds (raise at (text number)) p env k j h w = turning F (p.hold.panicked at _ env w)
+      exec_holds (raise at (shown t e)) p env k j h w = ev_holds e p env _ _ (λ v u. turning F (p.hold.panicked at _ env u)) w
+      exec_holds (quit at e) p env k j h w = ev_holds e p env _ _ (λ v u. turning F (quit_holds (Meaning.int_of v) p env at u)) w
 
       all_hold : (ss : Sts) {b : ℕ} (p : Pair F (suc n) b) (env : Env) (k j : Env → Go) → ((e : Env) (w : World) → F.Holds b w (k e w) (j e w)) → (w : World) → F.Holds b w (Meaning.exec_all around calls (suc n) ss p.left env k w) (Meaning.exec_all around dalls (suc m) ss p.right env j w)
       all_hold done p env k j h w = seeing F (h env w)
@@ -163,10 +213,6 @@ module _ (F : Family) where
     params_hold (p ∷ ps) [] entry env k j h w = h env w
     params_hold (None ∷ ps) (v ∷ vs) entry env k j h w = params_hold ps vs entry env k j h w
     params_hold (Some site ∷ ps) (v ∷ vs) entry env k j h w = turning F (bear_holds around entry site v _ _ (λ x. params_hold ps vs entry (Meaning.with_home env site x) k j h) w)
-
-    zeros_hold : (sites : List ℕ) {b : ℕ} (entry : ℕ) (env : Env) (k j : Env → Go) → ((e : Env) (w : World) → F.Holds b w (k e w) (j e w)) → (w : World) → F.Holds b w (Meaning.bear_zeros around entry sites env k w) (Meaning.bear_zeros around entry sites env j w)
-    zeros_hold [] entry env k j h w = h env w
-    zeros_hold (site ∷ sites) entry env k j h w = turning F (bear_holds around entry site _ _ _ (λ x. zeros_hold sites entry (Meaning.with_home env site x) k j h) w)
 
   writes_hold : (sites : List ℕ) (vs : List Value) {b : ℕ} (env : Env) (g h : Go) → ((w : World) → F.Holds b w (g w) (h w)) → (w : World) → F.Holds b w (Meaning.write_results sites vs env g w) (Meaning.write_results sites vs env h w)
   writes_hold [] vs env g h all w = all w
@@ -199,8 +245,8 @@ module _ (F : Family) where
   globals_hold around [] g h all w = all w
   globals_hold around ((site, v) ∷ gs) g h all w = bear_holds around 0 site v _ _ (λ x. globals_hold around gs g h all) w
 
-  pub whole_holds : (item : List ℕ → Answer) (p : Program) (n m : ℕ) → n ≤ m → (w : World) → F.Holds n w (Meaning.whole item p n w) (Meaning.whole item p m w)
-  whole_holds item p n m le w =
-      globals_hold (Meaning.setting_of item p) p.globals _ _ ((calls_hold (Meaning.setting_of item p) p.funcs n m le).by p.main [] Meaning.at_top Meaning.at_top (λ x. 0) n (omega arith)
+  pub whole_holds : (items : ℕ → Item) (p : Program) (n m : ℕ) → n ≤ m → (w : World) → F.Holds n w (Meaning.whole items p n w) (Meaning.whole items p m w)
+  whole_holds items p n m le w =
+      globals_hold (Meaning.setting_of items p) p.globals _ _ ((calls_hold (Meaning.setting_of items p) p.funcs n m le).by p.main [] Meaning.at_top Meaning.at_top (λ x. 0) n (omega arith)
       (record { broken = λ e u. F.ends n u (Exit 0); continued = λ e u. F.ends n u (Exit 0); returned = λ vs e u. F.ends n u (Exit 0); panicked = λ at f e u. F.ends n u (Panic at f) })
       _ _ (λ rs u. F.ends n u (Exit 0))) w

@@ -4,11 +4,11 @@ use Rattle.std.specs.Prelude.{nat_le, if◌then◌else◌}
 use Rattle.std.proofs.lemmas.Bool.{cases_lt}
 use Rattle.simulation.specs.Outcome as Run
 use Rattle.simulation.specs.Outcome.{Lines, Outcome, Gives, Ends, Unfinished, upto, ending_in}
-use Rattle.meaning.specs.Trace.{Entry, Call, Return, Born, Read, Write, Print, Ending, Turns, StackLimit, World, Mark, state, entered, ended, copied, Trace, Turn, Note, Seen, End, Cut}
+use Rattle.meaning.specs.Trace.{Entry, Call, Return, Born, Read, Write, Print, Asked, Ending, Turns, StackLimit, World, Mark, state, entered, ended, copied, Trace, Turn, Note, Seen, End, Cut}
 use Rattle.meaning.specs.Meaning.{whole, beginning, trace}
-use Rattle.meaning.specs.Output.{Limits, used_by, tail_of, out, output}
-use Rattle.meaning.specs.Journal.{entries, entries_within, journal_in, ending_of, meaning_of, printed}
-use Rattle.meaning.specs.Laws.{Begins, Extends, LongerRunsExtend, LongerCappedExtend, FuelIsEnough, settled, Shows, SourceShowsJournal, Under, Fuelled, Later, IsOther, Always, OnlyLater, VariablesStay}
+use Rattle.meaning.specs.Output.{Limits, used_by, tail_of, Sight, out, output}
+use Rattle.meaning.specs.Journal.{entries, entries_within, with_entry, journal_in, bytes_in, with_ask, asks_in, ending_of, meaning_of, printed}
+use Rattle.meaning.specs.Laws.{Begins, Extends, LongerRunsExtend, LongerCappedExtend, LongerSourcesExtend, FuelIsEnough, settled, Shows, SourceShowsJournal, Under, Fuelled, Later, IsOther, Always, OnlyLater, VariablesStay}
 use Rattle.meaning.proofs.Later.{later_same, later_trans}
 use Rattle.meaning.proofs.Family.{Family}
 use Rattle.meaning.proofs.Holding.{whole_holds}
@@ -85,13 +85,16 @@ fuelled_same n (End e) (Seen x t) f h = absurd h
 fuelled_same n (End e) Cut f h = absurd h
 
 pub fuel_is_enough : FuelIsEnough
-fuel_is_enough item p input n k =
-    let h = whole_holds lasting item p (suc n) (suc n + k) (omega arith) (beginning input) in
-    fuelled_same n (whole item p (suc n) (beginning input)) (whole item p (suc n + k) (beginning input)) h.1 h.0
+fuel_is_enough items p n k =
+    let h = whole_holds lasting items p (suc n) (suc n + k) (omega arith) beginning in
+    fuelled_same n (whole items p (suc n) beginning) (whole items p (suc n + k) beginning) h.1 h.0
 
 -- the first shows what the second shows, or stops earlier
 abbrev Below : Outcome Entry Ending → Outcome Entry Ending → Type 0
 Below o p = Run.Below (λ x y. x ≡ y) (λ x y. x ≡ y) o p
+
+abbrev BelowShown : Outcome Sight Ending → Outcome Sight Ending → Type 0
+BelowShown o p = Run.Below (λ x y. x ≡ y) (λ x y. x ≡ y) o p
 
 -- more turns, and more fuel
 under_below : (n m : ℕ) → n ≤ m → (s t : Trace) → Under s t → Below (upto n (entries s)) (upto m (entries t))
@@ -127,6 +130,7 @@ module _ (l : Limits) where
   within_note n m (Read v path k) s t h calls = (refl, h calls)
   within_note n m (Write v path k) s t h calls = (refl, h calls)
   within_note n m (Print bytes) s t h calls = (refl, h calls)
+  within_note n m Asked s t h calls = (refl, h calls)
   within_note n m (Call f) s t h calls =
       let cut : Lines Entry Ending = Run.End (StackLimit (used_by l calls) (l.frame f) l.stack_max) in
       elim (nat_le (used_by l calls + l.frame f) l.stack_max) as (λ o. Below (upto n (if o then Run.Line (Call f) (entries_within l (f ∷ calls) s) else cut)) (upto m (if o then Run.Line (Call f) (entries_within l (f ∷ calls) t) else cut)))
@@ -158,6 +162,45 @@ module _ (l : Limits) where
   within_below n m le (End e) (Seen x t) h calls = absurd h
   within_below n m le (End e) Cut h calls = absurd h
 
+  -- what a source shows
+  out_note : (n m : ℕ) (x : Entry) (s t : Trace) → ((calls : List ℕ) → BelowShown (upto n (out l calls s)) (upto m (out l calls t))) → (calls : List ℕ) → BelowShown (upto n (out l calls (Note x s))) (upto m (out l calls (Note x t)))
+  out_note n m Return s t h calls = h (tail_of calls)
+  out_note n m (Born site k) s t h calls = h calls
+  out_note n m (Read v path k) s t h calls = h calls
+  out_note n m (Write v path k) s t h calls = h calls
+  out_note n m (Print bytes) s t h calls = (refl, h calls)
+  out_note n m Asked s t h calls = (refl, h calls)
+  out_note n m (Call f) s t h calls =
+      let cut : Lines Sight Ending = Run.End (StackLimit (used_by l calls) (l.frame f) l.stack_max) in
+      elim (nat_le (used_by l calls + l.frame f) l.stack_max) as (λ o. BelowShown (upto n (if o then out l (f ∷ calls) s else cut)) (upto m (if o then out l (f ∷ calls) t else cut)))
+      [ true ↦ h (f ∷ calls) | false ↦ refl ]
+
+  out_below : (n m : ℕ) → n ≤ m → (s t : Trace) → Under s t → (calls : List ℕ) → BelowShown (upto n (out l calls s)) (upto m (out l calls t))
+  out_below n m le Cut t h calls = tt
+  out_below zero m le (Turn s) (Turn t) h calls = tt
+  out_below (suc n) zero le (Turn s) (Turn t) h calls = absurd (omega arith)
+  out_below (suc n) (suc m) le (Turn s) (Turn t) h calls = out_below n m (omega arith) s t h calls
+  out_below n m le (End e) (End f) h calls = h
+  out_below n m le (Seen x s) (Seen y t) h calls = out_below n m le s t h calls
+  out_below n m le (Note x s) (Note y t) h calls =
+      subst (λ e. BelowShown (upto n (out l calls (Note x s))) (upto m (out l calls (Note e t)))) h.0 (out_note n m x s t (out_below n m le s t h.1) calls)
+  out_below n m le (Turn s) (Note x t) h calls = absurd h
+  out_below n m le (Turn s) (Seen x t) h calls = absurd h
+  out_below n m le (Turn s) (End e) h calls = absurd h
+  out_below n m le (Turn s) Cut h calls = absurd h
+  out_below n m le (Note x s) (Turn t) h calls = absurd h
+  out_below n m le (Note x s) (Seen y t) h calls = absurd h
+  out_below n m le (Note x s) (End e) h calls = absurd h
+  out_below n m le (Note x s) Cut h calls = absurd h
+  out_below n m le (Seen x s) (Turn t) h calls = absurd h
+  out_below n m le (Seen x s) (Note y t) h calls = absurd h
+  out_below n m le (Seen x s) (End e) h calls = absurd h
+  out_below n m le (Seen x s) Cut h calls = absurd h
+  out_below n m le (End e) (Turn t) h calls = absurd h
+  out_below n m le (End e) (Note x t) h calls = absurd h
+  out_below n m le (End e) (Seen x t) h calls = absurd h
+  out_below n m le (End e) Cut h calls = absurd h
+
   -- what is shown
   shows_note : (n : ℕ) (x : Entry) (t : Trace) → ((calls : List ℕ) → Shows (upto n (out l calls t)) (meaning_of (upto n (entries_within l calls t)))) → (calls : List ℕ) → Shows (upto n (out l calls (Note x t))) (meaning_of (upto n (entries_within l calls (Note x t))))
   shows_note n Return t h calls = record { printed = (h (tail_of calls)).printed; ending = (h (tail_of calls)).ending }
@@ -165,8 +208,9 @@ module _ (l : Limits) where
   shows_note n (Read v path k) t h calls = record { printed = (h calls).printed; ending = (h calls).ending }
   shows_note n (Write v path k) t h calls = record { printed = (h calls).printed; ending = (h calls).ending }
   shows_note n (Print bytes) t h calls = record { printed = ap (λ r. bytes ++ r) (h calls).printed; ending = (h calls).ending }
+  shows_note n Asked t h calls = record { printed = (h calls).printed; ending = (h calls).ending }
   shows_note n (Call f) t h calls =
-      let cut : Lines (List ℕ) Ending = Run.End (StackLimit (used_by l calls) (l.frame f) l.stack_max) in
+      let cut : Lines Sight Ending = Run.End (StackLimit (used_by l calls) (l.frame f) l.stack_max) in
       let cut' : Lines Entry Ending = Run.End (StackLimit (used_by l calls) (l.frame f) l.stack_max) in
       elim (nat_le (used_by l calls + l.frame f) l.stack_max) as (λ o. Shows (upto n (if o then out l (f ∷ calls) t else cut)) (meaning_of (upto n (if o then Run.Line (Call f) (entries_within l (f ∷ calls) t) else cut'))))
       [ true ↦ record { printed = (h (f ∷ calls)).printed; ending = (h (f ∷ calls)).ending } | false ↦ record { printed = refl; ending = refl } ]
@@ -180,9 +224,18 @@ module _ (l : Limits) where
   shows n (Note x t) calls = shows_note n x t (shows n t) calls
 
 pub source_shows_journal : SourceShowsJournal
-source_shows_journal item p l input n = shows l n (trace item p input n) []
+source_shows_journal items p l n = shows l n (trace items p n) []
 
 -- in the words of a reader
+entry_begins : (x : Entry) (es fs : List Entry) → Begins es fs → Begins (with_entry x es) (with_entry x fs)
+entry_begins (Call f) es fs r = (r.0, ap (λ l. Call f ∷ l) r.1)
+entry_begins Return es fs r = (r.0, ap (λ l. Return ∷ l) r.1)
+entry_begins (Born site n) es fs r = (r.0, ap (λ l. Born site n ∷ l) r.1)
+entry_begins (Read v path n) es fs r = (r.0, ap (λ l. Read v path n ∷ l) r.1)
+entry_begins (Write v path n) es fs r = (r.0, ap (λ l. Write v path n ∷ l) r.1)
+entry_begins (Print bytes) es fs r = (r.0, ap (λ l. Print bytes ∷ l) r.1)
+entry_begins Asked es fs r = r
+
 entries_begin : (o p : Outcome Entry Ending) → Below o p → Begins (journal_in o) (journal_in p)
 entries_begin Unfinished p h = (journal_in p, refl)
 entries_begin (Ends e) (Ends f) h = ([], refl)
@@ -191,8 +244,27 @@ entries_begin (Ends e) Unfinished h = absurd h
 entries_begin (Gives x o) (Ends f) h = absurd h
 entries_begin (Gives x o) Unfinished h = absurd h
 entries_begin (Gives x o) (Gives y p) h =
-    let r = entries_begin o p h.1 in
-    (r.0, ap (λ l. y ∷ l) r.1 ∙ ap (λ z. z ∷ (journal_in o ++ r.0)) (sym h.0))
+    subst (λ z. Begins (with_entry x (journal_in o)) (with_entry z (journal_in p))) h.0 (entry_begins x (journal_in o) (journal_in p) (entries_begin o p h.1))
+
+ask_begins : (x : Entry) (before : List ℕ) (es fs : List (List ℕ)) → Begins es fs → Begins (with_ask x before es) (with_ask x before fs)
+ask_begins (Call f) before es fs r = r
+ask_begins Return before es fs r = r
+ask_begins (Born site n) before es fs r = r
+ask_begins (Read v path n) before es fs r = r
+ask_begins (Write v path n) before es fs r = r
+ask_begins (Print bytes) before es fs r = r
+ask_begins Asked before es fs r = (r.0, ap (λ l. before ∷ l) r.1)
+
+asks_begin : (before : List ℕ) (o p : Outcome Entry Ending) → Below o p → Begins (asks_in before o) (asks_in before p)
+asks_begin before Unfinished p h = (asks_in before p, refl)
+asks_begin before (Ends e) (Ends f) h = ([], refl)
+asks_begin before (Ends e) (Gives x p) h = absurd h
+asks_begin before (Ends e) Unfinished h = absurd h
+asks_begin before (Gives x o) (Ends f) h = absurd h
+asks_begin before (Gives x o) Unfinished h = absurd h
+asks_begin before (Gives x o) (Gives y p) h =
+    let behind : List ℕ = before ++ bytes_in x in
+    subst (λ z. Begins (with_ask x before (asks_in behind o)) (with_ask z before (asks_in (before ++ bytes_in z) p))) h.0 (ask_begins x before (asks_in behind o) (asks_in behind p) (asks_begin behind o p h.1))
 
 kept_whole : (o p : Outcome Entry Ending) → Below o p → ending_of o ≢ Turns → p ≡ o
 kept_whole Unfinished p h q = absurd (q refl)
@@ -204,17 +276,22 @@ kept_whole (Gives x o) Unfinished h q = absurd h
 kept_whole (Gives x o) (Gives y p) h q = ap (λ z. Gives z p) (sym h.0) ∙ ap (Gives x) (kept_whole o p h.1 q)
 
 extends : (o p : Outcome Entry Ending) → Below o p → Extends (meaning_of o) (meaning_of p)
-extends o p h = record { journal = entries_begin o p h; kept = λ q. ap meaning_of (kept_whole o p h q) }
+extends o p h = record { journal = entries_begin o p h; asks = asks_begin [] o p h; kept = λ q. ap meaning_of (kept_whole o p h q) }
 
 pub longer_runs_extend : LongerRunsExtend
-longer_runs_extend item p input n m le =
-    let h = whole_holds lasting item p (suc n) (suc m) (omega arith) (beginning input) in
-    extends _ _ (under_below n m le (trace item p input n) (trace item p input m) h.0)
+longer_runs_extend items p n m le =
+    let h = whole_holds lasting items p (suc n) (suc m) (omega arith) beginning in
+    extends _ _ (under_below n m le (trace items p n) (trace items p m) h.0)
 
 pub longer_capped_extend : LongerCappedExtend
-longer_capped_extend item p l input n m le =
-    let h = whole_holds lasting item p (suc n) (suc m) (omega arith) (beginning input) in
-    extends _ _ (within_below l n m le (trace item p input n) (trace item p input m) h.0 [])
+longer_capped_extend items p l n m le =
+    let h = whole_holds lasting items p (suc n) (suc m) (omega arith) beginning in
+    extends _ _ (within_below l n m le (trace items p n) (trace items p m) h.0 [])
+
+pub longer_sources_extend : LongerSourcesExtend
+longer_sources_extend items p l n m le =
+    let h = whole_holds lasting items p (suc n) (suc m) (omega arith) beginning in
+    out_below l n m le (trace items p n) (trace items p m) h.0 []
 
 -- variables stay
 always_later : (w u : World) → Later w u → (t : Trace) → Always (Later u) t → Always (Later w) t
@@ -247,4 +324,4 @@ staying = record {
 }
 
 pub variables_stay : VariablesStay
-variables_stay item p input n = (whole_holds staying item p (suc n) (suc n) (omega arith) (beginning input)).1
+variables_stay items p n = (whole_holds staying items p (suc n) (suc n) (omega arith) beginning).1

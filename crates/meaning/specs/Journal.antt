@@ -3,8 +3,8 @@ use Rattle.std.specs.Prelude.{ℕ, ◌+◌, List, [], ◌∷◌, ◌++◌, nat_l
 use Rattle.typed.specs.Syntax.{Program}
 use Rattle.simulation.specs.Outcome as Run
 use Rattle.simulation.specs.Outcome.{Lines, Outcome, Gives, Ends, Unfinished, upto}
-use Rattle.meaning.specs.Trace.{Entry, Call, Return, Born, Read, Write, Print, Ending, Turns, StackLimit, Trace, Turn, Note, Seen, End, Cut}
-use Rattle.meaning.specs.Meaning.{Answer, trace}
+use Rattle.meaning.specs.Trace.{Entry, Call, Return, Born, Read, Write, Print, Asked, Ending, Turns, StackLimit, Trace, Turn, Note, Seen, End, Cut}
+use Rattle.meaning.specs.Meaning.{Item, trace}
 use Rattle.meaning.specs.Output.{Limits, used_by, tail_of}
 
 -- all entries of a trace
@@ -28,16 +28,43 @@ entries_within l calls (Note (Born site n) t) = Run.Line (Born site n) (entries_
 entries_within l calls (Note (Read v path n) t) = Run.Line (Read v path n) (entries_within l calls t)
 entries_within l calls (Note (Write v path n) t) = Run.Line (Write v path n) (entries_within l calls t)
 entries_within l calls (Note (Print bytes) t) = Run.Line (Print bytes) (entries_within l calls t)
+entries_within l calls (Note Asked t) = Run.Line Asked (entries_within l calls t)
 
--- a bounded run: its journal, and its ending
+-- a bounded run: its journal, the output before each call of `readInt`, and its ending
 pub record Meaning : Type 0 where
   pub journal : List Entry
+  pub asks : List (List ℕ)
   pub ending : Ending
 
+-- what an entry adds to the journal
+abbrev pub with_entry : Entry → List Entry → List Entry
+with_entry (Call f) es = Call f ∷ es
+with_entry Return es = Return ∷ es
+with_entry (Born site n) es = Born site n ∷ es
+with_entry (Read v path n) es = Read v path n ∷ es
+with_entry (Write v path n) es = Write v path n ∷ es
+with_entry (Print bytes) es = Print bytes ∷ es
+with_entry Asked es = es
+
 abbrev pub journal_in : Outcome Entry Ending → List Entry
-journal_in (Gives e o) = e ∷ journal_in o
+journal_in (Gives e o) = with_entry e (journal_in o)
 journal_in (Ends e) = []
 journal_in Unfinished = []
+
+-- the bytes that an entry prints
+abbrev pub bytes_in : Entry → List ℕ
+bytes_in (Print bytes) = bytes
+bytes_in e = []
+
+-- the output before each call of `readInt`, behind this output
+abbrev pub with_ask : Entry → List ℕ → List (List ℕ) → List (List ℕ)
+with_ask Asked before asks = before ∷ asks
+with_ask e before asks = asks
+
+abbrev pub asks_in : List ℕ → Outcome Entry Ending → List (List ℕ)
+asks_in before (Gives e o) = with_ask e before (asks_in (before ++ bytes_in e) o)
+asks_in before (Ends e) = []
+asks_in before Unfinished = []
 
 abbrev pub ending_of : Outcome Entry Ending → Ending
 ending_of (Gives e o) = ending_of o
@@ -45,22 +72,17 @@ ending_of (Ends e) = e
 ending_of Unfinished = Turns
 
 abbrev pub meaning_of : Outcome Entry Ending → Meaning
-meaning_of o = record { journal = journal_in o; ending = ending_of o }
+meaning_of o = record { journal = journal_in o; asks = asks_in [] o; ending = ending_of o }
 
 -- what a program does before turn n + 1
-abbrev pub mean : (List ℕ → Answer) → Program → List ℕ → ℕ → Meaning
-mean item p input n = meaning_of (upto n (entries (trace item p input n)))
+abbrev pub mean : (ℕ → Item) → Program → ℕ → Meaning
+mean items p n = meaning_of (upto n (entries (trace items p n)))
 
 -- the same under limits
-abbrev pub capped : (List ℕ → Answer) → Program → Limits → List ℕ → ℕ → Meaning
-capped item p l input n = meaning_of (upto n (entries_within l [] (trace item p input n)))
+abbrev pub capped : (ℕ → Item) → Program → Limits → ℕ → Meaning
+capped items p l n = meaning_of (upto n (entries_within l [] (trace items p n)))
 
 -- the bytes that are printed, joined
 abbrev pub printed : List Entry → List ℕ
 printed [] = []
-printed (Print bytes ∷ es) = bytes ++ printed es
-printed (Call f ∷ es) = printed es
-printed (Return ∷ es) = printed es
-printed (Born site n ∷ es) = printed es
-printed (Read v path n ∷ es) = printed es
-printed (Write v path n ∷ es) = printed es
+printed (e ∷ es) = bytes_in e ++ printed es

@@ -1,10 +1,10 @@
 -- What holds of every run.
 use Rattle.std.specs.Prelude.{◌≡◌, ◌≢◌, ℕ, zero, suc, ◌+◌, ◌≤◌, List, ◌++◌, Option, Some, None, map}
 use Rattle.typed.specs.Syntax.{Program}
-use Rattle.simulation.specs.Outcome.{Outcome, ending_in, upto}
+use Rattle.simulation.specs.Outcome.{Outcome, Below, ending_in, upto}
 use Rattle.meaning.specs.Trace.{Entry, Ending, Turns, World, Cell, Mark, state, entered, ended, copied, Trace, Turn, Note, Seen, End, Cut}
-use Rattle.meaning.specs.Meaning.{Answer, whole, beginning, trace}
-use Rattle.meaning.specs.Output.{Limits, source, output}
+use Rattle.meaning.specs.Meaning.{Item, whole, beginning, trace}
+use Rattle.meaning.specs.Output.{Limits, Sight, source, output}
 use Rattle.meaning.specs.Journal.{Meaning, entries, mean, capped, printed}
 
 -- a list begins with another
@@ -14,19 +14,24 @@ Begins {A} es fs = (gs : List A) × (fs ≡ es ++ gs)
 -- the meaning within more turns
 pub record Extends (short long : Meaning) : Type 0 where
   pub journal : Begins short.journal long.journal
+  pub asks : Begins short.asks long.asks
   pub kept : short.ending ≢ Turns → long ≡ short
 
 -- with more turns a journal only gains at its end, and an ending other than Turns is kept
 abbrev pub LongerRunsExtend : Type 0
-LongerRunsExtend = (item : List ℕ → Answer) (p : Program) (input : List ℕ) (n m : ℕ) → n ≤ m → Extends (mean item p input n) (mean item p input m)
+LongerRunsExtend = (items : ℕ → Item) (p : Program) (n m : ℕ) → n ≤ m → Extends (mean items p n) (mean items p m)
 
 -- the same under limits
 abbrev pub LongerCappedExtend : Type 0
-LongerCappedExtend = (item : List ℕ → Answer) (p : Program) (l : Limits) (input : List ℕ) (n m : ℕ) → n ≤ m → Extends (capped item p l input n) (capped item p l input m)
+LongerCappedExtend = (items : ℕ → Item) (p : Program) (l : Limits) (n m : ℕ) → n ≤ m → Extends (capped items p l n) (capped items p l m)
+
+-- what a source shows in fewer turns is what it shows in more, or it stops earlier
+abbrev pub LongerSourcesExtend : Type 0
+LongerSourcesExtend = (items : ℕ → Item) (p : Program) (l : Limits) (n m : ℕ) → n ≤ m → Below (λ x y. x ≡ y) (λ x y. x ≡ y) (source items p l n) (source items p l m)
 
 -- more fuel changes nothing, so a run that ends by Turns has met a turn that it could not take
 abbrev pub FuelIsEnough : Type 0
-FuelIsEnough = (item : List ℕ → Answer) (p : Program) (input : List ℕ) (n k : ℕ) → upto n (entries (trace item p input n)) ≡ upto n (entries (whole item p (suc n + k) (beginning input)))
+FuelIsEnough = (items : ℕ → Item) (p : Program) (n k : ℕ) → upto n (entries (trace items p n)) ≡ upto n (entries (whole items p (suc n + k) beginning))
 
 -- an ending, where there is one
 abbrev pub settled : Option Ending → Ending
@@ -34,12 +39,12 @@ settled None = Turns
 settled (Some e) = e
 
 -- what a source shows to those outside is what the journal under limits prints, with the same ending
-pub record Shows (o : Outcome (List ℕ) Ending) (m : Meaning) : Type 0 where
+pub record Shows (o : Outcome Sight Ending) (m : Meaning) : Type 0 where
   pub printed : output o ≡ printed m.journal
   pub ending : settled (ending_in o) ≡ m.ending
 
 abbrev pub SourceShowsJournal : Type 0
-SourceShowsJournal = (item : List ℕ → Answer) (p : Program) (l : Limits) (input : List ℕ) (n : ℕ) → Shows (source item p l input n) (capped item p l input n)
+SourceShowsJournal = (items : ℕ → Item) (p : Program) (l : Limits) (n : ℕ) → Shows (source items p l n) (capped items p l n)
 
 -- the first trace is the second, or its fuel is out earlier; marks are not compared
 abbrev pub Under : Trace → Trace → Type 0
@@ -97,4 +102,4 @@ OnlyLater Cut = Unit {0}
 
 -- no variable dies or moves
 abbrev pub VariablesStay : Type 0
-VariablesStay = (item : List ℕ → Answer) (p : Program) (input : List ℕ) (n : ℕ) → OnlyLater (trace item p input n)
+VariablesStay = (items : ℕ → Item) (p : Program) (n : ℕ) → OnlyLater (trace items p n)

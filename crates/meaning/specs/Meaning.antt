@@ -1,10 +1,10 @@
 -- What a typed program does.
-use Rattle.std.specs.Prelude.{ℕ, zero, suc, ◌-◌, ℤ, Bool, true, false, List, [], ◌∷◌, ◌++◌, length, Option, Some, None, Result, Ok, Err, get_or, slice_get, if◌then◌else◌, nat_eq}
+use Rattle.std.specs.Prelude.{ℕ, zero, suc, ◌-◌, ℤ, pos, negsuc, Bool, true, false, List, [], ◌∷◌, ◌++◌, length, Option, Some, None, Result, Ok, Err, get_or, slice_get, if◌then◌else◌, nat_eq, nat_lt}
 use Rattle.std.specs.Fmt.{signed_decimal}
 use Rattle.base.specs.declared.pos.Pos.{Pos}
 use Rattle.typed.specs.Value.{Value, int, bool, words}
-use Rattle.typed.specs.Syntax.{Ex, Exs, Pl, Steps, Left, Piece, St, Sts, Func, Program, constant, read, unary, binary, call, none, more, results, local, here, blank, new, to, shown, assign, discard, block, choose, loop, give_back, print, done, next}
-use Rattle.meaning.specs.Trace.{Entry, Call, Return, Born, Read, Write, Print, Fault, Ending, Exit, Panic, World, Cell, Mark, state, entered, ended, copied, Trace, Turn, Note, Seen, End, Cut}
+use Rattle.typed.specs.Syntax.{Ex, Exs, Pl, Steps, Left, Piece, Over, St, Sts, Func, Program, constant, read, unary, binary, both, either, call, none, more, results, asked, local, here, blank, new, to, text, shown, over_int, declare, assign, update, bump, discard, block, choose, loop, range, break_off, go_on, give_back, print, raise, quit, done, next}
+use Rattle.meaning.specs.Trace.{Entry, Call, Return, Born, Read, Write, Print, Asked, Fault, exit_code, raised_text, raised, Ending, Exit, Panic, World, Cell, Mark, state, entered, ended, copied, Trace, Turn, Note, Seen, End, Cut}
 use Rattle.meaning.specs.Store.{no_value, read_at, written, born}
 use Rattle.meaning.specs.Operators.{unary_of, binary_of}
 
@@ -40,18 +40,17 @@ pub record Ways : Type 0 where
 abbrev pub Calls : Type 0
 Calls = ℕ → List Value → Ways → Env → Then (List Value) → Go
 
--- an answer of the reading of an item
-pub record Answer : Type 0 where
-  pub value : ℤ
-  pub is_good : Bool
-  pub rest : List ℕ
+-- what `readInt` finds: the item's number where it is good, and else nothing
+abbrev pub Item : Type 0
+Item = Option ℤ
 
--- what a run takes from around the function: the zero value of each type, the type of each site, and how an item of
--- the input is read
+-- what a run takes from around the function: the zero value of each type, the type of each site, the bytes of each string,
+-- and the items of the input in order, without an end
 pub record Setting : Type 0 where
   pub zeros : List Value
   pub sites : List ℕ
-  pub next_item : List ℕ → Answer
+  pub strings : List (List ℕ)
+  pub items : ℕ → Item
 
 -- the primitives; nothing else names a state
 
@@ -93,6 +92,15 @@ new_cell around entry site x = record { site = site; call = entry; type = get_or
 -- a new variable of a site, in the call with this number
 abbrev pub bear : Setting → (entry site : ℕ) → Value → Then ℕ → Go
 bear around entry site x k w = Note (Born site (words x)) (k (length w.store) (born w (new_cell around entry site x)))
+
+-- the two results of `readInt`
+abbrev pub item_values : Item → List Value
+item_values None = int (pos 0) ∷ bool false ∷ []
+item_values (Some z) = int z ∷ bool true ∷ []
+
+-- the next item is read
+abbrev pub ask : Setting → Then (List Value) → Go
+ask around k w = Note Asked (k (item_values (around.items w.reads)) (record { store = w.store; reads = suc w.reads }))
 
 -- what stands above these
 
@@ -171,12 +179,15 @@ module _ (around : Setting) (calls : Calls) where
     ev (read p) ws env k = aim p ws env (λ a. settle a (λ q. read_part q.variable q.path (give ws k)))
     ev (unary op e) ws env k = ev e ws env (λ v. turn (give ws k (unary_of op v)))
     ev (binary at op a b) ws env k = ev a ws env (λ v. ev b (holding ws v) env (λ u. turn (or_panic ws env at (binary_of op v u) (give ws k))))
+    ev (both a b) ws env k = ev a ws env (λ v. turn (branch v (ev b ws env k) (give ws k (bool false))))
+    ev (either a b) ws env k = ev a ws env (λ v. turn (branch v (give ws k (bool true)) (ev b ws env k)))
     ev (call f es) ws env k = evs es ws env (λ vs. turn (calls f vs ws env (λ rs. give ws k (only_value rs))))
 
     pub evs : Exs → Ways → Env → Then (List Value) → Go
     evs none ws env k = k []
     evs (more e es) ws env k = ev e ws env (λ v. evs es (holding ws v) env (λ vs. k (v ∷ vs)))
     evs (results f es) ws env k = evs es ws env (λ vs. turn (calls f vs ws env (give_all ws k)))
+    evs asked ws env k = turn (ask around (give_all ws k))
 
 -- a left side whose operands are known
 pub data Landing : Type 0 where
@@ -215,6 +226,14 @@ module _ (around : Setting) where
   land_all (l ∷ ls) [] ws env k = k env
   land_all (l ∷ ls) (v ∷ vs) ws env k = land l v ws env (λ env1. land_all ls vs ws env1 k)
 
+-- new variables with the zero values of their types
+abbrev pub zero_of : Setting → ℕ → Value
+zero_of around site = get_or around.zeros (get_or around.sites site 0) no_value
+
+abbrev pub bear_zeros : Setting → (entry : ℕ) → List ℕ → Env → (Env → Go) → Go
+bear_zeros around entry [] env k = k env
+bear_zeros around entry (site ∷ sites) env k = turn (bear around entry site (zero_of around site) (λ x. bear_zeros around entry sites (with_home env site x) k))
+
 -- printed pieces
 abbrev pub shown_bytes : Value → List ℕ
 shown_bytes (int z) = signed_decimal z
@@ -242,7 +261,8 @@ emit false bs g = emit_plain bs g
 module _ (around : Setting) (calls : Calls) where
   abbrev pub pieces : List Piece → Ways → Env → Then (List (List ℕ)) → Go
   pieces [] ws env k = k []
-  pieces (shown e ∷ ps) ws env k = ev around calls e ws env (λ v. pieces ps (holding ws v) env (λ r. k (shown_bytes v ∷ r)))
+  pieces (text number ∷ ps) ws env k = pieces ps ws env (λ r. k (get_or around.strings number [] ∷ r))
+  pieces (shown t e ∷ ps) ws env k = ev around calls e ws env (λ v. pieces ps (holding ws v) env (λ r. k (shown_bytes v ∷ r)))
 
   -- without a condition none is evaluated and no turn is taken
   abbrev pub test_of : Option Ex → Ways → Env → Then Value → Go
@@ -259,6 +279,12 @@ abbrev pub rounds : ℕ → (Env → Then Value → Go) → (ℕ → Env → (�
 rounds zero test body k n env = no_fuel
 rounds (suc fuel) test body k n env = test env (λ v. branch v (body n env (λ n1 env1. turn (rounds fuel test body k n1 env1))) (k n env))
 
+-- the rounds of `range`: which round, and how many are left
+abbrev pub counted : ℕ → ℕ → ℕ → (ℕ → ℕ → Env → (ℕ → Env → Go) → Go) → (ℕ → Env → Go) → ℕ → Env → Go
+counted zero i left body k n env = no_fuel
+counted (suc fuel) i zero body k n env = turn (k n env)
+counted (suc fuel) i (suc left) body k n env = turn (body i n env (λ n1 env1. turn (counted fuel (suc i) left body k n1 env1)))
+
 -- a body, which goes on by `again` at its end and at `continue`, and by `out` at `break`
 abbrev pub in_loop : (Ways → Env → (Env → Go) → Go) → Ways → (out again : Env → Go) → Env → Go
 in_loop body ws out again env = body (record { broken = out; continued = again; returned = ws.returned; panicked = ws.panicked; held = ws.held; call = ws.call }) env again
@@ -271,36 +297,72 @@ outside k n env = mark (ended n) (k env)
 abbrev pub to_next : Setting → ℕ → List ℕ → (Ways → Env → (Env → Go) → Go) → Ways → (ℕ → Env → Go) → Env → Go
 to_next around n sites post ws j env = mark (ended n) (births (λ n1. renew around ws.call sites env (λ env1. post ws env1 (j n1))))
 
+-- from the end of a body to the next round of `range`
+abbrev pub to_next_count : ℕ → (ℕ → Env → Go) → Env → Go
+to_next_count n j env = mark (ended n) (births (λ n1. j n1 env))
+
+-- how many rounds a number makes
+abbrev pub count_of : Value → ℕ
+count_of (int (pos n)) = n
+count_of v = 0
+
+abbrev pub int_of : Value → ℤ
+int_of (int z) = z
+int_of (bool b) = pos 0
+
+-- `exit`: a status from 0 to 125
+abbrev pub quit_with : Ways → Env → Pos → ℤ → Go
+quit_with ws env at (pos n) = when (nat_lt n 126) (stop (Exit n)) (ws.panicked at (exit_code (pos n)) env)
+quit_with ws env at (negsuc n) = ws.panicked at (exit_code (negsuc n)) env
+
+-- where no panic can be
+abbrev pub no_pos : Pos
+no_pos = record { offset = 0; line = 0; col = 0 }
+
 module _ (around : Setting) (calls : Calls) (fuel : ℕ) where
+  -- how many rounds, and the ways in which what is gone over is held
+  abbrev pub begin_range : Over → Ways → Env → (ℕ → Ways → Go) → Go
+  begin_range (over_int e) ws env k = ev around calls e ws env (λ v. turn (k (count_of v) (holding ws v)))
+
+  -- one round: the left side's operands, the left side, the body
+  abbrev pub range_round : Left → (Ways → Env → (Env → Go) → Go) → Ways → (ℕ → Env → Go) → ℕ → ℕ → Env → (ℕ → Env → Go) → Go
+  range_round key body ws out i n env j =
+      ready around calls key ws env (λ a. land around a (int (pos i)) ws env (λ env1. in_loop body ws (out n) (to_next_count n j) env1))
+
   abbrev mutual
     pub exec : St → Ways → Env → (Env → Go) → Go
+    exec (declare sites) ws env k = bear_zeros around ws.call sites env k
+    exec (update at p op e) ws env k =
+        aim around calls p ws env (λ a. settle a (λ q. read_part q.variable q.path (λ v. ev around calls e (holding ws v) env (λ u. or_panic ws env at (binary_of op v u) (λ x. write_part q.variable q.path x (k env))))))
+    exec (bump p op) ws env k =
+        aim around calls p ws env (λ a. settle a (λ q. read_part q.variable q.path (λ v. or_panic ws env no_pos (binary_of op v (int (pos 1))) (λ x. write_part q.variable q.path x (k env)))))
     exec (assign ls es) ws env k = ready_all around calls ls ws env (λ those ws1. evs around calls es ws1 env (λ vs. land_all around those vs ws env k))
     exec (discard es) ws env k = evs around calls es ws env (λ vs. k env)
     exec (block ss) ws env k = exec_all ss ws env k
     exec (choose e a b) ws env k = ev around calls e ws env (λ v. turn (branch v (exec_all a ws env k) (exec_all b ws env k)))
     exec (loop sites test post body) ws env k =
         births (λ n. rounds fuel (test_of around calls test ws) (λ n1 env1 j. in_loop (exec_all body) ws (outside k n1) (to_next around n1 sites (exec_all post) ws j) env1) (outside k) (n - length sites) env)
+    exec (range over key value body) ws env k =
+        begin_range over ws env (λ n ws1. births (λ m. counted fuel 0 n (range_round key (exec_all body) ws1 (outside k)) (outside k) m env))
+    exec break_off ws env k = turn (ws.broken env)
+    exec go_on ws env k = turn (ws.continued env)
     exec (give_back es) ws env k = evs around calls es ws env (λ vs. ws.returned vs env)
     exec (print ln ps) ws env k = pieces around calls ps ws env (λ bs. emit ln bs (k env))
+    exec (raise at (text number)) ws env k = turn (ws.panicked at (raised_text (get_or around.strings number [])) env)
+    exec (raise at (shown t e)) ws env k = ev around calls e ws env (λ v. turn (ws.panicked at (raised v) env))
+    exec (quit at e) ws env k = ev around calls e ws env (λ v. turn (quit_with ws env at (int_of v)))
 
     pub exec_all : Sts → Ways → Env → (Env → Go) → Go
     exec_all done ws env k = see ws.held (k env)
     exec_all (next s ss) ws env k = see ws.held (exec s ws env (λ env1. exec_all ss ws env1 k))
 
--- a function's parameters with names, and its results with names, at its entry
+-- a function's parameters with names, at its entry
 module _ (around : Setting) where
   abbrev pub bear_params : (entry : ℕ) → List (Option ℕ) → List Value → Env → (Env → Go) → Go
   bear_params entry [] vs env k = k env
   bear_params entry (p ∷ ps) [] env k = k env
   bear_params entry (None ∷ ps) (v ∷ vs) env k = bear_params entry ps vs env k
   bear_params entry (Some site ∷ ps) (v ∷ vs) env k = turn (bear around entry site v (λ x. bear_params entry ps vs (with_home env site x) k))
-
-  abbrev pub zero_of : ℕ → Value
-  zero_of site = get_or around.zeros (get_or around.sites site 0) no_value
-
-  abbrev pub bear_zeros : (entry : ℕ) → List ℕ → Env → (Env → Go) → Go
-  bear_zeros entry [] env k = k env
-  bear_zeros entry (site ∷ sites) env k = turn (bear around entry site (zero_of site) (λ x. bear_zeros entry sites (with_home env site x) k))
 
 -- a return, with values or without: results with names are written, then read
 abbrev pub write_results : List ℕ → List Value → Env → Go → Go
@@ -339,20 +401,20 @@ abbrev pub bear_globals : Setting → List (ℕ × Value) → Go → Go
 bear_globals around [] g = g
 bear_globals around ((site, v) ∷ gs) g = bear around 0 site v (λ x. bear_globals around gs g)
 
-abbrev pub setting_of : (List ℕ → Answer) → Program → Setting
-setting_of item p = record { zeros = p.zeros; sites = p.sites; next_item = item }
+abbrev pub setting_of : (ℕ → Item) → Program → Setting
+setting_of items p = record { zeros = p.zeros; sites = p.sites; strings = p.strings; items = items }
 
 -- around `main`: a panic ends the run
 abbrev pub at_top : Ways
 at_top = record { broken = λ env. stop (Exit 0); continued = λ env. stop (Exit 0); returned = λ vs env. stop (Exit 0); panicked = λ at f env. stop (Panic at f); held = []; call = 0 }
 
 -- the package variables are born, and main runs, with so much fuel
-abbrev pub whole : (List ℕ → Answer) → Program → ℕ → Go
-whole item p fuel = bear_globals (setting_of item p) p.globals (call_at (setting_of item p) p.funcs fuel p.main [] at_top (λ x. 0) (λ rs. stop (Exit 0)))
+abbrev pub whole : (ℕ → Item) → Program → ℕ → Go
+whole items p fuel = bear_globals (setting_of items p) p.globals (call_at (setting_of items p) p.funcs fuel p.main [] at_top (λ x. 0) (λ rs. stop (Exit 0)))
 
-abbrev pub beginning : List ℕ → World
-beginning input = record { store = []; input = input }
+abbrev pub beginning : World
+beginning = record { store = []; reads = 0 }
 
--- what a program does within n turns
-abbrev pub trace : (List ℕ → Answer) → Program → List ℕ → ℕ → Trace
-trace item p input n = whole item p (suc n) (beginning input)
+-- what a program does within n turns, where these are the items of the input
+abbrev pub trace : (ℕ → Item) → Program → ℕ → Trace
+trace items p n = whole items p (suc n) beginning

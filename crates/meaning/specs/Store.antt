@@ -36,8 +36,8 @@ change (c ∷ cs) zero path x = with_value c (with_path c.value path x) ∷ cs
 change (c ∷ cs) (suc v) path x = c ∷ change cs v path x
 
 abbrev pub written : World → ℕ → List ℕ → Value → World
-written w v path x = record { store = change w.store v path x; input = w.input }
+written w v path x = record { store = change w.store v path x; reads = w.reads }
 
 -- one more variable
 abbrev pub born : World → Cell → World
-born w c = record { store = w.store ++ c ∷ []; input = w.input }
+born w c = record { store = w.store ++ c ∷ []; reads = w.reads }

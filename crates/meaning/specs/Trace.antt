@@ -1,5 +1,5 @@
 -- What a run gives: turns, entries of the journal, states and an end.
-use Rattle.std.specs.Prelude.{ℕ, List}
+use Rattle.std.specs.Prelude.{ℕ, ℤ, List}
 use Rattle.base.specs.declared.pos.Pos.{Pos}
 use Rattle.typed.specs.Value.{Value}
 
@@ -11,10 +11,17 @@ pub data Entry : Type 0 where
   Read : (variable : ℕ) (path : List ℕ) (words : ℕ) → Entry
   Write : (variable : ℕ) (path : List ℕ) (words : ℕ) → Entry
   Print : (bytes : List ℕ) → Entry
+  -- a call of `readInt`, which stands in no journal and marks the output before it
+  Asked : Entry
 
 -- why a program panics
 pub data Fault : Type 0 where
   divide_by_zero : Fault
+  shift_count : (count : ℤ) → Fault
+  exit_code : (code : ℤ) → Fault
+  -- `panic` with a string, and with a value
+  raised_text : (bytes : List ℕ) → Fault
+  raised : Value → Fault
 
 -- how a run ends; Turns where it would take a turn more than there are
 pub data Ending : Type 0 where
@@ -31,10 +38,10 @@ pub record Cell : Type 0 where
   pub type : ℕ
   pub value : Value
 
--- the variables by birth, none of which dies or moves, and the input's bytes left
+-- the variables by birth, none of which dies or moves, and how many items of the input were read
 pub record World : Type 0 where
   pub store : List Cell
-  pub input : List ℕ
+  pub reads : ℕ
 
 -- what is marked for the invariants
 pub data Mark : Type 0 where

@@ -1,6 +1,6 @@
 //! Laws of the meaning. Each function carries one as its clause, and does nothing.
 
-ghost use Rattle.meaning.specs.Laws.{FuelIsEnough, LongerCappedExtend, LongerRunsExtend, SourceShowsJournal, VariablesStay};
+ghost use Rattle.meaning.specs.Laws.{FuelIsEnough, LongerCappedExtend, LongerRunsExtend, LongerSourcesExtend, SourceShowsJournal, VariablesStay};
 
 /// A longer budget only extends the journal, and an ending other than by turns is kept.
 pub fn longer_runs_extend()
@@ -10,6 +10,11 @@ pub fn longer_runs_extend()
 /// The same under limits.
 pub fn longer_capped_extend()
     ensures { LongerCappedExtend }
+{}
+
+/// What a source shows in fewer turns is what it shows in more, or it stops earlier.
+pub fn longer_sources_extend()
+    ensures { LongerSourcesExtend }
 {}
 
 /// Only turns end a run early: more fuel changes nothing.

@@ -3,7 +3,7 @@
 //! The meaning is written in continuation form: `Go` is what goes on from a state of the world, a trace, and `Then A`
 //! is what goes on with something. The evaluator of an expression takes what follows the expression and gives what
 //! goes on where it stands. Only a few primitives (`turn`, `note`, `see`, `read_part`, `bear` and the like) name the
-//! world, which is the variables by birth and the input's bytes left; every form of syntax is one line above them. What
+//! world, which is the variables by birth and how many items of the input were read; every form of syntax is one line above them. What
 //! a statement can lead to besides going on is one record, `Ways`: behind its loop, to the next round, behind the call,
 //! and where a panic leads. The values that running evaluations hold go along in it.
 //!

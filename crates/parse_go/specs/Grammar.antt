@@ -1,6 +1,6 @@
 -- The grammar of declarations and whole texts [Go specification, Source file organization, Declarations and scope, Function
 -- declarations, Struct types]. In each relation the marks ts begin with those of the tree, and rest is left behind them.
-use Rattle.std.specs.Prelude.{◌≡◌, ℕ, suc, ◌≤◌, Bool, true, false, List, [], ◌∷◌, Option, Some, None}
+use Rattle.std.specs.Prelude.{◌≡◌, ℕ, suc, ◌≤◌, true, false, List, [], ◌∷◌, Option, Some, None}
 use Rattle.std.specs.List.{AllByRecursion}
 use Rattle.base.specs.declared.pos.Pos.{Pos}
 use Rattle.scan_go.specs.declared.token.Token.{Token}

@@ -1,10 +1,10 @@
 -- The parser of a whole text as a machine that takes one terminal at a time.
-use Rattle.std.specs.Prelude.{ℕ, Bool, true, false, List, [], ◌∷◌, ◌++◌, Option, Some, None}
+use Rattle.std.specs.Prelude.{ℕ, true, List, [], ◌∷◌, ◌++◌, Option, Some, None}
 use Rattle.base.specs.declared.pos.Pos.{Pos}
 use Rattle.syntax.specs.declared.expression.Name.{Name}
-use Rattle.syntax.specs.Expressions.{Ex, none, some}
+use Rattle.syntax.specs.Expressions.{none, some}
 use Rattle.syntax.specs.Statements.{ValueSpec, nil}
-use Rattle.syntax.specs.Declarations.{Parameters, unnamed, Body, Function, Declaration, constants, variables, types, function, File}
+use Rattle.syntax.specs.Declarations.{Parameters, unnamed, Body, Declaration, constants, variables, types, function, File}
 use Rattle.parse_expressions.specs.declared.terminal.Terminal.{Terminal}
 use Rattle.parse_expressions.specs.declared.terminal.Terminal.TheVariants.{Identifier, Package, Const, Var, «Type» as type_word, Func, Semicolon, LeftParen, LeftBrace}
 use Rattle.parse_expressions.specs.Machine.{Base, Open, at_type_operand}

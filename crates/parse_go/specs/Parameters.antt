@@ -1,5 +1,5 @@
 -- The parser of parameters or results in parentheses as a machine, from behind the opening one.
-use Rattle.std.specs.Prelude.{ℕ, Bool, true, false, List, [], ◌∷◌, ◌++◌}
+use Rattle.std.specs.Prelude.{ℕ, true, List, [], ◌∷◌, ◌++◌}
 use Rattle.syntax.specs.declared.expression.Name.{Name}
 use Rattle.syntax.specs.Expressions.{Ex, name, Exs, none, some}
 use Rattle.syntax.specs.Lists.{with_ex}

@@ -1,5 +1,5 @@
 -- The parser of declarations of struct types as a machine, from behind their word.
-use Rattle.std.specs.Prelude.{ℕ, suc, Bool, true, false, List, [], ◌∷◌, ◌++◌}
+use Rattle.std.specs.Prelude.{ℕ, suc, true, List, [], ◌∷◌, ◌++◌}
 use Rattle.syntax.specs.declared.expression.Name.{Name}
 use Rattle.syntax.specs.Expressions.{Ex}
 use Rattle.syntax.specs.Declarations.{Field, TypeSpec}

@@ -1,36 +1,77 @@
 -- What holds of each program that the checker gives.
-use Rattle.std.specs.Prelude.{◌≡◌, ◌⊎◌, ⊤, ℕ, suc, ◌+◌, ◌<◌, ◌≤◌, Bool, true, false, List, [], ◌∷◌, Option, Some, None, length, slice_get, ◌&&◌, FitsSigned}
+use Rattle.std.specs.Prelude.{◌≡◌, ◌⊎◌, ⊤, ℕ, suc, ◌+◌, ◌<◌, ◌≤◌, Bool, true, false, not, List, [], ◌∷◌, Option, Some, None, length, map, get_or, slice_get, ◌&&◌, ◌||◌, FitsSigned}
 use Rattle.std.specs.Int.{w64}
 use Rattle.typed.specs.declared.operators.BinOp.{BinOp}
-use Rattle.typed.specs.declared.operators.BinOp.TheVariants.{Add, Sub, Mul}
+use Rattle.typed.specs.declared.operators.BinOp.TheVariants.{Add, Sub, Equal, NotEqual, Less, LessEqual, Greater, GreaterEqual}
+use Rattle.typed.specs.declared.operators.UnOp.{UnOp}
+use Rattle.typed.specs.declared.operators.UnOp.TheVariants.{Not}
 use Rattle.typed.specs.Value.{Value, int, bool}
-use Rattle.typed.specs.Syntax.{Ex, Exs, Pl, Left, Piece, St, Sts, Func, Program, constant, read, unary, binary, call, local, none, more, results, blank, new, to, shown, assign, discard, block, choose, loop, give_back, print, done, next, argument_words, result_words, results_of}
+use Rattle.typed.specs.Syntax.{Ex, Exs, Pl, Left, Piece, Over, St, Sts, Func, Program, constant, read, unary, binary, both, either, call, local, none, more, results, blank, new, to, text, shown, over_int, declare, assign, update, bump, discard, block, choose, loop, range, break_off, go_on, give_back, print, raise, quit, done, next, int_type, bool_type, argument_words, result_words, results_of}
+use Rattle.typed.specs.View.{zero_values}
+
+-- ---- types
+
+-- a value of a type
+abbrev pub IsOf : ℕ → Value → Type 0
+IsOf t (int z) = t ≡ int_type
+IsOf t (bool b) = t ≡ bool_type
+
+-- values side by side
+abbrev pub AreOf : List ℕ → List Value → Type 0
+AreOf [] [] = Unit {0}
+AreOf (t ∷ ts) (v ∷ vs) = IsOf t v × AreOf ts vs
+AreOf ts vs = ⊥
+
+abbrev pub IsPlain : ℕ → Type 0
+IsPlain t = (t ≡ int_type) ⊎ (t ≡ bool_type)
+
+-- the type of a site
+abbrev pub site_type : Program → ℕ → ℕ
+site_type p site = get_or p.sites site int_type
+
+-- a constant is a number of 64 bits with a sign, or a truth value
+abbrev pub IsWord : Value → Type 0
+IsWord (int z) = FitsSigned w64 z
+IsWord (bool b) = ⊤
+
+-- an operator on two numbers that gives one
+abbrev pub IsArithmetic : BinOp → Type 0
+IsArithmetic Equal = ⊥
+IsArithmetic NotEqual = ⊥
+IsArithmetic Less = ⊥
+IsArithmetic LessEqual = ⊥
+IsArithmetic Greater = ⊥
+IsArithmetic GreaterEqual = ⊥
+IsArithmetic op = ⊤
+
+-- the type of an operator's operands, and of what it gives
+abbrev pub Takes : BinOp → (operands result : ℕ) → Type 0
+Takes Equal s t = t ≡ bool_type
+Takes NotEqual s t = t ≡ bool_type
+Takes Less s t = (s ≡ int_type) × (t ≡ bool_type)
+Takes LessEqual s t = (s ≡ int_type) × (t ≡ bool_type)
+Takes Greater s t = (s ≡ int_type) × (t ≡ bool_type)
+Takes GreaterEqual s t = (s ≡ int_type) × (t ≡ bool_type)
+Takes op s t = (s ≡ int_type) × (t ≡ int_type)
+
+abbrev pub TakesOne : UnOp → ℕ → Type 0
+TakesOne Not t = t ≡ bool_type
+TakesOne op t = t ≡ int_type
+
+-- the operators of `++` and `--`
+abbrev pub IsStep : BinOp → Type 0
+IsStep op = (op ≡ Add) ⊎ (op ≡ Sub)
+
+-- ---- scopes
 
 -- the sites whose variables can be named
 abbrev pub InScope : ℕ → List ℕ → Type 0
 InScope v [] = ⊥
 InScope v (u ∷ scope) = (v ≡ u) ⊎ InScope v scope
 
--- a constant is a number of 64 bits with a sign
-abbrev pub IsWord : Value → Type 0
-IsWord (int z) = FitsSigned w64 z
-IsWord v = ⊥
-
-abbrev pub PlFits : List ℕ → Pl → Type 0
-PlFits scope (local site steps) = InScope site scope
-
--- an operator gives a number, or a truth value
-abbrev pub IsArithmetic : BinOp → Type 0
-IsArithmetic Add = ⊤
-IsArithmetic Sub = ⊤
-IsArithmetic Mul = ⊤
-IsArithmetic op = ⊥
-
-abbrev pub IsComparison : BinOp → Type 0
-IsComparison Add = ⊥
-IsComparison Sub = ⊥
-IsComparison Mul = ⊥
-IsComparison op = ⊤
+abbrev pub AllInScope : List ℕ → List ℕ → Type 0
+AllInScope scope [] = Unit {0}
+AllInScope scope (site ∷ sites) = InScope site scope × AllInScope scope sites
 
 abbrev pub new_sites : List Left → ℕ
 new_sites [] = 0
@@ -41,13 +82,21 @@ new_sites (to p ∷ ls) = new_sites ls
 -- how many sites statements have
 abbrev mutual
   pub births : St → ℕ
+  births (declare sites) = length sites
   births (assign ls es) = new_sites ls
+  births (update at p op e) = 0
+  births (bump p op) = 0
   births (discard es) = 0
   births (block ss) = births_all ss
   births (choose e a b) = births_all a + births_all b
   births (loop sites test post body) = births_all post + births_all body
+  births (range over key value body) = new_sites (key ∷ value ∷ []) + births_all body
+  births break_off = 0
+  births go_on = 0
   births (give_back es) = 0
   births (print ln ps) = 0
+  births (raise at p) = 0
+  births (quit at e) = 0
 
   pub births_all : Sts → ℕ
   births_all done = 0
@@ -60,28 +109,43 @@ scope_behind scope (blank ∷ ls) = scope_behind scope ls
 scope_behind scope (new site ∷ ls) = scope_behind (site ∷ scope) ls
 scope_behind scope (to p ∷ ls) = scope_behind scope ls
 
+abbrev pub scope_with : List ℕ → List ℕ → List ℕ
+scope_with scope [] = scope
+scope_with scope (site ∷ sites) = scope_with (site ∷ scope) sites
+
 abbrev pub scope_after : List ℕ → St → List ℕ
+scope_after scope (declare sites) = scope_with scope sites
 scope_after scope (assign ls es) = scope_behind scope ls
 scope_after scope s = scope
 
--- m of n sites stand before; the next site is the next in the order of the text, and what is there already is in scope
-abbrev pub LeftsFit : List ℕ → (m n : ℕ) → List Left → Type 0
-LeftsFit scope m n [] = Unit {0}
-LeftsFit scope m n (blank ∷ ls) = LeftsFit scope m n ls
-LeftsFit scope m n (new site ∷ ls) = (site ≡ m) × (m < n) × LeftsFit scope (suc m) n ls
-LeftsFit scope m n (to p ∷ ls) = PlFits scope p × LeftsFit scope m n ls
+-- m of n sites stand before; the next sites are the next ones in the order of the text
+abbrev pub SitesNext : (m n : ℕ) → List ℕ → Type 0
+SitesNext m n [] = Unit {0}
+SitesNext m n (site ∷ sites) = (site ≡ m) × (m < n) × SitesNext (suc m) n sites
 
--- Whether nothing can go on behind a statement: a terminating statement [Go specification, Terminating statements].
+-- ---- terminating statements [Go specification, Terminating statements]
+
+-- whether a `break` leaves the loop around a statement
+abbrev mutual
+  pub breaks : St → Bool
+  breaks break_off = true
+  breaks (block ss) = breaks_all ss
+  breaks (choose e a b) = breaks_all a || breaks_all b
+  breaks s = false
+
+  pub breaks_all : Sts → Bool
+  breaks_all done = false
+  breaks_all (next s ss) = breaks s || breaks_all ss
+
+-- whether nothing can go on behind a statement
 abbrev mutual
   pub ends : St → Bool
-  ends (assign ls es) = false
-  ends (discard es) = false
   ends (block ss) = ends_all ss
   ends (choose e a b) = ends_all a && ends_all b
-  ends (loop sites None post body) = true
-  ends (loop sites (Some e) post body) = false
+  ends (loop sites None post body) = not (breaks_all body)
   ends (give_back es) = true
-  ends (print ln ps) = false
+  ends (raise at p) = true
+  ends s = false
 
   -- the last statement decides
   pub ends_all : Sts → Bool
@@ -89,70 +153,92 @@ abbrev mutual
   ends_all (next s done) = ends s
   ends_all (next s (next r rs)) = ends_all (next r rs)
 
-module _ (fs : List Func) where
-  -- how many values there are
-  abbrev pub values_of : Exs → ℕ
-  values_of none = 0
-  values_of (more e es) = 1 + values_of es
-  values_of (results f es) = results_of fs f
+-- ---- what fits in a program
 
-  -- expressions that give numbers; a call has as many values as its function has parameters
+module _ (p : Program) where
+  abbrev pub PlFits : List ℕ → ℕ → Pl → Type 0
+  PlFits scope t (local site steps) = InScope site scope × (site_type p site ≡ t)
+
+  -- left sides for values of these types
+  abbrev pub LeftsFit : List ℕ → (m n : ℕ) → List ℕ → List Left → Type 0
+  LeftsFit scope m n [] [] = Unit {0}
+  LeftsFit scope m n (t ∷ ts) (blank ∷ ls) = LeftsFit scope m n ts ls
+  LeftsFit scope m n (t ∷ ts) (new site ∷ ls) = (site ≡ m) × (m < n) × (site_type p site ≡ t) × LeftsFit scope (suc m) n ts ls
+  LeftsFit scope m n (t ∷ ts) (to q ∷ ls) = PlFits scope t q × LeftsFit scope m n ts ls
+  LeftsFit scope m n ts ls = ⊥
+
+  -- an expression with a value of a type, and expressions with values of these types
   abbrev mutual
-    pub ExFits : List ℕ → Ex → Type 0
-    ExFits scope (constant v) = IsWord v
-    ExFits scope (read p) = PlFits scope p
-    ExFits scope (unary op e) = ExFits scope e
-    ExFits scope (binary at op a b) = IsArithmetic op × ExFits scope a × ExFits scope b
-    ExFits scope (call f es) = (func : Func) × (slice_get fs f ≡ Some func) × (result_words func ≡ 1) × (values_of es ≡ argument_words func) × ExsFit scope es
+    pub ExFits : List ℕ → ℕ → Ex → Type 0
+    ExFits scope t (constant v) = IsOf t v × IsWord v
+    ExFits scope t (read q) = PlFits scope t q
+    ExFits scope t (unary op e) = TakesOne op t × ExFits scope t e
+    ExFits scope t (binary at op a b) = (s : ℕ) × Takes op s t × ExFits scope s a × ExFits scope s b
+    ExFits scope t (both a b) = (t ≡ bool_type) × ExFits scope bool_type a × ExFits scope bool_type b
+    ExFits scope t (either a b) = (t ≡ bool_type) × ExFits scope bool_type a × ExFits scope bool_type b
+    ExFits scope t (call f es) = (func : Func) × (slice_get p.funcs f ≡ Some func) × (func.results ≡ t ∷ []) × ExsFit scope func.param_types es
 
-    pub ExsFit : List ℕ → Exs → Type 0
-    ExsFit scope none = Unit {0}
-    ExsFit scope (more e es) = ExFits scope e × ExsFit scope es
-    ExsFit scope (results f es) = (func : Func) × (slice_get fs f ≡ Some func) × (values_of es ≡ argument_words func) × ExsFit scope es
+    pub ExsFit : List ℕ → List ℕ → Exs → Type 0
+    ExsFit scope [] none = Unit {0}
+    ExsFit scope (t ∷ ts) (more e es) = ExFits scope t e × ExsFit scope ts es
+    ExsFit scope ts (results f es) = (func : Func) × (slice_get p.funcs f ≡ Some func) × (func.results ≡ ts) × ExsFit scope func.param_types es
+    ExsFit scope ts es = ⊥
 
-  -- a condition
-  abbrev pub TestFits : List ℕ → Ex → Type 0
-  TestFits scope (constant (bool b)) = ⊤
-  TestFits scope (binary at op a b) = IsComparison op × ExFits scope a × ExFits scope b
-  TestFits scope e = ⊥
+  abbrev pub TestFits : List ℕ → Option Ex → Type 0
+  TestFits scope None = Unit {0}
+  TestFits scope (Some e) = ExFits scope bool_type e
+
+  -- an operand of `print`, `println` or `panic`
+  abbrev pub PieceFits : List ℕ → Piece → Type 0
+  PieceFits scope (text number) = number < length p.strings
+  PieceFits scope (shown t e) = ExFits scope t e
 
   abbrev pub PiecesFit : List ℕ → List Piece → Type 0
   PiecesFit scope [] = Unit {0}
-  PiecesFit scope (shown e ∷ ps) = ExFits scope e × PiecesFit scope ps
+  PiecesFit scope (q ∷ ps) = PieceFits scope q × PiecesFit scope ps
 
-  -- what a function with these results and names for them returns: as many values, or none where they have names
-  abbrev pub ReturnFits : (wanted named : ℕ) → Exs → Type 0
-  ReturnFits wanted named none = wanted ≡ named
-  ReturnFits wanted named (more e es) = values_of (more e es) ≡ wanted
-  ReturnFits wanted named (results f es) = values_of (results f es) ≡ wanted
+  -- what a function with these results and so many names for them returns: a value of each type, or none where they have names
+  abbrev pub ReturnFits : List ℕ → List ℕ → (named : ℕ) → Exs → Type 0
+  ReturnFits scope wanted named none = length wanted ≡ named
+  ReturnFits scope wanted named es = ExsFit scope wanted es
 
-  -- the statements of a function with so many results and names for them
-  module _ (wanted named : ℕ) where
+  -- the statements of a function with these results and so many names for them; `looped` where a loop is around them
+  module _ (wanted : List ℕ) (named : ℕ) where
     abbrev mutual
-      pub StFits : List ℕ → (m n : ℕ) → St → Type 0
-      StFits scope m n (assign ls es) = (length ls ≡ values_of es) × LeftsFit scope m n ls × ExsFit scope es
-      StFits scope m n (discard (results f es)) = ExsFit scope (results f es)
-      StFits scope m n (block ss) = StsFit scope m n ss
-      StFits scope m n (choose e a b) = TestFits scope e × StsFit scope m n a × StsFit scope (m + births_all a) n b
-      StFits scope m n (loop [] None done body) = StsFit scope m n body
-      StFits scope m n (loop [] (Some e) done body) = TestFits scope e × StsFit scope m n body
-      StFits scope m n (give_back es) = ReturnFits wanted named es × ExsFit scope es
-      StFits scope m n (print true ps) = PiecesFit scope ps
-      StFits scope m n s = ⊥
+      pub StFits : (looped : Bool) → List ℕ → (m n : ℕ) → St → Type 0
+      StFits looped scope m n (declare sites) = SitesNext m n sites
+      StFits looped scope m n (assign ls es) = (ts : List ℕ) × LeftsFit scope m n ts ls × ExsFit scope ts es
+      StFits looped scope m n (update at q op e) = IsArithmetic op × PlFits scope int_type q × ExFits scope int_type e
+      StFits looped scope m n (bump q op) = IsStep op × PlFits scope int_type q
+      StFits looped scope m n (discard (results f es)) = (ts : List ℕ) × ExsFit scope ts (results f es)
+      StFits looped scope m n (block ss) = StsFit looped scope m n ss
+      StFits looped scope m n (choose e a b) = ExFits scope bool_type e × StsFit looped scope m n a × StsFit looped scope (m + births_all a) n b
+      StFits looped scope m n (loop sites test post body) =
+          AllInScope scope sites × TestFits scope test × StsFit false scope m n post × StsFit true scope (m + births_all post) n body
+      StFits looped scope m n (range (over_int e) key blank body) =
+          ExFits scope int_type e × LeftsFit scope m n (int_type ∷ []) (key ∷ []) × StsFit true (scope_behind scope (key ∷ [])) (m + new_sites (key ∷ [])) n body
+      StFits looped scope m n break_off = looped ≡ true
+      StFits looped scope m n go_on = looped ≡ true
+      StFits looped scope m n (give_back es) = ReturnFits scope wanted named es
+      StFits looped scope m n (print ln ps) = PiecesFit scope ps
+      StFits looped scope m n (raise at q) = PieceFits scope q
+      StFits looped scope m n (quit at e) = ExFits scope int_type e
+      StFits looped scope m n s = ⊥
 
-      pub StsFit : List ℕ → (m n : ℕ) → Sts → Type 0
-      StsFit scope m n done = Unit {0}
-      StsFit scope m n (next s ss) = StFits scope m n s × StsFit (scope_after scope s) (m + births s) n ss
+      pub StsFit : (looped : Bool) → List ℕ → (m n : ℕ) → Sts → Type 0
+      StsFit looped scope m n done = Unit {0}
+      StsFit looped scope m n (next s ss) = StFits looped scope m n s × StsFit looped (scope_after scope s) (m + births s) n ss
 
--- the sites of parameters from m on, and of results with names, in the order of the text
-abbrev pub ParamsFit : ℕ → List (Option ℕ) → Type 0
-ParamsFit m [] = Unit {0}
-ParamsFit m (None ∷ ps) = ParamsFit m ps
-ParamsFit m (Some site ∷ ps) = (site ≡ m) × ParamsFit (suc m) ps
+  -- the sites of parameters from m on, and of results with names, in the order of the text, and their types
+  abbrev pub ParamsFit : ℕ → List ℕ → List (Option ℕ) → Type 0
+  ParamsFit m [] [] = Unit {0}
+  ParamsFit m (t ∷ ts) (None ∷ ps) = ParamsFit m ts ps
+  ParamsFit m (t ∷ ts) (Some site ∷ ps) = (site ≡ m) × (site_type p site ≡ t) × ParamsFit (suc m) ts ps
+  ParamsFit m ts ps = ⊥
 
-abbrev pub NamedFit : ℕ → List ℕ → Type 0
-NamedFit m [] = Unit {0}
-NamedFit m (site ∷ sites) = (site ≡ m) × NamedFit (suc m) sites
+  abbrev pub NamedFit : ℕ → List ℕ → Type 0
+  NamedFit m [] = Unit {0}
+  NamedFit m (site ∷ sites) = (site ≡ m) × NamedFit (suc m) sites
 
 -- how many parameters have a site
 abbrev pub named_params : List (Option ℕ) → ℕ
@@ -166,30 +252,29 @@ params_scope scope [] = scope
 params_scope scope (None ∷ ps) = params_scope scope ps
 params_scope scope (Some site ∷ ps) = params_scope (site ∷ scope) ps
 
-abbrev pub named_scope : List ℕ → List ℕ → List ℕ
-named_scope scope [] = scope
-named_scope scope (site ∷ sites) = named_scope (site ∷ scope) sites
-
 abbrev pub scope_in : Func → List ℕ
-scope_in f = named_scope (params_scope [] f.params) f.named
+scope_in f = scope_with (params_scope [] f.params) f.named
 
 -- the number of the first site that the body declares
 abbrev pub body_first : Func → ℕ
 body_first f = f.first + named_params f.params + length f.named
 
 -- a function: its sites are numbered in the order of the text, and where it has results, nothing goes on behind its body
-pub record FuncFits (fs : List Func) (f : Func) : Type 0 where
-  pub params : ParamsFit f.first f.params
-  pub named : NamedFit (f.first + named_params f.params) f.named
-  pub names : (f.named ≡ []) ⊎ (length f.named ≡ result_words f)
+pub record FuncFits (p : Program) (f : Func) : Type 0 where
+  pub params : ParamsFit p f.first f.param_types f.params
+  pub named : NamedFit p (f.first + named_params f.params) f.named
+  pub names : (f.named ≡ []) ⊎ (map (site_type p) f.named ≡ f.results)
   pub count : f.count ≡ named_params f.params + length f.named + births_all f.body
-  pub body : StsFit fs (result_words f) (length f.named) (scope_in f) (body_first f) (f.first + f.count) f.body
+  pub body : StsFit p f.results (length f.named) false (scope_in f) (body_first f) (f.first + f.count) f.body
   pub end : (result_words f ≡ 0) ⊎ (ends_all f.body ≡ true)
   -- arguments and results have at most 65,535 words
   pub small : argument_words f + result_words f ≤ 65535
 
--- each function fits; `main` is one without parameters and results; there are at most 4,096
+-- each function fits; `main` is one without parameters and results; there are at most 4,096; each variable is a number or a
+-- truth value
 pub record IsInForm (p : Program) : Type 0 where
-  pub fits : (f : ℕ) (func : Func) → slice_get p.funcs f ≡ Some func → FuncFits p.funcs func
+  pub fits : (f : ℕ) (func : Func) → slice_get p.funcs f ≡ Some func → FuncFits p func
   pub few : length p.funcs ≤ 4096
   pub main : (func : Func) × (slice_get p.funcs p.main ≡ Some func) × (func.params ≡ []) × (func.results ≡ []) × (func.named ≡ [])
+  pub plain : (site : ℕ) → IsPlain (site_type p site)
+  pub zeros : p.zeros ≡ zero_values

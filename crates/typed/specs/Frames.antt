@@ -2,7 +2,7 @@
 -- results; the temps that values are worked out in; a word for each site; the link and the return place.
 use Rattle.std.specs.Prelude.{ℕ, zero, suc, ◌+◌, List, [], ◌∷◌, Option, Some, None, length, max, slice_get}
 use Rattle.typed.specs.Value.{words}
-use Rattle.typed.specs.Syntax.{Ex, Exs, Piece, St, Sts, Func, Program, constant, read, unary, binary, call, none, more, results, shown, assign, discard, block, choose, loop, give_back, print, done, next, arguments_of, results_of}
+use Rattle.typed.specs.Syntax.{Ex, Exs, Left, Piece, Over, St, Sts, Func, Program, constant, read, unary, binary, both, either, call, none, more, results, asked, blank, new, to, text, shown, over_int, declare, assign, update, bump, discard, block, choose, loop, range, break_off, go_on, give_back, print, raise, quit, done, next, arguments_of, results_of}
 
 module _ (fs : List Func) where
   -- temps from the one on in which the value lands, and those of values side by side
@@ -12,16 +12,25 @@ module _ (fs : List Func) where
     need (read p) = 1
     need (unary op e) = need e
     need (binary at op a b) = max (need a) (1 + need b)
+    need (both a b) = max (need a) (need b)
+    need (either a b) = max (need a) (need b)
     need (call f es) = max (need_all es) (results_of fs f)
 
     pub need_all : Exs → ℕ
     need_all none = 0
     need_all (more e es) = max (need e) (1 + need_all es)
     need_all (results f es) = max (need_all es) (results_of fs f)
+    need_all asked = 2
+
+  -- a string is no value
+  abbrev pub piece_need : Piece → ℕ
+  piece_need (text number) = 0
+  piece_need (shown t e) = need e
 
   abbrev pub need_pieces : List Piece → ℕ
   need_pieces [] = 0
-  need_pieces (shown e ∷ ps) = max (need e) (1 + need_pieces ps)
+  need_pieces (text number ∷ ps) = need_pieces ps
+  need_pieces (shown t e ∷ ps) = max (need e) (1 + need_pieces ps)
 
   abbrev pub test_need : Option Ex → ℕ
   test_need None = 0
@@ -34,20 +43,31 @@ module _ (fs : List Func) where
     reach (read p) = 0
     reach (unary op e) = reach e
     reach (binary at op a b) = max (reach a) (reach b)
+    reach (both a b) = max (reach a) (reach b)
+    reach (either a b) = max (reach a) (reach b)
     reach (call f es) = max (reach_all es) (arguments_of fs f + results_of fs f)
 
     pub reach_all : Exs → ℕ
     reach_all none = 0
     reach_all (more e es) = max (reach e) (reach_all es)
     reach_all (results f es) = max (reach_all es) (arguments_of fs f + results_of fs f)
+    reach_all asked = 0
+
+  abbrev pub piece_reach : Piece → ℕ
+  piece_reach (text number) = 0
+  piece_reach (shown t e) = reach e
 
   abbrev pub reach_pieces : List Piece → ℕ
   reach_pieces [] = 0
-  reach_pieces (shown e ∷ ps) = max (reach e) (reach_pieces ps)
+  reach_pieces (text number ∷ ps) = reach_pieces ps
+  reach_pieces (shown t e ∷ ps) = max (reach e) (reach_pieces ps)
 
   abbrev pub test_reach : Option Ex → ℕ
   test_reach None = 0
   test_reach (Some e) = reach e
+
+  abbrev pub over_reach : Over → ℕ
+  over_reach (over_int e) = reach e
 
   -- a new round's variables are moved through temps
   abbrev pub renewal_need : List ℕ → ℕ
@@ -59,15 +79,36 @@ module _ (fs : List Func) where
   named_need zero = 0
   named_need (suc named) = 1
 
+  -- `range`: the words that it keeps, and what it works with above them
+  abbrev pub over_need : Over → ℕ
+  over_need (over_int e) = need e
+
+  abbrev pub hidden : Over → ℕ
+  hidden (over_int e) = 2
+
+  -- the index that a left side gets
+  abbrev pub key_need : Left → ℕ
+  key_need blank = 0
+  key_need (new site) = 1
+  key_need (to q) = 1
+
   abbrev mutual
     pub st_need : (named : ℕ) → St → ℕ
+    st_need named (declare sites) = 0
     st_need named (assign ls es) = need_all es
+    st_need named (update at q op e) = 1 + need e
+    st_need named (bump q op) = 2
     st_need named (discard es) = need_all es
     st_need named (block ss) = sts_need named ss
     st_need named (choose e a b) = max (need e) (max (sts_need named a) (sts_need named b))
     st_need named (loop sites test post body) = max (max (test_need test) (renewal_need sites)) (max (sts_need named post) (sts_need named body))
+    st_need named (range over key value body) = max (over_need over) (max (hidden over + 2) (max (hidden over + key_need key) (hidden over + sts_need named body)))
+    st_need named break_off = 0
+    st_need named go_on = 0
     st_need named (give_back es) = max (need_all es) (named_need named)
     st_need named (print ln ps) = need_pieces ps
+    st_need named (raise at q) = piece_need q
+    st_need named (quit at e) = need e
 
     pub sts_need : (named : ℕ) → Sts → ℕ
     sts_need named done = 0
@@ -75,13 +116,21 @@ module _ (fs : List Func) where
 
   abbrev mutual
     pub st_reach : St → ℕ
+    st_reach (declare sites) = 0
     st_reach (assign ls es) = reach_all es
+    st_reach (update at q op e) = reach e
+    st_reach (bump q op) = 0
     st_reach (discard es) = reach_all es
     st_reach (block ss) = sts_reach ss
     st_reach (choose e a b) = max (reach e) (max (sts_reach a) (sts_reach b))
     st_reach (loop sites test post body) = max (test_reach test) (max (sts_reach post) (sts_reach body))
+    st_reach (range over key value body) = max (over_reach over) (sts_reach body)
+    st_reach break_off = 0
+    st_reach go_on = 0
     st_reach (give_back es) = reach_all es
     st_reach (print ln ps) = reach_pieces ps
+    st_reach (raise at q) = piece_reach q
+    st_reach (quit at e) = reach e
 
     pub sts_reach : Sts → ℕ
     sts_reach done = 0

@@ -1,17 +1,19 @@
 -- The abstract syntax of typed programs.
-use Rattle.std.specs.Prelude.{ℕ, pos, true, List, [], ◌∷◌, Option, Some, None, map}
+use Rattle.std.specs.Prelude.{ℕ, pos, false, List, [], ◌∷◌, Option, Some, None, map}
 use Rattle.base.specs.declared.ids.SiteId.{SiteId}
 use Rattle.typed.specs.declared.expr.Const.{Const}
 use Rattle.typed.specs.declared.expr.Const.TheVariants.{Int, Bool}
-use Rattle.typed.specs.declared.expr.Expr.{Expr, Constant, Local, Unary', Binary', Call'}
-use Rattle.typed.specs.declared.expr.Values.{Values, Row_of-Expr, end_of-Expr, more_of-Expr, Each', Results'}
+use Rattle.typed.specs.declared.expr.Expr.{Expr, Constant, Local, Unary', Binary', Both', Either', Call'}
+use Rattle.typed.specs.declared.expr.Values.{Values, Row_of-Expr, end_of-Expr, more_of-Expr, Each', Results', ReadInt}
 use Rattle.typed.specs.declared.stmt.Left.{Left as LeftData}
 use Rattle.typed.specs.declared.stmt.Left.TheVariants.{Blank, New, To}
-use Rattle.typed.specs.declared.stmt.Stmt.{Stmt, Row_of-Stmt, end_of-Stmt, more_of-Stmt, Assign, Discard, Block', If', Loop', Return, Print}
+use Rattle.typed.specs.declared.stmt.Piece.{Piece as PieceData}
+use Rattle.typed.specs.declared.stmt.Piece.TheVariants.{Text, Shown}
+use Rattle.typed.specs.declared.stmt.Stmt.{Stmt, Row_of-Stmt, end_of-Stmt, more_of-Stmt, Declare, Assign, Update, Bump, Discard, Block', If', Loop', Count', Break, Continue, Return, Print, Panic, Exit}
 use Rattle.typed.specs.declared.program.Func.{Func as FuncData}
 use Rattle.typed.specs.declared.program.Program.{Program as ProgramData}
 use Rattle.typed.specs.Value.{Value, int, bool}
-use Rattle.typed.specs.Syntax.{Ex, Exs, Left, Piece, St, Sts, Func, Program, constant, read, unary, binary, call, local, here, none, more, results, blank, new, to, shown, assign, discard, block, choose, loop, give_back, print, done, next}
+use Rattle.typed.specs.Syntax.{Ex, Exs, Left, Piece, St, Sts, Func, Program, constant, read, unary, binary, both, either, call, local, here, none, more, results, asked, blank, new, to, text, shown, over_int, declare, assign, update, bump, discard, block, choose, loop, range, break_off, go_on, give_back, print, raise, quit, done, next}
 
 abbrev pub value_of : Const → Value
 value_of (Int z) = int z
@@ -23,6 +25,8 @@ abbrev mutual
   ex_of (Local site) = read (local site.0 here)
   ex_of (Unary' op p a) = unary op (ex_of a)
   ex_of (Binary' at op p a q b) = binary at op (ex_of a) (ex_of b)
+  ex_of (Both' p a q b) = both (ex_of a) (ex_of b)
+  ex_of (Either' p a q b) = either (ex_of a) (ex_of b)
   ex_of (Call' f p vs) = call f.0 (exs_of_values vs)
 
   pub exs_of_row : {m : _} → Row_of-Expr m → Exs
@@ -32,6 +36,7 @@ abbrev mutual
   pub exs_of_values : Values → Exs
   exs_of_values (Each' shape row) = exs_of_row row
   exs_of_values (Results' f p vs) = results f.0 (exs_of_values vs)
+  exs_of_values ReadInt = asked
 
 -- the same at lists
 abbrev pub exs_of : List Expr → Exs
@@ -43,9 +48,12 @@ left_of Blank = blank
 left_of (New site) = new site.0
 left_of (To site) = to (local site.0 here)
 
-abbrev pub pieces_of : List Expr → List Piece
-pieces_of [] = []
-pieces_of (e ∷ es) = shown (ex_of e) ∷ pieces_of es
+abbrev pub piece_of : PieceData → Piece
+piece_of (Text number) = text number
+piece_of (Shown t e) = shown t.0 (ex_of e)
+
+abbrev pub site_numbers : List SiteId → List ℕ
+site_numbers sites = map (λ site. site.0) sites
 
 abbrev pub test_of : Option Expr → Option Ex
 test_of None = None
@@ -53,13 +61,21 @@ test_of (Some e) = Some (ex_of e)
 
 abbrev mutual
   pub st_of : Stmt → St
+  st_of (Declare sites) = declare (site_numbers sites.items)
   st_of (Assign ls vs) = assign (map left_of ls.items) (exs_of_values vs)
+  st_of (Update at site op e) = update at (local site.0 here) op (ex_of e)
+  st_of (Bump site op) = bump (local site.0 here) op
   st_of (Discard vs) = discard (exs_of_values vs)
   st_of (Block' shape row) = block (sts_of_row row)
   st_of (If' e shape row shape' row') = choose (ex_of e) (sts_of_row row) (sts_of_row row')
-  st_of (Loop' test shape row) = loop [] (test_of test) done (sts_of_row row)
+  st_of (Loop' sites test shape row shape' row') = loop (site_numbers sites.items) (test_of test) (sts_of_row row) (sts_of_row row')
+  st_of (Count' e key shape row) = range (over_int (ex_of e)) (left_of key) blank (sts_of_row row)
+  st_of Break = break_off
+  st_of Continue = go_on
   st_of (Return vs) = give_back (exs_of_values vs)
-  st_of (Print es) = print true (pieces_of es.items)
+  st_of (Print ln ps) = print ln (map piece_of ps.items)
+  st_of (Panic at p) = raise at (piece_of p)
+  st_of (Exit at e) = quit at (ex_of e)
 
   pub sts_of_row : {m : _} → Row_of-Stmt m → Sts
   sts_of_row end_of-Stmt = done
@@ -80,17 +96,22 @@ func_of f = record {
   first = f.first_site;
   count = f.sites;
   params = map site_in f.params.items;
+  param_types = map (λ t. t.0) f.param_types.items;
   results = map (λ t. t.0) f.results.items;
   named = map (λ site. site.0) f.named.items;
   body = sts_of f.body.items;
 }
 
--- one type, number 0: whole numbers
+-- two types: whole numbers and truth values
+abbrev pub zero_values : List Value
+zero_values = int (pos 0) ∷ bool false ∷ []
+
 abbrev pub program_of : ProgramData → Program
 program_of p = record {
   funcs = map func_of p.funcs.items;
-  zeros = int (pos 0) ∷ [];
-  sites = map (λ site. 0) p.sites.items;
+  zeros = zero_values;
+  sites = map (λ site. site.type_id.0) p.sites.items;
+  strings = map (λ bytes. bytes.items) p.strings.items;
   globals = [];
   main = p.main.0;
 }

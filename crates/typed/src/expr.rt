@@ -7,7 +7,6 @@ use base::{FuncId, Pos, SiteId};
 #[derive(Clone, Copy, Debug, PartialEq, Eq)]
 pub enum Const {
     Int(i64),
-    /// A comparison of constants.
     Bool(bool),
 }
 
@@ -21,6 +20,10 @@ pub enum Expr {
     Local(SiteId),
     Unary(UnOp, Box<Expr>),
     Binary(Pos, BinOp, Box<Expr>, Box<Expr>),
+    /// `&&`: the second operand is worked out where the first is true.
+    Both(Box<Expr>, Box<Expr>),
+    /// `||`: the second operand is worked out where the first is false.
+    Either(Box<Expr>, Box<Expr>),
     /// A call of a function with one result, and its arguments.
     Call(FuncId, Box<Values>),
 }
@@ -33,4 +36,6 @@ pub enum Values {
     Each(Vec<Expr>),
     /// All results of a call, and its arguments.
     Results(FuncId, Box<Values>),
+    /// The two results of `readInt`: a number, and whether it is good.
+    ReadInt,
 }

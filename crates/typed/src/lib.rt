@@ -8,5 +8,5 @@ mod stmt;
 
 pub use expr::{Const, Expr, Values};
 pub use operators::{BinOp, UnOp};
-pub use program::{Func, Program, Site};
-pub use stmt::{Left, Stmt};
+pub use program::{BOOL, Func, INT, Program, Site};
+pub use stmt::{Left, Piece, Stmt};

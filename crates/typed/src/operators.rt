@@ -6,6 +6,14 @@ pub enum BinOp {
     Add,
     Sub,
     Mul,
+    Div,
+    Rem,
+    And,
+    Or,
+    Xor,
+    AndNot,
+    ShiftLeft,
+    ShiftRight,
     Equal,
     NotEqual,
     Less,
@@ -17,5 +25,9 @@ pub enum BinOp {
 /// An operator on one operand.
 #[derive(Clone, Copy, Debug, PartialEq, Eq)]
 pub enum UnOp {
+    Plus,
     Negate,
+    Complement,
+    /// Of a truth value.
+    Not,
 }

@@ -3,10 +3,16 @@
 use crate::stmt::Stmt;
 use base::{FuncId, Pos, SiteId, TypeId};
 
-/// A site: the place of the variable's name.
+/// The type of whole numbers, and of truth values.
+pub const INT: TypeId = TypeId(0);
+
+pub const BOOL: TypeId = TypeId(1);
+
+/// A site: the place of the variable's name, and its type.
 #[derive(Clone, Copy, Debug, PartialEq, Eq)]
 pub struct Site {
     pub pos: Pos,
+    pub type_id: TypeId,
 }
 
 /// A function. Its sites stand together in the program's table, those of its parameters first, then those of its named
@@ -20,6 +26,8 @@ pub struct Func {
     pub sites: u32,
     /// The site of each parameter; none for a blank or unnamed one.
     pub params: Vec<Option<SiteId>>,
+    /// The type of each parameter.
+    pub param_types: Vec<TypeId>,
     /// The type of each result.
     pub results: Vec<TypeId>,
     /// The sites of the results where they have names, else nothing.
@@ -27,11 +35,12 @@ pub struct Func {
     pub body: Vec<Stmt>,
 }
 
-/// A program: its functions in the order of the text, the one that is `main`, and its sites in the order of the text, by
-/// which a `SiteId` counts.
+/// A program: its functions in the order of the text, the one that is `main`, its sites in the order of the text, by
+/// which a `SiteId` counts, and the bytes of the strings that it shows.
 #[derive(Drop)]
 pub struct Program {
     pub funcs: Vec<Func>,
     pub main: FuncId,
     pub sites: Vec<Site>,
+    pub strings: Vec<Vec<u8>>,
 }

@@ -1,7 +1,8 @@
 //! Typed statements.
 
 use crate::expr::{Expr, Values};
-use base::SiteId;
+use crate::operators::BinOp;
+use base::{Pos, SiteId, TypeId};
 
 /// A left side of a declaration or an assignment.
 #[derive(Clone, Copy, Debug, PartialEq, Eq)]
@@ -14,20 +15,44 @@ pub enum Left {
     To(SiteId),
 }
 
-/// A statement.
+/// An operand of `print`, `println` or `panic`.
+#[derive(Drop)]
+pub enum Piece {
+    /// A string, by its number in the program's table.
+    Text(u32),
+    /// A value, with its type.
+    Shown(TypeId, Expr),
+}
+
+/// A statement. One that can panic has the place that a panic names: its first byte.
 #[derive(Drop)]
 pub enum Stmt {
+    /// New variables with their zero values.
+    Declare(Vec<SiteId>),
     /// A declaration with values, or an assignment: as many left sides as values.
     Assign(Vec<Left>, Values),
+    /// An assignment with an operator to a variable.
+    Update(Pos, SiteId, BinOp, Expr),
+    /// `++` and `--`: the variable, and the operator on it and 1.
+    Bump(SiteId, BinOp),
     /// A call whose results are not used.
     Discard(Values),
     Block(Vec<Stmt>),
     /// The condition, and what is done where it is true and where it is false.
     If(Expr, Vec<Stmt>, Vec<Stmt>),
-    /// The condition, if there is one, and the body.
-    Loop(Option<Expr>, Vec<Stmt>),
+    /// The variables of the header, of which each round has its own; the condition, if there is one; the post statement; and
+    /// the body. The init statement stands before it.
+    Loop(Vec<SiteId>, Option<Expr>, Vec<Stmt>, Vec<Stmt>),
+    /// `range` over the numbers from 0 to one below an int, which the left side gets, and the body.
+    Count(Expr, Left, Vec<Stmt>),
+    Break,
+    Continue,
     /// A return with these values. Without values, that of a function with named results gives these.
     Return(Values),
-    /// `println` of these operands.
-    Print(Vec<Expr>),
+    /// `print` of these operands, or `println` where true is said.
+    Print(bool, Vec<Piece>),
+    /// `panic`
+    Panic(Pos, Piece),
+    /// `exit` with a status.
+    Exit(Pos, Expr),
 }

@@ -1,8 +1,7 @@
 -- What the checker answers of a tree that has a typed program, or in which a rule fails.
-use Rattle.std.proofs.Common.{◌≡◌, ℕ, pos, Bool, true, false, cond, List, [], ◌∷◌, ◌⊎◌, inl, inr, Option, Some, None, refl, sym, ap, ◌∙◌, subst, length, map}
+use Rattle.std.proofs.Common.{◌≡◌, ℕ, Bool, true, false, cond, List, [], ◌∷◌, ◌⊎◌, inl, inr, Option, Some, None, refl, sym, ap, ◌∙◌, subst, length, map}
 use Rattle.std.specs.Prelude.{is_some, not, codes}
 use Rattle.std.specs.Option.{option_map}
-use Rattle.base.specs.declared.pos.Pos.{Pos}
 use Rattle.base.specs.declared.ids.FuncId.{FuncId}
 use Rattle.names.specs.Blocks.{Blocks, insert}
 use Rattle.syntax.specs.declared.expression.Name.{Name}
@@ -13,10 +12,10 @@ use Rattle.syntax.specs.Statements.{ValueSpec}
 use Rattle.syntax.specs.Declarations.{TypeSpec, Function as TreeFunction, Declaration, constants, variables, types, Syntax, declarations_of, syntax_of}
 use Rattle.syntax.specs.Declarations as tree
 use Rattle.typed.specs.Syntax.{Func, Program}
-use Rattle.typed.specs.View.{func_of, program_of}
+use Rattle.typed.specs.View.{zero_values, func_of, program_of}
 use Rattle.typed.specs.declared.program.Program.{Program as ProgramData}
 use Rattle.typed.specs.declared.program.Site.{Site}
-use Rattle.typed.specs.Value.{int}
+use Rattle.std.specs.Global.{Vec}
 use Rattle.expression_types.specs.declared.fault.Fault.{Fault}
 use Rattle.expression_types.specs.declared.fault.FaultKind.TheVariants.{NoMain}
 use Rattle.expression_types.specs.declared.scope.Declared.{Declared}
@@ -25,11 +24,11 @@ use Rattle.expression_types.specs.Profile.{is_main}
 use Rattle.expression_types.specs.Least.{IsLeast, lesser}
 use Rattle.expression_types.specs.Scope.{Scope, declaration, with_declaration, beginning}
 use Rattle.expression_types.specs.Typing.{allowed}
-use Rattle.expression_types.specs.Faults.{fault}
+use Rattle.expression_types.specs.Faults.{fault, IsFault}
 use Rattle.types_go.specs.Functions.{number_of, plain_number, declares_name, with_name, with_names, with_values, with_types, with_item, with_items, functions_in, are_supported, functions, declarations_in, package_scope, main_number, program_functions}
-use Rattle.types_go.specs.StatementFaults.{FailsWhere}
+use Rattle.types_go.specs.StatementFaults.{fault_where}
 use Rattle.types_go.specs.FunctionFaults.{DeclarationsFail, FailsInFunctions, FailsIn, first_byte}
-use Rattle.types_go.specs.Checked.{Types, places_of, program_with}
+use Rattle.types_go.specs.Checked.{Types, sites_in, program_with}
 use Rattle.expression_types.proofs.Decided.{Decided}
 use Rattle.expression_types.proofs.Leasts.{least_join}
 use Rattle.expression_types.proofs.Options.{none_some, same_some}
@@ -69,17 +68,27 @@ pub items_depth : (text : List ℕ) (s : Scope) (ds : List Declaration) → leng
 items_depth text s [] = refl
 items_depth text s (d ∷ ds) = items_depth text (with_item text s d) ds ∙ item_depth text s d
 
-zeros : (sites : List Site) → map (λ (s : Site). let n : ℕ = 0 in n) sites ≡ map (λ (at : Pos). let n : ℕ = 0 in n) (map (λ (s : Site). s.pos) sites)
-zeros [] = refl
-zeros (s ∷ sites) = ap (λ l. 0 ∷ l) (zeros sites)
-
-pub typed : (t : Syntax) (p : ProgramData) → program_functions t ≡ Some (map func_of p.funcs.items) → main_number t ≡ Some p.main.0 → map (λ s. s.pos) p.sites.items ≡ places_of t → Types t (program_of p)
-typed t p funcs main places = record {
+pub typed : (t : Syntax) (p : ProgramData) → program_functions t ≡ Some (map func_of p.funcs.items) → main_number t ≡ Some p.main.0 → p.sites.items ≡ sites_in t → p.strings.items ≡ [] → Types t (program_of p)
+typed t p funcs main sites strings = record {
   funcs = map func_of p.funcs.items;
   main = p.main.0;
   functions = funcs;
   main_is = main;
-  is = ap (λ (sites : List ℕ). record { funcs = map func_of p.funcs.items; zeros = int (pos 0) ∷ []; sites = sites; globals = []; main = p.main.0 }) (zeros p.sites.items ∙ ap (λ l. map (λ (at : Pos). let n : ℕ = 0 in n) l) places);
+  is = ap (λ (l : List Site). record {
+    funcs = map func_of p.funcs.items;
+    zeros = zero_values;
+    sites = map (λ (site : Site). site.type_id.0) l;
+    strings = map (λ (bytes : Vec ℕ). bytes.items) p.strings.items;
+    globals = [];
+    main = p.main.0;
+  }) sites ∙ ap (λ (l : List (Vec ℕ)). record {
+    funcs = map func_of p.funcs.items;
+    zeros = zero_values;
+    sites = map (λ (site : Site). site.type_id.0) (sites_in t);
+    strings = map (λ (bytes : Vec ℕ). bytes.items) l;
+    globals = [];
+    main = p.main.0;
+  }) strings;
 }
 
 -- a tree has one typed program
@@ -95,7 +104,7 @@ decided_given : {A : Type 0} (o : Option A) (P : Fault → Type 0) → o ≡ Non
 decided_given None P is d = d
 decided_given (Some y) P is d = cc is
 
-main_sound : (o : Option ℕ) (m : ℕ) (f : Fault) → o ≡ Some m → FailsWhere (not (is_some o)) (fault NoMain first_byte) f → ⊥
+main_sound : (o : Option ℕ) (m : ℕ) (f : Fault) → o ≡ Some m → IsFault (fault_where (not (is_some o)) (fault NoMain first_byte)) f → ⊥
 main_sound None m f is h = absurd (none_some is)
 main_sound (Some k) m f is h = h
 
@@ -107,7 +116,7 @@ typed_or_fails t p f a (inr h) =
 
 -- where no rule fails there is a typed program
 pub given_main : (t : Syntax) → IsLeast (FailsIn t) None → main_number t ≡ None → ⊥
-given_main t least is = least (fault NoMain first_byte) (inl (subst (λ o. FailsWhere (not (is_some o)) (fault NoMain first_byte) (fault NoMain first_byte)) (sym is) refl))
+given_main t least is = least (fault NoMain first_byte) (inl (subst (λ o. IsFault (fault_where (not (is_some o)) (fault NoMain first_byte)) (fault NoMain first_byte)) (sym is) refl))
 
 given_program : (t : Syntax) → IsLeast (FailsIn t) None → program_functions t ≡ None → ⊥
 given_program t least is =
@@ -160,11 +169,11 @@ module _ (tree1 : Tree) where
   none_test (Some f) false is = refl
 
   pub least_is : (text : List ℕ) (ds : List Decl) (r : Scope) (main : Option FuncId) (absent : Bool) (mf df cf : Option Fault) → text ≡ tree1.text.items → ds ≡ tree1.decls.items → r ≡ package_scope syntax
-      → option_map (λ (f : FuncId). f.0) main ≡ main_number syntax → is_some main ≡ not absent → IsLeast (FailsWhere absent (fault NoMain first_byte)) mf → IsLeast (DeclarationsFail (declarations_of ds)) df
+      → option_map (λ (f : FuncId). f.0) main ≡ main_number syntax → is_some main ≡ not absent → IsLeast (IsFault (fault_where absent (fault NoMain first_byte))) mf → IsLeast (DeclarationsFail (declarations_of ds)) df
       → IsLeast (FailsInFunctions text r 0 (funcs_in ds)) cf → IsLeast (FailsIn syntax) (lesser mf (lesser df cf))
   least_is text ds r main absent mf df cf text_is ds_is r_is main_is absent_is no_main forms all =
-      least_join (FailsWhere (not (is_some (main_number syntax))) (fault NoMain first_byte)) (λ f. DeclarationsFail (declarations_in syntax) f ⊎ FailsInFunctions syntax.text (package_scope syntax) 0 (functions_in (declarations_in syntax)) f) mf (lesser df cf)
-      (subst (λ o. IsLeast (FailsWhere (not (is_some o)) (fault NoMain first_byte)) mf) main_is (subst (λ b. IsLeast (FailsWhere b (fault NoMain first_byte)) mf) (none_test main absent absent_is) no_main))
+      least_join (IsFault (fault_where (not (is_some (main_number syntax))) (fault NoMain first_byte))) (λ f. DeclarationsFail (declarations_in syntax) f ⊎ FailsInFunctions syntax.text (package_scope syntax) 0 (functions_in (declarations_in syntax)) f) mf (lesser df cf)
+      (subst (λ o. IsLeast (IsFault (fault_where (not (is_some o)) (fault NoMain first_byte))) mf) main_is (subst (λ b. IsLeast (IsFault (fault_where b (fault NoMain first_byte))) mf) (none_test main absent absent_is) no_main))
       (least_join (DeclarationsFail (declarations_in syntax)) (FailsInFunctions syntax.text (package_scope syntax) 0 (functions_in (declarations_in syntax))) df cf
       (subst (λ (l : List Decl). IsLeast (DeclarationsFail (declarations_of l)) df) ds_is forms)
       (subst (λ v. IsLeast (FailsInFunctions tree1.text.items v 0 (funcs_in tree1.decls.items)) cf) r_is

@@ -1,30 +1,38 @@
 -- A typed program is in form.
-use Rattle.std.proofs.Common.{◌≡◌, ℕ, zero, suc, ◌+◌, ◌≤◌, Bool, true, false, cond, List, [], ◌∷◌, ◌++◌, ◌⊎◌, inl, inr, map, Option, Some, None, refl, sym, ap, ◌∙◌, subst, arith, length, append-nil, append_assoc}
+use Rattle.std.proofs.Common.{◌≡◌, ℕ, zero, suc, ◌+◌, ◌≤◌, Bool, true, false, cond, List, [], ◌∷◌, ◌++◌, ◌⊎◌, inl, inr, map, get_or, Option, Some, None, refl, sym, ap, ◌∙◌, subst, arith, length, append-nil, append_assoc}
 use Rattle.std.specs.Prelude.{option_and_then, ◌&&◌, ◌||◌, ◌==◌, nat_lt, slice_get, codes}
 use Rattle.std.specs.Option.{option_map}
+use Rattle.std.specs.List.{AllByRecursion}
 use Rattle.std.proofs.lemmas.Bool.{eqb-true, ltb-true, leb-true}
 use Rattle.std.proofs.lemmas.List.{length-map}
-use Rattle.syntax.specs.Expressions.{spelled}
-use Rattle.syntax.specs.Declarations.{Parameters, unnamed, named, Body, Function as TreeFunction, Syntax}
-use Rattle.typed.specs.Syntax.{Sts, Func, Program, argument_words, result_words}
-use Rattle.typed.specs.Form.{ends_all, NamedFit, named_params as with_sites, params_scope, scope_in, body_first, StsFit, FuncFits, IsInForm}
+use Rattle.syntax.specs.declared.expression.Name.{Name}
+use Rattle.syntax.specs.Expressions.{Ex as TreeEx, Exs as TreeExs, some, spelled}
+use Rattle.syntax.specs.Expressions as expressions
+use Rattle.syntax.specs.Declarations.{Field, Parameters, unnamed, named, Body, Function as TreeFunction, Syntax}
+use Rattle.typed.specs.declared.program.Site.{Site}
+use Rattle.typed.specs.Syntax.{Sts, Func, Program, argument_words, result_words, int_type}
+use Rattle.typed.specs.Form.{IsPlain, site_type, ends_all, ParamsFit, NamedFit, named_params as with_sites, params_scope, scope_in, body_first, StsFit, FuncFits, IsInForm}
 use Rattle.expression_types.specs.declared.scope.ValueType.{ValueType}
+use Rattle.expression_types.specs.declared.scope.ValueType.TheVariants.{Int, Bool as Truth}
 use Rattle.expression_types.specs.declared.scope.Declared.TheVariants.{Function}
-use Rattle.expression_types.specs.Profile.{is_blank, is_main, is_predeclared}
-use Rattle.expression_types.specs.Scope.{Scope, Signature, declaration, with_declaration, with_signature, opened, beginning}
+use Rattle.expression_types.specs.Profile.{is_blank, is_main, is_predeclared, is_reserved}
+use Rattle.expression_types.specs.Scope.{Scope, Signature, type_number, type_numbers, declaration, is_here, with_declaration, with_signature, opened, beginning}
+use Rattle.expression_types.specs.Typing.{asked}
 use Rattle.types_go.specs.declared.slots.Slot.{Slot}
 use Rattle.types_go.specs.declared.entries.Role.{Role}
 use Rattle.types_go.specs.declared.entries.Role.TheVariants.{Parameter, Result}
+use Rattle.types_go.specs.Entries.{entry_of, sites_of, entry_in, behind_entry, entries}
 use Rattle.types_go.specs.Statements.{behind_all, ends_after}
-use Rattle.types_go.specs.Functions.{params_of, is_named, slot_of, slots_of, sites_of, words, is_small, is_plain, number_of, plain_number, declares_name, types_of, signature_in, with_function, functions_in, are_supported, entry_in, behind_entry, entries, behind_params, body_scope, behind_function, returns_of, may_be_named, func, function, functions, declarations_in, package_scope, main_number}
-use Rattle.types_go.specs.Checked.{Types}
+use Rattle.types_go.specs.Functions.{Param, param_with, unnamed_params, named_params, params_of, is_named, slot_of, slots_of, words, is_small, is_plain, number_of, plain_number, declares_name, types_of, number_or_int, slot_number, signature_in, with_function, functions_in, are_supported, behind_params, body_scope, behind_body, behind_function, behind_functions, returns_of, may_be_named, func, function, functions, declarations_in, package_scope, main_number}
+use Rattle.types_go.specs.Checked.{Types, sites_in, program_with}
 use Rattle.expression_types.proofs.Options.{and_then_some, map_some, none_some, same_some}
-use Rattle.expression_types.proofs.InForm.{Agrees}
 use Rattle.types_go.proofs.SettledFunctions.{allowed_some, signature_parts, small_signed, function_some, with_functions, only_functions}
-use Rattle.types_go.proofs.Growth.{keeps_function, grows_body}
+use Rattle.types_go.proofs.Growth.{IsSite, Extends, extends_twice, keeps_function, keeps_functions, grows_entries, grows_body, grows_all}
 use Rattle.types_go.proofs.Visible.{Visible, visible_beginning, visible_opened, visible_kept, visible_package}
-use Rattle.types_go.proofs.InFormStatements.{ReturnsFit, formed_all}
-use Rattle.types_go.proofs.InFormFunctions.{sites_long, named_of_params, named_scope_of, no_names, all_names, entries_unnamed, entries_named, entries_fit, ends_same, ends_list}
+use Rattle.types_go.proofs.InFormEntries.{HasSites, SlotsHave, sites_long, named_of_params, named_scope_of, variable_is, entries_fit}
+use Rattle.types_go.proofs.InFormSimple.{ReturnsFit}
+use Rattle.types_go.proofs.InFormStatements.{AreSigned, formed_all}
+use Rattle.types_go.proofs.Terminating.{ends_same, ends_list}
 
 empty_list : {A : Type 0} (xs : List A) → length xs ≡ 0 → xs ≡ []
 empty_list [] is = refl
@@ -43,7 +51,97 @@ types_long (p ∷ ps) ts is =
     let q = map_some (λ us. r.0 ∷ us) (types_of ps) ts r.2 in
     ap length (sym q.2) ∙ ap suc (types_long ps q.0 q.1)
 
+slots_have : (ps : List Slot) (ts : List ValueType) → types_of ps ≡ Some ts → SlotsHave ps ts
+slots_have [] ts is = subst (λ (l : List ValueType). SlotsHave [] l) (same_some is) tt
+slots_have (p ∷ ps) ts is =
+    let r = and_then_some (λ t. option_map (λ us. t ∷ us) (types_of ps)) p.value_type ts is in
+    let q = map_some (λ us. r.0 ∷ us) (types_of ps) ts r.2 in
+    subst (λ (l : List ValueType). SlotsHave (p ∷ ps) l) q.2 (r.1, slots_have ps q.0 q.1)
+
+numbers_are : (ps : List Slot) (ts : List ValueType) → SlotsHave ps ts → map slot_number ps ≡ type_numbers ts
+numbers_are [] [] have = refl
+numbers_are (p ∷ ps) (t ∷ ts) have = ap (λ (o : Option ValueType). number_or_int o ∷ map slot_number ps) have.0 ∙ ap (λ l. type_number t ∷ l) (numbers_are ps ts have.1)
+numbers_are [] (t ∷ ts) have = absurd have
+numbers_are (p ∷ ps) [] have = absurd have
+
+wanted_are : (ps : List Slot) (ts : List ValueType) → SlotsHave ps ts → map (λ (p : Slot). p.value_type) ps ≡ asked ts
+wanted_are [] [] have = refl
+wanted_are (p ∷ ps) (t ∷ ts) have = ap (λ (o : Option ValueType). o ∷ map (λ (q : Slot). q.value_type) ps) have.0 ∙ ap (λ l. Some t ∷ l) (wanted_are ps ts have.1)
+wanted_are [] (t ∷ ts) have = absurd have
+wanted_are (p ∷ ps) [] have = absurd have
+
+-- ---- names of results
+
+-- a result with a name has a variable
+result_is : (b r h : Bool) (site : ℕ) (e : Option ℕ) → entry_of Result b r h site ≡ Some e → e ≡ Some site
+result_is true r h site e is = absurd (none_some is)
+result_is false r h site e is = (variable_is r h site e is).2
+
+abbrev NoNames : List Slot → Type 0
+NoNames [] = Unit {0}
+NoNames (p ∷ ps) = (p.name ≡ None) × NoNames ps
+
+abbrev AllNames : List Slot → Type 0
+AllNames [] = Unit {0}
+AllNames (p ∷ ps) = ((n : Name) × (p.name ≡ Some n)) × AllNames ps
+
+abbrev AllSites : List (Option ℕ) → Type 0
+AllSites [] = Unit {0}
+AllSites (None ∷ es) = ⊥
+AllSites (Some site ∷ es) = AllSites es
+
+all_long : (es : List (Option ℕ)) → AllSites es → length (sites_of es) ≡ length es
+all_long [] every = refl
+all_long (None ∷ es) every = absurd every
+all_long (Some site ∷ es) every = ap suc (all_long es every)
+
+all_types : (p : Program) (m : ℕ) (ts : List ℕ) (es : List (Option ℕ)) → AllSites es → ParamsFit p m ts es → map (site_type p) (sites_of es) ≡ ts
+all_types p m [] [] every fit = refl
+all_types p m (t ∷ ts) (Some site ∷ es) every fit = ap (λ x. x ∷ map (site_type p) (sites_of es)) fit.1 ∙ ap (λ l. t ∷ l) (all_types p (suc m) ts es every fit.2)
+all_types p m (t ∷ ts) (None ∷ es) every fit = absurd every
+all_types p m [] (e ∷ es) every fit = absurd fit
+all_types p m (t ∷ ts) [] every fit = absurd fit
+
 module _ (text : List ℕ) where
+  no_names : (ts : TreeExs) → NoNames (map (slot_of text) (unnamed_params ts))
+  no_names expressions.none = tt
+  no_names (some t ts) = (refl, no_names ts)
+
+  field_names : (t : TreeEx) (ns : List Name) (rest : List Param) → AllNames (map (slot_of text) rest) → AllNames (map (slot_of text) (map (param_with t) ns ++ rest))
+  field_names t [] rest all = all
+  field_names t (n ∷ ns) rest all = ((n, refl), field_names t ns rest all)
+
+  all_names : (fs : List Field) → AllNames (map (slot_of text) (named_params fs))
+  all_names [] = tt
+  all_names (f ∷ fs) = field_names f.type_expr f.names (named_params fs) (all_names fs)
+
+  none_of : (role : Role) (s : Scope) (o : Option Name) (e : Option ℕ) → o ≡ None → entry_in text role s o ≡ Some e → e ≡ None
+  none_of role s None e o_is is = sym (same_some is)
+  none_of role s (Some n) e o_is is = absurd (none_some (sym o_is))
+
+  -- without names there are no variables
+  entries_unnamed : (role : Role) (s : Scope) (ps : List Slot) (es : List (Option ℕ)) → NoNames ps → entries text role s ps ≡ Some es → sites_of es ≡ []
+  entries_unnamed role s [] es none1 is = ap sites_of (sym (same_some is))
+  entries_unnamed role s (p ∷ ps) es none1 is =
+      let r = and_then_some (λ e. option_map (λ xs. e ∷ xs) (entries text role (behind_entry text s p) ps)) (entry_in text role s p.name) es is in
+      let q = map_some (λ xs. r.0 ∷ xs) (entries text role (behind_entry text s p) ps) es r.2 in
+      let e_is = none_of role s p.name r.0 none1.0 r.1 in
+      ap sites_of (sym q.2) ∙ ap (λ (x : Option ℕ). sites_of (x ∷ q.0)) e_is ∙ entries_unnamed role (behind_entry text s p) ps q.0 none1.1 q.1
+
+  site_of : (s : Scope) (o : Option Name) (n : Name) (e : Option ℕ) → o ≡ Some n → entry_in text Result s o ≡ Some e → e ≡ Some (length s.sites)
+  site_of s None n e o_is is = absurd (none_some o_is)
+  site_of s (Some m) n e o_is is = result_is (is_blank (spelled text m)) (is_reserved (spelled text m)) (is_here s (spelled text m)) (length s.sites) e is
+
+  -- results with names have a variable each
+  entries_named : (s : Scope) (ps : List Slot) (es : List (Option ℕ)) → AllNames ps → entries text Result s ps ≡ Some es → AllSites es
+  entries_named s [] es all is = subst AllSites (same_some is) tt
+  entries_named s (p ∷ ps) es all is =
+      let r = and_then_some (λ e. option_map (λ xs. e ∷ xs) (entries text Result (behind_entry text s p) ps)) (entry_in text Result s p.name) es is in
+      let q = map_some (λ xs. r.0 ∷ xs) (entries text Result (behind_entry text s p) ps) es r.2 in
+      let e_is = site_of s p.name all.0.0 r.0 all.0.1 r.1 in
+      let later = entries_named (behind_entry text s p) ps q.0 all.1 q.1 in
+      subst AllSites q.2 (subst (λ (x : Option ℕ). AllSites (x ∷ q.0)) (sym e_is) later)
+
   slots_long : (ps : Parameters) → length (slots_of text ps) ≡ length (params_of ps)
   slots_long ps = length-map (params_of ps) (slot_of text)
 
@@ -63,13 +161,23 @@ module _ (text : List ℕ) where
         ap (λ (x : Signature). length x.results) (sym q.2) ∙ types_long (slots_of text g.results) q.0 q.1 ∙ slots_long g.results,
       )
 
-  zeros_long : (g : TreeFunction) → length (map (λ (slot : Slot). let n : ℕ = 0 in n) (slots_of text g.results)) ≡ length (params_of g.results)
-  zeros_long g = length-map (slots_of text g.results) (λ (slot : Slot). let n : ℕ = 0 in n) ∙ slots_long g.results
+  numbers_long : (ps : Parameters) → length (map slot_number (slots_of text ps)) ≡ length (params_of ps)
+  numbers_long ps = length-map (slots_of text ps) slot_number ∙ slots_long ps
 
   function_counts : (s : Scope) (i : ℕ) (g : TreeFunction) (t : Func) → function text s i g ≡ Some t → (argument_words t ≡ length (params_of g.params)) × (result_words t ≡ length (params_of g.results))
   function_counts s i g t is =
       let p = (function_some text s i g t is).1.1 in
-      (ap argument_words (sym p.3.6) ∙ entries_long Parameter (opened s) (slots_of text g.params) p.3.0 p.3.3 ∙ slots_long g.params, ap result_words (sym p.3.6) ∙ zeros_long g)
+      (ap argument_words (sym p.3.6) ∙ entries_long Parameter (opened s) (slots_of text g.params) p.3.0 p.3.3 ∙ slots_long g.params, ap result_words (sym p.3.6) ∙ numbers_long g.results)
+
+  -- a function has the types that its signature says
+  function_types : (s : Scope) (i : ℕ) (g : TreeFunction) (t : Func) (sig : Signature) → function text s i g ≡ Some t → signature_in text g ≡ Some sig → (t.param_types ≡ type_numbers sig.params) × (t.results ≡ type_numbers sig.results)
+  function_types s i g t sig is signed =
+      let p = (function_some text s i g t is).1.1 in
+      let r = and_then_some (λ ps. option_map (λ rs. record { params = ps; results = rs }) (types_of (slots_of text g.results))) (types_of (slots_of text g.params)) sig signed in
+      let q = map_some (λ rs. record { params = r.0; results = rs }) (types_of (slots_of text g.results)) sig r.2 in (
+        ap (λ (x : Func). x.param_types) (sym p.3.6) ∙ numbers_are (slots_of text g.params) r.0 (slots_have (slots_of text g.params) r.0 r.1) ∙ ap (λ (x : Signature). type_numbers x.params) q.2,
+        ap (λ (x : Func). x.results) (sym p.3.6) ∙ numbers_are (slots_of text g.results) q.0 (slots_have (slots_of text g.results) q.0 q.1) ∙ ap (λ (x : Signature). type_numbers x.results) q.2,
+      )
 
   small_words : (g : TreeFunction) → is_small (signature_in text g) ≡ true → length (params_of g.params) + length (params_of g.results) ≤ 65535
   small_words g is = by (signature_in text g) refl is
@@ -80,66 +188,76 @@ module _ (text : List ℕ) where
 
   -- ---- one function
 
-  -- all results have a variable, or none has
-  names_of : (s : Scope) (ps : Parameters) (rs : List (Option ℕ)) → entries text Result s (slots_of text ps) ≡ Some rs → (n : ℕ) → length rs ≡ n → (sites_of rs ≡ []) ⊎ (length (sites_of rs) ≡ n)
-  names_of s (unnamed ts) rs is n long = inl (entries_unnamed text Result s (slots_of text (unnamed ts)) rs (no_names text ts) is)
-  names_of s (named fs) rs is n long = inr (entries_named text s (slots_of text (named fs)) rs (all_names text fs) is ∙ long)
+  -- all results have a variable of their type, or none has
+  names_of : (p : Program) (m : ℕ) (s : Scope) (ps : Parameters) (ts : List ℕ) (rs : List (Option ℕ)) → entries text Result s (slots_of text ps) ≡ Some rs → ParamsFit p m ts rs → (sites_of rs ≡ []) ⊎ (map (site_type p) (sites_of rs) ≡ ts)
+  names_of p m s (unnamed us) ts rs is fit = inl (entries_unnamed Result s (slots_of text (unnamed us)) rs (no_names us) is)
+  names_of p m s (named fs) ts rs is fit = inr (all_types p m ts rs (entries_named s (slots_of text (named fs)) rs (all_names fs) is) fit)
 
   bare_of : (s : Scope) (ps : Parameters) (rs : List (Option ℕ)) → entries text Result s (slots_of text ps) ≡ Some rs → length rs ≡ length (params_of ps) → (b : Bool) → (length (params_of ps) == 0) ≡ b → (b || is_named ps) ≡ true
       → length (params_of ps) ≡ length (sites_of rs)
   bare_of s ps rs found long true zero1 is = let z = eqb-true (length (params_of ps)) 0 zero1 in z ∙ ap (λ l. length (sites_of l)) (sym (empty_list rs (long ∙ z)))
   bare_of s (unnamed ts) rs found long false zero1 is = absurd cc
-  bare_of s (named fs) rs found long false zero1 is = sym (entries_named text s (slots_of text (named fs)) rs (all_names text fs) found ∙ long)
+  bare_of s (named fs) rs found long false zero1 is = sym (all_long rs (entries_named s (slots_of text (named fs)) rs (all_names fs) found) ∙ long)
 
-  returns_fit : (s : Scope) (g : TreeFunction) (rs : List (Option ℕ)) → entries text Result s (slots_of text g.results) ≡ Some rs → length rs ≡ length (params_of g.results) → ReturnsFit (returns_of g) (length (sites_of rs))
-  returns_fit s g rs found long = record {
-    bare = λ is. bare_of s g.results rs found long (length (params_of g.results) == 0) refl is;
-    no_values = λ is. ap (λ l. length (sites_of l)) (empty_list rs (long ∙ is));
+  returns_fit : (s : Scope) (g : TreeFunction) (ts : List ValueType) (rs : List (Option ℕ)) → SlotsHave (slots_of text g.results) ts → entries text Result s (slots_of text g.results) ≡ Some rs → length rs ≡ length (params_of g.results)
+      → ReturnsFit (returns_of text g) (map slot_number (slots_of text g.results)) (length (sites_of rs))
+  returns_fit s g ts rs have found long = record {
+    types = ts;
+    wanted = wanted_are (slots_of text g.results) ts have;
+    numbers = sym (numbers_are (slots_of text g.results) ts have);
+    bare = λ is. numbers_long g.results ∙ bare_of s g.results rs found long (length (params_of g.results) == 0) refl is;
+    no_values = λ is. ap (λ l. length (sites_of l)) (empty_list rs (long ∙ (sym (numbers_long g.results) ∙ ap length is)));
   }
 
-  module _ (fs : List Func) (sigs : List (Option Signature)) (agrees : Agrees sigs fs) where
-    function_fits : (s : Scope) (i : ℕ) (g : TreeFunction) (t : Func) → Visible s [] → s.signatures ≡ sigs → function text s i g ≡ Some t → FuncFits fs t
-    function_fits s i g t visible signed is =
+  module _ (p : Program) (all : List Site) (has : HasSites p all) (sigs : List (Option Signature)) (agrees : AreSigned sigs p.funcs) where
+    function_fits : (s : Scope) (i : ℕ) (g : TreeFunction) (t : Func) → Visible s [] → s.signatures ≡ sigs → Extends (behind_function text s g).sites all → function text s i g ≡ Some t → FuncFits p t
+    function_fits s i g t visible signed ext0 is =
         let found = function_some text s i g t is in
         let b = found.0 in
-        let p = found.1.1 in
-        let ps = p.3.0 in
-        let rs = p.3.1 in
-        let body = p.3.2 in
-        let wanted = length (params_of g.results) in
-        let types = signature_parts text g (small_signed (signature_in text g) p.1) in
-        let one1 = entries_fit text Parameter (opened s) [] (slots_of text g.params) types.0 ps (visible_opened s [] visible) types.2 p.3.3 in
-        let two1 = entries_fit text Result (behind_params text s g) (params_scope [] ps) (slots_of text g.results) types.1 rs one1.visible types.3 p.3.4 in
+        let k = found.1.1 in
+        let ps = k.3.0 in
+        let rs = k.3.1 in
+        let body = k.3.2 in
+        let results1 = map slot_number (slots_of text g.results) in
+        let types = signature_parts text g (small_signed (signature_in text g) k.1) in
+        let have_params = slots_have (slots_of text g.params) types.0 types.2 in
+        let have_results = slots_have (slots_of text g.results) types.1 types.3 in
         let inner = body_scope text s g in
         let last1 = behind_all text inner b.statements in
-        let long : length rs ≡ wanted = two1.long ∙ slots_long g.results in
-        let goes = returns_fit (behind_params text s g) g rs p.3.4 long in
-        let formed = formed_all text fs (returns_of g) (length (sites_of rs)) goes sigs agrees inner (params_scope (params_scope [] ps) rs) b.statements body two1.visible ((grows_body text s g).signatures ∙ signed) p.3.5 in
+        let ext : Extends last1.sites all = subst (λ (o : Option Body). Extends (behind_body text s g o).sites all) found.1.0 ext0 in
+        let ext_inner = extends_twice inner.sites last1.sites all (grows_all text inner b.statements).sites ext in
+        let ext_params = extends_twice (behind_params text s g).sites inner.sites all (grows_entries text (behind_params text s g) (slots_of text g.results)).sites ext_inner in
+        let one1 = entries_fit text p all has Parameter (opened s) [] (slots_of text g.params) types.0 ps (visible_opened s [] visible) have_params k.3.3 ext_params in
+        let two1 = entries_fit text p all has Result (behind_params text s g) (params_scope [] ps) (slots_of text g.results) types.1 rs one1.visible have_results k.3.4 ext_inner in
+        let long : length rs ≡ length (params_of g.results) = two1.long ∙ slots_long g.results in
+        let goes = returns_fit (behind_params text s g) g types.1 rs have_results k.3.4 long in
+        let formed = formed_all text p all has sigs agrees (returns_of text g) results1 (length (sites_of rs)) goes false inner (params_scope (params_scope [] ps) rs) b.statements body two1.visible ((grows_body text s g).signatures ∙ signed) ext k.3.5 in
         let t0 = func text s g b ps rs body in
         let named_long = sites_long rs in
-        let words_are : result_words t0 ≡ wanted = zeros_long g in
+        let words_are : result_words t0 ≡ length (params_of g.results) = numbers_long g.results in
+        let param_types_are = numbers_are (slots_of text g.params) types.0 have_params in
+        let result_types_are = numbers_are (slots_of text g.results) types.1 have_results in
         let first_is : t0.first + with_sites ps ≡ length (behind_params text s g).sites = one1.count in
         let body_is : body_first t0 ≡ length inner.sites = omega (arith, one1.count, two1.count, named_long) in
         let whole : t0.first + t0.count ≡ length last1.sites = omega (arith, one1.count, two1.count, formed.count) in
-        let statements1 : StsFit fs wanted (length (sites_of rs)) (params_scope (params_scope [] ps) rs) (length inner.sites) (length last1.sites) body = formed.fit (length last1.sites) (omega arith) in
-        subst (FuncFits fs) p.3.6
+        let statements1 : StsFit p results1 (length (sites_of rs)) false (params_scope (params_scope [] ps) rs) (length inner.sites) (length last1.sites) body = formed.fit (length last1.sites) (omega arith) in
+        subst (FuncFits p) k.3.6
         (record {
-          params = one1.fit;
-          named = subst (λ m. NamedFit m (sites_of rs)) (sym first_is) (named_of_params (length (behind_params text s g).sites) rs two1.fit);
-          names = names_of (behind_params text s g) g.results rs p.3.4 (result_words t0) (long ∙ sym words_are);
+          params = subst (λ l. ParamsFit p (length s.sites) l ps) (sym param_types_are) one1.fit;
+          named = subst (λ m. NamedFit p m (sites_of rs)) (sym first_is) (named_of_params p (length (behind_params text s g).sites) (type_numbers types.1) rs two1.fit);
+          names = names_of p (length (behind_params text s g).sites) (behind_params text s g) g.results results1 rs k.3.4 (subst (λ l. ParamsFit p (length (behind_params text s g).sites) l rs) (sym result_types_are) two1.fit);
           count = omega (arith, one1.count, two1.count, formed.count, named_long);
-          body = subst (λ w. StsFit fs w (length (sites_of rs)) (scope_in t0) (body_first t0) (t0.first + t0.count) body) (sym words_are)
-              (subst (λ n. StsFit fs wanted (length (sites_of rs)) (scope_in t0) (body_first t0) n body) (sym whole)
-              (subst (λ m. StsFit fs wanted (length (sites_of rs)) (scope_in t0) m (length last1.sites) body) (sym body_is)
-              (subst (λ (l : List ℕ). StsFit fs wanted (length (sites_of rs)) l (length inner.sites) (length last1.sites) body) (named_scope_of (params_scope [] ps) rs) statements1)));
-          end = finish b body (result_words t0) (wanted == 0) refl p.2 (sym (ends_same body) ∙ ends_list text (returns_of g) inner b.statements body p.3.5 false) words_are;
-          small = omega (arith, small_words g p.1, words_are, one1.long, slots_long g.params);
+          body = subst (λ n. StsFit p results1 (length (sites_of rs)) false (scope_in t0) (body_first t0) n body) (sym whole)
+              (subst (λ m. StsFit p results1 (length (sites_of rs)) false (scope_in t0) m (length last1.sites) body) (sym body_is)
+              (subst (λ (l : List ℕ). StsFit p results1 (length (sites_of rs)) false l (length inner.sites) (length last1.sites) body) (named_scope_of (params_scope [] ps) rs) statements1));
+          end = finish b body (result_words t0) (length (params_of g.results) == 0) refl k.2 (λ ending. sym (ends_same body) ∙ ends_list text (returns_of text g) false inner b.statements body k.3.5 false ending) words_are;
+          small = omega (arith, small_words g k.1, words_are, one1.long, slots_long g.params);
         })
       where
-        finish : (b : Body) (body : Sts) (w : ℕ) (none1 : Bool) → (length (params_of g.results) == 0) ≡ none1 → (none1 || ends_after false b.statements) ≡ true → ends_all body ≡ ends_after false b.statements → w ≡ length (params_of g.results)
+        finish : (b : Body) (body : Sts) (w : ℕ) (none1 : Bool) → (length (params_of g.results) == 0) ≡ none1 → (none1 || ends_after text false b.statements) ≡ true → (ends_after text false b.statements ≡ true → ends_all body ≡ true) → w ≡ length (params_of g.results)
             → (w ≡ 0) ⊎ (ends_all body ≡ true)
-        finish b body w true zero1 is same w_is = inl (w_is ∙ eqb-true (length (params_of g.results)) 0 zero1)
-        finish b body w false zero1 is same w_is = inr (same ∙ is)
+        finish b body w true zero1 is1 same w_is = inl (w_is ∙ eqb-true (length (params_of g.results)) 0 zero1)
+        finish b body w false zero1 is1 same w_is = inr (same is1)
 
   -- ---- the functions of a program
 
@@ -156,19 +274,21 @@ module _ (text : List ℕ) where
       let later = function_at (behind_function text s h) (1 + i) gs q.0 q.1 k g found in
       (later.0, (later.1.0, (later.1.1.0, (ap (λ (l : List Func). slice_get l (suc k)) (sym q.2) ∙ later.1.1.1.0, later.1.1.1.1))))
 
-  module _ (fs : List Func) (sigs : List (Option Signature)) (agrees : Agrees sigs fs) where
-    all_fit : (s : Scope) (i : ℕ) (gs : List TreeFunction) (ts : List Func) → Visible s [] → s.signatures ≡ sigs → functions text s i gs ≡ Some ts → (k : ℕ) (t : Func) → slice_get ts k ≡ Some t → FuncFits fs t
-    all_fit s i [] ts visible signed is k t found = absurd (none_some (subst (λ (l : List Func). slice_get l k ≡ Some t) (sym (same_some is)) found))
-    all_fit s i (h ∷ gs) ts visible signed is k t found =
-        let r = and_then_some (λ x. option_map (λ us. x ∷ us) (functions text (behind_function text s h) (1 + i) gs)) (function text s i h) ts is in
-        let q = map_some (λ us. r.0 ∷ us) (functions text (behind_function text s h) (1 + i) gs) ts r.2 in
+  module _ (p : Program) (all : List Site) (has : HasSites p all) (sigs : List (Option Signature)) (agrees : AreSigned sigs p.funcs) where
+    all_fit : (s : Scope) (i : ℕ) (gs : List TreeFunction) (ts : List Func) → Visible s [] → s.signatures ≡ sigs → Extends (behind_functions text s gs).sites all → functions text s i gs ≡ Some ts → (k : ℕ) (t : Func) → slice_get ts k ≡ Some t → FuncFits p t
+    all_fit s i [] ts visible signed ext is k t found = absurd (none_some (subst (λ (l : List Func). slice_get l k ≡ Some t) (sym (same_some is)) found))
+    all_fit s i (h ∷ gs) ts visible signed ext is k t found =
+        let s1 = behind_function text s h in
+        let r = and_then_some (λ x. option_map (λ us. x ∷ us) (functions text s1 (1 + i) gs)) (function text s i h) ts is in
+        let q = map_some (λ us. r.0 ∷ us) (functions text s1 (1 + i) gs) ts r.2 in
         let keeps = keeps_function text s h in
-        by k r.0 q.0 (function_fits fs sigs agrees s i h r.0 visible signed r.1)
-        (λ j found1. all_fit (behind_function text s h) (1 + i) gs q.0 (visible_kept s (behind_function text s h) [] visible keeps) (keeps.signatures ∙ signed) q.1 j t found1)
+        let ext1 = extends_twice s1.sites (behind_functions text s1 gs).sites all (keeps_functions text s1 gs).sites ext in
+        by k r.0 q.0 (function_fits p all has sigs agrees s i h r.0 visible signed ext1 r.1)
+        (λ j found1. all_fit s1 (1 + i) gs q.0 (visible_kept s s1 [] visible keeps) (keeps.signatures ∙ signed) ext q.1 j t found1)
         (subst (λ (l : List Func). slice_get l k ≡ Some t) (sym q.2) found)
       where
-        by : (j : ℕ) (x : Func) (us : List Func) → FuncFits fs x → ((n : ℕ) → slice_get us n ≡ Some t → FuncFits fs t) → slice_get (x ∷ us) j ≡ Some t → FuncFits fs t
-        by zero x us here1 later found1 = subst (FuncFits fs) (same_some found1) here1
+        by : (j : ℕ) (x : Func) (us : List Func) → FuncFits p x → ((n : ℕ) → slice_get us n ≡ Some t → FuncFits p t) → slice_get (x ∷ us) j ≡ Some t → FuncFits p t
+        by zero x us here1 later found1 = subst (FuncFits p) (same_some found1) here1
         by (suc j) x us here1 later found1 = later j found1
 
   few_functions : (s : Scope) (i : ℕ) (gs : List TreeFunction) (ts : List Func) → functions text s i gs ≡ Some ts → i ≤ 4096 → i + length ts ≤ 4096
@@ -197,13 +317,31 @@ module _ (text : List ℕ) where
   signed_function (g ∷ gs) zero sig is = (g, (refl, is))
   signed_function (g ∷ gs) (suc k) sig is = signed_function gs k sig is
 
-  agree : (gs : List TreeFunction) (ts : List Func) → functions text (with_functions text beginning gs) 0 gs ≡ Some ts → Agrees (with_functions text beginning gs).signatures ts
+  agree : (gs : List TreeFunction) (ts : List Func) → functions text (with_functions text beginning gs) 0 gs ≡ Some ts → AreSigned (with_functions text beginning gs).signatures ts
   agree gs ts is k sig found =
       let g = signed_function gs k sig (ap (λ (l : List (Option Signature)). option_and_then (λ o. o) (slice_get l k)) (sym (signatures_are beginning gs)) ∙ found) in
       let at = function_at (with_functions text beginning gs) 0 gs ts is k g.0 g.1.0 in
-      let counts = function_counts at.0 at.1.0 g.0 at.1.1.0 at.1.1.1.1 in
-      let sized = signature_counts g.0 sig g.1.1 in
-      (at.1.1.0, at.1.1.1.0, counts.0 ∙ sym sized.0, counts.1 ∙ sym sized.1)
+      let types = function_types at.0 at.1.0 g.0 at.1.1.0 sig at.1.1.1.1 g.1.1 in
+      (at.1.1.0, at.1.1.1.0, types.0, types.1)
+
+-- ---- the sites of a program
+
+type_plain : (t : ValueType) → IsPlain (type_number t)
+type_plain Int = inl refl
+type_plain Truth = inr refl
+
+sites_plain : (sites : List Site) → AllByRecursion IsSite sites → (k : ℕ) → IsPlain (get_or (map (λ (site : Site). site.type_id.0) sites) k int_type)
+sites_plain [] all k = inl refl
+sites_plain (site ∷ sites) all zero = subst IsPlain (sym all.0.1) (type_plain all.0.0)
+sites_plain (site ∷ sites) all (suc k) = sites_plain sites all.1 k
+
+no_sites : (text : List ℕ) (s : Scope) (gs : List TreeFunction) → s.sites ≡ [] → (with_functions text s gs).sites ≡ []
+no_sites text s [] is = is
+no_sites text s (g ∷ gs) is = no_sites text (with_function text s g) gs (by (declares_name s (spelled text g.name)))
+  where
+    by : (b : Bool) → (with_signature (cond b (with_declaration s (spelled text g.name) (Function (record { 0 = length s.signatures }))) s) (signature_in text g)).sites ≡ []
+    by true = is
+    by false = is
 
 -- a function without parameters and results
 abbrev PlainAt : List TreeFunction → ℕ → Type 0
@@ -248,16 +386,25 @@ in_form t p a =
     let gs = functions_in (declarations_in t) in
     let w = allowed_some (are_supported (declarations_in t)) (functions t.text (package_scope t) 0 gs) a.funcs a.functions in
     let s = with_functions t.text beginning gs in
-    let found : functions t.text s 0 gs ≡ Some a.funcs = ap (λ v. functions t.text v 0 gs) (sym (only_functions t.text beginning (declarations_in t) w.0)) ∙ w.1 in
+    let scope_is = only_functions t.text beginning (declarations_in t) w.0 in
+    let found : functions t.text s 0 gs ≡ Some a.funcs = ap (λ v. functions t.text v 0 gs) (sym scope_is) ∙ w.1 in
+    let all = (behind_functions t.text s gs).sites in
+    let sites_are : sites_in t ≡ all = ap (λ (v : Scope). (behind_functions t.text v gs).sites) scope_is in
+    let p0 = program_with t a.funcs a.main in
+    let has : HasSites p0 all = ap (map (λ (site : Site). site.type_id.0)) sites_are in
     let agrees = agree t.text gs a.funcs found in
     let g = main_some t a.main a.main_is in
     let at = function_at t.text s 0 gs a.funcs found a.main g.0 g.1.0 in
     let plain = plain_function t.text at.0 at.1.0 g.0 at.1.1.0 at.1.1.1.1 g.1.1.0 g.1.1.1 in
     let few0 = few_functions t.text s 0 gs a.funcs found (omega arith) in
     let few : length a.funcs ≤ 4096 = omega (arith, few0) in
+    let grown = (keeps_functions t.text s gs).sites in
+    let every : AllByRecursion IsSite all = subst (λ (l : List Site). AllByRecursion IsSite l) (sym (grown.1 ∙ ap (λ (l : List Site). l ++ grown.0) (no_sites t.text beginning gs refl))) grown.2 in
     subst IsInForm (sym a.is)
     (record {
-      fits = λ k f got. all_fit t.text a.funcs s.signatures agrees s 0 gs a.funcs (visible_package t.text beginning gs visible_beginning) refl found k f got;
+      fits = λ k f got. all_fit t.text p0 all has s.signatures agrees s 0 gs a.funcs (visible_package t.text beginning gs visible_beginning) refl ([], sym (append-nil all), tt) found k f got;
       few = few;
       main = (at.1.1.0, at.1.1.1.0, plain.0, plain.1.0, plain.1.1);
+      plain = λ site. subst (λ (l : List ℕ). IsPlain (get_or l site int_type)) (sym has) (sites_plain all every site);
+      zeros = refl;
     })

@@ -1,18 +1,76 @@
 -- Names, and expressions at the place of a type, that are copied out.
-use Rattle.std.proofs.Common.{◌≡◌, suc, ◌<◌, get_or, drop, length, List, [], ◌∷◌, sym, ap, None, refl, arith}
+use Rattle.std.proofs.Common.{◌≡◌, ℕ, zero, suc, Bool, true, false, ◌<◌, get_or, drop, map, length, List, [], ◌∷◌, Option, Some, None, sym, ap, refl, arith}
+use Rattle.std.specs.Prelude.{◌==◌, slice_get, option_and_then}
+use Rattle.std.specs.Option.{option_map}
+use Rattle.std.proofs.lemmas.Bool.{eqb-true}
 use Rattle.syntax.specs.declared.expression.Expr.{Expr}
-use Rattle.syntax.specs.Expressions.{some, ex_of, exs_of}
+use Rattle.syntax.specs.declared.expression.Name.{Name}
+use Rattle.syntax.specs.Expressions.{Ex as TreeEx, Exs as TreeExs, some, ex_of, exs_of}
+use Rattle.expression_types.specs.declared.scope.ValueType.{ValueType}
 use Rattle.types_go.specs.declared.slots.Slot.{Slot}
-use Rattle.types_go.specs.Statements.{how_many}
+use Rattle.types_go.specs.Entries.{slot_with, first_type, later_types}
+use Rattle.types_go.specs.Statements.{only, is_bare, spec_slots_of}
 
 abbrev pub no_slot : Slot
 no_slot = record { name = None; value_type = None }
-
-pub how_many_are : (es : List Expr) → how_many (exs_of es) ≡ length es
-how_many_are [] = refl
-how_many_are (e ∷ es) = ap suc (how_many_are es)
 
 -- the first one of some expressions
 pub first_of : (es : List Expr) (e : Expr) → 0 < length es → e ≡ get_or es 0 e → exs_of es ≡ some (ex_of e) (exs_of (drop 1 es))
 first_of [] e some1 is = absurd (omega (arith, some1))
 first_of (x ∷ es) e some1 is = ap (λ y. some (ex_of y) (exs_of es)) (sym is)
+
+pub bare_is : (e : TreeEx) (xs : List Expr) → is_bare (Some e) (exs_of xs) ≡ (length xs == 0)
+bare_is e [] = refl
+bare_is e (x ∷ xs) = by (length (x ∷ xs) == 0) refl
+  where
+    by : (b : Bool) → (length (x ∷ xs) == 0) ≡ b → false ≡ b
+    by false is = refl
+    by true is = let none : length (x ∷ xs) ≡ 0 = eqb-true (length (x ∷ xs)) 0 is in absurd (omega (arith, none))
+
+-- types one by one, from one on
+abbrev pub types_from : ℕ → Option (List ValueType) → Option (List ValueType)
+types_from n ts = option_map (drop n) ts
+
+first_from : (l : List ValueType) (n : ℕ) → first_type (Some (drop n l)) ≡ slice_get l n
+first_from [] zero = refl
+first_from [] (suc n) = refl
+first_from (t ∷ l) zero = refl
+first_from (t ∷ l) (suc n) = first_from l n
+
+later_from : (l : List ValueType) (n : ℕ) → later_types (Some (drop n l)) ≡ Some (drop (suc n) l)
+later_from [] zero = refl
+later_from [] (suc n) = refl
+later_from (t ∷ l) zero = refl
+later_from (t ∷ l) (suc n) = later_from l n
+
+pub first_is : (ts : Option (List ValueType)) (n : ℕ) → first_type (types_from n ts) ≡ option_and_then (λ l. slice_get l n) ts
+first_is None n = refl
+first_is (Some l) n = first_from l n
+
+pub later_is : (ts : Option (List ValueType)) (n : ℕ) → later_types (types_from n ts) ≡ types_from (suc n) ts
+later_is None n = refl
+later_is (Some l) n = later_from l n
+
+pub from_start : (ts : Option (List ValueType)) → types_from 0 ts ≡ ts
+from_start None = refl
+from_start (Some l) = refl
+
+-- the types of names that share one
+pub types_with : (t : Option ValueType) (ns : List Name) → map (λ (p : Slot). p.value_type) (map (slot_with t) ns) ≡ map (λ (n : Name). t) ns
+types_with t [] = refl
+types_with t (n ∷ ns) = ap (λ l. t ∷ l) (types_with t ns)
+
+-- with a type that stands there, the types of values don't matter
+pub bare_slots : (text : List ℕ) (o : Option TreeEx) (es : TreeExs) (ts us : Option (List ValueType)) (ns : List Name) → is_bare o es ≡ true → spec_slots_of text o ts ns ≡ spec_slots_of text o us ns
+bare_slots text None es ts us ns is = cc is
+bare_slots text (Some e) es ts us ns is = refl
+
+pub only_other : (xs : List Expr) → (length xs == 1) ≡ false → only (exs_of xs) ≡ None
+only_other [] is = refl
+only_other (x ∷ y ∷ xs) is = refl
+only_other (x ∷ []) is = cc is
+
+pub only_first : (xs : List Expr) → (length xs == 1) ≡ true → only (exs_of xs) ≡ option_map ex_of (slice_get xs 0)
+only_first [] is = cc is
+only_first (x ∷ []) is = refl
+only_first (x ∷ y ∷ xs) is = let none : length (x ∷ y ∷ xs) ≡ 1 = eqb-true (length (x ∷ y ∷ xs)) 1 is in absurd (omega (arith, none))

@@ -1,11 +1,10 @@
 -- A tree has a typed program, or a rule fails in it, and never both.
 use Rattle.std.proofs.Common.{◌≡◌, ℕ, zero, suc, ◌+◌, ◌<◌, ◌≤◌, Bool, true, false, cond, List, [], ◌∷◌, ◌++◌, ◌⊎◌, inl, inr, length, map, Option, Some, None, refl, sym, ap, ◌∙◌, subst, arith, length-append}
-use Rattle.std.specs.Prelude.{⊤, option_and_then, is_some, not, slice_get, nat_lt, nat_le, ◌&&◌, ◌==◌}
+use Rattle.std.specs.Prelude.{⊤, option_and_then, not, slice_get, nat_lt, nat_le}
 use Rattle.std.specs.List.{AllByRecursion}
 use Rattle.std.specs.Option.{option_map}
 use Rattle.base.specs.declared.pos.Pos.{Pos}
 use Rattle.names.specs.Blocks.{lookup}
-use Rattle.syntax.specs.declared.expression.Name.{Name}
 use Rattle.syntax.specs.FirstBytes.{first_place}
 use Rattle.syntax.specs.Expressions.{Ex as TreeEx, name, paren, spelled}
 use Rattle.syntax.specs.Declarations.{Body, Function as TreeFunction, Declaration, constants, variables, types, Syntax}
@@ -14,60 +13,45 @@ use Rattle.typed.specs.Syntax.{Sts, Func}
 use Rattle.expression_types.specs.declared.fault.Fault.{Fault}
 use Rattle.expression_types.specs.declared.fault.FaultKind.TheVariants.{Unknown, Redeclared, MissingReturn, BadOperand, OutOfProfile, TooLarge}
 use Rattle.expression_types.specs.declared.scope.ValueType.{ValueType}
-use Rattle.expression_types.specs.declared.scope.ValueType.TheVariants.{Int}
 use Rattle.expression_types.specs.declared.scope.Declared.{Declared}
 use Rattle.expression_types.specs.declared.scope.Declared.TheVariants.{Variable, Untyped, Function, TypeName}
-use Rattle.expression_types.specs.Profile.{is_blank, is_int_type, is_type_name, is_value_name, is_predeclared, is_reserved}
-use Rattle.expression_types.specs.Scope.{Scope, Signature, declaration, is_here, with_declaration, with_variable, with_signature, opened, beginning}
+use Rattle.expression_types.specs.Profile.{named_type, is_blank, is_type_name, is_value_name, is_predeclared}
+use Rattle.expression_types.specs.Scope.{Scope, Signature, declaration, with_declaration, with_signature, opened, beginning}
 use Rattle.expression_types.specs.Typing.{type_in, allowed}
-use Rattle.expression_types.specs.Faults.{fault, TypeNameFails, FailsAsType}
+use Rattle.expression_types.specs.Faults.{fault, IsFault, type_name_fault, FailsAsType}
 use Rattle.types_go.specs.declared.slots.Slot.{Slot}
-use Rattle.types_go.specs.declared.entries.Role.{Role}
 use Rattle.types_go.specs.declared.entries.Role.TheVariants.{Parameter, Result}
+use Rattle.types_go.specs.EntryFaults.{EntriesFail}
 use Rattle.types_go.specs.Statements.{behind_all}
-use Rattle.types_go.specs.Functions.{Param, params_of, slot_of, slots_of, types_of, blank_entry, variable_entry, entry_of, words, is_number, may_be_named, is_small, declares_name, signature_in, with_function, with_items, functions_in, is_supported, are_supported, entry_in, behind_entry_name, behind_entry, entries, behind_entries, behind_params, body_scope, behind_body, behind_function, returns_of, may_end, func, param_entries, result_entries, body_of, parts, function_head, function_with, function, functions, declarations_in, package_scope, program_functions}
-use Rattle.types_go.specs.StatementFaults.{FailsWhere, FailsInStatements}
-use Rattle.types_go.specs.FunctionFaults.{NumberFails, FunctionNameFails, BlankFails, VariableFails, NamedFails, SizeFails, TypesFail, EntryFails, EntriesFail, FailsInHead, FailsInTypes, FailsInParts, external_fault, FailsWith, FailsInFunction, FailsInFunctions, DeclarationFails, DeclarationsFail}
+use Rattle.types_go.specs.Functions.{Param, params_of, slot_of, slots_of, types_of, words, is_number, may_be_named, is_small, declares_name, signature_in, with_function, with_items, functions_in, is_supported, are_supported, behind_params, body_scope, behind_body, behind_function, returns_of, may_end, func, param_entries, result_entries, body_of, parts, function_head, function_with, function, functions, declarations_in, package_scope, program_functions}
+use Rattle.types_go.specs.StatementFaults.{fault_where, FailsInStatements}
+use Rattle.types_go.specs.FunctionFaults.{function_name_fault, size_fault, TypesFail, FailsInHead, FailsInTypes, FailsInParts, external_fault, FailsWith, FailsInFunction, FailsInFunctions, DeclarationFails, DeclarationsFail}
 use Rattle.expression_types.proofs.Decided.{Decided, Tested, further, same, mapped, after, both_decided, both_tested}
 use Rattle.expression_types.proofs.Options.{and_then_some, map_some}
 use Rattle.expression_types.proofs.Settled.{HasSignature, IsTyped, IsSettled}
 use Rattle.types_go.proofs.Growth.{IsLocal, Keeps, keeps_function}
-use Rattle.types_go.proofs.SettledStatements.{one_more_declared, settled_with, settled_opened, settled_closed, settled_all, statements_decided}
+use Rattle.types_go.proofs.SettledEntries.{where_not, one_more_declared, settled_opened, settled_closed, AllTyped, settled_entries, entries_decided}
+use Rattle.types_go.proofs.SettledStatements.{settled_all, statements_decided}
 
 -- ---- the head and the types of a function
 
-number_tested : (i : ℕ) (d : Option Declared) (at : Pos) → Tested (is_number i d) (NumberFails i d at)
-number_tested i None at = λ f h. h
-number_tested i (Some (Variable site)) at = (fault Redeclared at, refl)
-number_tested i (Some Untyped) at = (fault Redeclared at, refl)
-number_tested i (Some TypeName) at = (fault Redeclared at, refl)
-number_tested i (Some (Function g)) at = by (g.0 == i)
-  where
-    by : (b : Bool) → Tested b (λ f. (b ≡ false) × (f ≡ fault Redeclared at))
-    by true = λ f h. cc h.0
-    by false = (fault Redeclared at, (refl, refl))
-
-name_tested : (i : ℕ) (is_blank predeclared : Bool) (d : Option Declared) (at : Pos) → Tested (may_be_named i is_blank predeclared d) (FunctionNameFails i is_blank predeclared d at)
+name_tested : (i : ℕ) (is_blank predeclared : Bool) (d : Option Declared) (at : Pos) → Tested (may_be_named i is_blank predeclared d) (IsFault (function_name_fault i is_blank predeclared d at))
 name_tested i true predeclared d at = λ f h. h
 name_tested i false true d at = (fault OutOfProfile at, refl)
-name_tested i false false d at = number_tested i d at
+name_tested i false false d at = where_not (is_number i d) (fault Redeclared at)
 
-where_not : (b : Bool) (own : Fault) → Tested b (FailsWhere (not b) own)
-where_not true own = λ f h. h
-where_not false own = (own, refl)
-
-small_tested : (sig : Option Signature) (at : Pos) (P : Fault → Type 0) → Decided sig P → Tested (is_small sig) (λ f. P f ⊎ SizeFails sig at f)
+small_tested : (sig : Option Signature) (at : Pos) (P : Fault → Type 0) → Decided sig P → Tested (is_small sig) (λ f. P f ⊎ IsFault (size_fault sig at) f)
 small_tested None at P d = (d.0, inl d.1)
 small_tested (Some sig) at P d = by (nat_le (words sig) 65535)
   where
-    by : (b : Bool) → Tested b (λ f. P f ⊎ FailsWhere (not b) (fault TooLarge at) f)
+    by : (b : Bool) → Tested b (λ f. P f ⊎ IsFault (fault_where (not b) (fault TooLarge at)) f)
     by true = λ f h. elim h [ inl k ↦ d f k | inr k ↦ k ]
     by false = (fault TooLarge at, inr refl)
 
 -- ---- where no type is declared
 
 abbrev IsNoType : Declared → Type 0
-IsNoType (Variable site) = ⊤
+IsNoType (Variable site t) = ⊤
 IsNoType Untyped = ⊤
 IsNoType (Function g) = ⊤
 IsNoType TypeName = ⊥
@@ -77,7 +61,7 @@ NoTypes s = AllByRecursion IsNoType s.declared
 
 locals_no_types : (more : List Declared) → AllByRecursion IsLocal more → AllByRecursion IsNoType more
 locals_no_types [] local = tt
-locals_no_types (Variable site ∷ more) local = (tt, locals_no_types more local.1)
+locals_no_types (Variable site t ∷ more) local = (tt, locals_no_types more local.1)
 locals_no_types (Untyped ∷ more) local = (tt, locals_no_types more local.1)
 locals_no_types (Function g ∷ more) local = absurd local.0
 locals_no_types (TypeName ∷ more) local = absurd local.0
@@ -92,7 +76,7 @@ no_types_kept s r all k = subst (λ ds. AllByRecursion IsNoType ds) (sym k.decla
 -- what a list has at a place
 found_type : (ds : List Declared) (k : ℕ) → AllByRecursion IsNoType ds → slice_get ds k ≡ Some TypeName → ⊥
 found_type [] k all is = cc is
-found_type (Variable site ∷ ds) zero all is = cc is
+found_type (Variable site t ∷ ds) zero all is = cc is
 found_type (Untyped ∷ ds) zero all is = cc is
 found_type (Function g ∷ ds) zero all is = cc is
 found_type (TypeName ∷ ds) zero all is = all.0
@@ -105,30 +89,15 @@ no_type_named s all n is = by (lookup s.blocks n) is
     by None is1 = cc is1
     by (Some k) is1 = found_type s.declared k all is1
 
-type_name_decided : (is_int is_type is_value : Bool) (d : Option Declared) (at : Pos) → (d ≡ Some TypeName → ⊥) → Decided (cond is_int (Some Int) None) (TypeNameFails is_int is_type is_value d at)
-type_name_decided true is_type is_value d at known = λ f h. h
-type_name_decided false true is_value d at known = (fault OutOfProfile at, refl)
-type_name_decided false false true d at known = (fault BadOperand at, refl)
-type_name_decided false false false None at known = (fault Unknown at, refl)
-type_name_decided false false false (Some (Variable site)) at known = (fault BadOperand at, refl)
-type_name_decided false false false (Some Untyped) at known = (fault BadOperand at, refl)
-type_name_decided false false false (Some (Function g)) at known = (fault BadOperand at, refl)
-type_name_decided false false false (Some TypeName) at known = absurd (known refl)
-
--- ---- parameters and results
-
-blank_decided : (role : Role) (at : Pos) → Decided (blank_entry role) (BlankFails role at)
-blank_decided Parameter at = λ f h. h
-blank_decided Result at = (fault OutOfProfile at, refl)
-
-variable_decided : (reserved is_here : Bool) (site : ℕ) (at : Pos) → Decided (variable_entry reserved is_here site) (VariableFails reserved is_here at)
-variable_decided true is_here site at = (fault OutOfProfile at, refl)
-variable_decided false true site at = (fault Redeclared at, refl)
-variable_decided false false site at = λ f h. h
-
-named_decided : (role : Role) (is_blank reserved is_here : Bool) (site : ℕ) (at : Pos) → Decided (entry_of role is_blank reserved is_here site) (NamedFails role is_blank reserved is_here at)
-named_decided role true reserved is_here site at = blank_decided role at
-named_decided role false reserved is_here site at = variable_decided reserved is_here site at
+type_name_decided : (t : Option ValueType) (is_type is_value : Bool) (d : Option Declared) (at : Pos) → (d ≡ Some TypeName → ⊥) → Decided t (IsFault (type_name_fault t is_type is_value d at))
+type_name_decided (Some t) is_type is_value d at known = λ f h. h
+type_name_decided None true is_value d at known = (fault OutOfProfile at, refl)
+type_name_decided None false true d at known = (fault BadOperand at, refl)
+type_name_decided None false false None at known = (fault Unknown at, refl)
+type_name_decided None false false (Some (Variable site t)) at known = (fault BadOperand at, refl)
+type_name_decided None false false (Some Untyped) at known = (fault BadOperand at, refl)
+type_name_decided None false false (Some (Function g)) at known = (fault BadOperand at, refl)
+type_name_decided None false false (Some TypeName) at known = absurd (known refl)
 
 -- three tests before what a function's parts are
 three_decided : {A : Type 0} (a b c : Bool) (o : Option A) (P Q R S : Fault → Type 0) → Tested a P → Tested b Q → Tested c S → (b ≡ true → Decided o R) → Decided (allowed a (allowed b (allowed c o))) (λ f. (P f ⊎ Q f) ⊎ (R f ⊎ S f))
@@ -153,7 +122,7 @@ allowed_some false o x is = cc is
 module _ (text : List ℕ) where
   type_decided : (s : Scope) → NoTypes s → (e : TreeEx) → Decided (type_in text e) (FailsAsType text s e)
   type_decided s known (name n) =
-      type_name_decided (is_int_type (spelled text n)) (is_type_name (spelled text n)) (is_value_name (spelled text n)) (declaration s (spelled text n)) n.pos (no_type_named s known (spelled text n))
+      type_name_decided (named_type (spelled text n)) (is_type_name (spelled text n)) (is_value_name (spelled text n)) (declaration s (spelled text n)) n.pos (no_type_named s known (spelled text n))
   type_decided s known (paren at e) = type_decided s known e
   type_decided s known e = (fault OutOfProfile (first_place e), refl)
 
@@ -169,36 +138,13 @@ module _ (text : List ℕ) where
       (types_decided s known (params_of g.params))
       (λ ps is. mapped (λ rs. record { params = ps; results = rs }) (types_of (slots_of text g.results)) (TypesFail text s (params_of g.results)) (types_decided s known (params_of g.results)))
 
-  entry_decided : (role : Role) (s : Scope) (n : Option Name) → Decided (entry_in text role s n) (EntryFails text role s n)
-  entry_decided role s None = λ f h. h
-  entry_decided role s (Some n) = named_decided role (is_blank (spelled text n)) (is_reserved (spelled text n)) (is_here s (spelled text n)) (length s.sites) n.pos
-
-  entries_decided : (role : Role) (s : Scope) (ps : List Slot) → Decided (entries text role s ps) (EntriesFail text role s ps)
-  entries_decided role s [] = λ f h. h
-  entries_decided role s (p ∷ ps) =
-      after (entry_in text role s p.name) (λ e. option_map (λ es. e ∷ es) (entries text role (behind_entry text s p) ps)) (EntryFails text role s p.name) (EntriesFail text role (behind_entry text s p) ps)
-      (entry_decided role s p.name) (λ e is. mapped (λ es. e ∷ es) (entries text role (behind_entry text s p) ps) (EntriesFail text role (behind_entry text s p) ps) (entries_decided role (behind_entry text s p) ps))
-
   -- where all types are known, every variable has one
-  settled_entry : (s : Scope) (n : Option Name) → IsSettled s → IsSettled (behind_entry_name text true s n)
-  settled_entry s None settled = settled
-  settled_entry s (Some n) settled = by (not (is_reserved (spelled text n)) && not (is_here s (spelled text n)))
-    where
-      by : (b : Bool) → IsSettled (cond b (with_variable true s (spelled text n) n.pos) s)
-      by true = settled_with s (spelled text n) n.pos settled
-      by false = settled
-
-  pub known : (ps : List Slot) (p : Slot) (ts : List ValueType) → types_of (p ∷ ps) ≡ Some ts → (is_some p.value_type ≡ true) × ((us : List ValueType) × (types_of ps ≡ Some us))
-  known ps p ts is =
+  all_typed : (ps : List Slot) (ts : List ValueType) → types_of ps ≡ Some ts → AllTyped ps
+  all_typed [] ts is = tt
+  all_typed (p ∷ ps) ts is =
       let r = and_then_some (λ t. option_map (λ us. t ∷ us) (types_of ps)) p.value_type ts is in
       let q = map_some (λ us. r.0 ∷ us) (types_of ps) ts r.2 in
-      (ap is_some r.1, (q.0, q.1))
-
-  pub settled_entries : (s : Scope) (ps : List Slot) (ts : List ValueType) → types_of ps ≡ Some ts → IsSettled s → IsSettled (behind_entries text s ps)
-  settled_entries s [] ts is settled = settled
-  settled_entries s (p ∷ ps) ts is settled =
-      let k = known ps p ts is in
-      settled_entries (behind_entry text s p) ps k.1.0 k.1.1 (subst (λ b. IsSettled (behind_entry_name text b s p.name)) (sym k.0) (settled_entry s p.name settled))
+      (r.0, r.1, all_typed ps q.0 q.1)
 
   pub signature_parts : (g : TreeFunction) → HasSignature (signature_in text g) → (ps rs : List ValueType) × (types_of (slots_of text g.params) ≡ Some ps) × (types_of (slots_of text g.results) ≡ Some rs)
   signature_parts g has = by (signature_in text g) refl has
@@ -213,7 +159,7 @@ module _ (text : List ℕ) where
   pub settled_body : (s : Scope) (g : TreeFunction) → HasSignature (signature_in text g) → IsSettled s → IsSettled (body_scope text s g)
   settled_body s g has settled =
       let t = signature_parts g has in
-      settled_entries (behind_params text s g) (slots_of text g.results) t.1 t.3 (settled_entries (opened s) (slots_of text g.params) t.0 t.2 (settled_opened s settled))
+      settled_entries text (behind_params text s g) (slots_of text g.results) (all_typed (slots_of text g.results) t.1 t.3) (settled_entries text (opened s) (slots_of text g.params) (all_typed (slots_of text g.params) t.0 t.2) (settled_opened s settled))
 
   head_tested : (s : Scope) (i : ℕ) (g : TreeFunction) → Tested (function_head text s i g) (FailsInHead text s i g)
   head_tested s i g =
@@ -223,25 +169,25 @@ module _ (text : List ℕ) where
   with_decided : (s : Scope) (i : ℕ) (g : TreeFunction) (o : Option Body) → NoTypes s → IsSettled s → Decided (function_with text s i g o) (FailsWith text s i g o)
   with_decided s i g None no_types settled = (external_fault text g, inr refl)
   with_decided s i g (Some b) no_types settled =
-      three_decided (function_head text s i g) (is_small (signature_in text g)) (may_end g b) (parts text s g b) (FailsInHead text s i g) (FailsInTypes text s g) (FailsInParts text s g b) (FailsWhere (not (may_end g b)) (fault MissingReturn b.end))
+      three_decided (function_head text s i g) (is_small (signature_in text g)) (may_end text g b) (parts text s g b) (FailsInHead text s i g) (FailsInTypes text s g) (FailsInParts text s g b) (IsFault (fault_where (not (may_end text g b)) (fault MissingReturn b.end)))
       (head_tested s i g) (small_tested (signature_in text g) g.name.pos (λ f. TypesFail text s (params_of g.params) f ⊎ TypesFail text s (params_of g.results) f) (signature_decided s no_types g))
-      (where_not (may_end g b) (fault MissingReturn b.end))
+      (where_not (may_end text g b) (fault MissingReturn b.end))
       (λ small. parts_decided (param_entries text s g) (result_entries text s g) (body_of text s g b) (func text s g b)
-      (EntriesFail text Parameter (opened s) (slots_of text g.params)) (EntriesFail text Result (behind_params text s g) (slots_of text g.results)) (FailsInStatements text (returns_of g) (body_scope text s g) b.statements)
-      (entries_decided Parameter (opened s) (slots_of text g.params)) (entries_decided Result (behind_params text s g) (slots_of text g.results))
-      (statements_decided text (returns_of g) (body_scope text s g) b.statements (settled_body s g (small_signed (signature_in text g) small) settled)))
+      (EntriesFail text Parameter (opened s) (slots_of text g.params)) (EntriesFail text Result (behind_params text s g) (slots_of text g.results)) (FailsInStatements text (returns_of text g) false (body_scope text s g) b.statements)
+      (entries_decided text Parameter (opened s) (slots_of text g.params)) (entries_decided text Result (behind_params text s g) (slots_of text g.results))
+      (statements_decided text (returns_of text g) false (body_scope text s g) b.statements (settled_body s g (small_signed (signature_in text g) small) settled)))
 
   -- what a typed function is made of
   abbrev pub Made : Scope → ℕ → TreeFunction → Func → Body → Type 0
   Made s i g t b =
-      (function_head text s i g ≡ true) × (is_small (signature_in text g) ≡ true) × (may_end g b ≡ true)
+      (function_head text s i g ≡ true) × (is_small (signature_in text g) ≡ true) × (may_end text g b ≡ true)
       × ((ps rs : List (Option ℕ)) × (body : Sts) × (param_entries text s g ≡ Some ps) × (result_entries text s g ≡ Some rs) × (body_of text s g b ≡ Some body) × (func text s g b ps rs body ≡ t))
 
   with_some : (s : Scope) (i : ℕ) (g : TreeFunction) (t : Func) (b : Body) → function_with text s i g (Some b) ≡ Some t → Made s i g t b
   with_some s i g t b is =
       let a = allowed_some (function_head text s i g) _ t is in
       let e = allowed_some (is_small (signature_in text g)) _ t a.1 in
-      let c = allowed_some (may_end g b) _ t e.1 in
+      let c = allowed_some (may_end text g b) _ t e.1 in
       let p = and_then_some (λ ps. option_and_then (λ rs. option_map (func text s g b ps rs) (body_of text s g b)) (result_entries text s g)) (param_entries text s g) t c.1 in
       let q = and_then_some (λ rs. option_map (func text s g b p.0 rs) (body_of text s g b)) (result_entries text s g) t p.2 in
       let r = map_some (func text s g b p.0 q.0) (body_of text s g b) t q.2 in
@@ -262,7 +208,7 @@ module _ (text : List ℕ) where
       let made = p.1.1 in
       subst (λ o. IsSettled (behind_body text s g o)) (sym p.1.0)
       (settled_closed (behind_all text (body_scope text s g) b.statements)
-      (settled_all text (returns_of g) (body_scope text s g) b.statements made.3.2 (settled_body s g (small_signed (signature_in text g) made.1) settled) made.3.5))
+      (settled_all text (returns_of text g) false (body_scope text s g) b.statements made.3.2 (settled_body s g (small_signed (signature_in text g) made.1) settled) made.3.5))
 
   functions_decided : (s : Scope) (i : ℕ) (gs : List TreeFunction) → NoTypes s → IsSettled s → Decided (functions text s i gs) (FailsInFunctions text s i gs)
   functions_decided s i [] no_types settled = λ f h. h
@@ -283,9 +229,9 @@ module _ (text : List ℕ) where
   unsigned_with s i g (Some b) no_types is =
       let d : (f : Fault) × (TypesFail text s (params_of g.params) f ⊎ TypesFail text s (params_of g.results) f) =
       subst (λ o. Decided o (λ f. TypesFail text s (params_of g.params) f ⊎ TypesFail text s (params_of g.results) f)) is (signature_decided s no_types g) in
-      (ap (λ o. allowed (function_head text s i g) (allowed (is_small o) (allowed (may_end g b) (parts text s g b)))) is ∙ by (function_head text s i g), (d.0, inl (inr (inl d.1))))
+      (ap (λ o. allowed (function_head text s i g) (allowed (is_small o) (allowed (may_end text g b) (parts text s g b)))) is ∙ by (function_head text s i g), (d.0, inl (inr (inl d.1))))
     where
-      by : (h : Bool) → allowed h (allowed (is_small None) (allowed (may_end g b) (parts text s g b))) ≡ None
+      by : (h : Bool) → allowed h (allowed (is_small None) (allowed (may_end text g b) (parts text s g b))) ≡ None
       by true = refl
       by false = refl
 
@@ -323,14 +269,14 @@ module _ (text : List ℕ) where
   -- the declarations are functions with numbers below one
   abbrev AreFunctions : ℕ → Declared → Type 0
   AreFunctions n (Function g) = g.0 < n
-  AreFunctions n (Variable site) = ⊥
+  AreFunctions n (Variable site t) = ⊥
   AreFunctions n Untyped = ⊥
   AreFunctions n TypeName = ⊥
 
   more_functions : (n m : ℕ) → n ≤ m → (ds : List Declared) → AllByRecursion (AreFunctions n) ds → AllByRecursion (AreFunctions m) ds
   more_functions n m le [] all = tt
   more_functions n m le (Function g ∷ ds) all = (omega (arith, all.0, le), more_functions n m le ds all.1)
-  more_functions n m le (Variable site ∷ ds) all = absurd all.0
+  more_functions n m le (Variable site t ∷ ds) all = absurd all.0
   more_functions n m le (Untyped ∷ ds) all = absurd all.0
   more_functions n m le (TypeName ∷ ds) all = absurd all.0
 
@@ -356,7 +302,7 @@ module _ (text : List ℕ) where
   numbers_no_types : (n : ℕ) (ds : List Declared) → AllByRecursion (AreFunctions n) ds → AllByRecursion IsNoType ds
   numbers_no_types n [] all = tt
   numbers_no_types n (Function g ∷ ds) all = (tt, numbers_no_types n ds all.1)
-  numbers_no_types n (Variable site ∷ ds) all = absurd all.0
+  numbers_no_types n (Variable site t ∷ ds) all = absurd all.0
   numbers_no_types n (Untyped ∷ ds) all = absurd all.0
   numbers_no_types n (TypeName ∷ ds) all = absurd all.0
 
@@ -388,7 +334,7 @@ module _ (text : List ℕ) where
   functions_typed : (sigs : List (Option Signature)) (ds : List Declared) → AllGiven sigs → AllByRecursion (AreFunctions (length sigs)) ds → AllByRecursion (IsTyped sigs) ds
   functions_typed sigs [] given all = tt
   functions_typed sigs (Function g ∷ ds) given all = (signed_at sigs g.0 given all.0, functions_typed sigs ds given all.1)
-  functions_typed sigs (Variable site ∷ ds) given all = absurd all.0
+  functions_typed sigs (Variable site t ∷ ds) given all = absurd all.0
   functions_typed sigs (Untyped ∷ ds) given all = absurd all.0
   functions_typed sigs (TypeName ∷ ds) given all = absurd all.0
 

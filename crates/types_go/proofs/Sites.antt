@@ -5,13 +5,20 @@ use Rattle.std.proofs.lemmas.List.{map-append}
 use Rattle.base.specs.declared.pos.Pos.{Pos}
 use Rattle.base.specs.declared.ids.TypeId.{TypeId}
 use Rattle.typed.specs.declared.program.Func.{Func as FuncData}
-use Rattle.types_go.specs.Functions.{sites_of}
+use Rattle.typed.specs.Syntax.{Left, blank, new, to}
+use Rattle.types_go.specs.Entries.{sites_of}
+use Rattle.types_go.specs.Statements.{new_in}
 use Rattle.expression_types.specs.Passing.{with_last}
 use Rattle.types_go.specs.Passing.{IsAt, AreAt}
 
 pub sites_more : (so_far : List ℕ) (e : Option ℕ) (es : List (Option ℕ)) → so_far ++ sites_of (e ∷ es) ≡ (so_far ++ sites_of (e ∷ [])) ++ sites_of es
 sites_more so_far None es = ap (λ l. l ++ sites_of es) (sym (append-nil so_far))
 sites_more so_far (Some site) es = sym (append_assoc so_far (site ∷ []) (sites_of es))
+
+pub new_more : (so_far : List ℕ) (l : Left) (ls : List Left) → so_far ++ new_in (l ∷ ls) ≡ (so_far ++ new_in (l ∷ [])) ++ new_in ls
+new_more so_far blank ls = ap (λ k. k ++ new_in ls) (sym (append-nil so_far))
+new_more so_far (to q) ls = ap (λ k. k ++ new_in ls) (sym (append-nil so_far))
+new_more so_far (new site) ls = sym (append_assoc so_far (site ∷ []) (new_in ls))
 
 -- the functions so far stand at places, and others at those to come
 abbrev pub PlacesKept : List Pos → Option (List FuncData) → List Pos → Type 0
@@ -28,6 +35,6 @@ pub places_all : (all : List Pos) (fs : Option (List FuncData)) → PlacesKept a
 places_all all None kept = tt
 places_all all (Some fs) kept = sym (kept ∙ append-nil (map (λ (g : FuncData). g.pos) fs))
 
-pub zero_more : (items : List TypeId) (t : TypeId) (rest : List ℕ) → t.0 ≡ 0 → map (λ (x : TypeId). x.0) items ++ (0 ∷ rest) ≡ map (λ (x : TypeId). x.0) (items ++ t ∷ []) ++ rest
-zero_more items t rest is =
+pub number_more : (items : List TypeId) (t : TypeId) (n : ℕ) (rest : List ℕ) → t.0 ≡ n → map (λ (x : TypeId). x.0) items ++ (n ∷ rest) ≡ map (λ (x : TypeId). x.0) (items ++ t ∷ []) ++ rest
+number_more items t n rest is =
     ap (λ k. map (λ (x : TypeId). x.0) items ++ (k ∷ rest)) (sym is) ∙ sym (append_assoc (map (λ (x : TypeId). x.0) items) (t.0 ∷ []) rest) ∙ ap (λ l. l ++ rest) (sym (map-append (λ (x : TypeId). x.0) items (t ∷ [])))

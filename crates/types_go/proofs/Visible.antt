@@ -10,10 +10,12 @@ use Rattle.expression_types.specs.declared.scope.Declared.{Declared}
 use Rattle.expression_types.specs.declared.scope.Declared.TheVariants.{Variable, Function}
 use Rattle.syntax.specs.Expressions.{spelled}
 use Rattle.syntax.specs.Declarations.{Function as TreeFunction}
-use Rattle.expression_types.specs.Scope.{Scope, declaration, with_declaration, with_variable, with_signature, opened, beginning}
+use Rattle.typed.specs.declared.program.Site.{Site}
+use Rattle.expression_types.specs.declared.scope.ValueType.{ValueType}
+use Rattle.expression_types.specs.Scope.{Scope, type_number, declaration, with_declaration, with_variable, with_signature, opened, beginning}
 use Rattle.types_go.specs.Functions.{signature_in, declares_name, with_function}
 use Rattle.expression_types.proofs.Options.{and_then_some, none_some}
-use Rattle.types_go.proofs.Growth.{Keeps}
+use Rattle.types_go.proofs.Growth.{Extends, extends_none, Keeps}
 use Rattle.types_go.proofs.SettledFunctions.{with_functions}
 
 -- the numbers of the names lie below one
@@ -121,13 +123,29 @@ get_last : (ds : List Declared) (d : Declared) → slice_get (ds ++ d ∷ []) (l
 get_last [] d = refl
 get_last (e ∷ ds) d = get_last ds d
 
--- names have numbers of declarations, and those of variables are in scope
+-- a site of a type stands at a place of the list
+abbrev pub HasSite : List Site → ℕ → ValueType → Type 0
+HasSite sites site t = (x : Site) × (slice_get sites site ≡ Some x) × (x.type_id.0 ≡ type_number t)
+
+pub got_longer : (a b : List Site) (k : ℕ) (x : Site) → slice_get a k ≡ Some x → slice_get (a ++ b) k ≡ Some x
+got_longer [] b k x is = absurd (none_some is)
+got_longer (y ∷ a) b zero x is = is
+got_longer (y ∷ a) b (suc k) x is = got_longer a b k x is
+
+pub has_longer : (a b : List Site) (site : ℕ) (t : ValueType) → Extends a b → HasSite a site t → HasSite b site t
+has_longer a b site t e h = (h.0, ap (λ (l : List Site). slice_get l site) e.1 ∙ got_longer a e.0 site h.0 h.1, h.2)
+
+site_last : (sites : List Site) (x : Site) → slice_get (sites ++ x ∷ []) (length sites) ≡ Some x
+site_last [] x = refl
+site_last (y ∷ sites) x = site_last sites x
+
+-- names have numbers of declarations, and those of variables are in scope, with sites of their types
 pub record Visible (s : Scope) (scope : List ℕ) : Type 0 where
   pub bounded : BlocksBelow (length s.declared) s.blocks
-  pub shown : (name : List ℕ) (site : SiteId) → declaration s name ≡ Some (Variable site) → InScope site.0 scope
+  pub shown : (name : List ℕ) (site : SiteId) (t : ValueType) → declaration s name ≡ Some (Variable site t) → InScope site.0 scope × HasSite s.sites site.0 t
 
 pub visible_beginning : Visible beginning []
-visible_beginning = record { bounded = (tt, tt); shown = λ name site is. absurd (none_some is) }
+visible_beginning = record { bounded = (tt, tt); shown = λ name site t is. absurd (none_some is) }
 
 pub visible_opened : (s : Scope) (scope : List ℕ) → Visible s scope → Visible (opened s) scope
 visible_opened s scope v = record { bounded = (tt, v.bounded); shown = v.shown }
@@ -142,57 +160,70 @@ visible_kept s r scope v k = record {
     longer : length r.declared ≡ length s.declared + length k.declared.0
     longer = ap length k.declared.1 ∙ length-append s.declared k.declared.0
 
-    shown : (name : List ℕ) (site : SiteId) → declaration r name ≡ Some (Variable site) → InScope site.0 scope
-    shown name site is =
-        let p = and_then_some (λ j. slice_get r.declared j) (lookup r.blocks name) (Variable site) is in
+    shown : (name : List ℕ) (site : SiteId) (t : ValueType) → declaration r name ≡ Some (Variable site t) → InScope site.0 scope × HasSite r.sites site.0 t
+    shown name site t is =
+        let p = and_then_some (λ j. slice_get r.declared j) (lookup r.blocks name) (Variable site t) is in
         let found : lookup s.blocks name ≡ Some p.0 = ap (λ bs. lookup bs name) (sym k.blocks) ∙ p.1 in
         let below = lookup_below (length s.declared) s.blocks name p.0 v.bounded found in
-        let old : slice_get s.declared p.0 ≡ Some (Variable site) = sym (get_left s.declared k.declared.0 p.0 below) ∙ ap (λ ds. slice_get ds p.0) (sym k.declared.1) ∙ p.2 in
-        v.shown name site (ap (option_and_then (λ j. slice_get s.declared j)) found ∙ old)
+        let old : slice_get s.declared p.0 ≡ Some (Variable site t) = sym (get_left s.declared k.declared.0 p.0 below) ∙ ap (λ ds. slice_get ds p.0) (sym k.declared.1) ∙ p.2 in
+        let known = v.shown name site t (ap (option_and_then (λ j. slice_get s.declared j)) found ∙ old) in
+        (known.0, has_longer s.sites r.sites site.0 t k.sites known.1)
 
--- one more declaration
-pub visible_more : (s : Scope) (scope wider : List ℕ) (name : List ℕ) (d : Declared) → Visible s scope → ((v : ℕ) → InScope v scope → InScope v wider) → ((site : SiteId) → d ≡ Variable site → InScope site.0 wider)
-    → Visible (with_declaration s name d) wider
-visible_more s scope wider name d v into new1 = record {
-  bounded = insert_below (length (s.declared ++ d ∷ [])) (length s.declared) (omega (arith, one)) s.blocks name (more_blocks (length s.declared) (length (s.declared ++ d ∷ [])) (omega (arith, one)) s.blocks v.bounded);
-  shown = shown;
-}
+-- one more declaration, and perhaps more sites
+pub visible_more : (s : Scope) (sites : List Site) (scope wider : List ℕ) (name : List ℕ) (d : Declared) → Visible s scope → Extends s.sites sites → ((v : ℕ) → InScope v scope → InScope v wider)
+    → ((site : SiteId) (t : ValueType) → d ≡ Variable site t → InScope site.0 wider × HasSite sites site.0 t)
+    → BlocksBelow (length (s.declared ++ d ∷ [])) (insert s.blocks name (length s.declared))
+    × ((other : List ℕ) (site : SiteId) (t : ValueType) → declaration (with_declaration s name d) other ≡ Some (Variable site t) → InScope site.0 wider × HasSite sites site.0 t)
+visible_more s sites scope wider name d v more into new1 =
+    (insert_below (length (s.declared ++ d ∷ [])) (length s.declared) (omega (arith, one)) s.blocks name (more_blocks (length s.declared) (length (s.declared ++ d ∷ [])) (omega (arith, one)) s.blocks v.bounded), shown)
   where
     one : length (s.declared ++ d ∷ []) ≡ length s.declared + 1
     one = length-append s.declared (d ∷ [])
 
-    newest : (site : SiteId) (k : ℕ) → k ≡ length s.declared → slice_get (s.declared ++ d ∷ []) k ≡ Some (Variable site) → d ≡ Variable site
-    newest site k is got = some_same d (Variable site) (sym (ap (λ j. slice_get (s.declared ++ d ∷ []) j) is ∙ get_last s.declared d) ∙ got)
+    newest : (site : SiteId) (t : ValueType) (k : ℕ) → k ≡ length s.declared → slice_get (s.declared ++ d ∷ []) k ≡ Some (Variable site t) → d ≡ Variable site t
+    newest site t k is got = some_same d (Variable site t) (sym (ap (λ j. slice_get (s.declared ++ d ∷ []) j) is ∙ get_last s.declared d) ∙ got)
 
-    shown : (other : List ℕ) (site : SiteId) → declaration (with_declaration s name d) other ≡ Some (Variable site) → InScope site.0 wider
-    shown other site is =
-        let p = and_then_some (λ k. slice_get (s.declared ++ d ∷ []) k) (lookup (insert s.blocks name (length s.declared)) other) (Variable site) is in
+    shown : (other : List ℕ) (site : SiteId) (t : ValueType) → declaration (with_declaration s name d) other ≡ Some (Variable site t) → InScope site.0 wider × HasSite sites site.0 t
+    shown other site t is =
+        let p = and_then_some (λ k. slice_get (s.declared ++ d ∷ []) k) (lookup (insert s.blocks name (length s.declared)) other) (Variable site t) is in
         elim (lookup_insert s.blocks name other (length s.declared) p.0 p.1) [
-          | inl n ↦ new1 site (newest site p.0 n p.2)
+          | inl n ↦ new1 site t (newest site t p.0 n p.2)
           | inr o ↦ let below = lookup_below (length s.declared) s.blocks other p.0 v.bounded o in
-              into site.0 (v.shown other site (ap (option_and_then (λ k. slice_get s.declared k)) o ∙ (sym (get_left s.declared (d ∷ []) p.0 below) ∙ p.2)))
+              let known = v.shown other site t (ap (option_and_then (λ k. slice_get s.declared k)) o ∙ (sym (get_left s.declared (d ∷ []) p.0 below) ∙ p.2)) in
+              (into site.0 known.0, has_longer s.sites sites site.0 t more known.1)
         ]
 
--- one more variable, and its site in scope
-pub visible_with : (s : Scope) (scope name : List ℕ) (at : Pos) → Visible s scope → Visible (with_variable true s name at) (length s.sites ∷ scope)
-visible_with s scope name at v =
-    let d : Declared = Variable (record { 0 = length s.sites }) in
-    let w = visible_more s scope (length s.sites ∷ scope) name d v (λ u h. inr h) (λ site is. inl (same site is)) in
-    record { bounded = w.bounded; shown = w.shown }
+-- one more variable of a type, and its site in scope
+pub visible_with : (s : Scope) (scope name : List ℕ) (u : ValueType) (at : Pos) → Visible s scope → Visible (with_variable (Some u) s name at) (length s.sites ∷ scope)
+visible_with s scope name u at v =
+    let d : Declared = Variable (record { 0 = length s.sites }) u in
+    let x : Site = record { pos = at; type_id = record { 0 = type_number u } } in
+    let w = visible_more s (s.sites ++ x ∷ []) scope (length s.sites ∷ scope) name d v (x ∷ [], refl, ((u, refl), tt)) (λ w h. inr h) (λ site t is. (inl (same site t is), newest site t is)) in
+    record { bounded = w.0; shown = w.1 }
   where
-    same : (site : SiteId) → Variable (record { 0 = length s.sites }) ≡ Variable site → site.0 ≡ length s.sites
-    same site is = cc
+    same : (site : SiteId) (t : ValueType) → Variable (record { 0 = length s.sites }) u ≡ Variable site t → site.0 ≡ length s.sites
+    same site t is = cc
+
+    type_is : (site : SiteId) (t : ValueType) → Variable (record { 0 = length s.sites }) u ≡ Variable site t → u ≡ t
+    type_is site t is = cc
+
+    newest : (site : SiteId) (t : ValueType) → Variable (record { 0 = length s.sites }) u ≡ Variable site t → HasSite (s.sites ++ record { pos = at; type_id = record { 0 = type_number u } } ∷ []) site.0 t
+    newest site t is = (
+      record { pos = at; type_id = record { 0 = type_number u } },
+      ap (λ k. slice_get (s.sites ++ record { pos = at; type_id = record { 0 = type_number u } } ∷ []) k) (same site t is) ∙ site_last s.sites (record { pos = at; type_id = record { 0 = type_number u } }),
+      ap type_number (type_is site t is),
+    )
 
 -- the package block names no variables
 pub visible_package : (text : List ℕ) (s : Scope) (gs : List TreeFunction) → Visible s [] → Visible (with_functions text s gs) []
 visible_package text s [] v = v
 visible_package text s (g ∷ gs) v = visible_package text (with_function text s g) gs (by (declares_name s (spelled text g.name)))
   where
-    no_variable : (site : SiteId) → Function (record { 0 = length s.signatures }) ≡ Variable site → InScope site.0 []
-    no_variable site is = cc is
+    no_variable : (site : SiteId) (t : ValueType) → Function (record { 0 = length s.signatures }) ≡ Variable site t → InScope site.0 [] × HasSite s.sites site.0 t
+    no_variable site t is = cc is
 
     by : (b : Bool) → Visible (with_signature (cond b (with_declaration s (spelled text g.name) (Function (record { 0 = length s.signatures }))) s) (signature_in text g)) []
     by false = record { bounded = v.bounded; shown = v.shown }
     by true =
-        let w = visible_more s [] [] (spelled text g.name) (Function (record { 0 = length s.signatures })) v (λ u h. h) no_variable in
-        record { bounded = w.bounded; shown = w.shown }
+        let w = visible_more s s.sites [] [] (spelled text g.name) (Function (record { 0 = length s.signatures })) v (extends_none s.sites) (λ u h. h) no_variable in
+        record { bounded = w.0; shown = w.1 }

@@ -1,10 +1,10 @@
 -- What the checker of types answers.
-use Rattle.std.specs.Prelude.{◌≡◌, ℕ, pos, List, [], ◌∷◌, map, Some, Result, Ok, Err}
+use Rattle.std.specs.Prelude.{◌≡◌, ℕ, List, [], map, Some, Result, Ok, Err}
 use Rattle.base.specs.declared.pos.Pos.{Pos}
 use Rattle.syntax.specs.Declarations.{Syntax}
-use Rattle.typed.specs.Value.{int}
 use Rattle.typed.specs.Syntax.{Func, Program}
-use Rattle.typed.specs.View.{program_of}
+use Rattle.typed.specs.View.{zero_values, program_of}
+use Rattle.typed.specs.declared.program.Site.{Site}
 use Rattle.typed.specs.declared.program.Program.{Program as ProgramData}
 use Rattle.expression_types.specs.declared.fault.TypeFault.{TypeFault}
 use Rattle.expression_types.specs.declared.fault.TypeFault.TheVariants as type_fault
@@ -12,17 +12,20 @@ use Rattle.expression_types.specs.Least.{IsLeast}
 use Rattle.types_go.specs.Functions.{functions_in, behind_functions, declarations_in, package_scope, main_number, program_functions}
 use Rattle.types_go.specs.FunctionFaults.{FailsIn}
 
--- the places of the variables, in the order of the text
+-- the variables, in the order of the text, and their places
+abbrev pub sites_in : Syntax → List Site
+sites_in t = (behind_functions t.text (package_scope t) (functions_in (declarations_in t))).sites
+
 abbrev pub places_of : Syntax → List Pos
-places_of t = (behind_functions t.text (package_scope t) (functions_in (declarations_in t))).sites
+places_of t = map (λ site. site.pos) (sites_in t)
 
 -- the places of the functions' names
 abbrev pub function_places : Syntax → List Pos
 function_places t = map (λ f. f.name.pos) (functions_in (declarations_in t))
 
--- one type, number 0: whole numbers
+-- two types, and no strings yet
 abbrev pub program_with : Syntax → List Func → ℕ → Program
-program_with t funcs main = record { funcs = funcs; zeros = int (pos 0) ∷ []; sites = map (λ at. 0) (places_of t); globals = []; main = main }
+program_with t funcs main = record { funcs = funcs; zeros = zero_values; sites = map (λ site. site.type_id.0) (sites_in t); strings = []; globals = []; main = main }
 
 -- the rules give a tree this typed program
 pub record Types (t : Syntax) (p : Program) : Type 0 where

@@ -1,82 +1,50 @@
 -- Which rules fail in a declaration and in a tree, and where each is reported. A form that is left out fails at its first byte, and nothing
 -- behind that is looked at: whatever fails further right is never reported.
-use Rattle.std.specs.Prelude.{◌≡◌, ℕ, ◌+◌, ◌==◌, ◌⊎◌, Bool, true, false, not, List, [], ◌∷◌, Option, Some, None, is_some, nat_lt, nat_le, if◌then◌else◌}
+use Rattle.std.specs.Prelude.{◌≡◌, ℕ, ◌+◌, ◌⊎◌, Bool, true, false, not, List, [], ◌∷◌, Option, Some, None, is_some, nat_lt, nat_le, if◌then◌else◌}
 use Rattle.base.specs.declared.pos.Pos.{Pos}
-use Rattle.syntax.specs.declared.expression.Name.{Name}
 use Rattle.syntax.specs.Expressions.{spelled}
 use Rattle.syntax.specs.Declarations.{Body, Function as TreeFunction, Declaration, constants, variables, types, Syntax}
 use Rattle.syntax.specs.Declarations as tree
 use Rattle.expression_types.specs.declared.fault.Fault.{Fault}
 use Rattle.expression_types.specs.declared.fault.FaultKind.TheVariants.{Redeclared, MissingReturn, NoMain, BadExternal, OutOfProfile, TooLarge}
 use Rattle.expression_types.specs.declared.scope.Declared.{Declared}
-use Rattle.expression_types.specs.declared.scope.Declared.TheVariants.{Variable, Untyped, Function, TypeName}
-use Rattle.expression_types.specs.Profile.{is_blank, is_predeclared, is_reserved}
-use Rattle.expression_types.specs.Scope.{Scope, Signature, declaration, is_here, opened}
-use Rattle.expression_types.specs.Faults.{fault, FormFails, FailsAsType}
-use Rattle.types_go.specs.declared.slots.Slot.{Slot}
-use Rattle.types_go.specs.declared.entries.Role.{Role}
+use Rattle.expression_types.specs.Profile.{is_blank, is_predeclared}
+use Rattle.expression_types.specs.Scope.{Scope, Signature, declaration, opened}
+use Rattle.expression_types.specs.Faults.{fault, IsFault, FormFails, FailsAsType}
 use Rattle.types_go.specs.declared.entries.Role.TheVariants.{Parameter as parameter, Result as result}
-use Rattle.types_go.specs.Functions.{Param, params_of, slots_of, words, is_external, functions_in, signature_in, behind_entry, behind_params, body_scope, behind_function, returns_of, may_end, declarations_in, package_scope, main_number}
-use Rattle.types_go.specs.StatementFaults.{FailsWhere, FailsInStatements}
+use Rattle.types_go.specs.EntryFaults.{EntriesFail}
+use Rattle.types_go.specs.Functions.{Param, is_number, params_of, slots_of, words, is_external, functions_in, signature_in, behind_params, body_scope, behind_function, returns_of, may_end, declarations_in, package_scope, main_number}
+use Rattle.types_go.specs.StatementFaults.{fault_where, FailsInStatements}
 
 -- the name of the function of a number: the first declaration of a name stays
-abbrev pub NumberFails : ℕ → Option Declared → Pos → Fault → Type 0
-NumberFails i None at f = ⊥
-NumberFails i (Some (Function g)) at f = ((g.0 == i) ≡ false) × (f ≡ fault Redeclared at)
-NumberFails i (Some (Variable site)) at f = f ≡ fault Redeclared at
-NumberFails i (Some Untyped) at f = f ≡ fault Redeclared at
-NumberFails i (Some TypeName) at f = f ≡ fault Redeclared at
-
-abbrev pub FunctionNameFails : ℕ → (is_blank predeclared : Bool) → Option Declared → Pos → Fault → Type 0
-FunctionNameFails i true predeclared d at f = ⊥
-FunctionNameFails i false true d at f = f ≡ fault OutOfProfile at
-FunctionNameFails i false false d at f = NumberFails i d at f
-
--- a blank result
-abbrev pub BlankFails : Role → Pos → Fault → Type 0
-BlankFails parameter at f = ⊥
-BlankFails result at f = f ≡ fault OutOfProfile at
-
-abbrev pub VariableFails : (reserved is_here : Bool) → Pos → Fault → Type 0
-VariableFails true is_here at f = f ≡ fault OutOfProfile at
-VariableFails false true at f = f ≡ fault Redeclared at
-VariableFails false false at f = ⊥
-
-abbrev pub NamedFails : Role → (is_blank reserved is_here : Bool) → Pos → Fault → Type 0
-NamedFails role true reserved is_here at f = BlankFails role at f
-NamedFails role false reserved is_here at f = VariableFails reserved is_here at f
+abbrev pub function_name_fault : ℕ → (is_blank predeclared : Bool) → Option Declared → Pos → Option Fault
+function_name_fault i true predeclared d at = None
+function_name_fault i false true d at = Some (fault OutOfProfile at)
+function_name_fault i false false d at = fault_where (not (is_number i d)) (fault Redeclared at)
 
 -- arguments and results are at most so many words
-abbrev pub SizeFails : Option Signature → Pos → Fault → Type 0
-SizeFails None at f = ⊥
-SizeFails (Some sig) at f = FailsWhere (not (nat_le (words sig) 65535)) (fault TooLarge at) f
+abbrev pub size_fault : Option Signature → Pos → Option Fault
+size_fault None at = None
+size_fault (Some sig) at = fault_where (not (nat_le (words sig) 65535)) (fault TooLarge at)
 
 module _ (text : List ℕ) where
   abbrev pub TypesFail : Scope → List Param → Fault → Type 0
   TypesFail s [] f = ⊥
   TypesFail s (p ∷ ps) f = FailsAsType text s p.type_expr f ⊎ TypesFail s ps f
 
-  abbrev pub EntryFails : Role → Scope → Option Name → Fault → Type 0
-  EntryFails role s None f = ⊥
-  EntryFails role s (Some n) f = NamedFails role (is_blank (spelled text n)) (is_reserved (spelled text n)) (is_here s (spelled text n)) n.pos f
-
-  abbrev pub EntriesFail : Role → Scope → List Slot → Fault → Type 0
-  EntriesFail role s [] f = ⊥
-  EntriesFail role s (p ∷ ps) f = EntryFails role s p.name f ⊎ EntriesFail role (behind_entry text s p) ps f
-
   -- a rule fails in the head of the function of a number, in the package block
   abbrev pub FailsInHead : Scope → ℕ → TreeFunction → Fault → Type 0
   FailsInHead s i g f =
-      FunctionNameFails i (is_blank (spelled text g.name)) (is_predeclared (spelled text g.name)) (declaration s (spelled text g.name)) g.name.pos f
-      ⊎ FailsWhere (not (nat_lt i 4096)) (fault TooLarge g.name.pos) f
+      IsFault (function_name_fault i (is_blank (spelled text g.name)) (is_predeclared (spelled text g.name)) (declaration s (spelled text g.name)) g.name.pos) f
+      ⊎ IsFault (fault_where (not (nat_lt i 4096)) (fault TooLarge g.name.pos)) f
 
   abbrev pub FailsInTypes : Scope → TreeFunction → Fault → Type 0
-  FailsInTypes s g f = (TypesFail s (params_of g.params) f ⊎ TypesFail s (params_of g.results) f) ⊎ SizeFails (signature_in text g) g.name.pos f
+  FailsInTypes s g f = (TypesFail s (params_of g.params) f ⊎ TypesFail s (params_of g.results) f) ⊎ IsFault (size_fault (signature_in text g) g.name.pos) f
 
   abbrev pub FailsInParts : Scope → TreeFunction → Body → Fault → Type 0
   FailsInParts s g b f =
-      (EntriesFail parameter (opened s) (slots_of text g.params) f ⊎ EntriesFail result (behind_params text s g) (slots_of text g.results) f)
-      ⊎ FailsInStatements text (returns_of g) (body_scope text s g) b.statements f
+      (EntriesFail text parameter (opened s) (slots_of text g.params) f ⊎ EntriesFail text result (behind_params text s g) (slots_of text g.results) f)
+      ⊎ FailsInStatements text (returns_of text g) false (body_scope text s g) b.statements f
 
   -- a function without a body is one of those that may have none, and these are left out
   abbrev pub external_fault : TreeFunction → Fault
@@ -85,7 +53,7 @@ module _ (text : List ℕ) where
   -- with results, a function ends in a terminating statement
   abbrev pub FailsWith : Scope → ℕ → TreeFunction → Option Body → Fault → Type 0
   FailsWith s i g None f = FailsInHead s i g f ⊎ (f ≡ external_fault g)
-  FailsWith s i g (Some b) f = (FailsInHead s i g f ⊎ FailsInTypes s g f) ⊎ (FailsInParts s g b f ⊎ FailsWhere (not (may_end g b)) (fault MissingReturn b.end) f)
+  FailsWith s i g (Some b) f = (FailsInHead s i g f ⊎ FailsInTypes s g f) ⊎ (FailsInParts s g b f ⊎ IsFault (fault_where (not (may_end text g b)) (fault MissingReturn b.end)) f)
 
   abbrev pub FailsInFunction : Scope → ℕ → TreeFunction → Fault → Type 0
   FailsInFunction s i g f = FailsWith s i g g.body f
@@ -112,5 +80,5 @@ first_byte = record { offset = 0; line = 1; col = 1 }
 -- a rule fails in a tree
 abbrev pub FailsIn : Syntax → Fault → Type 0
 FailsIn t f =
-    FailsWhere (not (is_some (main_number t))) (fault NoMain first_byte) f
+    IsFault (fault_where (not (is_some (main_number t))) (fault NoMain first_byte)) f
     ⊎ (DeclarationsFail (declarations_in t) f ⊎ FailsInFunctions t.text (package_scope t) 0 (functions_in (declarations_in t)) f)

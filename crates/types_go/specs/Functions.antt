@@ -1,6 +1,6 @@
 -- The package block and the functions of a program (Go specification, "Function declarations", "Function types", "Blocks", "Program
 -- initialization and execution").
-use Rattle.std.specs.Prelude.{ℕ, length, ◌+◌, ◌-◌, ◌==◌, Bool, true, false, not, ◌&&◌, ◌||◌, List, [], ◌∷◌, ◌++◌, codes, map, slice_get, Option, Some, None, is_some, option_and_then, nat_lt, nat_le, if◌then◌else◌}
+use Rattle.std.specs.Prelude.{ℕ, length, ◌+◌, ◌-◌, ◌==◌, Bool, true, false, not, ◌&&◌, ◌||◌, List, [], ◌∷◌, ◌++◌, codes, map, slice_get, Option, Some, None, option_and_then, nat_lt, nat_le, if◌then◌else◌}
 use Rattle.std.specs.Option.{option_map}
 use Rattle.std.specs.Str.{bytes_eq}
 use Rattle.syntax.specs.declared.expression.Name.{Name}
@@ -9,18 +9,17 @@ use Rattle.syntax.specs.Expressions as expressions
 use Rattle.syntax.specs.Statements.{ValueSpec}
 use Rattle.syntax.specs.Declarations.{Field, Parameters, unnamed, named, TypeSpec, Body, Function as TreeFunction, Declaration, constants, variables, types, Syntax}
 use Rattle.syntax.specs.Declarations as tree
-use Rattle.typed.specs.Syntax.{Sts, Func}
+use Rattle.typed.specs.Syntax.{Sts, Func, int_type}
 use Rattle.expression_types.specs.declared.scope.ValueType.{ValueType}
 use Rattle.expression_types.specs.declared.scope.Declared.{Declared}
 use Rattle.expression_types.specs.declared.scope.Declared.TheVariants.{Variable, Untyped, Function, TypeName}
-use Rattle.expression_types.specs.Profile.{is_blank, is_main, is_predeclared, is_reserved}
-use Rattle.expression_types.specs.Scope.{Scope, Signature, declaration, is_here, with_declaration, with_variable, with_signature, opened, closed, beginning}
+use Rattle.expression_types.specs.Profile.{is_blank, is_main, is_predeclared}
+use Rattle.expression_types.specs.Scope.{Scope, Signature, type_number, declaration, is_here, with_declaration, with_signature, opened, closed, beginning}
 use Rattle.expression_types.specs.Typing.{type_in, allowed}
 use Rattle.types_go.specs.declared.slots.Slot.{Slot}
-use Rattle.types_go.specs.declared.entries.Role.{Role}
 use Rattle.types_go.specs.declared.entries.Role.TheVariants.{Parameter as parameter, Result as result}
-use Rattle.types_go.specs.declared.statements.Returns.{Returns}
-use Rattle.types_go.specs.Statements.{behind_all, statements, ends_in_terminating}
+use Rattle.types_go.specs.Entries.{sites_of, entries, behind_entries}
+use Rattle.types_go.specs.Statements.{Returns, behind_all, statements, ends_in_terminating}
 
 -- ---- parameters and results one by one: names that share a type each have it
 
@@ -50,27 +49,10 @@ abbrev pub is_named : Parameters → Bool
 is_named (unnamed ts) = false
 is_named (named fs) = true
 
--- the site of a parameter or result with a name, and none for a blank parameter; the one in the middle where the name may not stand there
-abbrev pub blank_entry : Role → Option (Option ℕ)
-blank_entry parameter = Some None
-blank_entry result = None
-
-abbrev pub variable_entry : Bool → Bool → ℕ → Option (Option ℕ)
-variable_entry reserved is_here site = if reserved then None else (if is_here then None else Some (Some site))
-
-abbrev pub entry_of : Role → (is_blank reserved is_here : Bool) → ℕ → Option (Option ℕ)
-entry_of role is_blank reserved is_here site = if is_blank then blank_entry role else variable_entry reserved is_here site
-
 -- the types, where all are known
 abbrev pub types_of : List Slot → Option (List ValueType)
 types_of [] = Some []
 types_of (p ∷ ps) = option_and_then (λ t. option_map (λ ts. t ∷ ts) (types_of ps)) p.value_type
-
--- the sites that there are
-abbrev pub sites_of : List (Option ℕ) → List ℕ
-sites_of [] = []
-sites_of (None ∷ es) = sites_of es
-sites_of (Some site ∷ es) = site ∷ sites_of es
 
 abbrev pub words : Signature → ℕ
 words sig = length sig.params + length sig.results
@@ -87,7 +69,7 @@ declares_name s n = not (is_blank n || is_predeclared n) && not (is_here s n)
 abbrev pub is_number : ℕ → Option Declared → Bool
 is_number i None = true
 is_number i (Some (Function f)) = f.0 == i
-is_number i (Some (Variable site)) = false
+is_number i (Some (Variable site t)) = false
 is_number i (Some Untyped) = false
 is_number i (Some TypeName) = false
 
@@ -97,7 +79,7 @@ may_be_named i is_blank predeclared d = is_blank || (not predeclared && is_numbe
 abbrev pub number_of : Option Declared → Option ℕ
 number_of None = None
 number_of (Some (Function f)) = Some f.0
-number_of (Some (Variable site)) = None
+number_of (Some (Variable site t)) = None
 number_of (Some Untyped) = None
 number_of (Some TypeName) = None
 
@@ -109,12 +91,13 @@ abbrev pub is_plain : Option TreeFunction → Bool
 is_plain None = false
 is_plain (Some f) = (length (params_of f.params) == 0) && (length (params_of f.results) == 0)
 
--- with results that have no names, a `return` gives some values
-abbrev pub returns_of : TreeFunction → Returns
-returns_of f = record { count = length (params_of f.results); may_be_bare = (length (params_of f.results) == 0) || is_named f.results }
+-- the number of a type, where that is known
+abbrev pub number_or_int : Option ValueType → ℕ
+number_or_int None = int_type
+number_or_int (Some t) = type_number t
 
-abbrev pub may_end : TreeFunction → Body → Bool
-may_end f b = (length (params_of f.results) == 0) || ends_in_terminating b.statements
+abbrev pub slot_number : Slot → ℕ
+slot_number p = number_or_int p.value_type
 
 -- ---- declarations at the level of the package
 
@@ -144,6 +127,13 @@ module _ (text : List ℕ) where
 
   abbrev pub slots_of : Parameters → List Slot
   slots_of ps = map slot_of (params_of ps)
+
+  -- with results that have no names, a `return` gives some values
+  abbrev pub returns_of : TreeFunction → Returns
+  returns_of f = record { wanted = map (λ slot. slot.value_type) (slots_of f.results); may_be_bare = (length (params_of f.results) == 0) || is_named f.results }
+
+  abbrev pub may_end : TreeFunction → Body → Bool
+  may_end f b = (length (params_of f.results) == 0) || ends_in_terminating text b.statements
 
   -- where all its types are known, a function has a signature
   abbrev pub signature_in : TreeFunction → Option Signature
@@ -180,38 +170,14 @@ module _ (text : List ℕ) where
   with_items s [] = s
   with_items s (d ∷ ds) = with_items (with_item s d) ds
 
-  -- ---- parameters and results with names, in the block of the body
-
-  abbrev pub named_entry : Role → Scope → Name → Option (Option ℕ)
-  named_entry role s n = entry_of role (is_blank (spelled text n)) (is_reserved (spelled text n)) (is_here s (spelled text n)) (length s.sites)
-
-  abbrev pub entry_in : Role → Scope → Option Name → Option (Option ℕ)
-  entry_in role s None = Some None
-  entry_in role s (Some n) = named_entry role s n
-
-  abbrev pub behind_entry_name : Bool → Scope → Option Name → Scope
-  behind_entry_name has_type s None = s
-  behind_entry_name has_type s (Some n) = if not (is_reserved (spelled text n)) && not (is_here s (spelled text n)) then with_variable has_type s (spelled text n) n.pos else s
-
-  abbrev pub behind_entry : Scope → Slot → Scope
-  behind_entry s p = behind_entry_name (is_some p.value_type) s p.name
-
-  abbrev pub entries : Role → Scope → List Slot → Option (List (Option ℕ))
-  entries role s [] = Some []
-  entries role s (p ∷ ps) = option_and_then (λ e. option_map (λ es. e ∷ es) (entries role (behind_entry s p) ps)) (entry_in role s p.name)
-
-  abbrev pub behind_entries : Scope → List Slot → Scope
-  behind_entries s [] = s
-  behind_entries s (p ∷ ps) = behind_entries (behind_entry s p) ps
-
   -- ---- a function, by its number, in the package block
 
   -- the scope behind the parameters, and where the body begins
   abbrev pub behind_params : Scope → TreeFunction → Scope
-  behind_params s f = behind_entries (opened s) (slots_of f.params)
+  behind_params s f = behind_entries text (opened s) (slots_of f.params)
 
   abbrev pub body_scope : Scope → TreeFunction → Scope
-  body_scope s f = behind_entries (behind_params s f) (slots_of f.results)
+  body_scope s f = behind_entries text (behind_params s f) (slots_of f.results)
 
   abbrev pub behind_body : Scope → TreeFunction → Option Body → Scope
   behind_body s f None = s
@@ -225,20 +191,21 @@ module _ (text : List ℕ) where
     first = length s.sites;
     count = length (behind_body s f (Some b)).sites - length s.sites;
     params = params;
-    results = map (λ slot. 0) (slots_of f.results);
+    param_types = map slot_number (slots_of f.params);
+    results = map slot_number (slots_of f.results);
     named = sites_of results;
     body = body;
   }
 
   -- the parameters' and results' entries, and the body
   abbrev pub param_entries : Scope → TreeFunction → Option (List (Option ℕ))
-  param_entries s f = entries parameter (opened s) (slots_of f.params)
+  param_entries s f = entries text parameter (opened s) (slots_of f.params)
 
   abbrev pub result_entries : Scope → TreeFunction → Option (List (Option ℕ))
-  result_entries s f = entries result (behind_params s f) (slots_of f.results)
+  result_entries s f = entries text result (behind_params s f) (slots_of f.results)
 
   abbrev pub body_of : Scope → TreeFunction → Body → Option Sts
-  body_of s f b = statements text (returns_of f) (body_scope s f) b.statements
+  body_of s f b = statements text (returns_of f) false (body_scope s f) b.statements
 
   abbrev pub parts : Scope → TreeFunction → Body → Option Func
   parts s f b = option_and_then (λ ps. option_and_then (λ rs. option_map (func s f b ps rs) (body_of s f b)) (result_entries s f)) (param_entries s f)

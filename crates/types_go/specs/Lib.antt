@@ -1,6 +1,8 @@
-pub mod Statements
-pub mod Functions
-pub mod StatementFaults
-pub mod FunctionFaults
 pub mod Checked
+pub mod Entries
+pub mod EntryFaults
+pub mod FunctionFaults
+pub mod Functions
 pub mod Passing
+pub mod StatementFaults
+pub mod Statements

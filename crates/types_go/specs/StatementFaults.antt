@@ -1,56 +1,64 @@
--- Which rules fail in a statement, and where each is reported. A form that is left out fails at its first byte. Of its parts only one that
--- begins at that byte keeps its rules: whatever fails further right is never reported.
-use Rattle.std.specs.Prelude.{◌≡◌, ℕ, ◌⊎◌, Bool, true, false, length, take, List, [], ◌∷◌, Option, Some, None, is_some, option_and_then}
+-- Which rules fail in a statement, and where each is reported. A rule is looked at only where its operands have types.
+use Rattle.std.specs.Prelude.{ℕ, ◌⊎◌, Bool, true, false, not, ◌&&◌, length, List, [], ◌∷◌, map, Option, Some, None, is_some, option_and_then, nat_le, if◌then◌else◌}
+use Rattle.std.specs.Option.{option_map}
 use Rattle.base.specs.declared.pos.Pos.{Pos}
 use Rattle.names.specs.Blocks.{Blocks}
 use Rattle.syntax.specs.declared.expression.Name.{Name}
+use Rattle.syntax.specs.declared.operator.ArithmeticOp.{ArithmeticOp}
+use Rattle.syntax.specs.declared.operator.BinOp.TheVariants.{Arithmetic}
 use Rattle.syntax.specs.FirstBytes.{first_place}
 use Rattle.syntax.specs.Expressions.{Ex as TreeEx, Exs as TreeExs, some, spelled}
 use Rattle.syntax.specs.Expressions as expressions
-use Rattle.syntax.specs.Statements.{Simple, Stm, Stms, Els}
+use Rattle.syntax.specs.Statements.{Simple, ValueSpec, Targets, no_targets, targets_assigned, targets_defined, Clause, forever, while_true, counting, ranging, Stm, Stms, Els}
 use Rattle.syntax.specs.Statements as tree
+use Rattle.typed.specs.Syntax.{Ex}
 use Rattle.expression_types.specs.declared.fault.Fault.{Fault}
-use Rattle.expression_types.specs.declared.fault.FaultKind.TheVariants.{Unknown, Redeclared, NothingNew, NotAssignable, ArgCount, ResultCount, NotUsedValue, BadOperand, OutOfProfile}
+use Rattle.expression_types.specs.declared.fault.FaultKind.TheVariants.{Unknown, Redeclared, NothingNew, Mismatch, NotAssignable, ArgCount, ResultCount, NotUsedValue, BadOperand, BreakOutside, OutOfProfile}
+use Rattle.expression_types.specs.declared.scope.ValueType.{ValueType}
+use Rattle.expression_types.specs.declared.scope.ValueType.TheVariants.{Int}
 use Rattle.expression_types.specs.declared.scope.Declared.{Declared}
 use Rattle.expression_types.specs.declared.scope.Declared.TheVariants.{Variable, Untyped, Function, TypeName}
 use Rattle.expression_types.specs.Profile.{is_blank, is_reserved}
 use Rattle.expression_types.specs.Scope.{Scope, declaration, is_here, opened, closed}
-use Rattle.expression_types.specs.Typing.{Gives, one, called, printed, Seen, many, count, name_in, condition_in, gives, seen}
-use Rattle.expression_types.specs.Faults.{fault, FormFails, ValuesFail, RangeFails, CountFails, TakeFails, Fails, FailsInEach, FailsInCondition, FailsInTest}
-use Rattle.types_go.specs.declared.statements.Returns.{Returns}
-use Rattle.types_go.specs.Statements.{noted, is_noted, how_many, is_left_out, lefts, has_all, behind, behind_all}
+use Rattle.expression_types.specs.Typing.{Operand, Gives, one, called, printed, panicked, same_type, accepts, type_of, operand_in, Seen, many, count, name_in, gives, seen}
+use Rattle.expression_types.specs.Faults.{fault, IsFault, FormFails, range_fault, pair_fault, refused_fault, ValuesFail, PlacedFail, CountFails, TakeFails, FailsAsType, Fails, FailsInEach, FailsAsOperand, FailsInCondition, FailsInTest}
+use Rattle.types_go.specs.declared.entries.Role.TheVariants.{Parameter}
+use Rattle.types_go.specs.Entries.{slot_with}
+use Rattle.types_go.specs.EntryFaults.{EntriesFail}
+use Rattle.types_go.specs.Statements.{Returns, only, noted, is_noted, number_type, wanted, lefts, all_wanted, all_new_wanted, has_all, own_value, header, over, all_blank, clause_scope, is_bare, spec_wanted, spec_slots, behind_spec, behind, behind_all}
 
--- a rule that fails where this holds
-abbrev pub FailsWhere : Bool → Fault → Fault → Type 0
-FailsWhere true own f = f ≡ own
-FailsWhere false own f = ⊥
+-- the fault of a rule that fails where this holds
+abbrev pub fault_where : Bool → Fault → Option Fault
+fault_where b own = if b then Some own else None
 
--- where a form is left out this is its only fault, and else these are its faults
-abbrev pub LeftOutOr : Bool → Fault → Type 0 → Fault → Type 0
-LeftOutOr true own P f = f ≡ own
-LeftOutOr false own P f = P
+-- ---- left sides
 
 -- A name on the left side of `=` is blank, or a variable. The places are those of the name and of the whole left side.
-abbrev pub LeftFails : (is_blank reserved : Bool) → Option Declared → Pos → Pos → Fault → Type 0
-LeftFails true reserved d at whole f = ⊥
-LeftFails false true d at whole f = f ≡ fault OutOfProfile at
-LeftFails false false None at whole f = f ≡ fault Unknown at
-LeftFails false false (Some (Variable site)) at whole f = ⊥
-LeftFails false false (Some Untyped) at whole f = ⊥
-LeftFails false false (Some (Function g)) at whole f = f ≡ fault NotAssignable whole
-LeftFails false false (Some TypeName) at whole f = f ≡ fault BadOperand at
+abbrev pub left_fault : (is_blank reserved : Bool) → Option Declared → Pos → Pos → Option Fault
+left_fault true reserved d at whole = None
+left_fault false true d at whole = Some (fault OutOfProfile at)
+left_fault false false None at whole = Some (fault Unknown at)
+left_fault false false (Some (Variable site t)) at whole = None
+left_fault false false (Some Untyped) at whole = None
+left_fault false false (Some (Function g)) at whole = Some (fault NotAssignable whole)
+left_fault false false (Some TypeName) at whole = Some (fault BadOperand at)
 
 -- a name on the left of `:=` is blank, or not the language's own; one that the block has is a variable
-abbrev pub NewNameFails : (is_blank reserved is_here : Bool) → Option Declared → Pos → Fault → Type 0
-NewNameFails true reserved is_here d at f = ⊥
-NewNameFails false true is_here d at f = f ≡ fault OutOfProfile at
-NewNameFails false false true d at f = LeftFails false false d at at f
-NewNameFails false false false d at f = ⊥
+abbrev pub new_name_fault : (is_blank reserved is_here : Bool) → Option Declared → Pos → Option Fault
+new_name_fault true reserved is_here d at = None
+new_name_fault false true is_here d at = Some (fault OutOfProfile at)
+new_name_fault false false true d at = left_fault false false d at at
+new_name_fault false false false d at = None
+
+-- a name on the left of an assignment with an operator, or before `++` or `--`, has a value
+abbrev pub own_fault : (is_blank reserved : Bool) → Option Declared → Pos → Pos → Option Fault
+own_fault true reserved d at whole = Some (fault Unknown at)
+own_fault false reserved d at whole = left_fault false reserved d at whole
 
 -- any other left side that gives something
-abbrev pub ValueLeftFails : Option Gives → Pos → Fault → Type 0
-ValueLeftFails None at f = ⊥
-ValueLeftFails (Some g) at f = f ≡ fault NotAssignable at
+abbrev pub value_left_fault : Option Gives → Pos → Option Fault
+value_left_fault None at = None
+value_left_fault (Some g) at = Some (fault NotAssignable at)
 
 -- where a statement with names begins, and one with expressions on its left
 abbrev pub names_place : List Name → Pos → Pos
@@ -61,85 +69,203 @@ abbrev pub lefts_place : TreeExs → Pos → Pos
 lefts_place expressions.none at = at
 lefts_place (some e es) at = first_place e
 
--- a value alone is no statement
-abbrev pub UseFails : Option Gives → Pos → Fault → Type 0
-UseFails None at f = ⊥
-UseFails (Some (one x)) at f = f ≡ fault NotUsedValue at
-UseFails (Some (called place n g es)) at f = ⊥
-UseFails (Some (printed place ps)) at f = ⊥
+-- ---- rules of statements
 
--- another number of values than the function gives back
+-- a value alone is no statement
+abbrev pub use_fault : Option Gives → Pos → Option Fault
+use_fault None at = None
+use_fault (Some (one x)) at = Some (fault NotUsedValue at)
+use_fault (Some (called place ts g es)) at = None
+use_fault (Some (printed place line ps)) at = None
+use_fault (Some (panicked place p)) at = None
+
+-- `++` and `--` take an int
+abbrev pub step_fault : Option Operand → Pos → Option Fault
+step_fault None at = None
+step_fault (Some x) at = fault_where (not (same_type Int (type_of x))) (fault BadOperand at)
+
+-- other values than the function gives back
 abbrev pub ReturnFails : Pos → Returns → List Seen → Fault → Type 0
-ReturnFails at r [] f = (r.may_be_bare ≡ false) × (f ≡ fault ResultCount at)
-ReturnFails at r (o ∷ os) f = TakeFails (fault ResultCount at) r.count (o ∷ os) f
+ReturnFails at r [] f = IsFault (fault_where (not r.may_be_bare) (fault ResultCount at)) f
+ReturnFails at r (o ∷ os) f = TakeFails (fault ResultCount at) r.wanted (o ∷ os) f
+
+-- how many values there are, where that is looked at
+abbrev pub given_count : Bool → List Seen → Option ℕ
+given_count known os = if known then count os else None
+
+-- `range` goes over an int: any other value is reported at the word of the statement
+abbrev pub over_fault : Pos → Pos → Option Operand → Option Fault
+over_fault at place None = None
+over_fault at place (Some x) = if same_type Int (type_of x) then range_fault place (Some x) else Some (fault BadOperand at)
+
+-- a left side of another type than that of the numbers
+abbrev pub given_fault : Option ValueType → Option ValueType → Pos → Option Fault
+given_fault None p at = None
+given_fault (Some t) p at = fault_where (not (accepts p t)) (fault Mismatch at)
+
+-- more than one left side
+abbrev pub keys_fault : Pos → Option Ex → Option ℕ → Option Fault
+keys_fault at None n = None
+keys_fault at (Some x) None = None
+keys_fault at (Some x) (Some n) = fault_where (not (nat_le n 1)) (fault ArgCount at)
 
 module _ (text : List ℕ) where
   -- a left side of `=`: a name, in parentheses or not, or an expression with its own rules
   abbrev pub LeftSideFails : Scope → Option Name → TreeEx → Fault → Type 0
-  LeftSideFails s (Some n) e f = LeftFails (is_blank (spelled text n)) (is_reserved (spelled text n)) (declaration s (spelled text n)) n.pos (first_place e) f
-  LeftSideFails s None e f = Fails text s e f ⊎ ValueLeftFails (gives text s e) (first_place e) f
+  LeftSideFails s (Some n) e f = IsFault (left_fault (is_blank (spelled text n)) (is_reserved (spelled text n)) (declaration s (spelled text n)) n.pos (first_place e)) f
+  LeftSideFails s None e f = Fails text s e f ⊎ IsFault (value_left_fault (gives text s e) (first_place e)) f
 
   abbrev pub LeftsFail : Scope → TreeExs → Fault → Type 0
   LeftsFail s expressions.none f = ⊥
   LeftsFail s (some e es) f = LeftSideFails s (name_in e) e f ⊎ LeftsFail s es f
 
+  -- the same where its value is asked for
+  abbrev pub OwnSideFails : Scope → Option Name → TreeEx → Fault → Type 0
+  OwnSideFails s (Some n) e f = IsFault (own_fault (is_blank (spelled text n)) (is_reserved (spelled text n)) (declaration s (spelled text n)) n.pos (first_place e)) f
+  OwnSideFails s None e f = Fails text s e f ⊎ IsFault (value_left_fault (gives text s e) (first_place e)) f
+
+  abbrev pub OwnSidesFail : Scope → TreeExs → Fault → Type 0
+  OwnSidesFail s expressions.none f = ⊥
+  OwnSidesFail s (some e es) f = OwnSideFails s (name_in e) e f ⊎ OwnSidesFail s es f
+
   abbrev pub NewNamesFail : Scope → List Name → Fault → Type 0
   NewNamesFail s [] f = ⊥
   NewNamesFail s (n ∷ ns) f =
-      NewNameFails (is_blank (spelled text n)) (is_reserved (spelled text n)) (is_here s (spelled text n)) (declaration s (spelled text n)) n.pos f ⊎ NewNamesFail s ns f
+      IsFault (new_name_fault (is_blank (spelled text n)) (is_reserved (spelled text n)) (is_here s (spelled text n)) (declaration s (spelled text n)) n.pos) f ⊎ NewNamesFail s ns f
 
   -- a name stands twice
   abbrev pub TwiceFails : Blocks → List Name → Fault → Type 0
   TwiceFails names [] f = ⊥
-  TwiceFails names (n ∷ ns) f = FailsWhere (is_noted names (spelled text n)) (fault Redeclared n.pos) f ⊎ TwiceFails (noted names (spelled text n)) ns f
+  TwiceFails names (n ∷ ns) f = IsFault (fault_where (is_noted names (spelled text n)) (fault Redeclared n.pos)) f ⊎ TwiceFails (noted names (spelled text n)) ns f
+
+  -- ---- simple statements
 
   -- the number of values is looked at where all left sides have types
   abbrev pub FailsInAssignment : Scope → TreeExs → Pos → TreeExs → Fault → Type 0
   FailsInAssignment s ls at es f =
       (LeftsFail s ls f ⊎ FailsInEach text s es f)
-      ⊎ ((ValuesFail (many (seen text s es)) (seen text s es) f ⊎ RangeFails (take (how_many ls) (seen text s es)) f)
-      ⊎ CountFails (option_and_then (λ ks. count (seen text s es)) (lefts text s ls)) (how_many ls) (fault ArgCount (lefts_place ls at)) f)
+      ⊎ (PlacedFail (all_wanted text s ls) (seen text s es) f
+      ⊎ CountFails (option_and_then (λ ks. count (seen text s es)) (lefts text s ls)) (length (all_wanted text s ls)) (fault ArgCount (lefts_place ls at)) f)
 
   abbrev pub FailsInDefinition : Scope → List Name → Pos → TreeExs → Fault → Type 0
   FailsInDefinition s ns at es f =
-      ((FailsInEach text s es f ⊎ TakeFails (fault ArgCount (names_place ns at)) (length ns) (seen text s es) f) ⊎ NewNamesFail s ns f)
-      ⊎ (TwiceFails ([] ∷ []) ns f ⊎ FailsWhere (has_all text s ns) (fault NothingNew at) f)
+      ((FailsInEach text s es f ⊎ TakeFails (fault ArgCount (names_place ns at)) (all_new_wanted text s ns) (seen text s es) f) ⊎ NewNamesFail s ns f)
+      ⊎ (TwiceFails ([] ∷ []) ns f ⊎ IsFault (fault_where (has_all text s ns) (fault NothingNew at)) f)
 
-  -- the expression with which a statement begins that is left out
-  abbrev pub FirstFails : Scope → TreeExs → Fault → Type 0
-  FirstFails s expressions.none f = ⊥
-  FirstFails s (some e es) f = Fails text s e f
+  -- how many values there are, where each left side has one of its own
+  abbrev pub have_values : Scope → TreeExs → Bool
+  have_values s expressions.none = true
+  have_values s (some e es) = is_some (own_value text s (name_in e)) && have_values s es
+
+  -- the operator between one left side and one value; with another number of them, the statement is at fault
+  abbrev pub UpdateFails : Scope → TreeExs → Pos → ArithmeticOp → TreeExs → Option TreeEx → Option TreeEx → Fault → Type 0
+  UpdateFails s ls at tree_op es (Some e) (Some v) f =
+      (OwnSideFails s (name_in e) e f ⊎ FailsAsOperand text s v f)
+      ⊎ IsFault (pair_fault (first_place e) (first_place v) (Arithmetic tree_op) (own_value text s (name_in e)) (operand_in (gives text s v))) f
+  UpdateFails s ls at tree_op es e v f =
+      ((OwnSidesFail s ls f ⊎ FailsInEach text s es f) ⊎ ValuesFail (many (seen text s es)) (seen text s es) f)
+      ⊎ IsFault (refused_fault (given_count (have_values s ls) (seen text s es)) (fault ArgCount (lefts_place ls at))) f
+
+  abbrev pub FailsInUpdate : Scope → TreeExs → Pos → ArithmeticOp → TreeExs → Fault → Type 0
+  FailsInUpdate s ls at tree_op es f = UpdateFails s ls at tree_op es (only ls) (only es) f
+
+  abbrev pub FailsInStep : Scope → TreeEx → Fault → Type 0
+  FailsInStep s e f = OwnSideFails s (name_in e) e f ⊎ IsFault (step_fault (own_value text s (name_in e)) (first_place e)) f
 
   abbrev pub FailsInSimple : Scope → Simple → Fault → Type 0
-  FailsInSimple s (tree.express e) f = Fails text s e f ⊎ UseFails (gives text s e) (first_place e) f
+  FailsInSimple s (tree.express e) f = Fails text s e f ⊎ IsFault (use_fault (gives text s e) (first_place e)) f
   FailsInSimple s (tree.assign ls at es) f = FailsInAssignment s ls at es f
-  FailsInSimple s (tree.update ls at op es) f = FirstFails s ls f ⊎ FormFails (lefts_place ls at) f
+  FailsInSimple s (tree.update ls at tree_op es) f = FailsInUpdate s ls at tree_op es f
   FailsInSimple s (tree.define ns at es) f = FailsInDefinition s ns at es f
-  FailsInSimple s (tree.increment e at) f = Fails text s e f ⊎ FormFails (first_place e) f
-  FailsInSimple s (tree.decrement e at) f = Fails text s e f ⊎ FormFails (first_place e) f
+  FailsInSimple s (tree.increment e at) f = FailsInStep s e f
+  FailsInSimple s (tree.decrement e at) f = FailsInStep s e f
 
-  -- a rule fails in a statement, in the scope before it; in one of some statements, in the scope behind those before it
+  -- ---- headers of `if` and `for`, whose word stands at a place
+
+  abbrev pub FailsInInit : Scope → Option Simple → Fault → Type 0
+  FailsInInit s None f = ⊥
+  FailsInInit s (Some m) f = FailsInSimple (opened s) m f
+
+  -- a post statement declares nothing
+  abbrev pub PostFails : Scope → Simple → Fault → Type 0
+  PostFails s (tree.define ns at es) f = FormFails (names_place ns at) f
+  PostFails s m f = FailsInSimple s m f
+
+  abbrev pub FailsInPost : Scope → Option Simple → Fault → Type 0
+  FailsInPost s None f = ⊥
+  FailsInPost s (Some m) f = PostFails s m f
+
+  abbrev pub FailsInOver : Scope → Pos → TreeEx → Fault → Type 0
+  FailsInOver s at e f = FailsAsOperand text s e f ⊎ IsFault (over_fault at (first_place e) (operand_in (gives text s e))) f
+
+  abbrev pub GivenFail : Scope → Option ValueType → TreeExs → Fault → Type 0
+  GivenFail s t expressions.none f = ⊥
+  GivenFail s t (some e es) f = IsFault (given_fault t (wanted text s (name_in e)) (first_place e)) f ⊎ GivenFail s t es f
+
+  abbrev pub TargetsFail : Scope → Option ValueType → Targets → Fault → Type 0
+  TargetsFail s t no_targets f = ⊥
+  TargetsFail s t (targets_assigned ls at) f = LeftsFail s ls f ⊎ GivenFail s t ls f
+  TargetsFail s t (targets_defined ns at) f = EntriesFail text Parameter s (map (slot_with t) ns) f ⊎ IsFault (fault_where (all_blank text ns) (fault NothingNew at)) f
+
+  -- how many left sides there are, where each has a type
+  abbrev pub target_count : Scope → Targets → Option ℕ
+  target_count s no_targets = Some 0
+  target_count s (targets_assigned ls at) = option_map length (lefts text s ls)
+  target_count s (targets_defined ns at) = Some (length ns)
+
+  abbrev pub FailsInRange : Scope → Pos → Targets → TreeEx → Fault → Type 0
+  FailsInRange s at t e f =
+      (FailsInOver s at e f ⊎ TargetsFail (opened s) (number_type (over text s e)) t f) ⊎ IsFault (keys_fault at (over text s e) (target_count (opened s) t)) f
+
+  abbrev pub FailsInClause : Scope → Pos → Clause → Fault → Type 0
+  FailsInClause s at forever f = ⊥
+  FailsInClause s at (while_true e) f = FailsInCondition text (opened s) at e f
+  FailsInClause s at (counting init test1 post) f = (FailsInInit s init f ⊎ FailsInTest text (header text s init) at test1 f) ⊎ FailsInPost (header text s init) post f
+  FailsInClause s at (ranging t place e) f = FailsInRange s at t e f
+
+  abbrev pub FailsInGuard : Scope → Pos → tree.Guard → Fault → Type 0
+  FailsInGuard s at g f = FailsInInit s g.init f ⊎ FailsInCondition text (header text s g.init) at g.condition f
+
+  -- ---- a `var` among statements, whose word stands at a place
+
+  abbrev pub SpecTypeFails : Scope → Option TreeEx → Fault → Type 0
+  SpecTypeFails s None f = ⊥
+  SpecTypeFails s (Some e) f = FailsAsType text s e f
+
+  abbrev pub SpecTakeFails : Scope → Pos → ValueSpec → Fault → Type 0
+  SpecTakeFails s at v f = FailsInEach text s v.values f ⊎ TakeFails (fault ArgCount at) (spec_wanted text v) (seen text s v.values) f
+
+  abbrev pub SpecValuesFail : Bool → Scope → Pos → ValueSpec → Fault → Type 0
+  SpecValuesFail true s at v f = ⊥
+  SpecValuesFail false s at v f = SpecTakeFails s at v f
+
+  abbrev pub FailsInSpec : Scope → Pos → ValueSpec → Fault → Type 0
+  FailsInSpec s at v f = SpecTypeFails s v.type_expr f ⊎ (SpecValuesFail (is_bare v.type_expr v.values) s at v f ⊎ EntriesFail text Parameter s (spec_slots text s v) f)
+
+  abbrev pub FailsInSpecs : Scope → Pos → List ValueSpec → Fault → Type 0
+  FailsInSpecs s at [] f = ⊥
+  FailsInSpecs s at (v ∷ vs) f = FailsInSpec s at v f ⊎ FailsInSpecs (behind_spec text s v) at vs f
+
+  -- ---- a rule fails in a statement, in the scope before it; in one of some statements, in the scope behind those before it
   module _ (r : Returns) where
     abbrev mutual
-      pub FailsInStatement : Scope → Stm → Fault → Type 0
-      FailsInStatement s (tree.declare at specs) f = FormFails at f
-      FailsInStatement s (tree.simple m) f = FailsInSimple s m f
-      FailsInStatement s (tree.block ms) f = FailsInStatements (opened s) ms f
-      FailsInStatement s (tree.choice at g body rest) f =
-          LeftOutOr (is_some g.init) (fault OutOfProfile at)
-          ((FailsInCondition text s at g.condition f ⊎ FailsInStatements (opened s) body f) ⊎ FailsInElse (closed (behind_all text (opened s) body)) rest f) f
-      FailsInStatement s (tree.loop at c body) f = LeftOutOr (is_left_out c) (fault OutOfProfile at) (FailsInTest text s at (condition_in c) f ⊎ FailsInStatements (opened s) body f) f
-      FailsInStatement s (tree.break_at at) f = FormFails at f
-      FailsInStatement s (tree.continue_at at) f = FormFails at f
-      FailsInStatement s (tree.give_back at es) f = FailsInEach text s es f ⊎ ReturnFails at r (seen text s es) f
+      pub FailsInStatement : (looped : Bool) → Scope → Stm → Fault → Type 0
+      FailsInStatement looped s (tree.declare at specs) f = FailsInSpecs s at specs f
+      FailsInStatement looped s (tree.simple m) f = FailsInSimple s m f
+      FailsInStatement looped s (tree.block ms) f = FailsInStatements looped (opened s) ms f
+      FailsInStatement looped s (tree.choice at g body rest) f =
+          (FailsInGuard s at g f ⊎ FailsInStatements looped (opened (header text s g.init)) body f) ⊎ FailsInElse looped (closed (behind_all text (opened (header text s g.init)) body)) rest f
+      FailsInStatement looped s (tree.loop at c body) f = FailsInClause s at c f ⊎ FailsInStatements true (opened (clause_scope text s c)) body f
+      FailsInStatement looped s (tree.break_at at) f = IsFault (fault_where (not looped) (fault BreakOutside at)) f
+      FailsInStatement looped s (tree.continue_at at) f = IsFault (fault_where (not looped) (fault BreakOutside at)) f
+      FailsInStatement looped s (tree.give_back at es) f = FailsInEach text s es f ⊎ ReturnFails at r (seen text s es) f
 
-      pub FailsInElse : Scope → Els → Fault → Type 0
-      FailsInElse s tree.no_else f = ⊥
-      FailsInElse s (tree.else_block ms) f = FailsInStatements (opened s) ms f
-      FailsInElse s (tree.else_if at g body rest) f =
-          LeftOutOr (is_some g.init) (fault OutOfProfile at)
-          ((FailsInCondition text s at g.condition f ⊎ FailsInStatements (opened s) body f) ⊎ FailsInElse (closed (behind_all text (opened s) body)) rest f) f
+      pub FailsInElse : (looped : Bool) → Scope → Els → Fault → Type 0
+      FailsInElse looped s tree.no_else f = ⊥
+      FailsInElse looped s (tree.else_block ms) f = FailsInStatements looped (opened s) ms f
+      FailsInElse looped s (tree.else_if at g body rest) f =
+          (FailsInGuard s at g f ⊎ FailsInStatements looped (opened (header text s g.init)) body f) ⊎ FailsInElse looped (closed (behind_all text (opened (header text s g.init)) body)) rest f
 
-      pub FailsInStatements : Scope → Stms → Fault → Type 0
-      FailsInStatements s tree.nil f = ⊥
-      FailsInStatements s (tree.cons m ms) f = FailsInStatement s m f ⊎ FailsInStatements (behind text s m) ms f
+      pub FailsInStatements : (looped : Bool) → Scope → Stms → Fault → Type 0
+      FailsInStatements looped s tree.nil f = ⊥
+      FailsInStatements looped s (tree.cons m ms) f = FailsInStatement looped s m f ⊎ FailsInStatements looped (behind text s m) ms f

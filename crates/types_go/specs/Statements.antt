@@ -1,49 +1,87 @@
--- The typed statements that the rules of the language give a tree (Go specification, "Short variable declarations", "Assignment
--- statements", "Expression statements", "If statements", "For statements", "Return statements"). A form that is left out gives nothing, and
--- the scope behind it is the one before it.
-use Rattle.std.specs.Prelude.{ℕ, suc, ◌+◌, length, Bool, true, false, not, ◌&&◌, ◌||◌, List, [], ◌∷◌, Option, Some, None, is_some, option_and_then, if◌then◌else◌}
+-- The typed statements that the rules of the language give a tree (Go specification, "Short variable declarations", "Variable
+-- declarations", "Assignment statements", "IncDec statements", "Expression statements", "If statements", "For statements", "Break
+-- statements", "Continue statements", "Return statements").
+use Rattle.std.specs.Prelude.{ℕ, ◌+◌, length, Bool, true, false, not, ◌&&◌, ◌||◌, List, [], ◌∷◌, map, Option, Some, None, is_some, option_and_then, if◌then◌else◌}
 use Rattle.std.specs.Option.{option_map}
 use Rattle.names.specs.Blocks.{Blocks, innermost, insert}
 use Rattle.syntax.specs.declared.expression.Name.{Name}
-use Rattle.syntax.specs.Expressions.{Exs as TreeExs, some, spelled}
+use Rattle.syntax.specs.declared.operator.ArithmeticOp.{ArithmeticOp}
+use Rattle.syntax.specs.declared.operator.BinOp.TheVariants.{Arithmetic}
+use Rattle.syntax.specs.FirstBytes.{first_place}
+use Rattle.syntax.specs.Expressions.{Ex as TreeEx, Exs as TreeExs, some, spelled}
 use Rattle.syntax.specs.Expressions as expressions
-use Rattle.syntax.specs.Statements.{Simple, Clause, forever, while_true, counting, ranging, Stm, Stms, Els}
+use Rattle.syntax.specs.Statements.{Simple, ValueSpec, Guard, Targets, no_targets, targets_assigned, targets_defined, Clause, forever, while_true, counting, ranging, Stm, Stms, Els}
 use Rattle.syntax.specs.Statements as tree
-use Rattle.typed.specs.Syntax.{Ex, Exs, Left, St, Sts, local, here, none, results, blank, new, to, assign, discard, block, choose, loop, give_back, print, done, next}
+use Rattle.typed.specs.declared.operators.BinOp.{BinOp as TypedOp}
+use Rattle.typed.specs.declared.operators.BinOp.TheVariants as op
+use Rattle.typed.specs.Syntax.{Ex, Exs, Left, St, Sts, binary, read, local, here, none, results, blank, new, to, over_int, declare, assign, update, bump, discard, block, choose, loop, range, break_off, go_on, give_back, print, raise, done, next}
+use Rattle.expression_types.specs.declared.profile.Word.{Word}
+use Rattle.expression_types.specs.declared.profile.Word.TheVariants as word
+use Rattle.expression_types.specs.declared.scope.ValueType.{ValueType}
+use Rattle.expression_types.specs.declared.scope.ValueType.TheVariants.{Int}
 use Rattle.expression_types.specs.declared.scope.Declared.{Declared}
 use Rattle.expression_types.specs.declared.scope.Declared.TheVariants.{Variable, Untyped, Function, TypeName}
-use Rattle.expression_types.specs.Profile.{is_blank, is_reserved}
+use Rattle.expression_types.specs.Profile.{is_blank, is_reserved, word_of}
 use Rattle.expression_types.specs.Scope.{Scope, declaration, is_here, with_variable, opened, closed}
-use Rattle.expression_types.specs.Typing.{Gives, one, called, printed, Seen, taken, name_in, condition_in, gives, seen, condition, test}
-use Rattle.types_go.specs.declared.statements.Returns.{Returns}
+use Rattle.expression_types.specs.Typing.{Operand, value, Gives, one, called, printed, panicked, allowed, same_type, accepts, type_of, as_value, both, combined, operand_in, Seen, value_types, taken, name_in, type_in, gives, seen, condition, test}
+use Rattle.types_go.specs.declared.slots.Slot.{Slot}
+use Rattle.types_go.specs.declared.entries.Role.TheVariants.{Parameter}
+use Rattle.types_go.specs.declared.statements.Returns.{Returns as ReturnsData}
+use Rattle.types_go.specs.Entries.{sites_of, entry_left, slot_with, slots_each, entries, behind_entries}
 
--- how many expressions stand side by side
-abbrev pub how_many : TreeExs → ℕ
-how_many expressions.none = 0
-how_many (some e es) = suc (how_many es)
+-- what a function gives back: the types of its values, where they are known, and whether a `return` may have none
+pub record Returns : Type 0 where
+  pub wanted : List (Option ValueType)
+  pub may_be_bare : Bool
 
--- a loop of a form that is left out
-abbrev pub is_left_out : Clause → Bool
-is_left_out forever = false
-is_left_out (while_true e) = false
-is_left_out (counting init test post) = true
-is_left_out (ranging t at e) = true
+abbrev pub returns_view : ReturnsData → Returns
+returns_view r = record { wanted = r.wanted.items; may_be_bare = r.may_be_bare }
+
+-- the expression that stands alone
+abbrev pub only : TreeExs → Option TreeEx
+only expressions.none = None
+only (some e expressions.none) = Some e
+only (some e (some g es)) = None
+
+-- ---- left sides
 
 -- a variable with a type as a left side
 abbrev pub target : Option Declared → Option Left
 target None = None
-target (Some (Variable site)) = Some (to (local site.0 here))
+target (Some (Variable site t)) = Some (to (local site.0 here))
 target (Some Untyped) = None
 target (Some (Function f)) = None
 target (Some TypeName) = None
 
--- a left side of `=`
-abbrev pub left_of : Bool → Bool → Option Declared → Option Left
+-- the type that it asks for
+abbrev pub variable_type : Option Declared → Option ValueType
+variable_type None = None
+variable_type (Some (Variable site t)) = Some t
+variable_type (Some Untyped) = None
+variable_type (Some (Function f)) = None
+variable_type (Some TypeName) = None
+
+-- its value
+abbrev pub variable_value : Option Declared → Option Operand
+variable_value None = None
+variable_value (Some (Variable site t)) = Some (value t (read (local site.0 here)))
+variable_value (Some Untyped) = None
+variable_value (Some (Function f)) = None
+variable_value (Some TypeName) = None
+
+-- a left side of `=`, and the type that it asks for
+abbrev pub left_of : (is_blank reserved : Bool) → Option Declared → Option Left
 left_of is_blank reserved d = if is_blank then Some blank else (if reserved then None else target d)
 
+abbrev pub wanted_of : (is_blank reserved : Bool) → Option Declared → Option ValueType
+wanted_of is_blank reserved d = if is_blank then None else (if reserved then None else variable_type d)
+
 -- a left side of `:=`: a variable that the block has, or a new one with the next site
-abbrev pub new_left_of : Bool → Bool → Bool → Option Declared → ℕ → Option Left
+abbrev pub new_left_of : (is_blank reserved is_here : Bool) → Option Declared → ℕ → Option Left
 new_left_of is_blank reserved is_here d site = if is_blank then Some blank else (if reserved then None else (if is_here then target d else Some (new site)))
+
+abbrev pub new_wanted_of : (is_blank reserved is_here : Bool) → Option Declared → Option ValueType
+new_wanted_of is_blank reserved is_here d = if is_here then wanted_of is_blank reserved d else None
 
 -- whether a `:=` declares the name
 abbrev pub declares : Scope → List ℕ → Bool
@@ -56,26 +94,139 @@ noted names n = if is_blank n then names else insert names n 0
 abbrev pub is_noted : Blocks → List ℕ → Bool
 is_noted names n = not (is_blank n) && is_some (innermost names n)
 
-abbrev pub choice_of : Option Ex → Option Sts → Option Sts → Option St
-choice_of c a b = option_and_then (λ x. option_and_then (λ y. option_map (choose x y) b) a) c
+-- the types of the values at these places
+abbrev pub taken_types : List (Option ValueType) → List Seen → Option (List ValueType)
+taken_types places os = option_and_then (λ v. value_types os) (taken places os)
 
-abbrev pub loop_of : Option (Option Ex) → Option Sts → Option St
-loop_of c body = option_and_then (λ x. option_map (loop [] x done) body) c
+-- ---- statements of their parts
+
+abbrev pub alone : St → Sts
+alone t = next t done
+
+-- statements before others
+abbrev pub before : Sts → Sts → Sts
+before done r = r
+before (next t ts) r = next t (before ts r)
 
 -- a call as a statement
 abbrev pub expressed : Gives → Option St
 expressed (one x) = None
-expressed (called at n f es) = Some (discard (results f es))
-expressed (printed at ps) = Some (print true ps)
+expressed (called at ts f es) = Some (discard (results f es))
+expressed (printed at line ps) = Some (print line ps)
+expressed (panicked at p) = Some (raise at p)
+
+-- a declaration or an assignment with these left sides and values
+abbrev pub assignment : Option (List Left) → Option Exs → Option St
+assignment ls v = option_and_then (λ l. option_map (assign l) v) ls
+
+-- an assignment with an operator, of what the operator gives of the variable and the operand
+abbrev pub updated : Operand → Option St
+updated (value t (binary at typed_op (read q) e)) = Some (update at q typed_op e)
+updated other = None
+
+-- `++` or `--` on a variable, which is an int
+abbrev pub stepped : TypedOp → Operand → Option St
+stepped typed_op (value Int (read q)) = Some (bump q typed_op)
+stepped typed_op other = None
 
 -- the values of a `return`
 abbrev pub returned : Returns → List Seen → Option St
 returned r [] = if r.may_be_bare then Some (give_back none) else None
-returned r (o ∷ os) = option_map give_back (taken r.count (o ∷ os))
+returned r (o ∷ os) = option_map give_back (taken r.wanted (o ∷ os))
 
--- a `:=` with these left sides and values
-abbrev pub assignment : Option (List Left) → Option Exs → Option St
-assignment ls v = option_and_then (λ l. option_map (assign l) v) ls
+-- a statement behind the init statement of its header, in the block around both
+abbrev pub headed : Option St → St → St
+headed None t = t
+headed (Some i) t = block (next i (next t done))
+
+-- the new variables among left sides, and those of an init statement
+abbrev pub new_in : List Left → List ℕ
+new_in [] = []
+new_in (blank ∷ ls) = new_in ls
+new_in (new site ∷ ls) = site ∷ new_in ls
+new_in (to q ∷ ls) = new_in ls
+
+abbrev pub declared_in : Option St → List ℕ
+declared_in (Some (assign ls es)) = new_in ls
+declared_in other = []
+
+-- the header of an `if`: its init statement, where it has one, and its condition
+pub record Choice : Type 0 where
+  pub init : Option St
+  pub condition : Ex
+
+abbrev pub chosen : Choice → Sts → Sts → St
+chosen h a b = headed h.init (choose h.condition a b)
+
+-- the header of a loop, or of one over an int with what gets the number
+pub data Head : Type 0 where
+  repeated : Option St → Option Ex → Sts → Head
+  counted : Ex → Left → Head
+
+abbrev pub looped_by : Head → Sts → St
+looped_by (repeated init test1 post) body = headed init (loop (declared_in init) test1 post body)
+looped_by (counted e key) body = range (over_int e) key blank body
+
+abbrev pub choice_of : Option Choice → Option Sts → Option Sts → Option St
+choice_of h a b = option_and_then (λ c. option_and_then (λ y. option_map (chosen c y) b) a) h
+
+abbrev pub loop_of : Option Head → Option Sts → Option St
+loop_of h body = option_and_then (λ c. option_map (looped_by c) body) h
+
+abbrev pub choice_head : Option (Option St) → Option Ex → Option Choice
+choice_head i c = option_and_then (λ h. option_map (λ x. record { init = h; condition = x }) c) i
+
+abbrev pub loop_head : Option (Option St) → Option (Option Ex) → Option Sts → Option Head
+loop_head i c post = option_and_then (λ h. option_and_then (λ x. option_map (repeated h x) post) c) i
+
+-- what gets the number of a `range`: one left side at most
+abbrev pub key_of : List Left → Option Left
+key_of [] = Some blank
+key_of (l ∷ []) = Some l
+key_of (l ∷ k ∷ ls) = None
+
+abbrev pub range_head : Option Ex → Option (List Left) → Option Head
+range_head e ls = option_and_then (λ x. option_map (counted x) (option_and_then key_of ls)) e
+
+-- an int that a `range` goes over
+abbrev pub as_int : Operand → Option Ex
+as_int x = allowed (same_type Int (type_of x)) (as_value x)
+
+-- the type of the numbers
+abbrev pub number_type : Option Ex → Option ValueType
+number_type None = None
+number_type (Some x) = Some Int
+
+-- whether left sides that ask for these types may get a value of one, where that is known
+abbrev pub all_accept : Option ValueType → List (Option ValueType) → Bool
+all_accept None ps = true
+all_accept (Some t) [] = true
+all_accept (Some t) (p ∷ ps) = accepts p t && all_accept (Some t) ps
+
+-- the init and the post statement of a loop
+abbrev pub init_in : Clause → Option Simple
+init_in forever = None
+init_in (while_true e) = None
+init_in (counting init test1 post) = init
+init_in (ranging t at e) = None
+
+abbrev pub post_in : Clause → Option Simple
+post_in forever = None
+post_in (while_true e) = None
+post_in (counting init test1 post) = post
+post_in (ranging t at e) = None
+
+-- the new variables of a `range`
+abbrev pub target_slots : Option ValueType → Targets → List Slot
+target_slots t no_targets = []
+target_slots t (targets_assigned ls at) = []
+target_slots t (targets_defined ns at) = map (slot_with t) ns
+
+-- a declaration with a type and no values
+abbrev pub is_bare : Option TreeEx → TreeExs → Bool
+is_bare None es = false
+is_bare (Some e) expressions.none = true
+is_bare (Some e) (some x xs) = false
 
 module _ (text : List ℕ) where
   -- a left side of `=`: a name, in parentheses or not; any other expression is none
@@ -83,28 +234,50 @@ module _ (text : List ℕ) where
   left s None = None
   left s (Some n) = left_of (is_blank (spelled text n)) (is_reserved (spelled text n)) (declaration s (spelled text n))
 
-  -- the left sides of `=`, where each is a variable with a type or blank
+  abbrev pub wanted : Scope → Option Name → Option ValueType
+  wanted s None = None
+  wanted s (Some n) = wanted_of (is_blank (spelled text n)) (is_reserved (spelled text n)) (declaration s (spelled text n))
+
+  -- the left sides of `=`, where each is a variable with a type or blank, and the types that they ask for
   abbrev pub lefts : Scope → TreeExs → Option (List Left)
   lefts s expressions.none = Some []
   lefts s (some e es) = option_and_then (λ l. option_map (λ ls. l ∷ ls) (lefts s es)) (left s (name_in e))
 
+  abbrev pub all_wanted : Scope → TreeExs → List (Option ValueType)
+  all_wanted s expressions.none = []
+  all_wanted s (some e es) = wanted s (name_in e) ∷ all_wanted s es
+
   -- the names that a `:=` declares, where it begins
-  abbrev pub new_names : Scope → List Name → List Name
-  new_names s [] = []
-  new_names s (n ∷ ns) = if declares s (spelled text n) then n ∷ new_names s ns else new_names s ns
+  abbrev pub slot_declares : Scope → Option Name → Bool
+  slot_declares s None = false
+  slot_declares s (Some n) = declares s (spelled text n)
+
+  abbrev pub new_slots : Scope → List Slot → List Slot
+  new_slots s [] = []
+  new_slots s (v ∷ vs) = if slot_declares s v.name then v ∷ new_slots s vs else new_slots s vs
 
   abbrev pub new_left : Scope → ℕ → Name → Option Left
   new_left s site n = new_left_of (is_blank (spelled text n)) (is_reserved (spelled text n)) (is_here s (spelled text n)) (declaration s (spelled text n)) site
 
-  -- its left sides, the new ones of which have sites from one on
+  abbrev pub new_wanted : Scope → Name → Option ValueType
+  new_wanted s n = new_wanted_of (is_blank (spelled text n)) (is_reserved (spelled text n)) (is_here s (spelled text n)) (declaration s (spelled text n))
+
+  -- its left sides, the new ones of which have sites from one on, and the types that they ask for
   abbrev pub new_lefts : Scope → ℕ → List Name → Option (List Left)
   new_lefts s site [] = Some []
   new_lefts s site (n ∷ ns) = option_and_then (λ l. option_map (λ ls. l ∷ ls) (new_lefts s (if declares s (spelled text n) then 1 + site else site) ns)) (new_left s site n)
 
+  abbrev pub all_new_wanted : Scope → List Name → List (Option ValueType)
+  all_new_wanted s ns = map (new_wanted s) ns
+
   -- the scope behind new variables, with types or without
-  abbrev pub with_variables : Bool → Scope → List Name → Scope
-  with_variables has_type s [] = s
-  with_variables has_type s (n ∷ ns) = with_variables has_type (with_variable has_type s (spelled text n) n.pos) ns
+  abbrev pub with_slot : Option ValueType → Scope → Option Name → Scope
+  with_slot t s None = s
+  with_slot t s (Some n) = with_variable t s (spelled text n) n.pos
+
+  abbrev pub with_variables : Scope → List Slot → Scope
+  with_variables s [] = s
+  with_variables s (v ∷ vs) = with_variables (with_slot v.value_type s v.name) vs
 
   -- no name but the blank one stands twice
   abbrev pub are_distinct : Blocks → List Name → Bool
@@ -119,23 +292,143 @@ module _ (text : List ℕ) where
   abbrev pub may_define : Scope → List Name → Bool
   may_define s ns = are_distinct ([] ∷ []) ns && not (has_all s ns)
 
-  -- ---- the scope behind a statement
+  -- the value of a variable that is given another one of its own
+  abbrev pub own_value : Scope → Option Name → Option Operand
+  own_value s None = None
+  own_value s (Some n) = if is_reserved (spelled text n) then None else variable_value (declaration s (spelled text n))
+
+  -- ---- simple statements
+
+  abbrev pub definition_types : Scope → List Name → TreeExs → Option (List ValueType)
+  definition_types s ns es = taken_types (all_new_wanted s ns) (seen text s es)
 
   abbrev pub behind_simple : Scope → Simple → Scope
   behind_simple s (tree.express e) = s
   behind_simple s (tree.assign ls at es) = s
-  behind_simple s (tree.update ls at op es) = s
-  behind_simple s (tree.define ns at es) = with_variables (is_some (taken (length ns) (seen text s es))) s (new_names s ns)
+  behind_simple s (tree.update ls at tree_op es) = s
+  behind_simple s (tree.define ns at es) = with_variables s (new_slots s (slots_each (definition_types s ns es) ns))
   behind_simple s (tree.increment e at) = s
   behind_simple s (tree.decrement e at) = s
 
+  abbrev pub update_one : Scope → ArithmeticOp → TreeEx → TreeEx → Option St
+  update_one s tree_op e v = option_and_then updated (both (combined (first_place e) (Arithmetic tree_op)) (own_value s (name_in e)) (operand_in (gives text s v)))
+
+  abbrev pub update_statement : Scope → ArithmeticOp → Option TreeEx → Option TreeEx → Option St
+  update_statement s tree_op e v = option_and_then (λ x. option_and_then (update_one s tree_op x) v) e
+
+  abbrev pub step_statement : Scope → TypedOp → TreeEx → Option St
+  step_statement s typed_op e = option_and_then (stepped typed_op) (own_value s (name_in e))
+
+  abbrev pub simple_statement : Scope → Simple → Option St
+  simple_statement s (tree.express e) = option_and_then expressed (gives text s e)
+  simple_statement s (tree.assign ls at es) = assignment (lefts s ls) (taken (all_wanted s ls) (seen text s es))
+  simple_statement s (tree.update ls at tree_op es) = update_statement s tree_op (only ls) (only es)
+  simple_statement s (tree.define ns at es) = if may_define s ns then assignment (new_lefts s (length s.sites) ns) (taken (all_new_wanted s ns) (seen text s es)) else None
+  simple_statement s (tree.increment e at) = step_statement s op.Add e
+  simple_statement s (tree.decrement e at) = step_statement s op.Sub e
+
+  -- ---- headers of `if` and `for`
+
+  -- the block of a header, behind its init statement
+  abbrev pub header : Scope → Option Simple → Scope
+  header s None = opened s
+  header s (Some m) = behind_simple (opened s) m
+
+  abbrev pub init_statement : Scope → Option Simple → Option (Option St)
+  init_statement s None = Some None
+  init_statement s (Some m) = option_map Some (simple_statement (opened s) m)
+
+  -- a post statement declares nothing
+  abbrev pub post_simple : Scope → Simple → Option St
+  post_simple s (tree.define ns at es) = None
+  post_simple s m = simple_statement s m
+
+  abbrev pub post_statement : Scope → Option Simple → Option Sts
+  post_statement s None = Some done
+  post_statement s (Some m) = option_map alone (post_simple s m)
+
+  abbrev pub guard_head : Scope → Guard → Option Choice
+  guard_head s g = choice_head (init_statement s g.init) (condition text (header s g.init) g.condition)
+
+  -- the int that a `range` goes over, outside of the block of the header, and what gets the numbers
+  abbrev pub over : Scope → TreeEx → Option Ex
+  over s e = option_and_then as_int (operand_in (gives text s e))
+
+  abbrev pub all_blank : List Name → Bool
+  all_blank [] = true
+  all_blank (n ∷ ns) = is_blank (spelled text n) && all_blank ns
+
+  abbrev pub target_lefts : Scope → Option ValueType → Targets → Option (List Left)
+  target_lefts s t no_targets = Some []
+  target_lefts s t (targets_assigned ls at) = allowed (all_accept t (all_wanted s ls)) (lefts s ls)
+  target_lefts s t (targets_defined ns at) = allowed (not (all_blank ns)) (option_map (map entry_left) (entries text Parameter s (map (slot_with t) ns)))
+
+  -- the scope of a loop's condition, post statement and body
+  abbrev pub clause_scope : Scope → Clause → Scope
+  clause_scope s forever = opened s
+  clause_scope s (while_true e) = opened s
+  clause_scope s (counting init test1 post) = header s init
+  clause_scope s (ranging t at e) = behind_entries text (opened s) (target_slots (number_type (over s e)) t)
+
+  abbrev pub clause_head : Scope → Clause → Option Head
+  clause_head s forever = Some (repeated None None done)
+  clause_head s (while_true e) = loop_head (Some None) (option_map Some (condition text (opened s) e)) (Some done)
+  clause_head s (counting init test1 post) = loop_head (init_statement s init) (test text (header s init) test1) (post_statement (header s init) post)
+  clause_head s (ranging t at e) = range_head (over s e) (target_lefts (opened s) (number_type (over s e)) t)
+
+  -- ---- a `var` among statements: the values are worked out before the names are declared
+
+  abbrev pub spec_type : Option TreeEx → Option ValueType
+  spec_type None = None
+  spec_type (Some e) = type_in text e
+
+  abbrev pub spec_wanted : ValueSpec → List (Option ValueType)
+  spec_wanted v = map (λ n. spec_type v.type_expr) v.names
+
+  -- a type that stands there holds for all names
+  abbrev pub spec_slots_of : Option TreeEx → Option (List ValueType) → List Name → List Slot
+  spec_slots_of None ts ns = slots_each ts ns
+  spec_slots_of (Some e) ts ns = map (slot_with (type_in text e)) ns
+
+  abbrev pub spec_slots : Scope → ValueSpec → List Slot
+  spec_slots s v = spec_slots_of v.type_expr (taken_types (spec_wanted v) (seen text s v.values)) v.names
+
+  abbrev pub behind_spec : Scope → ValueSpec → Scope
+  behind_spec s v = behind_entries text s (spec_slots s v)
+
+  abbrev pub spec_entries : Scope → ValueSpec → Option (List (Option ℕ))
+  spec_entries s v = entries text Parameter s (spec_slots s v)
+
+  abbrev pub is_known : Option TreeEx → Bool
+  is_known None = true
+  is_known (Some e) = is_some (type_in text e)
+
+  abbrev pub spec_declared : Scope → ValueSpec → Option St
+  spec_declared s v = option_map (λ es. declare (sites_of es)) (spec_entries s v)
+
+  abbrev pub spec_assigned : Scope → ValueSpec → Option St
+  spec_assigned s v = assignment (option_map (map entry_left) (spec_entries s v)) (taken (spec_wanted v) (seen text s v.values))
+
+  abbrev pub spec_statement : Scope → ValueSpec → Option St
+  spec_statement s v = allowed (is_known v.type_expr) (if is_bare v.type_expr v.values then spec_declared s v else spec_assigned s v)
+
+  abbrev pub spec_statements : Scope → List ValueSpec → Option Sts
+  spec_statements s [] = Some done
+  spec_statements s (v ∷ vs) = option_and_then (λ t. option_map (next t) (spec_statements (behind_spec s v) vs)) (spec_statement s v)
+
+  abbrev pub behind_specs : Scope → List ValueSpec → Scope
+  behind_specs s [] = s
+  behind_specs s (v ∷ vs) = behind_specs (behind_spec s v) vs
+
+  -- ---- the scope behind a statement
+
   abbrev mutual
     pub behind : Scope → Stm → Scope
-    behind s (tree.declare at specs) = s
+    behind s (tree.declare at specs) = behind_specs s specs
     behind s (tree.simple m) = behind_simple s m
     behind s (tree.block ms) = closed (behind_all (opened s) ms)
-    behind s (tree.choice at g body rest) = if is_some g.init then s else behind_else (closed (behind_all (opened s) body)) rest
-    behind s (tree.loop at c body) = if is_left_out c then s else closed (behind_all (opened s) body)
+    behind s (tree.choice at g body rest) = closed (behind_else (closed (behind_all (opened (header s g.init)) body)) rest)
+    behind s (tree.loop at c body) = closed (closed (behind_all (opened (clause_scope s c)) body))
     behind s (tree.break_at at) = s
     behind s (tree.continue_at at) = s
     behind s (tree.give_back at es) = s
@@ -143,46 +436,39 @@ module _ (text : List ℕ) where
     pub behind_else : Scope → Els → Scope
     behind_else s tree.no_else = s
     behind_else s (tree.else_block ms) = closed (behind_all (opened s) ms)
-    behind_else s (tree.else_if at g body rest) = if is_some g.init then s else behind_else (closed (behind_all (opened s) body)) rest
+    behind_else s (tree.else_if at g body rest) = closed (behind_else (closed (behind_all (opened (header s g.init)) body)) rest)
 
     pub behind_all : Scope → Stms → Scope
     behind_all s tree.nil = s
     behind_all s (tree.cons m ms) = behind_all (behind s m) ms
 
-  -- ---- the typed forms, in a function that gives back what `r` says
-
-  abbrev pub simple_statement : Scope → Simple → Option St
-  simple_statement s (tree.express e) = option_and_then expressed (gives text s e)
-  simple_statement s (tree.assign ls at es) = assignment (lefts s ls) (taken (how_many ls) (seen text s es))
-  simple_statement s (tree.update ls at op es) = None
-  simple_statement s (tree.define ns at es) = if may_define s ns then assignment (new_lefts s (length s.sites) ns) (taken (length ns) (seen text s es)) else None
-  simple_statement s (tree.increment e at) = None
-  simple_statement s (tree.decrement e at) = None
+  -- ---- the typed forms, in a function that gives back what `r` says; `looped` where a loop is around
 
   module _ (r : Returns) where
     abbrev mutual
-      pub statement : Scope → Stm → Option St
-      statement s (tree.declare at specs) = None
-      statement s (tree.simple m) = simple_statement s m
-      statement s (tree.block ms) = option_map block (statements (opened s) ms)
-      statement s (tree.choice at g body rest) =
-          if is_some g.init then None else choice_of (condition text s g.condition) (statements (opened s) body) (alternative (closed (behind_all (opened s) body)) rest)
-      statement s (tree.loop at c body) = if is_left_out c then None else loop_of (test text s (condition_in c)) (statements (opened s) body)
-      statement s (tree.break_at at) = None
-      statement s (tree.continue_at at) = None
-      statement s (tree.give_back at es) = returned r (seen text s es)
+      pub statement : (looped : Bool) → Scope → Stm → Option Sts
+      statement looped s (tree.declare at specs) = spec_statements s specs
+      statement looped s (tree.simple m) = option_map alone (simple_statement s m)
+      statement looped s (tree.block ms) = option_map (λ b. alone (block b)) (statements looped (opened s) ms)
+      statement looped s (tree.choice at g body rest) =
+          option_map alone
+          (choice_of (guard_head s g) (statements looped (opened (header s g.init)) body) (alternative looped (closed (behind_all (opened (header s g.init)) body)) rest))
+      statement looped s (tree.loop at c body) = option_map alone (loop_of (clause_head s c) (statements true (opened (clause_scope s c)) body))
+      statement looped s (tree.break_at at) = allowed looped (Some (alone break_off))
+      statement looped s (tree.continue_at at) = allowed looped (Some (alone go_on))
+      statement looped s (tree.give_back at es) = option_map alone (returned r (seen text s es))
 
       -- what is done where the condition is false
-      pub alternative : Scope → Els → Option Sts
-      alternative s tree.no_else = Some done
-      alternative s (tree.else_block ms) = statements (opened s) ms
-      alternative s (tree.else_if at g body rest) =
-          option_map (λ t. next t done)
-          (if is_some g.init then None else choice_of (condition text s g.condition) (statements (opened s) body) (alternative (closed (behind_all (opened s) body)) rest))
+      pub alternative : (looped : Bool) → Scope → Els → Option Sts
+      alternative looped s tree.no_else = Some done
+      alternative looped s (tree.else_block ms) = statements looped (opened s) ms
+      alternative looped s (tree.else_if at g body rest) =
+          option_map alone
+          (choice_of (guard_head s g) (statements looped (opened (header s g.init)) body) (alternative looped (closed (behind_all (opened (header s g.init)) body)) rest))
 
-      pub statements : Scope → Stms → Option Sts
-      statements s tree.nil = Some done
-      statements s (tree.cons m ms) = option_and_then (λ t. option_map (next t) (statements (behind s m) ms)) (statement s m)
+      pub statements : (looped : Bool) → Scope → Stms → Option Sts
+      statements looped s tree.nil = Some done
+      statements looped s (tree.cons m ms) = option_and_then (λ t. option_map (before t) (statements looped (behind s m) ms)) (statement looped s m)
 
 -- ---- terminating statements: nothing goes on behind them (Go specification, "Terminating statements")
 
@@ -190,29 +476,69 @@ module _ (text : List ℕ) where
 abbrev pub is_endless : Clause → Bool
 is_endless forever = true
 is_endless (while_true e) = false
-is_endless (counting init test post) = not (is_some test)
+is_endless (counting init test1 post) = not (is_some test1)
 is_endless (ranging t at e) = false
 
+-- whether a `break` leaves the loop around a statement
 abbrev mutual
-  pub is_terminating : Stm → Bool
-  is_terminating (tree.declare at specs) = false
-  is_terminating (tree.simple m) = false
-  is_terminating (tree.block ms) = ends_after false ms
-  is_terminating (tree.choice at g body rest) = ends_after false body && is_terminating_else rest
-  is_terminating (tree.loop at c body) = is_endless c
-  is_terminating (tree.break_at at) = false
-  is_terminating (tree.continue_at at) = false
-  is_terminating (tree.give_back at es) = true
+  pub leaves : Stm → Bool
+  leaves (tree.declare at specs) = false
+  leaves (tree.simple m) = false
+  leaves (tree.block ms) = leaves_any ms
+  leaves (tree.choice at g body rest) = leaves_any body || leaves_else rest
+  leaves (tree.loop at c body) = false
+  leaves (tree.break_at at) = true
+  leaves (tree.continue_at at) = false
+  leaves (tree.give_back at es) = false
 
-  pub is_terminating_else : Els → Bool
-  is_terminating_else tree.no_else = false
-  is_terminating_else (tree.else_block ms) = ends_after false ms
-  is_terminating_else (tree.else_if at g body rest) = ends_after false body && is_terminating_else rest
+  pub leaves_else : Els → Bool
+  leaves_else tree.no_else = false
+  leaves_else (tree.else_block ms) = leaves_any ms
+  leaves_else (tree.else_if at g body rest) = leaves_any body || leaves_else rest
 
-  -- whether the last of some statements is terminating, behind one of which that is known
-  pub ends_after : Bool → Stms → Bool
-  ends_after ends tree.nil = ends
-  ends_after ends (tree.cons m ms) = ends_after (is_terminating m) ms
+  pub leaves_any : Stms → Bool
+  leaves_any tree.nil = false
+  leaves_any (tree.cons m ms) = leaves m || leaves_any ms
 
-abbrev pub ends_in_terminating : Stms → Bool
-ends_in_terminating ms = ends_after false ms
+abbrev pub is_panic : Word → Bool
+is_panic word.Panic = true
+is_panic other = false
+
+module _ (text : List ℕ) where
+  -- a call of `panic`
+  abbrev pub names_panic : Option Name → Bool
+  names_panic None = false
+  names_panic (Some n) = is_panic (word_of (spelled text n))
+
+  abbrev pub panics : TreeEx → Bool
+  panics (expressions.call g es spread) = names_panic (name_in g)
+  panics (expressions.paren at e) = panics e
+  panics other = false
+
+  abbrev pub ends_simple : Simple → Bool
+  ends_simple (tree.express e) = panics e
+  ends_simple other = false
+
+  abbrev mutual
+    pub is_terminating : Stm → Bool
+    is_terminating (tree.declare at specs) = false
+    is_terminating (tree.simple m) = ends_simple m
+    is_terminating (tree.block ms) = ends_after false ms
+    is_terminating (tree.choice at g body rest) = ends_after false body && is_terminating_else rest
+    is_terminating (tree.loop at c body) = is_endless c && not (leaves_any body)
+    is_terminating (tree.break_at at) = false
+    is_terminating (tree.continue_at at) = false
+    is_terminating (tree.give_back at es) = true
+
+    pub is_terminating_else : Els → Bool
+    is_terminating_else tree.no_else = false
+    is_terminating_else (tree.else_block ms) = ends_after false ms
+    is_terminating_else (tree.else_if at g body rest) = ends_after false body && is_terminating_else rest
+
+    -- whether the last of some statements is terminating, behind one of which that is known
+    pub ends_after : Bool → Stms → Bool
+    ends_after ends tree.nil = ends
+    ends_after ends (tree.cons m ms) = ends_after (is_terminating m) ms
+
+  abbrev pub ends_in_terminating : Stms → Bool
+  ends_in_terminating ms = ends_after false ms

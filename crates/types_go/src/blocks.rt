@@ -1,23 +1,29 @@
 //! The types of statements that have statements in them, and of what stands in a block.
 
-ghost use Rattle.std.specs.Prelude.{◌≡◌, ◌<◌, Some, IfOk, OnOk, length, is_some};
+ghost use Rattle.std.specs.Prelude.{◌≡◌, ◌<◌, ◌⊎◌, Option, Some, None, IfOk, OnOk, map, length, not, [], ◌∷◌, ◌++◌};
 ghost use Rattle.std.specs.Option.{option_map};
 ghost use Rattle.syntax.specs.Statements.{guard_of, clause_of, stm_of, stms_of, els_of};
-ghost use Rattle.typed.specs.Syntax.{block, done, next};
-ghost use Rattle.typed.specs.View.{ex_of, test_of, st_of, sts_of};
+ghost use Rattle.typed.specs.Syntax.{block, break_off, go_on};
+ghost use Rattle.typed.specs.View.{ex_of, st_of, sts_of, site_numbers, left_of as left_view};
 ghost use Rattle.expression_types.specs.Least.{IsLeast, lesser};
 ghost use Rattle.expression_types.specs.Scope.{scope_of, opened, closed};
+ghost use Rattle.expression_types.specs.Typing.{allowed};
 ghost use Rattle.expression_types.specs.Passing.{with_last};
-ghost use Rattle.types_go.specs.Statements.{statement, alternative, statements, choice_of, loop_of, is_left_out, behind, behind_else, behind_all};
-ghost use Rattle.types_go.specs.StatementFaults.{FailsInStatement, FailsInElse, FailsInStatements};
+ghost use Rattle.expression_types.specs.Faults.{fault as fault_at, IsFault};
+ghost use Rattle.expression_types.specs.declared.fault.FaultKind.TheVariants.{BreakOutside as Outside};
+ghost use Rattle.types_go.specs.Statements.{returns_view, alone, before, headed, new_in, declared_in, chosen, looped_by, choice_of, loop_of, statement, alternative, statements, behind, behind_else, behind_all};
+ghost use Rattle.types_go.specs.StatementFaults.{fault_where, FailsInStatement, FailsInElse, FailsInStatements};
+ghost use Rattle.types_go.specs.Passing.{choice_view, head_view, with_more};
 
-use crate::statements::{Line, Returns, check_return, check_simple, left_out};
-use base::NoMemory;
-use expression_types::{
-    Condition, Fault, Scope, Test, check_condition, check_test, close, lesser, open,
-};
+use crate::declaring::fault_where;
+use crate::heads::{Choice, Guarded, Head, Headed, alone, check_clause, check_guard};
+use crate::statements::{Line, Returns, check_return, check_simple};
+use crate::variables::check_var;
+use base::{NoMemory, Pos, SiteId};
+use expression_types::{Fault, FaultKind, Scope, close, lesser, open};
 use std::alloc::Global;
 use syntax::{Clause, Else, Guard, Stmt};
+use typed::Left;
 
 /// What is known of statements: their typed forms, where all have one, and the fault that is reported of them.
 #[derive(Drop)]
@@ -27,7 +33,7 @@ pub struct Lines {
 }
 
 /// One more statement behind those that have typed forms.
-fn with_statement(
+pub fn with_statement(
     statements: Option<Vec<typed::Stmt>>,
     statement: Option<typed::Stmt>,
 ) -> Result<Option<Vec<typed::Stmt>>, NoMemory>
@@ -42,117 +48,249 @@ fn with_statement(
     }
 }
 
-/// An `if` of what its parts are.
-#[tactic(auto, using(typed::proofs::Rows::stmt_rows))]
-fn choice(test: Condition, body: Lines, rest: Lines) -> Line
-    ensures statement { option_map st_of result.statement ≡ choice_of (option_map ex_of test.value) (option_map (λ v. sts_of v.items) body.statements) (option_map (λ v. sts_of v.items) rest.statements) }
-    ensures fault { result.fault ≡ lesser (lesser test.fault body.fault) rest.fault }
+/// More statements behind those that have typed forms.
+fn with_statements(
+    statements: Option<Vec<typed::Stmt>>,
+    more: Option<Vec<typed::Stmt>>,
+) -> Result<Option<Vec<typed::Stmt>>, NoMemory>
+    ensures { IfOk result (λ r. option_map (λ v. v.items) r ≡ with_more (option_map (λ v. v.items) statements) (option_map (λ v. v.items) more)) }
 {
-    let fault = lesser(lesser(test.fault, body.fault), rest.fault);
-    let statement = match (test.value, body.statements, rest.statements) {
-        (Some(test), Some(body), Some(rest)) => Some(typed::Stmt::If(test, body, rest)),
-        _ => None,
-    };
-    Line { statement, fault }
-}
-
-/// A loop of what its parts are.
-#[tactic(auto, using(typed::proofs::Rows::stmt_rows))]
-fn repeated(test: Test, body: Lines) -> Line
-    ensures statement { option_map st_of result.statement ≡ loop_of (option_map test_of test.value) (option_map (λ v. sts_of v.items) body.statements) }
-    ensures fault { result.fault ≡ lesser test.fault body.fault }
-{
-    let fault = lesser(test.fault, body.fault);
-    let statement = match (test.value, body.statements) {
-        (Some(test), Some(body)) => Some(typed::Stmt::Loop(test, body)),
-        _ => None,
-    };
-    Line { statement, fault }
-}
-
-/// A block as a statement.
-#[tactic(auto, using(typed::proofs::Rows::stmt_rows))]
-fn as_block(body: Lines) -> Line
-    ensures statement { option_map st_of result.statement ≡ option_map block (option_map (λ v. sts_of v.items) body.statements) }
-    ensures fault { result.fault ≡ body.fault }
-{
-    Line {
-        statement: body.statements.map(typed::Stmt::Block),
-        fault: body.fault,
+    match (statements, more) {
+        (Some(mut statements), Some(mut more)) => {
+            statements.append(&mut more)?;
+            Ok(Some(statements))
+        }
+        _ => Ok(None),
     }
 }
 
-/// A statement by itself.
-fn alone(alloc: Global, line: Line) -> Result<Lines, NoMemory>
-    ensures statements { IfOk result (λ c. option_map (λ v. sts_of v.items) c.statements ≡ option_map (λ t. next t done) (option_map st_of line.statement)) }
-    ensures fault { IfOk result (λ c. c.fault ≡ line.fault) }
+/// One more site, where a left side is a new variable.
+fn with_new(sites: Vec<SiteId>, left: Left) -> Result<Vec<SiteId>, NoMemory>
+    ensures { IfOk result (λ v. site_numbers v.items ≡ site_numbers sites.items ++ new_in (left_view left ∷ [])) }
 {
-    let Line { statement, fault } = line;
-    let statements = with_statement(Some(Vec::new(alloc)), statement)?;
+    let mut sites = sites;
+    if let Left::New(site) = left {
+        sites.push(site)?;
+    }
+    Ok(sites)
+}
+
+/// The new variables among left sides.
+fn new_in(alloc: Global, lefts: &[Left]) -> Result<Vec<SiteId>, NoMemory>
+    ensures { IfOk result (λ v. site_numbers v.items ≡ new_in (map left_view lefts.now)) }
+{
+    let mut sites = Vec::new(alloc);
+    for left in lefts {
+        sites = with_new(sites, *left)?;
+    }
+    Ok(sites)
+}
+
+/// The new variables of an init statement.
+fn declared_in(alloc: Global, init: &Option<typed::Stmt>) -> Result<Vec<SiteId>, NoMemory>
+    ensures { IfOk result (λ v. site_numbers v.items ≡ declared_in (option_map st_of init.now)) }
+{
+    let Some(init) = init else {
+        return Ok(Vec::new(alloc));
+    };
+    match init {
+        typed::Stmt::Assign(lefts, _) => new_in(alloc, lefts),
+        _ => Ok(Vec::new(alloc)),
+    }
+}
+
+/// A statement behind the init statement of its header, in the block around both.
+#[tactic(auto, using(typed::proofs::Rows::stmt_rows))]
+fn headed(
+    alloc: Global,
+    init: Option<typed::Stmt>,
+    statement: typed::Stmt,
+) -> Result<typed::Stmt, NoMemory>
+    ensures { IfOk result (λ s. st_of s ≡ headed (option_map st_of init) (st_of statement)) }
+{
+    match init {
+        Some(init) => {
+            let statements = Vec::from_array(alloc, [init, statement])?;
+            Ok(typed::Stmt::Block(statements))
+        }
+        None => Ok(statement),
+    }
+}
+
+/// An `if` of its header and its branches.
+#[tactic(auto, using(typed::proofs::Rows::stmt_rows))]
+fn chosen(
+    alloc: Global,
+    choice: Choice,
+    body: Vec<typed::Stmt>,
+    rest: Vec<typed::Stmt>,
+) -> Result<typed::Stmt, NoMemory>
+    ensures { IfOk result (λ s. st_of s ≡ chosen (choice_view choice) (sts_of body.items) (sts_of rest.items)) }
+{
+    let Choice { init, condition } = choice;
+    headed(alloc, init, typed::Stmt::If(condition, body, rest))
+}
+
+/// A loop of its header and its body.
+#[tactic(auto, using(typed::proofs::Rows::stmt_rows))]
+fn looped_by(alloc: Global, head: Head, body: Vec<typed::Stmt>) -> Result<typed::Stmt, NoMemory>
+    ensures { IfOk result (λ s. st_of s ≡ looped_by (head_view head) (sts_of body.items)) }
+{
+    match head {
+        Head::Repeated(init, test, post) => {
+            let sites = declared_in(alloc, &init)?;
+            headed(alloc, init, typed::Stmt::Loop(sites, test, post, body))
+        }
+        Head::Counted(e, key) => Ok(typed::Stmt::Count(e, key, body)),
+    }
+}
+
+fn choice_of(
+    alloc: Global,
+    choice: Option<Choice>,
+    body: Option<Vec<typed::Stmt>>,
+    rest: Option<Vec<typed::Stmt>>,
+) -> Result<Option<typed::Stmt>, NoMemory>
+    ensures { IfOk result (λ r. option_map st_of r ≡ choice_of (option_map choice_view choice) (option_map (λ v. sts_of v.items) body) (option_map (λ v. sts_of v.items) rest)) }
+{
+    match (choice, body, rest) {
+        (Some(choice), Some(body), Some(rest)) => Ok(Some(chosen(alloc, choice, body, rest)?)),
+        _ => Ok(None),
+    }
+}
+
+fn loop_of(
+    alloc: Global,
+    head: Option<Head>,
+    body: Option<Vec<typed::Stmt>>,
+) -> Result<Option<typed::Stmt>, NoMemory>
+    ensures { IfOk result (λ r. option_map st_of r ≡ loop_of (option_map head_view head) (option_map (λ v. sts_of v.items) body)) }
+{
+    match (head, body) {
+        (Some(head), Some(body)) => Ok(Some(looped_by(alloc, head, body)?)),
+        _ => Ok(None),
+    }
+}
+
+/// An `if` of what its parts are.
+fn choice(alloc: Global, head: Guarded, body: Lines, rest: Lines) -> Result<Lines, NoMemory>
+    ensures statements { IfOk result (λ c. option_map (λ v. sts_of v.items) c.statements ≡ option_map alone (choice_of (option_map choice_view head.choice) (option_map (λ v. sts_of v.items) body.statements) (option_map (λ v. sts_of v.items) rest.statements))) }
+    ensures fault { IfOk result (λ c. c.fault ≡ lesser (lesser head.fault body.fault) rest.fault) }
+{
+    let fault = lesser(lesser(head.fault, body.fault), rest.fault);
+    let statement = choice_of(alloc, head.choice, body.statements, rest.statements)?;
+    let statements = alone(alloc, statement)?;
     Ok(Lines { statements, fault })
 }
 
-/// Whether an `if` has a statement before its condition, which is left out.
-fn has_init(guard: &Guard) -> bool
-    ensures { result ≡ is_some (guard_of guard.now).init }
+/// A loop of what its parts are.
+fn repeated(alloc: Global, head: Headed, body: Lines) -> Result<Lines, NoMemory>
+    ensures statements { IfOk result (λ c. option_map (λ v. sts_of v.items) c.statements ≡ option_map alone (loop_of (option_map head_view head.head) (option_map (λ v. sts_of v.items) body.statements))) }
+    ensures fault { IfOk result (λ c. c.fault ≡ lesser head.fault body.fault) }
 {
-    guard.init.is_some()
+    let fault = lesser(head.fault, body.fault);
+    let statement = loop_of(alloc, head.head, body.statements)?;
+    let statements = alone(alloc, statement)?;
+    Ok(Lines { statements, fault })
 }
 
-/// Whether a loop is of a form that is left out.
-fn is_left_out(clause: &Clause) -> bool
-    ensures { result ≡ is_left_out (clause_of clause.now) }
+#[tactic(auto, using(typed::proofs::Rows::stmt_rows))]
+fn block_of(statements: Option<Vec<typed::Stmt>>) -> Option<typed::Stmt>
+    ensures { option_map st_of result ≡ option_map block (option_map (λ v. sts_of v.items) statements) }
 {
-    match clause {
-        Clause::Forever => false,
-        Clause::While(_) => false,
-        Clause::Counting(_, _, _) => true,
-        Clause::Range(_, _, _) => true,
+    match statements {
+        Some(statements) => Some(typed::Stmt::Block(statements)),
+        None => None,
     }
 }
 
-/// A statement. The scope becomes the one behind it.
+/// A block as a statement.
+fn as_block(alloc: Global, body: Lines) -> Result<Lines, NoMemory>
+    ensures statements { IfOk result (λ c. option_map (λ v. sts_of v.items) c.statements ≡ option_map (λ b. alone (block b)) (option_map (λ v. sts_of v.items) body.statements)) }
+    ensures fault { IfOk result (λ c. c.fault ≡ body.fault) }
+{
+    let Lines { statements, fault } = body;
+    let statements = alone(alloc, block_of(statements))?;
+    Ok(Lines { statements, fault })
+}
+
+/// A statement by itself.
+fn line(alloc: Global, line: Line) -> Result<Lines, NoMemory>
+    ensures statements { IfOk result (λ c. option_map (λ v. sts_of v.items) c.statements ≡ option_map alone (option_map st_of line.statement)) }
+    ensures fault { IfOk result (λ c. c.fault ≡ line.fault) }
+{
+    let Line { statement, fault } = line;
+    let statements = alone(alloc, statement)?;
+    Ok(Lines { statements, fault })
+}
+
+/// A statement that stands in a loop alone.
+fn check_jump(
+    alloc: Global,
+    looped: bool,
+    pos: Pos,
+    statement: typed::Stmt,
+) -> Result<Lines, NoMemory>
+    ensures statements { IfOk result (λ c. option_map (λ v. sts_of v.items) c.statements ≡ allowed looped (Some (alone (st_of statement)))) }
+    ensures fault { IfOk result (λ c. c.fault ≡ fault_where (not looped) (fault_at Outside pos)) }
+{
+    let own = Fault {
+        kind: FaultKind::BreakOutside,
+        pos,
+    };
+    let statement = if looped { Some(statement) } else { None };
+    let statements = alone(alloc, statement)?;
+    Ok(Lines {
+        statements,
+        fault: fault_where(!looped, own),
+    })
+}
+
+/// A statement; `looped` where a loop is around it. The scope becomes the one behind it.
 #[cycle(statements)]
 #[tactic(auto, using(syntax::proofs::Views::stmt_rows))]
 fn check_stmt(
     alloc: Global,
     text: &[u8],
-    returns: Returns,
+    returns: &Returns,
+    looped: bool,
     scope: &mut Scope,
     s: &Stmt,
-) -> Result<Line, NoMemory>
+) -> Result<Lines, NoMemory>
     requires { 0 < length scope.old.names }
-    ensures statement { IfOk result (λ c. option_map st_of c.statement ≡ statement text.now returns (scope_of scope.old) (stm_of s.now)) }
-    ensures fault { IfOk result (λ c. IsLeast (FailsInStatement text.now returns (scope_of scope.old) (stm_of s.now)) c.fault) }
+    ensures statements { IfOk result (λ c. option_map (λ v. sts_of v.items) c.statements ≡ statement text.now (returns_view returns.now) looped (scope_of scope.old) (stm_of s.now)) }
+    ensures fault { IfOk result (λ c. IsLeast (FailsInStatement text.now (returns_view returns.now) looped (scope_of scope.old) (stm_of s.now)) c.fault) }
     ensures scope { OnOk result (scope_of scope.new ≡ behind text.now (scope_of scope.old) (stm_of s.now)) }
 {
     match s {
-        Stmt::Simple(simple) => check_simple(alloc, text, scope, simple),
+        Stmt::Simple(simple) => {
+            let simple = check_simple(alloc, text, scope, simple)?;
+            line(alloc, simple)
+        }
         Stmt::Block(body) => {
-            let body = check_inner(alloc, text, returns, scope, body)?;
-            Ok(as_block(body))
+            let body = check_inner(alloc, text, returns, looped, scope, body)?;
+            as_block(alloc, body)
         }
         Stmt::If(pos, guard, body, rest) => {
-            if has_init(guard) {
-                return Ok(left_out(*pos));
-            }
-            let test = check_condition(alloc, text, scope, *pos, &guard.condition)?;
-            let body = check_inner(alloc, text, returns, scope, body)?;
-            let rest = check_else(alloc, text, returns, scope, rest)?;
-            Ok(choice(test, body, rest))
+            let head = check_guard(alloc, text, scope, *pos, guard)?;
+            let body = check_inner(alloc, text, returns, looped, scope, body)?;
+            let rest = check_else(alloc, text, returns, looped, scope, rest)?;
+            close(scope);
+            choice(alloc, head, body, rest)
         }
         Stmt::For(pos, clause, body) => {
-            if is_left_out(clause) {
-                return Ok(left_out(*pos));
-            }
-            let test = check_test(alloc, text, scope, *pos, clause)?;
-            let body = check_inner(alloc, text, returns, scope, body)?;
-            Ok(repeated(test, body))
+            let head = check_clause(alloc, text, scope, *pos, clause)?;
+            let body = check_inner(alloc, text, returns, true, scope, body)?;
+            close(scope);
+            repeated(alloc, head, body)
         }
-        Stmt::Return(pos, es) => check_return(alloc, text, returns, scope, *pos, es),
-        Stmt::Var(pos, _) => Ok(left_out(*pos)),
-        Stmt::Break(pos) => Ok(left_out(*pos)),
-        Stmt::Continue(pos) => Ok(left_out(*pos)),
+        Stmt::Return(pos, es) => {
+            let given = check_return(alloc, text, returns, scope, *pos, es)?;
+            line(alloc, given)
+        }
+        Stmt::Var(pos, specs) => check_var(alloc, text, scope, *pos, specs),
+        Stmt::Break(pos) => check_jump(alloc, looped, *pos, typed::Stmt::Break),
+        Stmt::Continue(pos) => check_jump(alloc, looped, *pos, typed::Stmt::Continue),
     }
 }
 
@@ -162,13 +300,14 @@ fn check_stmt(
 fn check_else(
     alloc: Global,
     text: &[u8],
-    returns: Returns,
+    returns: &Returns,
+    looped: bool,
     scope: &mut Scope,
     e: &Else,
 ) -> Result<Lines, NoMemory>
     requires { 0 < length scope.old.names }
-    ensures statements { IfOk result (λ c. option_map (λ v. sts_of v.items) c.statements ≡ alternative text.now returns (scope_of scope.old) (els_of e.now)) }
-    ensures fault { IfOk result (λ c. IsLeast (FailsInElse text.now returns (scope_of scope.old) (els_of e.now)) c.fault) }
+    ensures statements { IfOk result (λ c. option_map (λ v. sts_of v.items) c.statements ≡ alternative text.now (returns_view returns.now) looped (scope_of scope.old) (els_of e.now)) }
+    ensures fault { IfOk result (λ c. IsLeast (FailsInElse text.now (returns_view returns.now) looped (scope_of scope.old) (els_of e.now)) c.fault) }
     ensures scope { OnOk result (scope_of scope.new ≡ behind_else text.now (scope_of scope.old) (els_of e.now)) }
 {
     match e {
@@ -176,16 +315,14 @@ fn check_else(
             statements: Some(Vec::new(alloc)),
             fault: None,
         }),
-        Else::Block(body) => check_inner(alloc, text, returns, scope, body),
+        Else::Block(body) => check_inner(alloc, text, returns, looped, scope, body),
         Else::If(pos, guard, body, rest) => {
-            if has_init(guard) {
-                return alone(alloc, left_out(*pos));
-            }
             let rest: &Else = rest;
-            let test = check_condition(alloc, text, scope, *pos, &guard.condition)?;
-            let body = check_inner(alloc, text, returns, scope, body)?;
-            let rest = check_else(alloc, text, returns, scope, rest)?;
-            alone(alloc, choice(test, body, rest))
+            let head = check_guard(alloc, text, scope, *pos, guard)?;
+            let body = check_inner(alloc, text, returns, looped, scope, body)?;
+            let rest = check_else(alloc, text, returns, looped, scope, rest)?;
+            close(scope);
+            choice(alloc, head, body, rest)
         }
     }
 }
@@ -195,17 +332,18 @@ fn check_else(
 fn check_inner(
     alloc: Global,
     text: &[u8],
-    returns: Returns,
+    returns: &Returns,
+    looped: bool,
     scope: &mut Scope,
     ms: &[Stmt],
 ) -> Result<Lines, NoMemory>
     requires { 0 < length scope.old.names }
-    ensures statements { IfOk result (λ c. option_map (λ v. sts_of v.items) c.statements ≡ statements text.now returns (opened (scope_of scope.old)) (stms_of ms.now)) }
-    ensures fault { IfOk result (λ c. IsLeast (FailsInStatements text.now returns (opened (scope_of scope.old)) (stms_of ms.now)) c.fault) }
+    ensures statements { IfOk result (λ c. option_map (λ v. sts_of v.items) c.statements ≡ statements text.now (returns_view returns.now) looped (opened (scope_of scope.old)) (stms_of ms.now)) }
+    ensures fault { IfOk result (λ c. IsLeast (FailsInStatements text.now (returns_view returns.now) looped (opened (scope_of scope.old)) (stms_of ms.now)) c.fault) }
     ensures scope { OnOk result (scope_of scope.new ≡ closed (behind_all text.now (opened (scope_of scope.old)) (stms_of ms.now))) }
 {
     open(scope)?;
-    let lines = check_stmts(alloc, text, returns, scope, ms)?;
+    let lines = check_stmts(alloc, text, returns, looped, scope, ms)?;
     close(scope);
     Ok(lines)
 }
@@ -215,21 +353,22 @@ fn check_inner(
 pub fn check_stmts(
     alloc: Global,
     text: &[u8],
-    returns: Returns,
+    returns: &Returns,
+    looped: bool,
     scope: &mut Scope,
     ms: &[Stmt],
 ) -> Result<Lines, NoMemory>
     requires { 0 < length scope.old.names }
-    ensures statements { IfOk result (λ c. option_map (λ v. sts_of v.items) c.statements ≡ statements text.now returns (scope_of scope.old) (stms_of ms.now)) }
-    ensures fault { IfOk result (λ c. IsLeast (FailsInStatements text.now returns (scope_of scope.old) (stms_of ms.now)) c.fault) }
+    ensures statements { IfOk result (λ c. option_map (λ v. sts_of v.items) c.statements ≡ statements text.now (returns_view returns.now) looped (scope_of scope.old) (stms_of ms.now)) }
+    ensures fault { IfOk result (λ c. IsLeast (FailsInStatements text.now (returns_view returns.now) looped (scope_of scope.old) (stms_of ms.now)) c.fault) }
     ensures scope { OnOk result (scope_of scope.new ≡ behind_all text.now (scope_of scope.old) (stms_of ms.now)) }
 {
     let mut statements = Some(Vec::new(alloc));
     let mut fault = None;
     for s in ms {
-        let line = check_stmt(alloc, text, returns, scope, s)?;
-        statements = with_statement(statements, line.statement)?;
-        fault = lesser(fault, line.fault);
+        let lines = check_stmt(alloc, text, returns, looped, scope, s)?;
+        statements = with_statements(statements, lines.statements)?;
+        fault = lesser(fault, lines.fault);
     }
     Ok(Lines { statements, fault })
 }

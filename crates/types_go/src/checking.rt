@@ -10,13 +10,13 @@ ghost use Rattle.typed.specs.Syntax.{Program as ProgramOf};
 ghost use Rattle.expression_types.specs.Profile.{is_main};
 ghost use Rattle.expression_types.specs.Scope.{scope_of, declaration};
 ghost use Rattle.expression_types.specs.Least.{IsLeast};
-ghost use Rattle.expression_types.specs.Faults.{fault as fault_at};
+ghost use Rattle.expression_types.specs.Faults.{fault as fault_at, IsFault};
 ghost use Rattle.expression_types.specs.declared.fault.FaultKind.TheVariants.{NoMain};
 ghost use Rattle.types_go.specs.Functions.{number_of, is_plain, plain_number, functions_in, functions, declarations_in, package_scope, main_number};
-ghost use Rattle.types_go.specs.StatementFaults.{FailsWhere};
+ghost use Rattle.types_go.specs.StatementFaults.{fault_where};
 ghost use Rattle.types_go.specs.FunctionFaults.{DeclarationFails, DeclarationsFail, FailsIn, first_byte};
 ghost use Rattle.types_go.specs.Passing.{AreAt};
-ghost use Rattle.types_go.specs.Checked.{Types, Reports, OnlyProgram, places_of, function_places};
+ghost use Rattle.types_go.specs.Checked.{Types, Reports, OnlyProgram, sites_in, function_places};
 
 use crate::declaring::fault_where;
 use crate::functions::check_functions;
@@ -118,9 +118,9 @@ fn form_faults(decls: &[Decl]) -> Option<Fault>
 }
 
 /// The fault of a package without a function `main`.
-#[tactic(auto, using(crate::proofs::Leaves::where_least))]
+#[tactic(auto, using(expression_types::proofs::Leasts::leaf))]
 fn no_main_fault(is_absent: bool) -> Option<Fault>
-    ensures { IsLeast (FailsWhere is_absent (fault_at NoMain first_byte)) result }
+    ensures { IsLeast (IsFault (fault_where is_absent (fault_at NoMain first_byte))) result }
 {
     let own = Fault {
         kind: FaultKind::NoMain,
@@ -146,7 +146,7 @@ struct Passed {
 fn pass(alloc: Global, tree: &Tree) -> Result<Passed, NoMemory>
     ensures main { IfOk result (λ r. option_map (λ f. f.0) r.main ≡ main_number (syntax_of tree.now)) }
     ensures funcs { IfOk result (λ r. option_map (λ v. map func_of v.items) r.funcs ≡ functions (syntax_of tree.now).text (package_scope (syntax_of tree.now)) 0 (functions_in (declarations_in (syntax_of tree.now)))) }
-    ensures sites { IfOk result (λ r. map (λ site. site.pos) r.sites.items ≡ places_of (syntax_of tree.now)) }
+    ensures sites { IfOk result (λ r. r.sites.items ≡ sites_in (syntax_of tree.now)) }
     ensures places { IfOk result (λ r. AreAt (function_places (syntax_of tree.now)) (option_map (λ v. v.items) r.funcs)) }
     ensures fault { IfOk result (λ r. IsLeast (FailsIn (syntax_of tree.now)) r.fault) }
 {
@@ -167,12 +167,12 @@ fn pass(alloc: Global, tree: &Tree) -> Result<Passed, NoMemory>
 }
 
 /// The typed program of a tree (Go specification, "Declarations and scope", "Constants", "Assignability", "Calls", "Statements"). A
-/// program of this part is one package of functions of ints.
+/// program of this part is one package of functions of ints and truth values.
 pub fn check(alloc: Global, tree: &Tree) -> Result<Program, TypeFault>
     // What is answered is the program that the rules give the tree.
     ensures typed { IfOk result (λ p. Types (syntax_of tree.now) (program_of p)) }
     ensures in_form { IfOk result (λ p. IsInForm (program_of p)) }
-    ensures sites { IfOk result (λ p. map (λ site. site.pos) p.sites.items ≡ places_of (syntax_of tree.now)) }
+    ensures sites { IfOk result (λ p. p.sites.items ≡ sites_in (syntax_of tree.now)) }
     // Each function stands at its name.
     ensures places { IfOk result (λ p. map (λ f. f.pos) p.funcs.items ≡ function_places (syntax_of tree.now)) }
 
@@ -193,7 +193,12 @@ pub fn check(alloc: Global, tree: &Tree) -> Result<Program, TypeFault>
         None => {
             let Some(main) = main else { unreachable!() };
             let Some(funcs) = funcs else { unreachable!() };
-            Ok(Program { funcs, main, sites })
+            Ok(Program {
+                funcs,
+                main,
+                sites,
+                strings: Vec::new(alloc),
+            })
         }
     }
 }

@@ -9,17 +9,17 @@ ghost use Rattle.expression_types.specs.Least.{IsLeast};
 ghost use Rattle.expression_types.specs.Profile.{is_blank, is_reserved};
 ghost use Rattle.expression_types.specs.Scope.{scope_of, declaration, is_here};
 ghost use Rattle.expression_types.specs.Typing.{name_in, gives};
+ghost use Rattle.expression_types.specs.Faults.{fault as fault_at, IsFault};
 ghost use Rattle.expression_types.specs.Passing.{with_last, gives_of};
-ghost use Rattle.types_go.specs.Statements.{target, left_of, new_left_of, declares, left, new_left, noted, is_noted, lefts, new_lefts, new_names, with_variables, has_all, may_define};
-ghost use Rattle.types_go.specs.StatementFaults.{FailsWhere, LeftFails, LeftSideFails, NewNameFails, LeftsFail, NewNamesFail, TwiceFails, names_place, lefts_place};
-ghost use Rattle.expression_types.specs.Faults.{fault as fault_at};
 ghost use Rattle.expression_types.specs.declared.fault.FaultKind.TheVariants.{NothingNew};
-ghost use Rattle.types_go.specs.Passing.{left_fault, value_left_fault, new_name_fault, fault_where};
+ghost use Rattle.types_go.specs.Statements.{target, variable_type, left_of, wanted_of, new_left_of, new_wanted_of, declares, slot_declares, left, wanted, new_left, new_wanted, noted, is_noted, lefts, all_wanted, new_lefts, all_new_wanted, new_slots, with_slot, with_variables, has_all, may_define};
+ghost use Rattle.types_go.specs.StatementFaults.{fault_where, left_fault, new_name_fault, value_left_fault, LeftSideFails, LeftsFail, NewNamesFail, TwiceFails, names_place, lefts_place};
 
+use crate::slots::Slot;
 use base::{NoMemory, Pos, SiteId};
 use expression_types::{
-    Declared, Fault, FaultKind, Gives, Scope, check_expr, declaration, declare_variable, is_blank,
-    is_here, is_reserved, lesser, name_in, site_behind, spelled,
+    Declared, Fault, FaultKind, Gives, Scope, ValueType, check_expr, declaration, declare_variable,
+    is_blank, is_here, is_reserved, lesser, name_in, site_behind, spelled,
 };
 use names::Block;
 use std::alloc::Global;
@@ -30,14 +30,6 @@ use typed::Left;
 #[derive(Drop)]
 pub struct Lefts {
     pub lefts: Option<Vec<Left>>,
-    pub fault: Option<Fault>,
-}
-
-/// What is known of the left sides of a `:=`: they themselves, the names that it declares, and the fault.
-#[derive(Drop)]
-pub struct NewLefts {
-    pub lefts: Option<Vec<Left>>,
-    pub new_names: Vec<Name>,
     pub fault: Option<Fault>,
 }
 
@@ -53,7 +45,17 @@ fn target(declared: Option<Declared>) -> Option<Left>
     ensures { option_map left_view result ≡ target declared }
 {
     match declared {
-        Some(Declared::Variable(site)) => Some(Left::To(site)),
+        Some(Declared::Variable(site, _)) => Some(Left::To(site)),
+        _ => None,
+    }
+}
+
+/// The type that a variable asks for.
+fn variable_type(declared: Option<Declared>) -> Option<ValueType>
+    ensures { result ≡ variable_type declared }
+{
+    match declared {
+        Some(Declared::Variable(_, value_type)) => Some(value_type),
         _ => None,
     }
 }
@@ -67,6 +69,16 @@ fn left_of(blank: bool, reserved: bool, declared: Option<Declared>) -> Option<Le
         None
     } else {
         target(declared)
+    }
+}
+
+fn wanted_of(blank: bool, reserved: bool, declared: Option<Declared>) -> Option<ValueType>
+    ensures { result ≡ wanted_of blank reserved declared }
+{
+    if blank || reserved {
+        None
+    } else {
+        variable_type(declared)
     }
 }
 
@@ -90,6 +102,21 @@ fn new_left_of(
     }
 }
 
+fn new_wanted_of(
+    blank: bool,
+    reserved: bool,
+    here: bool,
+    declared: Option<Declared>,
+) -> Option<ValueType>
+    ensures { result ≡ new_wanted_of blank reserved here declared }
+{
+    if here {
+        wanted_of(blank, reserved, declared)
+    } else {
+        None
+    }
+}
+
 fn with_left(lefts: Option<Vec<Left>>, left: Option<Left>) -> Result<Option<Vec<Left>>, NoMemory>
     ensures { IfOk result (λ r. option_map (λ v. map left_view v.items) r ≡ with_last (option_map (λ v. map left_view v.items) lefts) (option_map left_view left)) }
 {
@@ -102,7 +129,7 @@ fn with_left(lefts: Option<Vec<Left>>, left: Option<Left>) -> Result<Option<Vec<
     }
 }
 
-fn left_fault_of(
+pub fn left_fault_of(
     blank: bool,
     reserved: bool,
     declared: Option<Declared>,
@@ -178,10 +205,47 @@ fn left(text: &[u8], scope: &Scope, e: &Expr) -> Option<Left>
     }
 }
 
+fn name_wanted(text: &[u8], scope: &Scope, name: Name) -> Option<ValueType>
+    ensures { result ≡ wanted text.now (scope_of scope.now) (Some name) }
+{
+    let bytes = spelled(text, name);
+    wanted_of(
+        is_blank(bytes),
+        is_reserved(bytes),
+        declaration(scope, bytes),
+    )
+}
+
+/// The type that a left side of a `=` asks for.
+pub fn wanted(text: &[u8], scope: &Scope, e: &Expr) -> Option<ValueType>
+    ensures { result ≡ wanted text.now (scope_of scope.now) (name_in (tree_of e.now)) }
+{
+    match name_in(e) {
+        Some(name) => name_wanted(text, scope, name),
+        None => None,
+    }
+}
+
+/// The types that the left sides of a `=` ask for.
+pub fn all_wanted(
+    alloc: Global,
+    text: &[u8],
+    scope: &Scope,
+    es: &[Expr],
+) -> Result<Vec<Option<ValueType>>, NoMemory>
+    ensures { IfOk result (λ v. v.items ≡ all_wanted text.now (scope_of scope.now) (trees_of es.now)) }
+{
+    let mut types = Vec::new(alloc);
+    for e in es {
+        types.push(wanted(text, scope, e))?;
+    }
+    Ok(types)
+}
+
 /// The fault of a name as a left side, which begins at a place.
-#[tactic(auto, using(crate::proofs::Leaves::left_least))]
+#[tactic(auto, using(expression_types::proofs::Leasts::leaf))]
 fn name_left_fault(text: &[u8], scope: &Scope, name: Name, whole: Pos) -> Option<Fault>
-    ensures { IsLeast (LeftFails (is_blank (spelled text.now name)) (is_reserved (spelled text.now name)) (declaration (scope_of scope.now) (spelled text.now name)) name.pos whole) result }
+    ensures { IsLeast (IsFault (left_fault (is_blank (spelled text.now name)) (is_reserved (spelled text.now name)) (declaration (scope_of scope.now) (spelled text.now name)) name.pos whole)) result }
 {
     let bytes = spelled(text, name);
     left_fault_of(
@@ -207,7 +271,7 @@ fn value_left_fault(gives: &Option<Gives>, pos: Pos) -> Option<Fault>
 }
 
 /// The fault of a left side that is no name.
-fn value_fault(
+pub fn value_fault(
     alloc: Global,
     text: &[u8],
     scope: &Scope,
@@ -270,21 +334,58 @@ fn new_left(text: &[u8], scope: &Scope, before: usize, name: Name) -> Result<Opt
     ))
 }
 
-/// One more new name, where a `:=` declares it.
-fn with_new(text: &[u8], scope: &Scope, names: Vec<Name>, name: Name) -> Result<Vec<Name>, NoMemory>
-    ensures { IfOk result (λ v. v.items ≡ (if declares (scope_of scope.now) (spelled text.now name) then names.items ++ name ∷ [] else names.items)) }
+fn new_wanted(text: &[u8], scope: &Scope, name: Name) -> Option<ValueType>
+    ensures { result ≡ new_wanted text.now (scope_of scope.now) name }
 {
     let bytes = spelled(text, name);
-    let mut names = names;
-    if !is_reserved(bytes) && !is_here(scope, bytes) {
-        names.push(name)?;
-    }
-    Ok(names)
+    new_wanted_of(
+        is_blank(bytes),
+        is_reserved(bytes),
+        is_here(scope, bytes),
+        declaration(scope, bytes),
+    )
 }
 
-#[tactic(auto, using(crate::proofs::Leaves::new_name_least))]
+/// The types that the left sides of a `:=` ask for.
+pub fn all_new_wanted(
+    alloc: Global,
+    text: &[u8],
+    scope: &Scope,
+    names: &[Name],
+) -> Result<Vec<Option<ValueType>>, NoMemory>
+    ensures { IfOk result (λ v. v.items ≡ all_new_wanted text.now (scope_of scope.now) names.now) }
+{
+    let mut types = Vec::new(alloc);
+    for name in names {
+        types.push(new_wanted(text, scope, *name))?;
+    }
+    Ok(types)
+}
+
+/// Whether a `:=` declares a name.
+fn declares(text: &[u8], scope: &Scope, name: Name) -> bool
+    ensures { result ≡ declares (scope_of scope.now) (spelled text.now name) }
+{
+    let bytes = spelled(text, name);
+    !is_reserved(bytes) && !is_here(scope, bytes)
+}
+
+/// The number of new sites so far, and that of one more, where there is one.
+fn next_count(declared: bool, count: usize) -> Result<usize, NoMemory>
+    ensures { IfOk result (λ n. n ≡ (if declared then 1 + count else count)) }
+{
+    if !declared {
+        return Ok(count);
+    }
+    match count.checked_add(1) {
+        Some(count) => Ok(count),
+        None => Err(NoMemory),
+    }
+}
+
+#[tactic(auto, using(expression_types::proofs::Leasts::leaf))]
 fn new_name_fault(text: &[u8], scope: &Scope, name: Name) -> Option<Fault>
-    ensures { IsLeast (NewNameFails (is_blank (spelled text.now name)) (is_reserved (spelled text.now name)) (is_here (scope_of scope.now) (spelled text.now name)) (declaration (scope_of scope.now) (spelled text.now name)) name.pos) result }
+    ensures { IsLeast (IsFault (new_name_fault (is_blank (spelled text.now name)) (is_reserved (spelled text.now name)) (is_here (scope_of scope.now) (spelled text.now name)) (declaration (scope_of scope.now) (spelled text.now name)) name.pos)) result }
 {
     let bytes = spelled(text, name);
     new_name_fault_of(
@@ -296,50 +397,84 @@ fn new_name_fault(text: &[u8], scope: &Scope, name: Name) -> Option<Fault>
     )
 }
 
-fn how_many(names: &Vec<Name>) -> usize
-    ensures { result ≡ length names.now.items }
-{
-    names.len()
-}
-
 /// The left sides of a `:=`.
 pub fn check_new_lefts(
     alloc: Global,
     text: &[u8],
     scope: &Scope,
     names: &[Name],
-) -> Result<NewLefts, NoMemory>
+) -> Result<Lefts, NoMemory>
     ensures lefts { IfOk result (λ l. option_map (λ v. map left_view v.items) l.lefts ≡ new_lefts text.now (scope_of scope.now) (length (scope_of scope.now).sites) names.now) }
-    ensures new_names { IfOk result (λ l. l.new_names.items ≡ new_names text.now (scope_of scope.now) names.now) }
     ensures fault { IfOk result (λ l. IsLeast (NewNamesFail text.now (scope_of scope.now) names.now) l.fault) }
 {
     let mut lefts = Some(Vec::new(alloc));
-    let mut new_names = Vec::new(alloc);
+    let mut count = 0;
     let mut fault = None;
     for name in names {
         fault = lesser(fault, new_name_fault(text, scope, *name));
-        let left = new_left(text, scope, how_many(&new_names), *name)?;
+        let left = new_left(text, scope, count, *name)?;
         lefts = with_left(lefts, left)?;
-        new_names = with_new(text, scope, new_names, *name)?;
+        count = next_count(declares(text, scope, *name), count)?;
     }
-    Ok(NewLefts {
-        lefts,
-        new_names,
-        fault,
-    })
+    Ok(Lefts { lefts, fault })
+}
+
+fn slot_declares(text: &[u8], scope: &Scope, name: Option<Name>) -> bool
+    ensures { result ≡ slot_declares text.now (scope_of scope.now) name }
+{
+    match name {
+        Some(name) => declares(text, scope, name),
+        None => false,
+    }
+}
+
+/// One more, where a `:=` declares it.
+fn with_declared(
+    text: &[u8],
+    scope: &Scope,
+    declared: Vec<Slot>,
+    slot: Slot,
+) -> Result<Vec<Slot>, NoMemory>
+    ensures { IfOk result (λ v. v.items ≡ (if slot_declares text.now (scope_of scope.now) slot.name then declared.items ++ slot ∷ [] else declared.items)) }
+{
+    let mut declared = declared;
+    if slot_declares(text, scope, slot.name) {
+        declared.push(slot)?;
+    }
+    Ok(declared)
+}
+
+/// Those of some names with types that a `:=` declares.
+pub fn new_slots(
+    alloc: Global,
+    text: &[u8],
+    scope: &Scope,
+    slots: &[Slot],
+) -> Result<Vec<Slot>, NoMemory>
+    ensures { IfOk result (λ v. v.items ≡ new_slots text.now (scope_of scope.now) slots.now) }
+{
+    let mut declared = Vec::new(alloc);
+    for slot in slots {
+        declared = with_declared(text, scope, declared, *slot)?;
+    }
+    Ok(declared)
+}
+
+fn declare_slot(text: &[u8], scope: &mut Scope, slot: Slot) -> Result<(), NoMemory>
+    ensures { OnOk result (scope_of scope.new ≡ with_slot text.now slot.value_type (scope_of scope.old) slot.name) }
+{
+    match slot.name {
+        Some(name) => declare_variable(scope, spelled(text, name), name.pos, slot.value_type),
+        None => Ok(()),
+    }
 }
 
 /// Declares new variables.
-pub fn declare_variables(
-    text: &[u8],
-    scope: &mut Scope,
-    names: &[Name],
-    has_type: bool,
-) -> Result<(), NoMemory>
-    ensures { OnOk result (scope_of scope.new ≡ with_variables text.now has_type (scope_of scope.old) names.now) }
+pub fn declare_variables(text: &[u8], scope: &mut Scope, slots: &[Slot]) -> Result<(), NoMemory>
+    ensures { OnOk result (scope_of scope.new ≡ with_variables text.now (scope_of scope.old) slots.now) }
 {
-    for name in names {
-        declare_variable(scope, spelled(text, *name), name.pos, has_type)?;
+    for slot in slots {
+        declare_slot(text, scope, *slot)?;
     }
     Ok(())
 }
@@ -411,7 +546,7 @@ pub fn check_names(
     pos: Pos,
 ) -> Result<Declaration, NoMemory>
     ensures is_allowed { IfOk result (λ d. d.is_allowed ≡ may_define text.now (scope_of scope.now) names.now) }
-    ensures fault { IfOk result (λ d. IsLeast (λ f. TwiceFails text.now ([] ∷ []) names.now f ⊎ FailsWhere (has_all text.now (scope_of scope.now) names.now) (fault_at NothingNew pos) f) d.fault) }
+    ensures fault { IfOk result (λ d. IsLeast (λ f. TwiceFails text.now ([] ∷ []) names.now f ⊎ IsFault (fault_where (has_all text.now (scope_of scope.now) names.now) (fault_at NothingNew pos)) f) d.fault) }
 {
     let twice = twice_fault(alloc, text, names)?;
     let all = has_all(text, scope, names);

@@ -1,10 +1,13 @@
 //! Terminating statements: nothing goes on behind them.
 
 ghost use Rattle.std.specs.Prelude.{◌≡◌, false};
-ghost use Rattle.syntax.specs.Statements.{clause_of, stm_of, stms_of, els_of};
-ghost use Rattle.types_go.specs.Statements.{is_endless, is_terminating, is_terminating_else, ends_after};
+ghost use Rattle.syntax.specs.Expressions.{ex_of as tree_of};
+ghost use Rattle.syntax.specs.Statements.{simple_of, clause_of, stm_of, stms_of, els_of};
+ghost use Rattle.expression_types.specs.Typing.{name_in};
+ghost use Rattle.types_go.specs.Statements.{is_endless, is_panic, leaves, leaves_else, leaves_any, names_panic, panics, ends_simple, is_terminating, is_terminating_else, ends_after};
 
-use syntax::{Clause, Else, Stmt};
+use expression_types::{Word, name_in, spelled, word_of};
+use syntax::{Clause, Else, Expr, Name, Simple, Stmt};
 
 /// Whether a loop has no condition.
 fn is_endless(clause: &Clause) -> bool
@@ -18,44 +21,130 @@ fn is_endless(clause: &Clause) -> bool
     }
 }
 
+/// Whether a `break` leaves the loop around a statement.
+#[cycle(leaving)]
+#[tactic(auto, using(syntax::proofs::Views::stmt_rows))]
+fn leaves(s: &Stmt) -> bool
+    ensures { result ≡ leaves (stm_of s.now) }
+{
+    match s {
+        Stmt::Break(_) => true,
+        Stmt::If(_, _, body, rest) => leaves_any(body) || leaves_else(rest),
+        Stmt::Block(body) => leaves_any(body),
+        _ => false,
+    }
+}
+
+#[cycle(leaving)]
+#[tactic(auto, using(syntax::proofs::Views::stmt_rows))]
+fn leaves_else(e: &Else) -> bool
+    ensures { result ≡ leaves_else (els_of e.now) }
+{
+    match e {
+        Else::Absent => false,
+        Else::Block(body) => leaves_any(body),
+        Else::If(_, _, body, rest) => {
+            let rest: &Else = rest;
+            leaves_any(body) || leaves_else(rest)
+        }
+    }
+}
+
+/// Whether a `break` among statements leaves the loop around them.
+#[cycle(leaving)]
+fn leaves_any(ms: &[Stmt]) -> bool
+    ensures { result ≡ leaves_any (stms_of ms.now) }
+{
+    let mut any = false;
+    for s in ms {
+        any = any || leaves(s);
+    }
+    any
+}
+
+fn is_panic(word: Word) -> bool
+    ensures { result ≡ is_panic word }
+{
+    match word {
+        Word::Panic => true,
+        _ => false,
+    }
+}
+
+fn names_panic(text: &[u8], name: Option<Name>) -> bool
+    ensures { result ≡ names_panic text.now name }
+{
+    match name {
+        Some(name) => is_panic(word_of(spelled(text, name))),
+        None => false,
+    }
+}
+
+/// Whether an expression is a call of `panic`, in parentheses or not.
+#[tactic(auto, using(syntax::proofs::Views::expr_rows))]
+fn panics(text: &[u8], e: &Expr) -> bool
+    ensures { result ≡ panics text.now (tree_of e.now) }
+{
+    match e {
+        Expr::Call(function, _, _) => names_panic(text, name_in(function)),
+        Expr::Paren(_, inner) => {
+            let inner: &Expr = inner;
+            panics(text, inner)
+        }
+        _ => false,
+    }
+}
+
+fn ends_simple(text: &[u8], simple: &Simple) -> bool
+    ensures { result ≡ ends_simple text.now (simple_of simple.now) }
+{
+    match simple {
+        Simple::Express(e) => panics(text, e),
+        _ => false,
+    }
+}
+
 /// Whether a statement is terminating (Go specification, "Terminating statements").
 #[cycle(endings)]
 #[tactic(auto, using(syntax::proofs::Views::stmt_rows))]
-fn is_terminating(s: &Stmt) -> bool
-    ensures { result ≡ is_terminating (stm_of s.now) }
+fn is_terminating(text: &[u8], s: &Stmt) -> bool
+    ensures { result ≡ is_terminating text.now (stm_of s.now) }
 {
     match s {
         Stmt::Return(_, _) => true,
-        Stmt::If(_, _, body, rest) => ends_in_terminating(body) && is_terminating_else(rest),
-        Stmt::For(_, clause, _) => is_endless(clause),
-        Stmt::Block(body) => ends_in_terminating(body),
+        Stmt::Simple(simple) => ends_simple(text, simple),
+        Stmt::If(_, _, body, rest) => {
+            ends_in_terminating(text, body) && is_terminating_else(text, rest)
+        }
+        Stmt::For(_, clause, body) => is_endless(clause) && !leaves_any(body),
+        Stmt::Block(body) => ends_in_terminating(text, body),
         _ => false,
     }
 }
 
 #[cycle(endings)]
 #[tactic(auto, using(syntax::proofs::Views::stmt_rows))]
-fn is_terminating_else(e: &Else) -> bool
-    ensures { result ≡ is_terminating_else (els_of e.now) }
+fn is_terminating_else(text: &[u8], e: &Else) -> bool
+    ensures { result ≡ is_terminating_else text.now (els_of e.now) }
 {
     match e {
         Else::Absent => false,
-        Else::Block(body) => ends_in_terminating(body),
+        Else::Block(body) => ends_in_terminating(text, body),
         Else::If(_, _, body, rest) => {
             let rest: &Else = rest;
-            ends_in_terminating(body) && is_terminating_else(rest)
+            ends_in_terminating(text, body) && is_terminating_else(text, rest)
         }
     }
 }
 
 /// Whether statements end in a terminating one.
 #[cycle(endings)]
-pub fn ends_in_terminating(ms: &[Stmt]) -> bool
-    ensures { result ≡ ends_after false (stms_of ms.now) }
+pub fn ends_in_terminating(text: &[u8], ms: &[Stmt]) -> bool
+    ensures { result ≡ ends_after text.now false (stms_of ms.now) }
 {
     let mut ends = false;
     for s in ms {
-        ends = is_terminating(s);
+        ends = is_terminating(text, s);
     }
     ends
 }

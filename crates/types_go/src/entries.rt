@@ -1,25 +1,26 @@
-//! Parameters and results with names, in the block of a function's body.
+//! Names with types in a block: parameters, results, and the variables of a `var` or of a `range`.
 
-ghost use Rattle.std.specs.Prelude.{◌≡◌, Option, Some, None, IfOk, OnOk, List, map, length, is_some};
+ghost use Rattle.std.specs.Prelude.{◌≡◌, Option, Some, None, IfOk, OnOk, List, [], ◌∷◌, ◌++◌, map, length};
 ghost use Rattle.std.specs.Option.{option_map};
 ghost use Rattle.syntax.specs.Expressions.{spelled};
-ghost use Rattle.typed.specs.View.{site_in};
+ghost use Rattle.typed.specs.View.{site_in, left_of as left_view};
 ghost use Rattle.expression_types.specs.Least.{IsLeast};
 ghost use Rattle.expression_types.specs.Profile.{is_blank, is_reserved};
 ghost use Rattle.expression_types.specs.Scope.{scope_of, is_here};
 ghost use Rattle.expression_types.specs.Passing.{with_last};
-ghost use Rattle.types_go.specs.Functions.{entry_of, named_entry, entry_in, behind_entry_name, behind_entry, entries, behind_entries};
-ghost use Rattle.types_go.specs.FunctionFaults.{EntryFails, EntriesFail, NamedFails};
-ghost use Rattle.types_go.specs.Passing.{named_fault};
+ghost use Rattle.types_go.specs.Entries.{entry_of, entry_left, sites_of, named_entry, entry_in, behind_entry_name, behind_entry, entries, behind_entries};
+ghost use Rattle.types_go.specs.EntryFaults.{EntryFails, EntriesFail, named_fault};
+ghost use Rattle.expression_types.specs.Faults.{IsFault};
 
 use crate::slots::Slot;
 use base::{NoMemory, Pos, SiteId};
 use expression_types::{
-    Fault, FaultKind, Scope, declare_variable, is_blank, is_here, is_reserved, lesser, next_site,
-    spelled,
+    Fault, FaultKind, Scope, ValueType, declare_variable, is_blank, is_here, is_reserved, lesser,
+    next_site, spelled,
 };
 use std::alloc::Global;
 use syntax::Name;
+use typed::Left;
 
 /// Where a name with a type stands.
 #[derive(Clone, Copy, Debug, PartialEq, Eq)]
@@ -107,9 +108,9 @@ fn entry_in(
     }
 }
 
-#[tactic(auto, using(crate::proofs::Leaves::named_least))]
+#[tactic(auto, using(expression_types::proofs::Leasts::leaf))]
 fn named_fault(text: &[u8], scope: &Scope, role: Role, name: Name) -> Option<Fault>
-    ensures { IsLeast (NamedFails role (is_blank (spelled text.now name)) (is_reserved (spelled text.now name)) (is_here (scope_of scope.now) (spelled text.now name)) name.pos) result }
+    ensures { IsLeast (IsFault (named_fault role (is_blank (spelled text.now name)) (is_reserved (spelled text.now name)) (is_here (scope_of scope.now) (spelled text.now name)) name.pos)) result }
 {
     let bytes = spelled(text, name);
     named_fault_of(
@@ -134,16 +135,16 @@ fn declare_entry_name(
     text: &[u8],
     scope: &mut Scope,
     name: Option<Name>,
-    has_type: bool,
+    value_type: Option<ValueType>,
 ) -> Result<(), NoMemory>
-    ensures { OnOk result (scope_of scope.new ≡ behind_entry_name text.now has_type (scope_of scope.old) name) }
+    ensures { OnOk result (scope_of scope.new ≡ behind_entry_name text.now value_type (scope_of scope.old) name) }
 {
     let Some(name) = name else {
         return Ok(());
     };
     let bytes = spelled(text, name);
     if !is_reserved(bytes) && !is_here(scope, bytes) {
-        declare_variable(scope, bytes, name.pos, has_type)
+        declare_variable(scope, bytes, name.pos, value_type)
     } else {
         Ok(())
     }
@@ -152,7 +153,7 @@ fn declare_entry_name(
 fn declare_entry(text: &[u8], scope: &mut Scope, slot: Slot) -> Result<(), NoMemory>
     ensures { OnOk result (scope_of scope.new ≡ behind_entry text.now (scope_of scope.old) slot) }
 {
-    declare_entry_name(text, scope, slot.name, slot.value_type.is_some())
+    declare_entry_name(text, scope, slot.name, slot.value_type)
 }
 
 fn with_entry(
@@ -191,4 +192,58 @@ pub fn check_entries(
         declare_entry(text, scope, *slot)?;
     }
     Ok(Entries { entries, fault })
+}
+
+fn with_site(sites: Vec<SiteId>, entry: Option<SiteId>) -> Result<Vec<SiteId>, NoMemory>
+    ensures { IfOk result (λ v. map (λ site. site.0) v.items ≡ map (λ site. site.0) sites.items ++ sites_of (site_in entry ∷ [])) }
+{
+    let mut sites = sites;
+    if let Some(site) = entry {
+        sites.push(site)?;
+    }
+    Ok(sites)
+}
+
+/// The sites that there are.
+pub fn sites_of(alloc: Global, entries: &[Option<SiteId>]) -> Result<Vec<SiteId>, NoMemory>
+    ensures { IfOk result (λ v. map (λ site. site.0) v.items ≡ sites_of (map site_in entries.now)) }
+{
+    let mut sites = Vec::new(alloc);
+    for entry in entries {
+        sites = with_site(sites, *entry)?;
+    }
+    Ok(sites)
+}
+
+/// A new variable as a left side.
+fn entry_left(entry: Option<SiteId>) -> Left
+    ensures { left_view result ≡ entry_left (site_in entry) }
+{
+    match entry {
+        Some(site) => Left::New(site),
+        None => Left::Blank,
+    }
+}
+
+fn lefts_of(alloc: Global, entries: &[Option<SiteId>]) -> Result<Vec<Left>, NoMemory>
+    ensures { IfOk result (λ v. map left_view v.items ≡ map entry_left (map site_in entries.now)) }
+{
+    let mut lefts = Vec::new(alloc);
+    for entry in entries {
+        lefts.push(entry_left(*entry))?;
+    }
+    Ok(lefts)
+}
+
+/// New variables as left sides, where each may be declared.
+pub fn entry_lefts(
+    alloc: Global,
+    entries: &Option<Vec<Option<SiteId>>>,
+) -> Result<Option<Vec<Left>>, NoMemory>
+    ensures { IfOk result (λ r. option_map (λ v. map left_view v.items) r ≡ option_map (map entry_left) (option_map (λ v. map site_in v.items) entries.now)) }
+{
+    match entries {
+        Some(entries) => Ok(Some(lefts_of(alloc, entries)?)),
+        None => Ok(None),
+    }
 }

@@ -11,28 +11,30 @@ ghost use Rattle.expression_types.specs.Least.{IsLeast};
 ghost use Rattle.expression_types.specs.Profile.{is_blank, is_predeclared};
 ghost use Rattle.expression_types.specs.Scope.{scope_of, declaration, is_here};
 ghost use Rattle.expression_types.specs.Typing.{allowed};
-ghost use Rattle.expression_types.specs.Faults.{fault as fault_at};
+ghost use Rattle.expression_types.specs.Faults.{fault as fault_at, IsFault};
 ghost use Rattle.expression_types.specs.Passing.{with_last};
 ghost use Rattle.expression_types.specs.declared.fault.FaultKind.TheVariants.{TooLarge};
 ghost use Rattle.types_go.specs.Passing.{assembled, IsAt, AreAt};
-ghost use Rattle.types_go.specs.StatementFaults.{FailsWhere};
-ghost use Rattle.types_go.specs.Functions.{may_be_named, is_named, is_external, sites_of, returns_of, may_end, params_of, function_head, signature_in, is_small, functions_in, parts, function_with, function, functions, behind_body, behind_function, behind_functions};
-ghost use Rattle.types_go.specs.FunctionFaults.{FunctionNameFails, FailsInHead, FailsInTypes, FailsInParts, FailsWith, FailsInFunction, FailsInFunctions, external_fault};
+ghost use Rattle.types_go.specs.StatementFaults.{fault_where};
+ghost use Rattle.types_go.specs.Statements.{returns_view};
+ghost use Rattle.types_go.specs.Functions.{may_be_named, is_named, is_external, number_or_int, slot_number, returns_of, may_end, params_of, function_head, signature_in, is_small, functions_in, parts, function_with, function, functions, behind_body, behind_function, behind_functions};
+ghost use Rattle.types_go.specs.FunctionFaults.{function_name_fault, FailsInHead, FailsInTypes, FailsInParts, FailsWith, FailsInFunction, FailsInFunctions, external_fault};
 
 use crate::blocks::check_stmts;
 use crate::declaring::fault_where;
 use crate::endings::ends_in_terminating;
-use crate::entries::{Role, check_entries};
+use crate::entries::{Role, check_entries, sites_of};
 use crate::signatures::{function_name_fault, is_small, may_be_named, signature_in, size_fault};
-use crate::slots::{Slot, has_some, is_named, slots_of, types_fault};
+use crate::slots::{Slot, has_some, is_named, slot_types, slots_of, types_fault};
 use crate::statements::Returns;
 use base::{NoMemory, Pos, SiteId, TypeId};
 use expression_types::{
-    Fault, FaultKind, Scope, close, declaration, is_blank, is_predeclared, lesser, open,
+    Fault, FaultKind, Scope, ValueType, close, declaration, is_blank, is_predeclared, lesser, open,
     site_count, spelled,
 };
 use std::alloc::Global;
 use syntax::{Body, Decl, Func, Name, Params};
+use typed::INT;
 
 /// What is known of a part of a function: whether it is as it must be, and the fault.
 #[derive(Clone, Copy, Debug, PartialEq, Eq)]
@@ -56,25 +58,26 @@ pub struct Functions {
 }
 
 /// What a function with these results gives back.
-fn returns_of(results: &Params, slots: &[Slot]) -> Returns
-    ensures { result ≡ record { count = length slots.now; may_be_bare = (length slots.now == 0) || is_named (parameters_of results.now) } }
+fn returns_of(alloc: Global, results: &Params, slots: &[Slot]) -> Result<Returns, NoMemory>
+    ensures { IfOk result (λ r. returns_view r ≡ record { wanted = map (λ slot. slot.value_type) slots.now; may_be_bare = (length slots.now == 0) || is_named (parameters_of results.now) }) }
 {
-    Returns {
-        count: slots.len(),
+    let wanted = slot_types(alloc, slots)?;
+    Ok(Returns {
+        wanted,
         may_be_bare: slots.is_empty() || is_named(results),
-    }
+    })
 }
 
-fn may_end(f: &Func, body: &Body) -> bool
-    ensures { result ≡ may_end (function_of f.now) (body_of body.now) }
+fn may_end(text: &[u8], f: &Func, body: &Body) -> bool
+    ensures { result ≡ may_end text.now (function_of f.now) (body_of body.now) }
 {
-    !has_some(&f.results) || ends_in_terminating(&body.statements)
+    !has_some(&f.results) || ends_in_terminating(text, &body.statements)
 }
 
 /// The fault of the name of a function of a number.
-#[tactic(auto, using(crate::proofs::Leaves::function_name_least))]
+#[tactic(auto, using(expression_types::proofs::Leasts::leaf))]
 fn name_fault(text: &[u8], scope: &Scope, number: usize, name: Name) -> Option<Fault>
-    ensures { IsLeast (FunctionNameFails number (is_blank (spelled text.now name)) (is_predeclared (spelled text.now name)) (declaration (scope_of scope.now) (spelled text.now name)) name.pos) result }
+    ensures { IsLeast (IsFault (function_name_fault number (is_blank (spelled text.now name)) (is_predeclared (spelled text.now name)) (declaration (scope_of scope.now) (spelled text.now name)) name.pos)) result }
 {
     let bytes = spelled(text, name);
     function_name_fault(
@@ -87,9 +90,9 @@ fn name_fault(text: &[u8], scope: &Scope, number: usize, name: Name) -> Option<F
 }
 
 /// The fault of a function behind too many others.
-#[tactic(auto, using(crate::proofs::Leaves::where_least))]
+#[tactic(auto, using(expression_types::proofs::Leasts::leaf))]
 fn number_fault(number: usize, pos: Pos) -> Option<Fault>
-    ensures { IsLeast (FailsWhere (not (nat_lt number 4096)) (fault_at TooLarge pos)) result }
+    ensures { IsLeast (IsFault (fault_where (not (nat_lt number 4096)) (fault_at TooLarge pos))) result }
 {
     let own = Fault {
         kind: FaultKind::TooLarge,
@@ -139,43 +142,25 @@ fn check_types(alloc: Global, text: &[u8], scope: &Scope, f: &Func) -> Result<Pa
     })
 }
 
-/// The number of a result's type: it is an int.
-fn type_number(_result: &Slot) -> TypeId
-    ensures { result.0 ≡ 0 }
+/// The number of a type, where that is known.
+fn number_or_int(value_type: Option<ValueType>) -> TypeId
+    ensures { result.0 ≡ number_or_int value_type }
 {
-    TypeId(0)
+    match value_type {
+        Some(value_type) => value_type.id(),
+        None => INT,
+    }
 }
 
-/// The types of results.
-fn result_types(alloc: Global, results: &[Slot]) -> Result<Vec<TypeId>, NoMemory>
-    ensures { IfOk result (λ v. map (λ t. t.0) v.items ≡ map (λ slot. 0) results.now) }
+/// The numbers of the types of parameters or results.
+fn type_numbers(alloc: Global, slots: &[Slot]) -> Result<Vec<TypeId>, NoMemory>
+    ensures { IfOk result (λ v. map (λ t. t.0) v.items ≡ map slot_number slots.now) }
 {
     let mut types = Vec::new(alloc);
-    for slot in results {
-        types.push(type_number(slot))?;
+    for slot in slots {
+        types.push(number_or_int(slot.value_type))?;
     }
     Ok(types)
-}
-
-fn with_entry(sites: Vec<SiteId>, entry: Option<SiteId>) -> Result<Vec<SiteId>, NoMemory>
-    ensures { IfOk result (λ v. map (λ site. site.0) v.items ≡ map (λ site. site.0) sites.items ++ sites_of (site_in entry ∷ [])) }
-{
-    let mut sites = sites;
-    if let Some(site) = entry {
-        sites.push(site)?;
-    }
-    Ok(sites)
-}
-
-/// The sites that there are.
-fn sites_of(alloc: Global, entries: &[Option<SiteId>]) -> Result<Vec<SiteId>, NoMemory>
-    ensures { IfOk result (λ v. map (λ site. site.0) v.items ≡ sites_of (map site_in entries.now)) }
-{
-    let mut sites = Vec::new(alloc);
-    for entry in entries {
-        sites = with_entry(sites, *entry)?;
-    }
-    Ok(sites)
 }
 
 fn number_of(count: usize) -> Result<u32, NoMemory>
@@ -191,14 +176,15 @@ fn number_of(count: usize) -> Result<u32, NoMemory>
 fn assemble(
     alloc: Global,
     pos: Pos,
-    slots: &[Slot],
+    param_slots: &[Slot],
+    result_slots: &[Slot],
     first: usize,
     behind: usize,
     params: Option<Vec<Option<SiteId>>>,
     results: Option<Vec<Option<SiteId>>>,
     body: Option<Vec<typed::Stmt>>,
 ) -> Result<Option<typed::Func>, NoMemory>
-    ensures func { IfOk result (λ r. option_map func_of r ≡ assembled slots.now first behind (option_map (λ v. map site_in v.items) params) (option_map (λ v. map site_in v.items) results) (option_map (λ v. sts_of v.items) body)) }
+    ensures func { IfOk result (λ r. option_map func_of r ≡ assembled param_slots.now result_slots.now first behind (option_map (λ v. map site_in v.items) params) (option_map (λ v. map site_in v.items) results) (option_map (λ v. sts_of v.items) body)) }
     ensures pos { IfOk result (λ r. IsAt pos r) }
 {
     match (params, results, body) {
@@ -206,12 +192,14 @@ fn assemble(
             let first_site = number_of(first)?;
             let sites = number_of(behind.saturating_sub(first))?;
             let named = sites_of(alloc, &results)?;
-            let results = result_types(alloc, slots)?;
+            let param_types = type_numbers(alloc, param_slots)?;
+            let results = type_numbers(alloc, result_slots)?;
             Ok(Some(typed::Func {
                 pos,
                 first_site,
                 sites,
                 params,
+                param_types,
                 results,
                 named,
                 body,
@@ -238,16 +226,17 @@ fn check_parts(
     let first = site_count(scope);
     let param_slots = slots_of(alloc, text, &f.params)?;
     let result_slots = slots_of(alloc, text, &f.results)?;
-    let returns = returns_of(&f.results, &result_slots);
+    let returns = returns_of(alloc, &f.results, &result_slots)?;
     open(scope)?;
     let params = check_entries(alloc, text, scope, Role::Parameter, &param_slots)?;
     let results = check_entries(alloc, text, scope, Role::Result, &result_slots)?;
-    let lines = check_stmts(alloc, text, returns, scope, &body.statements)?;
+    let lines = check_stmts(alloc, text, &returns, false, scope, &body.statements)?;
     close(scope);
     let fault = lesser(lesser(params.fault, results.fault), lines.fault);
     let func = assemble(
         alloc,
         f.name.pos,
+        &param_slots,
         &result_slots,
         first,
         site_count(scope),
@@ -283,7 +272,7 @@ fn check_with_body(
     let head = check_head(text, scope, number, f);
     let types = check_types(alloc, text, scope, f)?;
     let parts = check_parts(alloc, text, scope, f, body)?;
-    let ends = may_end(f, body);
+    let ends = may_end(text, f, body);
     let own = Fault {
         kind: FaultKind::MissingReturn,
         pos: body.end,

@@ -15,9 +15,12 @@ mod declaring;
 mod endings;
 mod entries;
 mod functions;
+mod heads;
 mod signatures;
 mod slots;
 mod statements;
+mod updating;
+mod variables;
 
 pub use checking::check;
 pub use expression_types::{Fault, FaultKind, TypeFault};

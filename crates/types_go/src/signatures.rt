@@ -9,7 +9,7 @@ ghost use Rattle.expression_types.specs.declared.scope.Declared.TheVariants.{Unt
 ghost use Rattle.expression_types.specs.Profile.{is_blank, is_predeclared};
 ghost use Rattle.expression_types.specs.Scope.{scope_of, signature_of, declaration, is_here};
 ghost use Rattle.types_go.specs.Functions.{signature_in, declares_name, with_name, with_names, with_values, with_types, with_function, with_item, with_items, is_number, may_be_named, is_small, words};
-ghost use Rattle.types_go.specs.Passing.{function_name_fault, size_fault};
+ghost use Rattle.types_go.specs.FunctionFaults.{function_name_fault, size_fault};
 
 use crate::declaring::fault_where;
 use crate::slots::{slots_of, types_of};

@@ -1,12 +1,13 @@
 //! Parameters and results one by one, each with its type.
 
-ghost use Rattle.std.specs.Prelude.{◌≡◌, ◌⊎◌, Option, Some, None, IfOk, List, map, length, not, ◌==◌, ◌++◌};
+ghost use Rattle.std.specs.Prelude.{◌≡◌, ◌⊎◌, Option, Some, None, IfOk, List, map, length, not, ◌==◌, ◌++◌, option_and_then, slice_get};
 ghost use Rattle.std.specs.Option.{option_map};
 ghost use Rattle.syntax.specs.Expressions.{ex_of as tree_of, exs_of as trees_of};
 ghost use Rattle.syntax.specs.Declarations.{parameters_of, field_of, fields_of};
 ghost use Rattle.expression_types.specs.Least.{IsLeast};
 ghost use Rattle.expression_types.specs.Scope.{scope_of};
 ghost use Rattle.expression_types.specs.Passing.{with_last};
+ghost use Rattle.types_go.specs.Entries.{slot_with, slots_each};
 ghost use Rattle.types_go.specs.Functions.{param_with, field_params, named_params, unnamed_params, params_of, is_named, slot_of, slots_of, types_of};
 ghost use Rattle.types_go.specs.FunctionFaults.{TypesFail};
 
@@ -20,6 +21,73 @@ use syntax::{Expr, Field, Name, Params};
 pub struct Slot {
     pub name: Option<Name>,
     pub value_type: Option<ValueType>,
+}
+
+/// A name with a type.
+fn slot_with(name: Name, value_type: Option<ValueType>) -> Slot
+    ensures { result ≡ slot_with value_type name }
+{
+    Slot {
+        name: Some(name),
+        value_type,
+    }
+}
+
+/// Names that share a type.
+pub fn slots_with(
+    alloc: Global,
+    names: &[Name],
+    value_type: Option<ValueType>,
+) -> Result<Vec<Slot>, NoMemory>
+    ensures { IfOk result (λ v. v.items ≡ map (slot_with value_type) names.now) }
+{
+    let mut slots = Vec::new(alloc);
+    for name in names {
+        slots.push(slot_with(*name, value_type))?;
+    }
+    Ok(slots)
+}
+
+fn type_at(types: &Option<Vec<ValueType>>, index: usize) -> Option<ValueType>
+    ensures { result ≡ option_and_then (λ l. slice_get l index) (option_map (λ v. v.items) types.now) }
+{
+    match types {
+        Some(types) => types.get(index).copied(),
+        None => None,
+    }
+}
+
+fn slot_count(slots: &Vec<Slot>) -> usize
+    ensures { result ≡ length slots.now.items }
+{
+    slots.len()
+}
+
+/// Names with a type each, where the types are known.
+pub fn slots_each(
+    alloc: Global,
+    names: &[Name],
+    types: &Option<Vec<ValueType>>,
+) -> Result<Vec<Slot>, NoMemory>
+    ensures { IfOk result (λ v. v.items ≡ slots_each (option_map (λ v. v.items) types.now) names.now) }
+{
+    let mut slots = Vec::new(alloc);
+    for name in names {
+        let value_type = type_at(types, slot_count(&slots));
+        slots.push(slot_with(*name, value_type))?;
+    }
+    Ok(slots)
+}
+
+/// The types of slots.
+pub fn slot_types(alloc: Global, slots: &[Slot]) -> Result<Vec<Option<ValueType>>, NoMemory>
+    ensures { IfOk result (λ v. v.items ≡ map (λ slot. slot.value_type) slots.now) }
+{
+    let mut types = Vec::new(alloc);
+    for slot in slots {
+        types.push(slot.value_type)?;
+    }
+    Ok(types)
 }
 
 /// Those without names.

@@ -1,6 +1,6 @@
 //! The types of statements without statements in them, and what they declare.
 
-ghost use Rattle.std.specs.Prelude.{◌≡◌, ◌⊎◌, Option, Some, None, IfOk, OnOk, List, map, length, option_and_then, if◌then◌else◌, false};
+ghost use Rattle.std.specs.Prelude.{◌≡◌, ◌⊎◌, Option, Some, None, IfOk, OnOk, List, map, length, not, option_and_then, if◌then◌else◌};
 ghost use Rattle.std.specs.Option.{option_map};
 ghost use Rattle.syntax.specs.Expressions.{ex_of as tree_of, exs_of as trees_of};
 ghost use Rattle.syntax.specs.FirstBytes.{first_place};
@@ -10,28 +10,30 @@ ghost use Rattle.typed.specs.Syntax.{give_back as given_back, none};
 ghost use Rattle.expression_types.specs.Least.{IsLeast};
 ghost use Rattle.expression_types.specs.Scope.{scope_of};
 ghost use Rattle.expression_types.specs.Typing.{count, gives, seen, taken};
-ghost use Rattle.expression_types.specs.Faults.{FormFails, Fails, FailsInEach};
+ghost use Rattle.expression_types.specs.Faults.{fault as fault_at, IsFault, FormFails, Fails, FailsInEach};
 ghost use Rattle.expression_types.specs.Passing.{gives_of, seens};
-ghost use Rattle.types_go.specs.Statements.{assignment, expressed, returned, how_many, lefts, simple_statement, behind_simple};
-ghost use Rattle.types_go.specs.StatementFaults.{ReturnFails, UseFails, FailsInSimple, FailsInAssignment, FailsInDefinition, FirstFails, lefts_place};
-ghost use Rattle.types_go.specs.Passing.{use_fault, fault_where};
+ghost use Rattle.types_go.specs.Statements.{returns_view, assignment, expressed, returned, lefts, all_wanted, simple_statement, behind_simple};
+ghost use Rattle.types_go.specs.StatementFaults.{fault_where, use_fault, ReturnFails, FailsInSimple, FailsInAssignment, FailsInDefinition, lefts_place};
 
 use crate::declaring::{
-    check_lefts, check_names, check_new_lefts, declare_variables, lefts_pos, names_pos,
+    all_new_wanted, all_wanted, check_lefts, check_names, check_new_lefts, declare_variables,
+    fault_where, lefts_pos, names_pos, new_slots,
 };
+use crate::slots::slots_each;
+use crate::updating::{check_step, check_update};
 use base::{NoMemory, Pos};
 use expression_types::{
-    Fault, FaultKind, Gives, Item, Operand, Scope, check_expr, check_list, count, count_fault,
-    lesser, placed_fault, take_fault, taken,
+    Fault, FaultKind, Gives, Item, Operand, Scope, ValueType, check_expr, check_list, count,
+    count_fault, lesser, placed_fault, take_fault, taken, value_types,
 };
 use std::alloc::Global;
 use syntax::{Expr, Name, Simple};
-use typed::{Left, Values};
+use typed::{BinOp, Left, Values};
 
-/// What a function gives back: how many values, and whether a `return` may have none.
-#[derive(Clone, Copy, Debug, PartialEq, Eq)]
+/// What a function gives back: the types of its values, where they are known, and whether a `return` may have none.
+#[derive(Drop)]
 pub struct Returns {
-    pub count: usize,
+    pub wanted: Vec<Option<ValueType>>,
     pub may_be_bare: bool,
 }
 
@@ -57,7 +59,7 @@ pub fn left_out(pos: Pos) -> Line
 }
 
 /// A declaration or an assignment, where its left sides and values are known.
-fn assignment(lefts: Option<Vec<Left>>, values: Option<Values>) -> Option<typed::Stmt>
+pub fn assignment(lefts: Option<Vec<Left>>, values: Option<Values>) -> Option<typed::Stmt>
     ensures { option_map st_of result ≡ assignment (option_map (λ v. map left_view v.items) lefts) (option_map exs_of_values values) }
 {
     match (lefts, values) {
@@ -80,6 +82,16 @@ fn assignment_where(
     }
 }
 
+/// The types of values that may be taken.
+pub fn types_where(values: &Option<Values>, types: Option<Vec<ValueType>>) -> Option<Vec<ValueType>>
+    ensures { option_map (λ v. v.items) result ≡ option_and_then (λ v. option_map (λ v. v.items) types) (option_map exs_of_values values.now) }
+{
+    match values {
+        Some(_) => types,
+        None => None,
+    }
+}
+
 /// A `:=`, which declares its new names behind its values.
 fn check_define(
     alloc: Global,
@@ -94,15 +106,20 @@ fn check_define(
     ensures scope { OnOk result (scope_of scope.new ≡ behind_simple text.now (scope_of scope.old) (define names.now pos (trees_of es.now))) }
 {
     let right = check_list(alloc, text, scope, es)?;
+    let wanted = all_new_wanted(alloc, text, scope, names)?;
     let own = Fault {
         kind: FaultKind::ArgCount,
         pos: names_pos(names, pos),
     };
-    let values_fault = take_fault(own, names.len(), &right.items);
+    let values_fault = take_fault(own, &wanted, &right.items);
     let declaration = check_names(alloc, text, scope, names, pos)?;
-    let values = taken(alloc, names.len(), right.items)?;
     let left = check_new_lefts(alloc, text, scope, names)?;
-    declare_variables(text, scope, &left.new_names, values.is_some())?;
+    let types = value_types(alloc, &right.items)?;
+    let values = taken(alloc, &wanted, right.items)?;
+    let types = types_where(&values, types);
+    let slots = slots_each(alloc, names, &types)?;
+    let slots = new_slots(alloc, text, scope, &slots)?;
+    declare_variables(text, scope, &slots)?;
     let before = lesser(lesser(right.fault, values_fault), left.fault);
     Ok(Line {
         statement: assignment_where(declaration.is_allowed, left.lefts, values),
@@ -120,8 +137,13 @@ fn count_where(lefts: &Option<Vec<Left>>, items: &[Item]) -> Option<usize>
     }
 }
 
+fn place_count(places: &Vec<Option<ValueType>>) -> usize
+    ensures { result ≡ length places.now.items }
+{
+    places.len()
+}
+
 /// A `=`.
-#[tactic(auto, using(crate::proofs::Items::how_many_are))]
 fn check_assign(
     alloc: Global,
     text: &[u8],
@@ -130,21 +152,22 @@ fn check_assign(
     pos: Pos,
     es: &[Expr],
 ) -> Result<Line, NoMemory>
-    ensures statement { IfOk result (λ c. option_map st_of c.statement ≡ assignment (lefts text.now (scope_of scope.now) (trees_of places.now)) (taken (how_many (trees_of places.now)) (seen text.now (scope_of scope.now) (trees_of es.now)))) }
+    ensures statement { IfOk result (λ c. option_map st_of c.statement ≡ assignment (lefts text.now (scope_of scope.now) (trees_of places.now)) (taken (all_wanted text.now (scope_of scope.now) (trees_of places.now)) (seen text.now (scope_of scope.now) (trees_of es.now)))) }
     ensures fault { IfOk result (λ c. IsLeast (FailsInAssignment text.now (scope_of scope.now) (trees_of places.now) pos (trees_of es.now)) c.fault) }
 {
     let left = check_lefts(alloc, text, scope, places)?;
     let listed = check_list(alloc, text, scope, es)?;
+    let wanted = all_wanted(alloc, text, scope, places)?;
     let own = Fault {
         kind: FaultKind::ArgCount,
         pos: lefts_pos(places, pos),
     };
     let counted = count_where(&left.lefts, &listed.items);
     let values_fault = lesser(
-        placed_fault(places.len(), &listed.items),
-        count_fault(counted, places.len(), own),
+        placed_fault(&wanted, &listed.items),
+        count_fault(counted, place_count(&wanted), own),
     );
-    let values = taken(alloc, places.len(), listed.items)?;
+    let values = taken(alloc, &wanted, listed.items)?;
     Ok(Line {
         statement: assignment(left.lefts, values),
         fault: lesser(lesser(left.fault, listed.fault), values_fault),
@@ -152,7 +175,6 @@ fn check_assign(
 }
 
 /// A call as a statement.
-#[tactic(auto, using(expression_types::proofs::Items::pieces_as))]
 fn expressed(gives: Option<Gives>) -> Option<typed::Stmt>
     ensures { option_map st_of result ≡ option_and_then expressed (option_map gives_of gives) }
 {
@@ -160,7 +182,8 @@ fn expressed(gives: Option<Gives>) -> Option<typed::Stmt>
         Some(Gives::Called(_, _, function, arguments)) => Some(typed::Stmt::Discard(Values::Results(
             function, arguments,
         ))),
-        Some(Gives::Printed(_, values)) => Some(typed::Stmt::Print(values)),
+        Some(Gives::Printed(_, line, pieces)) => Some(typed::Stmt::Print(line, pieces)),
+        Some(Gives::Panicked(pos, piece)) => Some(typed::Stmt::Panic(pos, piece)),
         _ => None,
     }
 }
@@ -181,7 +204,7 @@ fn use_fault(gives: &Option<Gives>, pos: Pos) -> Option<Fault>
 /// An expression as a statement.
 fn check_express(alloc: Global, text: &[u8], scope: &Scope, e: &Expr) -> Result<Line, NoMemory>
     ensures statement { IfOk result (λ c. option_map st_of c.statement ≡ option_and_then expressed (gives text.now (scope_of scope.now) (tree_of e.now))) }
-    ensures fault { IfOk result (λ c. IsLeast (λ f. Fails text.now (scope_of scope.now) (tree_of e.now) f ⊎ UseFails (gives text.now (scope_of scope.now) (tree_of e.now)) (first_place (tree_of e.now)) f) c.fault) }
+    ensures fault { IfOk result (λ c. IsLeast (λ f. Fails text.now (scope_of scope.now) (tree_of e.now) f ⊎ IsFault (use_fault (gives text.now (scope_of scope.now) (tree_of e.now)) (first_place (tree_of e.now))) f) c.fault) }
 {
     let checked = check_expr(alloc, text, scope, e)?;
     let own = use_fault(&checked.gives, checked.pos);
@@ -189,36 +212,6 @@ fn check_express(alloc: Global, text: &[u8], scope: &Scope, e: &Expr) -> Result<
         statement: expressed(checked.gives),
         fault: lesser(checked.fault, own),
     })
-}
-
-/// A statement of a form that is left out, which begins with an expression.
-fn check_begun(alloc: Global, text: &[u8], scope: &Scope, e: &Expr) -> Result<Line, NoMemory>
-    ensures statement { IfOk result (λ c. option_map st_of c.statement ≡ None) }
-    ensures fault { IfOk result (λ c. IsLeast (λ f. Fails text.now (scope_of scope.now) (tree_of e.now) f ⊎ FormFails (first_place (tree_of e.now)) f) c.fault) }
-{
-    let checked = check_expr(alloc, text, scope, e)?;
-    let own = left_out(checked.pos);
-    Ok(Line {
-        statement: None,
-        fault: lesser(checked.fault, own.fault),
-    })
-}
-
-/// An assignment with an operator, which is left out.
-fn check_update(
-    alloc: Global,
-    text: &[u8],
-    scope: &Scope,
-    lefts: &[Expr],
-    pos: Pos,
-) -> Result<Line, NoMemory>
-    ensures statement { IfOk result (λ c. option_map st_of c.statement ≡ None) }
-    ensures fault { IfOk result (λ c. IsLeast (λ f. FirstFails text.now (scope_of scope.now) (trees_of lefts.now) f ⊎ FormFails (lefts_place (trees_of lefts.now) pos) f) c.fault) }
-{
-    match lefts {
-        [first, ..] => check_begun(alloc, text, scope, first),
-        [] => Ok(left_out(pos)),
-    }
 }
 
 /// A simple statement. The scope becomes the one behind it.
@@ -235,16 +228,18 @@ pub fn check_simple(
     match s {
         Simple::Express(e) => check_express(alloc, text, scope, e),
         Simple::Assign(lefts, pos, es) => check_assign(alloc, text, scope, lefts, *pos, es),
-        Simple::Update(lefts, pos, _, _) => check_update(alloc, text, scope, lefts, *pos),
+        Simple::Update(lefts, pos, op, es) => {
+            check_update(alloc, text, scope, lefts, *pos, *op, es)
+        }
         Simple::Define(names, pos, es) => check_define(alloc, text, scope, names, *pos, es),
-        Simple::Increment(e, _) => check_begun(alloc, text, scope, e),
-        Simple::Decrement(e, _) => check_begun(alloc, text, scope, e),
+        Simple::Increment(e, _) => check_step(alloc, text, scope, BinOp::Add, e),
+        Simple::Decrement(e, _) => check_step(alloc, text, scope, BinOp::Sub, e),
     }
 }
 
-/// The fault of a number of values that a function does not give back.
-fn return_fault(pos: Pos, returns: Returns, items: &[Item]) -> Option<Fault>
-    ensures { IsLeast (ReturnFails pos returns (seens items.now)) result }
+/// The fault of values that a function does not give back.
+fn return_fault(pos: Pos, returns: &Returns, items: &[Item]) -> Option<Fault>
+    ensures { IsLeast (ReturnFails pos (returns_view returns.now) (seens items.now)) result }
 {
     let own = Fault {
         kind: FaultKind::ResultCount,
@@ -253,16 +248,16 @@ fn return_fault(pos: Pos, returns: Returns, items: &[Item]) -> Option<Fault>
     if items.is_empty() {
         bare_fault(returns.may_be_bare, own)
     } else {
-        take_fault(own, returns.count, items)
+        take_fault(own, &returns.wanted, items)
     }
 }
 
 /// The fault of a `return` without values.
-#[tactic(auto, using(expression_types::proofs::Leasts::unless))]
+#[tactic(auto, using(expression_types::proofs::Leasts::leaf))]
 fn bare_fault(may_be_bare: bool, own: Fault) -> Option<Fault>
-    ensures { IsLeast (λ f. (may_be_bare ≡ false) × (f ≡ own)) result }
+    ensures { IsLeast (IsFault (fault_where (not may_be_bare) own)) result }
 {
-    if may_be_bare { None } else { Some(own) }
+    fault_where(!may_be_bare, own)
 }
 
 /// A `return` without values, where there may be none.
@@ -279,15 +274,15 @@ fn bare(alloc: Global, may_be_bare: bool) -> Option<typed::Stmt>
 
 fn returned(
     alloc: Global,
-    returns: Returns,
+    returns: &Returns,
     items: Vec<Item>,
 ) -> Result<Option<typed::Stmt>, NoMemory>
-    ensures { IfOk result (λ r. option_map st_of r ≡ returned returns (seens items.items)) }
+    ensures { IfOk result (λ r. option_map st_of r ≡ returned (returns_view returns.now) (seens items.items)) }
 {
     if items.is_empty() {
         return Ok(bare(alloc, returns.may_be_bare));
     }
-    match taken(alloc, returns.count, items)? {
+    match taken(alloc, &returns.wanted, items)? {
         Some(values) => Ok(Some(typed::Stmt::Return(values))),
         None => Ok(None),
     }
@@ -297,13 +292,13 @@ fn returned(
 pub fn check_return(
     alloc: Global,
     text: &[u8],
-    returns: Returns,
+    returns: &Returns,
     scope: &Scope,
     pos: Pos,
     es: &[Expr],
 ) -> Result<Line, NoMemory>
-    ensures statement { IfOk result (λ c. option_map st_of c.statement ≡ returned returns (seen text.now (scope_of scope.now) (trees_of es.now))) }
-    ensures fault { IfOk result (λ c. IsLeast (λ f. FailsInEach text.now (scope_of scope.now) (trees_of es.now) f ⊎ ReturnFails pos returns (seen text.now (scope_of scope.now) (trees_of es.now)) f) c.fault) }
+    ensures statement { IfOk result (λ c. option_map st_of c.statement ≡ returned (returns_view returns.now) (seen text.now (scope_of scope.now) (trees_of es.now))) }
+    ensures fault { IfOk result (λ c. IsLeast (λ f. FailsInEach text.now (scope_of scope.now) (trees_of es.now) f ⊎ ReturnFails pos (returns_view returns.now) (seen text.now (scope_of scope.now) (trees_of es.now)) f) c.fault) }
 {
     let listed = check_list(alloc, text, scope, es)?;
     let own = return_fault(pos, returns, &listed.items);

@@ -4,10 +4,13 @@ use crate::{FaultKind, TypeFault, check};
 use base::Pos;
 use std::alloc::Global;
 use std::test::Fail;
-use syntax::{Body, Clause, Decl, Expr, Field, Func, Name, Params, Simple, Stmt, Tree, TypeSpec};
+use syntax::{
+    ArithmeticOp, BinOp, Body, Clause, CompareOp, Decl, Expr, Field, Func, Name, Params, Simple,
+    Stmt, Targets, Tree, TypeSpec, ValueSpec,
+};
 
 /// Names of a program, of functions without a body, of parameters, of a type and of the language.
-const TEXT: &[u8] = b"main f readInt a b T int u";
+const TEXT: &[u8] = b"main f readInt a b T int u bool";
 
 const MAIN: (u32, u32) = (0, 4);
 
@@ -24,6 +27,8 @@ const T: (u32, u32) = (19, 20);
 const INT: (u32, u32) = (21, 24);
 
 const U: (u32, u32) = (25, 26);
+
+const BOOL: (u32, u32) = (27, 31);
 
 fn at(offset: u32) -> Pos {
     Pos {
@@ -153,16 +158,17 @@ fn statements(rt: HostRuntime) -> Result<(), Fail> {
     let alloc = rt.alloc();
     let left = Vec::from_array(alloc, [Expr::Int(at(60), 1)])?;
     let right = Vec::from_array(alloc, [Expr::Int(at(70), 1)])?;
-    let counting = Clause::Counting(None, None, None);
-    let table: [(Stmt, FaultKind, u32); 5] = [
+    let pair = Vec::from_array(alloc, [Expr::Int(at(62), 1), Expr::Int(at(65), 1)])?;
+    let value = Vec::from_array(alloc, [Expr::Int(at(75), 1)])?;
+    let table: [(Stmt, FaultKind, u32); 7] = [
         (
             Stmt::Simple(Simple::Increment(word(U), at(70))),
             FaultKind::Unknown,
             25,
         ),
         (
-            Stmt::Simple(Simple::Increment(Expr::Int(at(60), 1), at(70))),
-            FaultKind::OutOfProfile,
+            Stmt::Simple(Simple::Decrement(Expr::Int(at(60), 1), at(70))),
+            FaultKind::NotAssignable,
             60,
         ),
         (
@@ -171,11 +177,91 @@ fn statements(rt: HostRuntime) -> Result<(), Fail> {
             60,
         ),
         (
-            Stmt::For(at(60), counting, Vec::new(alloc)),
-            FaultKind::OutOfProfile,
-            60,
+            Stmt::Simple(Simple::Update(pair, at(70), ArithmeticOp::Add, value)),
+            FaultKind::NotAssignable,
+            62,
         ),
-        (Stmt::Break(at(60)), FaultKind::OutOfProfile, 60),
+        (
+            Stmt::For(
+                at(60),
+                Clause::Range(Targets::Absent, at(64), word(U)),
+                Vec::new(alloc),
+            ),
+            FaultKind::Unknown,
+            25,
+        ),
+        (Stmt::Break(at(60)), FaultKind::BreakOutside, 60),
+        (Stmt::Continue(at(61)), FaultKind::BreakOutside, 61),
+    ];
+    for (statement, kind, offset) in table {
+        let main = main_with(alloc, statement)?;
+        let tree = tree(alloc, second_of_two(alloc)?, main)?;
+        assert!(rt; fails(alloc, &tree, kind, offset));
+    }
+    Ok(())
+}
+
+/// A loop of a header whose body is a `break`.
+fn leaving(alloc: Global, clause: Clause) -> Result<Stmt, Fail> {
+    let body = Vec::from_array(alloc, [Stmt::Break(at(85))])?;
+    Ok(Stmt::For(at(60), clause, body))
+}
+
+#[test]
+fn loops(rt: HostRuntime) -> Result<(), Fail> {
+    let alloc = rt.alloc();
+    let names = Vec::from_array(alloc, [name(A)])?;
+    let begin = Vec::from_array(alloc, [Expr::Int(at(62), 0)])?;
+    let init = Simple::Define(names, at(61), begin);
+    let less = CompareOp::Less;
+    let left = Box::new(alloc, word(A))?;
+    let right = Box::new(alloc, Expr::Int(at(66), 3))?;
+    let test = Expr::Binary(at(65), BinOp::Compare(less), left, right);
+    let post = Simple::Increment(word(A), at(70));
+    let keys = Vec::from_array(alloc, [name(A)])?;
+    let clauses: [Clause; 4] = [
+        Clause::Forever,
+        Clause::Counting(Some(init), Some(test), Some(post)),
+        Clause::Counting(None, None, None),
+        Clause::Range(Targets::Define(keys, at(61)), at(64), Expr::Int(at(70), 3)),
+    ];
+    for clause in clauses {
+        let main = main_with(alloc, leaving(alloc, clause)?)?;
+        let tree = tree(alloc, second_of_two(alloc)?, main)?;
+        let program = check(alloc, &tree);
+        assert!(rt; program.is_ok());
+    }
+    Ok(())
+}
+
+/// `var a, b` of a type, with these values
+fn variables(alloc: Global, type_span: (u32, u32), values: Vec<Expr>) -> Result<Stmt, Fail> {
+    let spec = ValueSpec {
+        names: Vec::from_array(alloc, [name(A), name(B)])?,
+        type_expr: Some(word(type_span)),
+        values,
+    };
+    Ok(Stmt::Var(at(60), Vec::from_array(alloc, [spec])?))
+}
+
+#[test]
+fn declared_variables(rt: HostRuntime) -> Result<(), Fail> {
+    let alloc = rt.alloc();
+    let main = main_with(alloc, variables(alloc, BOOL, Vec::new(alloc))?)?;
+    let good = tree(alloc, second_of_two(alloc)?, main)?;
+    let program = check(alloc, &good);
+    assert!(rt; program.is_ok());
+
+    let one = Vec::from_array(alloc, [Expr::Int(at(70), 1)])?;
+    let numbers = Vec::from_array(alloc, [Expr::Int(at(70), 1), Expr::Int(at(72), 1)])?;
+    let table: [(Stmt, FaultKind, u32); 3] = [
+        (variables(alloc, INT, one)?, FaultKind::ArgCount, 60),
+        (variables(alloc, BOOL, numbers)?, FaultKind::Mismatch, 70),
+        (
+            variables(alloc, U, Vec::new(alloc))?,
+            FaultKind::Unknown,
+            25,
+        ),
     ];
     for (statement, kind, offset) in table {
         let main = main_with(alloc, statement)?;

@@ -8,6 +8,6 @@ use Rattle.codegen.proofs.emitting.+emit.Given as goal
 
 abbrev pub invariant-emit_stmts-loop-s : goal.invariant-emit_stmts-loop-s
 invariant-emit_stmts-loop-s l =
-    (l.fn.code.items ++ sts_code (map func_of l.funcs) (argument_words (func_of l.func)) (func_of l.func).named (slots_in l.frame) (sts_of l.ss) (length l.fn.code.items)
-    ≡ l.code.items ++ sts_code (map func_of l.funcs) (argument_words (func_of l.func)) (func_of l.func).named (slots_in l.frame) (sts_of (drop l.s-index l.ss)) (length l.code.items))
-    × StsFitIn (map func_of l.funcs) (slots_in l.frame) l.frame.sites (result_words (func_of l.func)) (func_of l.func).named (sts_of (drop l.s-index l.ss))
+    (l.fn.code.items ++ sts_code (map func_of l.funcs) (argument_words (func_of l.func)) (func_of l.func).named (slots_in l.frame) (sts_of l.ss) l.h l.goals.out l.goals.again (length l.fn.code.items)
+    ≡ l.code.items ++ sts_code (map func_of l.funcs) (argument_words (func_of l.func)) (func_of l.func).named (slots_in l.frame) (sts_of (drop l.s-index l.ss)) l.h l.goals.out l.goals.again (length l.code.items))
+    × StsFitIn (map func_of l.funcs) (slots_in l.frame) l.frame.sites (result_words (func_of l.func)) (func_of l.func).named l.h (sts_of (drop l.s-index l.ss))

@@ -1,11 +1,12 @@
-use Rattle.std.proofs.Common.{rules, ◌+◌, ◌<◌, ◌∙◌, refl, sym, subst, length, map, arith}
+use Rattle.std.proofs.Common.{rules, ◌+◌, ◌<◌, ◌∙◌, refl, sym, ap, subst, length, map, arith}
 use Rattle.isa.specs.Code.{Tables, IsCode}
 use Rattle.typed.specs.View.{func_of, program_of}
 use Rattle.codegen.specs.Code.{code_of}
 use Rattle.codegen.specs.Correct.{Simulated}
 use Rattle.codegen.proofs.Stands.{compiled}
 use Rattle.codegen.proofs.Follows.{simulated}
-use Rattle.codegen.proofs.Whole.{fits, layout_at, longer, code_next, owners_next, entries_next, finished, is_code, main_there}
+use Rattle.codegen.proofs.Whole.{fits, layout_at, longer, code_next, owners_next, entries_next, finished, main_there}
+use Rattle.codegen.proofs.IsCode.{is_code}
 use Rattle.codegen.proofs.program.emit.Goals as goal
 
 pub add-requires-clause-fits : goal.add-requires-clause-fits
@@ -29,13 +30,13 @@ loop-func-preserved c =
 pub made-requires : goal.made-requires
 made-requires c =
     let p = c.args.program.now in let parts = c.loop-func.parts in let done = c.loop-func.invariant in
-    let same = finished p c.as_slice-funcs.result.now c.loop-func.func-index c.loop-func.number parts.instrs.items parts.owners.items parts.funcs.items c.as_slice-funcs.ensures.value (omega (arith, c.loop-func-test.false)) done.0 done.1 done.2 in
+    let same = finished p c.as_slice-funcs.result.now c.loop-func.func-index c.loop-func.number parts.instrs.items parts.owners.items parts.funcs.items _ c.as_slice-funcs.ensures.value (omega (arith, c.loop-func-test.false)) done.0 done.1 done.2 (c.in_ok-strings.ensures ∙ ap (λ x. map (λ bytes. bytes.items) x) c.deref.ensures.value) in
     subst (λ (t : Tables). IsCode t) (sym same) (is_code (program_of p) c.requires.form)
 
 pub returns : goal.returns
 returns c =
     let p = c.args.program.now in let parts = c.loop-func.parts in let done = c.loop-func.invariant in
-    let same = c.made.ensures ∙ finished p c.as_slice-funcs.result.now c.loop-func.func-index c.loop-func.number parts.instrs.items parts.owners.items parts.funcs.items c.as_slice-funcs.ensures.value (omega (arith, c.loop-func-test.false)) done.0 done.1 done.2 in
+    let same = c.made.ensures ∙ finished p c.as_slice-funcs.result.now c.loop-func.func-index c.loop-func.number parts.instrs.items parts.owners.items parts.funcs.items _ c.as_slice-funcs.ensures.value (omega (arith, c.loop-func-test.false)) done.0 done.1 done.2 (c.in_ok-strings.ensures ∙ ap (λ x. map (λ bytes. bytes.items) x) c.deref.ensures.value) in
     record {
       is = same;
       simulates = subst (λ (t : Tables). Simulated (program_of p) t) (sym same) (simulated (program_of p) (code_of (program_of p)) (compiled (program_of p)) c.requires.form refl);

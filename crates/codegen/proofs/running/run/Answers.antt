@@ -16,9 +16,9 @@ pub returns-in_err-words : goal.returns-in_err-words
 returns-in_err-words g c =
     let none : c.from_residual.result ≡ Err Fault.NoMemory = search rules in
     record {
-      runs = λ p main is item input.
+      runs = λ p main is items.
           let entry = subst (λ m. slice_get c.args.code.now.funcs m ≡ Some c.entry-first.result) (sym main) c.entry-first.ensures.is in
-          rw none (unready p c.args.code.now is item input c.args.stack_max c.args.steps c.entry-first.result entry _ 0);
+          rw none (unready p c.args.code.now is items c.args.stack_max c.args.steps c.entry-first.result entry _ 0);
     }
 
 pub returns : goal.returns
@@ -27,7 +27,7 @@ returns g c =
     let zeros : c.in_ok-words.words.items ≡ replicate fn.frame 0 = search rules in
     let fits : nat_le fn.frame c.args.stack_max ≡ true = le-leb fn.frame c.args.stack_max (omega (arith, c.if-asked-stack_max.false)) in
     record {
-      runs = λ p main is item input.
+      runs = λ p main is items.
           let entry = subst (λ m. slice_get c.args.code.now.funcs m ≡ Some fn) (sym main) c.entry-first.ensures.is in
-          rw c.answer.ensures (composed p c.args.code.now is item input c.args.stack_max c.args.steps fn entry _ _ _ _ _ _ _ fits zeros c.run-next.ensures.runs);
+          rw c.answer.ensures (composed p c.args.code.now is items c.args.stack_max c.args.steps fn entry _ _ _ _ _ _ _ fits zeros c.run-next.ensures.runs);
     }

@@ -1,4 +1,4 @@
-use Rattle.std.proofs.Common.{◌≡◌, ◌∙◌, ℕ, List, Err, subst}
+use Rattle.std.proofs.Common.{◌≡◌, ℕ, List, Err, subst}
 use Rattle.syntax.specs.Declarations.{Syntax, syntax_of}
 use Rattle.typed.specs.View.{program_of}
 use Rattle.parse_go.specs.Grammar.{IsText}

@@ -1,11 +1,22 @@
-use Rattle.expression_types.proofs.Leasts.{least_join}
+use Rattle.std.proofs.Common.{List, Option, subst}
+use Rattle.expression_types.specs.declared.fault.FaultKind.TheVariants.{ArgCount}
+use Rattle.expression_types.specs.declared.scope.ValueType.{ValueType}
+use Rattle.expression_types.specs.Least.{IsLeast}
+use Rattle.expression_types.specs.Faults.{fault, TakeFails}
+use Rattle.expression_types.specs.Passing.{seens}
 use Rattle.expression_types.proofs.calls.call_fault.Goals as goal
 
 pub returns-in-Printer : goal.returns-in-Printer
-returns-in-Printer c = rw (c.in-Printer.is, c.lesser.ensures) (least_join _ _ c.singles_fault.result c.range_faults.result c.singles_fault.ensures c.range_faults.ensures)
+returns-in-Printer c = rw (c.in-Printer.is) c.pieces_fault.ensures
+
+pub returns-in-Panicker : goal.returns-in-Panicker
+returns-in-Panicker c = rw (c.in-Panicker.is) c.panic_fault.ensures
 
 pub returns-in-Function : goal.returns-in-Function
-returns-in-Function c = rw (c.in-Function.is) c.take_fault.ensures
+returns-in-Function c =
+    let own = fault ArgCount c.args.pos in
+    let os = seens c.args.arguments.now in
+    rw (c.in-Function.is) (subst (λ (ps : List (Option ValueType)). IsLeast (TakeFails own ps os) c.take_fault.result) c.deref.ensures.value c.take_fault.ensures)
 
 pub returns-in-NoFunction : goal.returns-in-NoFunction
 returns-in-NoFunction c = rw (c.in-NoFunction.is) c.refused.ensures

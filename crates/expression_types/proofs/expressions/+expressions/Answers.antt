@@ -1,4 +1,4 @@
-use Rattle.std.proofs.Common.{◌≡◌, ◌⊎◌, IfOk, [], ◌∷◌, ◌++◌, ◌+◌, List, drop, true, false, Some, None, sym, ap, ◌∙◌, subst, refl, arith, append-nil, rules}
+use Rattle.std.proofs.Common.{◌≡◌, ◌⊎◌, IfOk, [], ◌∷◌, ◌++◌, ◌+◌, List, drop, true, Some, None, sym, ap, ◌∙◌, subst, refl, arith, append-nil, rules}
 use Rattle.std.specs.Option.{option_map}
 use Rattle.base.specs.declared.pos.Pos.{Pos}
 use Rattle.syntax.specs.declared.expression.Expr.{Expr}
@@ -9,17 +9,16 @@ use Rattle.expression_types.specs.declared.operand.Item.{Item}
 use Rattle.expression_types.specs.declared.expressions.Checked.{Checked}
 use Rattle.expression_types.specs.Least.{IsLeast, IsLesserWith, lesser}
 use Rattle.expression_types.specs.Scope.{scope_of}
-use Rattle.expression_types.specs.Typing.{takes_constants, takes_constant, operand_in, name_in, callee, spread_over, gives, seen}
-use Rattle.expression_types.specs.Faults.{FormFails, CallFails, FailsAsType, Fails, FailsInEach, FailsAsOperand, CalleeFails, SingleFails}
-use Rattle.expression_types.specs.Passing.{operand_of, gives_of, callee_of, seen_of, seens, pair_fault, single_fault}
+use Rattle.expression_types.specs.Typing.{has_rules, operand_in, name_in, callee, spread_over, gives, seen}
+use Rattle.expression_types.specs.Faults.{IsFault, FormFails, CallFails, FailsAsType, Fails, FailsInEach, FailsAsOperand, CalleeFails, pair_fault, single_fault}
+use Rattle.expression_types.specs.Passing.{operand_of, gives_of, callee_of, seen_of, seens}
 use Rattle.expression_types.proofs.Items.{from_one, nothing_left, pushed}
-use Rattle.expression_types.proofs.Leasts.{Kept, kept_start, kept_more, kept_end, least_join, if_ok}
-use Rattle.expression_types.proofs.Leaves.{single_least}
-use Rattle.expression_types.proofs.Nodes.{unary_least, binary_least, binary_left_out, call_least}
+use Rattle.expression_types.proofs.Leasts.{Kept, kept_start, kept_more, kept_end, least_join, if_ok, leaf}
+use Rattle.expression_types.proofs.Nodes.{unary_least, binary_least, call_least}
 use Rattle.expression_types.proofs.expressions.+expressions.Goals as goal
 
-pub check_callee-returns-in-Some-clause-fault : goal.check_callee-returns-in-Some-clause-fault
-check_callee-returns-in-Some-clause-fault t c =
+pub check_callee-returns-in_ok-callee-in-Some-clause-fault : goal.check_callee-returns-in_ok-callee-in-Some-clause-fault
+check_callee-returns-in_ok-callee-in-Some-clause-fault t c =
     let is : name_in (ex_of c.args.e.now) ≡ Some c.in-Some.name = sym c.name_in.ensures ∙ c.in-Some.is in
     rw (is) c.callee_name_fault.ensures
 
@@ -42,28 +41,15 @@ check_expr-returns-in_ok-right-in-Binary-clause-fault t c =
     let right = c.in_ok-right-in-Binary.right in
     let o = option_map operand_of left.operand in
     let p = option_map operand_of right.operand in
-    let taken : takes_constants op ≡ true = sym c.takes_constants.ensures ∙ c.if-takes_constants.true in
-    let l : IsLeast (FailsAsOperand text s (ex_of a)) left.fault = subst (λ (x : Expr). IsLeast (FailsAsOperand text s (ex_of x)) left.fault) c.deref-then-takes_constants.ensures c.in_ok-left-in-Binary.ensures.fault in
-    let r : IsLeast (FailsAsOperand text s (ex_of b)) right.fault = subst (λ (x : Expr). IsLeast (FailsAsOperand text s (ex_of x)) right.fault) c.deref-then-takes_constants-2.ensures c.in_ok-right-in-Binary.ensures.fault in
-    let o_is : o ≡ operand_in (gives text s (ex_of a)) = subst (λ (x : Expr). o ≡ operand_in (gives text s (ex_of x))) c.deref-then-takes_constants.ensures c.in_ok-left-in-Binary.ensures.operand in
-    let p_is : p ≡ operand_in (gives text s (ex_of b)) = subst (λ (x : Expr). p ≡ operand_in (gives text s (ex_of x))) c.deref-then-takes_constants-2.ensures c.in_ok-right-in-Binary.ensures.operand in
-    let at : left.pos ≡ first_place (ex_of a) = subst (λ (x : Expr). left.pos ≡ first_place (ex_of x)) c.deref-then-takes_constants.ensures c.in_ok-left-in-Binary.ensures.pos in
-    let further : right.pos ≡ first_place (ex_of b) = subst (λ (x : Expr). right.pos ≡ first_place (ex_of x)) c.deref-then-takes_constants-2.ensures c.in_ok-right-in-Binary.ensures.pos in
+    let l : IsLeast (FailsAsOperand text s (ex_of a)) left.fault = subst (λ (x : Expr). IsLeast (FailsAsOperand text s (ex_of x)) left.fault) c.deref-in-Binary.ensures c.in_ok-left-in-Binary.ensures.fault in
+    let r : IsLeast (FailsAsOperand text s (ex_of b)) right.fault = subst (λ (x : Expr). IsLeast (FailsAsOperand text s (ex_of x)) right.fault) c.deref-in-Binary-2.ensures c.in_ok-right-in-Binary.ensures.fault in
+    let o_is : o ≡ operand_in (gives text s (ex_of a)) = subst (λ (x : Expr). o ≡ operand_in (gives text s (ex_of x))) c.deref-in-Binary.ensures c.in_ok-left-in-Binary.ensures.operand in
+    let p_is : p ≡ operand_in (gives text s (ex_of b)) = subst (λ (x : Expr). p ≡ operand_in (gives text s (ex_of x))) c.deref-in-Binary-2.ensures c.in_ok-right-in-Binary.ensures.operand in
+    let at : left.pos ≡ first_place (ex_of a) = subst (λ (x : Expr). left.pos ≡ first_place (ex_of x)) c.deref-in-Binary.ensures c.in_ok-left-in-Binary.ensures.pos in
+    let further : right.pos ≡ first_place (ex_of b) = subst (λ (x : Expr). right.pos ≡ first_place (ex_of x)) c.deref-in-Binary-2.ensures c.in_ok-right-in-Binary.ensures.pos in
     let whole : (x : Checked) → x.fault ≡ lesser (lesser left.fault right.fault) (pair_fault left.pos right.pos op o p) → IsLeast (Fails text s (binary c.in-Binary.field-0 op (ex_of a) (ex_of b))) x.fault =
-    λ x is. rw (is, at, further) (binary_least text s c.in-Binary.field-0 op (ex_of a) (ex_of b) left.fault right.fault o p taken l r o_is p_is) in
+    λ x is. rw (is, at, further) (binary_least text s c.in-Binary.field-0 op (ex_of a) (ex_of b) left.fault right.fault o p l r o_is p_is) in
     rw (c.in-Binary.is) (if_ok _ _ c.pair.result whole c.pair.ensures.fault)
-
-pub check_expr-returns-else-takes_constants-clause-fault : goal.check_expr-returns-else-takes_constants-clause-fault
-check_expr-returns-else-takes_constants-clause-fault t c =
-    let text = c.args.text.now in
-    let s = scope_of c.args.scope.now in
-    let op = c.in-Binary.op in
-    let a : Expr = c.in-Binary.left.value in
-    let b : Expr = c.in-Binary.right.value in
-    let left_out : takes_constants op ≡ false = sym c.takes_constants.ensures ∙ c.if-takes_constants.false in
-    let found : IfOk c.check_left_out.result (λ r. IsLeast (λ f. Fails text s (ex_of a) f ⊎ FormFails (first_place (ex_of a)) f) r.fault) =
-    subst (λ (x : Expr). IfOk c.check_left_out.result (λ r. IsLeast (λ f. Fails text s (ex_of x) f ⊎ FormFails (first_place (ex_of x)) f) r.fault)) c.deref-else-takes_constants.ensures c.check_left_out.ensures.fault in
-    rw (c.in-Binary.is) (if_ok _ _ c.check_left_out.result (λ r h. binary_left_out text s c.in-Binary.field-0 op (ex_of a) (ex_of b) r.fault left_out h) found)
 
 pub check_expr-returns-in_ok-inner-in-Paren-clause-fault : goal.check_expr-returns-in_ok-inner-in-Paren-clause-fault
 check_expr-returns-in_ok-inner-in-Paren-clause-fault t c =
@@ -99,7 +85,7 @@ pub check_expr-returns-in-Selector-clause-fault : goal.check_expr-returns-in-Sel
 check_expr-returns-in-Selector-clause-fault t c =
     let text = c.args.text.now in
     let s = scope_of c.args.scope.now in
-    rw (c.in-Selector.is) (subst (λ (x : Expr). IfOk c.check_left_out-in-Selector.result (λ r. IsLeast (λ f. Fails text s (ex_of x) f ⊎ FormFails (first_place (ex_of x)) f) r.fault)) c.deref-in-Selector.ensures c.check_left_out-in-Selector.ensures.fault)
+    rw (c.in-Selector.is) (subst (λ (x : Expr). IfOk c.check_left_out.result (λ r. IsLeast (λ f. Fails text s (ex_of x) f ⊎ FormFails (first_place (ex_of x)) f) r.fault)) c.deref-in-Selector.ensures c.check_left_out.ensures.fault)
 
 pub check_expr-returns-in-Index-clause-fault : goal.check_expr-returns-in-Index-clause-fault
 check_expr-returns-in-Index-clause-fault t c =
@@ -129,7 +115,7 @@ check_left_out-returns-clause-fault t c =
 pub check_prefix-returns-clause-fault : goal.check_prefix-returns-clause-fault
 check_prefix-returns-clause-fault t c =
     let inner = c.in_ok-inner.inner in
-    let taken : takes_constant c.args.op ≡ true = sym c.takes_constant.ensures ∙ c.if-not-takes_constant.false in
+    let taken : has_rules c.args.op ≡ true = sym c.has_rules.ensures ∙ c.if-not-has_rules.false in
     rw (c.lesser.ensures, c.prefix_fault-own.ensures)
     (unary_least c.args.text.now (scope_of c.args.scope.now) c.args.pos c.args.op (ex_of c.args.inner.now) inner.fault (option_map operand_of inner.operand) taken c.in_ok-inner.ensures.fault c.in_ok-inner.ensures.operand)
 
@@ -180,4 +166,4 @@ check_single-returns-clause-fault t c =
     let e = ex_of c.args.e.now in
     let checked = c.in_ok-checked.checked in
     let given : option_map gives_of checked.gives ≡ gives text s e = c.in_ok-checked.ensures.gives in
-    rw (c.as_single.ensures.fault, given) (least_join (Fails text s e) (SingleFails (gives text s e)) checked.fault (single_fault (gives text s e)) c.in_ok-checked.ensures.fault (single_least (gives text s e)))
+    rw (c.as_single.ensures.fault, given) (least_join (Fails text s e) (IsFault (single_fault (gives text s e))) checked.fault (single_fault (gives text s e)) c.in_ok-checked.ensures.fault (leaf (single_fault (gives text s e))))

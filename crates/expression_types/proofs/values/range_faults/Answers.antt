@@ -2,11 +2,10 @@ use Rattle.std.proofs.Common.{◌≡◌, [], ◌∷◌, ◌+◌, List, drop, ari
 use Rattle.std.specs.Option.{option_map}
 use Rattle.expression_types.specs.declared.operand.Item.{Item}
 use Rattle.expression_types.specs.Typing.{operand_in}
-use Rattle.expression_types.specs.Faults.{RangeFails, OperandFails}
+use Rattle.expression_types.specs.Faults.{RangeFails, IsFault, range_fault}
 use Rattle.expression_types.specs.Passing.{gives_of, seens}
 use Rattle.expression_types.proofs.Items.{from_one, nothing_left}
-use Rattle.expression_types.proofs.Leasts.{Kept, kept_start, kept_more, kept_end}
-use Rattle.expression_types.proofs.Leaves.{operand_least}
+use Rattle.expression_types.proofs.Leasts.{Kept, kept_start, kept_more, kept_end, leaf}
 use Rattle.expression_types.proofs.values.range_faults.Goals as goal
 
 pub loop-item-init : goal.loop-item-init
@@ -19,7 +18,7 @@ loop-item-preserved c =
     let k = c.loop-item.item-index in
     let here : drop k xs ≡ item ∷ drop (k + 1) xs = from_one xs k item c.loop-item-test.true c.item-item.is in
     let kept = subst (λ (l : List Item). Kept (RangeFails (seens xs)) (RangeFails (seens l)) c.loop-item.fault) here c.loop-item.invariant in
-    rw (c.lesser-fault.ensures, c.int_fault.ensures) (kept_more (RangeFails (seens xs)) (OperandFails item.pos (operand_in (option_map gives_of item.gives))) (RangeFails (seens (drop (k + 1) xs))) c.loop-item.fault _ kept (operand_least item.pos (operand_in (option_map gives_of item.gives))))
+    rw (c.lesser-fault.ensures, c.range_fault.ensures) (kept_more (RangeFails (seens xs)) (IsFault (range_fault item.pos (operand_in (option_map gives_of item.gives)))) (RangeFails (seens (drop (k + 1) xs))) c.loop-item.fault _ kept (leaf (range_fault item.pos (operand_in (option_map gives_of item.gives)))))
 
 pub returns : goal.returns
 returns c =

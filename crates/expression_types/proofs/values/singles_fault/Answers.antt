@@ -1,11 +1,10 @@
 use Rattle.std.proofs.Common.{◌≡◌, [], ◌∷◌, ◌+◌, List, drop, arith, subst}
 use Rattle.std.specs.Option.{option_map}
 use Rattle.expression_types.specs.declared.operand.Item.{Item}
-use Rattle.expression_types.specs.Faults.{SinglesFail, SingleFails}
+use Rattle.expression_types.specs.Faults.{SinglesFail, IsFault, single_fault}
 use Rattle.expression_types.specs.Passing.{gives_of, seens}
 use Rattle.expression_types.proofs.Items.{from_one, nothing_left}
-use Rattle.expression_types.proofs.Leasts.{Kept, kept_start, kept_more, kept_end}
-use Rattle.expression_types.proofs.Leaves.{single_least}
+use Rattle.expression_types.proofs.Leasts.{Kept, kept_start, kept_more, kept_end, leaf}
 use Rattle.expression_types.proofs.values.singles_fault.Goals as goal
 
 pub loop-item-init : goal.loop-item-init
@@ -18,7 +17,7 @@ loop-item-preserved c =
     let k = c.loop-item.item-index in
     let here : drop k xs ≡ item ∷ drop (k + 1) xs = from_one xs k item c.loop-item-test.true c.item-item.is in
     let kept = subst (λ (l : List Item). Kept (SinglesFail (seens xs)) (SinglesFail (seens l)) c.loop-item.fault) here c.loop-item.invariant in
-    rw (c.lesser-fault.ensures, c.single_fault.ensures) (kept_more (SinglesFail (seens xs)) (SingleFails (option_map gives_of item.gives)) (SinglesFail (seens (drop (k + 1) xs))) c.loop-item.fault _ kept (single_least (option_map gives_of item.gives)))
+    rw (c.lesser-fault.ensures, c.single_fault.ensures) (kept_more (SinglesFail (seens xs)) (IsFault (single_fault (option_map gives_of item.gives))) (SinglesFail (seens (drop (k + 1) xs))) c.loop-item.fault _ kept (leaf (single_fault (option_map gives_of item.gives))))
 
 pub returns : goal.returns
 returns c =

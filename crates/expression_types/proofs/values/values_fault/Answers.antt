@@ -1,10 +1,10 @@
 use Rattle.std.proofs.Common.{sym, ◌∙◌}
 use Rattle.expression_types.specs.Typing.{many}
 use Rattle.expression_types.specs.Passing.{seens}
-use Rattle.expression_types.proofs.Nodes.{values_least}
+use Rattle.expression_types.proofs.Places.{values_least}
 use Rattle.expression_types.proofs.values.values_fault.Goals as goal
 
 pub returns-in-None : goal.returns-in-None
 returns-in-None c =
     let os = seens c.args.items.now in
-    values_least (many os) os c.singles_fault.result (sym c.many_count.ensures ∙ c.in-None.is) c.singles_fault.ensures
+    values_least (many os) os c.singles_fault.result (search (Rattle.std.proofs.Common.rules)) c.singles_fault.ensures

@@ -1,36 +1,112 @@
-use Rattle.std.proofs.Common.{rules, ◌≡◌, ◌+◌, ◌<◌, false, List, length, drop, ap, sym, subst, arith, ◌∙◌, IfOk}
-use Rattle.std.specs.Prelude.{is_some}
+use Rattle.std.proofs.Common.{rules, ◌≡◌, ◌+◌, ◌<◌, true, List, length, drop, ap, sym, subst, arith, ◌∙◌, IfOk}
 use Rattle.std.specs.Option.{option_map}
 use Rattle.syntax.specs.declared.statement.Stmt.{Stmt}
 use Rattle.syntax.specs.declared.statement.Else.{Else}
-use Rattle.syntax.specs.Statements.{Stms, stm_of, stms_of, els_of, guard_of, clause_of, simple_of, simple, choice, loop, block, give_back, else_block, else_if}
+use Rattle.syntax.specs.declared.statement.ValueSpec.{ValueSpec}
+use Rattle.syntax.specs.Statements.{Stm, Stms, Els, stm_of, stms_of, els_of, guard_of, clause_of, simple_of, value_specs_of, declare, simple, choice, loop, block, give_back, else_block, else_if}
 use Rattle.syntax.specs.Expressions.{exs_of}
 use Rattle.syntax.proofs.Views.{stmt_rows}
-use Rattle.expression_types.specs.Least.{IsLeast}
+use Rattle.expression_types.specs.Least.{IsLeast, lesser}
 use Rattle.expression_types.specs.Scope.{Scope, scope_of, opened, closed}
-use Rattle.typed.specs.View.{st_of, sts_of}
-use Rattle.typed.specs.Syntax.{done, next}
-use Rattle.expression_types.specs.Typing.{condition}
-use Rattle.types_go.specs.Statements.{is_left_out, choice_of, statements, alternative, behind_all}
-use Rattle.types_go.specs.StatementFaults.{FailsInStatements, FailsInElse}
-use Rattle.types_go.proofs.Growth.{grows_all, keeps_block}
+use Rattle.types_go.specs.Statements.{returns_view, header, clause_scope, behind_all}
+use Rattle.types_go.specs.StatementFaults.{FailsInSpecs, FailsInStatement, FailsInStatements, FailsInElse}
+use Rattle.types_go.proofs.Growth.{grows_header, grows_clause, grows_all, keeps_block, keeps_else}
 use Rattle.expression_types.proofs.Leasts.{if_ok}
 use Rattle.types_go.proofs.Sequences.{choice_least, loop_least}
 use Rattle.types_go.proofs.Sequences.{KeptStatements, split, nothing_left, one_more, given_all, at_end}
 use Rattle.types_go.proofs.blocks.+statements.Goals as goal
 
--- as many blocks are open behind a body as before it
+-- as many blocks are open behind a header as in it, and behind a body as before it
+pub check_else-check_inner-requires-in-If : goal.check_else-check_inner-requires-in-If
+check_else-check_inner-requires-in-If t c =
+    let inside : 0 < length c.check_guard.new.scope.names =
+    omega (
+      arith,
+      c.requires,
+      (grows_header c.args.text.now (scope_of c.args.scope.now) (guard_of c.in-If.guard).init).depth,
+      ap (λ (v : Scope). length v.blocks) c.in_ok-head-in-If.ensures.scope,
+    ) in
+    search (rules, stmt_rows, inside)
+
 pub check_else-check_else-requires : goal.check_else-check_else-requires
 check_else-check_else-requires t c =
     let inside : 0 < length c.check_inner-in-If.new.scope.names =
-    omega (arith, c.requires, ap length (keeps_block c.args.text.now (scope_of c.args.scope.now) (stms_of c.deref-in-If.result.now)).blocks, ap (λ (v : Scope). length v.blocks) c.in_ok-body-in-If.ensures.scope) in
+    omega (
+      arith,
+      c.requires,
+      (grows_header c.args.text.now (scope_of c.args.scope.now) (guard_of c.in-If.guard).init).depth,
+      ap (λ (v : Scope). length v.blocks) c.in_ok-head-in-If.ensures.scope,
+      ap length (keeps_block c.args.text.now (scope_of c.check_guard.new.scope) (stms_of c.deref-in-If.result.now)).blocks,
+      ap (λ (v : Scope). length v.blocks) c.in_ok-body-in-If.ensures.scope,
+    ) in
+    search (rules, stmt_rows, inside)
+
+pub check_else-close-requires : goal.check_else-close-requires
+check_else-close-requires t c =
+    omega (
+      arith,
+      c.requires,
+      (grows_header c.args.text.now (scope_of c.args.scope.now) (guard_of c.in-If.guard).init).depth,
+      ap (λ (v : Scope). length v.blocks) c.in_ok-head-in-If.ensures.scope,
+      ap length (keeps_block c.args.text.now (scope_of c.check_guard.new.scope) (stms_of c.deref-in-If.result.now)).blocks,
+      ap (λ (v : Scope). length v.blocks) c.in_ok-body-in-If.ensures.scope,
+      ap length (keeps_else c.args.text.now (scope_of c.check_inner-in-If.new.scope) (els_of c.deref-rest.result.now)).blocks,
+      ap (λ (v : Scope). length v.blocks) c.in_ok-rest-in-If.ensures.scope,
+    )
+
+pub check_stmt-check_inner-requires-in-If : goal.check_stmt-check_inner-requires-in-If
+check_stmt-check_inner-requires-in-If t c =
+    let inside : 0 < length c.check_guard.new.scope.names =
+    omega (
+      arith,
+      c.requires,
+      (grows_header c.args.text.now (scope_of c.args.scope.now) (guard_of c.in-If.guard).init).depth,
+      ap (λ (v : Scope). length v.blocks) c.in_ok-head-in-If.ensures.scope,
+    ) in
     search (rules, stmt_rows, inside)
 
 pub check_stmt-check_else-requires : goal.check_stmt-check_else-requires
 check_stmt-check_else-requires t c =
     let inside : 0 < length c.check_inner-in-If.new.scope.names =
-    omega (arith, c.requires, ap length (keeps_block c.args.text.now (scope_of c.args.scope.now) (stms_of c.deref-in-If.result.now)).blocks, ap (λ (v : Scope). length v.blocks) c.in_ok-body-in-If.ensures.scope) in
+    omega (
+      arith,
+      c.requires,
+      (grows_header c.args.text.now (scope_of c.args.scope.now) (guard_of c.in-If.guard).init).depth,
+      ap (λ (v : Scope). length v.blocks) c.in_ok-head-in-If.ensures.scope,
+      ap length (keeps_block c.args.text.now (scope_of c.check_guard.new.scope) (stms_of c.deref-in-If.result.now)).blocks,
+      ap (λ (v : Scope). length v.blocks) c.in_ok-body-in-If.ensures.scope,
+    ) in
     search (rules, stmt_rows, inside)
+
+pub check_stmt-close-requires : goal.check_stmt-close-requires
+check_stmt-close-requires t c =
+    omega (
+      arith,
+      c.requires,
+      (grows_header c.args.text.now (scope_of c.args.scope.now) (guard_of c.in-If.guard).init).depth,
+      ap (λ (v : Scope). length v.blocks) c.in_ok-head-in-If.ensures.scope,
+      ap length (keeps_block c.args.text.now (scope_of c.check_guard.new.scope) (stms_of c.deref-in-If.result.now)).blocks,
+      ap (λ (v : Scope). length v.blocks) c.in_ok-body-in-If.ensures.scope,
+      ap length (keeps_else c.args.text.now (scope_of c.check_inner-in-If.new.scope) (els_of c.in-If.rest)).blocks,
+      ap (λ (v : Scope). length v.blocks) c.in_ok-rest-in-If.ensures.scope,
+    )
+
+pub check_stmt-check_inner-requires-in-For : goal.check_stmt-check_inner-requires-in-For
+check_stmt-check_inner-requires-in-For t c =
+    let inside : 0 < length c.check_clause.new.scope.names =
+    omega (arith, c.requires, (grows_clause c.args.text.now (scope_of c.args.scope.now) (clause_of c.in-For.clause)).depth, ap (λ (v : Scope). length v.blocks) c.in_ok-head-in-For.ensures.scope) in
+    search (rules, stmt_rows, inside)
+
+pub check_stmt-close-requires-in-For : goal.check_stmt-close-requires-in-For
+check_stmt-close-requires-in-For t c =
+    omega (
+      arith,
+      c.requires,
+      (grows_clause c.args.text.now (scope_of c.args.scope.now) (clause_of c.in-For.clause)).depth,
+      ap (λ (v : Scope). length v.blocks) c.in_ok-head-in-For.ensures.scope,
+      ap length (keeps_block c.args.text.now (scope_of c.check_clause.new.scope) (stms_of c.deref-in-For.result.now)).blocks,
+      ap (λ (v : Scope). length v.blocks) c.in_ok-body-in-For.ensures.scope,
+    )
 
 pub check_inner-close-requires : goal.check_inner-close-requires
 check_inner-close-requires t c =
@@ -39,169 +115,174 @@ check_inner-close-requires t c =
 pub check_else-returns-in_ok-rest-in-If-clause-fault : goal.check_else-returns-in_ok-rest-in-If-clause-fault
 check_else-returns-in_ok-rest-in-If-clause-fault t c =
     let text = c.args.text.now in
-    let rets = c.args.returns in
+    let rets = returns_view c.args.returns.now in
+    let looped = c.args.looped in
     let s = scope_of c.args.scope.now in
     let at = c.in-If.pos in
     let g = guard_of c.in-If.guard in
-    let init : is_some g.init ≡ false = sym c.has_init.ensures ∙ c.if-has_init.false in
+    let h = header text s g.init in
     let ms = stms_of c.in-If.body.items in
-    let later : Else = c.in-If.rest.value in
-    let test = c.in_ok-test-in-If.test in
+    let inner = closed (behind_all text (opened h) ms) in
+    let tree : Else = c.in-If.rest.value in
+    let later = els_of tree in
+    let head = c.in_ok-head-in-If.head in
     let body = c.in_ok-body-in-If.body in
     let rest = c.in_ok-rest-in-If.rest in
-    let shape : els_of c.args.e.now ≡ else_if at g ms (els_of later) = grind (arith, stmt_rows) in
-    let b : IsLeast (FailsInStatements text rets (opened s) ms) body.fault =
-    subst (λ (l : List Stmt). IsLeast (FailsInStatements text rets (opened s) (stms_of l)) body.fault) c.deref-in-If.ensures.value c.in_ok-body-in-If.ensures.fault in
-    let scope : scope_of c.check_inner-in-If.new.scope ≡ closed (behind_all text (opened s) ms) =
-    c.in_ok-body-in-If.ensures.scope ∙ ap (λ (l : List Stmt). closed (behind_all text (opened s) (stms_of l))) c.deref-in-If.ensures.value in
-    let r1 : IsLeast (FailsInElse text rets (scope_of c.check_inner-in-If.new.scope) (els_of later)) rest.fault =
-    subst (λ (x : Else). IsLeast (FailsInElse text rets (scope_of c.check_inner-in-If.new.scope) (els_of x)) rest.fault) c.deref-rest.ensures c.in_ok-rest-in-If.ensures.fault in
-    let r : IsLeast (FailsInElse text rets (closed (behind_all text (opened s) ms)) (els_of later)) rest.fault =
-    subst (λ (z : Scope). IsLeast (FailsInElse text rets z (els_of later)) rest.fault) scope r1 in
-    let whole : IsLeast (FailsInElse text rets s (els_of c.args.e.now)) c.choice.result.fault =
-    rw (shape, c.choice.ensures.fault) (choice_least text rets s at g ms (els_of later) test.fault body.fault rest.fault init c.in_ok-test-in-If.ensures.fault b r) in
-    if_ok _ (λ l. IsLeast (FailsInElse text rets s (els_of c.args.e.now)) l.fault) c.alone-in-If.result (λ l e. subst (λ f. IsLeast (FailsInElse text rets s (els_of c.args.e.now)) f) (sym e) whole) c.alone-in-If.ensures.fault
+    let shape : els_of c.args.e.now ≡ else_if at g ms later = grind (arith, stmt_rows) in
+    let h_is : scope_of c.check_guard.new.scope ≡ h = c.in_ok-head-in-If.ensures.scope in
+    let b : IsLeast (FailsInStatements text rets looped (opened h) ms) body.fault =
+    subst (λ (v : Scope). IsLeast (FailsInStatements text rets looped (opened v) ms) body.fault) h_is
+    (subst (λ (l : List Stmt). IsLeast (FailsInStatements text rets looped (opened (scope_of c.check_guard.new.scope)) (stms_of l)) body.fault) c.deref-in-If.ensures.value c.in_ok-body-in-If.ensures.fault) in
+    let scope : scope_of c.check_inner-in-If.new.scope ≡ inner =
+    c.in_ok-body-in-If.ensures.scope ∙ ap (λ (l : List Stmt). closed (behind_all text (opened (scope_of c.check_guard.new.scope)) (stms_of l))) c.deref-in-If.ensures.value
+    ∙ ap (λ (v : Scope). closed (behind_all text (opened v) ms)) h_is in
+    let r : IsLeast (FailsInElse text rets looped inner later) rest.fault =
+    subst (λ (v : Scope). IsLeast (FailsInElse text rets looped v later) rest.fault) scope
+    (subst (λ (x : Else). IsLeast (FailsInElse text rets looped (scope_of c.check_inner-in-If.new.scope) (els_of x)) rest.fault) c.deref-rest.ensures c.in_ok-rest-in-If.ensures.fault) in
+    let whole : IsLeast (FailsInElse text rets looped s (els_of c.args.e.now)) (lesser (lesser head.fault body.fault) rest.fault) =
+    subst (λ (x : Els). IsLeast (FailsInElse text rets looped s x) (lesser (lesser head.fault body.fault) rest.fault)) (sym shape)
+    (choice_least text rets looped s at g ms later head.fault body.fault rest.fault c.in_ok-head-in-If.ensures.fault b r) in
+    if_ok _ (λ l. IsLeast (FailsInElse text rets looped s (els_of c.args.e.now)) l.fault) c.choice.result (λ l e. subst (λ f. IsLeast (FailsInElse text rets looped s (els_of c.args.e.now)) f) (sym e) whole) c.choice.ensures.fault
 
 pub check_stmt-returns-in_ok-rest-in-If-clause-fault : goal.check_stmt-returns-in_ok-rest-in-If-clause-fault
 check_stmt-returns-in_ok-rest-in-If-clause-fault t c =
     let text = c.args.text.now in
-    let rets = c.args.returns in
+    let rets = returns_view c.args.returns.now in
+    let looped = c.args.looped in
     let s = scope_of c.args.scope.now in
     let at = c.in-If.pos in
     let g = guard_of c.in-If.guard in
-    let init : is_some g.init ≡ false = sym c.has_init.ensures ∙ c.if-has_init.false in
+    let h = header text s g.init in
     let ms = stms_of c.in-If.body.items in
+    let inner = closed (behind_all text (opened h) ms) in
     let later = els_of c.in-If.rest in
-    let test = c.in_ok-test-in-If.test in
+    let head = c.in_ok-head-in-If.head in
     let body = c.in_ok-body-in-If.body in
     let rest = c.in_ok-rest-in-If.rest in
     let shape : stm_of c.args.s.now ≡ choice at g ms later = grind (arith, stmt_rows) in
-    let b : IsLeast (FailsInStatements text rets (opened s) ms) body.fault =
-    subst (λ (l : List Stmt). IsLeast (FailsInStatements text rets (opened s) (stms_of l)) body.fault) c.deref-in-If.ensures.value c.in_ok-body-in-If.ensures.fault in
-    let scope : scope_of c.check_inner-in-If.new.scope ≡ closed (behind_all text (opened s) ms) =
-    c.in_ok-body-in-If.ensures.scope ∙ ap (λ (l : List Stmt). closed (behind_all text (opened s) (stms_of l))) c.deref-in-If.ensures.value in
-    let r : IsLeast (FailsInElse text rets (closed (behind_all text (opened s) ms)) later) rest.fault =
-    subst (λ (z : Scope). IsLeast (FailsInElse text rets z later) rest.fault) scope c.in_ok-rest-in-If.ensures.fault in
-    rw (shape, c.choice.ensures.fault) (choice_least text rets s at g ms later test.fault body.fault rest.fault init c.in_ok-test-in-If.ensures.fault b r)
+    let h_is : scope_of c.check_guard.new.scope ≡ h = c.in_ok-head-in-If.ensures.scope in
+    let b : IsLeast (FailsInStatements text rets looped (opened h) ms) body.fault =
+    subst (λ (v : Scope). IsLeast (FailsInStatements text rets looped (opened v) ms) body.fault) h_is
+    (subst (λ (l : List Stmt). IsLeast (FailsInStatements text rets looped (opened (scope_of c.check_guard.new.scope)) (stms_of l)) body.fault) c.deref-in-If.ensures.value c.in_ok-body-in-If.ensures.fault) in
+    let scope : scope_of c.check_inner-in-If.new.scope ≡ inner =
+    c.in_ok-body-in-If.ensures.scope ∙ ap (λ (l : List Stmt). closed (behind_all text (opened (scope_of c.check_guard.new.scope)) (stms_of l))) c.deref-in-If.ensures.value
+    ∙ ap (λ (v : Scope). closed (behind_all text (opened v) ms)) h_is in
+    let r : IsLeast (FailsInElse text rets looped inner later) rest.fault = subst (λ (v : Scope). IsLeast (FailsInElse text rets looped v later) rest.fault) scope c.in_ok-rest-in-If.ensures.fault in
+    let whole : IsLeast (FailsInStatement text rets looped s (stm_of c.args.s.now)) (lesser (lesser head.fault body.fault) rest.fault) =
+    subst (λ (x : Stm). IsLeast (FailsInStatement text rets looped s x) (lesser (lesser head.fault body.fault) rest.fault)) (sym shape)
+    (choice_least text rets looped s at g ms later head.fault body.fault rest.fault c.in_ok-head-in-If.ensures.fault b r) in
+    if_ok _ (λ l. IsLeast (FailsInStatement text rets looped s (stm_of c.args.s.now)) l.fault) c.choice.result (λ l e. subst (λ f. IsLeast (FailsInStatement text rets looped s (stm_of c.args.s.now)) f) (sym e) whole) c.choice.ensures.fault
 
 pub check_stmt-returns-in_ok-body-in-For-clause-fault : goal.check_stmt-returns-in_ok-body-in-For-clause-fault
 check_stmt-returns-in_ok-body-in-For-clause-fault t c =
     let text = c.args.text.now in
-    let rets = c.args.returns in
+    let rets = returns_view c.args.returns.now in
+    let looped = c.args.looped in
     let s = scope_of c.args.scope.now in
     let at = c.in-For.pos in
     let clause = clause_of c.in-For.clause in
-    let form : is_left_out clause ≡ false = sym c.is_left_out.ensures ∙ c.if-is_left_out.false in
+    let h = clause_scope text s clause in
     let ms = stms_of c.in-For.body.items in
-    let test = c.in_ok-test-in-For.test in
+    let head = c.in_ok-head-in-For.head in
     let body = c.in_ok-body-in-For.body in
     let shape : stm_of c.args.s.now ≡ loop at clause ms = grind (arith, stmt_rows) in
-    let b : IsLeast (FailsInStatements text rets (opened s) ms) body.fault =
-    subst (λ (l : List Stmt). IsLeast (FailsInStatements text rets (opened s) (stms_of l)) body.fault) c.deref-in-For.ensures.value c.in_ok-body-in-For.ensures.fault in
-    rw (shape, c.repeated.ensures.fault) (loop_least text rets s at clause ms test.fault body.fault form c.in_ok-test-in-For.ensures.fault b)
+    let h_is : scope_of c.check_clause.new.scope ≡ h = c.in_ok-head-in-For.ensures.scope in
+    let b : IsLeast (FailsInStatements text rets true (opened h) ms) body.fault =
+    subst (λ (v : Scope). IsLeast (FailsInStatements text rets true (opened v) ms) body.fault) h_is
+    (subst (λ (l : List Stmt). IsLeast (FailsInStatements text rets true (opened (scope_of c.check_clause.new.scope)) (stms_of l)) body.fault) c.deref-in-For.ensures.value c.in_ok-body-in-For.ensures.fault) in
+    let whole : IsLeast (FailsInStatement text rets looped s (stm_of c.args.s.now)) (lesser head.fault body.fault) =
+    subst (λ (x : Stm). IsLeast (FailsInStatement text rets looped s x) (lesser head.fault body.fault)) (sym shape)
+    (loop_least text rets looped s at clause ms head.fault body.fault c.in_ok-head-in-For.ensures.fault b) in
+    if_ok _ (λ l. IsLeast (FailsInStatement text rets looped s (stm_of c.args.s.now)) l.fault) c.repeated.result (λ l e. subst (λ f. IsLeast (FailsInStatement text rets looped s (stm_of c.args.s.now)) f) (sym e) whole) c.repeated.ensures.fault
+
+pub check_else-returns-in-Block-clause-fault : goal.check_else-returns-in-Block-clause-fault
+check_else-returns-in-Block-clause-fault t c =
+    let text = c.args.text.now in
+    let rets = returns_view c.args.returns.now in
+    let looped = c.args.looped in
+    let s = scope_of c.args.scope.now in
+    let shape : els_of c.args.e.now ≡ else_block (stms_of c.in-Block.body.items) = grind (arith, stmt_rows) in
+    rw (shape) (subst (λ (l : List Stmt). IfOk c.check_inner.result (λ k. IsLeast (FailsInStatements text rets looped (opened s) (stms_of l)) k.fault)) c.deref.ensures.value c.check_inner.ensures.fault)
+
+pub check_stmt-returns-in_ok-simple-in-Simple-clause-fault : goal.check_stmt-returns-in_ok-simple-in-Simple-clause-fault
+check_stmt-returns-in_ok-simple-in-Simple-clause-fault t c =
+    let text = c.args.text.now in
+    let rets = returns_view c.args.returns.now in
+    let looped = c.args.looped in
+    let s = scope_of c.args.scope.now in
+    let own = c.in_ok-simple-in-Simple.simple.fault in
+    let shape : stm_of c.args.s.now ≡ simple (simple_of c.in-Simple.simple) = grind (arith, stmt_rows) in
+    let whole : IsLeast (FailsInStatement text rets looped s (stm_of c.args.s.now)) own =
+    subst (λ (x : Stm). IsLeast (FailsInStatement text rets looped s x) own) (sym shape) c.in_ok-simple-in-Simple.ensures.fault in
+    if_ok _ (λ l. IsLeast (FailsInStatement text rets looped s (stm_of c.args.s.now)) l.fault) c.line.result (λ l e. subst (λ f. IsLeast (FailsInStatement text rets looped s (stm_of c.args.s.now)) f) (sym e) whole) c.line.ensures.fault
+
+pub check_stmt-returns-in_ok-body-in-Block-clause-fault : goal.check_stmt-returns-in_ok-body-in-Block-clause-fault
+check_stmt-returns-in_ok-body-in-Block-clause-fault t c =
+    let text = c.args.text.now in
+    let rets = returns_view c.args.returns.now in
+    let looped = c.args.looped in
+    let s = scope_of c.args.scope.now in
+    let own = c.in_ok-body-in-Block.body.fault in
+    let shape : stm_of c.args.s.now ≡ block (stms_of c.in-Block.body.items) = grind (arith, stmt_rows) in
+    let whole : IsLeast (FailsInStatement text rets looped s (stm_of c.args.s.now)) own =
+    subst (λ (x : Stm). IsLeast (FailsInStatement text rets looped s x) own) (sym shape)
+    (subst (λ (l : List Stmt). IsLeast (FailsInStatements text rets looped (opened s) (stms_of l)) own) c.deref.ensures.value c.in_ok-body-in-Block.ensures.fault) in
+    if_ok _ (λ l. IsLeast (FailsInStatement text rets looped s (stm_of c.args.s.now)) l.fault) c.as_block.result (λ l e. subst (λ f. IsLeast (FailsInStatement text rets looped s (stm_of c.args.s.now)) f) (sym e) whole) c.as_block.ensures.fault
+
+pub check_stmt-returns-in_ok-given-in-Return-clause-fault : goal.check_stmt-returns-in_ok-given-in-Return-clause-fault
+check_stmt-returns-in_ok-given-in-Return-clause-fault t c =
+    let text = c.args.text.now in
+    let rets = returns_view c.args.returns.now in
+    let looped = c.args.looped in
+    let s = scope_of c.args.scope.now in
+    let own = c.in_ok-given-in-Return.given.fault in
+    let shape : stm_of c.args.s.now ≡ give_back c.in-Return.pos (exs_of c.in-Return.es.items) = grind (arith, stmt_rows) in
+    let whole : IsLeast (FailsInStatement text rets looped s (stm_of c.args.s.now)) own = rw (shape, sym c.deref-in-Return.ensures.value) c.in_ok-given-in-Return.ensures.fault in
+    if_ok _ (λ l. IsLeast (FailsInStatement text rets looped s (stm_of c.args.s.now)) l.fault) c.line-in-Return.result (λ l e. subst (λ f. IsLeast (FailsInStatement text rets looped s (stm_of c.args.s.now)) f) (sym e) whole) c.line-in-Return.ensures.fault
+
+pub check_stmt-returns-in-Var-clause-fault : goal.check_stmt-returns-in-Var-clause-fault
+check_stmt-returns-in-Var-clause-fault t c =
+    let text = c.args.text.now in
+    let s = scope_of c.args.scope.now in
+    let shape : stm_of c.args.s.now ≡ declare c.in-Var.pos (value_specs_of c.in-Var.specs.items) = grind (arith, stmt_rows) in
+    rw (shape) (subst (λ (l : List ValueSpec). IfOk c.check_var.result (λ k. IsLeast (FailsInSpecs text s c.in-Var.pos (value_specs_of l)) k.fault)) c.deref-in-Var.ensures.value c.check_var.ensures.fault)
 
 pub check_stmts-loop-s-preserved : goal.check_stmts-loop-s-preserved
 check_stmts-loop-s-preserved t c =
     let text = c.args.text.now in
-    let rets = c.args.returns in
+    let rets = returns_view c.args.returns.now in
+    let looped = c.args.looped in
     let start = scope_of c.args.scope.now in
     let all = stms_of c.args.ms.now in
     let s = scope_of c.loop-s.scope in
     let m : Stmt = c.s-item.result in
     let others = stms_of (drop (c.loop-s.s-index + 1) c.args.ms.now) in
     let values = option_map (λ v. v.items) c.loop-s.statements in
-    let kept = subst (λ (r : Stms). KeptStatements text rets start all r s values c.loop-s.fault) (split c.args.ms.now c.loop-s.s-index m c.loop-s-test.true c.s-item.is) c.loop-s.invariant in
-    let found = c.in_ok-line.ensures in
+    let kept = subst (λ (r : Stms). KeptStatements text rets looped start all r s values c.loop-s.fault) (split c.args.ms.now c.loop-s.s-index m c.loop-s-test.true c.s-item.is) c.loop-s.invariant in
+    let found = c.in_ok-lines.ensures in
     rw (found.scope, c.in_ok-statements.ensures, c.lesser-fault.ensures)
-    (one_more text rets start all (stm_of m) others s values c.in_ok-line.line.statement c.loop-s.fault c.in_ok-line.line.fault kept found.fault found.statement)
+    (one_more text rets looped start all (stm_of m) others s values c.in_ok-lines.lines.statements c.loop-s.fault c.in_ok-lines.lines.fault kept found.fault found.statements)
 
 pub check_stmts-returns-clause-statements : goal.check_stmts-returns-clause-statements
 check_stmts-returns-clause-statements t c =
     let text = c.args.text.now in
-    let rets = c.args.returns in
+    let rets = returns_view c.args.returns.now in
+    let looped = c.args.looped in
     let start = scope_of c.args.scope.now in
     let all = stms_of c.args.ms.now in
     let s = scope_of c.loop-s.scope in
     let values = option_map (λ v. v.items) c.loop-s.statements in
     let none = nothing_left c.args.ms.now c.loop-s.s-index (λ l. absurd (omega (arith, l, c.loop-s-test.false))) in
-    given_all text rets start all s c.loop-s.statements c.loop-s.fault (subst (λ (r : Stms). KeptStatements text rets start all r s values c.loop-s.fault) none c.loop-s.invariant)
-
-pub check_else-returns-in-Block-clause-fault : goal.check_else-returns-in-Block-clause-fault
-check_else-returns-in-Block-clause-fault t c =
-    let text = c.args.text.now in
-    let rets = c.args.returns in
-    let s = scope_of c.args.scope.now in
-    let shape : els_of c.args.e.now ≡ else_block (stms_of c.in-Block.body.items) = grind (arith, stmt_rows) in
-    rw (shape) (subst (λ (l : List Stmt). IfOk c.check_inner.result (λ k. IsLeast (FailsInStatements text rets (opened s) (stms_of l)) k.fault)) c.deref.ensures.value c.check_inner.ensures.fault)
-
-pub check_else-returns-in_ok-rest-in-If-clause-statements : goal.check_else-returns-in_ok-rest-in-If-clause-statements
-check_else-returns-in_ok-rest-in-If-clause-statements t c =
-    let text = c.args.text.now in
-    let rets = c.args.returns in
-    let s = scope_of c.args.scope.now in
-    let at = c.in-If.pos in
-    let g = guard_of c.in-If.guard in
-    let init : is_some g.init ≡ false = sym c.has_init.ensures ∙ c.if-has_init.false in
-    let ms = stms_of c.in-If.body.items in
-    let later : Else = c.in-If.rest.value in
-    let b = option_map (λ v. sts_of v.items) c.in_ok-body-in-If.body.statements in
-    let r = option_map (λ v. sts_of v.items) c.in_ok-rest-in-If.rest.statements in
-    let shape : els_of c.args.e.now ≡ else_if at g ms (els_of later) = grind (arith, stmt_rows) in
-    let scope : scope_of c.check_inner-in-If.new.scope ≡ closed (behind_all text (opened s) ms) =
-    c.in_ok-body-in-If.ensures.scope ∙ ap (λ (l : List Stmt). closed (behind_all text (opened s) (stms_of l))) c.deref-in-If.ensures.value in
-    let body : b ≡ statements text rets (opened s) ms = c.in_ok-body-in-If.ensures.statements ∙ ap (λ (l : List Stmt). statements text rets (opened s) (stms_of l)) c.deref-in-If.ensures.value in
-    let rest : r ≡ alternative text rets (closed (behind_all text (opened s) ms)) (els_of later) =
-    c.in_ok-rest-in-If.ensures.statements ∙ ap (λ (x : Else). alternative text rets (scope_of c.check_inner-in-If.new.scope) (els_of x)) c.deref-rest.ensures ∙ ap (λ z. alternative text rets z (els_of later)) scope in
-    let whole : option_map st_of c.choice.result.statement ≡ choice_of (condition text s g.condition) (statements text rets (opened s) ms) (alternative text rets (closed (behind_all text (opened s) ms)) (els_of later)) =
-    c.choice.ensures.statement ∙ ap (λ o. choice_of o b r) c.in_ok-test-in-If.ensures.value ∙ ap (λ o. choice_of (condition text s g.condition) o r) body ∙ ap (λ o. choice_of (condition text s g.condition) (statements text rets (opened s) ms) o) rest in
-    rw (shape, init) (if_ok _ _ c.alone-in-If.result (λ l e. e ∙ ap (option_map (λ x. next x done)) whole) c.alone-in-If.ensures.statements)
-
-pub check_stmt-returns-in_ok-rest-in-If-clause-statement : goal.check_stmt-returns-in_ok-rest-in-If-clause-statement
-check_stmt-returns-in_ok-rest-in-If-clause-statement t c =
-    let text = c.args.text.now in
-    let rets = c.args.returns in
-    let s = scope_of c.args.scope.now in
-    let at = c.in-If.pos in
-    let g = guard_of c.in-If.guard in
-    let init : is_some g.init ≡ false = sym c.has_init.ensures ∙ c.if-has_init.false in
-    let ms = stms_of c.in-If.body.items in
-    let later = els_of c.in-If.rest in
-    let b = option_map (λ v. sts_of v.items) c.in_ok-body-in-If.body.statements in
-    let r = option_map (λ v. sts_of v.items) c.in_ok-rest-in-If.rest.statements in
-    let shape : stm_of c.args.s.now ≡ choice at g ms later = grind (arith, stmt_rows) in
-    let scope : scope_of c.check_inner-in-If.new.scope ≡ closed (behind_all text (opened s) ms) =
-    c.in_ok-body-in-If.ensures.scope ∙ ap (λ (l : List Stmt). closed (behind_all text (opened s) (stms_of l))) c.deref-in-If.ensures.value in
-    let body : b ≡ statements text rets (opened s) ms = c.in_ok-body-in-If.ensures.statements ∙ ap (λ (l : List Stmt). statements text rets (opened s) (stms_of l)) c.deref-in-If.ensures.value in
-    let rest : r ≡ alternative text rets (closed (behind_all text (opened s) ms)) later = c.in_ok-rest-in-If.ensures.statements ∙ ap (λ z. alternative text rets z later) scope in
-    rw (shape, init)
-    (c.choice.ensures.statement ∙ ap (λ o. choice_of o b r) c.in_ok-test-in-If.ensures.value ∙ ap (λ o. choice_of (condition text s g.condition) o r) body ∙ ap (λ o. choice_of (condition text s g.condition) (statements text rets (opened s) ms) o) rest)
-
-pub check_stmt-returns-in_ok-body-in-Block-clause-fault : goal.check_stmt-returns-in_ok-body-in-Block-clause-fault
-check_stmt-returns-in_ok-body-in-Block-clause-fault t c =
-    let text = c.args.text.now in
-    let rets = c.args.returns in
-    let s = scope_of c.args.scope.now in
-    let shape : stm_of c.args.s.now ≡ block (stms_of c.in-Block.body.items) = grind (arith, stmt_rows) in
-    rw (shape, c.as_block.ensures.fault)
-    (subst (λ (l : List Stmt). IsLeast (FailsInStatements text rets (opened s) (stms_of l)) c.in_ok-body-in-Block.body.fault) c.deref.ensures.value c.in_ok-body-in-Block.ensures.fault)
+    given_all text rets looped start all s c.loop-s.statements c.loop-s.fault (subst (λ (r : Stms). KeptStatements text rets looped start all r s values c.loop-s.fault) none c.loop-s.invariant)
 
 pub check_stmts-returns-clause-fault : goal.check_stmts-returns-clause-fault
 check_stmts-returns-clause-fault t c =
     let text = c.args.text.now in
-    let rets = c.args.returns in
+    let rets = returns_view c.args.returns.now in
+    let looped = c.args.looped in
     let start = scope_of c.args.scope.now in
     let all = stms_of c.args.ms.now in
     let s = scope_of c.loop-s.scope in
     let values = option_map (λ v. v.items) c.loop-s.statements in
     let none = nothing_left c.args.ms.now c.loop-s.s-index (λ l. absurd (omega (arith, l, c.loop-s-test.false))) in
-    at_end text rets start all s values c.loop-s.fault (subst (λ (r : Stms). KeptStatements text rets start all r s values c.loop-s.fault) none c.loop-s.invariant)
-
-pub check_stmt-returns-in-Simple-clause-fault : goal.check_stmt-returns-in-Simple-clause-fault
-check_stmt-returns-in-Simple-clause-fault t c =
-    let shape : stm_of c.args.s.now ≡ simple (simple_of c.in-Simple.simple) = grind (arith, stmt_rows) in
-    rw (shape) c.check_simple.ensures.fault
-
-pub check_stmt-returns-in-Return-clause-fault : goal.check_stmt-returns-in-Return-clause-fault
-check_stmt-returns-in-Return-clause-fault t c =
-    let shape : stm_of c.args.s.now ≡ give_back c.in-Return.pos (exs_of c.in-Return.es.items) = grind (arith, stmt_rows) in
-    rw (shape, sym c.deref-in-Return.ensures.value) c.check_return.ensures.fault
+    at_end text rets looped start all s values c.loop-s.fault (subst (λ (r : Stms). KeptStatements text rets looped start all r s values c.loop-s.fault) none c.loop-s.invariant)

@@ -4,15 +4,14 @@ use Rattle.std.specs.Prelude.{is_some}
 use Rattle.expression_types.specs.Scope.{scope_of}
 use Rattle.types_go.specs.Statements.{are_distinct, has_all}
 use Rattle.types_go.specs.StatementFaults.{TwiceFails}
-use Rattle.expression_types.proofs.Leasts.{least_join}
-use Rattle.types_go.proofs.Leaves.{where_least}
+use Rattle.expression_types.proofs.Leasts.{least_join, leaf}
 use Rattle.types_go.proofs.Lines.{tested_none, not_twice}
-use Rattle.types_go.proofs.SettledStatements.{distinct_tested}
+use Rattle.types_go.proofs.SettledSimple.{distinct_tested}
 use Rattle.types_go.proofs.declaring.check_names.Goals as goal
 
 pub returns-clause-fault : goal.returns-clause-fault
 returns-clause-fault c =
-    rw (c.lesser.ensures, c.fault_where.ensures, c.has_all-all.ensures) (least_join _ _ c.in_ok-twice.twice _ c.in_ok-twice.ensures (where_least _ _))
+    rw (c.lesser.ensures, c.fault_where.ensures, c.has_all-all.ensures) (least_join _ _ c.in_ok-twice.twice _ c.in_ok-twice.ensures (leaf _))
 
 pub returns-clause-is_allowed : goal.returns-clause-is_allowed
 returns-clause-is_allowed c =

@@ -1,8 +1,8 @@
-use Rattle.std.proofs.Common.{◌≡◌, ◌+◌, ◌++◌, drop, map, length}
+use Rattle.std.proofs.Common.{◌≡◌, ◌+◌, drop, map, length}
 use Rattle.std.specs.Option.{option_map}
 use Rattle.typed.specs.View.{left_of}
 use Rattle.expression_types.specs.Scope.{scope_of}
-use Rattle.types_go.specs.Statements.{new_lefts, new_names}
+use Rattle.types_go.specs.Statements.{new_lefts}
 use Rattle.types_go.specs.StatementFaults.{NewNamesFail}
 use Rattle.expression_types.proofs.Items.{joined}
 use Rattle.expression_types.proofs.Leasts.{Kept}
@@ -11,6 +11,5 @@ use Rattle.types_go.proofs.declaring.check_new_lefts.Given as goal
 abbrev pub invariant-loop-name : goal.invariant-loop-name
 invariant-loop-name l =
     (new_lefts l.text (scope_of l.scope) (length (scope_of l.scope).sites) l.names
-    ≡ joined (option_map (λ v. map left_of v.items) l.lefts) (new_lefts l.text (scope_of l.scope) (length (scope_of l.scope).sites + length l.new_names.items) (drop l.name-index l.names)))
-    × ((new_names l.text (scope_of l.scope) l.names ≡ l.new_names.items ++ new_names l.text (scope_of l.scope) (drop l.name-index l.names))
-    × Kept (NewNamesFail l.text (scope_of l.scope) l.names) (NewNamesFail l.text (scope_of l.scope) (drop l.name-index l.names)) l.fault)
+    ≡ joined (option_map (λ v. map left_of v.items) l.lefts) (new_lefts l.text (scope_of l.scope) (length (scope_of l.scope).sites + l.count) (drop l.name-index l.names)))
+    × Kept (NewNamesFail l.text (scope_of l.scope) l.names) (NewNamesFail l.text (scope_of l.scope) (drop l.name-index l.names)) l.fault

@@ -3,11 +3,10 @@ use Rattle.syntax.specs.declared.expression.Name.{Name}
 use Rattle.syntax.specs.Expressions.{spelled}
 use Rattle.expression_types.specs.declared.fault.FaultKind.TheVariants.{Redeclared}
 use Rattle.types_go.specs.Statements.{noted, is_noted}
-use Rattle.expression_types.specs.Faults.{fault}
-use Rattle.types_go.specs.StatementFaults.{FailsWhere, TwiceFails}
+use Rattle.expression_types.specs.Faults.{fault, IsFault}
+use Rattle.types_go.specs.StatementFaults.{fault_where, TwiceFails}
 use Rattle.expression_types.proofs.Items.{no_name, from_there, nothing_left}
-use Rattle.expression_types.proofs.Leasts.{Kept, kept_start, kept_more, kept_end}
-use Rattle.types_go.proofs.Leaves.{where_least}
+use Rattle.expression_types.proofs.Leasts.{Kept, kept_start, kept_more, kept_end, leaf}
 use Rattle.types_go.proofs.declaring.twice_fault.Goals as goal
 
 pub loop-name-init : goal.loop-name-init
@@ -24,7 +23,7 @@ loop-name-preserved c =
     let here : drop k xs ≡ n ∷ rest = from_there xs k no_name c.loop-name-test.true in
     let kept = subst (λ (l : List Name). Kept (TwiceFails text ([] ∷ []) xs) (TwiceFails text names l) c.loop-name.fault) here c.loop-name.invariant in
     rw (c.in_ok-note.ensures, c.lesser-fault.ensures, c.fault_where.ensures, c.is_noted.ensures, c.spelled-bytes.ensures)
-    (kept_more (TwiceFails text ([] ∷ []) xs) (FailsWhere (is_noted names (spelled text n)) (fault Redeclared n.pos)) (TwiceFails text (noted names (spelled text n)) rest) c.loop-name.fault _ kept (where_least (is_noted names (spelled text n)) (fault Redeclared n.pos)))
+    (kept_more (TwiceFails text ([] ∷ []) xs) (IsFault (fault_where (is_noted names (spelled text n)) (fault Redeclared n.pos))) (TwiceFails text (noted names (spelled text n)) rest) c.loop-name.fault _ kept (leaf (fault_where (is_noted names (spelled text n)) (fault Redeclared n.pos))))
 
 pub returns : goal.returns
 returns c =

@@ -4,12 +4,10 @@ use Rattle.syntax.specs.FirstBytes.{first_place}
 use Rattle.syntax.specs.Expressions.{ex_of}
 use Rattle.expression_types.specs.Scope.{scope_of}
 use Rattle.expression_types.specs.Typing.{gives}
-use Rattle.expression_types.specs.Faults.{Fails}
+use Rattle.expression_types.specs.Faults.{IsFault, Fails}
 use Rattle.expression_types.specs.Passing.{gives_of}
-use Rattle.types_go.specs.StatementFaults.{ValueLeftFails}
-use Rattle.types_go.specs.Passing.{value_left_fault}
-use Rattle.expression_types.proofs.Leasts.{least_join}
-use Rattle.types_go.proofs.Leaves.{value_left_least}
+use Rattle.types_go.specs.StatementFaults.{value_left_fault}
+use Rattle.expression_types.proofs.Leasts.{least_join, leaf}
 use Rattle.types_go.proofs.declaring.value_fault.Goals as goal
 
 pub returns : goal.returns
@@ -21,4 +19,4 @@ returns c =
     let given : option_map gives_of checked.gives ≡ gives text s e = c.in_ok-checked.ensures.gives in
     let at : checked.pos ≡ first_place e = c.in_ok-checked.ensures.pos in
     rw (c.lesser.ensures, c.value_left_fault-own.ensures, given, at)
-    (least_join (Fails text s e) (ValueLeftFails (gives text s e) (first_place e)) checked.fault (value_left_fault (gives text s e) (first_place e)) c.in_ok-checked.ensures.fault (value_left_least (gives text s e) (first_place e)))
+    (least_join (Fails text s e) (IsFault (value_left_fault (gives text s e) (first_place e))) checked.fault (value_left_fault (gives text s e) (first_place e)) c.in_ok-checked.ensures.fault (leaf (value_left_fault (gives text s e) (first_place e))))

@@ -4,4 +4,4 @@ use Rattle.types_go.specs.Statements.{ends_after}
 use Rattle.types_go.proofs.endings.+endings.Given as goal
 
 abbrev pub invariant-ends_in_terminating-loop-s : goal.invariant-ends_in_terminating-loop-s
-invariant-ends_in_terminating-loop-s l = ends_after false (stms_of l.ms) ≡ ends_after l.ends (stms_of (drop l.s-index l.ms))
+invariant-ends_in_terminating-loop-s l = ends_after l.text false (stms_of l.ms) ≡ ends_after l.text l.ends (stms_of (drop l.s-index l.ms))

@@ -3,8 +3,8 @@ use Rattle.std.specs.Option.{option_map}
 use Rattle.types_go.specs.declared.slots.Slot.{Slot}
 use Rattle.typed.specs.View.{site_in}
 use Rattle.expression_types.specs.Scope.{scope_of}
-use Rattle.types_go.specs.Functions.{entry_in, behind_entry, entries, behind_entries}
-use Rattle.types_go.specs.FunctionFaults.{EntryFails, EntriesFail}
+use Rattle.types_go.specs.Entries.{entry_in, behind_entry, entries, behind_entries}
+use Rattle.types_go.specs.EntryFaults.{EntryFails, EntriesFail}
 use Rattle.types_go.proofs.Items.{no_slot}
 use Rattle.expression_types.proofs.Items.{from_there, nothing_left, joined, joined_start, joined_more, joined_none}
 use Rattle.expression_types.proofs.Leasts.{Kept, kept_start, kept_more, kept_end}

@@ -2,8 +2,8 @@ use Rattle.std.proofs.Common.{◌≡◌, drop, map}
 use Rattle.std.specs.Option.{option_map}
 use Rattle.typed.specs.View.{site_in}
 use Rattle.expression_types.specs.Scope.{scope_of}
-use Rattle.types_go.specs.Functions.{entries, behind_entries}
-use Rattle.types_go.specs.FunctionFaults.{EntriesFail}
+use Rattle.types_go.specs.Entries.{entries, behind_entries}
+use Rattle.types_go.specs.EntryFaults.{EntriesFail}
 use Rattle.expression_types.proofs.Items.{joined}
 use Rattle.expression_types.proofs.Leasts.{Kept}
 use Rattle.types_go.proofs.entries.check_entries.Given as goal

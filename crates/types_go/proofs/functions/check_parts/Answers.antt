@@ -1,4 +1,4 @@
-use Rattle.std.proofs.Common.{◌≡◌, ℕ, List, Some, map, ap, ◌∙◌, subst, arith, length}
+use Rattle.std.proofs.Common.{◌≡◌, ℕ, false, List, Some, map, ap, ◌∙◌, subst, arith, length}
 use Rattle.std.specs.Prelude.{◌==◌, ◌||◌}
 use Rattle.std.specs.Option.{option_map}
 use Rattle.std.proofs.lemmas.List.{length-map}
@@ -10,19 +10,21 @@ use Rattle.expression_types.specs.Least.{IsLeast, lesser}
 use Rattle.expression_types.specs.Scope.{Scope, scope_of, opened, closed}
 use Rattle.types_go.specs.declared.slots.Slot.{Slot}
 use Rattle.types_go.specs.declared.entries.Role.TheVariants.{Parameter, Result}
-use Rattle.types_go.specs.declared.statements.Returns.{Returns}
-use Rattle.types_go.specs.Statements.{statements, behind_all}
+use Rattle.types_go.specs.Entries.{entries, behind_entries}
+use Rattle.types_go.specs.EntryFaults.{EntriesFail}
+use Rattle.types_go.specs.Statements.{Returns, returns_view, statements, behind_all}
 use Rattle.types_go.specs.StatementFaults.{FailsInStatements}
-use Rattle.types_go.specs.Functions.{params_of, is_named, slot_of, slots_of, entries, param_entries, result_entries, behind_entries, behind_params, body_scope, behind_body, returns_of, body_of}
-use Rattle.types_go.specs.FunctionFaults.{EntriesFail}
+use Rattle.types_go.specs.Functions.{params_of, is_named, slot_of, slots_of, param_entries, result_entries, behind_params, body_scope, behind_body, returns_of, body_of}
 use Rattle.types_go.proofs.Growth.{grows_entries, grows_all}
 use Rattle.expression_types.proofs.Leasts.{least_join}
 use Rattle.types_go.proofs.Lines.{parts_of}
 use Rattle.types_go.proofs.functions.check_parts.Goals as goal
 
--- a number of results that was counted
-returns_is : (g : TreeFunction) (r : Returns) (n : ℕ) → r ≡ record { count = n; may_be_bare = (n == 0) || is_named g.results } → n ≡ length (params_of g.results) → r ≡ returns_of g
-returns_is g r n is n_is = is ∙ ap (λ m. record { count = m; may_be_bare = (m == 0) || is_named g.results }) n_is
+-- results that were looked at
+returns_is : (text : List ℕ) (g : TreeFunction) (r : Returns) (slots : List Slot) → r ≡ record { wanted = map (λ (slot : Slot). slot.value_type) slots; may_be_bare = (length slots == 0) || is_named g.results } → slots ≡ slots_of text g.results → r ≡ returns_of text g
+returns_is text g r slots is slots_are =
+    is ∙ ap (λ (l : List Slot). record { wanted = map (λ (slot : Slot). slot.value_type) l; may_be_bare = (length l == 0) || is_named g.results }) slots_are
+    ∙ ap (λ n. record { wanted = map (λ (slot : Slot). slot.value_type) (slots_of text g.results); may_be_bare = (n == 0) || is_named g.results }) (length-map (params_of g.results) (slot_of text))
 
 pub check_stmts-requires : goal.check_stmts-requires
 check_stmts-requires c =
@@ -73,18 +75,19 @@ returns-clause-func c =
     let rs : results ≡ result_entries text s g =
     c.in_ok-results.ensures.entries ∙ ap (λ v. entries text Result v c.deref-3.result.now) behind1 ∙ ap (λ (l : List Slot). entries text Result (behind_params text s g) l) rs_are in
     let counted : c.deref.result.now ≡ slots_of text g.results = c.deref.ensures.value ∙ c.in_ok-result_slots.ensures in
-    let count : length c.deref.result.now ≡ length (params_of g.results) = ap length counted ∙ length-map (params_of g.results) (slot_of text) in
-    let returns : c.returns_of-returns.result ≡ returns_of g = returns_is g c.returns_of-returns.result (length c.deref.result.now) c.returns_of-returns.ensures count in
+    let given = returns_view c.in_ok-returns.returns in
+    let returns : given ≡ returns_of text g = returns_is text g given c.deref.result.now c.in_ok-returns.ensures counted in
     let typed : body ≡ body_of text s g b =
-    c.in_ok-lines.ensures.statements ∙ ap (λ x. statements text x (scope_of c.check_entries-2.new.scope) (stms_of c.deref-4.result.now)) returns
-    ∙ ap (λ v. statements text (returns_of g) v (stms_of c.deref-4.result.now)) behind2 ∙ ap (λ (l : List Stmt). statements text (returns_of g) (body_scope text s g) (stms_of l)) c.deref-4.ensures.value in
+    c.in_ok-lines.ensures.statements ∙ ap (λ x. statements text x false (scope_of c.check_entries-2.new.scope) (stms_of c.deref-4.result.now)) returns
+    ∙ ap (λ v. statements text (returns_of text g) false v (stms_of c.deref-4.result.now)) behind2 ∙ ap (λ (l : List Stmt). statements text (returns_of text g) false (body_scope text s g) (stms_of l)) c.deref-4.ensures.value in
     let whole : scope_of c.close.new.scope ≡ behind_body text s g (Some b) =
     c.close.ensures ∙ ap closed (c.in_ok-lines.ensures.scope ∙ ap (λ v. behind_all text v (stms_of c.deref-4.result.now)) behind2 ∙ ap (λ (l : List Stmt). behind_all text (body_scope text s g) (stms_of l)) c.deref-4.ensures.value) in
     let first : c.site_count-first.result ≡ length s.sites = c.site_count-first.ensures in
     let last0 : c.site_count.result ≡ length (scope_of c.close.new.scope).sites = c.site_count.ensures in
     let last : c.site_count.result ≡ length (behind_body text s g (Some b)).sites = last0 ∙ ap (λ (v : Scope). length v.sites) whole in
-    let slots : c.deref-5.result.now ≡ slots_of text g.results = c.deref-5.ensures.value ∙ c.in_ok-result_slots.ensures in
-    c.in_ok-func.ensures.func ∙ parts_of text s g b c.deref-5.result.now c.site_count-first.result c.site_count.result params results body slots first last ps rs typed
+    let param_slots : c.deref-5.result.now ≡ slots_of text g.params = c.deref-5.ensures.value ∙ c.in_ok-param_slots.ensures in
+    let slots : c.deref-6.result.now ≡ slots_of text g.results = c.deref-6.ensures.value ∙ c.in_ok-result_slots.ensures in
+    c.in_ok-func.ensures.func ∙ parts_of text s g b c.deref-5.result.now c.deref-6.result.now c.site_count-first.result c.site_count.result params results body param_slots slots first last ps rs typed
 
 pub returns-clause-fault : goal.returns-clause-fault
 returns-clause-fault c =
@@ -103,16 +106,16 @@ returns-clause-fault c =
     let behind2 : scope_of c.check_entries-2.new.scope ≡ body_scope text s g =
     c.in_ok-results.ensures.scope ∙ ap (λ v. behind_entries text v c.deref-3.result.now) behind1 ∙ ap (λ (l : List Slot). behind_entries text (behind_params text s g) l) rs_are in
     let counted : c.deref.result.now ≡ slots_of text g.results = c.deref.ensures.value ∙ c.in_ok-result_slots.ensures in
-    let count : length c.deref.result.now ≡ length (params_of g.results) = ap length counted ∙ length-map (params_of g.results) (slot_of text) in
-    let returns : c.returns_of-returns.result ≡ returns_of g = returns_is g c.returns_of-returns.result (length c.deref.result.now) c.returns_of-returns.ensures count in
+    let given = returns_view c.in_ok-returns.returns in
+    let returns : given ≡ returns_of text g = returns_is text g given c.deref.result.now c.in_ok-returns.ensures counted in
     let x : IsLeast (EntriesFail text Parameter (opened s) (slots_of text g.params)) params =
     subst (λ v. IsLeast (EntriesFail text Parameter v (slots_of text g.params)) params) open1 (subst (λ (l : List Slot). IsLeast (EntriesFail text Parameter (scope_of c.open.new.scope) l) params) ps_are c.in_ok-params.ensures.fault) in
     let y : IsLeast (EntriesFail text Result (behind_params text s g) (slots_of text g.results)) results =
     subst (λ v. IsLeast (EntriesFail text Result v (slots_of text g.results)) results) behind1 (subst (λ (l : List Slot). IsLeast (EntriesFail text Result (scope_of c.check_entries.new.scope) l) results) rs_are c.in_ok-results.ensures.fault) in
-    let z : IsLeast (FailsInStatements text (returns_of g) (body_scope text s g) b.statements) lines =
-    subst (λ q. IsLeast (FailsInStatements text q (body_scope text s g) b.statements) lines) returns
-    (subst (λ v. IsLeast (FailsInStatements text c.returns_of-returns.result v b.statements) lines) behind2
-    (subst (λ (l : List Stmt). IsLeast (FailsInStatements text c.returns_of-returns.result (scope_of c.check_entries-2.new.scope) (stms_of l)) lines) c.deref-4.ensures.value c.in_ok-lines.ensures.fault)) in
+    let z : IsLeast (FailsInStatements text (returns_of text g) false (body_scope text s g) b.statements) lines =
+    subst (λ q. IsLeast (FailsInStatements text q false (body_scope text s g) b.statements) lines) returns
+    (subst (λ v. IsLeast (FailsInStatements text given false v b.statements) lines) behind2
+    (subst (λ (l : List Stmt). IsLeast (FailsInStatements text given false (scope_of c.check_entries-2.new.scope) (stms_of l)) lines) c.deref-4.ensures.value c.in_ok-lines.ensures.fault)) in
     rw (c.lesser-fault.ensures, c.lesser.ensures)
-    (least_join _ (FailsInStatements text (returns_of g) (body_scope text s g) b.statements) (lesser params results) lines
+    (least_join _ (FailsInStatements text (returns_of text g) false (body_scope text s g) b.statements) (lesser params results) lines
     (least_join (EntriesFail text Parameter (opened s) (slots_of text g.params)) (EntriesFail text Result (behind_params text s g) (slots_of text g.results)) params results x y) z)

@@ -2,10 +2,10 @@ use Rattle.std.proofs.Common.{◌≡◌}
 use Rattle.std.specs.Option.{option_map}
 use Rattle.syntax.specs.Declarations.{function_of}
 use Rattle.expression_types.specs.Scope.{scope_of, signature_of}
+use Rattle.expression_types.specs.Faults.{IsFault}
 use Rattle.types_go.specs.Functions.{params_of, signature_in}
-use Rattle.types_go.specs.FunctionFaults.{TypesFail, SizeFails}
-use Rattle.expression_types.proofs.Leasts.{least_join}
-use Rattle.types_go.proofs.Leaves.{size_least}
+use Rattle.types_go.specs.FunctionFaults.{size_fault, TypesFail}
+use Rattle.expression_types.proofs.Leasts.{least_join, leaf}
 use Rattle.types_go.proofs.functions.check_types.Goals as goal
 
 pub returns-clause-fault : goal.returns-clause-fault
@@ -15,6 +15,6 @@ returns-clause-fault c =
     let g = function_of c.args.f.now in
     let sig : option_map signature_of c.in_ok-signature.signature ≡ signature_in text g = c.in_ok-signature.ensures in
     rw (c.lesser-2.ensures, c.lesser.ensures, c.size_fault-own.ensures, sig)
-    (least_join _ (SizeFails (signature_in text g) g.name.pos) _ _
+    (least_join _ (IsFault (size_fault (signature_in text g) g.name.pos)) _ _
     (least_join (TypesFail text s (params_of g.params)) (TypesFail text s (params_of g.results)) c.types_fault-params_fault.result c.types_fault-results_fault.result c.types_fault-params_fault.ensures c.types_fault-results_fault.ensures)
-    (size_least (signature_in text g) g.name.pos))
+    (leaf (size_fault (signature_in text g) g.name.pos)))

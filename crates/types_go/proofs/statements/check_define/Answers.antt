@@ -1,4 +1,4 @@
-use Rattle.std.proofs.Common.{◌≡◌, ap, ◌∙◌, subst, length}
+use Rattle.std.proofs.Common.{◌≡◌, ap, ◌∙◌, subst}
 use Rattle.expression_types.specs.Least.{IsLeast}
 use Rattle.base.specs.declared.pos.Pos.{Pos}
 use Rattle.syntax.specs.Expressions.{exs_of}
@@ -7,6 +7,7 @@ use Rattle.expression_types.specs.Scope.{scope_of}
 use Rattle.expression_types.specs.Typing.{seen}
 use Rattle.expression_types.specs.Faults.{fault, TakeFails}
 use Rattle.types_go.specs.StatementFaults.{names_place}
+use Rattle.types_go.specs.Statements.{all_new_wanted}
 use Rattle.expression_types.specs.Passing.{seens}
 use Rattle.types_go.proofs.Lines.{define_least}
 use Rattle.types_go.proofs.statements.check_define.Goals as goal
@@ -18,9 +19,10 @@ returns-clause-fault c =
     let ns = c.args.names.now in
     let es = exs_of c.args.es.now in
     let listed = c.in_ok-right.right in
-    let os : seens c.deref.result.now ≡ seen text s es = ap seens c.deref.ensures.value ∙ c.in_ok-right.ensures.seen in
-    let taken : IsLeast (TakeFails (fault ArgCount (names_place ns c.args.pos)) (length ns) (seens c.deref.result.now)) c.take_fault-values_fault.result =
-    subst (λ (p : Pos). IsLeast (TakeFails (fault ArgCount p) (length ns) (seens c.deref.result.now)) c.take_fault-values_fault.result) c.names_pos.ensures c.take_fault-values_fault.ensures in
+    let ps : c.deref.result.now ≡ all_new_wanted text s ns = c.deref.ensures.value ∙ c.in_ok-wanted.ensures in
+    let os : seens c.deref-2.result.now ≡ seen text s es = ap seens c.deref-2.ensures.value ∙ c.in_ok-right.ensures.seen in
+    let taken : IsLeast (TakeFails (fault ArgCount (names_place ns c.args.pos)) c.deref.result.now (seens c.deref-2.result.now)) c.take_fault-values_fault.result =
+    subst (λ (p : Pos). IsLeast (TakeFails (fault ArgCount p) c.deref.result.now (seens c.deref-2.result.now)) c.take_fault-values_fault.result) c.names_pos.ensures c.take_fault-values_fault.ensures in
     rw (c.lesser-2.ensures, c.lesser-before.ensures, c.lesser.ensures)
-    (define_least text s ns c.args.pos es (seens c.deref.result.now) listed.fault c.take_fault-values_fault.result c.in_ok-left.left.fault c.in_ok-declaration.declaration.fault os
+    (define_least text s ns c.args.pos es c.deref.result.now (seens c.deref-2.result.now) listed.fault c.take_fault-values_fault.result c.in_ok-left.left.fault c.in_ok-declaration.declaration.fault ps os
     c.in_ok-right.ensures.fault taken c.in_ok-left.ensures.fault c.in_ok-declaration.ensures.fault)

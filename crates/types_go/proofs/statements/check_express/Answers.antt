@@ -4,12 +4,10 @@ use Rattle.syntax.specs.FirstBytes.{first_place}
 use Rattle.syntax.specs.Expressions.{ex_of}
 use Rattle.expression_types.specs.Scope.{scope_of}
 use Rattle.expression_types.specs.Typing.{gives}
-use Rattle.expression_types.specs.Faults.{Fails}
-use Rattle.types_go.specs.StatementFaults.{UseFails}
+use Rattle.expression_types.specs.Faults.{IsFault, Fails}
 use Rattle.expression_types.specs.Passing.{gives_of}
-use Rattle.types_go.specs.Passing.{use_fault}
-use Rattle.expression_types.proofs.Leasts.{least_join}
-use Rattle.types_go.proofs.Leaves.{use_least}
+use Rattle.types_go.specs.StatementFaults.{use_fault}
+use Rattle.expression_types.proofs.Leasts.{least_join, leaf}
 use Rattle.types_go.proofs.statements.check_express.Goals as goal
 
 pub returns-clause-fault : goal.returns-clause-fault
@@ -21,4 +19,4 @@ returns-clause-fault c =
     let given : option_map gives_of checked.gives ≡ gives text s e = c.in_ok-checked.ensures.gives in
     let at : checked.pos ≡ first_place e = c.in_ok-checked.ensures.pos in
     rw (c.lesser.ensures, c.use_fault-own.ensures, given, at)
-    (least_join (Fails text s e) (UseFails (gives text s e) (first_place e)) checked.fault (use_fault (gives text s e) (first_place e)) c.in_ok-checked.ensures.fault (use_least (gives text s e) (first_place e)))
+    (least_join (Fails text s e) (IsFault (use_fault (gives text s e) (first_place e))) checked.fault (use_fault (gives text s e) (first_place e)) c.in_ok-checked.ensures.fault (leaf (use_fault (gives text s e) (first_place e))))

@@ -4,6 +4,7 @@ use Rattle.syntax.specs.Expressions.{exs_of}
 use Rattle.expression_types.specs.Scope.{scope_of}
 use Rattle.expression_types.specs.Typing.{Seen, seen}
 use Rattle.expression_types.specs.Faults.{FailsInEach}
+use Rattle.types_go.specs.Statements.{returns_view}
 use Rattle.types_go.specs.StatementFaults.{ReturnFails}
 use Rattle.expression_types.specs.Passing.{seens}
 use Rattle.expression_types.proofs.Leasts.{least_join}
@@ -16,5 +17,5 @@ returns-clause-fault c =
     let es = exs_of c.args.es.now in
     let listed = c.in_ok-listed.listed in
     let os : seens c.deref.result.now ≡ seen text s es = ap seens c.deref.ensures.value ∙ c.in_ok-listed.ensures.seen in
-    rw (c.lesser.ensures) (least_join (FailsInEach text s es) (ReturnFails c.args.pos c.args.returns (seen text s es)) listed.fault c.return_fault-own.result c.in_ok-listed.ensures.fault
-    (subst (λ (l : List Seen). IsLeast (ReturnFails c.args.pos c.args.returns l) c.return_fault-own.result) os c.return_fault-own.ensures))
+    rw (c.lesser.ensures) (least_join (FailsInEach text s es) (ReturnFails c.args.pos (returns_view c.args.returns.now) (seen text s es)) listed.fault c.return_fault-own.result c.in_ok-listed.ensures.fault
+    (subst (λ (l : List Seen). IsLeast (ReturnFails c.args.pos (returns_view c.args.returns.now) l) c.return_fault-own.result) os c.return_fault-own.ensures))

@@ -1,11 +1,17 @@
-use Rattle.std.proofs.Common.{◌≡◌, false, sym, ◌∙◌, length}
+use Rattle.std.proofs.Common.{◌≡◌, false, List, Option, sym, ◌∙◌, subst, length}
 use Rattle.std.specs.Prelude.{◌==◌}
+use Rattle.expression_types.specs.declared.fault.FaultKind.TheVariants.{ResultCount}
+use Rattle.expression_types.specs.declared.scope.ValueType.{ValueType}
+use Rattle.expression_types.specs.Least.{IsLeast}
+use Rattle.expression_types.specs.Faults.{fault, TakeFails}
 use Rattle.expression_types.specs.Passing.{seens}
+use Rattle.types_go.specs.Statements.{returns_view}
 use Rattle.types_go.proofs.Lines.{return_least}
 use Rattle.types_go.proofs.statements.return_fault.Goals as goal
 
 pub returns-else-is_empty : goal.returns-else-is_empty
 returns-else-is_empty c =
-    let os = seens c.args.items.now in
-    let empty : (length c.args.items.now == 0) ≡ false = sym c.is_empty.ensures ∙ c.if-is_empty.false in
-    return_least c.args.pos c.args.returns c.args.items.now c.take_fault.result empty c.take_fault.ensures
+    let items = c.args.items.now in
+    let empty : (length items == 0) ≡ false = sym c.is_empty.ensures ∙ c.if-is_empty.false in
+    return_least c.args.pos (returns_view c.args.returns.now) items c.take_fault.result empty
+    (subst (λ (l : List (Option ValueType)). IsLeast (TakeFails (fault ResultCount c.args.pos) l (seens items)) c.take_fault.result) c.deref.ensures.value c.take_fault.ensures)

@@ -1,0 +1,239 @@
+//! The numbers of instructions of statements.
+ghost use Rattle.std.specs.Prelude.{◌≡◌, ◌+◌, ◌≤◌, IfOk, ◌∷◌, [], map};
+ghost use Rattle.typed.specs.Syntax.{argument_words};
+ghost use Rattle.typed.specs.View.{ex_of, exs_of_values, func_of, left_of, piece_of, site_numbers, st_of, sts_of, test_of};
+ghost use Rattle.codegen.specs.Code.{count_of, exs_size, leave_size, lefts_size, piece_size, pieces_size, renew_size, shown_size, size, st_size, sts_size, test_size, values_size};
+
+use crate::lengths::{count, expr_len, last_len, move_len, number, plus, test_len, values_len};
+use base::{NoMemory, SiteId};
+use typed::{Expr, Func, Left, Piece, Stmt, Values};
+
+/// A bump: a read, a constant, the operation and a write.
+const BUMP: u32 = 4;
+
+/// `range`: what stands before its test, and the test with its jump.
+const COUNT_HEAD: u32 = 3;
+
+/// The instructions at a round's end: a constant, the sum and a jump.
+const COUNT_TURN: u32 = 3;
+
+fn piece_len(funcs: &[Func], p: &Piece) -> Result<u32, NoMemory>
+    ensures { IfOk result (λ n. n ≡ piece_size (map func_of funcs.now) (piece_of p.now)) }
+{
+    match p {
+        Piece::Text(_) => Ok(0),
+        Piece::Shown(_, e) => expr_len(funcs, e),
+    }
+}
+
+fn pieces_len(funcs: &[Func], ps: &[Piece]) -> Result<u32, NoMemory>
+    ensures { IfOk result (λ n. n ≡ pieces_size (map func_of funcs.now) (map piece_of ps.now)) }
+{
+    let mut total = 0;
+    for p in ps {
+        let n = piece_len(funcs, p)?;
+        total = plus(total, n)?;
+    }
+    Ok(total)
+}
+
+// What shows operands: on a line there is a space before each but the first, and a newline.
+#[tactic(auto, using(crate::proofs::Pieces::line_twice))]
+fn shown_len(line: bool, ps: &[Piece]) -> Result<u32, NoMemory>
+    ensures { IfOk result (λ n. n ≡ shown_size line (map piece_of ps.now)) }
+{
+    let n = number(ps.len())?;
+    if !line {
+        return Ok(n);
+    }
+    if n == 0 {
+        return Ok(1);
+    }
+    plus(n, n)
+}
+
+fn print_len(funcs: &[Func], line: bool, ps: &[Piece]) -> Result<u32, NoMemory>
+    ensures { IfOk result (λ n. n ≡ pieces_size (map func_of funcs.now) (map piece_of ps.now) + shown_size line (map piece_of ps.now)) }
+{
+    let operands = pieces_len(funcs, ps)?;
+    let shown = shown_len(line, ps)?;
+    plus(operands, shown)
+}
+
+fn panic_len(funcs: &[Func], p: &Piece) -> Result<u32, NoMemory>
+    ensures { IfOk result (λ n. n ≡ piece_size (map func_of funcs.now) (piece_of p.now) + 1) }
+{
+    let n = piece_len(funcs, p)?;
+    plus(n, 1)
+}
+
+fn lefts_len(ls: &[Left]) -> Result<u32, NoMemory>
+    ensures { IfOk result (λ n. n ≡ lefts_size (map left_of ls.now)) }
+{
+    let mut total = 0;
+    for left in ls {
+        match left {
+            Left::Blank => {}
+            Left::New(_) => total = plus(total, 1)?,
+            Left::To(_) => total = plus(total, 1)?,
+        }
+    }
+    Ok(total)
+}
+
+fn assign_len(funcs: &[Func], ls: &[Left], values: &Values) -> Result<u32, NoMemory>
+    ensures { IfOk result (λ n. n ≡ exs_size (map func_of funcs.now) (exs_of_values values.now) + lefts_size (map left_of ls.now)) }
+{
+    let m = values_len(funcs, values)?;
+    let n = lefts_len(ls)?;
+    plus(m, n)
+}
+
+// A read stands before the operand, the operation and a write behind it.
+fn update_len(funcs: &[Func], e: &Expr) -> Result<u32, NoMemory>
+    ensures { IfOk result (λ n. n ≡ 1 + size (map func_of funcs.now) (ex_of e.now) + 2) }
+{
+    let n = expr_len(funcs, e)?;
+    plus(n, 3)
+}
+
+// So many values become the results, which have these names or none.
+fn given_len(count: u64, named: &[SiteId]) -> Result<u32, NoMemory>
+    ensures { IfOk result (λ n. n ≡ values_size count (map (λ site. site.0) named.now)) }
+{
+    if named.is_empty() {
+        return Ok(move_len(count));
+    }
+    if count == 0 {
+        return Ok(0);
+    }
+    number(named.len())
+}
+
+// The end of a function whose results have these names or none.
+#[tactic(auto, using(crate::proofs::Pieces::named_twice))]
+fn leave_len(named: &[SiteId]) -> Result<u32, NoMemory>
+    ensures { IfOk result (λ n. n ≡ leave_size (map (λ site. site.0) named.now)) }
+{
+    let n = number(named.len())?;
+    let twice = plus(n, n)?;
+    plus(twice, 1)
+}
+
+fn return_len(funcs: &[Func], func: &Func, values: &Values) -> Result<u32, NoMemory>
+    ensures { IfOk result (λ n. n ≡ exs_size (map func_of funcs.now) (exs_of_values values.now)
+        + (values_size (count_of (map func_of funcs.now) (exs_of_values values.now)) (func_of func.now).named + leave_size (func_of func.now).named)) }
+{
+    let n = values_len(funcs, values)?;
+    let given = given_len(count(funcs, values), &func.named)?;
+    let leave = leave_len(&func.named)?;
+    let end = plus(given, leave)?;
+    plus(n, end)
+}
+
+// An `if` whose condition and branches have so many.
+fn choice_len(funcs: &[Func], e: &Expr, yes: u32, no: u32) -> Result<u32, NoMemory>
+    ensures { IfOk result (λ n. n ≡ size (map func_of funcs.now) (ex_of e.now) + 1 + yes + 1 + no) }
+{
+    let test = last_len(funcs, e)?;
+    let first = plus(test, yes)?;
+    let second = plus(first, 1)?;
+    plus(second, no)
+}
+
+/// The moves of a loop's variables to those of the next round.
+#[tactic(auto, using(crate::proofs::Pieces::renewed_twice))]
+pub fn renew_len(sites: &[SiteId]) -> Result<u32, NoMemory>
+    ensures { IfOk result (λ n. n ≡ renew_size (site_numbers sites.now)) }
+{
+    let n = number(sites.len())?;
+    plus(n, n)
+}
+
+// A loop whose body and post statement have so many.
+fn loop_len(
+    funcs: &[Func],
+    test: &Option<Expr>,
+    sites: &[SiteId],
+    body: u32,
+    post: u32,
+) -> Result<u32, NoMemory>
+    ensures { IfOk result (λ n. n ≡ test_size (map func_of funcs.now) (test_of test.now) + body + renew_size (site_numbers sites.now) + post + 1) }
+{
+    let header = test_len(funcs, test)?;
+    let renewal = renew_len(sites)?;
+    let first = plus(header, body)?;
+    let second = plus(first, renewal)?;
+    let third = plus(second, post)?;
+    plus(third, 1)
+}
+
+/// The write of a round's index.
+pub fn key_len(key: Left) -> u32
+    ensures len { result ≡ lefts_size (left_of key ∷ []) }
+    ensures few { result ≤ 1 }
+{
+    match key {
+        Left::Blank => 0,
+        Left::New(_) => 1,
+        Left::To(_) => 1,
+    }
+}
+
+// A `range` over a number whose body has so many.
+fn count_len(funcs: &[Func], e: &Expr, key: Left, body: u32) -> Result<u32, NoMemory>
+    ensures { IfOk result (λ n. n ≡ size (map func_of funcs.now) (ex_of e.now) + 1 + 2 + lefts_size (left_of key ∷ []) + body + 3) }
+{
+    let operand = expr_len(funcs, e)?;
+    let head = plus(operand, COUNT_HEAD + key_len(key))?;
+    let round = plus(head, body)?;
+    plus(round, COUNT_TURN)
+}
+
+#[cycle(lengths)]
+#[tactic(auto, using(typed::proofs::Rows::stmt_rows))]
+fn stmt_len(funcs: &[Func], func: &Func, s: &Stmt) -> Result<u32, NoMemory>
+    ensures { IfOk result (λ n. n ≡ st_size (map func_of funcs.now) (argument_words (func_of func.now)) (func_of func.now).named (st_of s.now)) }
+{
+    match s {
+        Stmt::Declare(sites) => number(sites.len()),
+        Stmt::Assign(ls, values) => assign_len(funcs, ls, values),
+        Stmt::Update(_, _, _, e) => update_len(funcs, e),
+        Stmt::Bump(_, _) => Ok(BUMP),
+        Stmt::Discard(values) => values_len(funcs, values),
+        Stmt::Block(ss) => stmts_len(funcs, func, ss),
+        Stmt::If(e, a, b) => {
+            let yes = stmts_len(funcs, func, a)?;
+            let no = stmts_len(funcs, func, b)?;
+            choice_len(funcs, e, yes, no)
+        }
+        Stmt::Loop(sites, test, post, body) => {
+            let inside = stmts_len(funcs, func, body)?;
+            let behind = stmts_len(funcs, func, post)?;
+            loop_len(funcs, test, sites, inside, behind)
+        }
+        Stmt::Count(e, key, body) => {
+            let inside = stmts_len(funcs, func, body)?;
+            count_len(funcs, e, *key, inside)
+        }
+        Stmt::Break => Ok(1),
+        Stmt::Continue => Ok(1),
+        Stmt::Return(values) => return_len(funcs, func, values),
+        Stmt::Print(line, ps) => print_len(funcs, *line, ps),
+        Stmt::Panic(_, p) => panic_len(funcs, p),
+        Stmt::Exit(_, e) => last_len(funcs, e),
+    }
+}
+
+/// Statements.
+#[cycle(lengths)]
+pub fn stmts_len(funcs: &[Func], func: &Func, ss: &[Stmt]) -> Result<u32, NoMemory>
+    ensures { IfOk result (λ n. n ≡ sts_size (map func_of funcs.now) (argument_words (func_of func.now)) (func_of func.now).named (sts_of ss.now)) }
+{
+    let mut total = 0;
+    for s in ss {
+        let n = stmt_len(funcs, func, s)?;
+        total = plus(total, n)?;
+    }
+    Ok(total)
+}

@@ -1,0 +1,13 @@
+use Rattle.std.proofs.Common.{◌≡◌, map, length}
+use Rattle.std.specs.Option.{option_map}
+use Rattle.std.specs.Vec.Iter.{into_iter_items, into_iter_len}
+use Rattle.typed.specs.View.{piece_of}
+use Rattle.expression_types.specs.Typing.{pieces}
+use Rattle.expression_types.specs.Passing.{seens}
+use Rattle.expression_types.proofs.Items.{joined}
+use Rattle.expression_types.proofs.values.pieces.Given as goal
+
+abbrev pub invariant-loop-item : goal.invariant-loop-item
+invariant-loop-item l =
+    (pieces (seens l.fn.items.items) ≡ joined (option_map (λ v. map piece_of v.items) l.pieces) (pieces (seens (into_iter_items l.item-iterator))))
+    × (into_iter_len l.item-iterator ≡ length (into_iter_items l.item-iterator))

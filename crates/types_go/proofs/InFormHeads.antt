@@ -1,0 +1,398 @@
+-- Typed headers and declarations are in form.
+use Rattle.std.proofs.Common.{◌≡◌, ℕ, suc, ◌+◌, ◌≤◌, Bool, true, false, cond, List, [], ◌∷◌, ◌⊎◌, inl, inr, map, Option, Some, None, refl, sym, ap, ◌∙◌, subst, arith, length}
+use Rattle.std.specs.Prelude.{option_and_then, is_some, not, ◌&&◌}
+use Rattle.std.specs.Option.{option_map}
+use Rattle.std.proofs.lemmas.List.{length-map}
+use Rattle.syntax.specs.declared.expression.Name.{Name}
+use Rattle.syntax.specs.Expressions.{Ex as TreeEx, Exs as TreeExs, some}
+use Rattle.syntax.specs.Expressions as expressions
+use Rattle.syntax.specs.Statements.{Simple, ValueSpec, Guard, Targets, no_targets, targets_assigned, targets_defined, Clause, forever, while_true, counting, ranging}
+use Rattle.syntax.specs.Statements as tree
+use Rattle.typed.specs.declared.program.Site.{Site}
+use Rattle.typed.specs.Syntax.{Ex, Left, St, Sts, Program, blank, new, to, declare, assign, update, bump, discard, block, choose, loop, range, break_off, go_on, give_back, print, raise, quit, done, int_type, bool_type}
+use Rattle.typed.specs.Form.{InScope, AllInScope, LeftsFit, new_sites, births, births_all, scope_behind, scope_after, TestFits, ExFits, StFits, StsFit, named_params as with_sites}
+use Rattle.expression_types.specs.declared.scope.ValueType.{ValueType}
+use Rattle.expression_types.specs.declared.scope.ValueType.TheVariants.{Int}
+use Rattle.expression_types.specs.Scope.{Scope, type_number, type_numbers, opened}
+use Rattle.expression_types.specs.Typing.{same_type, type_of, as_value, operand_in, taken, value_types, name_in, type_in, gives, seen, condition, test}
+use Rattle.types_go.specs.declared.slots.Slot.{Slot}
+use Rattle.types_go.specs.declared.entries.Role.TheVariants.{Parameter}
+use Rattle.types_go.specs.Entries.{sites_of, entry_left, slot_with, slots_each, entries, behind_entries}
+use Rattle.types_go.specs.Statements.{Choice, Head, repeated, counted, alone, new_in, declared_in, headed, chosen, looped_by, key_of, as_int, number_type, all_accept, target_slots, is_bare, left, lefts, all_wanted, simple_statement, header, init_statement, post_simple, post_statement, guard_head, over, all_blank, target_lefts, clause_scope, clause_head, spec_type, spec_wanted, spec_slots_of, spec_slots, behind_spec, spec_entries, is_known, spec_declared, spec_assigned, spec_statement, taken_types}
+use Rattle.expression_types.proofs.Options.{and_then_some, map_some, none_some, same_some}
+use Rattle.expression_types.proofs.InForm.{Agrees, AreAccepted, OptionalFits, same_type_same, value_fits, operand_fits, maybe_fits, taken_fits, gives_fit, seen_fit, condition_fits, test_fits}
+use Rattle.types_go.proofs.SettledEntries.{allowed_is}
+use Rattle.types_go.proofs.SettledSimple.{assignment_some}
+use Rattle.types_go.proofs.Growth.{Extends, extends_twice, grows_simple, grows_entries}
+use Rattle.types_go.proofs.Visible.{Visible, visible_opened}
+use Rattle.types_go.proofs.InFormEntries.{HasSites, SlotsHave, each_have, with_have, sites_long, left_sites, left_scope, named_scope_of, lefts_of_params, next_of_params, EntriesFit, entries_fit}
+use Rattle.types_go.proofs.InFormSimple.{Formed, StFormed, Still, OldFit, accepted_long, known_all, lefts_fit, simple_still, simple_formed}
+
+-- ---- init statements
+
+abbrev pub init_births : Option St → ℕ
+init_births None = 0
+init_births (Some t) = births t
+
+abbrev pub init_scope : List ℕ → Option St → List ℕ
+init_scope scope None = scope
+init_scope scope (Some t) = scope_after scope t
+
+-- all that was in scope is in a wider one
+widened : (v : ℕ) (scope : List ℕ) (ls : List Left) → InScope v scope → InScope v (scope_behind scope ls)
+widened v scope [] h = h
+widened v scope (blank ∷ ls) h = widened v scope ls h
+widened v scope (to q ∷ ls) h = widened v scope ls h
+widened v scope (new site ∷ ls) h = widened v (site ∷ scope) ls (inr h)
+
+new_in_scope : (scope : List ℕ) (ls : List Left) → AllInScope (scope_behind scope ls) (new_in ls)
+new_in_scope scope [] = tt
+new_in_scope scope (blank ∷ ls) = new_in_scope scope ls
+new_in_scope scope (to q ∷ ls) = new_in_scope scope ls
+new_in_scope scope (new site ∷ ls) = (widened site (site ∷ scope) ls (inl refl), new_in_scope (site ∷ scope) ls)
+
+declared_in_scope : (scope : List ℕ) (i : Option St) → AllInScope (init_scope scope i) (declared_in i)
+declared_in_scope scope None = tt
+declared_in_scope scope (Some (assign ls es)) = new_in_scope scope ls
+declared_in_scope scope (Some (declare sites)) = tt
+declared_in_scope scope (Some (update at q op e)) = tt
+declared_in_scope scope (Some (bump q op)) = tt
+declared_in_scope scope (Some (discard es)) = tt
+declared_in_scope scope (Some (block ss)) = tt
+declared_in_scope scope (Some (choose e a b)) = tt
+declared_in_scope scope (Some (loop sites test1 post body)) = tt
+declared_in_scope scope (Some (range o key value body)) = tt
+declared_in_scope scope (Some break_off) = tt
+declared_in_scope scope (Some go_on) = tt
+declared_in_scope scope (Some (give_back es)) = tt
+declared_in_scope scope (Some (print line ps)) = tt
+declared_in_scope scope (Some (raise at q)) = tt
+declared_in_scope scope (Some (quit at e)) = tt
+
+-- ---- an int that a `range` goes over
+
+given_types : (t : ValueType) (ps : List (Option ValueType)) → all_accept (Some t) ps ≡ true → AreAccepted ps (map (λ (p : Option ValueType). t) ps)
+given_types t [] is = tt
+given_types t (None ∷ ps) is = given_types t ps is
+given_types t (Some s ∷ ps) is = by (λ is1. given_types t ps is1) (same_type s t) refl is
+  where
+    by : (all_accept (Some t) ps ≡ true → AreAccepted ps (map (λ (p : Option ValueType). t) ps)) → (b : Bool) → same_type s t ≡ b → (b && all_accept (Some t) ps) ≡ true → (s ≡ t) × AreAccepted ps (map (λ (p : Option ValueType). t) ps)
+    by later true same1 is1 = (same_type_same s t same1, later is1)
+    by later false same1 is1 = cc is1
+
+-- a blank left side has no site
+alone_sites : (key : Left) → new_sites (key ∷ blank ∷ []) ≡ new_sites (key ∷ [])
+alone_sites blank = refl
+alone_sites (new site) = refl
+alone_sites (to q) = refl
+
+-- names that ask for a type get it
+accepted_same : (t : ValueType) (ns : List Name) (ts : List ValueType) → AreAccepted (map (λ (n : Name). Some t) ns) ts → map (λ (n : Name). t) ns ≡ ts
+accepted_same t [] [] all = refl
+accepted_same t [] (u ∷ ts) all = absurd all
+accepted_same t (n ∷ ns) [] all = absurd all
+accepted_same t (n ∷ ns) (u ∷ ts) all = ap (λ l. t ∷ l) (accepted_same t ns ts all.1) ∙ ap (λ (x : ValueType). x ∷ ts) all.0
+
+module _ (text : List ℕ) (p : Program) (all : List Site) (has : HasSites p all) (wanted1 : List ℕ) (named : ℕ) where
+  abbrev pub Formed1 : (looped : Bool) → Scope → List ℕ → Scope → St → Type 0
+  Formed1 looped s scope after t = StFormed text p all has wanted1 named looped s scope after t
+
+  abbrev pub StsFormed : (looped : Bool) → Scope → List ℕ → Scope → Sts → Type 0
+  StsFormed looped s scope after b = Formed s after (births_all b) (λ m n. StsFit p wanted1 named looped scope m n b)
+
+  -- a header's init statement between the scope outside and that behind it
+  pub record InitFits (looped : Bool) (s : Scope) (scope : List ℕ) (h : Scope) (i : Option St) : Type 0 where
+    pub visible : Visible h (init_scope scope i)
+    pub headed_fits : (after : Scope) (t : St) → ((sc : List ℕ) → scope_after sc t ≡ sc) → Formed1 looped h (init_scope scope i) after t → Formed1 looped s scope after (headed i t)
+    pub keeps : (t : St) → ((sc : List ℕ) → scope_after sc t ≡ sc) → scope_after scope (headed i t) ≡ scope
+
+  no_init : (looped : Bool) (s : Scope) (scope : List ℕ) → Visible s scope → InitFits looped s scope (opened s) None
+  no_init looped s scope visible = record {
+    visible = visible_opened s scope visible;
+    headed_fits = λ after t still f. record { count = f.count; fit = f.fit };
+    keeps = λ t still. still scope;
+  }
+
+  some_init : (looped : Bool) (s : Scope) (scope : List ℕ) (h : Scope) (i : St) → Formed1 looped (opened s) scope h i × Visible h (scope_after scope i) → InitFits looped s scope h (Some i)
+  some_init looped s scope h i k = record {
+    visible = k.1;
+    headed_fits = λ after t still f. record {
+      count = omega (arith, k.0.count, f.count);
+      fit = λ n le. (k.0.fit n (omega (arith, le, f.count)), (subst (λ j. StFits p wanted1 named looped (scope_after scope i) j n t) (sym k.0.count) (f.fit n le), tt));
+    };
+    keeps = λ t still. refl;
+  }
+
+  module _ (s : Scope) (scope : List ℕ) (visible : Visible s scope) (agreed : (r : Scope) → r.signatures ≡ s.signatures → Extends r.sites all → Agrees r p) where
+    pub init_fits : (looped : Bool) (init : Option Simple) (i : Option St) → init_statement text s init ≡ Some i → Extends (header text s init).sites all → InitFits looped s scope (header text s init) i
+    init_fits looped None i is ext = subst (λ (o : Option St). InitFits looped s scope (opened s) o) (same_some is) (no_init looped s scope visible)
+    init_fits looped (Some m) i is ext =
+        let q = map_some Some (simple_statement text (opened s) m) i is in
+        let ext0 = extends_twice s.sites (header text s (Some m)).sites all (grows_simple text (opened s) m).sites ext in
+        subst (λ (o : Option St). InitFits looped s scope (header text s (Some m)) o) q.2
+        (some_init looped s scope (header text s (Some m)) q.0
+        (simple_formed text p all has wanted1 named looped (opened s) scope (visible_opened s scope visible) (agreed (opened s) refl ext0) m q.0 ext ext0 q.1))
+
+    -- ---- an `if`
+
+    -- its header in form
+    abbrev pub ChoiceFits : (looped : Bool) → Scope → Choice → Type 0
+    ChoiceFits looped h c = InitFits looped s scope h c.init × ExFits p (init_scope scope c.init) bool_type c.condition
+
+    pub guard_fits : (looped : Bool) (g : Guard) (c : Choice) → guard_head text s g ≡ Some c → Extends (header text s g.init).sites all → (header text s g.init).signatures ≡ s.signatures → ChoiceFits looped (header text s g.init) c
+    guard_fits looped g c is ext signed =
+        let h = header text s g.init in
+        let r = and_then_some (λ i. option_map (λ x. record { init = i; condition = x }) (condition text h g.condition)) (init_statement text s g.init) c is in
+        let q = map_some (λ x. record { init = r.0; condition = x }) (condition text h g.condition) c r.2 in
+        let i = init_fits looped g.init r.0 r.1 ext in
+        subst (λ (k : Choice). ChoiceFits looped h k) q.2 (i, condition_fits p (init_scope scope r.0) text h i.visible.shown (agreed h signed ext) g.condition q.0 q.1)
+
+    pub choice_formed : (looped : Bool) (h inner after : Scope) (c : Choice) (y z : Sts) → ChoiceFits looped h c → StsFormed looped h (init_scope scope c.init) inner y → StsFormed looped inner (init_scope scope c.init) after z
+        → Formed1 looped s scope after (chosen c y z)
+    choice_formed looped h inner after c y z fits a b =
+        fits.0.headed_fits after (choose c.condition y z) (λ sc. refl)
+        (record {
+          count = omega (arith, a.count, b.count);
+          fit = λ n le. (fits.1, a.fit n (omega (arith, le, b.count)), subst (λ j. StsFit p wanted1 named looped (init_scope scope c.init) j n z) (sym a.count) (b.fit n le));
+        })
+
+    -- ---- a loop
+
+    -- its header in form, and the scope of its body
+    abbrev pub HeadFits : (looped : Bool) → Scope → Head → Type 0
+    HeadFits looped h (repeated init test1 post) =
+        InitFits looped s scope h init × TestFits p (init_scope scope init) test1 × (births_all post ≡ 0) × ((m n : ℕ) → StsFit p wanted1 named false (init_scope scope init) m n post)
+    HeadFits looped h (counted e key) =
+        Visible h (scope_behind scope (key ∷ [])) × ExFits p scope int_type e × (length s.sites + new_sites (key ∷ []) ≡ length h.sites)
+        × ((n : ℕ) → length h.sites ≤ n → LeftsFit p scope (length s.sites) n (int_type ∷ []) (key ∷ []))
+
+    abbrev pub head_scope : Head → List ℕ
+    head_scope (repeated init test1 post) = init_scope scope init
+    head_scope (counted e key) = scope_behind scope (key ∷ [])
+
+    pub head_visible : (looped : Bool) (h : Scope) (k : Head) → HeadFits looped h k → Visible h (head_scope k)
+    head_visible looped h (repeated init test1 post) fits = fits.0.visible
+    head_visible looped h (counted e key) fits = fits.0
+
+    pub loop_formed : (looped : Bool) (h after : Scope) (k : Head) (y : Sts) → HeadFits looped h k → StsFormed true h (head_scope k) after y → Formed1 looped s scope after (looped_by k y)
+    loop_formed looped h after (repeated init test1 post) y fits a =
+        fits.0.headed_fits after (loop (declared_in init) test1 post y) (λ sc. refl)
+        (record {
+          count = omega (arith, a.count, fits.2);
+          fit = λ n le. (declared_in_scope scope init, fits.1, fits.3 (length h.sites) n, subst (λ j. StsFit p wanted1 named true (init_scope scope init) j n y) (moved fits.2) (a.fit n le));
+        })
+      where
+        moved : births_all post ≡ 0 → length h.sites ≡ length h.sites + births_all post
+        moved is = omega (arith, is)
+    loop_formed looped h after (counted e key) y fits a = record {
+      count = omega (arith, a.count, fits.2, alone_sites key);
+      fit = λ n le. (fits.1, fits.3 n (omega (arith, le, a.count)), subst (λ j. StsFit p wanted1 named true (scope_behind scope (key ∷ [])) j n y) (sym fits.2) (a.fit n le));
+    }
+
+    pub loop_keeps : (looped : Bool) (h : Scope) (k : Head) (y : Sts) → HeadFits looped h k → scope_after scope (looped_by k y) ≡ scope
+    loop_keeps looped h (repeated init test1 post) y fits = fits.0.keeps (loop (declared_in init) test1 post y) (λ sc. refl)
+    loop_keeps looped h (counted e key) y fits = refl
+
+    optional_test : (sc : List ℕ) (o : Option Ex) → OptionalFits p sc o → TestFits p sc o
+    optional_test sc None fits = tt
+    optional_test sc (Some e) fits = fits
+
+    -- a post statement bears no site
+    abbrev PostFits : List ℕ → Sts → Type 0
+    PostFits sc b = (births_all b ≡ 0) × ((m n : ℕ) → StsFit p wanted1 named false sc m n b)
+
+    post_fits : (h : Scope) (sc : List ℕ) (post : Option Simple) (b : Sts) → Visible h sc → Agrees h p → Extends h.sites all → post_statement text h post ≡ Some b → PostFits sc b
+    post_fits h sc None b v agrees ext is = subst (λ (x : Sts). PostFits sc x) (same_some is) (refl, λ m n. tt)
+    post_fits h sc (Some k) b v agrees ext is =
+        let q = map_some alone (post_simple text h k) b is in
+        let f = by k q.0 q.1 in
+        subst (λ (x : Sts). PostFits sc x) q.2 (omega (arith, f.0), λ m n. (f.1 m n, tt))
+      where
+        by : (m : Simple) (t : St) → post_simple text h m ≡ Some t → Still text p all has wanted1 named false sc t
+        by (tree.express e) t is1 = simple_still text p all has wanted1 named false h sc v agrees (tree.express e) t tt ext is1
+        by (tree.assign ls at es) t is1 = simple_still text p all has wanted1 named false h sc v agrees (tree.assign ls at es) t tt ext is1
+        by (tree.update ls at tree_op es) t is1 = simple_still text p all has wanted1 named false h sc v agrees (tree.update ls at tree_op es) t tt ext is1
+        by (tree.define ns at es) t is1 = absurd (none_some is1)
+        by (tree.increment e at) t is1 = simple_still text p all has wanted1 named false h sc v agrees (tree.increment e at) t tt ext is1
+        by (tree.decrement e at) t is1 = simple_still text p all has wanted1 named false h sc v agrees (tree.decrement e at) t tt ext is1
+
+    -- what gets the numbers
+    record KeyFits (h : Scope) (key : Left) : Type 0 where
+      shows : Visible h (scope_behind scope (key ∷ []))
+      count : length s.sites + new_sites (key ∷ []) ≡ length h.sites
+      fit : (n : ℕ) → length h.sites ≤ n → LeftsFit p scope (length s.sites) n (int_type ∷ []) (key ∷ [])
+
+    nothing_fits : KeyFits (opened s) blank
+    nothing_fits = record { shows = visible_opened s scope visible; count = omega arith; fit = λ n le. tt }
+
+    -- one left side
+    one_key : (l : List Left) (key : Left) → key_of l ≡ Some key → (l ≡ []) × (key ≡ blank) ⊎ (l ≡ key ∷ [])
+    one_key [] key is = inl (refl, sym (same_some is))
+    one_key (x ∷ []) key is = inr (ap (λ (y : Left). y ∷ []) (same_some is))
+    one_key (x ∷ y ∷ l) key is = absurd (none_some is)
+
+    lefts_long : (ls : TreeExs) (l : List Left) → lefts text (opened s) ls ≡ Some l → length (all_wanted text (opened s) ls) ≡ length l
+    lefts_long expressions.none l is = ap length (same_some is)
+    lefts_long (some e es) l is =
+        let r = and_then_some (λ k. option_map (λ ks. k ∷ ks) (lefts text (opened s) es)) (left text (opened s) (name_in e)) l is in
+        let q = map_some (λ ks. r.0 ∷ ks) (lefts text (opened s) es) l r.2 in
+        ap suc (lefts_long es q.0 q.1) ∙ ap length q.2
+
+    assigned_fits : (ls : TreeExs) (l : List Left) (key : Left) → Extends s.sites all → lefts text (opened s) ls ≡ Some l → all_accept (Some Int) (all_wanted text (opened s) ls) ≡ true → key_of l ≡ Some key → KeyFits (opened s) key
+    assigned_fits ls l key ext found accept is =
+        let ps = all_wanted text (opened s) ls in
+        let types = map (λ (q : Option ValueType). Int) ps in
+        by ps l (lefts_long ls l found)
+        (lefts_fit p text (opened s) scope (known_all text p all has (opened s) scope (visible_opened s scope visible) ext) ls types l (given_types Int ps accept) found) (one_key l key is)
+      where
+        by : (ps : List (Option ValueType)) (l1 : List Left) → length ps ≡ length l1 → OldFit p scope (map (λ (q : Option ValueType). Int) ps) l1 → (l1 ≡ []) × (key ≡ blank) ⊎ (l1 ≡ key ∷ []) → KeyFits (opened s) key
+        by ps l1 long old (inl k) = subst (λ (x : Left). KeyFits (opened s) x) (sym k.1) nothing_fits
+        by [] l1 long old (inr k) = let one1 : length l1 ≡ 1 = ap length k in absurd (omega (arith, long, one1))
+        by (w ∷ v ∷ ps) l1 long old (inr k) = let one1 : length l1 ≡ 1 = ap length k in absurd (omega (arith, long, one1))
+        by (w ∷ []) l1 long old (inr k) =
+            let sites_are : new_sites (key ∷ []) ≡ 0 = ap new_sites (sym k) ∙ old.sites in
+            record {
+              shows = subst (λ (w : List ℕ). Visible (opened s) w) (sym (ap (scope_behind scope) (sym k) ∙ old.behind scope)) (visible_opened s scope visible);
+              count = omega (arith, sites_are);
+              fit = λ n le. subst (λ (x : List Left). LeftsFit p scope (length s.sites) n (int_type ∷ []) x) k (old.fit (length s.sites) n);
+            }
+
+    defined_fits : (ns : List Name) (es : List (Option ℕ)) (key : Left) → Extends (behind_entries text (opened s) (map (slot_with (Some Int)) ns)).sites all → entries text Parameter (opened s) (map (slot_with (Some Int)) ns) ≡ Some es
+        → key_of (map entry_left es) ≡ Some key → KeyFits (behind_entries text (opened s) (map (slot_with (Some Int)) ns)) key
+    defined_fits ns es key ext found is =
+        let h = behind_entries text (opened s) (map (slot_with (Some Int)) ns) in
+        let f = entries_fit text p all has Parameter (opened s) scope (map (slot_with (Some Int)) ns) (map (λ (n : Name). Int) ns) es (visible_opened s scope visible) (with_have Int ns) found ext in
+        by ns es f (one_key (map entry_left es) key is)
+      where
+        by : (ns1 : List Name) (es1 : List (Option ℕ)) → EntriesFit text p (opened s) scope (map (slot_with (Some Int)) ns1) (map (λ (n : Name). Int) ns1) es1 → (map entry_left es1 ≡ []) × (key ≡ blank) ⊎ (map entry_left es1 ≡ key ∷ [])
+            → KeyFits (behind_entries text (opened s) (map (slot_with (Some Int)) ns1)) key
+        by [] [] f (inl k) = subst (λ (x : Left). KeyFits (opened s) x) (sym k.1) nothing_fits
+        by (n ∷ ns1) [] f k = let long = f.long in absurd (omega (arith, long))
+        by [] (e ∷ es1) f k = let long = f.long in absurd (omega (arith, long))
+        by (n ∷ ns1) (e ∷ es1) f (inl k) = let none1 : length (map entry_left (e ∷ es1)) ≡ 0 = ap length k.0 in absurd (omega (arith, none1))
+        by [] [] f (inr k) = let one1 : 0 ≡ length (key ∷ []) = ap length k in absurd (omega (arith, one1))
+        by (n ∷ m ∷ ns1) (e ∷ es1) f (inr k) =
+            let one1 : length (map entry_left (e ∷ es1)) ≡ 1 = ap length k in
+            let long = f.long in
+            let same1 = length-map (m ∷ ns1) (slot_with (Some Int)) in
+            let same2 = length-map es1 entry_left in
+            absurd (omega (arith, one1, long, same1, same2))
+        by (n ∷ []) (e ∷ es1) f (inr k) =
+            let h = behind_entries text (opened s) (map (slot_with (Some Int)) (n ∷ [])) in
+            let sites_are : new_sites (key ∷ []) ≡ with_sites (e ∷ es1) = ap new_sites (sym k) ∙ left_sites (e ∷ es1) in
+            record {
+              shows = subst (λ (w : List ℕ). Visible h w) (sym (ap (scope_behind scope) (sym k) ∙ left_scope scope (e ∷ es1))) f.visible;
+              count = omega (arith, sites_are, f.count);
+              fit = λ n1 le. subst (λ (x : List Left). LeftsFit p scope (length s.sites) n1 (int_type ∷ []) x) k (lefts_of_params p scope (length s.sites) n1 (int_type ∷ []) (e ∷ es1) f.fit (omega (arith, le, f.count)));
+            }
+
+    keys_fit : (t : Targets) (l : List Left) (key : Left) → Extends s.sites all → Extends (behind_entries text (opened s) (target_slots (Some Int) t)).sites all → target_lefts text (opened s) (Some Int) t ≡ Some l → key_of l ≡ Some key
+        → KeyFits (behind_entries text (opened s) (target_slots (Some Int) t)) key
+    keys_fit no_targets l key ext0 ext found is = subst (λ (x : Left). KeyFits (opened s) x) (same_some (ap (λ (y : List Left). key_of y) (same_some found) ∙ is)) nothing_fits
+    keys_fit (targets_assigned ls at) l key ext0 ext found is =
+        let a = allowed_is (all_accept (Some Int) (all_wanted text (opened s) ls)) (lefts text (opened s) ls) l found in
+        assigned_fits ls l key ext0 a.1 a.0 is
+    keys_fit (targets_defined ns at) l key ext0 ext found is =
+        let a = allowed_is (not (all_blank text ns)) (option_map (map entry_left) (entries text Parameter (opened s) (map (slot_with (Some Int)) ns))) l found in
+        let q = map_some (map entry_left) (entries text Parameter (opened s) (map (slot_with (Some Int)) ns)) l a.1 in
+        defined_fits ns q.0 key ext q.1 (ap key_of q.2 ∙ is)
+
+    over_fits : (e : TreeEx) (x : Ex) → Extends s.sites all → over text s e ≡ Some x → ExFits p scope int_type x
+    over_fits e x ext is =
+        let q = and_then_some as_int (operand_in (gives text s e)) x is in
+        let a = allowed_is (same_type Int (type_of q.0)) (as_value q.0) x q.2 in
+        let agrees = agreed s refl ext in
+        let fits = operand_fits p scope (gives text s e) q.0 (maybe_fits p scope (gives text s e) (λ g g_is. gives_fit p scope text s visible.shown agrees e g g_is)) q.1 in
+        subst (λ (t : ValueType). ExFits p scope (type_number t) x) (sym (same_type_same Int (type_of q.0) a.0)) (value_fits p scope q.0 x fits a.1)
+
+    pub clause_fits : (looped : Bool) (c : Clause) (k : Head) → clause_head text s c ≡ Some k → Extends (clause_scope text s c).sites all → (clause_scope text s c).signatures ≡ s.signatures → HeadFits looped (clause_scope text s c) k
+    clause_fits looped forever k is ext signed = subst (λ (x : Head). HeadFits looped (opened s) x) (same_some is) (no_init looped s scope visible, tt, refl, λ m n. tt)
+    clause_fits looped (while_true e) k is ext signed =
+        let r = and_then_some (λ x. option_map (repeated None x) (Some done)) (option_map Some (condition text (opened s) e)) k is in
+        let q = map_some Some (condition text (opened s) e) r.0 r.1 in
+        let fits = condition_fits p scope text (opened s) (visible_opened s scope visible).shown (agreed (opened s) refl ext) e q.0 q.1 in
+        subst (λ (x : Head). HeadFits looped (opened s) x) (same_some (ap (λ (x : Option Ex). Some (repeated None x done)) q.2 ∙ r.2)) (no_init looped s scope visible, fits, refl, λ m n. tt)
+    clause_fits looped (counting init test1 post) k is ext signed =
+        let h = header text s init in
+        let r = and_then_some (λ i. option_and_then (λ x. option_map (repeated i x) (post_statement text h post)) (test text h test1)) (init_statement text s init) k is in
+        let q = and_then_some (λ x. option_map (repeated r.0 x) (post_statement text h post)) (test text h test1) k r.2 in
+        let o = map_some (repeated r.0 q.0) (post_statement text h post) k q.2 in
+        let i = init_fits looped init r.0 r.1 ext in
+        let agrees = agreed h signed ext in
+        let last1 = post_fits h (init_scope scope r.0) post o.0 i.visible agrees ext o.1 in
+        subst (λ (x : Head). HeadFits looped h x) o.2 (i, optional_test (init_scope scope r.0) q.0 (test_fits p (init_scope scope r.0) text h i.visible.shown agrees test1 q.0 q.1), last1.0, last1.1)
+    clause_fits looped (ranging t at e) k is ext signed =
+        let n = number_type (over text s e) in
+        let r = and_then_some (λ x. option_map (counted x) (option_and_then key_of (target_lefts text (opened s) n t))) (over text s e) k is in
+        let q = map_some (counted r.0) (option_and_then key_of (target_lefts text (opened s) n t)) k r.2 in
+        let l = and_then_some key_of (target_lefts text (opened s) n t) q.0 q.1 in
+        let int1 : n ≡ Some Int = ap number_type r.1 in
+        let ext1 : Extends (behind_entries text (opened s) (target_slots (Some Int) t)).sites all = subst (λ (o : Option ValueType). Extends (behind_entries text (opened s) (target_slots o t)).sites all) int1 ext in
+        let ext0 = extends_twice s.sites (behind_entries text (opened s) (target_slots (Some Int) t)).sites all (grows_entries text (opened s) (target_slots (Some Int) t)).sites ext1 in
+        let f = keys_fit t l.0 q.0 ext0 ext1 (ap (λ (o : Option ValueType). target_lefts text (opened s) o t) (sym int1) ∙ l.1) l.2 in
+        subst (λ (x : Head). HeadFits looped (behind_entries text (opened s) (target_slots n t)) x) q.2
+        (subst (λ (o : Option ValueType). HeadFits looped (behind_entries text (opened s) (target_slots o t)) (counted r.0 q.0)) (sym int1) (f.shows, over_fits e r.0 ext0 r.1, f.count, f.fit))
+
+    -- ---- variables
+
+    -- names with their types, and a declaration of them
+    spec_declared_formed : (looped : Bool) (v : ValueSpec) (ts : List ValueType) (t : St) → SlotsHave (spec_slots text s v) ts → Extends (behind_spec text s v).sites all → spec_declared text s v ≡ Some t
+        → Formed1 looped s scope (behind_spec text s v) t × Visible (behind_spec text s v) (scope_after scope t)
+    spec_declared_formed looped v ts t have ext is =
+        let q = map_some (λ es. declare (sites_of es)) (spec_entries text s v) t is in
+        let f = entries_fit text p all has Parameter s scope (spec_slots text s v) ts q.0 visible have q.1 ext in
+        let after = behind_spec text s v in
+        let long = sites_long q.0 in
+        subst (λ (x : St). Formed1 looped s scope after x × Visible after (scope_after scope x)) q.2 (
+          record { count = omega (arith, f.count, long); fit = λ n le. next_of_params p (length s.sites) n (type_numbers ts) q.0 f.fit (omega (arith, le, f.count)) },
+          subst (λ (w : List ℕ). Visible after w) (named_scope_of scope q.0) f.visible,
+        )
+
+    spec_assigned_formed : (looped : Bool) (v : ValueSpec) (t : St) → Extends s.sites all → Extends (behind_spec text s v).sites all
+        → ((ts : List ValueType) → taken_types (spec_wanted text v) (seen text s v.values) ≡ Some ts → AreAccepted (spec_wanted text v) ts → SlotsHave (spec_slots text s v) ts) → spec_assigned text s v ≡ Some t
+        → Formed1 looped s scope (behind_spec text s v) t × Visible (behind_spec text s v) (scope_after scope t)
+    spec_assigned_formed looped v t ext0 ext have is =
+        let after = behind_spec text s v in
+        let a = assignment_some (option_map (map entry_left) (spec_entries text s v)) (taken (spec_wanted text v) (seen text s v.values)) t is in
+        let values = taken_fits p scope (spec_wanted text v) (seen text s v.values) a.1 (seen_fit p scope text s visible.shown (agreed s refl ext0) v.values) a.3 in
+        let types_are = ap (option_and_then (λ x. value_types (seen text s v.values))) a.3 ∙ values.found in
+        let q = map_some (map entry_left) (spec_entries text s v) a.0 a.2 in
+        let f = entries_fit text p all has Parameter s scope (spec_slots text s v) values.types q.0 visible (have values.types types_are values.accepted) q.1 ext in
+        let born = left_sites q.0 in
+        subst (λ (x : St). Formed1 looped s scope after x × Visible after (scope_after scope x)) (ap (λ (l : List Left). assign l a.1) q.2 ∙ a.4) (
+          record { count = omega (arith, f.count, born); fit = λ n le. (type_numbers values.types, lefts_of_params p scope (length s.sites) n (type_numbers values.types) q.0 f.fit (omega (arith, le, f.count)), values.fit) },
+          subst (λ (w : List ℕ). Visible after w) (sym (left_scope scope q.0)) f.visible,
+        )
+
+    pub spec_formed : (looped : Bool) (v : ValueSpec) (t : St) → Extends s.sites all → Extends (behind_spec text s v).sites all → spec_statement text s v ≡ Some t
+        → Formed1 looped s scope (behind_spec text s v) t × Visible (behind_spec text s v) (scope_after scope t)
+    spec_formed looped v t ext0 ext is =
+        let a = allowed_is (is_known text v.type_expr) (cond (is_bare v.type_expr v.values) (spec_declared text s v) (spec_assigned text s v)) t is in
+        by v.type_expr refl a.0 a.1
+      where
+        slots_are : (o : Option TreeEx) → v.type_expr ≡ o → spec_slots text s v ≡ spec_slots_of text o (taken_types (spec_wanted text v) (seen text s v.values)) v.names
+        slots_are o o_is = ap (λ (k : Option TreeEx). spec_slots_of text k (taken_types (spec_wanted text v) (seen text s v.values)) v.names) o_is
+
+        of_type : (e : TreeEx) (u : ValueType) → v.type_expr ≡ Some e → type_in text e ≡ Some u → SlotsHave (spec_slots text s v) (map (λ (n : Name). u) v.names)
+        of_type e u o_is u_is =
+            subst (λ (ps : List Slot). SlotsHave ps (map (λ (n : Name). u) v.names)) (sym (slots_are (Some e) o_is))
+            (subst (λ (w : Option ValueType). SlotsHave (map (slot_with w) v.names) (map (λ (n : Name). u) v.names)) (sym u_is) (with_have u v.names))
+
+        wanted_are : (e : TreeEx) (u : ValueType) → v.type_expr ≡ Some e → type_in text e ≡ Some u → spec_wanted text v ≡ map (λ (n : Name). Some u) v.names
+        wanted_are e u o_is u_is = ap (λ (k : Option TreeEx). map (λ (n : Name). spec_type text k) v.names) o_is ∙ ap (λ (w : Option ValueType). map (λ (n : Name). w) v.names) u_is
+
+        by : (o : Option TreeEx) → v.type_expr ≡ o → is_known text o ≡ true → cond (is_bare o v.values) (spec_declared text s v) (spec_assigned text s v) ≡ Some t
+            → Formed1 looped s scope (behind_spec text s v) t × Visible (behind_spec text s v) (scope_after scope t)
+        by None o_is known is1 =
+            spec_assigned_formed looped v t ext0 ext
+            (λ ts found accepted. subst (λ (ps : List Slot). SlotsHave ps ts) (sym (slots_are None o_is))
+            (subst (λ (w : Option (List ValueType)). SlotsHave (slots_each w v.names) ts) (sym found) (each_have ts v.names (accepted_long (spec_wanted text v) ts accepted ∙ length-map v.names (λ (n : Name). spec_type text v.type_expr))))) is1
+        by (Some e) o_is known is1 = with_type (type_in text e) refl known (is_bare (Some e) v.values) is1
+          where
+            with_type : (u : Option ValueType) → type_in text e ≡ u → is_some u ≡ true → (b : Bool) → cond b (spec_declared text s v) (spec_assigned text s v) ≡ Some t
+                → Formed1 looped s scope (behind_spec text s v) t × Visible (behind_spec text s v) (scope_after scope t)
+            with_type None u_is known1 b is2 = absurd cc
+            with_type (Some u) u_is known1 true is2 = spec_declared_formed looped v (map (λ (n : Name). u) v.names) t (of_type e u o_is u_is) ext is2
+            with_type (Some u) u_is known1 false is2 =
+                spec_assigned_formed looped v t ext0 ext
+                (λ ts found accepted. subst (λ (l : List ValueType). SlotsHave (spec_slots text s v) l) (accepted_same u v.names ts (subst (λ (w : List (Option ValueType)). AreAccepted w ts) (wanted_are e u o_is u_is) accepted)) (of_type e u o_is u_is)) is2

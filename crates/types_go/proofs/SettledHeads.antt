@@ -1,0 +1,244 @@
+-- Where every variable has a type and every function a signature, a header and a `var` have typed forms, or a rule fails in them, and never both.
+use Rattle.std.proofs.Common.{◌≡◌, ℕ, suc, Bool, true, false, cond, List, [], ◌∷◌, ◌⊎◌, inl, inr, length, map, Option, Some, None, refl, sym, ap, ◌∙◌, subst, arith}
+use Rattle.std.specs.Prelude.{option_and_then, is_some, not, nat_le}
+use Rattle.std.specs.Option.{option_map}
+use Rattle.std.proofs.lemmas.List.{length-map}
+use Rattle.std.proofs.lemmas.Bool.{leb-true}
+use Rattle.base.specs.declared.pos.Pos.{Pos}
+use Rattle.syntax.specs.declared.expression.Name.{Name}
+use Rattle.syntax.specs.FirstBytes.{first_place}
+use Rattle.syntax.specs.Expressions.{Ex as TreeEx, Exs as TreeExs, some}
+use Rattle.syntax.specs.Expressions as expressions
+use Rattle.syntax.specs.Statements.{Simple, ValueSpec, Guard, Targets, no_targets, targets_assigned, targets_defined, Clause, forever, while_true, counting, ranging}
+use Rattle.syntax.specs.Statements as tree
+use Rattle.typed.specs.Syntax.{Ex, Exs, Left, St, Sts, declare, done, next}
+use Rattle.expression_types.specs.declared.fault.Fault.{Fault}
+use Rattle.expression_types.specs.declared.fault.FaultKind.TheVariants.{NothingNew, Mismatch, ArgCount, BadOperand, OutOfProfile}
+use Rattle.expression_types.specs.declared.scope.ValueType.{ValueType}
+use Rattle.expression_types.specs.declared.scope.ValueType.TheVariants.{Int}
+use Rattle.expression_types.specs.Scope.{Scope, opened}
+use Rattle.expression_types.specs.Typing.{Operand, allowed, same_type, accepts, type_of, as_value, operand_in, taken, name_in, type_in, gives, seen, condition, test}
+use Rattle.expression_types.specs.Faults.{fault, IsFault, range_fault, Fails, FailsInEach, FailsAsOperand, FailsInCondition, FailsInTest}
+use Rattle.types_go.specs.declared.slots.Slot.{Slot}
+use Rattle.types_go.specs.declared.entries.Role.TheVariants.{Parameter}
+use Rattle.types_go.specs.Entries.{sites_of, entry_left, slot_with, slots_each, entry_in, entries, behind_entry, behind_entries}
+use Rattle.types_go.specs.EntryFaults.{EntriesFail}
+use Rattle.types_go.specs.Statements.{Choice, Head, repeated, counted, alone, assignment, choice_head, loop_head, key_of, range_head, as_int, number_type, all_accept, target_slots, is_bare, wanted, lefts, all_wanted, simple_statement, header, init_statement, post_simple, post_statement, guard_head, over, all_blank, target_lefts, clause_scope, clause_head, spec_type, spec_wanted, spec_slots_of, spec_slots, behind_spec, spec_entries, is_known, spec_declared, spec_assigned, spec_statement, spec_statements, behind_specs, taken_types}
+use Rattle.types_go.specs.StatementFaults.{fault_where, names_place, over_fault, given_fault, keys_fault, LeftsFail, FailsInInit, PostFails, FailsInPost, FailsInOver, GivenFail, TargetsFail, target_count, FailsInRange, FailsInClause, FailsInGuard, SpecTypeFails, SpecTakeFails, SpecValuesFail, FailsInSpec, FailsInSpecs}
+use Rattle.expression_types.proofs.Decided.{Decided, Tested, further, tested, turned, mapped, after, both_tested}
+use Rattle.expression_types.proofs.DecidedValues.{operand_decided, as_value_decided, take_decided}
+use Rattle.expression_types.proofs.Options.{and_then_some, map_some, same_some}
+use Rattle.expression_types.proofs.Settled.{IsSettled, gives_decided, seen_decided, type_decided, condition_decided, test_decided}
+use Rattle.types_go.proofs.SettledEntries.{where_tested, where_not, some_tested, settled_opened, settled_entries, AllTyped, with_typed, each_typed, allowed_is, taken_types_are, entries_decided}
+use Rattle.types_go.proofs.SettledSimple.{assignment_some, lefts_decided, simple_decided, settled_simple}
+
+-- ---- of their parts
+
+choice_head_decided : (i : Option (Option St)) (c : Option Ex) (P Q : Fault → Type 0) → Decided i P → ((h : Option St) → i ≡ Some h → Decided c Q) → Decided (choice_head i c) (λ f. P f ⊎ Q f)
+choice_head_decided i c P Q p q = after i (λ h. option_map (λ x. record { init = h; condition = x }) c) P Q p (λ h is. mapped (λ x. record { init = h; condition = x }) c Q (q h is))
+
+loop_head_decided : (i : Option (Option St)) (c : Option (Option Ex)) (o : Option Sts) (P Q R : Fault → Type 0) → Decided i P → ((h : Option St) → i ≡ Some h → Decided c Q) → ((h : Option St) → i ≡ Some h → Decided o R)
+    → Decided (loop_head i c o) (λ f. (P f ⊎ Q f) ⊎ R f)
+loop_head_decided None c o P Q R p q r = (p.0, inl (inl p.1))
+loop_head_decided (Some h) None o P Q R p q r = let f = q h refl in (f.0, inl (inr f.1))
+loop_head_decided (Some h) (Some x) o P Q R p q r = further (λ f. P f ⊎ Q f) R (option_map (repeated h x) o) (λ f k. elim k [ inl u ↦ p f u | inr u ↦ q h refl f u ]) (mapped (repeated h x) o R (r h refl))
+
+while_decided : (c : Option Ex) (P : Fault → Type 0) → Decided c P → Decided (loop_head (Some None) (option_map Some c) (Some done)) P
+while_decided None P p = p
+while_decided (Some x) P p = p
+
+key_decided : (x : Ex) (at : Pos) (l : List Left) → Decided (key_of l) (IsFault (keys_fault at (Some x) (Some (length l))))
+key_decided x at [] = λ f h. h
+key_decided x at (l ∷ []) = λ f h. h
+key_decided x at (l ∷ k ∷ ls) = by (nat_le (length (l ∷ k ∷ ls)) 1) refl
+  where
+    by : (b : Bool) → nat_le (length (l ∷ k ∷ ls)) 1 ≡ b → (f : Fault) × IsFault (fault_where (not b) (fault ArgCount at)) f
+    by true is = let le = leb-true (length (l ∷ k ∷ ls)) 1 is in absurd (omega (arith, le))
+    by false is = (fault ArgCount at, refl)
+
+range_head_decided : (e : Option Ex) (ls : Option (List Left)) (at : Pos) (n : Option ℕ) (P Q : Fault → Type 0) → Decided e P → ((x : Ex) → e ≡ Some x → Decided ls Q) → ((l : List Left) → ls ≡ Some l → n ≡ Some (length l))
+    → Decided (range_head e ls) (λ f. (P f ⊎ Q f) ⊎ IsFault (keys_fault at e n) f)
+range_head_decided None ls at n P Q p q long = (p.0, inl (inl p.1))
+range_head_decided (Some x) None at n P Q p q long = let f = q x refl in (f.0, inl (inr f.1))
+range_head_decided (Some x) (Some l) at n P Q p q long =
+    subst (λ (m : Option ℕ). Decided (option_map (counted x) (key_of l)) (λ f. (P f ⊎ Q f) ⊎ IsFault (keys_fault at (Some x) m) f)) (sym (long l refl))
+    (further (λ f. P f ⊎ Q f) (IsFault (keys_fault at (Some x) (Some (length l)))) (option_map (counted x) (key_of l)) (λ f k. elim k [ inl u ↦ p f u | inr u ↦ q x refl f u ])
+    (mapped (counted x) (key_of l) (IsFault (keys_fault at (Some x) (Some (length l)))) (key_decided x at l)))
+
+int_decided : (at place : Pos) (o : Option Operand) (P : Fault → Type 0) → Decided o P → Decided (option_and_then as_int o) (λ f. P f ⊎ IsFault (over_fault at place o) f)
+int_decided at place None P d = (d.0, inl d.1)
+int_decided at place (Some x) P d = further P (IsFault (over_fault at place (Some x))) (as_int x) d (by (same_type Int (type_of x)))
+  where
+    by : (b : Bool) → Decided (allowed b (as_value x)) (IsFault (cond b (range_fault place (Some x)) (Some (fault BadOperand at))))
+    by true = as_value_decided place x
+    by false = (fault BadOperand at, refl)
+
+given_tested : (t : ValueType) (p : Option ValueType) (at : Pos) → Tested (accepts p t) (IsFault (given_fault (Some t) p at))
+given_tested t p at = where_not (accepts p t) (fault Mismatch at)
+
+-- a header that is typed has an int
+number_is : (e : Option Ex) (x : Ex) → e ≡ Some x → number_type e ≡ Some Int
+number_is e x is = ap number_type is
+
+module _ (text : List ℕ) where
+  -- ---- headers
+
+  init_decided : (s : Scope) (init : Option Simple) → IsSettled s → Decided (init_statement text s init) (FailsInInit text s init)
+  init_decided s None settled = λ f h. h
+  init_decided s (Some m) settled = mapped Some (simple_statement text (opened s) m) (FailsInInit text s (Some m)) (simple_decided text (opened s) m (settled_opened s settled))
+
+  settled_header : (s : Scope) (init : Option Simple) (h : Option St) → IsSettled s → init_statement text s init ≡ Some h → IsSettled (header text s init)
+  settled_header s None h settled is = settled_opened s settled
+  settled_header s (Some m) h settled is =
+      let q = map_some Some (simple_statement text (opened s) m) h is in settled_simple text (opened s) m q.0 (settled_opened s settled) q.1
+
+  post_decided : (s : Scope) (m : Simple) → IsSettled s → Decided (post_simple text s m) (PostFails text s m)
+  post_decided s (tree.express e) settled = simple_decided text s (tree.express e) settled
+  post_decided s (tree.assign ls at es) settled = simple_decided text s (tree.assign ls at es) settled
+  post_decided s (tree.update ls at tree_op es) settled = simple_decided text s (tree.update ls at tree_op es) settled
+  post_decided s (tree.define ns at es) settled = (fault OutOfProfile (names_place ns at), refl)
+  post_decided s (tree.increment e at) settled = simple_decided text s (tree.increment e at) settled
+  post_decided s (tree.decrement e at) settled = simple_decided text s (tree.decrement e at) settled
+
+  post_statement_decided : (s : Scope) (post : Option Simple) → IsSettled s → Decided (post_statement text s post) (FailsInPost text s post)
+  post_statement_decided s None settled = λ f h. h
+  post_statement_decided s (Some m) settled = mapped alone (post_simple text s m) (PostFails text s m) (post_decided s m settled)
+
+  pub guard_decided : (s : Scope) (at : Pos) (g : Guard) → IsSettled s → Decided (guard_head text s g) (FailsInGuard text s at g)
+  guard_decided s at g settled =
+      choice_head_decided (init_statement text s g.init) (condition text (header text s g.init) g.condition) (FailsInInit text s g.init) (FailsInCondition text (header text s g.init) at g.condition) (init_decided s g.init settled)
+      (λ h is. condition_decided text (header text s g.init) (settled_header s g.init h settled is) at g.condition)
+
+  pub settled_guard : (s : Scope) (g : Guard) (c : Choice) → IsSettled s → guard_head text s g ≡ Some c → IsSettled (header text s g.init)
+  settled_guard s g c settled is =
+      let r = and_then_some (λ h. option_map (λ x. record { init = h; condition = x }) (condition text (header text s g.init) g.condition)) (init_statement text s g.init) c is in
+      settled_header s g.init r.0 settled r.1
+
+  over_decided : (s : Scope) (at : Pos) (e : TreeEx) → IsSettled s → Decided (over text s e) (FailsInOver text s at e)
+  over_decided s at e settled =
+      int_decided at (first_place e) (operand_in (gives text s e)) (FailsAsOperand text s e) (operand_decided (gives text s e) (Fails text s e) (gives_decided text s settled e))
+
+  given_all_tested : (s : Scope) (t : ValueType) (ls : TreeExs) → Tested (all_accept (Some t) (all_wanted text s ls)) (GivenFail text s (Some t) ls)
+  given_all_tested s t expressions.none = λ f h. h
+  given_all_tested s t (some e es) =
+      both_tested (IsFault (given_fault (Some t) (wanted text s (name_in e)) (first_place e))) (GivenFail text s (Some t) es) (accepts (wanted text s (name_in e)) t) (all_accept (Some t) (all_wanted text s es))
+      (given_tested t (wanted text s (name_in e)) (first_place e)) (given_all_tested s t es)
+
+  targets_decided : (s : Scope) (t : ValueType) (targets : Targets) → IsSettled s → Decided (target_lefts text s (Some t) targets) (TargetsFail text s (Some t) targets)
+  targets_decided s t no_targets settled = λ f h. h
+  targets_decided s t (targets_assigned ls at) settled =
+      turned (GivenFail text s (Some t) ls) (LeftsFail text s ls) (target_lefts text s (Some t) (targets_assigned ls at))
+      (tested (GivenFail text s (Some t) ls) (LeftsFail text s ls) (all_accept (Some t) (all_wanted text s ls)) (lefts text s ls) (given_all_tested s t ls) (lefts_decided text s settled ls))
+  targets_decided s t (targets_defined ns at) settled =
+      turned (IsFault (fault_where (all_blank text ns) (fault NothingNew at))) (EntriesFail text Parameter s (map (slot_with (Some t)) ns)) (target_lefts text s (Some t) (targets_defined ns at))
+      (tested (IsFault (fault_where (all_blank text ns) (fault NothingNew at))) (EntriesFail text Parameter s (map (slot_with (Some t)) ns)) (not (all_blank text ns)) (option_map (map entry_left) (entries text Parameter s (map (slot_with (Some t)) ns)))
+      (where_tested (all_blank text ns) (fault NothingNew at))
+      (mapped (map entry_left) (entries text Parameter s (map (slot_with (Some t)) ns)) (EntriesFail text Parameter s (map (slot_with (Some t)) ns)) (entries_decided text Parameter s (map (slot_with (Some t)) ns))))
+
+  -- as many left sides as are counted
+  entries_long : (s : Scope) (ps : List Slot) (es : List (Option ℕ)) → entries text Parameter s ps ≡ Some es → length es ≡ length ps
+  entries_long s [] es is = ap length (sym (same_some is))
+  entries_long s (p ∷ ps) es is =
+      let r = and_then_some (λ e. option_map (λ xs. e ∷ xs) (entries text Parameter (behind_entry text s p) ps)) (entry_in text Parameter s p.name) es is in
+      let q = map_some (λ xs. r.0 ∷ xs) (entries text Parameter (behind_entry text s p) ps) es r.2 in
+      ap length (sym q.2) ∙ ap suc (entries_long (behind_entry text s p) ps q.0 q.1)
+
+  targets_long : (s : Scope) (t : Option ValueType) (targets : Targets) (l : List Left) → target_lefts text s t targets ≡ Some l → target_count text s targets ≡ Some (length l)
+  targets_long s t no_targets l is = ap (option_map length) is
+  targets_long s t (targets_assigned ls at) l is = ap (option_map length) (allowed_is (all_accept t (all_wanted text s ls)) (lefts text s ls) l is).1
+  targets_long s t (targets_defined ns at) l is =
+      let a = allowed_is (not (all_blank text ns)) (option_map (map entry_left) (entries text Parameter s (map (slot_with t) ns))) l is in
+      let q = map_some (map entry_left) (entries text Parameter s (map (slot_with t) ns)) l a.1 in
+      ap Some (sym (length-map ns (slot_with t)) ∙ sym (entries_long s (map (slot_with t) ns) q.0 q.1) ∙ sym (length-map q.0 entry_left) ∙ ap length q.2)
+
+  range_decided : (s : Scope) (at : Pos) (t : Targets) (e : TreeEx) → IsSettled s → Decided (range_head (over text s e) (target_lefts text (opened s) (number_type (over text s e)) t)) (FailsInRange text s at t e)
+  range_decided s at t e settled =
+      let n = number_type (over text s e) in
+      range_head_decided (over text s e) (target_lefts text (opened s) n t) at (target_count text (opened s) t) (FailsInOver text s at e) (TargetsFail text (opened s) n t) (over_decided s at e settled)
+      (λ x is. subst (λ (o : Option ValueType). Decided (target_lefts text (opened s) o t) (TargetsFail text (opened s) o t)) (sym (number_is (over text s e) x is)) (targets_decided (opened s) Int t (settled_opened s settled)))
+      (λ l is. targets_long (opened s) n t l is)
+
+  pub clause_decided : (s : Scope) (at : Pos) (c : Clause) → IsSettled s → Decided (clause_head text s c) (FailsInClause text s at c)
+  clause_decided s at forever settled = λ f h. h
+  clause_decided s at (while_true e) settled = while_decided (condition text (opened s) e) (FailsInCondition text (opened s) at e) (condition_decided text (opened s) (settled_opened s settled) at e)
+  clause_decided s at (counting init test1 post) settled =
+      loop_head_decided (init_statement text s init) (test text (header text s init) test1) (post_statement text (header text s init) post) (FailsInInit text s init) (FailsInTest text (header text s init) at test1)
+      (FailsInPost text (header text s init) post) (init_decided s init settled) (λ h is. test_decided text (header text s init) (settled_header s init h settled is) at test1)
+      (λ h is. post_statement_decided (header text s init) post (settled_header s init h settled is))
+  clause_decided s at (ranging t place e) settled = range_decided s at t e settled
+
+  slots_typed : (t : ValueType) (targets : Targets) → AllTyped (target_slots (Some t) targets)
+  slots_typed t no_targets = tt
+  slots_typed t (targets_assigned ls at) = tt
+  slots_typed t (targets_defined ns at) = with_typed t ns
+
+  pub settled_clause : (s : Scope) (c : Clause) (h : Head) → IsSettled s → clause_head text s c ≡ Some h → IsSettled (clause_scope text s c)
+  settled_clause s forever h settled is = settled_opened s settled
+  settled_clause s (while_true e) h settled is = settled_opened s settled
+  settled_clause s (counting init test1 post) h settled is =
+      let r = and_then_some (λ i. option_and_then (λ x. option_map (repeated i x) (post_statement text (header text s init) post)) (test text (header text s init) test1)) (init_statement text s init) h is in
+      settled_header s init r.0 settled r.1
+  settled_clause s (ranging t at e) h settled is =
+      let r = and_then_some (λ x. option_map (counted x) (option_and_then key_of (target_lefts text (opened s) (number_type (over text s e)) t))) (over text s e) h is in
+      subst (λ (o : Option ValueType). IsSettled (behind_entries text (opened s) (target_slots o t))) (sym (number_is (over text s e) r.0 r.1))
+      (settled_entries text (opened s) (target_slots (Some Int) t) (slots_typed Int t) (settled_opened s settled))
+
+  -- ---- variables
+
+  known_tested : (s : Scope) (o : Option TreeEx) → IsSettled s → Tested (is_known text o) (SpecTypeFails text s o)
+  known_tested s None settled = λ f h. h
+  known_tested s (Some e) settled = some_tested (type_in text e) (SpecTypeFails text s (Some e)) (type_decided text s settled e)
+
+  taking_decided : (es : Option (List Left)) (v : Option Exs) (V E : Fault → Type 0) → Decided v V → Decided es E → Decided (assignment es v) (λ f. V f ⊎ E f)
+  taking_decided None None V E p q = (p.0, inl p.1)
+  taking_decided None (Some v) V E p q = (q.0, inr q.1)
+  taking_decided (Some l) None V E p q = (p.0, inl p.1)
+  taking_decided (Some l) (Some v) V E p q = λ f h. elim h [ inl k ↦ p f k | inr k ↦ q f k ]
+
+  names_decided : (s : Scope) (at : Pos) (v : ValueSpec) → IsSettled s → (b : Bool)
+      → Decided (cond b (spec_declared text s v) (spec_assigned text s v)) (λ f. SpecValuesFail text b s at v f ⊎ EntriesFail text Parameter s (spec_slots text s v) f)
+  names_decided s at v settled true =
+      further (λ f. ⊥) (EntriesFail text Parameter s (spec_slots text s v)) (spec_declared text s v) (λ f h. h)
+      (mapped (λ es. declare (sites_of es)) (spec_entries text s v) (EntriesFail text Parameter s (spec_slots text s v)) (entries_decided text Parameter s (spec_slots text s v)))
+  names_decided s at v settled false =
+      taking_decided (option_map (map entry_left) (spec_entries text s v)) (taken (spec_wanted text v) (seen text s v.values)) (SpecTakeFails text s at v) (EntriesFail text Parameter s (spec_slots text s v))
+      (take_decided (seen text s v.values) (FailsInEach text s v.values) (seen_decided text s settled v.values) (fault ArgCount at) (spec_wanted text v))
+      (mapped (map entry_left) (spec_entries text s v) (EntriesFail text Parameter s (spec_slots text s v)) (entries_decided text Parameter s (spec_slots text s v)))
+
+  spec_decided : (s : Scope) (at : Pos) (v : ValueSpec) → IsSettled s → Decided (spec_statement text s v) (FailsInSpec text s at v)
+  spec_decided s at v settled =
+      tested (SpecTypeFails text s v.type_expr) (λ f. SpecValuesFail text (is_bare v.type_expr v.values) s at v f ⊎ EntriesFail text Parameter s (spec_slots text s v) f) (is_known text v.type_expr)
+      (cond (is_bare v.type_expr v.values) (spec_declared text s v) (spec_assigned text s v)) (known_tested s v.type_expr settled) (names_decided s at v settled (is_bare v.type_expr v.values))
+
+  -- where a declaration is typed, so are its names
+  names_typed : (s : Scope) (v : ValueSpec) (t : St) (o : Option TreeEx) → v.type_expr ≡ o → is_known text o ≡ true → cond (is_bare o v.values) (spec_declared text s v) (spec_assigned text s v) ≡ Some t → AllTyped (spec_slots text s v)
+  names_typed s v t (Some e) o_is known is = by (type_in text e) refl known
+    where
+      by : (u : Option ValueType) → type_in text e ≡ u → is_some u ≡ true → AllTyped (spec_slots text s v)
+      by None u_is known1 = cc known1
+      by (Some u) u_is known1 =
+          subst (λ (o : Option TreeEx). AllTyped (spec_slots_of text o (taken_types (spec_wanted text v) (seen text s v.values)) v.names)) (sym o_is)
+          (subst (λ (w : Option ValueType). AllTyped (map (slot_with w) v.names)) (sym u_is) (with_typed u v.names))
+  names_typed s v t None o_is known is =
+      let a = assignment_some (option_map (map entry_left) (spec_entries text s v)) (taken (spec_wanted text v) (seen text s v.values)) t is in
+      let types = taken_types_are (spec_wanted text v) (seen text s v.values) a.1 a.3 in
+      subst (λ (o : Option TreeEx). AllTyped (spec_slots_of text o (taken_types (spec_wanted text v) (seen text s v.values)) v.names)) (sym o_is)
+      (subst (λ (w : Option (List ValueType)). AllTyped (slots_each w v.names)) (sym types.1) (each_typed types.0 v.names (types.2 ∙ length-map v.names (λ (n : Name). spec_type text v.type_expr))))
+
+  settled_spec : (s : Scope) (v : ValueSpec) (t : St) → IsSettled s → spec_statement text s v ≡ Some t → IsSettled (behind_spec text s v)
+  settled_spec s v t settled is =
+      let a = allowed_is (is_known text v.type_expr) (cond (is_bare v.type_expr v.values) (spec_declared text s v) (spec_assigned text s v)) t is in
+      settled_entries text s (spec_slots text s v) (names_typed s v t v.type_expr refl a.0 a.1) settled
+
+  pub specs_decided : (s : Scope) (at : Pos) (vs : List ValueSpec) → IsSettled s → Decided (spec_statements text s vs) (FailsInSpecs text s at vs)
+  specs_decided s at [] settled = λ f h. h
+  specs_decided s at (v ∷ vs) settled =
+      after (spec_statement text s v) (λ t. option_map (next t) (spec_statements text (behind_spec text s v) vs)) (FailsInSpec text s at v) (FailsInSpecs text (behind_spec text s v) at vs) (spec_decided s at v settled)
+      (λ t is. mapped (next t) (spec_statements text (behind_spec text s v) vs) (FailsInSpecs text (behind_spec text s v) at vs) (specs_decided (behind_spec text s v) at vs (settled_spec s v t settled is)))
+
+  pub settled_specs : (s : Scope) (vs : List ValueSpec) (b : Sts) → IsSettled s → spec_statements text s vs ≡ Some b → IsSettled (behind_specs text s vs)
+  settled_specs s [] b settled is = settled
+  settled_specs s (v ∷ vs) b settled is =
+      let q = and_then_some (λ t. option_map (next t) (spec_statements text (behind_spec text s v) vs)) (spec_statement text s v) b is in
+      let p = map_some (next q.0) (spec_statements text (behind_spec text s v) vs) b q.2 in
+      settled_specs (behind_spec text s v) vs p.0 (settled_spec s v q.0 settled q.1) p.1

@@ -1,0 +1,343 @@
+-- Typed statements end, and leave the loop around them, where those of the tree do.
+use Rattle.std.proofs.Common.{◌≡◌, ℕ, Bool, true, false, cond, List, [], ◌∷◌, map, Option, Some, None, refl, sym, ap, ◌∙◌, subst, length}
+use Rattle.std.specs.Prelude.{option_and_then, not, ◌&&◌, ◌||◌}
+use Rattle.std.specs.Option.{option_map}
+use Rattle.base.specs.declared.pos.Pos.{Pos}
+use Rattle.syntax.specs.declared.expression.Name.{Name}
+use Rattle.syntax.specs.declared.operator.ArithmeticOp.{ArithmeticOp}
+use Rattle.syntax.specs.declared.operator.BinOp.TheVariants.{Arithmetic}
+use Rattle.syntax.specs.FirstBytes.{first_place}
+use Rattle.syntax.specs.Expressions.{Ex as TreeEx, call, paren, number, string, name, unary, binary, selector, index, slice, array_type, slice_type, literal, elements, spelled}
+use Rattle.syntax.specs.Statements.{Simple, ValueSpec, Guard, Clause, forever, while_true, counting, ranging, Stm, Stms, Els}
+use Rattle.syntax.specs.Statements as tree
+use Rattle.typed.specs.declared.operators.BinOp.{BinOp as TypedOp}
+use Rattle.typed.specs.declared.operators.BinOp.TheVariants as op
+use Rattle.typed.specs.Syntax.{Exs, Left, St, Sts, Piece, constant, unary as unary_of, binary as binary_of, both as both_of, either as either_of, call as call_of, read, declare, block, choose, loop, break_off, go_on, give_back, none, done, next}
+use Rattle.typed.specs.Form.{ends, ends_all, breaks, breaks_all}
+use Rattle.expression_types.specs.declared.profile.Word.{Word}
+use Rattle.expression_types.specs.declared.profile.Word.TheVariants as word
+use Rattle.expression_types.specs.declared.scope.ValueType.TheVariants.{Int, Bool as Truth}
+use Rattle.expression_types.specs.declared.scope.Declared.{Declared}
+use Rattle.expression_types.specs.Profile.{word_of}
+use Rattle.expression_types.specs.Scope.{Scope, declaration, opened, closed}
+use Rattle.expression_types.specs.Typing.{Operand, untyped, value, Gives, one, called, printed, panicked, both, combined, operand_in, Seen, pieces, taken, panicked_with, called_with, spread_over, callee_named, callee, name_in, gives, seen, condition, test}
+use Rattle.types_go.specs.Entries.{sites_of, entry_left}
+use Rattle.types_go.specs.Statements.{Returns, Choice, Head, repeated, counted, only, alone, before, expressed, declared_in, assignment, updated, stepped, returned, headed, looped_by, choice_of, loop_of, lefts, all_wanted, new_lefts, all_new_wanted, may_define, own_value, update_statement, simple_statement, header, init_statement, post_statement, guard_head, clause_scope, clause_head, key_of, number_type, over, target_lefts, is_bare, spec_entries, spec_wanted, is_known, spec_declared, spec_assigned, spec_statement, spec_statements, behind_spec, behind, behind_all, statement, alternative, statements, is_endless, leaves, leaves_else, leaves_any, is_panic, names_panic, panics, ends_simple, is_terminating, is_terminating_else, ends_after}
+use Rattle.expression_types.proofs.Options.{and_then_some, map_some, none_some, same_some}
+use Rattle.types_go.proofs.SettledEntries.{allowed_is}
+use Rattle.types_go.proofs.SettledSimple.{where_some, assignment_some}
+use Rattle.types_go.proofs.SettledStatements.{choice_some, loop_some}
+
+abbrev pub ends_last : Bool → Sts → Bool
+ends_last e done = e
+ends_last e (next t b) = ends_last (ends t) b
+
+pub ends_same : (b : Sts) → ends_last false b ≡ ends_all b
+ends_same done = refl
+ends_same (next t done) = refl
+ends_same (next t (next u b)) = ends_same (next u b)
+
+ends_before : (e : Bool) (a b : Sts) → ends_last e (before a b) ≡ ends_last (ends_last e a) b
+ends_before e done b = refl
+ends_before e (next t a) b = ends_before (ends t) a b
+
+any_last : (b : Sts) (x : Bool) → ends_last false b ≡ true → ends_last x b ≡ true
+any_last done x is = cc is
+any_last (next t b) x is = is
+
+or_false : (a : Bool) → (a || false) ≡ a
+or_false true = refl
+or_false false = refl
+
+or_both : (a b c : Bool) → (a || (b || c)) ≡ ((a || b) || c)
+or_both true b c = refl
+or_both false b c = refl
+
+breaks_before : (a b : Sts) → breaks_all (before a b) ≡ (breaks_all a || breaks_all b)
+breaks_before done b = refl
+breaks_before (next t a) b = ap (λ x. breaks t || x) (breaks_before a b) ∙ or_both (breaks t) (breaks_all a) (breaks_all b)
+
+and_true : (a b : Bool) → (a && b) ≡ true → (a ≡ true) × (b ≡ true)
+and_true true b is = (refl, is)
+and_true false b is = cc is
+
+not_true : (a : Bool) → not a ≡ true → a ≡ false
+not_true true is = cc is
+not_true false is = refl
+
+either_way : (a b : Sts) (e last1 : Bool) → (last1 ≡ true → ends_last e a ≡ true) → ends_last last1 b ≡ true → ends_last (ends_last e a) b ≡ true
+either_way a b e true first rest = ap (λ x. ends_last x b) (first refl) ∙ rest
+either_way a b e false first rest = any_last b (ends_last e a) rest
+
+-- a statement that no `break` is in
+abbrev IsStill : St → Type 0
+IsStill t = breaks t ≡ false
+
+assigned_still : (ls : Option (List Left)) (v : Option Exs) (t : St) → assignment ls v ≡ Some t → IsStill t
+assigned_still ls v t is = let a = assignment_some ls v t is in ap breaks (sym a.4)
+
+updated_still : (x : Operand) (t : St) → updated x ≡ Some t → IsStill t
+updated_still (untyped c) t is = absurd (none_some is)
+updated_still (value u (binary_of at o (read q) e)) t is = ap breaks (sym (same_some is))
+updated_still (value u (binary_of at o (constant v) e)) t is = absurd (none_some is)
+updated_still (value u (binary_of at o (unary_of g a) e)) t is = absurd (none_some is)
+updated_still (value u (binary_of at o (binary_of at1 g a b) e)) t is = absurd (none_some is)
+updated_still (value u (binary_of at o (both_of a b) e)) t is = absurd (none_some is)
+updated_still (value u (binary_of at o (either_of a b) e)) t is = absurd (none_some is)
+updated_still (value u (binary_of at o (call_of f es) e)) t is = absurd (none_some is)
+updated_still (value u (constant v)) t is = absurd (none_some is)
+updated_still (value u (read q)) t is = absurd (none_some is)
+updated_still (value u (unary_of g a)) t is = absurd (none_some is)
+updated_still (value u (both_of a b)) t is = absurd (none_some is)
+updated_still (value u (either_of a b)) t is = absurd (none_some is)
+updated_still (value u (call_of f es)) t is = absurd (none_some is)
+
+stepped_still : (o : TypedOp) (x : Operand) (t : St) → stepped o x ≡ Some t → IsStill t
+stepped_still o (untyped c) t is = absurd (none_some is)
+stepped_still o (value Int (read q)) t is = ap breaks (sym (same_some is))
+stepped_still o (value Truth e) t is = absurd (none_some is)
+stepped_still o (value Int (constant v)) t is = absurd (none_some is)
+stepped_still o (value Int (unary_of g a)) t is = absurd (none_some is)
+stepped_still o (value Int (binary_of at g a b)) t is = absurd (none_some is)
+stepped_still o (value Int (both_of a b)) t is = absurd (none_some is)
+stepped_still o (value Int (either_of a b)) t is = absurd (none_some is)
+stepped_still o (value Int (call_of f es)) t is = absurd (none_some is)
+
+expressed_still : (g : Gives) (t : St) → expressed g ≡ Some t → IsStill t
+expressed_still (one x) t is = absurd (none_some is)
+expressed_still (called at ts f es) t is = ap breaks (sym (same_some is))
+expressed_still (printed at line ps) t is = ap breaks (sym (same_some is))
+expressed_still (panicked at q) t is = ap breaks (sym (same_some is))
+
+returned_as : (r : Returns) (os : List Seen) (t : St) → returned r os ≡ Some t → (es : Exs) × (t ≡ give_back es)
+returned_as r [] t is = let w = where_some r.may_be_bare (Some (give_back none)) t is in (none, sym (same_some w.1))
+returned_as r (o ∷ os) t is = let q = map_some give_back (taken r.wanted (o ∷ os)) t is in (q.0, sym q.2)
+
+headed_ends : (i : Option St) (t : St) → ends (headed i t) ≡ ends t
+headed_ends None t = refl
+headed_ends (Some i) t = refl
+
+module _ (text : List ℕ) where
+  -- a call of `panic` gives that
+  abbrev IsPanicked : Gives → Type 0
+  IsPanicked g = (at : Pos) × (q : Piece) × (g ≡ panicked at q)
+
+  panicked_from : (at : Pos) (qs : List Piece) (g : Gives) → panicked_with at qs ≡ Some g → IsPanicked g
+  panicked_from at [] g is = absurd (none_some is)
+  panicked_from at (q ∷ []) g is = (at, q, sym (same_some is))
+  panicked_from at (q ∷ r ∷ qs) g is = absurd (none_some is)
+
+  panic_gives : (s : Scope) (e : TreeEx) (g : Gives) → panics text e ≡ true → gives text s e ≡ Some g → IsPanicked g
+  panic_gives s (paren at e) g panic1 is = panic_gives s e g panic1 is
+  panic_gives s (call f es spread) g panic1 is = by (name_in f) panic1 is
+    where
+      at_word : (w : Word) (d : Option Declared) (b : Bool) → is_panic w ≡ true → called_with (first_place f) (spread_over b (callee_named s w d)) (seen text s es) ≡ Some g → IsPanicked g
+      at_word (word.Truth t) d b w_is is1 = cc w_is
+      at_word (word.Print line) d b w_is is1 = cc w_is
+      at_word word.Reserved d b w_is is1 = cc w_is
+      at_word word.Free d b w_is is1 = cc w_is
+      at_word word.Panic d true w_is is1 = absurd (none_some is1)
+      at_word word.Panic d false w_is is1 = let r = and_then_some (panicked_with (first_place f)) (pieces (seen text s es)) g is1 in panicked_from (first_place f) r.0 g r.2
+
+      by : (o : Option Name) → names_panic text o ≡ true → called_with (first_place f) (spread_over spread (callee text s o (gives text s f))) (seen text s es) ≡ Some g → IsPanicked g
+      by None o_is is1 = cc o_is
+      by (Some n) o_is is1 = at_word (word_of (spelled text n)) (declaration s (spelled text n)) spread o_is is1
+  panic_gives s (number at n) g panic1 is = cc panic1
+  panic_gives s (string at behind1) g panic1 is = cc panic1
+  panic_gives s (name n) g panic1 is = cc panic1
+  panic_gives s (unary at o e) g panic1 is = cc panic1
+  panic_gives s (binary at o a b) g panic1 is = cc panic1
+  panic_gives s (selector e at n) g panic1 is = cc panic1
+  panic_gives s (index e at i) g panic1 is = cc panic1
+  panic_gives s (slice e at low high) g panic1 is = cc panic1
+  panic_gives s (array_type at len e) g panic1 is = cc panic1
+  panic_gives s (slice_type at e) g panic1 is = cc panic1
+  panic_gives s (literal e es) g panic1 is = cc panic1
+  panic_gives s (elements at es) g panic1 is = cc panic1
+
+  panicked_ends : (g : Gives) (t : St) → IsPanicked g → expressed g ≡ Some t → ends t ≡ true
+  panicked_ends g t r is = ap ends (sym (same_some (ap expressed (sym r.2) ∙ is)))
+
+  simple_ends : (s : Scope) (m : Simple) (t : St) → ends_simple text m ≡ true → simple_statement text s m ≡ Some t → ends t ≡ true
+  simple_ends s (tree.express e) t ending is = let q = and_then_some expressed (gives text s e) t is in panicked_ends q.0 t (panic_gives s e q.0 ending q.1) q.2
+  simple_ends s (tree.assign ls at es) t ending is = cc ending
+  simple_ends s (tree.update ls at tree_op es) t ending is = cc ending
+  simple_ends s (tree.define ns at es) t ending is = cc ending
+  simple_ends s (tree.increment e at) t ending is = cc ending
+  simple_ends s (tree.decrement e at) t ending is = cc ending
+
+  update_still : (s : Scope) (tree_op : ArithmeticOp) (e v : Option TreeEx) (t : St) → update_statement text s tree_op e v ≡ Some t → IsStill t
+  update_still s tree_op None v t is = absurd (none_some is)
+  update_still s tree_op (Some e) None t is = absurd (none_some is)
+  update_still s tree_op (Some e) (Some v) t is = let q = and_then_some updated (both (combined (first_place e) (Arithmetic tree_op)) (own_value text s (name_in e)) (operand_in (gives text s v))) t is in updated_still q.0 t q.2
+
+  simple_still : (s : Scope) (m : Simple) (t : St) → simple_statement text s m ≡ Some t → IsStill t
+  simple_still s (tree.express e) t is = let q = and_then_some expressed (gives text s e) t is in expressed_still q.0 t q.2
+  simple_still s (tree.assign ls at es) t is = assigned_still (lefts text s ls) (taken (all_wanted text s ls) (seen text s es)) t is
+  simple_still s (tree.update ls at tree_op es) t is = update_still s tree_op (only ls) (only es) t is
+  simple_still s (tree.define ns at es) t is =
+      let w = where_some (may_define text s ns) (assignment (new_lefts text s (length s.sites) ns) (taken (all_new_wanted text s ns) (seen text s es))) t is in
+      assigned_still (new_lefts text s (length s.sites) ns) (taken (all_new_wanted text s ns) (seen text s es)) t w.1
+  simple_still s (tree.increment e at) t is = let q = and_then_some (stepped op.Add) (own_value text s (name_in e)) t is in stepped_still op.Add q.0 t q.2
+  simple_still s (tree.decrement e at) t is = let q = and_then_some (stepped op.Sub) (own_value text s (name_in e)) t is in stepped_still op.Sub q.0 t q.2
+
+  -- an init statement has no `break`
+  abbrev StillInit : Option St → Type 0
+  StillInit None = Unit {0}
+  StillInit (Some i) = IsStill i
+
+  init_still : (s : Scope) (init : Option Simple) (i : Option St) → init_statement text s init ≡ Some i → StillInit i
+  init_still s None i is = subst StillInit (same_some is) tt
+  init_still s (Some m) i is = let q = map_some Some (simple_statement text (opened s) m) i is in subst StillInit q.2 (simple_still (opened s) m q.0 q.1)
+
+  headed_breaks : (i : Option St) (t : St) → StillInit i → breaks (headed i t) ≡ breaks t
+  headed_breaks None t still = refl
+  headed_breaks (Some i) t still = ap (λ b. b || (breaks t || false)) still ∙ or_false (breaks t)
+
+  guard_still : (s : Scope) (g : Guard) (c : Choice) → guard_head text s g ≡ Some c → StillInit c.init
+  guard_still s g c is =
+      let r = and_then_some (λ h. option_map (λ x. record { init = h; condition = x }) (condition text (header text s g.init) g.condition)) (init_statement text s g.init) c is in
+      let q = map_some (λ x. record { init = r.0; condition = x }) (condition text (header text s g.init) g.condition) c r.2 in
+      subst (λ (k : Choice). StillInit k.init) q.2 (init_still s g.init r.0 r.1)
+
+  loop_still : (s : Scope) (c : Clause) (k : Head) (y : Sts) → clause_head text s c ≡ Some k → IsStill (looped_by k y)
+  loop_still s forever k y is = ap (λ (x : Head). breaks (looped_by x y)) (sym (same_some is))
+  loop_still s (while_true e) k y is =
+      let r = and_then_some (λ x. option_map (repeated None x) (Some done)) (option_map Some (condition text (opened s) e)) k is in
+      ap (λ (x : Head). breaks (looped_by x y)) (sym (same_some r.2))
+  loop_still s (counting init test1 post) k y is =
+      let h = header text s init in
+      let r = and_then_some (λ i. option_and_then (λ x. option_map (repeated i x) (post_statement text h post)) (test text h test1)) (init_statement text s init) k is in
+      let q = and_then_some (λ x. option_map (repeated r.0 x) (post_statement text h post)) (test text h test1) k r.2 in
+      let o = map_some (repeated r.0 q.0) (post_statement text h post) k q.2 in
+      ap (λ (x : Head). breaks (looped_by x y)) (sym o.2) ∙ headed_breaks r.0 (loop (declared_in r.0) q.0 o.0 y) (init_still s init r.0 r.1)
+  loop_still s (ranging t at e) k y is =
+      let n = number_type (over text s e) in
+      let r = and_then_some (λ x. option_map (counted x) (option_and_then key_of (target_lefts text (opened s) n t))) (over text s e) k is in
+      let q = map_some (counted r.0) (option_and_then key_of (target_lefts text (opened s) n t)) k r.2 in
+      ap (λ (x : Head). breaks (looped_by x y)) (sym q.2)
+
+  -- an endless loop that nothing leaves
+  loop_ends : (s : Scope) (c : Clause) (k : Head) (y : Sts) → clause_head text s c ≡ Some k → is_endless c ≡ true → breaks_all y ≡ false → ends (looped_by k y) ≡ true
+  loop_ends s forever k y is endless still = ap (λ (x : Head). ends (looped_by x y)) (sym (same_some is)) ∙ ap not still
+  loop_ends s (while_true e) k y is endless still = cc endless
+  loop_ends s (ranging t at e) k y is endless still = cc endless
+  loop_ends s (counting init (Some e) post) k y is endless still = cc endless
+  loop_ends s (counting init None post) k y is endless still =
+      let h = header text s init in
+      let r = and_then_some (λ i. option_and_then (λ x. option_map (repeated i x) (post_statement text h post)) (Some None)) (init_statement text s init) k is in
+      let o = map_some (repeated r.0 None) (post_statement text h post) k r.2 in
+      ap (λ (x : Head). ends (looped_by x y)) (sym o.2) ∙ (headed_ends r.0 (loop (declared_in r.0) None o.0 y) ∙ ap not still)
+
+  spec_still : (s : Scope) (v : ValueSpec) (t : St) → spec_statement text s v ≡ Some t → IsStill t
+  spec_still s v t is =
+      let a = allowed_is (is_known text v.type_expr) (cond (is_bare v.type_expr v.values) (spec_declared text s v) (spec_assigned text s v)) t is in
+      by (is_bare v.type_expr v.values) a.1
+    where
+      by : (b : Bool) → cond b (spec_declared text s v) (spec_assigned text s v) ≡ Some t → IsStill t
+      by true is1 = let q = map_some (λ es. declare (sites_of es)) (spec_entries text s v) t is1 in ap breaks (sym q.2)
+      by false is1 = assigned_still (option_map (map entry_left) (spec_entries text s v)) (taken (spec_wanted text v) (seen text s v.values)) t is1
+
+  specs_still : (s : Scope) (vs : List ValueSpec) (b : Sts) → spec_statements text s vs ≡ Some b → breaks_all b ≡ false
+  specs_still s [] b is = ap breaks_all (sym (same_some is))
+  specs_still s (v ∷ vs) b is =
+      let q = and_then_some (λ t. option_map (next t) (spec_statements text (behind_spec text s v) vs)) (spec_statement text s v) b is in
+      let k = map_some (next q.0) (spec_statements text (behind_spec text s v) vs) b q.2 in
+      ap breaks_all (sym k.2) ∙ (ap (λ x. x || breaks_all k.0) (spec_still s v q.0 q.1) ∙ specs_still (behind_spec text s v) vs k.0 k.1)
+
+  module _ (r : Returns) where
+    mutual
+      leaves_same : (looped : Bool) (s : Scope) (m : Stm) (b : Sts) → statement text r looped s m ≡ Some b → breaks_all b ≡ leaves m
+      leaves_same looped s (tree.declare at specs) b is = specs_still s specs b is
+      leaves_same looped s (tree.simple m) b is =
+          let q = map_some alone (simple_statement text s m) b is in ap breaks_all (sym q.2) ∙ ap (λ x. x || false) (simple_still s m q.0 q.1)
+      leaves_same looped s (tree.block ms) b is =
+          let q = map_some (λ x. alone (block x)) (statements text r looped (opened s) ms) b is in
+          ap breaks_all (sym q.2) ∙ (or_false (breaks_all q.0) ∙ leaves_all looped (opened s) ms q.0 q.1)
+      leaves_same looped s (tree.choice at g body rest) b is =
+          let h = header text s g.init in
+          let inner = closed (behind_all text (opened h) body) in
+          let u = map_some alone (choice_of (guard_head text s g) (statements text r looped (opened h) body) (alternative text r looped inner rest)) b is in
+          let q = choice_some (guard_head text s g) (statements text r looped (opened h) body) (alternative text r looped inner rest) u.0 u.1 in
+          ap breaks_all (sym u.2) ∙ (or_false (breaks u.0) ∙ (ap breaks (sym q.6) ∙ (headed_breaks q.0.init (choose q.0.condition q.1 q.2) (guard_still s g q.0 q.3)
+          ∙ (ap (λ x. x || breaks_all q.2) (leaves_all looped (opened h) body q.1 q.4) ∙ ap (λ x. leaves_any body || x) (leaves_rest looped inner rest q.2 q.5)))))
+      leaves_same looped s (tree.loop at c body) b is =
+          let h = clause_scope text s c in
+          let u = map_some alone (loop_of (clause_head text s c) (statements text r true (opened h) body)) b is in
+          let q = loop_some (clause_head text s c) (statements text r true (opened h) body) u.0 u.1 in
+          ap breaks_all (sym u.2) ∙ (or_false (breaks u.0) ∙ (ap breaks (sym q.4) ∙ loop_still s c q.0 q.1 q.2))
+      leaves_same looped s (tree.break_at at) b is = ap breaks_all (sym (same_some (allowed_is looped (Some (alone break_off)) b is).1))
+      leaves_same looped s (tree.continue_at at) b is = ap breaks_all (sym (same_some (allowed_is looped (Some (alone go_on)) b is).1))
+      leaves_same looped s (tree.give_back at es) b is =
+          let q = map_some alone (returned r (seen text s es)) b is in
+          let f = returned_as r (seen text s es) q.0 q.1 in
+          ap breaks_all (sym q.2) ∙ ap (λ (t : St). breaks t || false) f.1
+
+      leaves_rest : (looped : Bool) (s : Scope) (e : Els) (b : Sts) → alternative text r looped s e ≡ Some b → breaks_all b ≡ leaves_else e
+      leaves_rest looped s tree.no_else b is = ap breaks_all (sym (same_some is))
+      leaves_rest looped s (tree.else_block ms) b is = leaves_all looped (opened s) ms b is
+      leaves_rest looped s (tree.else_if at g body rest) b is =
+          let h = header text s g.init in
+          let inner = closed (behind_all text (opened h) body) in
+          let u = map_some alone (choice_of (guard_head text s g) (statements text r looped (opened h) body) (alternative text r looped inner rest)) b is in
+          let q = choice_some (guard_head text s g) (statements text r looped (opened h) body) (alternative text r looped inner rest) u.0 u.1 in
+          ap breaks_all (sym u.2) ∙ (or_false (breaks u.0) ∙ (ap breaks (sym q.6) ∙ (headed_breaks q.0.init (choose q.0.condition q.1 q.2) (guard_still s g q.0 q.3)
+          ∙ (ap (λ x. x || breaks_all q.2) (leaves_all looped (opened h) body q.1 q.4) ∙ ap (λ x. leaves_any body || x) (leaves_rest looped inner rest q.2 q.5)))))
+
+      leaves_all : (looped : Bool) (s : Scope) (ms : Stms) (b : Sts) → statements text r looped s ms ≡ Some b → breaks_all b ≡ leaves_any ms
+      leaves_all looped s tree.nil b is = ap breaks_all (sym (same_some is))
+      leaves_all looped s (tree.cons m ms) b is =
+          let q = and_then_some (λ t. option_map (before t) (statements text r looped (behind text s m) ms)) (statement text r looped s m) b is in
+          let k = map_some (before q.0) (statements text r looped (behind text s m) ms) b q.2 in
+          ap breaks_all (sym k.2) ∙ (breaks_before q.0 k.0 ∙ (ap (λ x. x || breaks_all k.0) (leaves_same looped s m q.0 q.1) ∙ ap (λ x. leaves m || x) (leaves_all looped (behind text s m) ms k.0 k.1)))
+
+    ends_alone : (e : Bool) (t : St) (b : Sts) → alone t ≡ b → ends t ≡ true → ends_last e b ≡ true
+    ends_alone e t b is ending = ap (ends_last e) (sym is) ∙ ending
+
+    mutual
+      ends_statement : (looped : Bool) (s : Scope) (m : Stm) (b : Sts) → statement text r looped s m ≡ Some b → is_terminating text m ≡ true → (e : Bool) → ends_last e b ≡ true
+      ends_statement looped s (tree.declare at specs) b is ending e = cc ending
+      ends_statement looped s (tree.simple m) b is ending e = let q = map_some alone (simple_statement text s m) b is in ends_alone e q.0 b q.2 (simple_ends s m q.0 ending q.1)
+      ends_statement looped s (tree.block ms) b is ending e =
+          let q = map_some (λ x. alone (block x)) (statements text r looped (opened s) ms) b is in
+          ends_alone e (block q.0) b q.2 (sym (ends_same q.0) ∙ ends_list looped (opened s) ms q.0 q.1 false ending)
+      ends_statement looped s (tree.choice at g body rest) b is ending e =
+          let h = header text s g.init in
+          let inner = closed (behind_all text (opened h) body) in
+          let u = map_some alone (choice_of (guard_head text s g) (statements text r looped (opened h) body) (alternative text r looped inner rest)) b is in
+          let q = choice_some (guard_head text s g) (statements text r looped (opened h) body) (alternative text r looped inner rest) u.0 u.1 in
+          let both1 = and_true (ends_after text false body) (is_terminating_else text rest) ending in
+          ends_alone e u.0 b u.2 (ap ends (sym q.6) ∙ (headed_ends q.0.init (choose q.0.condition q.1 q.2)
+          ∙ (ap (λ x. x && ends_all q.2) (sym (ends_same q.1) ∙ ends_list looped (opened h) body q.1 q.4 false both1.0) ∙ ends_else looped inner rest q.2 q.5 both1.1)))
+      ends_statement looped s (tree.loop at c body) b is ending e =
+          let h = clause_scope text s c in
+          let u = map_some alone (loop_of (clause_head text s c) (statements text r true (opened h) body)) b is in
+          let q = loop_some (clause_head text s c) (statements text r true (opened h) body) u.0 u.1 in
+          let both1 = and_true (is_endless c) (not (leaves_any body)) ending in
+          ends_alone e u.0 b u.2 (ap ends (sym q.4) ∙ loop_ends s c q.0 q.1 q.2 both1.0 (leaves_all true (opened h) body q.1 q.3 ∙ not_true (leaves_any body) both1.1))
+      ends_statement looped s (tree.break_at at) b is ending e = cc ending
+      ends_statement looped s (tree.continue_at at) b is ending e = cc ending
+      ends_statement looped s (tree.give_back at es) b is ending e =
+          let q = map_some alone (returned r (seen text s es)) b is in
+          let f = returned_as r (seen text s es) q.0 q.1 in
+          ends_alone e q.0 b q.2 (ap ends f.1)
+
+      ends_else : (looped : Bool) (s : Scope) (e : Els) (b : Sts) → alternative text r looped s e ≡ Some b → is_terminating_else text e ≡ true → ends_all b ≡ true
+      ends_else looped s tree.no_else b is ending = cc ending
+      ends_else looped s (tree.else_block ms) b is ending = sym (ends_same b) ∙ ends_list looped (opened s) ms b is false ending
+      ends_else looped s (tree.else_if at g body rest) b is ending =
+          let h = header text s g.init in
+          let inner = closed (behind_all text (opened h) body) in
+          let u = map_some alone (choice_of (guard_head text s g) (statements text r looped (opened h) body) (alternative text r looped inner rest)) b is in
+          let q = choice_some (guard_head text s g) (statements text r looped (opened h) body) (alternative text r looped inner rest) u.0 u.1 in
+          let both1 = and_true (ends_after text false body) (is_terminating_else text rest) ending in
+          ap ends_all (sym u.2) ∙ (ap ends (sym q.6) ∙ (headed_ends q.0.init (choose q.0.condition q.1 q.2)
+          ∙ (ap (λ x. x && ends_all q.2) (sym (ends_same q.1) ∙ ends_list looped (opened h) body q.1 q.4 false both1.0) ∙ ends_else looped inner rest q.2 q.5 both1.1)))
+
+      pub ends_list : (looped : Bool) (s : Scope) (ms : Stms) (b : Sts) → statements text r looped s ms ≡ Some b → (e : Bool) → ends_after text e ms ≡ true → ends_last e b ≡ true
+      ends_list looped s tree.nil b is e ending = ap (ends_last e) (sym (same_some is)) ∙ ending
+      ends_list looped s (tree.cons m ms) b is e ending =
+          let q = and_then_some (λ t. option_map (before t) (statements text r looped (behind text s m) ms)) (statement text r looped s m) b is in
+          let k = map_some (before q.0) (statements text r looped (behind text s m) ms) b q.2 in
+          ap (ends_last e) (sym k.2) ∙ (ends_before e q.0 k.0
+          ∙ either_way q.0 k.0 e (is_terminating text m) (λ is1. ends_statement looped s m q.0 q.1 is1 e) (ends_list looped (behind text s m) ms k.0 k.1 (is_terminating text m) ending))

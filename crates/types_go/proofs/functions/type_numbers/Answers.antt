@@ -1,0 +1,29 @@
+use Rattle.std.proofs.Common.{◌≡◌, [], ◌∷◌, ◌++◌, ◌+◌, List, drop, map, get_or, sym, ap, ◌∙◌, refl, arith, append-nil}
+use Rattle.base.specs.declared.ids.TypeId.{TypeId}
+use Rattle.types_go.specs.declared.slots.Slot.{Slot}
+use Rattle.types_go.specs.Functions.{slot_number}
+use Rattle.expression_types.proofs.Items.{from_there, nothing_left}
+use Rattle.types_go.proofs.Items.{no_slot}
+use Rattle.types_go.proofs.Sites.{number_more}
+use Rattle.types_go.proofs.functions.type_numbers.Goals as goal
+
+pub loop-slot-init : goal.loop-slot-init
+loop-slot-init c = rw (c.new-types.ensures.items) refl
+
+pub loop-slot-preserved : goal.loop-slot-preserved
+loop-slot-preserved c =
+    let xs = c.args.slots.now in
+    let k = c.loop-slot.slot-index in
+    let p : Slot = get_or xs k no_slot in
+    let so_far = map (λ (t : TypeId). t.0) c.loop-slot.types.items in
+    let here : drop k xs ≡ p ∷ drop (k + 1) xs = from_there xs k no_slot c.loop-slot-test.true in
+    rw (c.in_ok-push.ensures.items)
+    (c.loop-slot.invariant ∙ ap (λ (l : List Slot). so_far ++ map slot_number l) here ∙ number_more c.loop-slot.types.items c.number_or_int.result (slot_number p) (map slot_number (drop (k + 1) xs)) c.number_or_int.ensures)
+
+pub returns : goal.returns
+returns c =
+    let xs = c.args.slots.now in
+    let k = c.loop-slot.slot-index in
+    let so_far = map (λ (t : TypeId). t.0) c.loop-slot.types.items in
+    let none : drop k xs ≡ [] = nothing_left xs k (λ l. absurd (omega (arith, l, c.loop-slot-test.false))) in
+    sym (c.loop-slot.invariant ∙ ap (λ (l : List Slot). so_far ++ map slot_number l) none ∙ append-nil so_far)

@@ -1,0 +1,27 @@
+use Rattle.std.proofs.Common.{◌≡◌, [], ◌∷◌, ◌+◌, List, Option, Some, None, drop, get_or, sym, ap, ◌∙◌, refl, arith}
+use Rattle.std.specs.Prelude.{◌&&◌}
+use Rattle.expression_types.specs.declared.scope.ValueType.{ValueType}
+use Rattle.types_go.specs.Statements.{all_accept}
+use Rattle.expression_types.proofs.Items.{from_there, nothing_left, and_true}
+use Rattle.types_go.proofs.heads.all_take.Goals as goal
+
+pub loop-place-init : goal.loop-place-init
+loop-place-init c = refl
+
+pub loop-place-preserved : goal.loop-place-preserved
+loop-place-preserved c =
+    let t : Option ValueType = Some c.args.given in
+    let xs = c.args.wanted.now in
+    let k = c.loop-place.place-index in
+    let p : Option ValueType = get_or xs k None in
+    let here : drop k xs ≡ p ∷ drop (k + 1) xs = from_there xs k None c.loop-place-test.true in
+    let kept : all_accept t xs ≡ (c.loop-place.all && all_accept t (p ∷ drop (k + 1) xs)) = c.loop-place.invariant ∙ ap (λ (l : List (Option ValueType)). c.loop-place.all && all_accept t l) here in
+    grind (arith, kept)
+
+pub returns : goal.returns
+returns c =
+    let t : Option ValueType = Some c.args.given in
+    let xs = c.args.wanted.now in
+    let k = c.loop-place.place-index in
+    let none : drop k xs ≡ [] = nothing_left xs k (λ l. absurd (omega (arith, l, c.loop-place-test.false))) in
+    sym (c.loop-place.invariant ∙ ap (λ (l : List (Option ValueType)). c.loop-place.all && all_accept t l) none ∙ and_true c.loop-place.all)

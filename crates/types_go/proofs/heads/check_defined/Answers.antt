@@ -1,0 +1,18 @@
+use Rattle.std.proofs.Common.{◌≡◌, List, map, ◌∙◌, subst}
+use Rattle.expression_types.specs.Least.{IsLeast}
+use Rattle.expression_types.specs.Scope.{scope_of}
+use Rattle.types_go.specs.declared.slots.Slot.{Slot}
+use Rattle.types_go.specs.declared.entries.Role.TheVariants.{Parameter}
+use Rattle.types_go.specs.Entries.{slot_with}
+use Rattle.types_go.specs.EntryFaults.{EntriesFail}
+use Rattle.expression_types.proofs.Leasts.{least_join, leaf}
+use Rattle.types_go.proofs.heads.check_defined.Goals as goal
+
+pub returns-clause-fault : goal.returns-clause-fault
+returns-clause-fault c =
+    let text = c.args.text.now in
+    let s = scope_of c.args.scope.now in
+    let slots : c.deref.result.now ≡ map (slot_with c.args.given) c.args.names.now = c.deref.ensures.value ∙ c.in_ok-slots.ensures in
+    let first : IsLeast (EntriesFail text Parameter s (map (slot_with c.args.given) c.args.names.now)) c.in_ok-entries.entries.fault =
+    subst (λ (l : List Slot). IsLeast (EntriesFail text Parameter s l) c.in_ok-entries.entries.fault) slots c.in_ok-entries.ensures.fault in
+    rw (c.lesser.ensures, c.fault_where.ensures, c.all_blank-blank.ensures) (least_join _ _ c.in_ok-entries.entries.fault _ first (leaf _))

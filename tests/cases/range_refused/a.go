@@ -1,2 +1,0 @@
-package main
-func main() { for i := range 3 { println(i) } }

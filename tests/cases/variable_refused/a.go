@@ -1,2 +1,0 @@
-package main
-func main() { var x = 1; println(x) }
