@@ -57,15 +57,15 @@ module _ (m : Built) where
       ap (λ n. n + used_by (words_limits m) (numbers calls)) a ∙ ap (λ n. frame_of m.program.funcs c.func + n) (used c.entry calls w words s.1)
 
   -- the limit is met by both or by neither
-  gate : (lo b more asked : ℕ) (t : Lines Sight Ending) (s s1 : State) → act m.code m.max s ≡ (if nat_lt m.max (more + asked) then Stops [] (Limit more asked m.max) else Goes [] s1)
-      → Follows Sight Event Ending Stop same_event (same_end m.program.strings) lo 0 b t (λ k. exec (act m.code m.max) k s1)
-      → Follows Sight Event Ending Stop same_event (same_end m.program.strings) (suc lo) 1 b (if nat_le (more + asked) m.max then t else Run.End (StackLimit more asked m.max)) (λ k. exec (act m.code m.max) k s)
+  gate : (lo b more asked : ℕ) (t : Lines Sight Ending) (s s1 : State) → act m.code m.max m.items s ≡ (if nat_lt m.max (more + asked) then Stops [] (Limit more asked m.max) else Goes [] s1)
+      → Follows Sight Event Ending Stop same_event (same_end m.program.strings) lo 0 b t (λ k. exec (act m.code m.max m.items) k s1)
+      → Follows Sight Event Ending Stop same_event (same_end m.program.strings) (suc lo) 1 b (if nat_le (more + asked) m.max then t else Run.End (StackLimit more asked m.max)) (λ k. exec (act m.code m.max m.items) k s)
   gate lo b more asked t s s1 does f = elim (leb_tells (more + asked) m.max) [
-    | inl p ↦ subst (λ (x : Bool). Follows Sight Event Ending Stop same_event (same_end m.program.strings) (suc lo) 1 b (if x then t else Run.End (StackLimit more asked m.max)) (λ k. exec (act m.code m.max) k s)) (sym p.0)
-        (Rules.goes Sight Event Ending Stop same_event (same_end m.program.strings) State (act m.code m.max) {lo = lo} {hi = 0} {b = b} s s1
+    | inl p ↦ subst (λ (x : Bool). Follows Sight Event Ending Stop same_event (same_end m.program.strings) (suc lo) 1 b (if x then t else Run.End (StackLimit more asked m.max)) (λ k. exec (act m.code m.max m.items) k s)) (sym p.0)
+        (Rules.goes Sight Event Ending Stop same_event (same_end m.program.strings) State (act m.code m.max m.items) {lo = lo} {hi = 0} {b = b} s s1
         (does ∙ ap (λ x. if x then Stops [] (Limit more asked m.max) else Goes [] s1) (le-ltb m.max (more + asked) p.1)) f)
-    | inr p ↦ subst (λ (x : Bool). Follows Sight Event Ending Stop same_event (same_end m.program.strings) (suc lo) 1 b (if x then t else Run.End (StackLimit more asked m.max)) (λ k. exec (act m.code m.max) k s)) (sym p.0)
-        (Rules.stops Sight Event Ending Stop same_event (same_end m.program.strings) State (act m.code m.max) {lo = lo} {b = b} s (StackLimit more asked m.max) (Limit more asked m.max) (refl, refl, refl)
+    | inr p ↦ subst (λ (x : Bool). Follows Sight Event Ending Stop same_event (same_end m.program.strings) (suc lo) 1 b (if x then t else Run.End (StackLimit more asked m.max)) (λ k. exec (act m.code m.max m.items) k s)) (sym p.0)
+        (Rules.stops Sight Event Ending Stop same_event (same_end m.program.strings) State (act m.code m.max m.items) {lo = lo} {b = b} s (StackLimit more asked m.max) (Limit more asked m.max) (refl, refl, refl)
         (does ∙ ap (λ x. if x then Stops [] (Limit more asked m.max) else Goes [] s1) (lt-ltb m.max (more + asked) p.1)))
   ]
 
@@ -73,18 +73,18 @@ module _ (m : Built) where
   pub called : (c : Frame) (calls : List Frame) (w : World) (words : List ℕ) (f : ℕ) (func : Func) (vs : List Value) (pc lo b : ℕ) (t : Trace) (place : Placed m.program.funcs m.code f func) → slice_get m.program.funcs f ≡ Some func
       → slice_get m.code.instrs pc ≡ Some (Call f) → owner_of m.code pc ≡ c.fn → AreOf func.param_types vs → argument_words func + result_words func ≤ outgoing_of m.program.funcs c.func
       → AreAt vs (depth m (c ∷ calls)) 0 words → Good m (c ∷ calls) w words
-      → ((words1 : List ℕ) → Good m (fresh f func (length w.store) ∷ placed c (pc + 1) ∷ calls) w words1 → AreAt vs (depth m (c ∷ calls)) 0 words1 → At m (f ∷ numbers (c ∷ calls)) lo 0 b t place.start words1)
-      → At m (numbers (c ∷ calls)) (suc lo) 1 b (Note (Called f) t) pc words
+      → ((words1 : List ℕ) → Good m (fresh f func (length w.store) ∷ placed c (pc + 1) ∷ calls) w words1 → AreAt vs (depth m (c ∷ calls)) 0 words1 → At m (f ∷ numbers (c ∷ calls)) lo 0 b t place.start words1 w.reads)
+      → At m (numbers (c ∷ calls)) (suc lo) 1 b (Note (Called f) t) pc words w.reads
   called c calls w words f func vs pc lo b t place named here own typed room are g post = record {
-    at = subst (λ n. Follows Sight Event Ending Stop same_event (same_end m.program.strings) (suc lo) 1 b (if nat_le (n + frame_in m.program.funcs (slice_get m.program.funcs f)) m.max then out (words_limits m) (f ∷ numbers (c ∷ calls)) t else Run.End (StackLimit n (frame_in m.program.funcs (slice_get m.program.funcs f)) m.max)) (λ k. exec (act m.code m.max) k s))
+    at = subst (λ n. Follows Sight Event Ending Stop same_event (same_end m.program.strings) (suc lo) 1 b (if nat_le (n + frame_in m.program.funcs (slice_get m.program.funcs f)) m.max then out (words_limits m) (f ∷ numbers (c ∷ calls)) t else Run.End (StackLimit n (frame_in m.program.funcs (slice_get m.program.funcs f)) m.max)) (λ k. exec (act m.code m.max m.items) k s))
         (g.long ∙ sym (used (length w.store) (c ∷ calls) w words g.stack))
-        (subst (λ n. Follows Sight Event Ending Stop same_event (same_end m.program.strings) (suc lo) 1 b (if nat_le (length words + n) m.max then out (words_limits m) (f ∷ numbers (c ∷ calls)) t else Run.End (StackLimit (length words) n m.max)) (λ k. exec (act m.code m.max) k s))
+        (subst (λ n. Follows Sight Event Ending Stop same_event (same_end m.program.strings) (suc lo) 1 b (if nat_le (length words + n) m.max then out (words_limits m) (f ∷ numbers (c ∷ calls)) t else Run.End (StackLimit (length words) n m.max)) (λ k. exec (act m.code m.max m.items) k s))
         (sym (ap (frame_in m.program.funcs) named))
         (gate lo b (length words) (frame_of m.program.funcs func) (out (words_limits m) (f ∷ numbers (c ∷ calls)) t) s s1 does (post words1 good1 are1).at));
   }
     where
       s : State
-      s = record { pc = pc; words = words }
+      s = record { pc = pc; words = words; reads = w.reads }
 
       cleared : List ℕ
       cleared = zeroed words (argument_words func) (result_words func)
@@ -96,7 +96,7 @@ module _ (m : Built) where
       words1 = entered (frame_of m.program.funcs func) link (pc + 1) cleared
 
       s1 : State
-      s1 = record { pc = place.start; words = words1 }
+      s1 = record { pc = place.start; words = words1; reads = w.reads }
 
       zeros : length {A = ℕ} (replicate (result_words func) 0) ≡ result_words func
       zeros = length-replicate (result_words func) 0
@@ -112,8 +112,8 @@ module _ (m : Built) where
           let e : length words - frame_of m.program.funcs c.func ≡ depth m calls = omega (arith, long) in
           ap (λ n. address_of m.max (length words - n)) (frame_here m c.fn pc c.func g.stack.0.named own) ∙ ap (address_of m.max) e
 
-      does : act m.code m.max s ≡ (if nat_lt m.max (length words + frame_of m.program.funcs func) then Stops [] (Limit (length words) (frame_of m.program.funcs func) m.max) else Goes [] s1)
-      does = ap (λ o. act_on m.code m.max o s) here ∙ ap (λ o. calling m.max (code_frame m.code (owner_of m.code pc)) o s) place.entry
+      does : act m.code m.max m.items s ≡ (if nat_lt m.max (length words + frame_of m.program.funcs func) then Stops [] (Limit (length words) (frame_of m.program.funcs func) m.max) else Goes [] s1)
+      does = ap (λ o. act_on m.code m.max m.items o s) here ∙ ap (λ o. calling m.max (code_frame m.code (owner_of m.code pc)) o s) place.entry
 
       good0 : Good m (placed c (pc + 1) ∷ calls) w cleared
       good0 = moved m c (pc + 1) calls w cleared (outgoing_put m c calls w words (replicate (result_words func) 0) (argument_words func) (omega (arith, zeros)) g)
@@ -141,34 +141,34 @@ module _ (m : Built) where
       sym (word_slot words (depth m (c ∷ calls)) (frame_of m.program.funcs c.func - 2) g.long (omega arith)) ∙ ap (word_at words) e ∙ g.stack.0.link
 
   reads : (c : Frame) (calls : List Frame) (w : World) (words : List ℕ) (pc : ℕ) → owner_of m.code pc ≡ c.fn → Good m (c ∷ calls) w words →
-      act_on m.code m.max (Some Return) (record { pc = pc; words = words }) ≡ gives_back m.code m.max c.fn (frame_of m.program.funcs c.func) (back_of calls) (link_of m calls) (record { pc = pc; words = words })
+      act_on m.code m.max m.items (Some Return) (record { pc = pc; words = words; reads = w.reads }) ≡ gives_back m.code m.max c.fn (frame_of m.program.funcs c.func) (back_of calls) (link_of m calls) (record { pc = pc; words = words; reads = w.reads })
   reads c calls w words pc own g =
-      let s : State = record { pc = pc; words = words } in let fr = frame_of m.program.funcs c.func in
+      let s : State = record { pc = pc; words = words; reads = w.reads } in let fr = frame_of m.program.funcs c.func in
       ap (λ f. gives_back m.code m.max f (code_frame m.code f) (slot s (code_frame m.code f - 1)) (slot s (code_frame m.code f - 2)) s) own
       ∙ ap (λ n. gives_back m.code m.max c.fn n (slot s (n - 1)) (slot s (n - 2)) s) (ap (code_frame m.code) (sym own) ∙ frame_here m c.fn pc c.func g.stack.0.named own)
       ∙ ap (λ r. gives_back m.code m.max c.fn fr r (slot s (fr - 2)) s) (return_word c calls w words g)
       ∙ ap (λ l. gives_back m.code m.max c.fn fr (back_of calls) l s) (link_word c calls w words g)
 
   -- the return from the first call, and from another
-  pub first_returns : (c : Frame) (w : World) (words : List ℕ) (pc lo b : ℕ) (running : List ℕ) → slice_get m.code.instrs pc ≡ Some Return → owner_of m.code pc ≡ c.fn → Good m (c ∷ []) w words → At m running (suc lo) 1 b (End (Exit 0)) pc words
+  pub first_returns : (c : Frame) (w : World) (words : List ℕ) (pc lo b : ℕ) (running : List ℕ) → slice_get m.code.instrs pc ≡ Some Return → owner_of m.code pc ≡ c.fn → Good m (c ∷ []) w words → At m running (suc lo) 1 b (End (Exit 0)) pc words w.reads
   first_returns c w words pc lo b running here own g =
-      let s : State = record { pc = pc; words = words } in let fr = frame_of m.program.funcs c.func in let long = g.long in
+      let s : State = record { pc = pc; words = words; reads = w.reads } in let fr = frame_of m.program.funcs c.func in let long = g.long in
       stopped m {lo = lo} Return here
       (reads c [] w words pc own g
       ∙ ap (λ (x : Bool). if x then exits 0 0 else (if follows_call m.code c.fn 0 then goes_back m.max fr (code_frame m.code (owner_of m.code (0 - 1))) 0 0 s else Stops [] (WildReturn 0))) (eq-eqb fr (length words) (omega arith)))
 
   pub returned : (c up : Frame) (calls : List Frame) (w : World) (words : List ℕ) (pc lo b : ℕ) (running : List ℕ) (t : Trace) → slice_get m.code.instrs pc ≡ Some Return → owner_of m.code pc ≡ c.fn → Behind c.fn up → Good m (c ∷ up ∷ calls) w words
-      → At m running lo 0 b t up.place (drop (frame_of m.program.funcs c.func) words) → At m running (suc lo) 1 b t pc words
+      → At m running lo 0 b t up.place (drop (frame_of m.program.funcs c.func) words) w.reads → At m running (suc lo) 1 b t pc words w.reads
   returned c up calls w words pc lo b running t here own from g post =
       stepped m {lo = lo} {hi = 0} Return here
       (reads c (up ∷ calls) w words pc own g
       ∙ ap (λ (x : Bool). if x then exits ret link else (if follows_call m.code c.fn ret then goes_back m.max fr above ret link s else Stops [] (WildReturn ret))) (different fr (length words) (λ e. absurd (omega (arith, long))))
       ∙ ap (λ (x : Bool). if x then goes_back m.max fr above ret link s else Stops [] (WildReturn ret)) follows
       ∙ ap (λ n. goes_back m.max fr n ret link s) above_is
-      ∙ ap (λ (x : Bool). if x then Goes [] (record { pc = ret; words = drop fr words }) else Stops [] (WildLink link)) links) post
+      ∙ ap (λ (x : Bool). if x then Goes [] (record { pc = ret; words = drop fr words; reads = w.reads }) else Stops [] (WildLink link)) links) post
     where
       s : State
-      s = record { pc = pc; words = words }
+      s = record { pc = pc; words = words; reads = w.reads }
 
       fr : ℕ
       fr = frame_of m.program.funcs c.func

@@ -17,8 +17,8 @@ use Rattle.codegen.proofs.Places.{Standing, At, place_is, frame_here, turned, bo
 module _ (m : Built) (around : Setting) (c : Frame) (calls : List Frame) where
   pub params_follow : (ps : List (Option ℕ)) (ts : List ℕ) (vs : List Value) (env : Env) (scope : List ℕ) (entry : ℕ) (k : Env → Go) (w : World) (words : List ℕ) (q i pc lo b : ℕ) → AreOf ts vs → Standing m.code c.fn pc (params_code (slots_of m.program.funcs c.func) ps i) → ParamsFit m.program q ts ps
       → c.func.first ≤ q → q + named_params ps ≤ c.func.first + c.func.count → i + length vs ≤ room_of m calls → AreAt vs (depth m calls) i words → Good m (during c env scope [] ∷ calls) w words
-      → ((env1 : Env) (w1 : World) (words1 : List ℕ) → Good m (during c env1 (params_scope scope ps) [] ∷ calls) w1 words1 → At m (numbers (c ∷ calls)) lo 0 b (k env1 w1) (pc + params_size ps) words1)
-      → At m (numbers (c ∷ calls)) lo 0 b (Meaning.bear_params around entry ps vs env k w) pc words
+      → ((env1 : Env) (w1 : World) (words1 : List ℕ) → Good m (during c env1 (params_scope scope ps) [] ∷ calls) w1 words1 → At m (numbers (c ∷ calls)) lo 0 b (k env1 w1) (pc + params_size ps) words1 w1.reads)
+      → At m (numbers (c ∷ calls)) lo 0 b (Meaning.bear_params around entry ps vs env k w) pc words w.reads
   params_follow [] [] [] env scope entry k w words q i pc lo b typed has fit from to room are g post = place_is m (let e : pc + 0 ≡ pc = omega arith in e) (post env w words g)
   params_follow [] [] (v ∷ vs) env scope entry k w words q i pc lo b typed has fit from to room are g post = absurd typed
   params_follow [] (t ∷ ts) vs env scope entry k w words q i pc lo b typed has fit from to room are g post = absurd fit

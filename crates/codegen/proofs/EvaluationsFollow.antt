@@ -1,24 +1,25 @@
 -- The machine follows an evaluation.
-use Rattle.std.proofs.Common.{◌≡◌, ℕ, suc, ◌+◌, ◌<◌, ◌≤◌, true, false, List, [], ◌∷◌, ◌++◌, length, Some, refl, sym, ap, subst, arith, append_assoc, get_or}
-use Rattle.std.specs.Prelude.{slice_get, slice_index, slice_set}
+use Rattle.std.proofs.Common.{◌≡◌, ℕ, zero, suc, ◌+◌, ◌<◌, ◌≤◌, true, false, List, [], ◌∷◌, ◌++◌, length, Some, refl, sym, ap, subst, arith, append_assoc, get_or}
+use Rattle.std.specs.Prelude.{slice_get, slice_index, slice_set, None, IfSome, FitsSigned}
 use Rattle.std.proofs.lemmas.Int.{to_z-of_z}
 use Rattle.std.specs.Int.{w64}
 use Rattle.typed.specs.Value.{Value, int, bool}
-use Rattle.typed.specs.Syntax.{Ex, Exs, Piece, Func, Program, constant, read, unary, binary, both, either, call, local, here as itself, none, more, results, asked, text, shown, bool_type, results_in}
+use Rattle.typed.specs.Syntax.{Ex, Exs, Piece, Func, Program, constant, read, unary, binary, both, either, call, local, here as itself, none, more, results, asked, text, shown, int_type, bool_type, results_in}
 use Rattle.typed.specs.Form.{IsOf, AreOf, IsWord, ExFits, ExsFit, PiecesFit}
 use Rattle.typed.specs.Frames.{need, need_all, need_pieces, reach, reach_all, reach_pieces, outgoing_of, temps_of}
-use Rattle.meaning.specs.Trace.{World, Turn}
-use Rattle.meaning.specs.Store.{value_of}
+use Rattle.meaning.specs.Trace.{World, Asked, Turn, Note}
+use Rattle.meaning.specs.Store.{no_value, value_of}
 use Rattle.meaning.specs.Operators.{unary_of}
 use Rattle.meaning.specs.Meaning
-use Rattle.meaning.specs.Meaning.{Go, Then, Ways, Calls, Setting, only_value}
-use Rattle.isa.specs.declared.instr.Instr.TheVariants.{Const, Move, Bin, Jump, JumpZero}
+use Rattle.meaning.specs.Meaning.{Go, Then, Ways, Calls, Setting, Item, only_value}
+use Rattle.isa.specs.declared.instr.Instr.TheVariants.{Const, Move, Bin, Jump, JumpZero, ReadInt}
+use Rattle.machine.specs.Machine.{put_words, item_words}
 use Rattle.codegen.specs.Code.{temp, site_slot, slots_of, operation, unary_code, ex_code, exs_code, pieces_code, size, exs_size, pieces_size, call_code, call_size, word_of}
 use Rattle.codegen.proofs.Sizes.{length_code, length_exs}
-use Rattle.codegen.proofs.Frames.{Built, Stands, Frame, hold, numbers, Good}
-use Rattle.codegen.proofs.Changes.{one_more, temp_set, fewer, held_word, site_word}
+use Rattle.codegen.proofs.Frames.{Built, Stands, Frame, hold, numbers, Good, good_read}
+use Rattle.codegen.proofs.Changes.{one_more, temp_set, temps_put, fewer, held_word, site_word}
 use Rattle.codegen.proofs.Numbers.{agrees_one, unary_word}
-use Rattle.codegen.proofs.Places.{Standing, front, back, Panics, At, place_is, turned, seen, read_of, stepped}
+use Rattle.codegen.proofs.Places.{Standing, front, back, Panics, At, place_is, turned, seen, read_of, stepped, asking}
 use Rattle.codegen.proofs.Moves.{held_none, CallsFollow, call_end}
 use Rattle.codegen.proofs.OperatorsFollow.{operates, operates_one}
 use Rattle.codegen.proofs.ConditionsFollow.{goes_on, goes_to}
@@ -38,6 +39,32 @@ word_stands : (v : Value) → IsWord v → Stands v (word_of v)
 word_stands (int z) is = to_z-of_z w64 z is
 word_stands (bool x) is = refl
 
+-- what `readInt` gives
+pub asked_fits : (p : Program) (scope ts : List ℕ) → ExsFit p scope ts asked → ts ≡ int_type ∷ bool_type ∷ []
+asked_fits p scope [] fit = fit
+asked_fits p scope (t ∷ ts) fit = fit
+
+-- the values of an item, and their words
+item_types : (item : Item) → AreOf (int_type ∷ bool_type ∷ []) (Meaning.item_values item)
+item_types None = (refl, (refl, tt))
+item_types (Some z) = (refl, (refl, tt))
+
+item_two : (item : Item) → length (Meaning.item_values item) ≡ 2
+item_two None = refl
+item_two (Some z) = refl
+
+item_long : (item : Item) → length (item_words item) ≡ length (Meaning.item_values item)
+item_long None = refl
+item_long (Some z) = refl
+
+item_stands : (item : Item) → IfSome item (FitsSigned w64) → (j : ℕ) → j < length (Meaning.item_values item) → Stands (get_or (Meaning.item_values item) j no_value) (slice_index (item_words item) j)
+item_stands None fits zero l = refl
+item_stands None fits (suc zero) l = refl
+item_stands None fits (suc (suc j)) l = absurd (omega arith)
+item_stands (Some z) fits zero l = to_z-of_z w64 z fits
+item_stands (Some z) fits (suc zero) l = refl
+item_stands (Some z) fits (suc (suc j)) l = absurd (omega arith)
+
 -- the last call of some expressions
 pub last_fits : (p : Program) (scope ts : List ℕ) (f : ℕ) (es : Exs) → ExsFit p scope ts (results f es) → (func : Func) × (slice_get p.funcs f ≡ Some func) × (func.results ≡ ts) × ExsFit p scope func.param_types es
 last_fits p scope [] f es fit = fit
@@ -54,12 +81,12 @@ module _ (m : Built) where
   some_need scope t (either a b) fit = let l = some_need scope bool_type a fit.1 in omega arith
   some_need scope t (call f es) fit = let r = ap results_in fit.1 in let one = ap (length {A = ℕ}) fit.2 in omega (arith, r, one)
 
-  module _ (around : Setting) (callees : Calls) (n : ℕ) (cf : CallsFollow m callees n) where
+  module _ (around : Setting) (inputs : around.items ≡ m.items) (callees : Calls) (n : ℕ) (cf : CallsFollow m callees n) where
     -- behind the first operand of `&&`, and of `||`, which is in its temp
     both_end : (x : Value) (g : Go) (c : Frame) (calls : List Frame) (ws : Ways) (k : Then Value) (w : World) (words : List ℕ) (h goal pc lo b : ℕ) → slice_get m.code.instrs pc ≡ Some (JumpZero (temp (slots_of m.program.funcs c.func) h) goal)
-        → length c.held ≡ h → IsOf bool_type x → Good m (hold c (c.held ++ x ∷ []) ∷ calls) w words → At m (numbers (c ∷ calls)) lo 0 b (g w) (pc + 1) words
-        → (Good m (hold c (c.held ++ bool false ∷ []) ∷ calls) w words → At m (numbers (c ∷ calls)) lo 0 b (k (bool false) w) goal words)
-        → At m (numbers (c ∷ calls)) lo 0 b (Turn (Meaning.branch x g (Meaning.give ws k (bool false)) w)) pc words
+        → length c.held ≡ h → IsOf bool_type x → Good m (hold c (c.held ++ x ∷ []) ∷ calls) w words → At m (numbers (c ∷ calls)) lo 0 b (g w) (pc + 1) words w.reads
+        → (Good m (hold c (c.held ++ bool false ∷ []) ∷ calls) w words → At m (numbers (c ∷ calls)) lo 0 b (k (bool false) w) goal words w.reads)
+        → At m (numbers (c ∷ calls)) lo 0 b (Turn (Meaning.branch x g (Meaning.give ws k (bool false)) w)) pc words w.reads
     both_end (int z) g c calls ws k w words h goal pc lo b here hh is good on off = absurd (omega arith)
     both_end (bool true) g c calls ws k w words h goal pc lo b here hh is good on off =
         let a = temp (slots_of m.program.funcs c.func) h in
@@ -69,9 +96,9 @@ module _ (m : Built) where
         turned m {lo1 = suc lo} (omega arith) (goes_to m {lo = lo} a goal here (held_word m c calls w words c.held [] (bool false) h hh good) (seen m _ (off good)))
 
     either_end : (x : Value) (g : Go) (c : Frame) (calls : List Frame) (ws : Ways) (k : Then Value) (w : World) (words : List ℕ) (h goal end pc lo b : ℕ) → slice_get m.code.instrs pc ≡ Some (JumpZero (temp (slots_of m.program.funcs c.func) h) goal) → slice_get m.code.instrs (pc + 1) ≡ Some (Jump end)
-        → length c.held ≡ h → IsOf bool_type x → Good m (hold c (c.held ++ x ∷ []) ∷ calls) w words → At m (numbers (c ∷ calls)) lo 0 b (g w) goal words
-        → (Good m (hold c (c.held ++ bool true ∷ []) ∷ calls) w words → At m (numbers (c ∷ calls)) lo 0 b (k (bool true) w) end words)
-        → At m (numbers (c ∷ calls)) lo 0 b (Turn (Meaning.branch x (Meaning.give ws k (bool true)) g w)) pc words
+        → length c.held ≡ h → IsOf bool_type x → Good m (hold c (c.held ++ x ∷ []) ∷ calls) w words → At m (numbers (c ∷ calls)) lo 0 b (g w) goal words w.reads
+        → (Good m (hold c (c.held ++ bool true ∷ []) ∷ calls) w words → At m (numbers (c ∷ calls)) lo 0 b (k (bool true) w) end words w.reads)
+        → At m (numbers (c ∷ calls)) lo 0 b (Turn (Meaning.branch x (Meaning.give ws k (bool true)) g w)) pc words w.reads
     either_end (int z) g c calls ws k w words h goal end pc lo b here jump hh is good off on = absurd (omega arith)
     either_end (bool false) g c calls ws k w words h goal end pc lo b here jump hh is good off on =
         let a = temp (slots_of m.program.funcs c.func) h in
@@ -81,11 +108,24 @@ module _ (m : Built) where
         turned m {lo1 = suc (suc lo)} (omega arith) (goes_on m {lo = suc lo} {hi = 1} a goal here (held_word m c calls w words c.held [] (bool true) h hh good)
         (stepped m {lo = lo} {hi = 0} (Jump end) jump refl (seen m _ (on good))))
 
+    -- an item of the input: its number and its truth value go to two temps
+    item_read : (c : Frame) (calls : List Frame) (ws : Ways) (k : Then (List Value)) (w : World) (words : List ℕ) (h pc lo b : ℕ) → length c.held ≡ h → Standing m.code c.fn pc (ReadInt (temp (slots_of m.program.funcs c.func) h) ∷ []) → h + 2 ≤ temps_of m.program.funcs c.func → Good m (c ∷ calls) w words
+        → ((vs : List Value) (w1 : World) (words1 : List ℕ) → AreOf (int_type ∷ bool_type ∷ []) vs → Good m (hold c (c.held ++ vs) ∷ calls) w1 words1 → At m (numbers (c ∷ calls)) lo 0 b (k vs w1) (pc + 1) words1 w1.reads)
+        → At m (numbers (c ∷ calls)) lo 0 b (Meaning.turn (Meaning.ask around (Meaning.give_all ws k)) w) pc words w.reads
+    item_read c calls ws k w words h pc lo b hh has room g post =
+        let a = temp (slots_of m.program.funcs c.func) h in let item = m.items w.reads in
+        let w1 : World = record { store = w.store; reads = suc w.reads } in
+        subst (λ (items : ℕ → Item). At m (numbers (c ∷ calls)) lo 0 b (Turn (Note Asked (Meaning.give_all ws k (Meaning.item_values (items w.reads)) w1))) pc words w.reads) (sym inputs)
+        (turned m {lo1 = suc lo} (omega arith) (asking m {lo = lo} {hi = 0} (ReadInt a) has.0.0 refl (seen m _
+        (post (Meaning.item_values item) w1 (put_words words a (item_words item)) (item_types item)
+        (temps_put m c calls w1 words (item_words item) h (Meaning.item_values item) hh (item_long item) (let two = item_two item in omega (arith, two)) (item_stands item (m.numbers w.reads))
+        (good_read m (c ∷ calls) w (suc w.reads) words g))))))
+
     mutual
       pub ev_follows : (e : Ex) (t : ℕ) (c : Frame) (calls : List Frame) (ws : Ways) (k : Then Value) (w : World) (words : List ℕ) (h pc lo b : ℕ) → b ≤ suc n → length c.held ≡ h → Panics ws → Standing m.code c.fn pc (ex_code m.program.funcs (slots_of m.program.funcs c.func) e h pc)
           → ExFits m.program c.scope t e → h + need m.program.funcs e ≤ temps_of m.program.funcs c.func → reach m.program.funcs e ≤ outgoing_of m.program.funcs c.func → Good m (c ∷ calls) w words
-          → ((v : Value) (w1 : World) (words1 : List ℕ) → IsOf t v → Good m (hold c (c.held ++ v ∷ []) ∷ calls) w1 words1 → At m (numbers (c ∷ calls)) lo 0 b (k v w1) (pc + size m.program.funcs e) words1)
-          → At m (numbers (c ∷ calls)) lo 0 b (Meaning.ev around callees e ws c.env k w) pc words
+          → ((v : Value) (w1 : World) (words1 : List ℕ) → IsOf t v → Good m (hold c (c.held ++ v ∷ []) ∷ calls) w1 words1 → At m (numbers (c ∷ calls)) lo 0 b (k v w1) (pc + size m.program.funcs e) words1 w1.reads)
+          → At m (numbers (c ∷ calls)) lo 0 b (Meaning.ev around callees e ws c.env k w) pc words w.reads
       ev_follows (constant v) t c calls ws k w words h pc lo b le hh stops has fit enough reaches g post =
           let s = slots_of m.program.funcs c.func in let some = some_need c.scope t (constant v) fit in
           turned m {lo1 = suc lo} (omega arith) (seen m _ (stepped m {lo = lo} {hi = 0} (Const (temp s h) (word_of v)) has.0.0 refl
@@ -150,8 +190,8 @@ module _ (m : Built) where
 
       pub evs_follow : (es : Exs) (ts : List ℕ) (c : Frame) (calls : List Frame) (ws : Ways) (k : Then (List Value)) (w : World) (words : List ℕ) (h pc lo b : ℕ) → b ≤ suc n → length c.held ≡ h → Panics ws → Standing m.code c.fn pc (exs_code m.program.funcs (slots_of m.program.funcs c.func) es h pc)
           → ExsFit m.program c.scope ts es → h + need_all m.program.funcs es ≤ temps_of m.program.funcs c.func → reach_all m.program.funcs es ≤ outgoing_of m.program.funcs c.func → Good m (c ∷ calls) w words
-          → ((vs : List Value) (w1 : World) (words1 : List ℕ) → AreOf ts vs → Good m (hold c (c.held ++ vs) ∷ calls) w1 words1 → At m (numbers (c ∷ calls)) lo 0 b (k vs w1) (pc + exs_size m.program.funcs es) words1)
-          → At m (numbers (c ∷ calls)) lo 0 b (Meaning.evs around callees es ws c.env k w) pc words
+          → ((vs : List Value) (w1 : World) (words1 : List ℕ) → AreOf ts vs → Good m (hold c (c.held ++ vs) ∷ calls) w1 words1 → At m (numbers (c ∷ calls)) lo 0 b (k vs w1) (pc + exs_size m.program.funcs es) words1 w1.reads)
+          → At m (numbers (c ∷ calls)) lo 0 b (Meaning.evs around callees es ws c.env k w) pc words w.reads
       evs_follow none [] c calls ws k w words h pc lo b le hh stops has fit enough reaches g post =
           place_is m (let e : pc + 0 ≡ pc = omega arith in e) (post [] w words tt (held_none m c calls w words g))
       evs_follow none (t ∷ ts) c calls ws k w words h pc lo b le hh stops has fit enough reaches g post = absurd fit
@@ -163,8 +203,9 @@ module _ (m : Built) where
           evs_follow es ts (hold c (c.held ++ v ∷ [])) calls (Meaning.holding ws v) _ w1 words1 (h + 1) (pc + ne) lo b le (one_more c.held v h hh) stops (back m.code c.fn pc ne ce ces (length_code m.program.funcs s e h pc) has) fit.1 (omega arith) (omega arith) g1 (λ vs w2 words2 are g2.
           place_is m (let q : pc + (ne + nes) ≡ pc + ne + nes = omega arith in q)
           (post (v ∷ vs) w2 words2 (iv, are) (subst (λ l. Good m (hold c l ∷ calls) w2 words2) (append_assoc c.held (v ∷ []) vs) g2))))
-      evs_follow asked [] c calls ws k w words h pc lo b le hh stops has fit enough reaches g post = absurd fit
-      evs_follow asked (t ∷ ts) c calls ws k w words h pc lo b le hh stops has fit enough reaches g post = absurd fit
+      evs_follow asked ts c calls ws k w words h pc lo b le hh stops has fit enough reaches g post =
+          let types : ts ≡ int_type ∷ bool_type ∷ [] = asked_fits m.program c.scope ts fit in
+          item_read c calls ws k w words h pc lo b hh has enough g (λ vs w1 words1 are g1. post vs w1 words1 (subst (λ us. AreOf us vs) (sym types) are) g1)
       evs_follow (results f es) ts c calls ws k w words h pc lo b le hh stops has fit enough reaches g post =
           let s = slots_of m.program.funcs c.func in let nes = exs_size m.program.funcs es in
           let last = last_fits m.program c.scope ts f es fit in
@@ -177,8 +218,8 @@ module _ (m : Built) where
 
     pub pieces_follow : (ps : List Piece) (c : Frame) (calls : List Frame) (ws : Ways) (k : Then (List (List ℕ))) (w : World) (words : List ℕ) (h pc lo b : ℕ) → b ≤ suc n → length c.held ≡ h → Panics ws → Standing m.code c.fn pc (pieces_code m.program.funcs (slots_of m.program.funcs c.func) ps h pc)
         → PiecesFit m.program c.scope ps → h + need_pieces m.program.funcs ps ≤ temps_of m.program.funcs c.func → reach_pieces m.program.funcs ps ≤ outgoing_of m.program.funcs c.func → Good m (c ∷ calls) w words
-        → ((vs : List Value) (w1 : World) (words1 : List ℕ) → AreOf (piece_types ps) vs → Good m (hold c (c.held ++ vs) ∷ calls) w1 words1 → At m (numbers (c ∷ calls)) lo 0 b (k (texts around.strings ps vs) w1) (pc + pieces_size m.program.funcs ps) words1)
-        → At m (numbers (c ∷ calls)) lo 0 b (Meaning.pieces around callees ps ws c.env k w) pc words
+        → ((vs : List Value) (w1 : World) (words1 : List ℕ) → AreOf (piece_types ps) vs → Good m (hold c (c.held ++ vs) ∷ calls) w1 words1 → At m (numbers (c ∷ calls)) lo 0 b (k (texts around.strings ps vs) w1) (pc + pieces_size m.program.funcs ps) words1 w1.reads)
+        → At m (numbers (c ∷ calls)) lo 0 b (Meaning.pieces around callees ps ws c.env k w) pc words w.reads
     pieces_follow [] c calls ws k w words h pc lo b le hh stops has fit enough reaches g post =
         place_is m (let e : pc + 0 ≡ pc = omega arith in e) (post [] w words tt (held_none m c calls w words g))
     pieces_follow (text number ∷ ps) c calls ws k w words h pc lo b le hh stops has fit enough reaches g post =

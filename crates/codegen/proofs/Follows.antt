@@ -15,13 +15,14 @@ use Rattle.meaning.specs.Output.{Limits, Sight, out}
 use Rattle.simulation.specs.Outcome as Run
 use Rattle.simulation.specs.Outcome.{Lines, Outcome}
 use Rattle.simulation.specs.Follows.{Follows}
+use Rattle.simulation.specs.Steps.{exec}
 use Rattle.isa.specs.Code.{Tables}
 use Rattle.isa.specs.declared.instr.Instr.{Instr}
-use Rattle.machine.specs.Machine.{Event, owner_of}
+use Rattle.machine.specs.Machine.{Event, act, owner_of}
 use Rattle.machine.specs.declared.place.Ending.{Ending as Stop}
 use Rattle.machine.specs.declared.place.Ending.TheVariants.{StackLimit as Limit}
 use Rattle.codegen.specs.Code.{slots_of, params_code, zeros_code, params_size, entry_code, entry_size, sts_code, sts_size, leave_code, values_code, func_code}
-use Rattle.codegen.specs.Correct.{same_event, same_end, limits, entered, target, Simulated}
+use Rattle.codegen.specs.Correct.{same_event, same_end, limits, entered, target, Simulated, AreNumbers}
 use Rattle.codegen.proofs.Sizes.{length_params, length_entry, length_sts, length_func}
 use Rattle.codegen.proofs.Compiled.{Placed, Compiled}
 use Rattle.codegen.proofs.Frames.{Built, Stands, AreAt, Frame, placed, fresh, numbers, depth, room_of, Good, moved_back}
@@ -56,7 +57,7 @@ none_of : (ts : List ℕ) → length ts ≡ 0 → AreOf ts []
 none_of [] e = tt
 none_of (t ∷ ts) e = absurd (omega arith)
 
-module _ (m : Built) (around : Setting) (strings : around.strings ≡ m.program.strings) (zero_is : (site : ℕ) → Stands (Meaning.zero_of around site) 0 × IsOf (site_type m.program site) (Meaning.zero_of around site)) where
+module _ (m : Built) (around : Setting) (strings : around.strings ≡ m.program.strings) (inputs : around.items ≡ m.items) (zero_is : (site : ℕ) → Stands (Meaning.zero_of around site) 0 × IsOf (site_type m.program site) (Meaning.zero_of around site)) where
   no_values : (a : ℕ) (f : Func) → values_code (slots_of m.program.funcs f) a 0 f.named 0 ++ leave_code (slots_of m.program.funcs f) a f.named ≡ leave_code (slots_of m.program.funcs f) a f.named
   no_values a f = none f.named
     where
@@ -115,7 +116,7 @@ module _ (m : Built) (around : Setting) (strings : around.strings ≡ m.program.
 
     body_follows : (calls : List Frame) (vs : List Value) (ws : Ways) (env0 : Env) (k : Then (List Value)) (w : World) (words : List ℕ) (lo b : ℕ) → b ≤ suc n → Linked m f calls → Panics ws → AreOf func.param_types vs → argument_words func + result_words func ≤ room_of m calls
         → AreAt vs (depth m calls) 0 words → Good m (fresh f func (length w.store) ∷ calls) w words → Home m lo b func calls k
-        → At m (f ∷ numbers calls) lo 0 b (Meaning.births (λ e. Meaning.bear_params around e func.params vs (λ x. 0) (λ env1. Meaning.bear_zeros around e func.named env1 (λ env2. Meaning.exec_all around callees (suc n) func.body (Meaning.ways_in func.named e ws env0 k) env2 (Meaning.leave func.named e k [])))) w) place.start words
+        → At m (f ∷ numbers calls) lo 0 b (Meaning.births (λ e. Meaning.bear_params around e func.params vs (λ x. 0) (λ env1. Meaning.bear_zeros around e func.named env1 (λ env2. Meaning.exec_all around callees (suc n) func.body (Meaning.ways_in func.named e ws env0 k) env2 (Meaning.leave func.named e k [])))) w) place.start words w.reads
     body_follows calls vs ws env0 k w words lo b le from stops typed room are g home =
         let entry = length w.store in let c = fresh f func entry in let count = fit.count in let many = arguments_length m f func vs named typed in
         let returns : Returns m lo b c calls (Meaning.leave func.named entry k) = home_returns m c calls k entry lo b from room home fit.names in
@@ -124,7 +125,7 @@ module _ (m : Built) (around : Setting) (strings : around.strings ≡ m.program.
         record { panics = λ at x env1 w1. stops at x env0 w1; around = λ v i. i; broken = λ t e. absurd (let f : false ≡ true = t in cc); continued = λ t. absurd (let f : false ≡ true = t in cc); returned = returns } in
         params_follow m around c calls func.params func.param_types vs (λ x. 0) [] entry _ w words func.first 0 place.start lo b typed has_params fit.params (omega arith) (omega arith) (omega (arith, many)) are g (λ env1 w1 words1 g1.
         zeros_follow m around zero_is func.named c env1 (params_scope [] func.params) [] calls entry _ w1 words1 (func.first + named_params func.params) (place.start + params_size func.params) lo b has_zeros next_named (omega arith) g1 (λ env2 w2 words2 g2.
-        place_is m here (all_follow m around strings zero_is callees n cf c calls func.body (Meaning.ways_in func.named entry ws env0 k) env2 (Meaning.leave func.named entry k []) w2 words2 [] 0 false (scope_in func) (scope_in func) (body_first func) 0 0 start lo b le refl
+        place_is m here (all_follow m around strings inputs zero_is callees n cf c calls func.body (Meaning.ways_in func.named entry ws env0 k) env2 (Meaning.leave func.named entry k []) w2 words2 [] 0 false (scope_in func) (scope_in func) (body_first func) 0 0 start lo b le refl
         (front m.code f start body ending has_rest) fit.body (omega arith) (omega arith) scoped leads g2
         (λ goes env3 w3 words3 g3. returns [] 0 env3 (scope_in func) [] w3 words3 0 (start + sts_size m.program.funcs (argument_words func) func.named func.body) refl
         (subst (λ l. Standing m.code f (start + sts_size m.program.funcs (argument_words func) func.named func.body) l) (sym (no_values (argument_words func) func)) has_end) refl
@@ -140,17 +141,17 @@ module _ (m : Built) (around : Setting) (strings : around.strings ≡ m.program.
         let place = m.compiled.placed f func named in let callees = Meaning.call_at around m.program.funcs n in
         let before : pc ≡ pc + 1 - 1 = omega arith in
         let from : Behind m f (placed c (pc + 1)) = record { some = omega arith; call = ap (slice_get m.code.instrs) (sym before) ∙ here; owner = ap (owner_of m.code) (sym before) ∙ own } in
-        subst (λ o. At m (numbers (c ∷ calls)) (suc lo) 1 b (Meaning.run_body around m.program.funcs callees (suc n) f o vs ws env k w) pc words) (sym named)
+        subst (λ o. At m (numbers (c ∷ calls)) (suc lo) 1 b (Meaning.run_body around m.program.funcs callees (suc n) f o vs ws env k w) pc words w.reads) (sym named)
         (seen m _ (called m c calls w words f func vs pc lo b _ place named here own typed room are g (λ words1 g1 are1.
         body_follows n callees (calls_follow n) f func named place (placed c (pc + 1) ∷ calls) vs ws env k w words1 lo b le from stops typed room are1 g1
         (λ rs w1 words2 some are2 g2. post rs w1 words2 some are2 (moved_back m c (pc + 1) calls w1 words2 g2)))));
   }
 
--- the package variables show nothing
-globals_follow : (strings : List (List ℕ)) (around : Setting) (l : Limits) (gs : List (ℕ × Value)) (g : Go) (lo hi b : ℕ) (run : ℕ → Outcome Event Stop) → ((w : World) → Follows Sight Event Ending Stop same_event (same_end strings) lo hi b (out l [] (g w)) run)
-    → (w : World) → Follows Sight Event Ending Stop same_event (same_end strings) lo hi b (out l [] (Meaning.bear_globals around gs g w)) run
-globals_follow strings around l [] g lo hi b run post w = post w
-globals_follow strings around l ((site, v) ∷ gs) g lo hi b run post w = globals_follow strings around l gs g lo hi b run post (born w (Meaning.new_cell around 0 site v))
+-- the package variables show nothing, and read nothing
+globals_follow : (strings : List (List ℕ)) (around : Setting) (l : Limits) (gs : List (ℕ × Value)) (g : Go) (lo hi b : ℕ) (run : ℕ → Outcome Event Stop) → ((w : World) → w.reads ≡ 0 → Follows Sight Event Ending Stop same_event (same_end strings) lo hi b (out l [] (g w)) run)
+    → (w : World) → w.reads ≡ 0 → Follows Sight Event Ending Stop same_event (same_end strings) lo hi b (out l [] (Meaning.bear_globals around gs g w)) run
+globals_follow strings around l [] g lo hi b run post w unread = post w unread
+globals_follow strings around l ((site, v) ∷ gs) g lo hi b run post w unread = globals_follow strings around l gs g lo hi b run post (born w (Meaning.new_cell around 0 site v)) unread
 
 -- the first frame's limit is met by both or by neither
 gate : (strings : List (List ℕ)) (test : Bool) (frame max b : ℕ) (t : Lines Sight Ending) (run : ℕ → Outcome Event Stop) → Follows Sight Event Ending Stop same_event (same_end strings) 0 0 b t run →
@@ -175,9 +176,9 @@ zero_of_type zeros t same (inr e) =
     let is : get_or zeros t no_value ≡ bool false = ap (λ zs. get_or zs t no_value) same ∙ ap (λ i. get_or zero_values i no_value) e in
     subst (λ v. Stands v 0 × IsOf t v) (sym is) (refl, e)
 
-module _ (p : Program) (code : Tables) (compiled : Compiled p.funcs code) (texts : code.strings ≡ p.strings) (form : IsInForm p) (items : ℕ → Item) (max : ℕ) where
+module _ (p : Program) (code : Tables) (compiled : Compiled p.funcs code) (texts : code.strings ≡ p.strings) (form : IsInForm p) (items : ℕ → Item) (numbers_are : AreNumbers items) (max : ℕ) where
   abbrev built : Built
-  built = record { program = p; code = code; max = max; fits = form.fits; plain = form.plain; strings = texts; compiled = compiled }
+  built = record { program = p; code = code; max = max; items = items; fits = form.fits; plain = form.plain; strings = texts; numbers = numbers_are; compiled = compiled }
 
   abbrev around : Setting
   around = Meaning.setting_of items p
@@ -185,29 +186,34 @@ module _ (p : Program) (code : Tables) (compiled : Compiled p.funcs code) (texts
   zero_is : (site : ℕ) → Stands (Meaning.zero_of around site) 0 × IsOf (site_type p site) (Meaning.zero_of around site)
   zero_is site = zero_of_type p.zeros (site_type p site) form.zeros (form.plain site)
 
+  -- no item was read before
+  begun : (t : Lines Sight Ending) (start reads b : ℕ) (words : List ℕ) → reads ≡ 0 → Follows Sight Event Ending Stop same_event (same_end p.strings) 0 0 b t (λ k. exec (act code max items) k (record { pc = start; words = words; reads = reads }))
+      → Follows Sight Event Ending Stop same_event (same_end p.strings) 0 0 b t (λ k. exec (act code max items) k (record { pc = start; words = words; reads = 0 }))
+  begun t start reads b words unread f = subst (λ r. Follows Sight Event Ending Stop same_event (same_end p.strings) 0 0 b t (λ k. exec (act code max items) k (record { pc = start; words = words; reads = r }))) unread f
+
   -- `main` is entered without a call
-  main_follows : (n b : ℕ) → b ≤ suc n → (func : Func) → slice_get p.funcs p.main ≡ Some func → func.params ≡ [] → func.results ≡ [] → (w : World) → Follows Sight Event Ending Stop same_event (same_end p.strings) 0 0 b
-      (out (limits p max) [] (Meaning.call_at around p.funcs (suc n) p.main [] Meaning.at_top (λ x. 0) (λ rs. Meaning.stop (Exit 0)) w)) (target code p.main max)
-  main_follows n b le func named no_params no_results w =
+  main_follows : (n b : ℕ) → b ≤ suc n → (func : Func) → slice_get p.funcs p.main ≡ Some func → func.params ≡ [] → func.results ≡ [] → (w : World) → w.reads ≡ 0 → Follows Sight Event Ending Stop same_event (same_end p.strings) 0 0 b
+      (out (limits p max) [] (Meaning.call_at around p.funcs (suc n) p.main [] Meaning.at_top (λ x. 0) (λ rs. Meaning.stop (Exit 0)) w)) (target code items p.main max)
+  main_follows n b le func named no_params no_results w unread =
       let callees = Meaning.call_at around p.funcs n in
       let place = compiled.placed p.main func named in
       let none : length {A = Option ℕ} [] ≡ argument_words func = ap (λ l. length l) (sym no_params) in
       let nothing : result_words func ≡ 0 = ap (λ l. length l) no_results in
       let typed : AreOf func.param_types [] = none_of func.param_types (params_length p func.first func.param_types func.params (form.fits p.main func named).params ∙ sym none) in
-      subst (λ o. Follows Sight Event Ending Stop same_event (same_end p.strings) 0 0 b (out (limits p max) [] (Meaning.run_body around p.funcs callees (suc n) p.main o [] Meaning.at_top (λ x. 0) (λ rs. Meaning.stop (Exit 0)) w)) (target code p.main max)) (sym named)
-      (subst (λ o. Follows Sight Event Ending Stop same_event (same_end p.strings) 0 0 b (out (limits p max) [] (Meaning.run_body around p.funcs callees (suc n) p.main (Some func) [] Meaning.at_top (λ x. 0) (λ rs. Meaning.stop (Exit 0)) w)) (λ k. entered code max o k)) (sym place.entry)
+      subst (λ o. Follows Sight Event Ending Stop same_event (same_end p.strings) 0 0 b (out (limits p max) [] (Meaning.run_body around p.funcs callees (suc n) p.main o [] Meaning.at_top (λ x. 0) (λ rs. Meaning.stop (Exit 0)) w)) (target code items p.main max)) (sym named)
+      (subst (λ o. Follows Sight Event Ending Stop same_event (same_end p.strings) 0 0 b (out (limits p max) [] (Meaning.run_body around p.funcs callees (suc n) p.main (Some func) [] Meaning.at_top (λ x. 0) (λ rs. Meaning.stop (Exit 0)) w)) (λ k. entered code items max o k)) (sym place.entry)
       (first_gate p.strings (frame_in p.funcs (slice_get p.funcs p.main)) (frame_of p.funcs func) max b _ _ (ap (frame_in p.funcs) named)
-      (body_follows built around refl zero_is n callees (calls_follow built around refl zero_is n) p.main func named place [] [] Meaning.at_top (λ x. 0) (λ rs. Meaning.stop (Exit 0)) w (replicate (frame_of p.funcs func) 0) 0 b le tt (λ at x env1 w1. refl) typed (omega (arith, none, nothing)) (λ j l. absurd (omega arith))
-      (first_frame built p.main func w named) (λ rs w1. refl)).at))
+      (begun _ place.start w.reads b (replicate (frame_of p.funcs func) 0) unread (body_follows built around refl refl zero_is n callees (calls_follow built around refl refl zero_is n) p.main func named place [] [] Meaning.at_top (λ x. 0) (λ rs. Meaning.stop (Exit 0)) w (replicate (frame_of p.funcs func) 0) 0 b le tt (λ at x env1 w1. refl) typed (omega (arith, none, nothing)) (λ j l. absurd (omega arith))
+      (first_frame built p.main func w named) (λ rs w1. refl)).at)))
 
-  whole_follows : (n b : ℕ) → b ≤ suc n → Follows Sight Event Ending Stop same_event (same_end p.strings) 0 0 b (out (limits p max) [] (Meaning.trace items p n)) (target code p.main max)
+  whole_follows : (n b : ℕ) → b ≤ suc n → Follows Sight Event Ending Stop same_event (same_end p.strings) 0 0 b (out (limits p max) [] (Meaning.trace items p n)) (target code items p.main max)
   whole_follows n b le =
-      globals_follow p.strings around (limits p max) p.globals _ 0 0 b (target code p.main max)
-      (λ w. main_follows n b le form.main.0 form.main.1 form.main.2 form.main.3 w) Meaning.beginning
+      globals_follow p.strings around (limits p max) p.globals _ 0 0 b (target code items p.main max)
+      (λ w unread. main_follows n b le form.main.0 form.main.1 form.main.2 form.main.3 w unread) Meaning.beginning refl
 
 -- the code of a program in form does what the program means
 pub simulated : (p : Program) (code : Tables) → Compiled p.funcs code → IsInForm p → code.strings ≡ p.strings → Simulated p code
 simulated p code compiled form texts = record {
-  at_least = λ items max n k le. (whole_follows p code compiled texts form items max n 0 (omega arith)).lower n k (omega arith);
-  at_most = λ items max k. (whole_follows p code compiled texts form items max k (suc k) (omega arith)).upper k k (omega arith) (omega arith);
+  at_least = λ items are max n k le. (whole_follows p code compiled texts form items are max n 0 (omega arith)).lower n k (omega arith);
+  at_most = λ items are max k. (whole_follows p code compiled texts form items are max k (suc k) (omega arith)).upper k k (omega arith) (omega arith);
 }

@@ -8,22 +8,25 @@ use Rattle.typed.specs.Form.{IsOf, AreOf, IsPlain, site_type, InScope, FuncFits}
 use Rattle.typed.specs.Frames.{outgoing_of, temps_of, frame_of}
 use Rattle.meaning.specs.Trace.{World}
 use Rattle.meaning.specs.Store.{no_value, value_of}
-use Rattle.meaning.specs.Meaning.{Env, with_home}
+use Rattle.meaning.specs.Meaning.{Env, Item, with_home}
 use Rattle.isa.specs.Bin.{bit_of}
 use Rattle.isa.specs.Code.{Tables}
 use Rattle.machine.specs.Machine.{address_of}
 use Rattle.codegen.specs.Code.{site_slot, slots_of}
+use Rattle.codegen.specs.Correct.{AreNumbers}
 use Rattle.codegen.proofs.Compiled.{Compiled}
 use Rattle.codegen.proofs.Distances.{word_at}
 
--- a program in form, its code, and the most words that the stack may have
+-- a program in form, its code, the most words that the stack may have, and the items of the input
 pub record Built : Type 0 where
   pub program : Program
   pub code : Tables
   pub max : ℕ
+  pub items : ℕ → Item
   pub fits : (f : ℕ) (func : Func) → slice_get program.funcs f ≡ Some func → FuncFits program func
   pub plain : (site : ℕ) → IsPlain (site_type program site)
   pub strings : code.strings ≡ program.strings
+  pub numbers : AreNumbers items
   pub compiled : Compiled program.funcs code
 
 -- a value stands as a word
@@ -168,6 +171,13 @@ module _ (m : Built) where
   good_keeps calls w words words1 long same g = record {
     long = long ∙ g.long;
     stack = stack_keeps (length w.store) (length w.store) calls w w words words1 (omega arith) (λ x l. refl) same g.stack;
+  }
+
+  -- how many items were read is no matter of the words
+  pub good_read : (calls : List Frame) (w : World) (reads : ℕ) (words : List ℕ) → Good calls w words → Good calls (record { store = w.store; reads = reads }) words
+  good_read calls w reads words g = let u : World = record { store = w.store; reads = reads } in record {
+    long = g.long;
+    stack = stack_keeps (length w.store) (length w.store) calls w u words words (omega arith) (λ x l. refl) (λ d l. refl) g.stack;
   }
 
   -- the place to go on at is no matter of the words

@@ -6,7 +6,7 @@ use Rattle.isa.specs.Code.{Tables, CanCall, Fits as FitsAt, FitsPlace, IsCode, I
 use Rattle.isa.specs.declared.func.Func.{Func as Entry}
 use Rattle.isa.specs.declared.instr.Instr.{Instr}
 use Rattle.isa.specs.declared.instr.BinOp.TheVariants as Word
-use Rattle.isa.specs.declared.instr.Instr.TheVariants.{Const, Move, MoveWords, Bin, Un, Jump, JumpZero, Call, Argument, SetResults, PrintInt, PrintBool, PrintText, PrintSpace, PrintLine, Return, Exit, PanicText, PanicInt, PanicBool}
+use Rattle.isa.specs.declared.instr.Instr.TheVariants.{Const, Move, MoveWords, Bin, Un, Jump, JumpZero, Call, Argument, SetResults, ReadInt, PrintInt, PrintBool, PrintText, PrintSpace, PrintLine, Return, Exit, PanicText, PanicInt, PanicBool}
 use Rattle.machine.specs.Inside.{Inside}
 use Rattle.typed.specs.declared.operators.UnOp.{UnOp}
 use Rattle.typed.specs.declared.operators.UnOp.TheVariants as One
@@ -39,6 +39,7 @@ module _ (fns : List Entry) (strings slots incoming start end : ℕ) where
   Ok (PrintText number) = number < strings
   Ok PrintSpace = ⊤
   Ok PrintLine = ⊤
+  Ok (ReadInt a) = a + 2 ≤ slots
   Ok Return = ⊤
   Ok (Exit a) = a < slots
   Ok (PanicText number) = number < strings
@@ -118,7 +119,7 @@ module _ (fs : List Func) (s : Slots) (n : ℕ) (fns : List Entry) (strings argu
     exs_ok (more e es) h pc f a l =
         join (ex_code fs s e h pc) (exs_code fs s es (h + 1) (pc + size fs e)) (ex_ok e h pc f.1 a (omega arith)) (exs_ok es (h + 1) (pc + size fs e) f.2 (omega arith) (omega arith))
     exs_ok (results g es) h pc f a l = join (exs_code fs s es h pc) (call_code fs s g h) (exs_ok es h pc f.1 a (omega arith)) (call_ok g h f.0)
-    exs_ok asked h pc f a l = tt
+    exs_ok asked h pc f a l = (omega arith, tt)
 
   pieces_ok : (ps : List Piece) (h pc : ℕ) → PiecesFitIn fs s n h ps → start ≤ pc → pc + pieces_size fs ps < end → Are (pieces_code fs s ps h pc)
   pieces_ok [] h pc f a l = tt
@@ -328,6 +329,7 @@ module _ (owners : List ℕ) (f start end : ℕ) (own : (p : ℕ) → start ≤ 
   fits_at place slots incoming (PrintText number) k (inr g) = (k, g)
   fits_at place slots incoming PrintSpace k (inr g) = g
   fits_at place slots incoming PrintLine k (inr g) = g
+  fits_at place slots incoming (ReadInt a) k (inr g) = (k, g)
   fits_at place slots incoming Return k (inr g) = tt
   fits_at place slots incoming (Exit a) k (inr g) = k
   fits_at place slots incoming (PanicText number) k (inr g) = k

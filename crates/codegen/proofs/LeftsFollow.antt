@@ -52,8 +52,8 @@ module _ (m : Built) (around : Setting) where
 
   pub lefts_follow : (ls : List Left) (ts : List ℕ) (vs gone all : List Value) (c : Frame) (first env : Env) (before scope : List ℕ) (calls : List Frame) (ws : Ways) (k : Env → Go) (w : World) (words : List ℕ) (n h pc lo b : ℕ) → AreOf ts vs → length gone ≡ h → all ≡ gone ++ vs
       → Standing m.code c.fn pc (lefts_code (slots_of m.program.funcs c.func) ls h) → LeftsFit m.program before n (c.func.first + c.func.count) ts ls → c.func.first ≤ n → Kept before scope first env n → Good m (during c env scope all ∷ calls) w words
-      → ((env1 : Env) (w1 : World) (words1 : List ℕ) → Good m (during c env1 (scope_behind scope ls) all ∷ calls) w1 words1 → At m (numbers (c ∷ calls)) lo 0 b (k env1 w1) (pc + lefts_size ls) words1)
-      → At m (numbers (c ∷ calls)) lo 0 b (Meaning.land_all around (landings first ls) vs ws env k w) pc words
+      → ((env1 : Env) (w1 : World) (words1 : List ℕ) → Good m (during c env1 (scope_behind scope ls) all ∷ calls) w1 words1 → At m (numbers (c ∷ calls)) lo 0 b (k env1 w1) (pc + lefts_size ls) words1 w1.reads)
+      → At m (numbers (c ∷ calls)) lo 0 b (Meaning.land_all around (landings first ls) vs ws env k w) pc words w.reads
   lefts_follow [] [] vs gone all c first env before scope calls ws k w words n h pc lo b are hg e has fit from kept good post = place_is m (let q : pc + 0 ≡ pc = omega arith in q) (post env w words good)
   lefts_follow [] (t ∷ ts) vs gone all c first env before scope calls ws k w words n h pc lo b are hg e has fit from kept good post = absurd fit
   lefts_follow (l ∷ ls) [] [] gone all c first env before scope calls ws k w words n h pc lo b are hg e has fit from kept good post = absurd fit
@@ -84,8 +84,8 @@ module _ (m : Built) (around : Setting) where
   -- a new round's variables get the values of the old ones, through temp h
   pub renew_follows : (sites : List ℕ) (c : Frame) (env : Env) (scope : List ℕ) (held : List Value) (calls : List Frame) (entry : ℕ) (k : Env → Go) (w : World) (words : List ℕ) (h pc lo b : ℕ) → length held ≡ h → h + renewal_need m.program.funcs sites ≤ temps_of m.program.funcs c.func → AllInScope scope sites
       → Standing m.code c.fn pc (renew_code (slots_of m.program.funcs c.func) sites h) → Good m (during c env scope held ∷ calls) w words
-      → ((env1 : Env) (w1 : World) (words1 : List ℕ) → Good m (during c env1 scope held ∷ calls) w1 words1 → At m (numbers (c ∷ calls)) lo 0 b (k env1 w1) (pc + renew_size sites) words1)
-      → At m (numbers (c ∷ calls)) lo 0 b (Meaning.renew around entry sites env k w) pc words
+      → ((env1 : Env) (w1 : World) (words1 : List ℕ) → Good m (during c env1 scope held ∷ calls) w1 words1 → At m (numbers (c ∷ calls)) lo 0 b (k env1 w1) (pc + renew_size sites) words1 w1.reads)
+      → At m (numbers (c ∷ calls)) lo 0 b (Meaning.renew around entry sites env k w) pc words w.reads
   renew_follows [] c env scope held calls entry k w words h pc lo b hh room among has good post = place_is m (let q : pc + 0 ≡ pc = omega arith in q) (post env w words good)
   renew_follows (site ∷ sites) c env scope held calls entry k w words h pc lo b hh room among has good post =
       let s = slots_of m.program.funcs c.func in let v = value_of w (env site) in let old = during c env scope held in
@@ -108,8 +108,8 @@ module _ (m : Built) (around : Setting) where
   module _ (zero_is : (site : ℕ) → Stands (Meaning.zero_of around site) 0 × IsOf (site_type m.program site) (Meaning.zero_of around site)) where
     pub zeros_follow : (sites : List ℕ) (c : Frame) (env : Env) (scope : List ℕ) (held : List Value) (calls : List Frame) (entry : ℕ) (k : Env → Go) (w : World) (words : List ℕ) (n pc lo b : ℕ) → Standing m.code c.fn pc (zeros_code (slots_of m.program.funcs c.func) sites)
         → SitesNext n (c.func.first + c.func.count) sites → c.func.first ≤ n → Good m (during c env scope held ∷ calls) w words
-        → ((env1 : Env) (w1 : World) (words1 : List ℕ) → Good m (during c env1 (scope_with scope sites) held ∷ calls) w1 words1 → At m (numbers (c ∷ calls)) lo 0 b (k env1 w1) (pc + length sites) words1)
-        → At m (numbers (c ∷ calls)) lo 0 b (Meaning.bear_zeros around entry sites env k w) pc words
+        → ((env1 : Env) (w1 : World) (words1 : List ℕ) → Good m (during c env1 (scope_with scope sites) held ∷ calls) w1 words1 → At m (numbers (c ∷ calls)) lo 0 b (k env1 w1) (pc + length sites) words1 w1.reads)
+        → At m (numbers (c ∷ calls)) lo 0 b (Meaning.bear_zeros around entry sites env k w) pc words w.reads
     zeros_follow [] c env scope held calls entry k w words n pc lo b has fit from good post = place_is m (let e : pc + 0 ≡ pc = omega arith in e) (post env w words good)
     zeros_follow (site ∷ sites) c env scope held calls entry k w words n pc lo b has fit from good post =
         let s = slots_of m.program.funcs c.func in let words1 = slice_set words (site_slot s site) 0 in

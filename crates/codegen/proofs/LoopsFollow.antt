@@ -25,7 +25,7 @@ use Rattle.codegen.proofs.Counting.{remains_first}
 use Rattle.codegen.proofs.RoundsFollow.{counting, counting_is, two_held, Tests, Round, rounds_follow, CountRound, counted_follow}
 use Rattle.codegen.proofs.Leading.{After, after_later, leads_later, leads_alone, inside, leads_inside, leads_holding, Followed, AllFollowed}
 
-module _ (m : Built) (around : Setting) (callees : Calls) (n : ℕ) (cf : CallsFollow m callees n) (c : Frame) (calls : List Frame) where
+module _ (m : Built) (around : Setting) (inputs : around.items ≡ m.items) (callees : Calls) (n : ℕ) (cf : CallsFollow m callees n) (c : Frame) (calls : List Frame) where
   pub done_follows : AllFollowed m c calls around callees n done
   done_follows ws env k w words held h looped outer scope q out again pc lo b le hh has fit enough reaches sc leads g post =
       seen m _ (place_is m (let e : pc + 0 ≡ pc = omega arith in e) (post refl env w words g))
@@ -53,7 +53,7 @@ module _ (m : Built) (around : Setting) (callees : Calls) (n : ℕ) (cf : CallsF
       let has1 = back m.code c.fn pc (size fs e) ce (z ∷ (cx ++ j ∷ cy)) (length_code fs s e h pc) has in
       let has3 = back m.code c.fn p1 lx cx (j ∷ cy) (length_sts fs a named s x h out again p1) has1.1 in
       let q2 : pc + (size fs e + 1 + lx + 1 + ly) ≡ p2 + ly = omega arith in
-      ev_follows m around callees n cf e bool_type (during c env scope held) calls ws _ w words h pc lo b le hh leads.panics (front m.code c.fn pc ce (z ∷ (cx ++ j ∷ cy)) has) fit.0 (omega arith) (omega arith) g (λ v w1 words1 iv g1.
+      ev_follows m around inputs callees n cf e bool_type (during c env scope held) calls ws _ w words h pc lo b le hh leads.panics (front m.code c.fn pc ce (z ∷ (cx ++ j ∷ cy)) has) fit.0 (omega arith) (omega arith) g (λ v w1 words1 iv g1.
       let g2 = fewer m (during c env scope held) calls w1 words1 held (v ∷ []) g1 in
       turned m {lo1 = suc (suc lo)} (omega arith)
       (branches m v (Meaning.exec_all around callees (suc n) x ws env k) (Meaning.exec_all around callees (suc n) y ws env k) w1 (numbers (c ∷ calls)) words1 (temp s h) p2 (pc + size fs e) (suc lo) b has1.0.0 iv (held_word m (during c env scope held) calls w1 words1 held [] v h hh g1)
@@ -75,7 +75,7 @@ module _ (m : Built) (around : Setting) (callees : Calls) (n : ℕ) (cf : CallsF
       let s = slots_of m.program.funcs c.func in let fs = m.program.funcs in
       let ce = ex_code fs s e h pc in let z = JumpZero (temp s h) behind in
       let has1 = back m.code c.fn pc (size fs e) ce (z ∷ []) (length_code fs s e h pc) has in
-      ev_follows m around callees n cf e bool_type (during c env scope held) calls ws _ w words h pc lo d (omega arith) hh stops (front m.code c.fn pc ce (z ∷ []) has) fit enough reaches good (λ v w1 words1 iv good1.
+      ev_follows m around inputs callees n cf e bool_type (during c env scope held) calls ws _ w words h pc lo d (omega arith) hh stops (front m.code c.fn pc ce (z ∷ []) has) fit enough reaches good (λ v w1 words1 iv good1.
       let good2 = fewer m (during c env scope held) calls w1 words1 held (v ∷ []) good1 in
       turned m {lo1 = suc lo} (omega arith)
       (branches m v g1 g2 w1 (numbers (c ∷ calls)) words1 (temp s h) behind (pc + size fs e) lo d has1.0.0 iv (held_word m (during c env scope held) calls w1 words1 held [] v h hh good1)
@@ -153,7 +153,7 @@ module _ (m : Built) (around : Setting) (callees : Calls) (n : ℕ) (cf : CallsF
   range_follows e key (new site) body bodies ws env k w words held h looped outer scope q out again pc lo b le hh has fit enough reaches sc leads g post = absurd fit
   range_follows e key (to p) body bodies ws env k w words held h looped outer scope q out again pc lo b le hh has fit enough reaches sc leads g post = absurd fit
   range_follows e key blank body bodies ws env k w words held h looped outer scope q out again pc lo b le hh has fit enough reaches sc leads g post =
-      ev_follows m around callees n cf e int_type (during c env scope held) calls ws _ w words h pc lo b le hh leads.panics (front m.code c.fn pc ce rest has) fit.0 (omega arith) (omega arith) g over
+      ev_follows m around inputs callees n cf e int_type (during c env scope held) calls ws _ w words h pc lo b le hh leads.panics (front m.code c.fn pc ce rest has) fit.0 (omega arith) (omega arith) g over
     where
       test : ℕ
       test = pc + size m.program.funcs e + 1
@@ -221,7 +221,7 @@ module _ (m : Built) (around : Setting) (callees : Calls) (n : ℕ) (cf : CallsF
           let first = Meaning.outside k v in let then_next = Meaning.to_next_count v j in
           let all = counting z held i in let more = scope_behind scope (key ∷ []) in
           let next = next_follow z i v j d go in
-          subst (λ t. At m (numbers (c ∷ calls)) lo 0 d t (test + 1 + 1) words1) (sym (ready_one_is around callees key (ways z) env1 (λ a. Meaning.land around a (int (pos i)) (ways z) env1 (λ env2. Meaning.in_loop (Meaning.exec_all around callees (suc n) body) (ways z) first then_next env2)) w1))
+          subst (λ t. At m (numbers (c ∷ calls)) lo 0 d t (test + 1 + 1) words1 w1.reads) (sym (ready_one_is around callees key (ways z) env1 (λ a. Meaning.land around a (int (pos i)) (ways z) env1 (λ env2. Meaning.in_loop (Meaning.exec_all around callees (suc n) body) (ways z) first then_next env2)) w1))
           (lefts_follow m around (key ∷ []) (int_type ∷ []) (int (pos i) ∷ []) (held ++ int z ∷ []) all c env1 env1 scope scope calls (ways z) (λ env2. Meaning.in_loop (Meaning.exec_all around callees (suc n) body) (ways z) first then_next env2) w1 words1 q (h + 1) (test + 1 + 1) lo d (refl, tt)
           (one_more held (int z) h hh) (sym (counting_is z held i)) (front m.code c.fn (test + 1 + 1) cl (cb ++ counts) has_rest.1.1.1) fit.1 sc.from (λ u i. (i, refl, sc.below u i)) g1 (λ env2 w2 words2 g2.
           place_is m (let q1 : here ≡ test + 1 + 1 + lefts_size (key ∷ []) = omega arith in q1)
@@ -232,7 +232,7 @@ module _ (m : Built) (around : Setting) (callees : Calls) (n : ℕ) (cf : CallsF
           (λ goes env3 w3 words3 g3. next env3 w3 words3 (narrowed m (hold c all) env3 more scope calls w3 words3 (behind_has scope (key ∷ [])) g3)))))
 
       over : (v : Value) (w1 : World) (words1 : List ℕ) → IsOf int_type v → Good m (during c env scope (held ++ v ∷ []) ∷ calls) w1 words1
-          → At m (numbers (c ∷ calls)) lo 0 b (Meaning.turn (Meaning.births (λ v1. Meaning.counted (suc n) 0 (Meaning.count_of v) (Meaning.range_round around callees (suc n) key (Meaning.exec_all around callees (suc n) body) (Meaning.holding ws v) (Meaning.outside k)) (Meaning.outside k) v1 env)) w1) (pc + size m.program.funcs e) words1
+          → At m (numbers (c ∷ calls)) lo 0 b (Meaning.turn (Meaning.births (λ v1. Meaning.counted (suc n) 0 (Meaning.count_of v) (Meaning.range_round around callees (suc n) key (Meaning.exec_all around callees (suc n) body) (Meaning.holding ws v) (Meaning.outside k)) (Meaning.outside k) v1 env)) w1) (pc + size m.program.funcs e) words1 w1.reads
       over (bool x) w1 words1 iv g1 = absurd (omega arith)
       over (int z) w1 words1 iv g1 =
           turned m {lo1 = suc lo} (omega arith) (stepped m {lo = lo} {hi = 0} (Const index_slot 0) has_rest.0.0 refl

@@ -35,9 +35,9 @@ module _ (m : Built) (c : Frame) (calls : List Frame) where
   abbrev pub Tests : (held : List Value) → (scope : List ℕ) → (tested : Bool) → (pc inside behind lo b : ℕ) → (Env → Then Value → Go) → Type 0
   Tests held scope tested pc inside behind lo b test =
       (env : Env) (g h : Go) (w : World) (words : List ℕ) (d : ℕ) → d ≤ b → Good m (during c env scope held ∷ calls) w words
-      → ((w1 : World) (words1 : List ℕ) → Good m (during c env scope held ∷ calls) w1 words1 → At m (numbers (c ∷ calls)) lo 0 d (g w1) inside words1)
-      → (tested ≡ true → (w1 : World) (words1 : List ℕ) → Good m (during c env scope held ∷ calls) w1 words1 → At m (numbers (c ∷ calls)) lo 0 d (h w1) behind words1)
-      → At m (numbers (c ∷ calls)) lo 0 d (test env (λ v. Meaning.branch v g h) w) pc words
+      → ((w1 : World) (words1 : List ℕ) → Good m (during c env scope held ∷ calls) w1 words1 → At m (numbers (c ∷ calls)) lo 0 d (g w1) inside words1 w1.reads)
+      → (tested ≡ true → (w1 : World) (words1 : List ℕ) → Good m (during c env scope held ∷ calls) w1 words1 → At m (numbers (c ∷ calls)) lo 0 d (h w1) behind words1 w1.reads)
+      → At m (numbers (c ∷ calls)) lo 0 d (test env (λ v. Meaning.branch v g h) w) pc words w.reads
 
   -- what a round does, from behind its test to the jump back
   abbrev pub Round : (held : List Value) → (scope : List ℕ) → (inside last lo b : ℕ) → (ℕ → Env → (ℕ → Env → Go) → Go) → Type 0
@@ -98,10 +98,10 @@ module _ (m : Built) (c : Frame) (calls : List Frame) where
 
     -- the comparison, whose outcome is known, and the jump
     compared : (r : Bool) (goal i lo d : ℕ) (env : Env) (g : Go) (w : World) (words : List ℕ) → int_lt (pos i) z ≡ r → (if bit_of r == 0 then behind else test + 1 + 1) ≡ goal
-        → ((words1 : List ℕ) → Good m (during c env scope (counting z held i) ∷ calls) w words1 → At m (numbers (c ∷ calls)) lo 0 d (g w) goal words1)
-        → Good m (during c env scope (counting z held i) ∷ calls) w words → At m (numbers (c ∷ calls)) lo 0 d (Meaning.turn g w) test words
+        → ((words1 : List ℕ) → Good m (during c env scope (counting z held i) ∷ calls) w words1 → At m (numbers (c ∷ calls)) lo 0 d (g w) goal words1 w.reads)
+        → Good m (during c env scope (counting z held i) ∷ calls) w words → At m (numbers (c ∷ calls)) lo 0 d (Meaning.turn g w) test words w.reads
     compared r goal i lo d env g w words known leads post good =
-        let s0 : State = record { pc = test; words = words } in
+        let s0 : State = record { pc = test; words = words; reads = w.reads } in
         let words1 = slice_set words spare_slot (bit_of r) in
         let good1 = spare i (bit_of r) env w words good in
         let long = good.long in let from = good.stack.0.room in
@@ -112,7 +112,7 @@ module _ (m : Built) (c : Frame) (calls : List Frame) where
         (stepped m {lo = suc lo} {hi = 1} (Bin Word.Less spare_slot index_slot number_slot) less (ap (puts_or_panics s0 spare_slot) bit)
         (jumped r words1 set leads (post words1 good1)))
       where
-        jumped : (r : Bool) (words1 : List ℕ) → slice_index words1 spare_slot ≡ bit_of r → (if bit_of r == 0 then behind else test + 1 + 1) ≡ goal → At m (numbers (c ∷ calls)) lo 0 d (g w) goal words1 → At m (numbers (c ∷ calls)) (suc lo) 1 d (g w) (test + 1) words1
+        jumped : (r : Bool) (words1 : List ℕ) → slice_index words1 spare_slot ≡ bit_of r → (if bit_of r == 0 then behind else test + 1 + 1) ≡ goal → At m (numbers (c ∷ calls)) lo 0 d (g w) goal words1 w.reads → At m (numbers (c ∷ calls)) (suc lo) 1 d (g w) (test + 1) words1 w.reads
         jumped true words1 set leads post = goes_on m {lo = lo} spare_slot behind leave set (place_is m (sym leads) post)
         jumped false words1 set leads post = goes_to m {lo = lo} spare_slot behind leave set (place_is m (sym leads) post)
 
@@ -125,7 +125,7 @@ module _ (m : Built) (c : Frame) (calls : List Frame) where
     counted_follow body k lo b round post (suc fuel) i (suc left) d db df remains v env w words g =
         compared true (test + 1 + 1) i lo d env (body i v env (λ v1 env1. Meaning.turn (Meaning.counted fuel (suc i) left body k v1 env1))) w words (some_less z i left remains) refl
         (λ words1 g1. round i v _ d db (λ v1 env1 w2 words2 g2.
-        let s0 : State = record { pc = turn + 1; words = slice_set words2 spare_slot 1 } in
+        let s0 : State = record { pc = turn + 1; words = slice_set words2 spare_slot 1; reads = w2.reads } in
         let words3 = slice_set words2 spare_slot 1 in
         let g3 = spare i 1 env1 w2 words2 g2 in
         let long = g2.long in

@@ -1,4 +1,4 @@
--- Two programs: one calls itself and gives several results, the other has a `range`, a `break` and a panic. They are in form, and
+-- Three programs: one calls itself and gives several results, one has a `range`, a `break` and a panic, and one reads its input. They are in form, and
 -- their meaning shows what it should.
 use Rattle.std.proofs.Common.{◌≡◌, inl, inr, ℕ, zero, suc, pos, true, [], ◌∷◌, Some, refl, sym, ap, ◌∙◌, subst, arith}
 use Rattle.std.specs.Prelude.{None, slice_get}
@@ -6,7 +6,7 @@ use Rattle.std.specs.Fmt.{digits}
 use Rattle.base.specs.declared.pos.Pos.{Pos}
 use Rattle.typed.specs.declared.operators.BinOp.TheVariants.{Add, Div, Equal, LessEqual, Sub}
 use Rattle.typed.specs.Value.{int}
-use Rattle.typed.specs.Syntax.{Ex, Sts, Func, Program, constant, read, binary, local, here, none, more, results, blank, new, to, text, shown, over_int, assign, choose, range, break_off, give_back, print, done, next}
+use Rattle.typed.specs.Syntax.{Ex, Sts, Func, Program, constant, read, binary, local, here, none, more, results, asked, blank, new, to, text, shown, over_int, assign, choose, range, break_off, give_back, print, done, next}
 use Rattle.typed.specs.View.{zero_values}
 use Rattle.typed.specs.Form.{IsPlain, site_type, FuncFits, IsInForm}
 use Rattle.meaning.specs.Trace.{Panic, divide_by_zero}
@@ -58,6 +58,19 @@ stopped_func at = record { first = 0; count = 1; params = []; param_types = []; 
 
 abbrev pub stopped : Pos → Program
 stopped at = record { funcs = stopped_func at ∷ []; zeros = zero_values; sites = 0 ∷ []; strings = (105 ∷ []) ∷ []; globals = []; main = 0 }
+
+-- println("i"); n, ok := readInt(); println(n, ok)
+abbrev pub asking_body : Sts
+asking_body =
+    next (print true (text 0 ∷ []))
+    (next (assign (new 0 ∷ new 1 ∷ []) asked)
+    (next (print true (shown 0 (variable 0) ∷ shown 1 (variable 1) ∷ [])) done))
+
+abbrev pub asking_func : Func
+asking_func = record { first = 0; count = 2; params = []; param_types = []; results = []; named = []; body = asking_body }
+
+abbrev pub asking : Program
+asking = record { funcs = asking_func ∷ []; zeros = zero_values; sites = 0 ∷ 1 ∷ []; strings = (105 ∷ []) ∷ []; globals = []; main = 0 }
 
 pair_fits : (at : Pos) → FuncFits (sample at) (pair at)
 pair_fits at = record {
@@ -114,6 +127,23 @@ stopped_fits at = record {
   small = omega arith;
 }
 
+asking_fits : FuncFits asking asking_func
+asking_fits = record {
+  params = tt;
+  named = tt;
+  names = inl refl;
+  count = refl;
+  body = (
+    (omega arith, tt),
+    (
+      (0 ∷ 1 ∷ [], (refl, omega arith, refl, (refl, omega arith, refl, tt)), refl),
+      (((inr (inl refl), refl), ((inl refl, refl), tt)), tt),
+    ),
+  );
+  end = inl refl;
+  small = omega arith;
+}
+
 same_some : {A : Type 0} {x y : A} → Some x ≡ Some y → x ≡ y
 same_some e = cc
 
@@ -147,6 +177,18 @@ stopped_plain at (suc site) = inl refl
 stopped_in_form : (at : Pos) → IsInForm (stopped at)
 stopped_in_form at = record { fits = all_stopped_fits at; few = omega arith; main = (stopped_func at, refl, refl, refl, refl); plain = stopped_plain at; zeros = refl }
 
+all_asking_fits : (f : ℕ) (func : Func) → slice_get asking.funcs f ≡ Some func → FuncFits asking func
+all_asking_fits zero func e = subst (λ (g : Func). FuncFits asking g) (same_some e) asking_fits
+all_asking_fits (suc f) func e = absurd (none_some e)
+
+asking_plain : (site : ℕ) → IsPlain (site_type asking site)
+asking_plain zero = inl refl
+asking_plain (suc zero) = inr refl
+asking_plain (suc (suc site)) = inl refl
+
+asking_in_form : IsInForm asking
+asking_in_form = record { fits = all_asking_fits; few = omega arith; main = (asking_func, refl, refl, refl, refl); plain = asking_plain; zeros = refl }
+
 same_parts : (p q : Program) → p.funcs ≡ q.funcs → p.zeros ≡ q.zeros → p.sites ≡ q.sites → p.strings ≡ q.strings → p.globals ≡ q.globals → p.main ≡ q.main → p ≡ q
 same_parts p q e1 e2 e3 e4 e5 e6 =
     ap (λ x. let r : Program = record { funcs = x; zeros = p.zeros; sites = p.sites; strings = p.strings; globals = p.globals; main = p.main } in r) e1
@@ -162,6 +204,9 @@ is_sample at p e1 e2 e3 e4 e5 e6 = subst (λ (q : Program). IsInForm q) (sym (sa
 
 pub is_stopped : (at : Pos) (p : Program) → p.funcs ≡ (stopped at).funcs → p.zeros ≡ zero_values → p.sites ≡ (stopped at).sites → p.strings ≡ (stopped at).strings → p.globals ≡ [] → p.main ≡ 0 → IsInForm p
 is_stopped at p e1 e2 e3 e4 e5 e6 = subst (λ (q : Program). IsInForm q) (sym (same_parts p (stopped at) e1 e2 e3 e4 e5 e6)) (stopped_in_form at)
+
+pub is_asking : (p : Program) → p.funcs ≡ asking.funcs → p.zeros ≡ zero_values → p.sites ≡ asking.sites → p.strings ≡ asking.strings → p.globals ≡ [] → p.main ≡ 0 → IsInForm p
+is_asking p e1 e2 e3 e4 e5 e6 = subst (λ (q : Program). IsInForm q) (sym (same_parts p asking e1 e2 e3 e4 e5 e6)) asking_in_form
 
 at : Pos
 at = record { offset = 60; line = 5; col = 10 }
@@ -179,3 +224,12 @@ stops items = refl
 stops_so : (items : ℕ → Item) → ending_in (source items (stopped at) (limits (stopped at) 49) 200) ≡ Some (Panic at divide_by_zero)
 unfolding at digits
 stops_so items = refl
+
+-- 7 true, and 0 false where there is no item
+reads_one : output (source (λ k. Some (pos 7)) asking (limits asking 49) 200) ≡ 105 ∷ 10 ∷ 55 ∷ 32 ∷ 116 ∷ 114 ∷ 117 ∷ 101 ∷ 10 ∷ []
+unfolding digits
+reads_one = refl
+
+reads_none : output (source (λ k. None) asking (limits asking 49) 200) ≡ 105 ∷ 10 ∷ 48 ∷ 32 ∷ 102 ∷ 97 ∷ 108 ∷ 115 ∷ 101 ∷ 10 ∷ []
+unfolding digits
+reads_none = refl

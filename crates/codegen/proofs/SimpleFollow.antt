@@ -69,14 +69,14 @@ module _ (m : Built) where
   count_is scope (more e es) (t ∷ ts) fit = let rest = count_is scope es ts fit.1 in omega arith
   count_is scope (results f es) [] fit = ap results_in fit.1 ∙ ap (length {A = ℕ}) fit.2
   count_is scope (results f es) (t ∷ ts) fit = ap results_in fit.1 ∙ ap (length {A = ℕ}) fit.2
-  count_is scope asked [] fit = absurd fit
-  count_is scope asked (t ∷ ts) fit = absurd fit
+  count_is scope asked [] fit = sym (ap (length {A = ℕ}) fit)
+  count_is scope asked (t ∷ ts) fit = sym (ap (length {A = ℕ}) fit)
 
   -- an operator's result in its first operand's temp goes to a variable
   module _ (c : Frame) (calls : List Frame) where
     stored : (site h : ℕ) (env : Env) (scope : List ℕ) (held : List Value) (k : Env → Go) (w : World) (words : List ℕ) (x : Value) (pc lo b : ℕ) → slice_get m.code.instrs pc ≡ Some (Move (site_slot (slots_of m.program.funcs c.func) site) (temp (slots_of m.program.funcs c.func) h))
         → length held ≡ h → InScope site scope → IsOf (site_type m.program site) x → Good m (during c env scope (held ++ x ∷ []) ∷ calls) w words → After m c calls held scope (pc + 1) lo b k
-        → At m (numbers (c ∷ calls)) (suc lo) 1 b (Meaning.write_part (env site) [] x (k env) w) pc words
+        → At m (numbers (c ∷ calls)) (suc lo) 1 b (Meaning.write_part (env site) [] x (k env) w) pc words w.reads
     stored site h env scope held k w words x pc lo b here hh among typed g post =
         let s = slots_of m.program.funcs c.func in let y = slice_index words (temp s h) in
         write_of m _ _ _ (stepped m {lo = lo} {hi = 0} (Move (site_slot s site) (temp s h)) here refl
@@ -90,7 +90,7 @@ module _ (m : Built) where
         → slice_get m.code.instrs (pc + 1) ≡ Some (Move (site_slot (slots_of m.program.funcs c.func) site) (temp (slots_of m.program.funcs c.func) h))
         → length held ≡ h → h < temps_of m.program.funcs c.func → InScope site scope → site_type m.program site ≡ int_type → Panics ws → Takes o int_type int_type → IsOf int_type v → IsOf int_type u
         → Good m (during c env scope ((held ++ v ∷ []) ++ u ∷ []) ∷ calls) w words → After m c calls held scope (pc + 1 + 1) lo b k
-        → At m (numbers (c ∷ calls)) (suc (suc lo)) 1 b (Meaning.or_panic ws env at (binary_of o v u) (λ x. Meaning.write_part (env site) [] x (k env)) w) pc words
+        → At m (numbers (c ∷ calls)) (suc (suc lo)) 1 b (Meaning.or_panic ws env at (binary_of o v u) (λ x. Meaning.write_part (env site) [] x (k env)) w) pc words w.reads
     updated at o site h ws env scope held v u k w words pc lo b here write hh room among same stops takes iv iu g post =
         let s = slots_of m.program.funcs c.func in let c0 = during c env scope held in
         let left = fewer m c0 calls w words (held ++ v ∷ []) (u ∷ []) g in
@@ -99,7 +99,7 @@ module _ (m : Built) where
         (λ x word ix sx. stored site h env scope held k w (slice_set words (temp s h) word) x (pc + 1) lo b write hh among (subst (λ t. IsOf t x) (sym same) ix)
         (temp_set m c0 calls w words h word x hh room sx (fewer m c0 calls w words held (v ∷ []) left)) post)
 
-  module _ (around : Setting) (strings : around.strings ≡ m.program.strings) (zero_is : (site : ℕ) → Stands (Meaning.zero_of around site) 0 × IsOf (site_type m.program site) (Meaning.zero_of around site))
+  module _ (around : Setting) (strings : around.strings ≡ m.program.strings) (inputs : around.items ≡ m.items) (zero_is : (site : ℕ) → Stands (Meaning.zero_of around site) 0 × IsOf (site_type m.program site) (Meaning.zero_of around site))
       (callees : Calls) (n : ℕ) (cf : CallsFollow m callees n) (c : Frame) (calls : List Frame) where
     pub declare_follows : (sites : List ℕ) → Followed m c calls around callees n (declare sites)
     declare_follows sites ws env k w words held h looped outer scope q out again pc lo b le hh has fit enough reaches sc leads g post =
@@ -110,8 +110,8 @@ module _ (m : Built) where
         let s = slots_of m.program.funcs c.func in
         let ces = exs_code m.program.funcs s es h pc in let cls = lefts_code s ls h in
         let has_l = back m.code c.fn pc (exs_size m.program.funcs es) ces cls (length_exs m.program.funcs s es h pc) has in
-        subst (λ t. At m (numbers (c ∷ calls)) lo 0 b t pc words) (sym (ready_is around callees ls ws env (λ those ws1. Meaning.evs around callees es ws1 env (λ vs. Meaning.land_all around those vs ws env k)) w))
-        (evs_follow m around callees n cf es fit.0 (during c env scope held) calls ws (λ vs. Meaning.land_all around (landings env ls) vs ws env k) w words h pc lo b le hh leads.panics (front m.code c.fn pc ces cls has) fit.2 enough reaches g (λ vs w1 words1 are g1.
+        subst (λ t. At m (numbers (c ∷ calls)) lo 0 b t pc words w.reads) (sym (ready_is around callees ls ws env (λ those ws1. Meaning.evs around callees es ws1 env (λ vs. Meaning.land_all around those vs ws env k)) w))
+        (evs_follow m around inputs callees n cf es fit.0 (during c env scope held) calls ws (λ vs. Meaning.land_all around (landings env ls) vs ws env k) w words h pc lo b le hh leads.panics (front m.code c.fn pc ces cls has) fit.2 enough reaches g (λ vs w1 words1 are g1.
         lefts_follow m around ls fit.0 vs held (held ++ vs) c env env scope scope calls ws k w1 words1 q h (pc + exs_size m.program.funcs es) lo b are hh refl has_l fit.1 sc.from (λ v i. (i, refl, sc.below v i)) g1 (λ env1 w2 words2 g2.
         place_is m (let e : pc + (exs_size m.program.funcs es + lefts_size ls) ≡ pc + exs_size m.program.funcs es + lefts_size ls = omega arith in e)
         (post refl env1 w2 words2 (fewer m (during c env1 (scope_behind scope ls) held) calls w2 words2 held vs g2)))))
@@ -125,7 +125,7 @@ module _ (m : Built) where
         let ce = ex_code fs s e (h + 1) (pc + 1) in let i = Bin (operation o) (temp s h) (temp s h) (temp s (h + 1)) in let j = Move (site_slot s site) (temp s h) in
         let has_o = back m.code c.fn (pc + 1) (size fs e) ce (i ∷ j ∷ []) (length_code fs s e (h + 1) (pc + 1)) has.1 in
         turned m {lo1 = suc (suc (suc lo))} (omega arith) (read_of m _ _ _ (stepped m {lo = suc (suc lo)} {hi = 0} (Move (temp s h) (site_slot s site)) has.0.0 refl
-        (ev_follows m around callees n cf e int_type (hold c0 (held ++ v ∷ [])) calls (Meaning.holding ws v) _ w (slice_set words (temp s h) x) (h + 1) (pc + 1) (suc (suc lo)) b le (one_more held v h hh) leads.panics (front m.code c.fn (pc + 1) ce (i ∷ j ∷ []) has.1) fit.2 (omega arith) reaches g1 (λ u w1 words1 iu g2.
+        (ev_follows m around inputs callees n cf e int_type (hold c0 (held ++ v ∷ [])) calls (Meaning.holding ws v) _ w (slice_set words (temp s h) x) (h + 1) (pc + 1) (suc (suc lo)) b le (one_more held v h hh) leads.panics (front m.code c.fn (pc + 1) ce (i ∷ j ∷ []) has.1) fit.2 (omega arith) reaches g1 (λ u w1 words1 iu g2.
         later m {lo = suc (suc lo)} {hi = 1} {b = b} (omega arith) (omega arith) (omega arith)
         (updated c calls at o site h ws env scope held v u k w1 words1 (pc + 1 + size fs e) lo b has_o.0.0 has_o.1.0.0 hh (omega arith) fit.1.0 fit.1.1 leads.panics (arithmetic_takes o fit.0) iv iu g2
         (λ env1 w2 words2 g3. place_is m (let q : pc + (1 + size fs e + 2) ≡ pc + 1 + size fs e + 1 + 1 = omega arith in q) (post refl env1 w2 words2 g3)))))))
@@ -145,11 +145,13 @@ module _ (m : Built) where
 
     pub discard_follows : (es : Exs) → Followed m c calls around callees n (discard es)
     discard_follows (results f es) ws env k w words held h looped outer scope q out again pc lo b le hh has fit enough reaches sc leads g post =
-        evs_follow m around callees n cf (results f es) fit.0 (during c env scope held) calls ws (λ vs. k env) w words h pc lo b le hh leads.panics has fit.1 enough reaches g (λ vs w1 words1 are g1.
+        evs_follow m around inputs callees n cf (results f es) fit.0 (during c env scope held) calls ws (λ vs. k env) w words h pc lo b le hh leads.panics has fit.1 enough reaches g (λ vs w1 words1 are g1.
         post refl env w1 words1 (fewer m (during c env scope held) calls w1 words1 held vs g1))
     discard_follows none ws env k w words held h looped outer scope q out again pc lo b le hh has fit enough reaches sc leads g post = absurd fit
     discard_follows (more e es) ws env k w words held h looped outer scope q out again pc lo b le hh has fit enough reaches sc leads g post = absurd fit
-    discard_follows asked ws env k w words held h looped outer scope q out again pc lo b le hh has fit enough reaches sc leads g post = absurd fit
+    discard_follows asked ws env k w words held h looped outer scope q out again pc lo b le hh has fit enough reaches sc leads g post =
+        evs_follow m around inputs callees n cf asked fit.0 (during c env scope held) calls ws (λ vs. k env) w words h pc lo b le hh leads.panics has fit.1 enough reaches g (λ vs w1 words1 are g1.
+        post refl env w1 words1 (fewer m (during c env scope held) calls w1 words1 held vs g1))
 
     pub break_follows : Followed m c calls around callees n break_off
     break_follows ws env k w words held h looped outer scope q out again pc lo b le hh has fit enough reaches sc leads g post =
@@ -179,7 +181,7 @@ module _ (m : Built) where
         let ces = exs_code fs s es h pc in let behind = values_code s a (count_of fs es) named h ++ leave_code s a named in
         let has_v = back m.code c.fn pc (exs_size fs es) ces behind (length_exs fs s es h pc) has in
         let r = return_values scope es fit in
-        evs_follow m around callees n cf es r.0 (during c env scope held) calls ws (λ vs. ws.returned vs env) w words h pc lo b le hh leads.panics (front m.code c.fn pc ces behind has) r.1 (omega arith) reaches g (λ vs w1 words1 are g1.
+        evs_follow m around inputs callees n cf es r.0 (during c env scope held) calls ws (λ vs. ws.returned vs env) w words h pc lo b le hh leads.panics (front m.code c.fn pc ces behind has) r.1 (omega arith) reaches g (λ vs w1 words1 are g1.
         leads.returned vs (count_of fs es) env scope held w1 words1 h (pc + exs_size fs es) hh has_v (r.2 vs are).0 (r.2 vs are).1 (omega arith) sc.named g1)
 
     pub print_follows : (line : Bool) (ps : List Piece) → Followed m c calls around callees n (print line ps)
@@ -188,48 +190,48 @@ module _ (m : Built) where
         let cps = pieces_code fs s ps h pc in let show = show_code s line ps h in
         let has_l = back m.code c.fn pc (pieces_size fs ps) cps show (length_pieces fs s ps h pc) has in
         let e : pc + (pieces_size fs ps + shown_size line ps) ≡ pc + pieces_size fs ps + shown_size line ps = omega arith in
-        pieces_follow m around callees n cf ps (during c env scope held) calls ws _ w words h pc lo b le hh leads.panics (front m.code c.fn pc cps show has) fit enough reaches g (λ vs w1 words1 are g1.
+        pieces_follow m around inputs callees n cf ps (during c env scope held) calls ws _ w words h pc lo b le hh leads.panics (front m.code c.fn pc cps show has) fit enough reaches g (λ vs w1 words1 are g1.
         showing line vs w1 words1 are has_l g1 (place_is m e (post refl env w1 words1 (fewer m (during c env scope held) calls w1 words1 held vs g1))))
       where
         showing : (line : Bool) (vs : List Value) (w1 : World) (words1 : List ℕ) → AreOf (piece_types ps) vs → Standing m.code c.fn (pc + pieces_size m.program.funcs ps) (show_code (slots_of m.program.funcs c.func) line ps h) → Good m (during c env scope (held ++ vs) ∷ calls) w1 words1
-            → At m (numbers (c ∷ calls)) lo 0 b (k env w1) (pc + pieces_size m.program.funcs ps + shown_size line ps) words1 → At m (numbers (c ∷ calls)) lo 0 b (Meaning.emit line (texts around.strings ps vs) (k env) w1) (pc + pieces_size m.program.funcs ps) words1
+            → At m (numbers (c ∷ calls)) lo 0 b (k env w1) (pc + pieces_size m.program.funcs ps + shown_size line ps) words1 w1.reads → At m (numbers (c ∷ calls)) lo 0 b (Meaning.emit line (texts around.strings ps vs) (k env) w1) (pc + pieces_size m.program.funcs ps) words1 w1.reads
         showing true vs w1 words1 are has_l g1 on = line_follows m around.strings strings ps vs held (held ++ vs) (k env) (during c env scope held) calls w1 words1 h (pc + pieces_size m.program.funcs ps) lo b are hh refl has_l g1 on
         showing false vs w1 words1 are has_l g1 on = plain_follows m around.strings strings ps vs held (held ++ vs) (k env) (during c env scope held) calls w1 words1 h (pc + pieces_size m.program.funcs ps) lo b are hh refl has_l g1 on
 
     -- a panic that a value is raised with
     raises : (at : Pos) (t : ℕ) (v : Value) (ws : Ways) (env : Env) (w : World) (words : List ℕ) (a pc lo b : ℕ) → Panics ws → slice_get m.code.instrs pc ≡ Some (raised_code t a) → IsOf t v → Stands v (slice_index words a)
-        → At m (numbers (c ∷ calls)) (suc lo) 1 b (ws.panicked at (raised v) env w) pc words
+        → At m (numbers (c ∷ calls)) (suc lo) 1 b (ws.panicked at (raised v) env w) pc words w.reads
     raises at t (int z) ws env w words a pc lo b stops here typed stands =
-        subst (λ (u : Trace). At m (numbers (c ∷ calls)) (suc lo) 1 b u pc words) (sym (stops at (raised (int z)) env w))
+        subst (λ (u : Trace). At m (numbers (c ∷ calls)) (suc lo) 1 b u pc words w.reads) (sym (stops at (raised (int z)) env w))
         (halted m {lo = lo} (PanicInt a) (Panic at (raised (int z))) (Panicked (Int (cast_signed w64 (slice_index words a)))) (here ∙ ap (λ u. Some (raised_code u a)) typed) (sym stands) refl)
     raises at t (bool x) ws env w words a pc lo b stops here typed stands =
-        subst (λ (u : Trace). At m (numbers (c ∷ calls)) (suc lo) 1 b u pc words) (sym (stops at (raised (bool x)) env w))
+        subst (λ (u : Trace). At m (numbers (c ∷ calls)) (suc lo) 1 b u pc words w.reads) (sym (stops at (raised (bool x)) env w))
         (halted m {lo = lo} (PanicBool a) (Panic at (raised (bool x))) (Panicked (Truth (not (slice_index words a == 0)))) (here ∙ ap (λ u. Some (raised_code u a)) typed) (sym (ap (λ y. not (y == 0)) stands ∙ bit_tells x)) refl)
 
     pub raise_follows : (at : Pos) (p : Piece) → Followed m c calls around callees n (raise at p)
     raise_follows at (text number) ws env k w words held h looped outer scope q out again pc lo b le hh has fit enough reaches sc leads g post =
         turned m {lo1 = suc lo} (omega arith)
-        (subst (λ (u : Trace). At m (numbers (c ∷ calls)) (suc lo) 1 b u pc words) (sym (leads.panics at (raised_text (get_or around.strings number [])) env w))
+        (subst (λ (u : Trace). At m (numbers (c ∷ calls)) (suc lo) 1 b u pc words w.reads) (sym (leads.panics at (raised_text (get_or around.strings number [])) env w))
         (halted m {lo = lo} (PanicText number) (Panic at (raised_text (get_or around.strings number []))) (Panicked (Text number)) has.0.0 (ap (λ ss. get_or ss number []) strings) refl))
     raise_follows at (shown t e) ws env k w words held h looped outer scope q out again pc lo b le hh has fit enough reaches sc leads g post =
         let s = slots_of m.program.funcs c.func in let fs = m.program.funcs in
         let ce = ex_code fs s e h pc in
         let has_p = back m.code c.fn pc (size fs e) ce (raised_code t (temp s h) ∷ []) (length_code fs s e h pc) has in
-        ev_follows m around callees n cf e t (during c env scope held) calls ws _ w words h pc lo b le hh leads.panics (front m.code c.fn pc ce (raised_code t (temp s h) ∷ []) has) fit enough reaches g (λ v w1 words1 iv g1.
+        ev_follows m around inputs callees n cf e t (during c env scope held) calls ws _ w words h pc lo b le hh leads.panics (front m.code c.fn pc ce (raised_code t (temp s h) ∷ []) has) fit enough reaches g (λ v w1 words1 iv g1.
         turned m {lo1 = suc lo} (omega arith) (raises at t v ws env w1 words1 (temp s h) (pc + size fs e) lo b leads.panics has_p.0.0 iv (held_word m (during c env scope held) calls w1 words1 held [] v h hh g1)))
 
     -- an exit, with a status or with a panic
     quits : (at : Pos) (z : ℤ) (ws : Ways) (env : Env) (w : World) (words : List ℕ) (a pc lo b : ℕ) → Panics ws → slice_get m.code.instrs pc ≡ Some (ExitWith a) → cast_signed w64 (slice_index words a) ≡ z
-        → At m (numbers (c ∷ calls)) (suc lo) 1 b (Meaning.quit_with ws env at z w) pc words
+        → At m (numbers (c ∷ calls)) (suc lo) 1 b (Meaning.quit_with ws env at z w) pc words w.reads
     quits at (pos z) ws env w words a pc lo b stops here stands = by (nat_lt z 126) refl
       where
-        by : (r : Bool) → nat_lt z 126 ≡ r → At m (numbers (c ∷ calls)) (suc lo) 1 b (Meaning.when r (Meaning.stop (Exit z)) (ws.panicked at (exit_code (pos z)) env) w) pc words
+        by : (r : Bool) → nat_lt z 126 ≡ r → At m (numbers (c ∷ calls)) (suc lo) 1 b (Meaning.when r (Meaning.stop (Exit z)) (ws.panicked at (exit_code (pos z)) env) w) pc words w.reads
         by true e = halted m {lo = lo} (ExitWith a) (Exit z) (Exited z) here refl (ap exits_with stands ∙ ap (λ r. if r then Stops [] (Exited z) else panics (ExitCode (pos z))) e)
         by false e =
-            subst (λ (u : Trace). At m (numbers (c ∷ calls)) (suc lo) 1 b u pc words) (sym (stops at (exit_code (pos z)) env w))
+            subst (λ (u : Trace). At m (numbers (c ∷ calls)) (suc lo) 1 b u pc words w.reads) (sym (stops at (exit_code (pos z)) env w))
             (halted m {lo = lo} (ExitWith a) (Panic at (exit_code (pos z))) (Panicked (ExitCode (pos z))) here refl (ap exits_with stands ∙ ap (λ r. if r then Stops [] (Exited z) else panics (ExitCode (pos z))) e))
     quits at (negsuc z) ws env w words a pc lo b stops here stands =
-        subst (λ (u : Trace). At m (numbers (c ∷ calls)) (suc lo) 1 b u pc words) (sym (stops at (exit_code (negsuc z)) env w))
+        subst (λ (u : Trace). At m (numbers (c ∷ calls)) (suc lo) 1 b u pc words w.reads) (sym (stops at (exit_code (negsuc z)) env w))
         (halted m {lo = lo} (ExitWith a) (Panic at (exit_code (negsuc z))) (Panicked (ExitCode (negsuc z))) here refl (ap exits_with stands))
 
     pub quit_follows : (at : Pos) (e : Ex) → Followed m c calls around callees n (quit at e)
@@ -237,10 +239,10 @@ module _ (m : Built) where
         let s = slots_of m.program.funcs c.func in let fs = m.program.funcs in
         let ce = ex_code fs s e h pc in
         let has_x = back m.code c.fn pc (size fs e) ce (ExitWith (temp s h) ∷ []) (length_code fs s e h pc) has in
-        ev_follows m around callees n cf e int_type (during c env scope held) calls ws _ w words h pc lo b le hh leads.panics (front m.code c.fn pc ce (ExitWith (temp s h) ∷ []) has) fit enough reaches g (λ v w1 words1 iv g1.
+        ev_follows m around inputs callees n cf e int_type (during c env scope held) calls ws _ w words h pc lo b le hh leads.panics (front m.code c.fn pc ce (ExitWith (temp s h) ∷ []) has) fit enough reaches g (λ v w1 words1 iv g1.
         turned m {lo1 = suc lo} (omega arith) (by v w1 words1 iv has_x.0.0 (held_word m (during c env scope held) calls w1 words1 held [] v h hh g1)))
       where
         by : (v : Value) (w1 : World) (words1 : List ℕ) → IsOf int_type v → slice_get m.code.instrs (pc + size m.program.funcs e) ≡ Some (ExitWith (temp (slots_of m.program.funcs c.func) h)) → Stands v (slice_index words1 (temp (slots_of m.program.funcs c.func) h))
-            → At m (numbers (c ∷ calls)) (suc lo) 1 b (Meaning.quit_with ws env at (Meaning.int_of v) w1) (pc + size m.program.funcs e) words1
+            → At m (numbers (c ∷ calls)) (suc lo) 1 b (Meaning.quit_with ws env at (Meaning.int_of v) w1) (pc + size m.program.funcs e) words1 w1.reads
         by (int z) w1 words1 iv here stands = quits at z ws env w1 words1 (temp (slots_of m.program.funcs c.func) h) (pc + size m.program.funcs e) lo b leads.panics here stands
         by (bool x) w1 words1 iv here stands = absurd (omega arith)

@@ -73,8 +73,8 @@ module _ (p : Program) (form : IsInForm p) where
   counted scope (t ∷ ts) (more e es) f = omega (arith, counted scope ts es f.1)
   counted scope [] (results g es) (func, is, same, f) = results_are g func is ∙ ap length same
   counted scope (t ∷ ts) (results g es) (func, is, same, f) = results_are g func is ∙ ap length same
-  counted scope [] asked f = absurd f
-  counted scope (t ∷ ts) asked f = absurd f
+  counted scope [] asked f = sym (ap length f)
+  counted scope (t ∷ ts) asked f = sym (ap length f)
 
   values_need : (scope ts : List ℕ) (es : Exs) → ExsFit p scope ts es → length ts ≤ need_all fs es
   values_need scope [] none f = omega arith
@@ -83,8 +83,8 @@ module _ (p : Program) (form : IsInForm p) where
   values_need scope (t ∷ ts) (more e es) f = let l = values_need scope ts es f.1 in omega arith
   values_need scope [] (results g es) f = omega arith
   values_need scope (t ∷ ts) (results g es) (func, is, same, f) = let r = results_are g func is in let k : length func.results ≡ length (t ∷ ts) = ap length same in omega (arith, r, k)
-  values_need scope [] asked f = absurd f
-  values_need scope (t ∷ ts) asked f = absurd f
+  values_need scope [] asked f = omega arith
+  values_need scope (t ∷ ts) asked f = let two : length (t ∷ ts) ≡ 2 = ap length f in omega (arith, two)
 
   module _ (s : Slots) (n : ℕ) where
     call_fits : (h f : ℕ) (func : Func) (scope : List ℕ) (es : Exs) → slice_get fs f ≡ Some func → ExsFit p scope func.param_types es → h + need_all fs es ≤ s.temps → h + results_of fs f ≤ s.temps → arguments_of fs f + results_of fs f ≤ s.outgoing → CallFits fs s n h f
@@ -116,8 +116,8 @@ module _ (p : Program) (form : IsInForm p) where
           (call_fits h g func scope es is f (omega arith) (omega arith) (omega arith), exs_fit h scope func.param_types es b f (omega arith) (omega arith))
       exs_fit h scope (t ∷ ts) (results g es) b (func, is, same, f) l o =
           (call_fits h g func scope es is f (omega arith) (omega arith) (omega arith), exs_fit h scope func.param_types es b f (omega arith) (omega arith))
-      exs_fit h scope [] asked b f l o = f
-      exs_fit h scope (t ∷ ts) asked b f l o = f
+      exs_fit h scope [] asked b f l o = l
+      exs_fit h scope (t ∷ ts) asked b f l o = l
 
     pieces_fit : (h : ℕ) (scope : List ℕ) (ps : List Piece) → Below s n scope → PiecesFit p scope ps → h + need_pieces fs ps ≤ s.temps → reach_pieces fs ps ≤ s.outgoing → PiecesFitIn fs s n h ps
     pieces_fit h scope [] b f l o = tt
@@ -211,7 +211,7 @@ module _ (p : Program) (form : IsInForm p) where
           st_fits looped h m scope (discard (results g es)) a b (ts, fit) k o = exs_fit h scope ts (results g es) b fit k o
           st_fits looped h m scope (discard none) a b f k o = absurd f
           st_fits looped h m scope (discard (more e es)) a b f k o = absurd f
-          st_fits looped h m scope (discard asked) a b f k o = absurd f
+          st_fits looped h m scope (discard asked) a b f k o = k
           st_fits looped h m scope (block ss) a b f k o = sts_fit looped h m scope ss a b f k o
           st_fits looped h m scope (choose e x y) a b f k o = (
             (let c = some_need scope bool_type e f.0 in omega arith),

@@ -7,7 +7,7 @@ use Rattle.isa.specs.declared.instr.BinOp.{BinOp}
 use Rattle.isa.specs.declared.instr.BinOp.TheVariants as Word
 use Rattle.isa.specs.declared.instr.UnOp.TheVariants as WordOne
 use Rattle.isa.specs.declared.instr.Instr.{Instr}
-use Rattle.isa.specs.declared.instr.Instr.TheVariants.{Const, Move, Bin, Un, Jump, JumpZero, MoveWords, Call, Argument, SetResults, PrintInt, PrintBool, PrintText, PrintSpace, PrintLine, Return, Exit, PanicText, PanicInt, PanicBool}
+use Rattle.isa.specs.declared.instr.Instr.TheVariants.{Const, Move, Bin, Un, Jump, JumpZero, MoveWords, Call, Argument, SetResults, ReadInt, PrintInt, PrintBool, PrintText, PrintSpace, PrintLine, Return, Exit, PanicText, PanicInt, PanicBool}
 use Rattle.isa.specs.declared.func.Func.{Func as Entry}
 use Rattle.typed.specs.declared.operators.BinOp.{BinOp as Operator}
 use Rattle.typed.specs.declared.operators.BinOp.TheVariants.{Add, Sub, Mul, Div, Rem, And, Or, Xor, AndNot, ShiftLeft, ShiftRight, Equal, NotEqual, Less, LessEqual, Greater, GreaterEqual}
@@ -217,7 +217,7 @@ module _ (fs : List Func) where
     exs_size none = 0
     exs_size (more e es) = size e + exs_size es
     exs_size (results f es) = exs_size es + call_size f
-    exs_size asked = 0
+    exs_size asked = 1
 
   abbrev pub piece_size : Piece → ℕ
   piece_size (text number) = 0
@@ -249,7 +249,7 @@ module _ (fs : List Func) where
     exs_code s none h pc = []
     exs_code s (more e es) h pc = ex_code s e h pc ++ exs_code s es (h + 1) (pc + size e)
     exs_code s (results f es) h pc = exs_code s es h pc ++ call_code s f h
-    exs_code s asked h pc = []
+    exs_code s asked h pc = ReadInt (temp s h) ∷ []
 
   abbrev pub pieces_code : Slots → List Piece → (h pc : ℕ) → List Instr
   pieces_code s [] h pc = []

@@ -1,5 +1,6 @@
 -- What the code of a program does, against what the program means.
-use Rattle.std.specs.Prelude.{◌≡◌, ⊤, ℕ, ◌*◌, ◌≤◌, List, [], ◌++◌, replicate, get_or, slice_get, Option, Some, None, Result, Ok, Err, nat_le, if◌then◌else◌}
+use Rattle.std.specs.Prelude.{◌≡◌, ◌≢◌, ⊤, ℕ, zero, suc, ◌*◌, ◌≤◌, List, [], ◌++◌, length, replicate, get_or, slice_get, Option, Some, None, Result, Ok, Err, nat_le, if◌then◌else◌, IfSome, FitsSigned}
+use Rattle.std.specs.Int.{w64}
 use Rattle.outside.specs.Causes.{Rose}
 use Rattle.outside.specs.Took.{Took, TookPrefix}
 use Rattle.base.specs.declared.pos.Pos.{Pos}
@@ -9,11 +10,12 @@ use Rattle.typed.specs.Frames.{frame_words}
 use Rattle.meaning.specs.Trace.{Ending, Exit, Panic, StackLimit, Fault, divide_by_zero, shift_count, exit_code, raised_text, raised}
 use Rattle.meaning.specs.Meaning.{Item}
 use Rattle.meaning.specs.Output.{Limits, Sight, printing, asking, source, output}
-use Rattle.simulation.specs.Outcome.{Outcome, Ends, Unfinished, Below, ending_in}
+use Rattle.simulation.specs.Outcome.{Outcome, Gives, Ends, Unfinished, Below, ending_in}
 use Rattle.simulation.specs.Steps.{exec}
 use Rattle.isa.specs.Code.{Tables}
 use Rattle.isa.specs.declared.func.Func.{Func as Entry}
-use Rattle.machine.specs.Machine.{State, Event, Printed, act}
+use Rattle.machine.specs.Machine.{State, Event, Printed, Asked, act}
+use Rattle.machine.specs.Answers.{AllNumbers, ReadInOrder, HasFrom}
 use Rattle.machine.specs.declared.place.Ending.{Ending as Stop}
 use Rattle.machine.specs.declared.place.Ending.TheVariants as Machine
 use Rattle.machine.specs.declared.place.Panic.{Panic as MachinePanic}
@@ -21,10 +23,13 @@ use Rattle.machine.specs.declared.place.Panic.TheVariants as machine_panic
 use Rattle.codegen.specs.declared.running.RunFault.{RunFault}
 use Rattle.codegen.specs.declared.running.RunFault.TheVariants as fault
 
--- no program reads its input yet
 abbrev pub same_event : Sight → Event → Type 0
 same_event (printing bytes) e = e ≡ Printed bytes
-same_event asking e = ⊥
+same_event asking e = e ≡ Asked
+
+-- each number among the items of the input is one of 64 bits with a sign
+abbrev pub AreNumbers : (ℕ → Item) → Type 0
+AreNumbers items = (k : ℕ) → IfSome (items k) (FitsSigned w64)
 
 -- a panic of the source, and one of the machine, which names a string by its number in a table
 abbrev pub same_fault : List (List ℕ) → Fault → MachinePanic → Type 0
@@ -48,22 +53,22 @@ limits p max = record { frame = frame_words p; stack_max = max }
 
 -- a function is entered, with no words in use before
 abbrev pub first_state : Entry → State
-first_state f = record { pc = f.start; words = replicate f.frame 0 }
+first_state f = record { pc = f.start; words = replicate f.frame 0; reads = 0 }
 
-abbrev pub entered : Tables → (max : ℕ) → Option Entry → ℕ → Outcome Event Stop
-entered code max None k = Unfinished
-entered code max (Some f) k = if nat_le f.frame max then exec (act code max) k (first_state f) else Ends (Machine.StackLimit 0 f.frame max)
+abbrev pub entered : Tables → (ℕ → Item) → (max : ℕ) → Option Entry → ℕ → Outcome Event Stop
+entered code items max None k = Unfinished
+entered code items max (Some f) k = if nat_le f.frame max then exec (act code max items) k (first_state f) else Ends (Machine.StackLimit 0 f.frame max)
 
--- what the code shows in at most k instructions from the entry of the function `main`, where the stack has at most so
--- many words
-abbrev pub target : Tables → (main max : ℕ) → ℕ → Outcome Event Stop
-target code main max k = entered code max (slice_get code.funcs main) k
+-- what the code shows in at most k instructions from the entry of the function `main`, where these are the items of the
+-- input and the stack has at most so many words
+abbrev pub target : Tables → (ℕ → Item) → (main max : ℕ) → ℕ → Outcome Event Stop
+target code items main max k = entered code items max (slice_get code.funcs main) k
 
 -- a turn is 1 to 16 instructions: what n turns show is shown by 16 * n instructions, and what k instructions show is
 -- shown by k turns
 pub record Simulated (p : Program) (code : Tables) : Type 0 where
-  pub at_least : (items : ℕ → Item) (max n k : ℕ) → 16 * n ≤ k → Below same_event (same_end p.strings) (source items p (limits p max) n) (target code p.main max k)
-  pub at_most : (items : ℕ → Item) (max k : ℕ) → Below (λ d e. same_event e d) (λ d e. same_end p.strings e d) (target code p.main max k) (source items p (limits p max) k)
+  pub at_least : (items : ℕ → Item) → AreNumbers items → (max n k : ℕ) → 16 * n ≤ k → Below same_event (same_end p.strings) (source items p (limits p max) n) (target code items p.main max k)
+  pub at_most : (items : ℕ → Item) → AreNumbers items → (max k : ℕ) → Below (λ d e. same_event e d) (λ d e. same_end p.strings e d) (target code items p.main max k) (source items p (limits p max) k)
 
 -- what was taken begins with the one text and is the beginning of the other
 pub record Between (few many : List ℕ) (old new : Option (List ℕ)) : Type 0 where
@@ -72,22 +77,54 @@ pub record Between (few many : List ℕ) (old new : Option (List ℕ)) : Type 0 
   pub begins : (rest : List ℕ) × (few ++ rest ≡ bytes)
   pub within : (rest : List ℕ) × (bytes ++ rest ≡ many)
 
--- how a run of so many steps answered, against what the source shows in few turns and in many: the ending of the many,
--- with all its output; no ending in the few, and an output between both; or a fault outside
-abbrev pub Ran : (strings : List (List ℕ)) → (few many : Outcome Sight Ending) → Result ℕ RunFault → (old new : Option (List ℕ)) → (before now : ℕ) → Type 0
-Ran strings few many (Ok status) old new before now = (ending_in many ≡ Some (Exit status)) × Took old new (output many)
-Ran strings few many (Err (fault.Panic x)) old new before now =
-    (at : Pos) × (f : Fault) × (ending_in many ≡ Some (Panic at f)) × same_fault strings f x × Took old new (output many)
-Ran strings few many (Err (fault.StackLimit used asked limit)) old new before now = (ending_in many ≡ Some (StackLimit used asked limit)) × Took old new (output many)
-Ran strings few many (Err fault.Steps) old new before now = (ending_in few ≡ None) × Between (output few) (output many) old new
-Ran strings few many (Err fault.WriteFault) old new before now = TookPrefix old new (output many) × Rose before now
-Ran strings few many (Err fault.NoMemory) old new before now = TookPrefix old new (output many)
+-- how often a bounded run asks for an item
+abbrev pub asks_of : Outcome Sight Ending → ℕ
+asks_of (Gives (printing bytes) o) = asks_of o
+asks_of (Gives asking o) = suc (asks_of o)
+asks_of (Ends e) = 0
+asks_of Unfinished = 0
+
+-- a bounded run asks for the item of this number behind this output
+abbrev pub AsksFor : ℕ → List ℕ → Outcome Sight Ending → Type 0
+AsksFor k before (Gives (printing bytes) o) = (rest : List ℕ) × (before ≡ bytes ++ rest) × AsksFor k rest o
+AsksFor zero before (Gives asking o) = before ≡ []
+AsksFor (suc k) before (Gives asking o) = AsksFor k before o
+AsksFor k before (Ends e) = ⊥
+AsksFor k before Unfinished = ⊥
+
+-- How a run of so many steps answered, for which so many items were read, against what the source shows in few turns and in
+-- many: the ending of the many, with all its output and all the items that it asks for; no ending in the few, and an output
+-- and items between both; a fault of the sink or of memory; or one of the input, at an item that the source asks for behind
+-- just what was taken.
+abbrev pub Ran : (strings : List (List ℕ)) → (few many : Outcome Sight Ending) → Result ℕ RunFault → (answered : ℕ) → (old new : Option (List ℕ)) → (before now : ℕ) → Type 0
+Ran strings few many (Ok status) answered old new before now = (ending_in many ≡ Some (Exit status)) × Took old new (output many) × (asks_of many ≡ answered)
+Ran strings few many (Err (fault.Panic x)) answered old new before now =
+    (at : Pos) × (f : Fault) × (ending_in many ≡ Some (Panic at f)) × same_fault strings f x × Took old new (output many) × (asks_of many ≡ answered)
+Ran strings few many (Err (fault.StackLimit used asked limit)) answered old new before now =
+    (ending_in many ≡ Some (StackLimit used asked limit)) × Took old new (output many) × (asks_of many ≡ answered)
+Ran strings few many (Err fault.Steps) answered old new before now =
+    (ending_in few ≡ None) × Between (output few) (output many) old new × (asks_of few ≤ answered) × (answered ≤ asks_of many)
+Ran strings few many (Err fault.ReadFault) answered old new before now = (text : List ℕ) × AsksFor answered text many × Took old new text
+Ran strings few many (Err fault.WriteFault) answered old new before now = TookPrefix old new (output many) × Rose before now × (answered ≤ asks_of many)
+Ran strings few many (Err fault.NoMemory) answered old new before now = TookPrefix old new (output many) × (answered ≤ asks_of many)
+
+-- What a run read of an input with these bytes left, and what it did. All that is known of the items of the input are the
+-- answers that came in order: so for whatever items, numbers of 64 bits, begin with them, a claim holds that is also told how
+-- many answers there are. Where there are none, and no read failed, the input is as before.
+pub record ReadBy (result : Result ℕ RunFault) (left : Option (List ℕ)) (untouched : Type 0) (claim : (ℕ → Item) → ℕ → Type 0) : Type 0 where
+  pub answers : List Item
+  pub numbers : AllNumbers answers
+  pub rest : Option (List ℕ)
+  pub read : ReadInOrder left rest answers
+  pub unread : result ≢ Err fault.ReadFault → answers ≡ [] → untouched
+  pub does : (items : ℕ → Item) → AreNumbers items → HasFrom items 0 answers → claim items (length answers)
 
 -- what a run answers where the machine ended so
 abbrev pub answer_to : Option Stop → Result ℕ RunFault
 answer_to None = Err fault.Steps
 answer_to (Some (Machine.Exit status)) = Ok status
 answer_to (Some (Machine.Panic x)) = Err (fault.Panic x)
+answer_to (Some Machine.ReadFault) = Err fault.ReadFault
 answer_to (Some Machine.WriteFault) = Err fault.WriteFault
 answer_to (Some Machine.NoMemory) = Err fault.NoMemory
 answer_to (Some (Machine.StackLimit used asked limit)) = Err (fault.StackLimit used asked limit)

@@ -57,7 +57,7 @@ module _ (fs : List Func) (s : Slots) (n : ℕ) where
     ExsFitIn h none = Unit {0}
     ExsFitIn h (more e es) = (h < s.temps) × Fits h e × ExsFitIn (h + 1) es
     ExsFitIn h (results f es) = CallFits h f × ExsFitIn h es
-    ExsFitIn h asked = ⊥
+    ExsFitIn h asked = h + 2 ≤ s.temps
 
   abbrev pub PiecesFitIn : (h : ℕ) → List Piece → Type 0
   PiecesFitIn h [] = Unit {0}

@@ -93,7 +93,7 @@ pub fn values_len(funcs: &[Func], values: &Values) -> Result<u32, NoMemory>
             let n = values_len(funcs, arguments)?;
             plus(n, call_len(funcs, *f))
         }
-        Values::ReadInt => Ok(0),
+        Values::ReadInt => Ok(1),
     }
 }
 

@@ -7,13 +7,14 @@
 //! words, from where the callee takes them and behind which it leaves its results; these are moved to temps. `emit` gives
 //! just this code, and whatever is said of it is said of the definition.
 //!
-//! The theorem is `Simulated`: for every input, every limit of the stack and every budget of n turns, what the program
-//! means within n turns is what the machine does within 16 * n instructions, or the machine is further; and what the
-//! machine does within n instructions is what the program means within n turns, or the program is further. So neither
-//! side ever shows anything that the other wouldn't show, and both end alike, at the same call where the stack's limit is
-//! met. It is proved by one lemma for each form of syntax, each of which says of what goes on behind the form that it
-//! follows, and concludes it of the form and what goes on behind. What such a lemma needs of the stack is that each
-//! variable's value stands in its slot, which is named by its distance from the stack's upper end.
+//! The theorem is `Simulated`: for all items of the input whose numbers have 64 bits, every limit of the stack and every
+//! budget of n turns, what the program means within n turns is what the machine does within 16 * n instructions, or the
+//! machine is further; and what the machine does within n instructions is what the program means within n turns, or the
+//! program is further. So neither side ever shows anything that the other wouldn't show, an item of the input is asked for
+//! at the same point of the output, and both end alike, at the same call where the stack's limit is met. It is proved by
+//! one lemma for each form of syntax, each of which says of what goes on behind the form that it follows, and concludes it
+//! of the form and what goes on behind. What such a lemma needs of the stack is that each variable's value stands in its
+//! slot, which is named by its distance from the stack's upper end.
 //!
 //! A jump goes to a place that is known before the jump is emitted: the lengths of what it passes over are counted
 //! first, so nothing is patched afterwards, and the statements of a loop are emitted with the places where `break` and
@@ -23,7 +24,10 @@
 //! `run` stops after a number of steps, and refuses a first frame that passes the limit of the stack. Its contract
 //! says what that means for the program: an ending that is answered is the program's own, with all its output, and
 //! where the steps were used up, the program has not ended in a sixteenth of them as turns, and the output lies between
-//! what it shows in so many turns and in as many turns as there were steps.
+//! what it shows in so many turns and in as many turns as there were steps. The items of the input aren't known before they
+//! are read, so the contract names the answers that came, in order, and is told of all items that begin with them: the
+//! program asks for just so many, and where a read failed, the program asks for the next one behind just the output that
+//! was written.
 #![tactic(auto)]
 
 mod assigning;

@@ -1,16 +1,17 @@
 //! Runs of a code to its end.
-ghost use Rattle.std.specs.Prelude.{◌≡◌, ◌/◌, ◌<◌, ◌≤◌, ◌^◌, ℕ, length, slice_get, Some};
+ghost use Rattle.std.specs.Prelude.{◌≡◌, ◌/◌, ◌<◌, ◌≤◌, ◌^◌, length, slice_get, Some, Err};
 ghost use Rattle.machine.specs.Inside.{Inside};
 ghost use Rattle.machine.specs.Answers.{StatusFits};
 ghost use Rattle.typed.specs.Syntax.{Program};
-ghost use Rattle.meaning.specs.Meaning.{Item};
 ghost use Rattle.meaning.specs.Output.{source};
-ghost use Rattle.codegen.specs.Correct.{Simulated, Ran, answer_to, limits};
+ghost use Rattle.outside.specs.Causes.{Rose};
+ghost use Rattle.codegen.specs.Correct.{Simulated, Ran, ReadBy, answer_to, limits};
+ghost use Rattle.codegen.specs.declared.running.RunFault.{RunFault};
 
 use base::FuncId;
 use isa::Code;
 use machine::{Ending, Panic, Place};
-use outside::Sink;
+use outside::{IntReader, Sink, Source};
 use std::alloc::{AllocError, Global};
 use thiserror::Error;
 
@@ -20,6 +21,9 @@ pub enum RunFault {
     /// Memory for a frame was refused. What was written is a beginning of the program's output.
     #[error("no memory")]
     NoMemory,
+    /// The input failed where the program asked for an item. The sink took all that the program prints before.
+    #[error("a read failed")]
+    ReadFault,
     /// The sink failed, and took a part of the output.
     #[error("a write failed")]
     WriteFault,
@@ -53,6 +57,7 @@ fn answer(ending: Option<Ending>) -> Result<u8, RunFault>
         None => Err(RunFault::Steps),
         Some(Ending::Exit(status)) => Ok(status as u8),
         Some(Ending::Panic(panic)) => Err(RunFault::Panic(panic)),
+        Some(Ending::ReadFault) => Err(RunFault::ReadFault),
         Some(Ending::WriteFault) => Err(RunFault::WriteFault),
         Some(Ending::NoMemory) => Err(RunFault::NoMemory),
         Some(Ending::StackLimit { used, asked, limit }) => Err(RunFault::StackLimit {
@@ -78,21 +83,25 @@ fn entry(code: &Code, main: FuncId) -> isa::Func
 }
 
 /// Runs the code of a program from the entry of its function `main`, for at most so many steps and with a stack of at most
-/// so many words. The answer is the status that the program ended with.
-pub fn run<O: Sink>(
+/// so many words. The program reads its input through a buffer of its own. The answer is the status that the program ended
+/// with.
+pub fn run<I: Source, O: Sink>(
     alloc: Global,
     code: &Code,
     main: FuncId,
     stack_max: u64,
     steps: u64,
+    input: &mut I,
     out: &mut O,
 ) -> Result<u8, RunFault>
     requires main { main.0 < length code.now.funcs }
     requires stack { stack_max ≤ 2 ^ 32 }
     requires small { length code.now.instrs < 2 ^ 40 }
-    ensures runs { (p : Program) → p.main ≡ main.0 → Simulated p code.now → (items : ℕ → Item)
-        → Ran p.strings (source items p (limits p stack_max) (steps / 16)) (source items p (limits p stack_max) steps) result
-        (O.taken out.old) (O.taken out.new) (O.faults out.old) (O.faults out.new) }
+    ensures runs { ReadBy result (I.left input.old) (input.new ≡ input.old) (λ items answered. (p : Program) → p.main ≡ main.0 → Simulated p code.now
+        → Ran p.strings (source items p (limits p stack_max) (steps / 16)) (source items p (limits p stack_max) steps) result answered
+        (O.taken out.old) (O.taken out.new) (O.faults out.old) (O.faults out.new)) }
+    ensures source_later { I.faults input.old ≤ I.faults input.new }
+    ensures read_fault { result ≡ Err RunFault.ReadFault → Rose (I.faults input.old) (I.faults input.new) }
 {
     let first = entry(code, main);
     let asked = first.frame as u64;
@@ -108,6 +117,17 @@ pub fn run<O: Sink>(
         pc: first.start as usize,
         base: 0,
     };
-    let next = machine::run(alloc, code, &mut words, stack_max, at, out, steps);
+    let mut reader = IntReader::new();
+    let next = machine::run(
+        alloc,
+        code,
+        &mut words,
+        stack_max,
+        at,
+        &mut reader,
+        input,
+        out,
+        steps,
+    );
     answer(next.ending)
 }

@@ -2,7 +2,7 @@
 ghost use Rattle.std.specs.Prelude.{◌≡◌, ◌∷◌, [], pos, true, Some, IfOk};
 ghost use Rattle.typed.specs.declared.operators.BinOp.{BinOp};
 ghost use Rattle.typed.specs.Value.{int};
-ghost use Rattle.typed.specs.Syntax.{read, local, here, constant, binary, none, more, results, blank, new, to, text, shown, over_int, assign, choose, range, break_off, give_back, print, done, next, Func as Function};
+ghost use Rattle.typed.specs.Syntax.{read, local, here, constant, binary, none, more, results, asked, blank, new, to, text, shown, over_int, assign, choose, range, break_off, give_back, print, done, next, Func as Function};
 ghost use Rattle.typed.specs.View.{ex_of, exs_of_values, func_of, piece_of, st_of, sts_of, program_of};
 ghost use Rattle.typed.specs.Form.{IsInForm};
 
@@ -10,10 +10,10 @@ use crate::{RunFault, emit, run};
 use base::{FuncId, Pos, SiteId};
 use frame_layout::layout_of;
 use machine::Panic;
-use outside::MemSink;
+use outside::{MemSink, MemSource};
 use std::alloc::Global;
 use std::test::Fail;
-use typed::{BinOp, Const, Expr, Func, INT, Left, Piece, Program, Site, Stmt, Values};
+use typed::{BOOL, BinOp, Const, Expr, Func, INT, Left, Piece, Program, Site, Stmt, Values};
 
 const AT: Pos = Pos {
     offset: 0,
@@ -24,6 +24,11 @@ const AT: Pos = Pos {
 const SITE: Site = Site {
     pos: AT,
     type_id: INT,
+};
+
+const BOOL_SITE: Site = Site {
+    pos: AT,
+    type_id: BOOL,
 };
 
 fn variable(site: u32) -> Expr
@@ -228,6 +233,60 @@ fn stopped(alloc: Global, at: Pos) -> Result<Program, Fail>
     })
 }
 
+// println("i"); n, ok := readInt(); println(n, ok)
+#[tactic(auto, using(typed::proofs::Rows::stmt_rows))]
+fn asking_body(alloc: Global) -> Result<Vec<Stmt>, Fail>
+    ensures { IfOk result (λ ss. sts_of ss.items ≡
+        next (print true (text 0 ∷ []))
+        (next (assign (new 0 ∷ new 1 ∷ []) asked)
+        (next (print true (shown 0 (read (local 0 here)) ∷ shown 1 (read (local 1 here)) ∷ [])) done))) }
+{
+    let prompt = vec![in alloc; Piece::Text(0)]?;
+    let lefts = vec![in alloc; Left::New(SiteId(0)), Left::New(SiteId(1))]?;
+    let pieces = vec![in alloc;
+        Piece::Shown(INT, variable(0)),
+        Piece::Shown(BOOL, variable(1)),
+    ]?;
+    Ok(vec![in alloc;
+        Stmt::Print(true, prompt),
+        Stmt::Assign(lefts, Values::ReadInt),
+        Stmt::Print(true, pieces),
+    ]?)
+}
+
+fn asking(alloc: Global) -> Result<Program, Fail>
+    ensures form { IfOk result (λ p. IsInForm (program_of p)) }
+    ensures main { IfOk result (λ p. p.main.0 ≡ 0) }
+{
+    let lines = asking_body(alloc)?;
+    let only = main(alloc, 0, 2, lines);
+    let funcs = vec![in alloc; only]?;
+    let sites = vec![in alloc; SITE, BOOL_SITE]?;
+    let letter = vec![in alloc; b'i']?;
+    let strings = vec![in alloc; letter]?;
+    Ok(Program {
+        funcs,
+        main: FuncId(0),
+        sites,
+        strings,
+    })
+}
+
+fn no_input(alloc: Global) -> MemSource {
+    MemSource::new(Vec::new(alloc), Vec::new(alloc))
+}
+
+// A source whose first call fails where true is said.
+fn input_of(alloc: Global, text: &[u8], fails: bool) -> Result<MemSource, Fail> {
+    let mut bytes = Vec::new(alloc);
+    bytes.extend_from_slice(text)?;
+    let mut calls = Vec::new(alloc);
+    if fails {
+        calls.push(1)?;
+    }
+    Ok(MemSource::new(bytes, calls))
+}
+
 #[test]
 fn calls_give_several_results(rt: HostRuntime) -> Result<(), Fail> {
     let program = program(rt.alloc(), AT)?;
@@ -244,9 +303,18 @@ fn calls_give_several_results(rt: HostRuntime) -> Result<(), Fail> {
         (49, 20, Err(RunFault::Steps), b""),
     ];
     for (stack, steps, want, printed) in cases {
+        let mut input = no_input(rt.alloc());
         let mut out = MemSink::new(rt.alloc(), Vec::new(rt.alloc()));
         assert_eq!(rt;
-            run(rt.alloc(), &code, program.main, stack, steps, &mut out),
+            run(
+                rt.alloc(),
+                &code,
+                program.main,
+                stack,
+                steps,
+                &mut input,
+                &mut out
+            ),
             want
         );
         assert_eq!(rt; out.bytes(), printed);
@@ -259,9 +327,18 @@ fn a_failed_write_ends_the_run(rt: HostRuntime) -> Result<(), Fail> {
     let program = program(rt.alloc(), AT)?;
     let layouts = layout_of(rt.alloc(), &program)?;
     let code = emit(rt.alloc(), &program, &layouts)?;
+    let mut input = no_input(rt.alloc());
     let mut out = MemSink::new(rt.alloc(), vec![in rt.alloc(); 2]?);
     assert_eq!(rt;
-        run(rt.alloc(), &code, program.main, 1000, 1000, &mut out),
+        run(
+            rt.alloc(),
+            &code,
+            program.main,
+            1000,
+            1000,
+            &mut input,
+            &mut out
+        ),
         Err(RunFault::WriteFault)
     );
     assert_eq!(rt; out.bytes(), b"2".as_slice());
@@ -273,11 +350,51 @@ fn a_panic_ends_the_run(rt: HostRuntime) -> Result<(), Fail> {
     let program = stopped(rt.alloc(), AT)?;
     let layouts = layout_of(rt.alloc(), &program)?;
     let code = emit(rt.alloc(), &program, &layouts)?;
+    let mut input = no_input(rt.alloc());
     let mut out = MemSink::new(rt.alloc(), Vec::new(rt.alloc()));
     assert_eq!(rt;
-        run(rt.alloc(), &code, program.main, 1000, 1000, &mut out),
+        run(
+            rt.alloc(),
+            &code,
+            program.main,
+            1000,
+            1000,
+            &mut input,
+            &mut out
+        ),
         Err(RunFault::Panic(Panic::DivideByZero))
     );
     assert_eq!(rt; out.bytes(), b"i 0\ni 1\n".as_slice());
+    Ok(())
+}
+
+#[test]
+fn items_are_read(rt: HostRuntime) -> Result<(), Fail> {
+    let program = asking(rt.alloc())?;
+    let layouts = layout_of(rt.alloc(), &program)?;
+    let code = emit(rt.alloc(), &program, &layouts)?;
+    let cases: [(&[u8], bool, Result<u8, RunFault>, &[u8]); 4] = [
+        (b" -7\n8", false, Ok(0), b"i\n-7 true\n"),
+        (b"x 7", false, Ok(0), b"i\n0 false\n"),
+        (b"", false, Ok(0), b"i\n0 false\n"),
+        (b"7", true, Err(RunFault::ReadFault), b"i\n"),
+    ];
+    for (text, fails, want, printed) in cases {
+        let mut input = input_of(rt.alloc(), text, fails)?;
+        let mut out = MemSink::new(rt.alloc(), Vec::new(rt.alloc()));
+        assert_eq!(rt;
+            run(
+                rt.alloc(),
+                &code,
+                program.main,
+                1000,
+                1000,
+                &mut input,
+                &mut out
+            ),
+            want
+        );
+        assert_eq!(rt; out.bytes(), printed);
+    }
     Ok(())
 }

@@ -237,8 +237,10 @@ pub fn emit_values(
             emit_values(code, funcs, frame, arguments, h)?;
             emit_call(code, funcs, frame, *f, h)?;
         }
-        // No program that fits reads its input yet.
-        Values::ReadInt => {}
+        Values::ReadInt => {
+            let a = frame.temp(h);
+            put(code, Instr::ReadInt { a })?;
+        }
     }
     Ok(())
 }

@@ -20,69 +20,15 @@ fn is_accepted(alloc: Global, text: &[u8]) -> bool {
     compile(alloc, text).is_ok()
 }
 
-/// A text for each kind, and for each rule on where it stands.
+/// A text for each kind of fault of names, declarations and forms, and for each rule on where it stands.
 #[test]
-fn faults_and_their_places(rt: HostRuntime) -> Result<(), Fail> {
-    let table: [(&str, FaultKind, u32, u32); 108] = [
+fn faults_of_names_and_forms(rt: HostRuntime) -> Result<(), Fail> {
+    let table: [(&str, FaultKind, u32, u32); 54] = [
         (
-            "package main\nfunc main() { println(\"a\") }",
+            "package main\nfunc main() { x := \"a\" }",
             FaultKind::OutOfProfile,
             2,
-            23,
-        ),
-        (
-            "package main\nfunc main() { a := 1; println(!a) }",
-            FaultKind::BadOperand,
-            2,
-            31,
-        ),
-        (
-            "package main\nfunc main() { a := 1; println(a + true) }",
-            FaultKind::Mismatch,
-            2,
-            31,
-        ),
-        (
-            "package main\nfunc main() { println(true < false) }",
-            FaultKind::BadOperand,
-            2,
-            23,
-        ),
-        (
-            "package main\nfunc main() { println(1 << true) }",
-            FaultKind::BadOperand,
-            2,
-            23,
-        ),
-        (
-            "package main\nfunc main() { println(1 && true) }",
-            FaultKind::Mismatch,
-            2,
-            23,
-        ),
-        (
-            "package main\nfunc main() { println(-true) }",
-            FaultKind::BadOperand,
-            2,
-            23,
-        ),
-        (
-            "package main\nfunc main() { a := 1; println(a / 0) }",
-            FaultKind::ConstZeroDivisor,
-            2,
-            35,
-        ),
-        (
-            "package main\nfunc main() { a := 1; println(a >> -1) }",
-            FaultKind::BadOperand,
-            2,
-            31,
-        ),
-        (
-            "package main\nfunc main() { a := 1; println(a == 9223372036854775808) }",
-            FaultKind::ConstRange,
-            2,
-            36,
+            20,
         ),
         (
             "package main\nfunc main() { a := 1; println(*a) }",
@@ -133,64 +79,10 @@ fn faults_and_their_places(rt: HostRuntime) -> Result<(), Fail> {
             23,
         ),
         (
-            "package main\nfunc f() {}; func main() { println(f{1}) }",
-            FaultKind::BadOperand,
-            2,
-            36,
-        ),
-        (
-            "package main\nfunc f(a int) {}; func main() { b := 1; f(b...) }",
-            FaultKind::BadOperand,
-            2,
-            41,
-        ),
-        (
-            "package main\nfunc main() { a := 1; if a { } }",
-            FaultKind::BadOperand,
-            2,
-            23,
-        ),
-        (
-            "package main\nfunc main() { for 1 { } }",
-            FaultKind::BadOperand,
-            2,
-            15,
-        ),
-        (
-            "package main\nfunc main() { if a := true; a == 1 { } }",
-            FaultKind::Mismatch,
-            2,
-            29,
-        ),
-        (
-            "package main\nfunc main() { for i := 0; i; i++ { } }",
-            FaultKind::BadOperand,
-            2,
-            15,
-        ),
-        (
-            "package main\nfunc main() { for range true { } }",
-            FaultKind::BadOperand,
-            2,
-            15,
-        ),
-        (
             "package main\nfunc main() { for _ := range 3 { } }",
             FaultKind::NothingNew,
             2,
             21,
-        ),
-        (
-            "package main\nfunc main() { for i, j := range 3 { } }",
-            FaultKind::ArgCount,
-            2,
-            15,
-        ),
-        (
-            "package main\nfunc main() { a := true; for a = range 3 { } }",
-            FaultKind::Mismatch,
-            2,
-            30,
         ),
         (
             "package main\nfunc main() { 1 = 2 }",
@@ -199,50 +91,8 @@ fn faults_and_their_places(rt: HostRuntime) -> Result<(), Fail> {
             15,
         ),
         (
-            "package main\nfunc main() { a := 1; a += true }",
-            FaultKind::Mismatch,
-            2,
-            23,
-        ),
-        (
-            "package main\nfunc main() { a := true; a++ }",
-            FaultKind::BadOperand,
-            2,
-            26,
-        ),
-        (
-            "package main\nfunc main() { a := 1; a %= 0 }",
-            FaultKind::ConstZeroDivisor,
-            2,
-            28,
-        ),
-        (
-            "package main\nfunc main() { a := 1; a = true }",
-            FaultKind::Mismatch,
-            2,
-            27,
-        ),
-        (
-            "package main\nfunc main() { a, b := 1, 2; a, b += 1, 2 }",
-            FaultKind::ArgCount,
-            2,
-            29,
-        ),
-        (
             "package main\nfunc main() { _ += 1 }",
             FaultKind::Unknown,
-            2,
-            15,
-        ),
-        (
-            "package main\nfunc main() { var a bool = 1 }",
-            FaultKind::Mismatch,
-            2,
-            28,
-        ),
-        (
-            "package main\nfunc main() { var a, b = 1 }",
-            FaultKind::ArgCount,
             2,
             15,
         ),
@@ -289,10 +139,10 @@ fn faults_and_their_places(rt: HostRuntime) -> Result<(), Fail> {
             6,
         ),
         (
-            "package main\nfunc readInt() (int, bool); func main() { }",
-            FaultKind::OutOfProfile,
+            "package main\nfunc readInt() (n int, ok bool); func main() { }",
+            FaultKind::BadExternal,
             2,
-            1,
+            6,
         ),
         (
             "package main\nfunc f(a *int) {}; func main() {}",
@@ -305,18 +155,6 @@ fn faults_and_their_places(rt: HostRuntime) -> Result<(), Fail> {
             FaultKind::OutOfProfile,
             2,
             10,
-        ),
-        (
-            "package main\nfunc main() { println(1/0) }",
-            FaultKind::ConstZeroDivisor,
-            2,
-            25,
-        ),
-        (
-            "package main\nfunc main() { println(1<<-1) }",
-            FaultKind::BadOperand,
-            2,
-            23,
         ),
         (
             "package main\nfunc main() { println(1, b, 1/0) }",
@@ -419,6 +257,263 @@ fn faults_and_their_places(rt: HostRuntime) -> Result<(), Fail> {
             FaultKind::NotAssignable,
             2,
             28,
+        ),
+        (
+            "package main\nfunc f() int { }; func main() {}",
+            FaultKind::MissingReturn,
+            2,
+            16,
+        ),
+        (
+            "package main\nfunc f(n int) int { if n == 0 { return 1 } }; func main() {}",
+            FaultKind::MissingReturn,
+            2,
+            44,
+        ),
+        (
+            "package main\nfunc f(n int) int { for n > 0 { return 1 } }; func main() {}",
+            FaultKind::MissingReturn,
+            2,
+            44,
+        ),
+        ("package main\nfunc main(a int) {}", FaultKind::NoMain, 1, 1),
+        (
+            "package main\nfunc main() int { return 1 }",
+            FaultKind::NoMain,
+            1,
+            1,
+        ),
+        ("package other\nfunc main() {}", FaultKind::NoMain, 1, 1),
+        (
+            "package main\nfunc f() { println(u) }",
+            FaultKind::NoMain,
+            1,
+            1,
+        ),
+        (
+            "package main\nfunc f(a string) {}; func main() {}",
+            FaultKind::OutOfProfile,
+            2,
+            10,
+        ),
+        (
+            "package main\nfunc len() {}; func main() {}",
+            FaultKind::OutOfProfile,
+            2,
+            6,
+        ),
+        (
+            "package main\nfunc f() (_ int) { return }; func main() {}",
+            FaultKind::OutOfProfile,
+            2,
+            11,
+        ),
+        (
+            "package main\nfunc f() {}; func main() { a := f }",
+            FaultKind::OutOfProfile,
+            2,
+            33,
+        ),
+        (
+            "package main\nfunc main() { a := _ }",
+            FaultKind::Unknown,
+            2,
+            20,
+        ),
+        (
+            "package main\nfunc main() { main() }",
+            FaultKind::OutOfProfile,
+            2,
+            15,
+        ),
+        (
+            "package main\nfunc f(len int) {}; func main() {}",
+            FaultKind::OutOfProfile,
+            2,
+            8,
+        ),
+        (
+            "package main\nfunc main() { f() }; func f(a string) {}",
+            FaultKind::OutOfProfile,
+            2,
+            31,
+        ),
+    ];
+    for (text, kind, line, col) in table {
+        assert_eq!(rt;
+            fault_of(rt.alloc(), text.as_bytes()),
+            Some((kind, line, col)),
+            "of {text}"
+        );
+    }
+    Ok(())
+}
+
+/// The same for the faults of values, their types and their number.
+#[test]
+fn faults_of_values(rt: HostRuntime) -> Result<(), Fail> {
+    let table: [(&str, FaultKind, u32, u32); 54] = [
+        (
+            "package main\nfunc main() { a := 1; println(!a) }",
+            FaultKind::BadOperand,
+            2,
+            31,
+        ),
+        (
+            "package main\nfunc main() { a := 1; println(a + true) }",
+            FaultKind::Mismatch,
+            2,
+            31,
+        ),
+        (
+            "package main\nfunc main() { println(true < false) }",
+            FaultKind::BadOperand,
+            2,
+            23,
+        ),
+        (
+            "package main\nfunc main() { println(1 << true) }",
+            FaultKind::BadOperand,
+            2,
+            23,
+        ),
+        (
+            "package main\nfunc main() { println(1 && true) }",
+            FaultKind::Mismatch,
+            2,
+            23,
+        ),
+        (
+            "package main\nfunc main() { println(-true) }",
+            FaultKind::BadOperand,
+            2,
+            23,
+        ),
+        (
+            "package main\nfunc main() { a := 1; println(a / 0) }",
+            FaultKind::ConstZeroDivisor,
+            2,
+            35,
+        ),
+        (
+            "package main\nfunc main() { a := 1; println(a >> -1) }",
+            FaultKind::BadOperand,
+            2,
+            31,
+        ),
+        (
+            "package main\nfunc main() { a := 1; println(a == 9223372036854775808) }",
+            FaultKind::ConstRange,
+            2,
+            36,
+        ),
+        (
+            "package main\nfunc f() {}; func main() { println(f{1}) }",
+            FaultKind::BadOperand,
+            2,
+            36,
+        ),
+        (
+            "package main\nfunc f(a int) {}; func main() { b := 1; f(b...) }",
+            FaultKind::BadOperand,
+            2,
+            41,
+        ),
+        (
+            "package main\nfunc main() { a := 1; if a { } }",
+            FaultKind::BadOperand,
+            2,
+            23,
+        ),
+        (
+            "package main\nfunc main() { for 1 { } }",
+            FaultKind::BadOperand,
+            2,
+            15,
+        ),
+        (
+            "package main\nfunc main() { if a := true; a == 1 { } }",
+            FaultKind::Mismatch,
+            2,
+            29,
+        ),
+        (
+            "package main\nfunc main() { for i := 0; i; i++ { } }",
+            FaultKind::BadOperand,
+            2,
+            15,
+        ),
+        (
+            "package main\nfunc main() { for range true { } }",
+            FaultKind::BadOperand,
+            2,
+            15,
+        ),
+        (
+            "package main\nfunc main() { for i, j := range 3 { } }",
+            FaultKind::ArgCount,
+            2,
+            15,
+        ),
+        (
+            "package main\nfunc main() { a := true; for a = range 3 { } }",
+            FaultKind::Mismatch,
+            2,
+            30,
+        ),
+        (
+            "package main\nfunc main() { a := 1; a += true }",
+            FaultKind::Mismatch,
+            2,
+            23,
+        ),
+        (
+            "package main\nfunc main() { a := true; a++ }",
+            FaultKind::BadOperand,
+            2,
+            26,
+        ),
+        (
+            "package main\nfunc main() { a := 1; a %= 0 }",
+            FaultKind::ConstZeroDivisor,
+            2,
+            28,
+        ),
+        (
+            "package main\nfunc main() { a := 1; a = true }",
+            FaultKind::Mismatch,
+            2,
+            27,
+        ),
+        (
+            "package main\nfunc main() { a, b := 1, 2; a, b += 1, 2 }",
+            FaultKind::ArgCount,
+            2,
+            29,
+        ),
+        (
+            "package main\nfunc main() { var a bool = 1 }",
+            FaultKind::Mismatch,
+            2,
+            28,
+        ),
+        (
+            "package main\nfunc main() { var a, b = 1 }",
+            FaultKind::ArgCount,
+            2,
+            15,
+        ),
+        (
+            "package main\nfunc main() { println(1/0) }",
+            FaultKind::ConstZeroDivisor,
+            2,
+            25,
+        ),
+        (
+            "package main\nfunc main() { println(1<<-1) }",
+            FaultKind::BadOperand,
+            2,
+            23,
         ),
         (
             "package main\nfunc main() { a := 1; a(1) }",
@@ -553,24 +648,6 @@ fn faults_and_their_places(rt: HostRuntime) -> Result<(), Fail> {
             42,
         ),
         (
-            "package main\nfunc f() int { }; func main() {}",
-            FaultKind::MissingReturn,
-            2,
-            16,
-        ),
-        (
-            "package main\nfunc f(n int) int { if n == 0 { return 1 } }; func main() {}",
-            FaultKind::MissingReturn,
-            2,
-            44,
-        ),
-        (
-            "package main\nfunc f(n int) int { for n > 0 { return 1 } }; func main() {}",
-            FaultKind::MissingReturn,
-            2,
-            44,
-        ),
-        (
             "package main\nfunc f(a int) {}; func main() { f(9223372036854775808) }",
             FaultKind::ConstRange,
             2,
@@ -600,68 +677,6 @@ fn faults_and_their_places(rt: HostRuntime) -> Result<(), Fail> {
             2,
             10,
         ),
-        ("package main\nfunc main(a int) {}", FaultKind::NoMain, 1, 1),
-        (
-            "package main\nfunc main() int { return 1 }",
-            FaultKind::NoMain,
-            1,
-            1,
-        ),
-        ("package other\nfunc main() {}", FaultKind::NoMain, 1, 1),
-        (
-            "package main\nfunc f() { println(u) }",
-            FaultKind::NoMain,
-            1,
-            1,
-        ),
-        (
-            "package main\nfunc f(a string) {}; func main() {}",
-            FaultKind::OutOfProfile,
-            2,
-            10,
-        ),
-        (
-            "package main\nfunc len() {}; func main() {}",
-            FaultKind::OutOfProfile,
-            2,
-            6,
-        ),
-        (
-            "package main\nfunc f() (_ int) { return }; func main() {}",
-            FaultKind::OutOfProfile,
-            2,
-            11,
-        ),
-        (
-            "package main\nfunc f() {}; func main() { a := f }",
-            FaultKind::OutOfProfile,
-            2,
-            33,
-        ),
-        (
-            "package main\nfunc main() { a := _ }",
-            FaultKind::OutOfProfile,
-            2,
-            20,
-        ),
-        (
-            "package main\nfunc main() { main() }",
-            FaultKind::OutOfProfile,
-            2,
-            15,
-        ),
-        (
-            "package main\nfunc f(len int) {}; func main() {}",
-            FaultKind::OutOfProfile,
-            2,
-            8,
-        ),
-        (
-            "package main\nfunc main() { f() }; func f(a string) {}",
-            FaultKind::OutOfProfile,
-            2,
-            31,
-        ),
     ];
     for (text, kind, line, col) in table {
         assert_eq!(rt;
@@ -675,7 +690,7 @@ fn faults_and_their_places(rt: HostRuntime) -> Result<(), Fail> {
 
 #[test]
 fn accepted_texts(rt: HostRuntime) -> Result<(), Fail> {
-    let table: [&str; 14] = [
+    let table: [&str; 15] = [
         "package main\nfunc two(n int) (q, r int) { q = n + 1; r = n * 2; return }; func main() { a, b := two(5); a, b = b, a; println(a, b) }",
         "package main\nfunc f(_ int, _ int) {}; func _() int { return 1 }; func main() { f(1, 2) }",
         "package main\nfunc g() (int, int) { return 1, 2 }; func f(a, b int) {}; func main() { f(g()); _, _ = g(); (g()) }",
@@ -690,6 +705,7 @@ fn accepted_texts(rt: HostRuntime) -> Result<(), Fail> {
         "package main\nfunc main() { if a := 1; a == 1 { } else if b := a; b > 2 { panic(b) } }",
         "package main\nfunc f(a, b bool) (c bool, d int) { c = a && !b; d = 1 << 3; return }; func main() { a, b := f(true, 1 < 2); println(a, b) }",
         "package main\nfunc f(n int) int { for { if n > 0 { return n }; n++ } }; func g() bool { panic(true) }; func main() { println(f(-1), g()) }",
+        "package main\nfunc exit(code int); func readInt() (int, bool); func main() { n, ok := readInt(); println(\"n\", n, ok); if !ok { panic(\"none\") }; exit(n) }",
     ];
     for text in table {
         assert!(rt; is_accepted(rt.alloc(), text.as_bytes()), "{text}");

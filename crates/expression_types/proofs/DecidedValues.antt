@@ -1,11 +1,11 @@
 -- Expressions side by side: where each gives something, their values are decided.
 use Rattle.std.proofs.Common.{◌≡◌, ℕ, zero, suc, Bool, true, false, cond, List, [], ◌∷◌, ◌⊎◌, inl, inr, Option, Some, None, refl, sym, ap, ◌∙◌, length, take, arith, subst}
-use Rattle.std.specs.Prelude.{⊤, option_and_then, is_some, is_none, ◌&&◌, ◌==◌}
+use Rattle.std.specs.Prelude.{⊤, option_and_then, is_some, is_none, nat_le, ◌≤◌, ◌&&◌, ◌==◌}
 use Rattle.std.specs.Option.{option_map}
-use Rattle.std.proofs.lemmas.Bool.{eqb-true}
+use Rattle.std.proofs.lemmas.Bool.{eqb-true, leb-true}
 use Rattle.base.specs.declared.pos.Pos.{Pos}
 use Rattle.typed.specs.Value.{int}
-use Rattle.typed.specs.Syntax.{Ex, Exs, Piece, shown}
+use Rattle.typed.specs.Syntax.{Ex, Exs}
 use Rattle.typed.specs.Syntax as typed
 use Rattle.expression_types.specs.declared.fault.Fault.{Fault}
 use Rattle.expression_types.specs.declared.fault.FaultKind.TheVariants.{ConstRange, Mismatch}
@@ -13,8 +13,8 @@ use Rattle.expression_types.specs.declared.operand.Constant.TheVariants.{Number,
 use Rattle.expression_types.specs.declared.scope.ValueType.{ValueType}
 use Rattle.expression_types.specs.Least.{IsLeast}
 use Rattle.expression_types.specs.Scope.{type_number}
-use Rattle.expression_types.specs.Typing.{Operand, untyped, value, Gives, one, called, printed, panicked, Seen, Many, allowed, type_of, single, operand_in, as_value, as_piece, is_int, listed, values, pieces, are_single, many_in, many, count_of, count, each, types_agree, values_agree, fits_with, fits, all_values, taken, types_with, value_types, single_types, taken_types, panicked_with}
-use Rattle.expression_types.specs.Faults.{fault, IsFault, single_fault, SinglesFail, ValuesFail, range_fault, RangeFails, TypesFail, results_fault, MismatchFails, CountFails, TakeFails, refused_fault}
+use Rattle.expression_types.specs.Typing.{Operand, untyped, value, Part, valued, Gives, one, called, asking, quoted, printed, panicked, exited, Seen, Many, allowed, type_of, single, operand_in, value_in, as_value, as_part, part_in, is_part, is_int, listed, values, parts, are_single, are_parts, part_count, many_in, many, count_of, count, each, types_agree, values_agree, fits_with, fits, all_values, taken, types_with, value_types, single_types, taken_types, panicked_with, exit_places, exited_with}
+use Rattle.expression_types.specs.Faults.{fault, IsFault, single_fault, part_fault, SinglesFail, PartsFail, ValuesFail, range_fault, RangeFails, TypesFail, results_fault, MismatchFails, CountFails, TakeFails, refused_fault}
 use Rattle.expression_types.proofs.Decided.{Decided, Tested, further, mapped, after, both_tested, same, turned}
 use Rattle.expression_types.proofs.Items.{and_true}
 use Rattle.expression_types.proofs.Places.{agree_tested}
@@ -26,8 +26,11 @@ single_decided (one x) = λ f h. h
 single_decided (called at [] k es) = (_, refl)
 single_decided (called at (t ∷ []) k es) = λ f h. h
 single_decided (called at (t ∷ u ∷ ts) k es) = (_, refl)
+single_decided (asking at) = (_, refl)
+single_decided (quoted at bytes) = (_, refl)
 single_decided (printed at line ps) = (_, refl)
 single_decided (panicked at p) = (_, refl)
+single_decided (exited at e) = (_, refl)
 
 pub operand_decided : (o : Option Gives) (P : Fault → Type 0) → Decided o P → Decided (operand_in o) (λ f. P f ⊎ IsFault (single_fault o) f)
 operand_decided None P d = (d.0, inl d.1)
@@ -67,62 +70,133 @@ pub singles_tested : (os : List Seen) → AllGiven os → Tested (are_single os)
 singles_tested [] all = λ f h. h
 singles_tested (o ∷ os) all = both_tested (IsFault (single_fault o.gives)) (SinglesFail os) (is_some (operand_in o.gives)) (are_single os) (one_tested o.gives all.0) (singles_tested os all.1)
 
--- ---- one value of each, in some form that is decided by the ranges
+-- an operand of `print`, `println` or `panic`
+part_tested : (o : Option Gives) → IsGiven o → Tested (is_part o) (IsFault (part_fault o))
+part_tested None g = absurd g
+part_tested (Some (one x)) g = λ f h. h
+part_tested (Some (called at [] k es)) g = (_, refl)
+part_tested (Some (called at (t ∷ []) k es)) g = λ f h. h
+part_tested (Some (called at (t ∷ u ∷ ts) k es)) g = (_, refl)
+part_tested (Some (asking at)) g = (_, refl)
+part_tested (Some (quoted at bytes)) g = λ f h. h
+part_tested (Some (printed at line ps)) g = (_, refl)
+part_tested (Some (panicked at p)) g = (_, refl)
+part_tested (Some (exited at e)) g = (_, refl)
 
-module _ {A : Type 0} (k : Operand → Option A) (k_decided : (at : Pos) (x : Operand) → Decided (k x) (IsFault (range_fault at (Some x)))) where
-  abbrev In : Option Gives → Option A
-  In o = option_and_then k (operand_in o)
+pub parts_tested : (os : List Seen) → AllGiven os → Tested (are_parts os) (PartsFail os)
+parts_tested [] all = λ f h. h
+parts_tested (o ∷ os) all = both_tested (IsFault (part_fault o.gives)) (PartsFail os) (is_part o.gives) (are_parts os) (part_tested o.gives all.0) (parts_tested os all.1)
 
-  -- where each has one value, the forms are decided by the ranges
-  pub ranges_decided : (os : List Seen) → are_single os ≡ true → Decided (listed In os) (RangeFails os)
-  ranges_decided [] are = λ f h. h
-  ranges_decided (o ∷ os) are = by (operand_in o.gives) are (λ rest. ranges_decided os rest)
+-- ---- one of each, in some form that is decided by the ranges
+
+-- the form that an expression has where it may have it, and a test of whether all may
+record Form {A : Type 0} (In : Option Gives → Option A) (are : List Seen → Bool) : Type 0 where
+  may : Option Gives → Bool
+  none : are [] ≡ true
+  more : (o : Seen) (os : List Seen) → are (o ∷ os) ≡ (may o.gives && are os)
+  decided : (at : Pos) (o : Option Gives) → may o ≡ true → Decided (In o) (IsFault (range_fault at (operand_in o)))
+  missing : (o : Option Gives) → may o ≡ false → In o ≡ None
+
+module _ {A : Type 0} (In : Option Gives → Option A) (are : List Seen → Bool) (form : Form In are) where
+  -- where each may have the form, the ranges decide whether it has
+  ranges_decided : (os : List Seen) → are os ≡ true → Decided (listed In os) (RangeFails os)
+  ranges_decided [] is = λ f h. h
+  ranges_decided (o ∷ os) is = by (form.may o.gives) refl (sym (form.more o os) ∙ is) (λ rest. ranges_decided os rest)
     where
       cons : (y : Option A) (P : Fault → Type 0) → Decided y P → Decided (listed In os) (RangeFails os) → Decided (option_and_then (λ x. option_map (λ xs. x ∷ xs) (listed In os)) y) (λ f. P f ⊎ RangeFails os f)
-      cons y P d rest = after y (λ x. option_map (λ xs. x ∷ xs) (listed In os)) P (RangeFails os) d (λ x is. mapped (λ xs. x ∷ xs) (listed In os) (RangeFails os) rest)
+      cons y P d rest = after y (λ x. option_map (λ xs. x ∷ xs) (listed In os)) P (RangeFails os) d (λ x is1. mapped (λ xs. x ∷ xs) (listed In os) (RangeFails os) rest)
 
-      by : (x : Option Operand) → (is_some x && are_single os) ≡ true → (are_single os ≡ true → Decided (listed In os) (RangeFails os))
-          → Decided (option_and_then (λ x1. option_map (λ xs. x1 ∷ xs) (listed In os)) (option_and_then k x)) (λ f. IsFault (range_fault o.at x) f ⊎ RangeFails os f)
-      by None is rest = let bad : false ≡ true = is in cc
-      by (Some x) is rest = cons (k x) (IsFault (range_fault o.at (Some x))) (k_decided o.at x) (rest is)
+      by : (b : Bool) → form.may o.gives ≡ b → (b && are os) ≡ true → (are os ≡ true → Decided (listed In os) (RangeFails os)) → Decided (listed In (o ∷ os)) (RangeFails (o ∷ os))
+      by false may1 all rest = let bad : false ≡ true = all in absurd cc
+      by true may1 all rest = cons (In o.gives) (IsFault (range_fault o.at (operand_in o.gives))) (form.decided o.at o.gives may1) (rest all)
 
-  -- where one has not one value there are none
-  pub no_list : (os : List Seen) → are_single os ≡ false → listed In os ≡ None
-  no_list [] are = let bad : true ≡ false = are in cc
-  no_list (o ∷ os) are = by (operand_in o.gives) are (λ rest. no_list os rest)
+  -- where one may not have it there are none
+  no_list : (os : List Seen) → are os ≡ false → listed In os ≡ None
+  no_list [] is = let bad : true ≡ false = sym form.none ∙ is in absurd cc
+  no_list (o ∷ os) is = by (form.may o.gives) refl (sym (form.more o os) ∙ is) (λ rest. no_list os rest)
     where
       nothing_behind : (y : Option A) → listed In os ≡ None → option_and_then (λ x. option_map (λ xs. x ∷ xs) (listed In os)) y ≡ None
-      nothing_behind None is = refl
-      nothing_behind (Some x) is = ap (option_map (λ xs. x ∷ xs)) is
+      nothing_behind None none1 = refl
+      nothing_behind (Some x) none1 = ap (option_map (λ xs. x ∷ xs)) none1
 
-      by : (x : Option Operand) → (is_some x && are_single os) ≡ false → (are_single os ≡ false → listed In os ≡ None)
-          → option_and_then (λ x1. option_map (λ xs. x1 ∷ xs) (listed In os)) (option_and_then k x) ≡ None
-      by None is rest = refl
-      by (Some x) is rest = nothing_behind (k x) (rest is)
+      by : (b : Bool) → form.may o.gives ≡ b → (b && are os) ≡ false → (are os ≡ false → listed In os ≡ None) → listed In (o ∷ os) ≡ None
+      by false may1 all rest = ap (λ (y : Option A). option_and_then (λ x. option_map (λ xs. x ∷ xs) (listed In os)) y) (form.missing o.gives may1)
+      by true may1 all rest = nothing_behind (In o.gives) (rest all)
 
-  pub list_decided : (os : List Seen) → AllGiven os → Decided (listed In os) (λ f. SinglesFail os f ⊎ RangeFails os f)
-  list_decided os all = by (are_single os) refl (singles_tested os all)
+  list_decided : (P : Fault → Type 0) (os : List Seen) → Tested (are os) P → Decided (listed In os) (λ f. P f ⊎ RangeFails os f)
+  list_decided P os t = by (are os) refl t
     where
-      none_by : (o : Option (List A)) → o ≡ None → (f : Fault) → SinglesFail os f → Decided o (λ g. SinglesFail os g ⊎ RangeFails os g)
+      none_by : (o : Option (List A)) → o ≡ None → (f : Fault) → P f → Decided o (λ g. P g ⊎ RangeFails os g)
       none_by None is f h = (f, inl h)
       none_by (Some x) is f h = cc is
 
-      by : (b : Bool) → are_single os ≡ b → Tested b (SinglesFail os) → Decided (listed In os) (λ f. SinglesFail os f ⊎ RangeFails os f)
-      by true is t = further (SinglesFail os) (RangeFails os) (listed In os) t (ranges_decided os is)
-      by false is t = none_by (listed In os) (no_list os is) t.0 t.1
+      by : (b : Bool) → are os ≡ b → Tested b P → Decided (listed In os) (λ f. P f ⊎ RangeFails os f)
+      by true is t1 = further P (RangeFails os) (listed In os) t1 (ranges_decided os is)
+      by false is t1 = none_by (listed In os) (no_list os is) t1.0 t1.1
 
-  pub list_long : (os : List Seen) (xs : List A) → listed In os ≡ Some xs → length xs ≡ length os
+  -- where there are some, each has the form, and there is one of each
+  list_are : (os : List Seen) (xs : List A) → listed In os ≡ Some xs → are os ≡ true
+  list_are os xs is = by (are os) refl
+    where
+      by : (b : Bool) → are os ≡ b → b ≡ true
+      by true e = refl
+      by false e = absurd (none_some (sym (no_list os e) ∙ is))
+
+  list_long : (os : List Seen) (xs : List A) → listed In os ≡ Some xs → length xs ≡ length os
   list_long [] xs is = ap length (sym (same_some is))
   list_long (o ∷ os) xs is =
       let r = and_then_some (λ x. option_map (λ ys. x ∷ ys) (listed In os)) (In o.gives) xs is in
       let q = map_some (λ ys. r.0 ∷ ys) (listed In os) xs r.2 in
       ap length (sym q.2) ∙ ap suc (list_long os q.0 q.1)
 
-as_piece_decided : (at : Pos) (x : Operand) → Decided (as_piece x) (IsFault (range_fault at (Some x)))
-as_piece_decided at x = mapped (shown (type_number (type_of x))) (as_value x) (IsFault (range_fault at (Some x))) (as_value_decided at x)
+-- values
+value_decided : (at : Pos) (x : Option Operand) → is_some x ≡ true → Decided (option_and_then as_value x) (IsFault (range_fault at x))
+value_decided at None is = let bad : false ≡ true = is in absurd cc
+value_decided at (Some x) is = as_value_decided at x
 
-pub pieces_decided : (os : List Seen) → AllGiven os → Decided (pieces os) (λ f. SinglesFail os f ⊎ RangeFails os f)
-pieces_decided os all = list_decided as_piece as_piece_decided os all
+no_value : (x : Option Operand) → is_some x ≡ false → option_and_then as_value x ≡ None
+no_value None is = refl
+no_value (Some x) is = let bad : true ≡ false = is in absurd cc
+
+value_form : Form value_in are_single
+value_form = record {
+  may = λ o. is_some (operand_in o);
+  none = refl;
+  more = λ o os. refl;
+  decided = λ at o is. value_decided at (operand_in o) is;
+  missing = λ o is. no_value (operand_in o) is;
+}
+
+-- operands of `print`, `println` or `panic`
+as_part_decided : (at : Pos) (x : Operand) → Decided (as_part x) (IsFault (range_fault at (Some x)))
+as_part_decided at x = mapped (valued (type_number (type_of x))) (as_value x) (IsFault (range_fault at (Some x))) (as_value_decided at x)
+
+part_decided : (at : Pos) (o : Option Gives) → is_part o ≡ true → Decided (part_in o) (IsFault (range_fault at (operand_in o)))
+part_decided at None is = cc is
+part_decided at (Some (one x)) is = as_part_decided at x
+part_decided at (Some (called place [] k es)) is = cc is
+part_decided at (Some (called place (t ∷ []) k es)) is = as_part_decided at (value t (typed.call k es))
+part_decided at (Some (called place (t ∷ u ∷ ts) k es)) is = cc is
+part_decided at (Some (asking place)) is = cc is
+part_decided at (Some (quoted place bytes)) is = λ f h. h
+part_decided at (Some (printed place line ps)) is = cc is
+part_decided at (Some (panicked place p)) is = cc is
+part_decided at (Some (exited place e)) is = cc is
+
+no_part : (o : Option Gives) → is_part o ≡ false → part_in o ≡ None
+no_part None is = refl
+no_part (Some (one x)) is = cc is
+no_part (Some (called place [] k es)) is = refl
+no_part (Some (called place (t ∷ []) k es)) is = cc is
+no_part (Some (called place (t ∷ u ∷ ts) k es)) is = refl
+no_part (Some (asking place)) is = refl
+no_part (Some (quoted place bytes)) is = cc is
+no_part (Some (printed place line ps)) is = refl
+no_part (Some (panicked place p)) is = refl
+no_part (Some (exited place e)) is = refl
+
+part_form : Form part_in are_parts
+part_form = record { may = is_part; none = refl; more = λ o os. refl; decided = part_decided; missing = no_part }
 
 -- ---- values at places
 
@@ -133,11 +207,14 @@ take_whole (suc n) [] is = refl
 take_whole (suc n) (x ∷ xs) is = ap (λ l. x ∷ l) (take_whole n xs (omega (arith, is)))
 
 -- a call with more than one value is no single value
-many_single : (o : Option Gives) (m : Many) → many_in o ≡ Some m → operand_in o ≡ None
+pub many_single : (o : Option Gives) (m : Many) → many_in o ≡ Some m → operand_in o ≡ None
 many_single None m is = refl
 many_single (Some (one x)) m is = cc is
+many_single (Some (asking place)) m is = refl
+many_single (Some (quoted place bytes)) m is = refl
 many_single (Some (printed place line ps)) m is = refl
 many_single (Some (panicked place p)) m is = refl
+many_single (Some (exited place e)) m is = refl
 many_single (Some (called place [] k es)) m is = refl
 many_single (Some (called place (t ∷ []) k es)) m is = absurd (none_some is)
 many_single (Some (called place (t ∷ u ∷ ts) k es)) m is = refl
@@ -219,11 +296,11 @@ module _ (own : Fault) (ps : List (Option ValueType)) (os : List Seen) (all : Al
       (λ e.
       let whole : take (length ps) os ≡ os = take_whole (length ps) os (eqb-true (length os) (length ps) (same_long n (values_agree ps os) e)) in
       further (SinglesFail os) (RangeFails (take (length ps) os)) (option_map each (values os)) none
-      (mapped each (values os) (RangeFails (take (length ps) os)) (subst (λ (l : List Seen). Decided (values os) (RangeFails l)) (sym whole) (ranges_decided as_value as_value_decided os are)))))
+      (mapped each (values os) (RangeFails (take (length ps) os)) (subst (λ (l : List Seen). Decided (values os) (RangeFails l)) (sym whole) (ranges_decided value_in are_single value_form os are)))))
 
   of_none : (b : Bool) → are_single os ≡ b → Tested b (SinglesFail os) → Decided (allowed (fits_with ps os None) (all_values os None)) (Takes None (cond b (Some (length os)) None))
   of_none true is t = of_singles is t
-  of_none false is t = nothing_by (values os) (no_list as_value as_value_decided os is) (fits_with ps os None)
+  of_none false is t = nothing_by (values os) (no_list value_in are_single value_form os is) (fits_with ps os None)
     where
       nothing_by : (o : Option (List Ex)) → o ≡ None → (b : Bool) → Decided (allowed b (option_map each o)) (Takes None None)
       nothing_by None e true = (t.0, inl (inl (inl t.1)))
@@ -264,6 +341,18 @@ not_single (o ∷ os) is = by o.gives is (λ rest. not_single os rest)
     by None e rest = refl
     by (Some x) e rest = last (single x) (rest e)
 
+not_parts : (os : List Seen) → given_all os ≡ None → are_parts os ≡ false
+not_parts [] is = cc is
+not_parts (o ∷ os) is = by o.gives is (λ rest. not_parts os rest)
+  where
+    last : (b : Bool) → are_parts os ≡ false → (b && are_parts os) ≡ false
+    last true e = e
+    last false e = refl
+
+    by : (g : Option Gives) → option_and_then (λ x. given_all os) g ≡ None → (given_all os ≡ None → are_parts os ≡ false) → (is_part g && are_parts os) ≡ false
+    by None e rest = refl
+    by (Some x) e rest = last (is_part (Some x)) (rest e)
+
 no_many : (os : List Seen) → given_all os ≡ None → many os ≡ None
 no_many [] is = refl
 no_many (o ∷ []) is = by o.gives is
@@ -275,7 +364,7 @@ no_many (o ∷ p ∷ os) is = refl
 
 no_values : (ps : List (Option ValueType)) (os : List Seen) → given_all os ≡ None → taken ps os ≡ None
 no_values ps os is =
-    ap (λ (m : Option Many). allowed (fits_with ps os m) (all_values os m)) (no_many os is) ∙ by (fits_with ps os None) (values os) (no_list as_value as_value_decided os (not_single os is))
+    ap (λ (m : Option Many). allowed (fits_with ps os m) (all_values os m)) (no_many os is) ∙ by (fits_with ps os None) (values os) (no_list value_in are_single value_form os (not_single os is))
   where
     by : (b : Bool) (o : Option (List Ex)) → o ≡ None → allowed b (option_map each o) ≡ None
     by true o e = ap (option_map each) e
@@ -287,34 +376,14 @@ decided_none (Some x) P f is h = cc is
 
 -- ---- the one operand of `panic`
 
-single_not_many : (os : List Seen) → are_single os ≡ true → many os ≡ None
-single_not_many [] are = refl
-single_not_many (o ∷ []) are = by (many_in o.gives) refl
-  where
-    no_one : (x : Option Operand) → x ≡ None → (is_some x && true) ≡ true → ⊥
-    no_one None e is = cc is
-    no_one (Some x) e is = none_some (sym e)
-
-    by : (m : Option Many) → many_in o.gives ≡ m → m ≡ None
-    by None is = refl
-    by (Some m) is = absurd (no_one (operand_in o.gives) (many_single o.gives m is) are)
-single_not_many (o ∷ p ∷ os) are = refl
-
-counted_singles : (os : List Seen) → are_single os ≡ true → count os ≡ Some (length os)
-counted_singles os are = ap (count_of os) (single_not_many os are) ∙ by (are_single os) are
+counted_parts : (os : List Seen) (xs : List Part) → parts os ≡ Some xs → part_count os ≡ Some (length xs)
+counted_parts os xs is = by (are_parts os) (list_are part_in are_parts part_form os xs is) ∙ ap Some (sym (list_long part_in are_parts part_form os xs is))
   where
     by : (b : Bool) → b ≡ true → cond b (Some (length os)) None ≡ Some (length os)
-    by true is = refl
-    by false is = cc is
-
-pieces_single : (os : List Seen) (xs : List Piece) → pieces os ≡ Some xs → are_single os ≡ true
-pieces_single os xs is = by (are_single os) refl
-  where
-    by : (b : Bool) → are_single os ≡ b → b ≡ true
     by true e = refl
-    by false e = absurd (none_some (sym (no_list as_piece as_piece_decided os e) ∙ is))
+    by false e = cc e
 
-panicked_decided : (at : Pos) (own : Fault) (xs : List Piece) → Decided (panicked_with at xs) (CountFails (Some (length xs)) 1 own)
+panicked_decided : (at : Pos) (own : Fault) (xs : List Part) → Decided (panicked_with at xs) (CountFails (Some (length xs)) 1 own)
 panicked_decided at own [] = (own, refl)
 panicked_decided at own (p ∷ []) = λ f h. h
 panicked_decided at own (p ∷ q ∷ ps) = (own, subst (λ (b : Bool). IsFault (cond b None (Some own)) own) (sym (not_one (length ps))) refl)
@@ -326,6 +395,72 @@ panicked_decided at own (p ∷ q ∷ ps) = (own, subst (λ (b : Bool). IsFault (
         by true is = absurd (omega (arith, eqb-true (suc (suc n)) 1 is))
         by false is = refl
 
+-- ---- the one argument of `exit`
+
+-- a call with more than one value has two at least
+many_long : (o : Option Gives) (m : Many) → many_in o ≡ Some m → 2 ≤ length m.types
+many_long None m is = absurd (none_some is)
+many_long (Some (one x)) m is = absurd (none_some is)
+many_long (Some (asking place)) m is = subst (λ (n : Many). 2 ≤ length n.types) (same_some is) (leb-true 2 2 refl)
+many_long (Some (quoted place bytes)) m is = absurd (none_some is)
+many_long (Some (printed place line ps)) m is = absurd (none_some is)
+many_long (Some (panicked place p)) m is = absurd (none_some is)
+many_long (Some (exited place e)) m is = absurd (none_some is)
+many_long (Some (called place ts k es)) m is = by (nat_le 2 (length ts)) refl is
+  where
+    by : (b : Bool) → nat_le 2 (length ts) ≡ b → cond b (Some (record { at = place; types = ts; values = typed.results k es })) None ≡ Some m → 2 ≤ length m.types
+    by true le is1 = subst (λ (n : Many). 2 ≤ length n.types) (same_some is1) (leb-true 2 (length ts) le)
+    by false le is1 = absurd (none_some is1)
+
+same_front : (b c : Bool) → (b && c) ≡ true → b ≡ true
+same_front true c is = refl
+same_front false c is = is
+
+-- where the arguments fit there is one value at most
+exit_given : (at : Pos) (os : List Seen) → fits exit_places os ≡ true → is_some (all_values os (many os)) ≡ is_some (option_and_then (exited_with at) (values os))
+exit_given at [] is = absurd (omega (arith, eqb-true 0 1 (same_front (0 == 1) (values_agree exit_places []) is)))
+exit_given at (o ∷ []) is = by (many_in o.gives) refl is
+  where
+    of_one : (x : Option Ex) → is_some (option_map each (option_and_then (λ y. option_map (λ ys. y ∷ ys) (Some [])) x)) ≡ is_some (option_and_then (exited_with at) (option_and_then (λ y. option_map (λ ys. y ∷ ys) (Some [])) x))
+    of_one None = refl
+    of_one (Some x) = refl
+
+    by : (m : Option Many) → many_in o.gives ≡ m → fits_with exit_places (o ∷ []) m ≡ true → is_some (all_values (o ∷ []) m) ≡ is_some (option_and_then (exited_with at) (values (o ∷ [])))
+    by None found is1 = of_one (value_in o.gives)
+    by (Some m) found is1 = absurd (omega (arith, many_long o.gives m found, eqb-true (length m.types) 1 (same_front (length m.types == 1) (types_agree exit_places m.types) is1)))
+exit_given at (o ∷ p ∷ os) is = absurd (omega (arith, eqb-true (length (o ∷ p ∷ os)) 1 (same_front (length (o ∷ p ∷ os) == 1) (values_agree exit_places (o ∷ p ∷ os)) is)))
+
+exit_taken : (at : Pos) (os : List Seen) → is_some (taken exit_places os) ≡ is_some (option_and_then (exited_with at) (allowed (fits exit_places os) (values os)))
+exit_taken at os = by (fits exit_places os) refl
+  where
+    by : (b : Bool) → fits exit_places os ≡ b → is_some (allowed b (all_values os (many os))) ≡ is_some (option_and_then (exited_with at) (allowed b (values os)))
+    by true is = exit_given at os is
+    by false is = refl
+
+alike_decided : {A B : Type 0} (o : Option A) (q : Option B) (P : Fault → Type 0) → is_some o ≡ is_some q → Decided o P → Decided q P
+alike_decided None None P is d = d
+alike_decided (Some x) (Some y) P is d = d
+alike_decided None (Some y) P is d = cc is
+alike_decided (Some x) None P is d = cc is
+
+-- ---- `readInt`, which has no argument
+
+-- where no values fit there are all of them
+read_given : (os : List Seen) → fits [] os ≡ true → is_some (all_values os (many os)) ≡ true
+read_given [] is = refl
+read_given (o ∷ os) is = by (many (o ∷ os)) is
+  where
+    by : (m : Option Many) → fits_with [] (o ∷ os) m ≡ true → is_some (all_values (o ∷ os) m) ≡ true
+    by None is1 = absurd (omega (arith, eqb-true (length (o ∷ os)) 0 (same_front (length (o ∷ os) == 0) (values_agree [] (o ∷ os)) is1)))
+    by (Some m) is1 = refl
+
+read_taken : (at : Pos) (os : List Seen) → is_some (taken [] os) ≡ is_some (allowed (fits [] os) (Some (asking at)))
+read_taken at os = by (fits [] os) refl
+  where
+    by : (b : Bool) → fits [] os ≡ b → is_some (allowed b (all_values os (many os))) ≡ is_some (allowed b (Some (asking at)))
+    by true is = read_given os is
+    by false is = refl
+
 -- what each gives is decided by rules, so the values are
 module _ (os : List Seen) (P : Fault → Type 0) (d : Decided (given_all os) P) where
   pub take_decided : (own : Fault) (ps : List (Option ValueType)) → Decided (taken ps os) (λ f. P f ⊎ TakeFails own ps os f)
@@ -335,31 +470,48 @@ module _ (os : List Seen) (P : Fault → Type 0) (d : Decided (given_all os) P) 
       by None is p = decided_none (taken ps os) (λ f. P f ⊎ TakeFails own ps os f) p.0 (no_values ps os is) (inl p.1)
       by (Some u) is p = further P (TakeFails own ps os) (taken ps os) p (taken_decided own ps os (given os is))
 
-  pub print_decided : Decided (pieces os) (λ f. P f ⊎ (SinglesFail os f ⊎ RangeFails os f))
+  pub read_decided : (at : Pos) (own : Fault) → Decided (allowed (fits [] os) (Some (asking at))) (λ f. P f ⊎ TakeFails own [] os f)
+  read_decided at own = alike_decided (taken [] os) _ (λ f. P f ⊎ TakeFails own [] os f) (read_taken at os) (take_decided own [])
+
+  pub exit_decided : (at : Pos) (own : Fault) → Decided (option_and_then (exited_with at) (allowed (fits exit_places os) (values os))) (λ f. P f ⊎ TakeFails own exit_places os f)
+  exit_decided at own = alike_decided (taken exit_places os) _ (λ f. P f ⊎ TakeFails own exit_places os f) (exit_taken at os) (take_decided own exit_places)
+
+  pub print_decided : Decided (parts os) (λ f. P f ⊎ (PartsFail os f ⊎ RangeFails os f))
   print_decided = by (given_all os) refl d
     where
-      by : (g : Option (Unit {0})) → given_all os ≡ g → Decided g P → Decided (pieces os) (λ f. P f ⊎ (SinglesFail os f ⊎ RangeFails os f))
-      by None is p = decided_none (pieces os) (λ f. P f ⊎ (SinglesFail os f ⊎ RangeFails os f)) p.0 (no_list as_piece as_piece_decided os (not_single os is)) (inl p.1)
-      by (Some u) is p = further P (λ f. SinglesFail os f ⊎ RangeFails os f) (pieces os) p (pieces_decided os (given os is))
+      by : (g : Option (Unit {0})) → given_all os ≡ g → Decided g P → Decided (parts os) (λ f. P f ⊎ (PartsFail os f ⊎ RangeFails os f))
+      by None is p = decided_none (parts os) (λ f. P f ⊎ (PartsFail os f ⊎ RangeFails os f)) p.0 (no_list part_in are_parts part_form os (not_parts os is)) (inl p.1)
+      by (Some u) is p = further P (λ f. PartsFail os f ⊎ RangeFails os f) (parts os) p (list_decided part_in are_parts part_form (PartsFail os) os (parts_tested os (given os is)))
 
-  pub panic_decided : (at : Pos) (own : Fault) → Decided (option_and_then (panicked_with at) (pieces os)) (λ f. P f ⊎ ((SinglesFail os f ⊎ RangeFails os f) ⊎ CountFails (count os) 1 own f))
+  pub panic_decided : (at : Pos) (own : Fault) → Decided (option_and_then (panicked_with at) (parts os)) (λ f. P f ⊎ ((PartsFail os f ⊎ RangeFails os f) ⊎ CountFails (part_count os) 1 own f))
   panic_decided at own =
-      let V = λ (f : Fault). SinglesFail os f ⊎ RangeFails os f in
-      let C = CountFails (count os) 1 own in
-      same (λ f. (P f ⊎ V f) ⊎ C f) (λ f. P f ⊎ (V f ⊎ C f)) (option_and_then (panicked_with at) (pieces os)) into back
-      (after (pieces os) (panicked_with at) (λ f. P f ⊎ V f) C print_decided (λ xs is.
-      let long : count os ≡ Some (length xs) = counted_singles os (pieces_single os xs is) ∙ ap Some (sym (list_long as_piece as_piece_decided os xs is)) in
-      subst (λ (n : Option ℕ). Decided (panicked_with at xs) (CountFails n 1 own)) (sym long) (panicked_decided at own xs)))
+      let V = λ (f : Fault). PartsFail os f ⊎ RangeFails os f in
+      let C = CountFails (part_count os) 1 own in
+      same (λ f. (P f ⊎ V f) ⊎ C f) (λ f. P f ⊎ (V f ⊎ C f)) (option_and_then (panicked_with at) (parts os)) into back
+      (after (parts os) (panicked_with at) (λ f. P f ⊎ V f) C print_decided (λ xs is.
+      subst (λ (n : Option ℕ). Decided (panicked_with at xs) (CountFails n 1 own)) (sym (counted_parts os xs is)) (panicked_decided at own xs)))
     where
-      into : (f : Fault) → (P f ⊎ (SinglesFail os f ⊎ RangeFails os f)) ⊎ CountFails (count os) 1 own f → P f ⊎ ((SinglesFail os f ⊎ RangeFails os f) ⊎ CountFails (count os) 1 own f)
+      into : (f : Fault) → (P f ⊎ (PartsFail os f ⊎ RangeFails os f)) ⊎ CountFails (part_count os) 1 own f → P f ⊎ ((PartsFail os f ⊎ RangeFails os f) ⊎ CountFails (part_count os) 1 own f)
       into f (inl (inl p)) = inl p
       into f (inl (inr v)) = inr (inl v)
       into f (inr c) = inr (inr c)
 
-      back : (f : Fault) → P f ⊎ ((SinglesFail os f ⊎ RangeFails os f) ⊎ CountFails (count os) 1 own f) → (P f ⊎ (SinglesFail os f ⊎ RangeFails os f)) ⊎ CountFails (count os) 1 own f
+      back : (f : Fault) → P f ⊎ ((PartsFail os f ⊎ RangeFails os f) ⊎ CountFails (part_count os) 1 own f) → (P f ⊎ (PartsFail os f ⊎ RangeFails os f)) ⊎ CountFails (part_count os) 1 own f
       back f (inl p) = inl (inl p)
       back f (inr (inl v)) = inl (inr v)
       back f (inr (inr c)) = inr c
+
+  -- operands that are refused
+  pub parts_refused : (own : Fault) → (f : Fault) × (P f ⊎ (PartsFail os f ⊎ IsFault (refused_fault (part_count os) own) f))
+  parts_refused own = by (given_all os) refl d
+    where
+      counted_by : (b : Bool) → Tested b (PartsFail os) → (f : Fault) × (PartsFail os f ⊎ IsFault (refused_fault (cond b (Some (length os)) None) own) f)
+      counted_by true t = (own, inr refl)
+      counted_by false t = (t.0, inl t.1)
+
+      by : (g : Option (Unit {0})) → given_all os ≡ g → Decided g P → (f : Fault) × (P f ⊎ (PartsFail os f ⊎ IsFault (refused_fault (part_count os) own) f))
+      by None is p = (p.0, inl p.1)
+      by (Some u) is p = let v = counted_by (are_parts os) (parts_tested os (given os is)) in (v.0, inr v.1)
 
   -- a call that is refused: there is always a rule that fails
   pub refused : (own : Fault) → (f : Fault) × (P f ⊎ (ValuesFail (many os) os f ⊎ IsFault (refused_fault (count os) own) f))
@@ -413,8 +565,8 @@ types_taken ps os r least = by (many os) refl (fits ps os)
     of_nothing b (Some xs) t e is = cc e
 
     of_singles : (b : Bool) → are_single os ≡ b → cond (is_none r) (single_types os) None ≡ option_and_then (λ es. single_types os) (option_map each (values os))
-    of_singles true are = of_decided (values os) r (single_types os) (ranges_decided as_value as_value_decided os are) least
-    of_singles false are = of_nothing (is_none r) (values os) (single_types os) (no_list as_value as_value_decided os are) (no_types os are)
+    of_singles true are = of_decided (values os) r (single_types os) (ranges_decided value_in are_single value_form os are) least
+    of_singles false are = of_nothing (is_none r) (values os) (single_types os) (no_list value_in are_single value_form os are) (no_types os are)
 
     of_many : (m : Many) → many os ≡ Some m → (q : Option Fault) → IsLeast (RangeFails os) q → cond (is_none q) (Some m.types) None ≡ Some m.types
     of_many m is None l = refl

@@ -22,9 +22,9 @@ use Rattle.syntax.specs.Expressions as tree
 use Rattle.typed.specs.declared.operators.UnOp.{UnOp as TypedPrefix}
 use Rattle.typed.specs.declared.program.Site.{Site}
 use Rattle.typed.specs.Value.{int}
-use Rattle.typed.specs.Syntax.{Ex, Exs, Piece, Func, Program, shown, constant, more, none, bool_type}
+use Rattle.typed.specs.Syntax.{Ex, Exs, Func, Program, constant, more, none, int_type, bool_type}
 use Rattle.typed.specs.Syntax as typed
-use Rattle.typed.specs.Form.{InScope, IsWord, TakesOne, site_type, ExFits, ExsFit, PieceFits, PiecesFit}
+use Rattle.typed.specs.Form.{InScope, IsWord, TakesOne, site_type, ExFits, ExsFit}
 use Rattle.names.specs.declared.constants.Const.{Const}
 use Rattle.names.specs.declared.constants.Const.TheVariants as const
 use Rattle.names.specs.declared.constants.ConstFault.{ConstFault}
@@ -34,10 +34,12 @@ use Rattle.expression_types.specs.declared.profile.Word.TheVariants as word
 use Rattle.expression_types.specs.declared.scope.ValueType.{ValueType}
 use Rattle.expression_types.specs.declared.scope.ValueType.TheVariants.{Int, Bool as Boolean}
 use Rattle.expression_types.specs.declared.scope.Declared.{Declared}
-use Rattle.expression_types.specs.declared.scope.Declared.TheVariants.{Variable, Untyped, Function, TypeName}
+use Rattle.expression_types.specs.declared.scope.Declared.TheVariants.{Variable, Untyped, Function, External, TypeName}
+use Rattle.expression_types.specs.declared.scope.External.TheVariants.{ReadInt, Exit}
 use Rattle.expression_types.specs.Profile.{word_of}
 use Rattle.expression_types.specs.Scope.{Scope, Signature, type_number, type_numbers, declaration, signature}
-use Rattle.expression_types.specs.Typing.{Operand, untyped, value, Gives, one, called, printed, panicked, allowed, same_type, type_of, is_int, as_value, constant_of, name_operand, has_rules, takes_one, prefix_of, prefixed, prefix_gives, takes, result_type, right_allowed, arithmetic_of, compare_of, typed_pair, both, both_values, value_pair, combined, pair_gives, single, operand_in, value_in, as_piece, piece_in, Seen, values, pieces, type_in_one, single_types, Many, many_in, many, types_with, value_types, accepts, types_agree, operand_agrees, values_agree, each, fits_with, all_values, taken, asked, Callee, printer, panicker, function, no_function, no_spread, nothing, function_with, callee_declared, callee_named, callee_value, spread_over, panicked_with, called_with, name_in, as_condition, callee, gives, seen, condition, test}
+use Rattle.expression_types.specs.Typing.{Operand, untyped, value, Part, said, valued, Gives, one, called, asking, quoted, printed, panicked, exited, allowed, same_type, type_of, is_int, as_value, constant_of, name_operand, has_rules, takes_one, prefix_of, prefixed, prefix_gives, takes, result_type, right_allowed, arithmetic_of, compare_of, typed_pair, both, both_values, value_pair, combined, pair_gives, single, operand_in, value_in, as_part, part_in, Seen, values, parts, type_in_one, single_types, Many, many_in, many, types_with, value_types, accepts, types_agree, operand_agrees, values_agree, each, fits_with, fits, all_values, taken, asked, Callee, printer, panicker, reader, exiter, function, no_function, no_spread, no_text_spread, nothing, function_with, callee_declared, callee_named, callee_value, spread_over, panicked_with, exit_places, exited_with, called_with, name_in, as_condition, callee, gives, seen, condition, test}
+use Rattle.expression_types.proofs.DecidedValues.{many_single}
 use Rattle.expression_types.proofs.Options.{and_then_some, map_some, none_some, same_some}
 
 is_word : (z : ℤ) → is_int z ≡ true → IsWord (int z)
@@ -175,11 +177,23 @@ module _ (p : Program) (scope : List ℕ) where
   abbrev pub CallFits : List ValueType → ℕ → Exs → Type 0
   CallFits ts f es = (func : Func) × (slice_get p.funcs f ≡ Some func) × (func.results ≡ type_numbers ts) × ExsFit p scope func.param_types es
 
+  -- an operand of `print`, `println` or `panic`
+  abbrev pub PartFits : Part → Type 0
+  PartFits (said bytes) = Unit {0}
+  PartFits (valued t e) = ExFits p scope t e
+
+  abbrev pub PartsFit : List Part → Type 0
+  PartsFit [] = Unit {0}
+  PartsFit (q ∷ qs) = PartFits q × PartsFit qs
+
   abbrev pub GivesFit : Gives → Type 0
   GivesFit (one x) = OperandFits x
   GivesFit (called at ts f es) = CallFits ts f es
-  GivesFit (printed at line ps) = PiecesFit p scope ps
-  GivesFit (panicked at q) = PieceFits p scope q
+  GivesFit (asking at) = Unit {0}
+  GivesFit (quoted at bytes) = Unit {0}
+  GivesFit (printed at line ps) = PartsFit ps
+  GivesFit (panicked at q) = PartFits q
+  GivesFit (exited at e) = ExFits p scope int_type e
 
   abbrev MaybeFits : Option Gives → Type 0
   MaybeFits None = Unit {0}
@@ -217,8 +231,11 @@ module _ (p : Program) (scope : List ℕ) where
   single_fits (called at [] f es) x fits is = absurd (none_some is)
   single_fits (called at (t ∷ []) f es) x fits is = some_fits (value t (typed.call f es)) x fits is
   single_fits (called at (t ∷ u ∷ ts) f es) x fits is = absurd (none_some is)
+  single_fits (asking at) x fits is = absurd (none_some is)
+  single_fits (quoted at bytes) x fits is = absurd (none_some is)
   single_fits (printed at line ps) x fits is = absurd (none_some is)
   single_fits (panicked at q) x fits is = absurd (none_some is)
+  single_fits (exited at e) x fits is = absurd (none_some is)
 
   pub operand_fits : (o : Option Gives) (x : Operand) → MaybeFits o → operand_in o ≡ Some x → OperandFits x
   operand_fits None x fits is = absurd (none_some is)
@@ -260,14 +277,27 @@ module _ (p : Program) (scope : List ℕ) where
         fit = (value_fits m.0 r.0 (operand_fits o.gives m.0 all.0 m.1) m.2, rest.fit);
       })
 
-  pieces_fit : (os : List Seen) (qs : List Piece) → AllFit os → pieces os ≡ Some qs → PiecesFit p scope qs
-  pieces_fit [] qs all is = subst (PiecesFit p scope) (same_some is) tt
-  pieces_fit (o ∷ os) qs all is =
-      let r = and_then_some (λ x. option_map (λ ys. x ∷ ys) (pieces os)) (piece_in o.gives) qs is in
-      let k = map_some (λ ys. r.0 ∷ ys) (pieces os) qs r.2 in
-      let m = and_then_some as_piece (operand_in o.gives) r.0 r.1 in
-      let v = map_some (shown (type_number (type_of m.0))) (as_value m.0) r.0 m.2 in
-      subst (PiecesFit p scope) k.2 (subst (PieceFits p scope) v.2 (value_fits m.0 v.0 (operand_fits o.gives m.0 all.0 m.1) v.1), pieces_fit os k.0 all.1 k.1)
+  as_part_fits : (x : Operand) (q : Part) → OperandFits x → as_part x ≡ Some q → PartFits q
+  as_part_fits x q fits is = let v = map_some (valued (type_number (type_of x))) (as_value x) q is in subst PartFits v.2 (value_fits x v.0 fits v.1)
+
+  part_fits : (o : Option Gives) (q : Part) → MaybeFits o → part_in o ≡ Some q → PartFits q
+  part_fits None q fits is = absurd (none_some is)
+  part_fits (Some (one x)) q fits is = as_part_fits x q fits is
+  part_fits (Some (called at [] f es)) q fits is = absurd (none_some is)
+  part_fits (Some (called at (t ∷ []) f es)) q fits is = as_part_fits (value t (typed.call f es)) q fits is
+  part_fits (Some (called at (t ∷ u ∷ ts) f es)) q fits is = absurd (none_some is)
+  part_fits (Some (asking at)) q fits is = absurd (none_some is)
+  part_fits (Some (quoted at bytes)) q fits is = subst PartFits (same_some is) tt
+  part_fits (Some (printed at line ps)) q fits is = absurd (none_some is)
+  part_fits (Some (panicked at r)) q fits is = absurd (none_some is)
+  part_fits (Some (exited at e)) q fits is = absurd (none_some is)
+
+  parts_fit : (os : List Seen) (qs : List Part) → AllFit os → parts os ≡ Some qs → PartsFit qs
+  parts_fit [] qs all is = subst PartsFit (same_some is) tt
+  parts_fit (o ∷ os) qs all is =
+      let r = and_then_some (λ x. option_map (λ ys. x ∷ ys) (parts os)) (part_in o.gives) qs is in
+      let k = map_some (λ ys. r.0 ∷ ys) (parts os) qs r.2 in
+      subst PartsFit k.2 (part_fits o.gives r.0 all.0 r.1, parts_fit os k.0 all.1 k.1)
 
   -- values at these places: of types that these take
   pub record TakenFit (ps : List (Option ValueType)) (os : List Seen) (es : Exs) : Type 0 where
@@ -276,37 +306,43 @@ module _ (p : Program) (scope : List ℕ) where
     pub accepted : AreAccepted ps types
     pub fit : ExsFit p scope (type_numbers types) es
 
-  many_fits : (o : Option Gives) (m : Many) → MaybeFits o → many_in o ≡ Some m → CallFits m.types m.function m.arguments
+  results_fit : (ts : List ValueType) (f : ℕ) (es : Exs) → CallFits ts f es → ExsFit p scope (type_numbers ts) (typed.results f es)
+  results_fit [] f es fits = fits
+  results_fit (t ∷ ts) f es fits = fits
+
+  abbrev ManyFit : Many → Type 0
+  ManyFit m = ExsFit p scope (type_numbers m.types) m.values
+
+  many_fits : (o : Option Gives) (m : Many) → MaybeFits o → many_in o ≡ Some m → ManyFit m
   many_fits None m fits is = absurd (none_some is)
   many_fits (Some (one x)) m fits is = absurd (none_some is)
+  many_fits (Some (asking at)) m fits is = subst ManyFit (same_some is) refl
+  many_fits (Some (quoted at bytes)) m fits is = absurd (none_some is)
   many_fits (Some (printed at line ps)) m fits is = absurd (none_some is)
   many_fits (Some (panicked at q)) m fits is = absurd (none_some is)
+  many_fits (Some (exited at e)) m fits is = absurd (none_some is)
   many_fits (Some (called at ts f es)) m fits is = by (nat_le 2 (length ts)) is
     where
-      by : (b : Bool) → cond b (Some (record { at = at; types = ts; function = f; arguments = es })) None ≡ Some m → CallFits m.types m.function m.arguments
-      by true is1 = subst (λ (k : Many). CallFits k.types k.function k.arguments) (same_some is1) fits
+      by : (b : Bool) → cond b (Some (record { at = at; types = ts; values = typed.results f es })) None ≡ Some m → ManyFit m
+      by true is1 = subst ManyFit (same_some is1) (results_fit ts f es fits)
       by false is1 = absurd (none_some is1)
 
-  many_all : (os : List Seen) (m : Many) → AllFit os → many os ≡ Some m → CallFits m.types m.function m.arguments
+  many_all : (os : List Seen) (m : Many) → AllFit os → many os ≡ Some m → ManyFit m
   many_all [] m all is = absurd (none_some is)
   many_all (o ∷ []) m all is = many_fits o.gives m all.0 is
   many_all (o ∷ q ∷ os) m all is = absurd (none_some is)
 
-  many_exs : (ts : List ValueType) (f : ℕ) (es : Exs) → CallFits ts f es → ExsFit p scope (type_numbers ts) (typed.results f es)
-  many_exs [] f es fits = fits
-  many_exs (t ∷ ts) f es fits = fits
-
   pub taken_fits : (ps : List (Option ValueType)) (os : List Seen) (es : Exs) → AllFit os → taken ps os ≡ Some es → TakenFit ps os es
   taken_fits ps os es all is = by (many os) refl is
     where
-      of_many : (m : Many) → many os ≡ Some m → fits_with ps os (Some m) ≡ true → typed.results m.function m.arguments ≡ es → TakenFit ps os es
+      of_many : (m : Many) → many os ≡ Some m → fits_with ps os (Some m) ≡ true → m.values ≡ es → TakenFit ps os es
       of_many m found good same =
           let k = both_true (length m.types == length ps) (types_agree ps m.types) good in
           subst (λ (e : Exs). TakenFit ps os e) same (record {
             types = m.types;
             found = ap (types_with os) found;
             accepted = accepted_all ps m.types (eqb-true (length m.types) (length ps) k.0) k.1;
-            fit = many_exs m.types m.function m.arguments (many_all os m all found);
+            fit = many_all os m all found;
           })
 
       of_each : many os ≡ None → fits_with ps os None ≡ true → (xs : List Ex) → values os ≡ Some xs → each xs ≡ es → TakenFit ps os es
@@ -321,7 +357,7 @@ module _ (p : Program) (scope : List ℕ) where
           let r = map_some each (values os) es a.1 in
           of_each found a.0 r.0 r.1 r.2
       by (Some m) found is1 =
-          let a = allowed_some (fits_with ps os (Some m)) (Some (typed.results m.function m.arguments)) es is1 in
+          let a = allowed_some (fits_with ps os (Some m)) (Some m.values) es is1 in
           of_many m found a.0 (same_some a.1)
 
   -- where places ask for types the values have these
@@ -367,23 +403,54 @@ module _ (p : Program) (scope : List ℕ) where
   OptionalFits None = Unit {0}
   OptionalFits (Some e) = ExFits p scope bool_type e
 
-  panicked_fits : (at : Pos) (qs : List Piece) (g : Gives) → PiecesFit p scope qs → panicked_with at qs ≡ Some g → GivesFit g
+  panicked_fits : (at : Pos) (qs : List Part) (g : Gives) → PartsFit qs → panicked_with at qs ≡ Some g → GivesFit g
   panicked_fits at [] g all is = absurd (none_some is)
   panicked_fits at (q ∷ []) g all is = subst GivesFit (same_some is) all.0
   panicked_fits at (q ∷ r ∷ qs) g all is = absurd (none_some is)
+
+  -- the one argument of `exit` is an int
+  exited_fits : (at : Pos) (ts : List ValueType) (xs : List Ex) (g : Gives) → AreAccepted exit_places ts → ExsFit p scope (type_numbers ts) (each xs) → exited_with at xs ≡ Some g → GivesFit g
+  exited_fits at ts [] g all fit is = absurd (none_some is)
+  exited_fits at [] (x ∷ []) g all fit is = absurd all
+  exited_fits at (t ∷ []) (x ∷ []) g all fit is = subst GivesFit (same_some is) (subst (λ (u : ValueType). ExFits p scope (type_number u) x) (sym all.0) fit.0)
+  exited_fits at (t ∷ u ∷ ts) (x ∷ []) g all fit is = absurd all.1
+  exited_fits at ts (x ∷ y ∷ xs) g all fit is = absurd (none_some is)
+
+  exit_fits : (at : Pos) (os : List Seen) (g : Gives) → AllFit os → option_and_then (exited_with at) (allowed (fits exit_places os) (values os)) ≡ Some g → GivesFit g
+  exit_fits at os g all is =
+      let r = and_then_some (exited_with at) (allowed (fits exit_places os) (values os)) g is in
+      let a = allowed_some (fits exit_places os) (values os) r.0 r.1 in
+      by (many os) refl r.0 a.0 a.1 r.2
+    where
+      by : (m : Option Many) → many os ≡ m → (xs : List Ex) → fits_with exit_places os m ≡ true → values os ≡ Some xs → exited_with at xs ≡ Some g → GivesFit g
+      by None found xs good list given =
+          let k = both_true (length os == length exit_places) (values_agree exit_places os) good in
+          let v = values_fit exit_places os xs all (eqb-true (length os) (length exit_places) k.0) k.1 list in
+          exited_fits at v.types xs g v.accepted v.fit given
+      by (Some m) found xs good list given = absurd (no_values os m found xs list)
+        where
+          no_values : (os1 : List Seen) (m1 : Many) → many os1 ≡ Some m1 → (xs1 : List Ex) → values os1 ≡ Some xs1 → ⊥
+          no_values [] m1 e xs1 f = none_some e
+          no_values (o ∷ []) m1 e xs1 f = none_some (sym (ap (λ (x : Option Operand). option_and_then (λ y. option_map (λ ys. y ∷ ys) (Some [])) (option_and_then as_value x)) (many_single o.gives m1 e)) ∙ f)
+          no_values (o ∷ q ∷ rest) m1 e xs1 f = none_some e
 
   -- a function that is called has parameters and results of these types
   abbrev CalleeFits : Callee → Type 0
   CalleeFits (function f ps ts) = (func : Func) × (us : List ValueType) × (ps ≡ asked us) × (slice_get p.funcs f ≡ Some func) × (func.param_types ≡ type_numbers us) × (func.results ≡ type_numbers ts)
   CalleeFits (printer line) = Unit {0}
   CalleeFits panicker = Unit {0}
+  CalleeFits reader = Unit {0}
+  CalleeFits exiter = Unit {0}
   CalleeFits no_function = Unit {0}
   CalleeFits no_spread = Unit {0}
+  CalleeFits no_text_spread = Unit {0}
   CalleeFits nothing = Unit {0}
 
   call_fits : (at : Pos) (k : Callee) (os : List Seen) (g : Gives) → CalleeFits k → AllFit os → called_with at k os ≡ Some g → GivesFit g
-  call_fits at (printer line) os g k all is = let r = map_some (printed at line) (pieces os) g is in subst GivesFit r.2 (pieces_fit os r.0 all r.1)
-  call_fits at panicker os g k all is = let r = and_then_some (panicked_with at) (pieces os) g is in panicked_fits at r.0 g (pieces_fit os r.0 all r.1) r.2
+  call_fits at (printer line) os g k all is = let r = map_some (printed at line) (parts os) g is in subst GivesFit r.2 (parts_fit os r.0 all r.1)
+  call_fits at panicker os g k all is = let r = and_then_some (panicked_with at) (parts os) g is in panicked_fits at r.0 g (parts_fit os r.0 all r.1) r.2
+  call_fits at reader os g k all is = let a = allowed_some (fits [] os) (Some (asking at)) g is in subst GivesFit (same_some a.1) tt
+  call_fits at exiter os g k all is = exit_fits at os g all is
   call_fits at (function f ps ts) os g k all is =
       let r = map_some (called at ts f) (taken ps os) g is in
       let t = taken_fits ps os r.0 all r.1 in
@@ -391,6 +458,7 @@ module _ (p : Program) (scope : List ℕ) where
       subst GivesFit r.2 (k.0, k.3, k.5, subst (λ (l : List ℕ). ExsFit p scope l r.0) (ap type_numbers (sym same1) ∙ sym k.4) t.fit)
   call_fits at no_function os g k all is = absurd (none_some is)
   call_fits at no_spread os g k all is = absurd (none_some is)
+  call_fits at no_text_spread os g k all is = absurd (none_some is)
   call_fits at nothing os g k all is = absurd (none_some is)
 
   module _ (text : List ℕ) (s : Scope) (are_shown : AreShown s scope) (agrees : Agrees s p) where
@@ -402,10 +470,12 @@ module _ (p : Program) (scope : List ℕ) where
     name_fits (word.Truth b) d g has is = subst GivesFit (same_some is) tt
     name_fits (word.Print line) d g has is = absurd (none_some is)
     name_fits word.Panic d g has is = absurd (none_some is)
+    name_fits word.Blank d g has is = absurd (none_some is)
     name_fits word.Reserved d g has is = absurd (none_some is)
     name_fits word.Free None g has is = absurd (none_some is)
     name_fits word.Free (Some Untyped) g has is = absurd (none_some is)
     name_fits word.Free (Some (Function f)) g has is = absurd (none_some is)
+    name_fits word.Free (Some (External e at)) g has is = absurd (none_some is)
     name_fits word.Free (Some TypeName) g has is = absurd (none_some is)
     name_fits word.Free (Some (Variable site t)) g has is = subst GivesFit (same_some is) (has site t refl)
 
@@ -418,6 +488,8 @@ module _ (p : Program) (scope : List ℕ) where
     declared_fits (Some (Variable site t)) = tt
     declared_fits (Some Untyped) = tt
     declared_fits (Some (Function f)) = callee_signed f.0 (signature s f.0) refl
+    declared_fits (Some (External ReadInt at)) = tt
+    declared_fits (Some (External Exit at)) = tt
     declared_fits (Some TypeName) = tt
 
     callee_value_fits : (o : Option Operand) → CalleeFits (callee_value o)
@@ -428,6 +500,7 @@ module _ (p : Program) (scope : List ℕ) where
     named_fits (word.Truth b) d = tt
     named_fits (word.Print line) d = tt
     named_fits word.Panic d = tt
+    named_fits word.Blank d = tt
     named_fits word.Reserved d = tt
     named_fits word.Free d = declared_fits d
 
@@ -439,9 +512,12 @@ module _ (p : Program) (scope : List ℕ) where
     spread_fits false k fits = fits
     spread_fits true (printer line) fits = tt
     spread_fits true panicker fits = tt
+    spread_fits true reader fits = tt
+    spread_fits true exiter fits = tt
     spread_fits true (function f ps ts) fits = tt
     spread_fits true no_function fits = tt
     spread_fits true no_spread fits = tt
+    spread_fits true no_text_spread fits = tt
     spread_fits true nothing fits = tt
 
     unary_fits : (op : UnOp) (taken1 : Bool) (a : Option Operand) (g : Gives) → ((x : Operand) → a ≡ Some x → OperandFits x) → prefix_gives op taken1 a ≡ Some g → GivesFit g
@@ -474,7 +550,7 @@ module _ (p : Program) (scope : List ℕ) where
       gives_fit (paren at e) g is = gives_fit e g is
       gives_fit (call f es spread) g is =
           call_fits (first_place f) (spread_over spread (callee text s (name_in f) (gives text s f))) (seen text s es) g (spread_fits spread (callee text s (name_in f) (gives text s f)) (callee_fits (name_in f) (gives text s f))) (seen_fit es) is
-      gives_fit (string at behind) g is = absurd (none_some is)
+      gives_fit (string at behind) g is = subst GivesFit (same_some is) tt
       gives_fit (selector e at n) g is = absurd (none_some is)
       gives_fit (index e at i) g is = absurd (none_some is)
       gives_fit (slice e at low high) g is = absurd (none_some is)

@@ -33,23 +33,25 @@ use Rattle.expression_types.specs.declared.profile.Word.TheVariants as word
 use Rattle.expression_types.specs.declared.scope.ValueType.{ValueType}
 use Rattle.expression_types.specs.declared.scope.ValueType.TheVariants.{Int, Bool as Boolean}
 use Rattle.expression_types.specs.declared.scope.Declared.{Declared}
-use Rattle.expression_types.specs.declared.scope.Declared.TheVariants.{Variable, Untyped, Function, TypeName}
+use Rattle.expression_types.specs.declared.scope.Declared.TheVariants.{Variable, Untyped, Function, External, TypeName}
+use Rattle.expression_types.specs.declared.scope.External.TheVariants.{ReadInt, Exit}
 use Rattle.expression_types.specs.Profile.{named_type, is_type_name, is_value_name, word_of}
 use Rattle.expression_types.specs.Scope.{Scope, Signature, declaration, signature}
-use Rattle.expression_types.specs.Typing.{Operand, untyped, value, Gives, one, allowed, constant_type, is_int, constant_value, const_of, constant_of, name_operand, has_rules, takes_one, prefix_of, prefixed, prefix_gives, takes, is_division, is_shift, is_zero, is_negative, stands_right, both, both_values, combined, operand_in, Seen, pieces, taken, Callee, printer, panicker, function, no_function, no_spread, nothing, function_with, callee_declared, callee_named, callee_value, spread_over, called_with, name_in, as_condition, type_in, callee, gives, seen, condition, test}
-use Rattle.expression_types.specs.Faults.{fault, IsFault, FormFails, WhereTaken, name_fault, callee_declared_fault, callee_name_fault, type_name_fault, single_fault, constant_range_fault, literal_fault, condition_fault, constant_fault, prefix_fault, unfit_kind, right_fault, two_fault, pair_fault, SinglesFail, RangeFails, CallFails, CalleeFails, FailsAsType, Fails, FailsInEach, FailsAsOperand, FailsInCondition, FailsInTest}
+use Rattle.expression_types.specs.Typing.{Operand, untyped, value, Gives, one, allowed, constant_type, is_int, constant_value, const_of, constant_of, name_operand, has_rules, takes_one, prefix_of, prefixed, prefix_gives, takes, is_division, is_shift, is_zero, is_negative, stands_right, both, both_values, combined, operand_in, Seen, parts, taken, Callee, printer, panicker, reader, exiter, function, no_function, no_spread, no_text_spread, nothing, function_with, callee_declared, callee_named, callee_value, spread_over, called_with, name_in, as_condition, type_in, callee, gives, seen, condition, test}
+use Rattle.expression_types.specs.Faults.{fault, IsFault, FormFails, WhereTaken, name_fault, callee_declared_fault, callee_name_fault, type_name_fault, single_fault, constant_range_fault, literal_fault, condition_fault, constant_fault, prefix_fault, unfit_kind, right_fault, two_fault, pair_fault, PartsFail, RangeFails, CallFails, CalleeFails, FailsAsType, Fails, FailsInEach, FailsAsOperand, FailsInCondition, FailsInTest}
 use Rattle.expression_types.proofs.Decided.{Decided, further, same, mapped, after}
-use Rattle.expression_types.proofs.DecidedValues.{operand_decided, given_all, take_decided, print_decided, panic_decided, refused}
+use Rattle.expression_types.proofs.DecidedValues.{operand_decided, given_all, take_decided, print_decided, panic_decided, read_decided, exit_decided, refused, parts_refused}
 
 abbrev pub HasSignature : Option Signature → Type 0
 HasSignature None = ⊥
 HasSignature (Some sig) = ⊤
 
--- a variable with a type, or a function with a signature; types of a program are left out
+-- a variable with a type, a function with a signature, or one that needs none; types of a program are left out
 abbrev pub IsTyped : List (Option Signature) → Declared → Type 0
 IsTyped sigs (Variable site t) = ⊤
 IsTyped sigs Untyped = ⊥
 IsTyped sigs (Function f) = HasSignature (option_and_then (λ o. o) (slice_get sigs f.0))
+IsTyped sigs (External e at) = ⊤
 IsTyped sigs TypeName = ⊥
 
 pub record IsSettled (s : Scope) : Type 0 where
@@ -249,11 +251,13 @@ name_decided : (sigs : List (Option Signature)) (w : Word) (d : Option Declared)
 name_decided sigs (word.Truth b) d at typed = λ f h. h
 name_decided sigs (word.Print line) d at typed = (_, refl)
 name_decided sigs word.Panic d at typed = (_, refl)
+name_decided sigs word.Blank d at typed = (_, refl)
 name_decided sigs word.Reserved d at typed = (_, refl)
 name_decided sigs word.Free None at typed = (_, refl)
 name_decided sigs word.Free (Some (Variable site t)) at typed = λ f h. h
 name_decided sigs word.Free (Some Untyped) at typed = absurd (typed Untyped refl)
 name_decided sigs word.Free (Some (Function g)) at typed = (_, refl)
+name_decided sigs word.Free (Some (External e place)) at typed = (_, refl)
 name_decided sigs word.Free (Some TypeName) at typed = (_, refl)
 
 type_name_decided : (sigs : List (Option Signature)) (t : Option ValueType) (is_type is_value : Bool) (d : Option Declared) (at : Pos) → ((x : Declared) → d ≡ Some x → IsTyped sigs x)
@@ -265,6 +269,7 @@ type_name_decided sigs None false false None at typed = (_, refl)
 type_name_decided sigs None false false (Some (Variable site t)) at typed = (_, refl)
 type_name_decided sigs None false false (Some Untyped) at typed = (_, refl)
 type_name_decided sigs None false false (Some (Function g)) at typed = (_, refl)
+type_name_decided sigs None false false (Some (External e place)) at typed = (_, refl)
 type_name_decided sigs None false false (Some TypeName) at typed = absurd (typed TypeName refl)
 
 -- ---- calls
@@ -274,9 +279,12 @@ abbrev CalleeIs : Callee → (Fault → Type 0) → Type 0
 CalleeIs nothing C = (f : Fault) × C f
 CalleeIs (printer line) C = (f : Fault) → C f → ⊥
 CalleeIs panicker C = (f : Fault) → C f → ⊥
+CalleeIs reader C = (f : Fault) → C f → ⊥
+CalleeIs exiter C = (f : Fault) → C f → ⊥
 CalleeIs (function g ps ts) C = (f : Fault) → C f → ⊥
 CalleeIs no_function C = (f : Fault) → C f → ⊥
 CalleeIs no_spread C = (f : Fault) → C f → ⊥
+CalleeIs no_text_spread C = (f : Fault) → C f → ⊥
 
 callee_value_is : (o : Option Operand) (P : Fault → Type 0) → Decided o P → CalleeIs (callee_value o) P
 callee_value_is None P d = d
@@ -291,21 +299,27 @@ callee_declared_is s None at typed = (_, refl)
 callee_declared_is s (Some (Variable site t)) at typed = λ f h. h
 callee_declared_is s (Some Untyped) at typed = absurd (typed Untyped refl)
 callee_declared_is s (Some (Function g)) at typed = callee_function_is g.0 (signature s g.0) (IsFault (callee_declared_fault (Some (Function g)) at)) (typed (Function g) refl) (λ f h. h)
+callee_declared_is s (Some (External ReadInt place)) at typed = λ f h. h
+callee_declared_is s (Some (External Exit place)) at typed = λ f h. h
 callee_declared_is s (Some TypeName) at typed = (_, refl)
 
 spread_is : (spread : Bool) (k : Callee) (C : Fault → Type 0) → CalleeIs k C → CalleeIs (spread_over spread k) C
 spread_is false k C is = is
 spread_is true (printer line) C is = is
 spread_is true panicker C is = is
+spread_is true reader C is = is
+spread_is true exiter C is = is
 spread_is true (function f ps ts) C is = is
 spread_is true no_function C is = is
 spread_is true no_spread C is = is
+spread_is true no_text_spread C is = is
 spread_is true nothing C is = is
 
 callee_named_is : (s : Scope) (w : Word) (d : Option Declared) (at : Pos) → ((x : Declared) → d ≡ Some x → IsTyped s.signatures x) → CalleeIs (callee_named s w d) (IsFault (callee_name_fault w d at))
 callee_named_is s (word.Truth b) d at typed = λ f h. h
 callee_named_is s (word.Print line) d at typed = λ f h. h
 callee_named_is s word.Panic d at typed = λ f h. h
+callee_named_is s word.Blank d at typed = (_, refl)
 callee_named_is s word.Reserved d at typed = (_, refl)
 callee_named_is s word.Free d at typed = callee_declared_is s d at typed
 
@@ -323,13 +337,16 @@ refused_call C E K f (inr h) = inr h
 
 call_decided : (at : Pos) (k : Callee) (os : List Seen) (C E : Fault → Type 0) → CalleeIs k C → Decided (given_all os) E → Decided (called_with at k os) (λ f. (C f ⊎ E f) ⊎ CallFails at k os f)
 call_decided at (printer line) os C E c e =
-    with_callee C E (CallFails at (printer line) os) (called_with at (printer line) os) c (mapped _ (pieces os) (λ f. E f ⊎ (SinglesFail os f ⊎ RangeFails os f)) (print_decided os E e))
+    with_callee C E (CallFails at (printer line) os) (called_with at (printer line) os) c (mapped _ (parts os) (λ f. E f ⊎ (PartsFail os f ⊎ RangeFails os f)) (print_decided os E e))
 call_decided at panicker os C E c e = with_callee C E (CallFails at panicker os) (called_with at panicker os) c (panic_decided os E e at (fault ArgCount at))
+call_decided at reader os C E c e = with_callee C E (CallFails at reader os) (called_with at reader os) c (read_decided os E e at (fault ArgCount at))
+call_decided at exiter os C E c e = with_callee C E (CallFails at exiter os) (called_with at exiter os) c (exit_decided os E e at (fault ArgCount at))
 call_decided at (function g ps ts) os C E c e =
     with_callee C E (CallFails at (function g ps ts) os) (called_with at (function g ps ts) os) c
     (mapped _ (taken ps os) (λ f. E f ⊎ CallFails at (function g ps ts) os f) (take_decided os E e _ ps))
 call_decided at no_function os C E c e = let u = refused os E e (fault NotCallable at) in (u.0, refused_call C E (CallFails at no_function os) u.0 u.1)
 call_decided at no_spread os C E c e = let u = refused os E e (fault BadOperand at) in (u.0, refused_call C E (CallFails at no_spread os) u.0 u.1)
+call_decided at no_text_spread os C E c e = let u = parts_refused os E e (fault BadOperand at) in (u.0, refused_call C E (CallFails at no_text_spread os) u.0 u.1)
 call_decided at nothing os C E c e = (c.0, inl (inl c.1))
 
 module _ (text : List ℕ) (s : Scope) (settled : IsSettled s) where
@@ -358,7 +375,7 @@ module _ (text : List ℕ) (s : Scope) (settled : IsSettled s) where
     gives_decided (call g es spread) =
         call_decided (first_place g) (spread_over spread (callee text s (name_in g) (gives text s g))) (seen text s es) (CalleeFails text s (name_in g) (λ f. Fails text s g f) (gives text s g)) (FailsInEach text s es)
         (spread_is spread (callee text s (name_in g) (gives text s g)) (CalleeFails text s (name_in g) (λ f. Fails text s g f) (gives text s g)) (callee_is (name_in g) (gives text s g) (λ f. Fails text s g f) (gives_decided g))) (seen_decided es)
-    gives_decided (string at behind) = (fault OutOfProfile at, refl)
+    gives_decided (string at behind) = λ f h. h
     gives_decided (selector e at n) = (fault OutOfProfile (first_place e), inr refl)
     gives_decided (index e at i) = (fault OutOfProfile (first_place e), inr refl)
     gives_decided (slice e at low high) = (fault OutOfProfile (first_place e), inr refl)

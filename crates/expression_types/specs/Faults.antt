@@ -24,12 +24,12 @@ use Rattle.expression_types.specs.declared.operand.Constant.TheVariants.{Number,
 use Rattle.expression_types.specs.declared.profile.Word.{Word}
 use Rattle.expression_types.specs.declared.profile.Word.TheVariants as word
 use Rattle.expression_types.specs.declared.scope.Declared.{Declared}
-use Rattle.expression_types.specs.declared.scope.Declared.TheVariants.{Variable, Untyped, Function, TypeName}
+use Rattle.expression_types.specs.declared.scope.Declared.TheVariants.{Variable, Untyped, Function, External, TypeName}
 use Rattle.expression_types.specs.declared.scope.ValueType.{ValueType}
 use Rattle.expression_types.specs.declared.scope.ValueType.TheVariants.{Bool as Boolean}
 use Rattle.expression_types.specs.Profile.{named_type, is_type_name, is_value_name, word_of}
 use Rattle.expression_types.specs.Scope.{Scope, declaration}
-use Rattle.expression_types.specs.Typing.{Operand, untyped, value, Gives, one, called, printed, panicked, same_type, type_of, is_int, const_of, has_rules, takes_one, takes, is_division, is_shift, is_zero, is_negative, operand_in, Seen, Many, many, count, types_agree, operand_agrees, Callee, printer, panicker, function, no_function, no_spread, nothing, spread_over, name_in, callee, gives, seen}
+use Rattle.expression_types.specs.Typing.{Operand, untyped, value, Gives, one, called, asking, quoted, printed, panicked, exited, same_type, type_of, is_int, const_of, has_rules, takes_one, takes, is_division, is_shift, is_zero, is_negative, operand_in, Seen, Many, many, count, part_count, types_agree, operand_agrees, Callee, printer, panicker, reader, exiter, function, no_function, no_spread, no_text_spread, nothing, exit_places, spread_over, name_in, callee, gives, seen}
 
 abbrev pub fault : FaultKind → Pos → Fault
 fault kind at = record { kind = kind; pos = at }
@@ -56,13 +56,15 @@ declared_fault None at = Some (fault Unknown at)
 declared_fault (Some (Variable site t)) at = None
 declared_fault (Some Untyped) at = None
 declared_fault (Some (Function g)) at = Some (fault OutOfProfile at)
+declared_fault (Some (External e place)) at = Some (fault OutOfProfile at)
 declared_fault (Some TypeName) at = Some (fault BadOperand at)
 
--- a name as a value: a truth value, or one that is declared and not the language's own
+-- a name as a value: a truth value, or one that is declared and not the language's own; the blank name has none
 abbrev pub name_fault : Word → Option Declared → Pos → Option Fault
 name_fault (word.Truth b) d at = None
 name_fault (word.Print line) d at = Some (fault OutOfProfile at)
 name_fault word.Panic d at = Some (fault OutOfProfile at)
+name_fault word.Blank d at = Some (fault Unknown at)
 name_fault word.Reserved d at = Some (fault OutOfProfile at)
 name_fault word.Free d at = declared_fault d at
 
@@ -71,6 +73,7 @@ callee_declared_fault None at = Some (fault Unknown at)
 callee_declared_fault (Some (Variable site t)) at = None
 callee_declared_fault (Some Untyped) at = None
 callee_declared_fault (Some (Function g)) at = None
+callee_declared_fault (Some (External e place)) at = None
 callee_declared_fault (Some TypeName) at = Some (fault BadOperand at)
 
 -- the name of what is called
@@ -78,6 +81,7 @@ abbrev pub callee_name_fault : Word → Option Declared → Pos → Option Fault
 callee_name_fault (word.Truth b) d at = None
 callee_name_fault (word.Print line) d at = None
 callee_name_fault word.Panic d at = None
+callee_name_fault word.Blank d at = Some (fault Unknown at)
 callee_name_fault word.Reserved d at = Some (fault OutOfProfile at)
 callee_name_fault word.Free d at = callee_declared_fault d at
 
@@ -87,6 +91,7 @@ declared_type_fault None at = Some (fault Unknown at)
 declared_type_fault (Some (Variable site t)) at = Some (fault BadOperand at)
 declared_type_fault (Some Untyped) at = Some (fault BadOperand at)
 declared_type_fault (Some (Function g)) at = Some (fault BadOperand at)
+declared_type_fault (Some (External e place)) at = Some (fault BadOperand at)
 declared_type_fault (Some TypeName) at = None
 
 -- the name of a type: `int` or `bool`; another type of the language; what is no type; what is declared
@@ -98,7 +103,7 @@ type_name_fault None false false d at = declared_type_fault d at
 
 -- ---- one value
 
--- a call where one value is wanted has another number of them
+-- a call where one value is wanted has another number of them, and a string is none at all
 abbrev pub single_result_fault : Pos → List ValueType → Option Fault
 single_result_fault at [] = Some (fault ResultCount at)
 single_result_fault at (t ∷ []) = None
@@ -108,8 +113,16 @@ abbrev pub single_fault : Option Gives → Option Fault
 single_fault None = None
 single_fault (Some (one x)) = None
 single_fault (Some (called at ts g es)) = single_result_fault at ts
+single_fault (Some (asking at)) = Some (fault ResultCount at)
+single_fault (Some (quoted at bytes)) = Some (fault OutOfProfile at)
 single_fault (Some (printed at line ps)) = Some (fault ResultCount at)
 single_fault (Some (panicked at p)) = Some (fault ResultCount at)
+single_fault (Some (exited at e)) = Some (fault ResultCount at)
+
+-- an operand of `print`, `println` or `panic` may also be a string
+abbrev pub part_fault : Option Gives → Option Fault
+part_fault (Some (quoted at bytes)) = None
+part_fault o = single_fault o
 
 -- an int can't hold a constant
 abbrev pub constant_range_fault : Pos → Constant → Option Fault
@@ -185,6 +198,11 @@ abbrev pub SinglesFail : List Seen → Fault → Type 0
 SinglesFail [] f = ⊥
 SinglesFail (o ∷ os) f = IsFault (single_fault o.gives) f ⊎ SinglesFail os f
 
+-- where each is an operand of `print`, `println` or `panic`
+abbrev pub PartsFail : List Seen → Fault → Type 0
+PartsFail [] f = ⊥
+PartsFail (o ∷ os) f = IsFault (part_fault o.gives) f ⊎ PartsFail os f
+
 -- where a call that stands alone may give more than one value
 abbrev pub ValuesFail : Option Many → List Seen → Fault → Type 0
 ValuesFail None os f = SinglesFail os f
@@ -234,11 +252,14 @@ refused_fault None own = None
 refused_fault (Some n) own = Some own
 
 abbrev pub CallFails : Pos → Callee → List Seen → Fault → Type 0
-CallFails at (printer line) os f = SinglesFail os f ⊎ RangeFails os f
-CallFails at panicker os f = (SinglesFail os f ⊎ RangeFails os f) ⊎ CountFails (count os) 1 (fault ArgCount at) f
+CallFails at (printer line) os f = PartsFail os f ⊎ RangeFails os f
+CallFails at panicker os f = (PartsFail os f ⊎ RangeFails os f) ⊎ CountFails (part_count os) 1 (fault ArgCount at) f
+CallFails at reader os f = TakeFails (fault ArgCount at) [] os f
+CallFails at exiter os f = TakeFails (fault ArgCount at) exit_places os f
 CallFails at (function g ps ts) os f = TakeFails (fault ArgCount at) ps os f
 CallFails at no_function os f = ValuesFail (many os) os f ⊎ IsFault (refused_fault (count os) (fault NotCallable at)) f
 CallFails at no_spread os f = ValuesFail (many os) os f ⊎ IsFault (refused_fault (count os) (fault BadOperand at)) f
+CallFails at no_text_spread os f = PartsFail os f ⊎ IsFault (refused_fault (part_count os) (fault BadOperand at)) f
 CallFails at nothing os f = ValuesFail (many os) os f
 
 module _ (text : List ℕ) where
@@ -257,7 +278,7 @@ module _ (text : List ℕ) where
   abbrev mutual
     pub Fails : Scope → TreeEx → Fault → Type 0
     Fails s (number at n) f = IsFault (literal_fault at n) f
-    Fails s (string at behind) f = FormFails at f
+    Fails s (string at behind) f = ⊥
     Fails s (name n) f = IsFault (name_fault (word_of (spelled text n)) (declaration s (spelled text n)) n.pos) f
     Fails s (unary at op e) f =
         WhereTaken (has_rules op) (λ g. (Fails s e g ⊎ IsFault (single_fault (gives text s e)) g) ⊎ IsFault (prefix_fault at op (operand_in (gives text s e))) g) (λ g. FormFails at g) f

@@ -1,27 +1,36 @@
 -- What lies in memory as abstract syntax, and what the checker's pass works out of what it knows of the parts.
 use Rattle.std.specs.Prelude.{ℕ, ◌^◌, pos, List, [], ◌∷◌, ◌++◌, map, nat_lt, Option, Some, None, if◌then◌else◌}
 use Rattle.std.specs.Option.{option_map}
-use Rattle.typed.specs.Syntax.{Exs, results}
-use Rattle.typed.specs.View.{ex_of, exs_of_values, piece_of}
+use Rattle.typed.specs.Syntax.{Exs}
+use Rattle.typed.specs.View.{ex_of, exs_of_values}
 use Rattle.expression_types.specs.declared.operand.Constant.TheVariants.{Number}
 use Rattle.expression_types.specs.declared.operand.Operand.{Operand as OperandData}
 use Rattle.expression_types.specs.declared.operand.Operand.TheVariants.{Untyped, Value}
 use Rattle.expression_types.specs.declared.operand.Gives.{Gives as GivesData}
-use Rattle.expression_types.specs.declared.operand.Gives.TheVariants.{One, Called, Printed, Panicked}
+use Rattle.expression_types.specs.declared.operand.Part.{Part as PartData}
+use Rattle.expression_types.specs.declared.operand.Part.TheVariants.{Said, Valued}
+use Rattle.expression_types.specs.declared.operand.Gives.TheVariants.{One, Called, Asking, Quoted, Printed, Panicked, Exited}
 use Rattle.expression_types.specs.declared.operand.Item.{Item}
 use Rattle.expression_types.specs.declared.operand.Callee.{Callee as CalleeData}
-use Rattle.expression_types.specs.declared.operand.Callee.TheVariants.{Printer, Panicker, Function, NoFunction, NoSpread, Nothing}
-use Rattle.expression_types.specs.Typing.{Operand, untyped, value, Gives, one, called, printed, panicked, Seen, Many, Callee, printer, panicker, function, no_function, no_spread, nothing}
+use Rattle.expression_types.specs.declared.operand.Callee.TheVariants.{Printer, Panicker, Reader, Exiter, Function, NoFunction, NoSpread, NoTextSpread, Nothing}
+use Rattle.expression_types.specs.Typing.{Operand, untyped, value, Part, said, valued, Gives, one, called, asking, quoted, printed, panicked, exited, Seen, Many, Callee, printer, panicker, reader, exiter, function, no_function, no_spread, no_text_spread, nothing}
 
 abbrev pub operand_of : OperandData → Operand
 operand_of (Untyped c) = untyped c
 operand_of (Value t e) = value t (ex_of e)
 
+abbrev pub part_view : PartData → Part
+part_view (Said bytes) = said bytes.items
+part_view (Valued t e) = valued t.0 (ex_of e)
+
 abbrev pub gives_of : GivesData → Gives
 gives_of (One x) = one (operand_of x)
 gives_of (Called at ts f values) = called at ts.items f.0 (exs_of_values values.value)
-gives_of (Printed at line ps) = printed at line (map piece_of ps.items)
-gives_of (Panicked at p) = panicked at (piece_of p)
+gives_of (Asking at) = asking at
+gives_of (Quoted at bytes) = quoted at bytes.items
+gives_of (Printed at line ps) = printed at line (map part_view ps.items)
+gives_of (Panicked at p) = panicked at (part_view p)
+gives_of (Exited at e) = exited at (ex_of e)
 
 abbrev pub seen_of : Item → Seen
 seen_of item = record { at = item.pos; gives = option_map gives_of item.gives }
@@ -32,14 +41,17 @@ seens items = map seen_of items
 abbrev pub callee_of : CalleeData → Callee
 callee_of (Printer line) = printer line
 callee_of Panicker = panicker
+callee_of Reader = reader
+callee_of Exiter = exiter
 callee_of (Function f ps ts) = function f.0 ps.items ts.items
 callee_of NoFunction = no_function
 callee_of NoSpread = no_spread
+callee_of NoTextSpread = no_text_spread
 callee_of Nothing = nothing
 
 -- all results of a call
 abbrev pub results_of : Many → Exs
-results_of m = results m.function m.arguments
+results_of m = m.values
 
 abbrev pub literal_operand : ℕ → Option Gives
 literal_operand n = if nat_lt n (2 ^ 127) then Some (one (untyped (Number (pos n)))) else None

@@ -3,7 +3,7 @@ use Rattle.std.specs.Prelude.{ℕ, Bool, true, false, List, [], ◌∷◌, codes
 use Rattle.std.specs.List.{list_any}
 use Rattle.std.specs.Str.{bytes_eq}
 use Rattle.expression_types.specs.declared.profile.Word.{Word}
-use Rattle.expression_types.specs.declared.profile.Word.TheVariants.{Truth, Print, Panic, Reserved, Free}
+use Rattle.expression_types.specs.declared.profile.Word.TheVariants.{Truth, Print, Panic, Blank, Reserved, Free}
 use Rattle.expression_types.specs.declared.scope.ValueType.{ValueType}
 use Rattle.expression_types.specs.declared.scope.ValueType.TheVariants as value_type
 
@@ -48,7 +48,7 @@ named_type name = if bytes_eq name (codes "int") then Some value_type.Int else (
 abbrev pub call_word : List ℕ → Word
 call_word name =
     if bytes_eq name (codes "println") then Print true
-    else (if bytes_eq name (codes "print") then Print false else (if bytes_eq name (codes "panic") then Panic else (if is_reserved name then Reserved else Free)))
+    else (if bytes_eq name (codes "print") then Print false else (if bytes_eq name (codes "panic") then Panic else (if is_blank name then Blank else (if is_reserved name then Reserved else Free))))
 
 abbrev pub word_of : List ℕ → Word
 word_of name = if bytes_eq name (codes "true") then Truth true else (if bytes_eq name (codes "false") then Truth false else call_word name)

@@ -28,15 +28,17 @@ pub record Signature : Type 0 where
 abbrev pub signature_of : SignatureData → Signature
 signature_of s = record { params = s.params.items; results = s.results.items }
 
--- the blocks that are open, which number the declarations; the declarations; the sites of the variables with a type; and the signatures of the functions, where they have one
+-- the blocks that are open, which number the declarations; the declarations; the sites of the variables with a type; the signatures of the
+-- functions, where they have one; and the bytes of the strings that stand in statements so far
 pub record Scope : Type 0 where
   pub blocks : Blocks
   pub declared : List Declared
   pub sites : List Site
   pub signatures : List (Option Signature)
+  pub strings : List (List ℕ)
 
 abbrev pub scope_of : ScopeData → Scope
-scope_of s = record { blocks = s.names; declared = s.declared.items; sites = s.sites.items; signatures = map (option_map signature_of) s.signatures.items }
+scope_of s = record { blocks = s.names; declared = s.declared.items; sites = s.sites.items; signatures = map (option_map signature_of) s.signatures.items; strings = map (λ string. string.items) s.strings.items }
 
 -- what a name stands for
 abbrev pub declaration : Scope → List ℕ → Option Declared
@@ -52,11 +54,11 @@ signature s f = option_and_then (λ o. o) (slice_get s.signatures f)
 
 -- one more declaration, of a name of the innermost block
 abbrev pub with_declaration : Scope → List ℕ → Declared → Scope
-with_declaration s name d = record { blocks = insert s.blocks name (length s.declared); declared = s.declared ++ d ∷ []; sites = s.sites; signatures = s.signatures }
+with_declaration s name d = record { blocks = insert s.blocks name (length s.declared); declared = s.declared ++ d ∷ []; sites = s.sites; signatures = s.signatures; strings = s.strings }
 
 -- one more site, of a type, at a place
 abbrev pub with_site : Scope → ValueType → Pos → Scope
-with_site s t at = record { blocks = s.blocks; declared = s.declared; sites = s.sites ++ record { pos = at; type_id = record { 0 = type_number t } } ∷ []; signatures = s.signatures }
+with_site s t at = record { blocks = s.blocks; declared = s.declared; sites = s.sites ++ record { pos = at; type_id = record { 0 = type_number t } } ∷ []; signatures = s.signatures; strings = s.strings }
 
 -- one more variable: with a type it has a site of its own
 abbrev pub with_variable : Option ValueType → Scope → List ℕ → Pos → Scope
@@ -65,11 +67,15 @@ with_variable None s name at = with_declaration s name Untyped
 
 -- one more function, which has a signature or none
 abbrev pub with_signature : Scope → Option Signature → Scope
-with_signature s o = record { blocks = s.blocks; declared = s.declared; sites = s.sites; signatures = s.signatures ++ o ∷ [] }
+with_signature s o = record { blocks = s.blocks; declared = s.declared; sites = s.sites; signatures = s.signatures ++ o ∷ []; strings = s.strings }
+
+-- more strings
+abbrev pub with_strings : Scope → List (List ℕ) → Scope
+with_strings s strings = record { blocks = s.blocks; declared = s.declared; sites = s.sites; signatures = s.signatures; strings = s.strings ++ strings }
 
 -- where a block begins
 abbrev pub opened : Scope → Scope
-opened s = record { blocks = [] ∷ s.blocks; declared = s.declared; sites = s.sites; signatures = s.signatures }
+opened s = record { blocks = [] ∷ s.blocks; declared = s.declared; sites = s.sites; signatures = s.signatures; strings = s.strings }
 
 abbrev pub outer : Blocks → Blocks
 outer [] = []
@@ -77,8 +83,8 @@ outer (b ∷ bs) = bs
 
 -- behind a block
 abbrev pub closed : Scope → Scope
-closed s = record { blocks = outer s.blocks; declared = s.declared; sites = s.sites; signatures = s.signatures }
+closed s = record { blocks = outer s.blocks; declared = s.declared; sites = s.sites; signatures = s.signatures; strings = s.strings }
 
 -- where no name is declared
 abbrev pub beginning : Scope
-beginning = record { blocks = [] ∷ []; declared = []; sites = []; signatures = [] }
+beginning = record { blocks = [] ∷ []; declared = []; sites = []; signatures = []; strings = [] }

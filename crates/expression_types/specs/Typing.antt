@@ -1,5 +1,5 @@
 -- What the rules of the language give expressions (Go specification, "Constant expressions", "Operators", "Calls", "Bootstrapping").
-use Rattle.std.specs.Prelude.{ℕ, length, ◌-◌, ◌^◌, ◌==◌, ℤ, pos, negsuc, Bool, true, false, not, ◌&&◌, List, [], ◌∷◌, map, Option, Some, None, Result, Ok, Err, is_some, option_and_then, nat_lt, nat_le, int_le, int_lt, if◌then◌else◌}
+use Rattle.std.specs.Prelude.{ℕ, length, ◌-◌, ◌^◌, ◌==◌, ℤ, pos, negsuc, Bool, true, false, not, ◌&&◌, List, [], ◌∷◌, map, Option, Some, None, Result, Ok, Err, is_some, option_and_then, take, drop, nat_lt, nat_le, int_le, int_lt, if◌then◌else◌}
 use Rattle.std.specs.Option.{option_map}
 use Rattle.base.specs.declared.pos.Pos.{Pos}
 use Rattle.syntax.specs.declared.operator.ArithmeticOp.{ArithmeticOp}
@@ -20,18 +20,21 @@ use Rattle.typed.specs.declared.operators.BinOp.TheVariants as op
 use Rattle.typed.specs.declared.operators.UnOp.{UnOp as TypedPrefix}
 use Rattle.typed.specs.declared.operators.UnOp.TheVariants as prefix
 use Rattle.typed.specs.Value.{int, bool}
-use Rattle.typed.specs.Syntax.{Ex, Exs, Piece, constant, read, local, here, none, more, results, shown}
+use Rattle.typed.specs.Syntax.{Ex, Exs, constant, read, local, here, none, more, results, asked as items}
 use Rattle.typed.specs.Syntax as typed
 use Rattle.names.specs.declared.constants.Const.{Const}
 use Rattle.names.specs.declared.constants.Const.TheVariants as const
 use Rattle.names.specs.declared.constants.ConstFault.{ConstFault}
 use Rattle.names.specs.Constants.{folded, folded_one}
+use Rattle.string_value.specs.StringValue.{string_value}
 use Rattle.expression_types.specs.declared.operand.Constant.{Constant}
 use Rattle.expression_types.specs.declared.operand.Constant.TheVariants.{Number, Truth}
 use Rattle.expression_types.specs.declared.profile.Word.{Word}
 use Rattle.expression_types.specs.declared.profile.Word.TheVariants as word
 use Rattle.expression_types.specs.declared.scope.Declared.{Declared}
-use Rattle.expression_types.specs.declared.scope.Declared.TheVariants.{Variable, Untyped, Function, TypeName}
+use Rattle.expression_types.specs.declared.scope.Declared.TheVariants.{Variable, Untyped, Function, External, TypeName}
+use Rattle.expression_types.specs.declared.scope.External.{External as ExternalFunction}
+use Rattle.expression_types.specs.declared.scope.External.TheVariants as external
 use Rattle.expression_types.specs.declared.scope.ValueType.{ValueType}
 use Rattle.expression_types.specs.declared.scope.ValueType.TheVariants.{Int, Bool as Boolean}
 use Rattle.expression_types.specs.Profile.{named_type, word_of}
@@ -44,15 +47,26 @@ pub data Operand : Type 0 where
   untyped : Constant → Operand
   value : ValueType → Ex → Operand
 
--- what an expression gives: one value, or what a call gives
+-- an operand of `print`, `println` or `panic`: the bytes of a string, or a value and its type
+pub data Part : Type 0 where
+  said : List ℕ → Part
+  valued : ℕ → Ex → Part
+
+-- what an expression gives: one value, a string, or what a call gives
 pub data Gives : Type 0 where
   one : Operand → Gives
   -- the results of a call: its place, their types, the function's number, and the arguments
   called : Pos → List ValueType → ℕ → Exs → Gives
+  -- the two results of `readInt` at a place
+  asking : Pos → Gives
+  -- a string literal at a place, and its bytes
+  quoted : Pos → List ℕ → Gives
   -- nothing: a `print` at a place, or a `println` where true is said
-  printed : Pos → Bool → List Piece → Gives
+  printed : Pos → Bool → List Part → Gives
   -- nothing: a `panic` at a place
-  panicked : Pos → Piece → Gives
+  panicked : Pos → Part → Gives
+  -- nothing: an `exit` at a place, with a status
+  exited : Pos → Ex → Gives
 
 -- where a rule holds, and else nothing
 abbrev pub allowed : {A : Type 0} → Bool → Option A → Option A
@@ -108,12 +122,14 @@ operand_of_name None = None
 operand_of_name (Some (Variable site t)) = Some (value t (read (local site.0 here)))
 operand_of_name (Some Untyped) = None
 operand_of_name (Some (Function f)) = None
+operand_of_name (Some (External e at)) = None
 operand_of_name (Some TypeName) = None
 
 abbrev pub name_operand : Word → Option Declared → Option Operand
 name_operand (word.Truth b) d = Some (untyped (Truth b))
 name_operand (word.Print line) d = None
 name_operand word.Panic d = None
+name_operand word.Blank d = None
 name_operand word.Reserved d = None
 name_operand word.Free d = operand_of_name d
 
@@ -249,8 +265,11 @@ single_result (t ∷ u ∷ ts) f es = None
 abbrev pub single : Gives → Option Operand
 single (one x) = Some x
 single (called at ts f es) = single_result ts f es
+single (asking at) = None
+single (quoted at bytes) = None
 single (printed at line ps) = None
 single (panicked at p) = None
+single (exited at e) = None
 
 abbrev pub operand_in : Option Gives → Option Operand
 operand_in o = option_and_then single o
@@ -259,11 +278,24 @@ abbrev pub value_in : Option Gives → Option Ex
 value_in o = option_and_then as_value (operand_in o)
 
 -- an operand of `print`, `println` or `panic`
-abbrev pub as_piece : Operand → Option Piece
-as_piece x = option_map (shown (type_number (type_of x))) (as_value x)
+abbrev pub as_part : Operand → Option Part
+as_part x = option_map (valued (type_number (type_of x))) (as_value x)
 
-abbrev pub piece_in : Option Gives → Option Piece
-piece_in o = option_and_then as_piece (operand_in o)
+abbrev pub part_of : Gives → Option Part
+part_of (quoted at bytes) = Some (said bytes)
+part_of g = option_and_then as_part (single g)
+
+abbrev pub part_in : Option Gives → Option Part
+part_in o = option_and_then part_of o
+
+-- whether it may be one: a string, or what gives one value
+abbrev pub may_be_part : Gives → Bool
+may_be_part (quoted at bytes) = true
+may_be_part g = is_some (single g)
+
+abbrev pub is_part : Option Gives → Bool
+is_part None = false
+is_part (Some g) = may_be_part g
 
 -- ---- expressions side by side: the first byte of each, and what it gives
 
@@ -280,27 +312,37 @@ listed k (o ∷ os) = option_and_then (λ x. option_map (λ xs. x ∷ xs) (liste
 abbrev pub values : List Seen → Option (List Ex)
 values os = listed value_in os
 
-abbrev pub pieces : List Seen → Option (List Piece)
-pieces os = listed piece_in os
+abbrev pub parts : List Seen → Option (List Part)
+parts os = listed part_in os
 
 -- each gives one value
 abbrev pub are_single : List Seen → Bool
 are_single [] = true
 are_single (o ∷ os) = is_some (operand_in o.gives) && are_single os
 
--- a call that stands alone may give more than one value: its place, their types, the function's number, and the arguments
+-- how many operands of `print`, `println` or `panic` there are, where all may be some
+abbrev pub are_parts : List Seen → Bool
+are_parts [] = true
+are_parts (o ∷ os) = is_part o.gives && are_parts os
+
+abbrev pub part_count : List Seen → Option ℕ
+part_count os = if are_parts os then Some (length os) else None
+
+-- a call that stands alone may give more than one value: its place, their types, and the values
 pub record Many : Type 0 where
   pub at : Pos
   pub types : List ValueType
-  pub function : ℕ
-  pub arguments : Exs
+  pub values : Exs
 
 abbrev pub many_in : Option Gives → Option Many
 many_in None = None
 many_in (Some (one x)) = None
-many_in (Some (called at ts f es)) = if nat_le 2 (length ts) then Some (record { at = at; types = ts; function = f; arguments = es }) else None
+many_in (Some (called at ts f es)) = if nat_le 2 (length ts) then Some (record { at = at; types = ts; values = results f es }) else None
+many_in (Some (asking at)) = Some (record { at = at; types = Int ∷ Boolean ∷ []; values = items })
+many_in (Some (quoted at bytes)) = None
 many_in (Some (printed at line ps)) = None
 many_in (Some (panicked at p)) = None
+many_in (Some (exited at e)) = None
 
 abbrev pub many : List Seen → Option Many
 many [] = None
@@ -363,7 +405,7 @@ fits ps os = fits_with ps os (many os)
 -- the values, and those at these places
 abbrev pub all_values : List Seen → Option Many → Option Exs
 all_values os None = option_map each (values os)
-all_values os (Some m) = Some (results m.function m.arguments)
+all_values os (Some m) = Some m.values
 
 abbrev pub taken : List (Option ValueType) → List Seen → Option Exs
 taken ps os = allowed (fits ps os) (all_values os (many os))
@@ -378,31 +420,41 @@ asked ts = map (λ t. Some t) ts
 
 -- ---- calls
 
--- what is called: `print`, or `println` where true is said; `panic`; a function by its number, with the places for its arguments and the
--- types of its results; a value that is no function; what takes no `...`; or what has no type
+-- what is called: `print`, or `println` where true is said; `panic`; `readInt`; `exit`; a function by its number, with the places for its arguments
+-- and the types of its results; a value that is no function; what takes no `...`, with strings among its arguments or without; or what has
+-- no type
 pub data Callee : Type 0 where
   printer : Bool → Callee
   panicker : Callee
+  reader : Callee
+  exiter : Callee
   function : ℕ → List (Option ValueType) → (results : List ValueType) → Callee
   no_function : Callee
   no_spread : Callee
+  no_text_spread : Callee
   nothing : Callee
 
 abbrev pub function_with : ℕ → Option Signature → Callee
 function_with f None = nothing
 function_with f (Some sig) = function f (asked sig.params) sig.results
 
+abbrev pub callee_external : ExternalFunction → Callee
+callee_external external.ReadInt = reader
+callee_external external.Exit = exiter
+
 abbrev pub callee_declared : Scope → Option Declared → Callee
 callee_declared s None = nothing
 callee_declared s (Some (Variable site t)) = no_function
 callee_declared s (Some Untyped) = nothing
 callee_declared s (Some (Function f)) = function_with f.0 (signature s f.0)
+callee_declared s (Some (External e at)) = callee_external e
 callee_declared s (Some TypeName) = nothing
 
 abbrev pub callee_named : Scope → Word → Option Declared → Callee
 callee_named s (word.Truth b) d = no_function
 callee_named s (word.Print line) d = printer line
 callee_named s word.Panic d = panicker
+callee_named s word.Blank d = nothing
 callee_named s word.Reserved d = nothing
 callee_named s word.Free d = callee_declared s d
 
@@ -413,23 +465,37 @@ callee_value (Some x) = no_function
 -- what is called where `...` stands behind the arguments: nothing takes it yet
 abbrev pub spread_over : Bool → Callee → Callee
 spread_over false callee = callee
-spread_over true (printer line) = no_spread
-spread_over true panicker = no_spread
+spread_over true (printer line) = no_text_spread
+spread_over true panicker = no_text_spread
+spread_over true reader = no_spread
+spread_over true exiter = no_spread
 spread_over true (function f ps ts) = no_spread
 spread_over true callee = callee
 
 -- `panic` has one operand
-abbrev pub panicked_with : Pos → List Piece → Option Gives
+abbrev pub panicked_with : Pos → List Part → Option Gives
 panicked_with at [] = None
 panicked_with at (p ∷ []) = Some (panicked at p)
 panicked_with at (p ∷ q ∷ ps) = None
 
+-- `exit` has one argument, which is an int
+abbrev pub exit_places : List (Option ValueType)
+exit_places = Some Int ∷ []
+
+abbrev pub exited_with : Pos → List Ex → Option Gives
+exited_with at [] = None
+exited_with at (e ∷ []) = Some (exited at e)
+exited_with at (e ∷ f ∷ es) = None
+
 abbrev pub called_with : Pos → Callee → List Seen → Option Gives
-called_with at (printer line) os = option_map (printed at line) (pieces os)
-called_with at panicker os = option_and_then (panicked_with at) (pieces os)
+called_with at (printer line) os = option_map (printed at line) (parts os)
+called_with at panicker os = option_and_then (panicked_with at) (parts os)
+called_with at reader os = allowed (fits [] os) (Some (asking at))
+called_with at exiter os = option_and_then (exited_with at) (allowed (fits exit_places os) (values os))
 called_with at (function f ps ts) os = option_map (called at ts f) (taken ps os)
 called_with at no_function os = None
 called_with at no_spread os = None
+called_with at no_text_spread os = None
 called_with at nothing os = None
 
 -- the name that an expression is, in parentheses or not
@@ -451,6 +517,10 @@ condition_in (while_true e) = Some e
 condition_in (counting before e behind) = e
 condition_in (ranging _ at e) = None
 
+-- the bytes of a text from one offset up to another
+abbrev pub between : List ℕ → ℕ → ℕ → List ℕ
+between text from behind = take (behind - from) (drop from text)
+
 module _ (text : List ℕ) where
   -- the type that an expression is, in parentheses or not
   abbrev pub type_in : TreeEx → Option ValueType
@@ -467,7 +537,7 @@ module _ (text : List ℕ) where
   abbrev mutual
     pub gives : Scope → TreeEx → Option Gives
     gives s (number at n) = if nat_lt n (2 ^ 127) then Some (one (untyped (Number (pos n)))) else None
-    gives s (string at behind) = None
+    gives s (string at behind) = Some (quoted at (string_value (between text at.offset behind)))
     gives s (name n) = option_map one (name_operand (word_of (spelled text n)) (declaration s (spelled text n)))
     gives s (unary at op e) = prefix_gives op (has_rules op) (operand_in (gives s e))
     gives s (binary at op a b) = pair_gives (first_place a) op (operand_in (gives s a)) (operand_in (gives s b))

@@ -1,28 +1,30 @@
 //! Calls: what is called, and what a call gives.
 
-ghost use Rattle.std.specs.Prelude.{◌≡◌, ◌⊎◌, Option, Some, None, IfOk, if◌then◌else◌, ◌==◌};
+ghost use Rattle.std.specs.Prelude.{◌≡◌, ◌⊎◌, Option, Some, None, IfOk, map};
 ghost use Rattle.std.specs.Option.{option_map};
 ghost use Rattle.syntax.specs.Expressions.{ex_of as tree_of, spelled};
+ghost use Rattle.expression_types.specs.declared.fault.FaultKind.TheVariants.{ArgCount};
 ghost use Rattle.expression_types.specs.Least.{IsLeast};
 ghost use Rattle.expression_types.specs.Scope.{scope_of, declaration, signature};
 ghost use Rattle.expression_types.specs.Profile.{word_of};
-ghost use Rattle.expression_types.specs.Typing.{operand_in, name_in, function_with, callee_declared, callee_named, callee_value, spread_over, many, count, panicked_with, called_with};
-ghost use Rattle.expression_types.specs.Faults.{fault as fault_at, IsFault, SinglesFail, ValuesFail, RangeFails, CallFails, callee_declared_fault, callee_name_fault, refused_fault};
-ghost use Rattle.expression_types.specs.Passing.{gives_of, operand_of, seens, callee_of};
-ghost use Rattle.typed.specs.View.{piece_of};
+ghost use Rattle.expression_types.specs.Typing.{operand_in, name_in, function_with, callee_declared, callee_named, callee_value, spread_over, many, count, part_count, exit_places, panicked_with, exited_with, called_with};
+ghost use Rattle.expression_types.specs.Faults.{fault as fault_at, IsFault, PartsFail, ValuesFail, RangeFails, TakeFails, CallFails, callee_declared_fault, callee_name_fault, refused_fault};
+ghost use Rattle.expression_types.specs.Passing.{part_view, gives_of, operand_of, seens, callee_of};
+ghost use Rattle.typed.specs.View.{ex_of};
 
 use crate::fault::{Fault, FaultKind, lesser};
 use crate::naming::spelled;
-use crate::operand::{Callee, Gives, Item, Operand};
+use crate::operand::{Callee, Gives, Item, Operand, Part};
 use crate::profile::{Word, word_of};
-use crate::scope::{Declared, Scope, ValueType, declaration};
+use crate::scope::{Declared, External, Scope, ValueType, declaration};
 use crate::values::{
-    asked, count, count_fault, pieces, range_faults, singles_fault, take_fault, taken, values_fault,
+    asked, count, count_fault, fits, part_count, parts, parts_fault, range_faults, take_fault,
+    taken, values, values_fault,
 };
 use base::{FuncId, NoMemory, Pos};
 use std::alloc::Global;
 use syntax::{Expr, Name};
-use typed::Piece;
+use typed::Expr as Value;
 
 /// The name that an expression is, in parentheses or not.
 pub fn name_in(e: &Expr) -> Option<Name>
@@ -61,6 +63,8 @@ fn callee_declared(
 {
     match declared {
         Some(Declared::Function(function)) => callee_function(alloc, scope, function),
+        Some(Declared::External(External::ReadInt, _)) => Ok(Callee::Reader),
+        Some(Declared::External(External::Exit, _)) => Ok(Callee::Exiter),
         Some(Declared::Variable(_, _)) => Ok(Callee::NoFunction),
         _ => Ok(Callee::Nothing),
     }
@@ -80,7 +84,7 @@ pub fn callee_named(
         Word::Truth(_) => Ok(Callee::NoFunction),
         Word::Print(line) => Ok(Callee::Printer(line)),
         Word::Panic => Ok(Callee::Panicker),
-        Word::Reserved => Ok(Callee::Nothing),
+        Word::Blank | Word::Reserved => Ok(Callee::Nothing),
         Word::Free => callee_declared(alloc, scope, declaration(scope, bytes)),
     }
 }
@@ -102,12 +106,17 @@ pub fn callee_name_fault(text: &[u8], scope: &Scope, name: Name) -> Option<Fault
     ensures { IsLeast (IsFault (callee_name_fault (word_of (spelled text.now name)) (declaration (scope_of scope.now) (spelled text.now name)) name.pos)) result }
 {
     let bytes = spelled(text, name);
+    let pos = name.pos;
     match word_of(bytes) {
+        Word::Blank => Some(Fault {
+            kind: FaultKind::Unknown,
+            pos,
+        }),
         Word::Reserved => Some(Fault {
             kind: FaultKind::OutOfProfile,
-            pos: name.pos,
+            pos,
         }),
-        Word::Free => declared_fault(declaration(scope, bytes), name.pos),
+        Word::Free => declared_fault(declaration(scope, bytes), pos),
         _ => None,
     }
 }
@@ -130,7 +139,8 @@ pub fn spread_over(spread: bool, callee: Callee) -> Callee
         return callee;
     }
     match callee {
-        Callee::Printer(_) | Callee::Panicker | Callee::Function(_, _, _) => Callee::NoSpread,
+        Callee::Printer(_) | Callee::Panicker => Callee::NoTextSpread,
+        Callee::Reader | Callee::Exiter | Callee::Function(_, _, _) => Callee::NoSpread,
         other => other,
     }
 }
@@ -155,11 +165,25 @@ fn refused(kind: FaultKind, pos: Pos, arguments: &[Item]) -> Option<Fault>
     )
 }
 
-/// The fault of operands of `print`, `println` or `panic`.
-fn pieces_fault(arguments: &[Item]) -> Option<Fault>
-    ensures { IsLeast (λ f. SinglesFail (seens arguments.now) f ⊎ RangeFails (seens arguments.now) f) result }
+/// The fault of operands of `print`, `println` or `panic`, which `...` stands behind.
+fn spread_fault(pos: Pos, arguments: &[Item]) -> Option<Fault>
+    ensures { IsLeast (CallFails pos Rattle.expression_types.specs.Typing.no_text_spread (seens arguments.now)) result }
 {
-    lesser(singles_fault(arguments), range_faults(arguments))
+    let own = Fault {
+        kind: FaultKind::BadOperand,
+        pos,
+    };
+    lesser(
+        parts_fault(arguments),
+        refused_fault(part_count(arguments), own),
+    )
+}
+
+/// The fault of operands of `print`, `println` or `panic`.
+fn print_fault(arguments: &[Item]) -> Option<Fault>
+    ensures { IsLeast (λ f. PartsFail (seens arguments.now) f ⊎ RangeFails (seens arguments.now) f) result }
+{
+    lesser(parts_fault(arguments), range_faults(arguments))
 }
 
 /// The fault of a `panic`, which has one operand.
@@ -171,9 +195,23 @@ fn panic_fault(pos: Pos, arguments: &[Item]) -> Option<Fault>
         pos,
     };
     lesser(
-        pieces_fault(arguments),
-        count_fault(count(arguments), 1, own),
+        print_fault(arguments),
+        count_fault(part_count(arguments), 1, own),
     )
+}
+
+/// The place for the argument of `exit`, an int.
+const EXIT_PLACES: [Option<ValueType>; 1] = [Some(ValueType::Int)];
+
+/// The fault of arguments at places, where another number of them is refused at the call.
+fn places_fault(pos: Pos, places: &[Option<ValueType>], arguments: &[Item]) -> Option<Fault>
+    ensures { IsLeast (TakeFails (fault_at ArgCount pos) places.now (seens arguments.now)) result }
+{
+    let own = Fault {
+        kind: FaultKind::ArgCount,
+        pos,
+    };
+    take_fault(own, places, arguments)
 }
 
 /// The fault of a call with these arguments.
@@ -181,17 +219,14 @@ pub fn call_fault(pos: Pos, callee: &Callee, arguments: &[Item]) -> Option<Fault
     ensures { IsLeast (CallFails pos (callee_of callee.now) (seens arguments.now)) result }
 {
     match callee {
-        Callee::Printer(_) => pieces_fault(arguments),
+        Callee::Printer(_) => print_fault(arguments),
         Callee::Panicker => panic_fault(pos, arguments),
-        Callee::Function(_, places, _) => {
-            let own = Fault {
-                kind: FaultKind::ArgCount,
-                pos,
-            };
-            take_fault(own, places, arguments)
-        }
+        Callee::Reader => places_fault(pos, &[], arguments),
+        Callee::Exiter => places_fault(pos, &EXIT_PLACES, arguments),
+        Callee::Function(_, places, _) => places_fault(pos, places, arguments),
         Callee::NoFunction => refused(FaultKind::NotCallable, pos, arguments),
         Callee::NoSpread => refused(FaultKind::BadOperand, pos, arguments),
+        Callee::NoTextSpread => spread_fault(pos, arguments),
         Callee::Nothing => values_fault(arguments),
     }
 }
@@ -204,21 +239,21 @@ fn printed(
 ) -> Result<Option<Gives>, NoMemory>
     ensures { IfOk result (λ r. option_map gives_of r ≡ called_with pos (Rattle.expression_types.specs.Typing.printer line) (seens arguments.items)) }
 {
-    match pieces(alloc, arguments)? {
-        Some(pieces) => Ok(Some(Gives::Printed(pos, line, pieces))),
+    match parts(alloc, arguments)? {
+        Some(parts) => Ok(Some(Gives::Printed(pos, line, parts))),
         None => Ok(None),
     }
 }
 
-fn panicked_with(pos: Pos, pieces: Vec<Piece>) -> Option<Gives>
-    ensures { option_map gives_of result ≡ panicked_with pos (Rattle.std.specs.Prelude.map piece_of pieces.items) }
+fn panicked_with(pos: Pos, parts: Vec<Part>) -> Option<Gives>
+    ensures { option_map gives_of result ≡ panicked_with pos (map part_view parts.items) }
 {
-    let mut pieces = pieces;
-    if pieces.len() != 1 {
+    let mut parts = parts;
+    if parts.len() != 1 {
         return None;
     }
-    match pieces.pop() {
-        Some(piece) => Some(Gives::Panicked(pos, piece)),
+    match parts.pop() {
+        Some(part) => Some(Gives::Panicked(pos, part)),
         None => None,
     }
 }
@@ -226,8 +261,43 @@ fn panicked_with(pos: Pos, pieces: Vec<Piece>) -> Option<Gives>
 fn panicked(alloc: Global, pos: Pos, arguments: Vec<Item>) -> Result<Option<Gives>, NoMemory>
     ensures { IfOk result (λ r. option_map gives_of r ≡ called_with pos Rattle.expression_types.specs.Typing.panicker (seens arguments.items)) }
 {
-    match pieces(alloc, arguments)? {
-        Some(pieces) => Ok(panicked_with(pos, pieces)),
+    match parts(alloc, arguments)? {
+        Some(parts) => Ok(panicked_with(pos, parts)),
+        None => Ok(None),
+    }
+}
+
+fn asking(pos: Pos, arguments: &[Item]) -> Option<Gives>
+    ensures { option_map gives_of result ≡ called_with pos Rattle.expression_types.specs.Typing.reader (seens arguments.now) }
+{
+    if fits(&[], arguments) {
+        Some(Gives::Asking(pos))
+    } else {
+        None
+    }
+}
+
+fn exited_with(pos: Pos, values: Vec<Value>) -> Option<Gives>
+    ensures { option_map gives_of result ≡ exited_with pos (map ex_of values.items) }
+{
+    let mut values = values;
+    if values.len() != 1 {
+        return None;
+    }
+    match values.pop() {
+        Some(status) => Some(Gives::Exited(pos, status)),
+        None => None,
+    }
+}
+
+fn exited(alloc: Global, pos: Pos, arguments: Vec<Item>) -> Result<Option<Gives>, NoMemory>
+    ensures { IfOk result (λ r. option_map gives_of r ≡ called_with pos Rattle.expression_types.specs.Typing.exiter (seens arguments.items)) }
+{
+    if !fits(&EXIT_PLACES, &arguments) {
+        return Ok(None);
+    }
+    match values(alloc, arguments)? {
+        Some(values) => Ok(exited_with(pos, values)),
         None => Ok(None),
     }
 }
@@ -263,6 +333,8 @@ pub fn call_value(
     match callee {
         Callee::Printer(line) => printed(alloc, pos, line, arguments),
         Callee::Panicker => panicked(alloc, pos, arguments),
+        Callee::Reader => Ok(asking(pos, &arguments)),
+        Callee::Exiter => exited(alloc, pos, arguments),
         Callee::Function(function, places, results) => {
             called(alloc, pos, function, &places, results, arguments)
         }

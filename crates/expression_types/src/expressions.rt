@@ -1,12 +1,13 @@
 //! The types of expressions: what each gives, and the least of the rules that fail in it.
 
-ghost use Rattle.std.specs.Prelude.{◌≡◌, ◌⊎◌, None, IfOk, true};
+ghost use Rattle.std.specs.Prelude.{◌≡◌, ◌⊎◌, None, Some, IfOk, true};
 ghost use Rattle.std.specs.Option.{option_map};
+ghost use Rattle.string_value.specs.StringValue.{string_value};
 ghost use Rattle.syntax.specs.FirstBytes.{first_place};
 ghost use Rattle.syntax.specs.Expressions.{ex_of as tree_of, exs_of as trees_of, name as name_of, unary};
 ghost use Rattle.expression_types.specs.Least.{IsLeast, IsLesserWith, lesser as least};
 ghost use Rattle.expression_types.specs.Scope.{scope_of};
-ghost use Rattle.expression_types.specs.Typing.{one as one_gives, pair_gives, spread_over, called_with, operand_in, name_in, callee, gives, seen};
+ghost use Rattle.expression_types.specs.Typing.{one as one_gives, quoted as quoted_gives, between, pair_gives, spread_over, called_with, operand_in, name_in, callee, gives, seen};
 ghost use Rattle.expression_types.specs.Faults.{FormFails, CallFails, FailsAsType, Fails, FailsInEach, FailsAsOperand, CalleeFails, pair_fault, literal_fault, single_fault};
 ghost use Rattle.expression_types.specs.Passing.{operand_of, gives_of, seens, callee_of, literal_operand};
 
@@ -14,13 +15,14 @@ use crate::calls::{
     call_fault, call_value, callee_name_fault, callee_named, callee_value, name_in, spread_over,
 };
 use crate::fault::{Fault, FaultKind, lesser};
-use crate::naming::{name_fault, name_value};
+use crate::naming::{between, name_fault, name_value};
 use crate::operand::{Callee, Constant, Gives, Item, Operand, one_operand, single_fault};
 use crate::operators::{has_rules, pair_fault, paired, prefix_fault, prefixed};
 use crate::scope::Scope;
 use crate::type_names::type_fault;
 use base::{NoMemory, Pos};
 use std::alloc::Global;
+use string_value::string_value;
 use syntax::{BinOp, Expr, Name, UnOp};
 
 /// What is known of an expression: its first byte, what it gives, and the fault that is reported of it.
@@ -97,6 +99,20 @@ fn literal(pos: Pos, number: u128) -> Checked
             }),
         },
     }
+}
+
+/// A string literal, by its first byte and the offset behind it.
+fn quoted(alloc: Global, text: &[u8], pos: Pos, behind: u32) -> Result<Checked, NoMemory>
+    ensures pos { IfOk result (λ c. c.pos ≡ pos) }
+    ensures gives { IfOk result (λ c. option_map gives_of c.gives ≡ Some (quoted_gives pos (string_value (between text.now pos.offset behind)))) }
+    ensures fault { IfOk result (λ c. c.fault ≡ None) }
+{
+    let bytes = string_value(alloc, between(text, pos.offset, behind))?;
+    Ok(Checked {
+        pos,
+        gives: Some(Gives::Quoted(pos, bytes)),
+        fault: None,
+    })
 }
 
 /// A single value of what an expression gives.
@@ -206,7 +222,7 @@ pub fn check_expr(alloc: Global, text: &[u8], scope: &Scope, e: &Expr) -> Result
 {
     match e {
         Expr::Int(pos, number) => Ok(literal(*pos, *number)),
-        Expr::String(pos, _) => Ok(left_out(*pos)),
+        Expr::String(pos, behind) => quoted(alloc, text, *pos, *behind),
         Expr::Name(name) => Ok(named(text, scope, *name)),
         Expr::Unary(pos, op, inner) => check_prefix(alloc, text, scope, *pos, *op, inner),
         Expr::Binary(_, op, left, right) => {

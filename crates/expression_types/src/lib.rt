@@ -27,7 +27,7 @@ pub use expressions::{Checked, Listed, Single, check_expr, check_list, check_sin
 pub use fault::{Fault, FaultKind, TypeFault, lesser};
 pub use naming::spelled;
 pub use operand::{
-    Callee, Constant, Gives, Item, Operand, as_value, constant_range_fault, type_of,
+    Callee, Constant, Gives, Item, Operand, Part, as_value, constant_range_fault, type_of,
 };
 pub use operators::{combined, pair_fault, paired, same_type};
 pub use profile::{
@@ -35,8 +35,9 @@ pub use profile::{
     word_of,
 };
 pub use scope::{
-    Declared, Scope, Signature, ValueType, add_signature, beginning, close, declaration, declare,
-    declare_variable, is_here, next_site, open, site_behind, site_count,
+    Declared, External, Scope, Signature, ValueType, add_signature, add_strings, beginning, close,
+    declaration, declare, declare_variable, is_here, next_site, open, site_behind, site_count,
+    string_count,
 };
 pub use type_names::{type_fault, type_in};
 pub use values::{

@@ -5,7 +5,7 @@ ghost use Rattle.std.specs.Option.{option_map};
 ghost use Rattle.syntax.specs.Expressions.{name as name_of, spelled};
 ghost use Rattle.expression_types.specs.Least.{IsLeast};
 ghost use Rattle.expression_types.specs.Scope.{scope_of, declaration};
-ghost use Rattle.expression_types.specs.Typing.{one, name_operand, gives};
+ghost use Rattle.expression_types.specs.Typing.{one, name_operand, between, gives};
 ghost use Rattle.expression_types.specs.Faults.{declared_fault, name_fault, Fails};
 ghost use Rattle.expression_types.specs.Passing.{gives_of};
 
@@ -17,16 +17,21 @@ use base::Pos;
 use syntax::Name;
 use typed::Expr;
 
+/// The bytes of a text from one offset up to another.
+pub fn between(text: &[u8], from: u32, behind: u32) -> &[u8]
+    ensures { result.now ≡ between text.now from behind }
+{
+    let start = text.len().min(from as usize);
+    let rest = &text[start..];
+    let long = rest.len().min(behind.saturating_sub(from) as usize);
+    &rest[..long]
+}
+
 /// The bytes of a name.
 pub fn spelled(text: &[u8], name: Name) -> &[u8]
     ensures { result.now ≡ spelled text.now name }
 {
-    let start = text.len().min(name.pos.offset as usize);
-    let rest = &text[start..];
-    let long = rest
-        .len()
-        .min(name.end.saturating_sub(name.pos.offset) as usize);
-    &rest[..long]
+    between(text, name.pos.offset, name.end)
 }
 
 fn value_of(word: Word, declared: Option<Declared>) -> Option<Gives>
@@ -53,7 +58,7 @@ fn declared_fault(declared: Option<Declared>, pos: Pos) -> Option<Fault>
     ensures { result ≡ declared_fault declared pos }
 {
     let kind = match declared {
-        Some(Declared::Function(_)) => FaultKind::OutOfProfile,
+        Some(Declared::Function(_) | Declared::External(_, _)) => FaultKind::OutOfProfile,
         Some(Declared::TypeName) => FaultKind::BadOperand,
         Some(_) => return None,
         None => FaultKind::Unknown,
@@ -67,6 +72,10 @@ fn fault_of(word: Word, declared: Option<Declared>, pos: Pos) -> Option<Fault>
     match word {
         Word::Truth(_) => None,
         Word::Free => declared_fault(declared, pos),
+        Word::Blank => Some(Fault {
+            kind: FaultKind::Unknown,
+            pos,
+        }),
         _ => Some(Fault {
             kind: FaultKind::OutOfProfile,
             pos,

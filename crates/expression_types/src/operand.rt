@@ -2,15 +2,15 @@
 
 ghost use Rattle.std.specs.Prelude.{◌≡◌, Option, Some, None, if◌then◌else◌, option_and_then, is_some};
 ghost use Rattle.std.specs.Option.{option_map};
-ghost use Rattle.typed.specs.View.{ex_of, piece_of};
-ghost use Rattle.expression_types.specs.Typing.{constant_type, type_of, constant_value, as_value, as_piece, is_int, operand_in};
-ghost use Rattle.expression_types.specs.Faults.{constant_range_fault, range_fault, single_fault};
-ghost use Rattle.expression_types.specs.Passing.{operand_of, gives_of};
+ghost use Rattle.typed.specs.View.{ex_of};
+ghost use Rattle.expression_types.specs.Typing.{constant_type, type_of, constant_value, as_value, as_part, is_int, operand_in, part_in, is_part};
+ghost use Rattle.expression_types.specs.Faults.{constant_range_fault, range_fault, single_fault, part_fault};
+ghost use Rattle.expression_types.specs.Passing.{operand_of, part_view, gives_of};
 
 use crate::fault::{Fault, FaultKind};
 use crate::scope::ValueType;
-use base::{FuncId, Pos};
-use typed::{Const, Expr, Piece, Values};
+use base::{FuncId, Pos, TypeId};
+use typed::{Const, Expr, Values};
 
 /// An untyped constant, with its exact value.
 #[derive(Clone, Copy)]
@@ -26,16 +26,31 @@ pub enum Operand {
     Value(ValueType, Expr),
 }
 
+/// An operand of `print`, `println` or `panic`.
+#[derive(Drop)]
+pub enum Part {
+    /// A string, by its bytes.
+    Said(Vec<u8>),
+    /// A value, with its type.
+    Valued(TypeId, Expr),
+}
+
 /// What an expression gives.
 #[derive(Drop)]
 pub enum Gives {
     One(Operand),
     /// The results of a call: its place, their types, the function and the arguments.
     Called(Pos, Vec<ValueType>, FuncId, Box<Values>),
+    /// The two results of `readInt`, at a place: a number, and whether it is good.
+    Asking(Pos),
+    /// A string literal at a place, and its bytes.
+    Quoted(Pos, Vec<u8>),
     /// Nothing: a `print` at a place, or a `println` where true is said, and its operands.
-    Printed(Pos, bool, Vec<Piece>),
+    Printed(Pos, bool, Vec<Part>),
     /// Nothing: a `panic` at a place, and its operand.
-    Panicked(Pos, Piece),
+    Panicked(Pos, Part),
+    /// Nothing: an `exit` at a place, and its status.
+    Exited(Pos, Expr),
 }
 
 /// One of some expressions: its first byte, and what it gives.
@@ -52,12 +67,18 @@ pub enum Callee {
     Printer(bool),
     /// `panic`.
     Panicker,
+    /// `readInt`.
+    Reader,
+    /// `exit`.
+    Exiter,
     /// A function, the places for its arguments, and the types of its results.
     Function(FuncId, Vec<Option<ValueType>>, Vec<ValueType>),
     /// A value that is no function.
     NoFunction,
     /// What takes no `...`, which stands behind the arguments.
     NoSpread,
+    /// The same, where the arguments may be strings.
+    NoTextSpread,
     /// What has no type.
     Nothing,
 }
@@ -126,22 +147,12 @@ pub fn value_of(operand: Option<Operand>) -> Option<Expr>
 }
 
 /// An operand as one of `print`, `println` or `panic`.
-fn as_piece(operand: Operand) -> Option<Piece>
-    ensures { option_map piece_of result ≡ as_piece (operand_of operand) }
+fn as_part(operand: Operand) -> Option<Part>
+    ensures { option_map part_view result ≡ as_part (operand_of operand) }
 {
     let type_id = type_of(&operand).id();
     match as_value(operand) {
-        Some(value) => Some(Piece::Shown(type_id, value)),
-        None => None,
-    }
-}
-
-/// The same of an operand that may have failed.
-pub fn piece_of(operand: Option<Operand>) -> Option<Piece>
-    ensures { option_map piece_of result ≡ option_and_then as_piece (option_map operand_of operand) }
-{
-    match operand {
-        Some(operand) => as_piece(operand),
+        Some(value) => Some(Part::Valued(type_id, value)),
         None => None,
     }
 }
@@ -197,23 +208,56 @@ pub fn is_single(gives: &Option<Gives>) -> bool
     one_type(gives).is_some()
 }
 
-/// The fault of an expression where one value is wanted: a call that has another number of them.
+/// What an expression is as an operand of `print`, `println` or `panic`: a string, or its one value.
+pub fn part_in(gives: Option<Gives>) -> Option<Part>
+    ensures { option_map part_view result ≡ part_in (option_map gives_of gives) }
+{
+    match gives {
+        Some(Gives::Quoted(_, bytes)) => Some(Part::Said(bytes)),
+        gives => match one_operand(gives) {
+            Some(operand) => as_part(operand),
+            None => None,
+        },
+    }
+}
+
+/// Whether an expression may be such an operand.
+pub fn is_part(gives: &Option<Gives>) -> bool
+    ensures { result ≡ is_part (option_map gives_of gives.now) }
+{
+    match gives {
+        Some(Gives::Quoted(_, _)) => true,
+        gives => is_single(gives),
+    }
+}
+
+/// The fault of an expression where one value is wanted: a string, or a call that has another number of them.
 pub fn single_fault(gives: &Option<Gives>) -> Option<Fault>
     ensures { result ≡ single_fault (option_map gives_of gives.now) }
 {
-    let pos = match gives {
+    let (kind, pos) = match gives {
         Some(Gives::Called(pos, types, _, _)) => match types.as_slice() {
             [_] => return None,
-            _ => *pos,
+            _ => (FaultKind::ResultCount, *pos),
         },
-        Some(Gives::Printed(pos, _, _)) => *pos,
-        Some(Gives::Panicked(pos, _)) => *pos,
+        Some(Gives::Asking(pos)) => (FaultKind::ResultCount, *pos),
+        Some(Gives::Quoted(pos, _)) => (FaultKind::OutOfProfile, *pos),
+        Some(Gives::Printed(pos, _, _)) => (FaultKind::ResultCount, *pos),
+        Some(Gives::Panicked(pos, _)) => (FaultKind::ResultCount, *pos),
+        Some(Gives::Exited(pos, _)) => (FaultKind::ResultCount, *pos),
         _ => return None,
     };
-    Some(Fault {
-        kind: FaultKind::ResultCount,
-        pos,
-    })
+    Some(Fault { kind, pos })
+}
+
+/// The fault of an expression as an operand of `print`, `println` or `panic`.
+pub fn part_fault(gives: &Option<Gives>) -> Option<Fault>
+    ensures { result ≡ part_fault (option_map gives_of gives.now) }
+{
+    match gives {
+        Some(Gives::Quoted(_, _)) => None,
+        gives => single_fault(gives),
+    }
 }
 
 /// The fault of an expression as a value: a constant that no int can hold.

@@ -16,6 +16,8 @@ pub enum Word {
     Print(bool),
     /// `panic`.
     Panic,
+    /// The blank name.
+    Blank,
     /// A name that a body may neither declare nor use.
     Reserved,
     /// What its declaration says.
@@ -118,6 +120,8 @@ fn call_word(name: &[u8]) -> Word
         Word::Print(false)
     } else if name == "panic".as_bytes() {
         Word::Panic
+    } else if is_blank(name) {
+        Word::Blank
     } else if is_reserved(name) {
         Word::Reserved
     } else {

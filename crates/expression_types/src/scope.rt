@@ -1,8 +1,8 @@
 //! What names stand for.
 
-ghost use Rattle.std.specs.Prelude.{◌≡◌, ◌<◌, length, OnOk, IfOk, Option, None, Some, ◌+◌};
+ghost use Rattle.std.specs.Prelude.{◌≡◌, ◌<◌, length, map, OnOk, IfOk, Option, None, Some, ◌+◌};
 ghost use Rattle.std.specs.Option.{option_map};
-ghost use Rattle.expression_types.specs.Scope.{type_number, scope_of, signature_of, declaration, is_here, signature, beginning, with_declaration, with_variable, with_signature, opened, closed};
+ghost use Rattle.expression_types.specs.Scope.{type_number, scope_of, signature_of, declaration, is_here, signature, beginning, with_declaration, with_variable, with_signature, with_strings, opened, closed};
 
 use base::{FuncId, NoMemory, Pos, SiteId, TypeId};
 use names::Block;
@@ -35,6 +35,13 @@ pub struct Signature {
     pub results: Vec<ValueType>,
 }
 
+/// The functions that a program declares without a body.
+#[derive(Clone, Copy, Debug, PartialEq, Eq)]
+pub enum External {
+    ReadInt,
+    Exit,
+}
+
 /// What a name stands for.
 #[derive(Clone, Copy, Debug, PartialEq, Eq)]
 pub enum Declared {
@@ -44,18 +51,21 @@ pub enum Declared {
     Untyped,
     /// A function of the program.
     Function(FuncId),
+    /// A function that has no body, and the place of its name.
+    External(External, Pos),
     /// A type of the program.
     TypeName,
 }
 
-/// The declarations that are in scope: the open blocks number them. And the sites of the variables that have a type, and the
-/// signature of each function, where it has one.
+/// The declarations that are in scope: the open blocks number them. And the sites of the variables that have a type, the
+/// signature of each function, where it has one, and the bytes of the strings that stand in statements so far.
 #[derive(Drop)]
 pub struct Scope {
     pub names: Block,
     pub declared: Vec<Declared>,
     pub sites: Vec<Site>,
     pub signatures: Vec<Option<Signature>>,
+    pub strings: Vec<Vec<u8>>,
 }
 
 /// Where no name is declared.
@@ -67,6 +77,7 @@ pub fn beginning(alloc: Global) -> Scope
         declared: Vec::new(alloc),
         sites: Vec::new(alloc),
         signatures: Vec::new(alloc),
+        strings: Vec::new(alloc),
     }
 }
 
@@ -102,6 +113,22 @@ pub fn add_signature(scope: &mut Scope, signature: Option<Signature>) -> Result<
     ensures { OnOk result (scope_of scope.new ≡ with_signature (scope_of scope.old) (option_map signature_of signature)) }
 {
     scope.signatures.push(signature)?;
+    Ok(())
+}
+
+/// How many strings stand in the statements so far.
+pub fn string_count(scope: &Scope) -> usize
+    ensures { result ≡ length (scope_of scope.now).strings }
+{
+    scope.strings.len()
+}
+
+/// Puts these strings behind those of the statements so far.
+pub fn add_strings(scope: &mut Scope, strings: Vec<Vec<u8>>) -> Result<(), NoMemory>
+    ensures { OnOk result (scope_of scope.new ≡ with_strings (scope_of scope.old) (map (λ string. string.items) strings.items)) }
+{
+    let mut strings = strings;
+    scope.strings.append(&mut strings)?;
     Ok(())
 }
 

@@ -1,18 +1,20 @@
 //! Trees built by hand over one text, and what the checker says of them.
 
 use crate::{
-    Declared, Fault, FaultKind, Scope, Signature, ValueType, add_signature, asked, beginning,
-    check_condition, check_expr, check_list, declare, declare_variable, take_fault, taken,
-    type_fault, type_in, value_types,
+    Declared, External, Fault, FaultKind, Gives, Part, Scope, Signature, ValueType, add_signature,
+    add_strings, asked, beginning, check_condition, check_expr, check_list, declare,
+    declare_variable, string_count, take_fault, taken, type_fault, type_in, value_types,
 };
 use base::{FuncId, Pos};
 use std::alloc::Global;
 use std::test::Fail;
 use syntax::{ArithmeticOp, BinOp, CompareOp, Expr, Name, UnOp};
+use typed::Values;
 
 /// A variable, a variable without a type, a function, a type, what is not declared, names of the language, a truth variable, truth
-/// values, a function of a truth value, one with two results, and more names of the language.
-const TEXT: &[u8] = b"x c f T u int println nil bool b true false g h print panic";
+/// values, a function of a truth value, one with two results, more names of the language, `exit`, the blank name, strings, and `readInt`.
+const TEXT: &[u8] =
+    b"x c f T u int println nil bool b true false g h print panic exit _ \"hi\" \"\" \"\\x41\\n\" \"\\u00e9\" readInt";
 
 const X: u32 = 0;
 
@@ -29,6 +31,18 @@ const B: u32 = 31;
 const G: u32 = 44;
 
 const H: u32 = 46;
+
+const PRINT: u32 = 48;
+
+const PANIC: u32 = 54;
+
+const EXIT: u32 = 60;
+
+const BLANK: u32 = 65;
+
+const HI: u32 = 67;
+
+const READ: u32 = 93;
 
 fn at(offset: u32) -> Pos {
     Pos {
@@ -51,6 +65,27 @@ fn letter(start: u32) -> Expr {
         pos: at(start),
         end: start.saturating_add(1),
     })
+}
+
+fn printing() -> Expr {
+    word(PRINT, 53)
+}
+
+fn panicking() -> Expr {
+    word(PANIC, 59)
+}
+
+fn exiting() -> Expr {
+    word(EXIT, 64)
+}
+
+fn reading() -> Expr {
+    word(READ, 100)
+}
+
+/// The string "hi", at its place.
+fn hi() -> Expr {
+    Expr::String(at(HI), 71)
 }
 
 /// The truth value true, at its place.
@@ -80,6 +115,16 @@ fn scope(alloc: Global) -> Result<Scope, Fail> {
     declare(&mut scope, b"g", Declared::Function(FuncId(1)))?;
     declare(&mut scope, b"h", Declared::Function(FuncId(2)))?;
     declare(&mut scope, b"T", Declared::TypeName)?;
+    declare(
+        &mut scope,
+        b"exit",
+        Declared::External(External::Exit, at(EXIT)),
+    )?;
+    declare(
+        &mut scope,
+        b"readInt",
+        Declared::External(External::ReadInt, at(READ)),
+    )?;
     add_function(alloc, &mut scope, &[Int], &[Int])?;
     add_function(alloc, &mut scope, &[Bool], &[Bool])?;
     add_function(alloc, &mut scope, &[], &[Int, Bool])?;
@@ -120,6 +165,12 @@ fn bare_call(alloc: Global, function: Expr) -> Result<Expr, Fail> {
     Ok(Expr::Call(Box::new(alloc, function)?, Vec::new(alloc), false))
 }
 
+fn call_two(alloc: Global, function: Expr, first: Expr, second: Expr) -> Result<Expr, Fail> {
+    let function = Box::new(alloc, function)?;
+    let arguments = Vec::from_array(alloc, [first, second])?;
+    Ok(Expr::Call(function, arguments, false))
+}
+
 fn in_parentheses(alloc: Global, e: Expr) -> Result<Expr, Fail> {
     Ok(Expr::Paren(at(60), Box::new(alloc, e)?))
 }
@@ -140,7 +191,7 @@ fn number(offset: u32, value: u128) -> Expr {
 
 #[test]
 fn names(rt: HostRuntime) -> Result<(), Fail> {
-    let table: [(Expr, Option<FaultKind>, u32); 8] = [
+    let table: [(Expr, Option<FaultKind>, u32); 11] = [
         (letter(X), None, X),
         (letter(B), None, B),
         (truth(), None, 33),
@@ -148,7 +199,10 @@ fn names(rt: HostRuntime) -> Result<(), Fail> {
         (letter(T), Some(FaultKind::BadOperand), T),
         (letter(U), Some(FaultKind::Unknown), U),
         (word(10, 13), Some(FaultKind::OutOfProfile), 10),
-        (word(54, 59), Some(FaultKind::OutOfProfile), 54),
+        (panicking(), Some(FaultKind::OutOfProfile), PANIC),
+        (exiting(), Some(FaultKind::OutOfProfile), EXIT),
+        (reading(), Some(FaultKind::OutOfProfile), READ),
+        (letter(BLANK), Some(FaultKind::Unknown), BLANK),
     ];
     for (e, kind, offset) in table {
         match kind {
@@ -175,7 +229,6 @@ fn forms(rt: HostRuntime) -> Result<(), Fail> {
     let alloc = rt.alloc();
     let kind = FaultKind::OutOfProfile;
     let unknown = FaultKind::Unknown;
-    assert!(rt; fails(alloc, Ok(Expr::String(at(50), 52)), kind, 50)?);
     assert!(rt; fails(alloc, prefix(alloc, UnOp::Address, letter(U)), kind, 60)?);
     assert!(rt; fails(alloc, field(alloc, letter(X)), kind, X)?);
     assert!(rt; fails(alloc, field(alloc, letter(U)), unknown, U)?);
@@ -333,11 +386,234 @@ fn calls(rt: HostRuntime) -> Result<(), Fail> {
     );
     assert!(rt; fails(alloc, call(alloc, letter(T), letter(X), false), kind, T)?);
     assert!(rt; passes(alloc, call(alloc, word(14, 21), letter(B), false))?);
-    assert!(rt; passes(alloc, call(alloc, word(48, 53), number(50, 1), false))?);
-    assert!(rt; passes(alloc, call(alloc, word(54, 59), letter(B), false))?);
-    assert!(rt; fails(alloc, bare_call(alloc, word(54, 59)), count, 54)?);
+    assert!(rt; passes(alloc, call(alloc, printing(), number(50, 1), false))?);
+    assert!(rt; passes(alloc, call(alloc, panicking(), letter(B), false))?);
+    assert!(rt; fails(alloc, bare_call(alloc, panicking()), count, PANIC)?);
     let both = bare_call(alloc, letter(H))?;
     assert!(rt; fails(alloc, call(alloc, letter(F), both, false), count, F)?);
+    Ok(())
+}
+
+/// Whether a string alone stands for these bytes.
+fn stands_for(alloc: Global, start: u32, end: u32, want: &[u8]) -> Result<bool, Fail> {
+    let e = Expr::String(at(start), end);
+    let checked = check_expr(alloc, TEXT, &scope(alloc)?, &e)?;
+    match &checked.gives {
+        Some(Gives::Quoted(pos, bytes)) => {
+            Ok(checked.fault.is_none() && *pos == at(start) && bytes.as_slice() == want)
+        }
+        _ => Ok(false),
+    }
+}
+
+/// Strings are operands of `print`, `println` and `panic`, and nothing else takes them.
+#[test]
+fn strings(rt: HostRuntime) -> Result<(), Fail> {
+    let alloc = rt.alloc();
+    let kind = FaultKind::OutOfProfile;
+    let table: [(u32, u32, &[u8]); 4] = [
+        (HI, 71, b"hi"),
+        (72, 74, b""),
+        (75, 83, b"A\n"),
+        (84, 92, b"\xc3\xa9"),
+    ];
+    for (start, end, want) in table {
+        assert!(rt; stands_for(alloc, start, end, want)?);
+        let print = call(alloc, printing(), Expr::String(at(start), end), false);
+        assert!(rt; passes(alloc, print)?);
+        let panic = call(alloc, panicking(), Expr::String(at(start), end), false);
+        assert!(rt; passes(alloc, panic)?);
+        let sum = pair(alloc, ADD, letter(X), Expr::String(at(start), end));
+        assert!(rt; fails(alloc, sum, kind, start)?);
+        let not = prefix(alloc, UnOp::Not, Expr::String(at(start), end));
+        assert!(rt; fails(alloc, not, kind, start)?);
+        let value = call(alloc, letter(F), Expr::String(at(start), end), false);
+        assert!(rt; fails(alloc, value, kind, start)?);
+        let status = call(alloc, exiting(), Expr::String(at(start), end), false);
+        assert!(rt; fails(alloc, status, kind, start)?);
+    }
+    Ok(())
+}
+
+/// Strings beside other operands, called, and before `...`.
+#[test]
+fn strings_in_calls(rt: HostRuntime) -> Result<(), Fail> {
+    let alloc = rt.alloc();
+    let kind = FaultKind::OutOfProfile;
+    let count = FaultKind::ArgCount;
+    let bad = FaultKind::BadOperand;
+    let called = call(alloc, hi(), letter(X), false);
+    assert!(rt; fails(alloc, called, kind, HI)?);
+    let two = call_two(alloc, panicking(), hi(), letter(X));
+    assert!(rt; fails(alloc, two, count, PANIC)?);
+    let inner = bare_call(alloc, printing())?;
+    let nothing = call_two(alloc, printing(), hi(), inner);
+    assert!(rt; fails(alloc, nothing, FaultKind::ResultCount, PRINT)?);
+    assert!(rt; fails(alloc, call(alloc, printing(), hi(), true), bad, PRINT)?);
+    assert!(rt; fails(alloc, call(alloc, panicking(), hi(), true), bad, PANIC)?);
+    assert!(rt; fails(alloc, call(alloc, letter(F), hi(), true), kind, HI)?);
+    let e = call_two(alloc, printing(), hi(), letter(X))?;
+    let checked = check_expr(alloc, TEXT, &scope(alloc)?, &e)?;
+    let in_order = match &checked.gives {
+        Some(Gives::Printed(pos, false, parts)) => {
+            *pos == at(PRINT) && matches!(parts.as_slice(), [Part::Said(_), Part::Valued(_, _)])
+        }
+        _ => false,
+    };
+    assert!(rt; in_order);
+    Ok(())
+}
+
+/// `exit` takes one int and gives nothing.
+#[test]
+fn exits(rt: HostRuntime) -> Result<(), Fail> {
+    let alloc = rt.alloc();
+    let count = FaultKind::ArgCount;
+    let mismatch = FaultKind::Mismatch;
+    let bad = FaultKind::BadOperand;
+    let range = FaultKind::ConstRange;
+    assert!(rt; passes(alloc, call(alloc, exiting(), letter(X), false))?);
+    assert!(rt; passes(alloc, call(alloc, exiting(), number(70, 3), false))?);
+    assert!(rt; fails(alloc, call(alloc, exiting(), truth(), false), mismatch, 33)?);
+    assert!(rt;
+        fails(
+            alloc,
+            call(alloc, exiting(), number(70, 1 << 63), false),
+            range,
+            70
+        )?
+    );
+    assert!(rt;
+        fails(
+            alloc,
+            call_two(alloc, exiting(), letter(X), letter(X)),
+            count,
+            EXIT
+        )?
+    );
+    assert!(rt; fails(alloc, bare_call(alloc, exiting()), count, EXIT)?);
+    assert!(rt;
+        fails(
+            alloc,
+            call(alloc, exiting(), number(70, 3), true),
+            bad,
+            EXIT
+        )?
+    );
+    let both = bare_call(alloc, letter(H))?;
+    assert!(rt; fails(alloc, call(alloc, exiting(), both, false), count, EXIT)?);
+    let inner = call(alloc, exiting(), letter(X), false)?;
+    let sum = pair(alloc, ADD, number(70, 3), inner);
+    assert!(rt; fails(alloc, sum, FaultKind::ResultCount, EXIT)?);
+    let blank = call(alloc, letter(BLANK), letter(X), false);
+    assert!(rt; fails(alloc, blank, FaultKind::Unknown, BLANK)?);
+    Ok(())
+}
+
+/// `readInt` takes nothing and gives two values, so it stands alone where values are wanted.
+#[test]
+fn readings(rt: HostRuntime) -> Result<(), Fail> {
+    let alloc = rt.alloc();
+    let count = FaultKind::ArgCount;
+    let results = FaultKind::ResultCount;
+    let bad = FaultKind::BadOperand;
+    assert!(rt; passes(alloc, bare_call(alloc, reading()))?);
+    assert!(rt; fails(alloc, call(alloc, reading(), letter(X), false), count, READ)?);
+    let both = bare_call(alloc, letter(H))?;
+    assert!(rt; fails(alloc, call(alloc, reading(), both, false), count, READ)?);
+    let twice = bare_call(alloc, reading())?;
+    assert!(rt; fails(alloc, call(alloc, reading(), twice, false), count, READ)?);
+    assert!(rt;
+        fails(
+            alloc,
+            call(alloc, reading(), letter(U), false),
+            FaultKind::Unknown,
+            U
+        )?
+    );
+    assert!(rt;
+        fails(
+            alloc,
+            call(alloc, reading(), hi(), false),
+            FaultKind::OutOfProfile,
+            HI
+        )?
+    );
+    assert!(rt; fails(alloc, call(alloc, reading(), letter(X), true), bad, READ)?);
+    let inner = bare_call(alloc, reading())?;
+    assert!(rt; fails(alloc, pair(alloc, ADD, number(70, 3), inner), results, READ)?);
+    let inner = bare_call(alloc, reading())?;
+    assert!(rt; fails(alloc, prefix(alloc, UnOp::Negate, inner), results, READ)?);
+    let inner = bare_call(alloc, reading())?;
+    assert!(rt;
+        fails(
+            alloc,
+            call(alloc, word(14, 21), inner, false),
+            results,
+            READ
+        )?
+    );
+    let inner = bare_call(alloc, reading())?;
+    assert!(rt; fails(alloc, call(alloc, panicking(), inner, false), results, READ)?);
+    let inner = bare_call(alloc, reading())?;
+    assert!(rt; fails(alloc, call(alloc, letter(F), inner, false), count, F)?);
+    let inner = bare_call(alloc, reading())?;
+    assert!(rt;
+        fails(
+            alloc,
+            call_two(alloc, letter(F), inner, letter(X)),
+            results,
+            READ
+        )?
+    );
+    let called = bare_call(alloc, reading())?;
+    assert!(rt; fails(alloc, bare_call(alloc, called), results, READ)?);
+    Ok(())
+}
+
+/// The two values of `readInt` at places: an int and a truth value.
+#[test]
+fn readings_at_places(rt: HostRuntime) -> Result<(), Fail> {
+    let alloc = rt.alloc();
+    let scope = scope(alloc)?;
+    let own = Fault {
+        kind: FaultKind::ArgCount,
+        pos: at(X),
+    };
+    let calls = Vec::from_array(alloc, [bare_call(alloc, reading())?])?;
+    let listed = check_list(alloc, TEXT, &scope, &calls)?;
+    assert_eq!(rt; listed.fault, None);
+    let items = listed.items;
+    let good = asked(alloc, &[ValueType::Int, ValueType::Bool])?;
+    let bad = asked(alloc, &[ValueType::Int, ValueType::Int])?;
+    let mismatch = Fault {
+        kind: FaultKind::Mismatch,
+        pos: at(READ),
+    };
+    assert_eq!(rt; take_fault(own, &good, &items), None);
+    assert_eq!(rt; take_fault(own, &[None, None], &items), None);
+    assert_eq!(rt; take_fault(own, &bad, &items), Some(mismatch));
+    assert_eq!(rt; take_fault(own, &[None], &items), Some(own));
+    assert_eq!(rt; take_fault(own, &[None, None, None], &items), Some(own));
+    let types = match value_types(alloc, &items)? {
+        Some(types) => types.as_slice() == [ValueType::Int, ValueType::Bool].as_slice(),
+        None => false,
+    };
+    assert!(rt; types);
+    let asking = matches!(taken(alloc, &good, items)?, Some(Values::ReadInt));
+    assert!(rt; asking);
+    Ok(())
+}
+
+#[test]
+fn strings_of_a_scope(rt: HostRuntime) -> Result<(), Fail> {
+    let alloc = rt.alloc();
+    let mut scope = beginning(alloc);
+    let first = Vec::from_slice(alloc, b"hi")?;
+    let second = Vec::from_slice(alloc, b"")?;
+    add_strings(&mut scope, Vec::from_array(alloc, [first])?)?;
+    add_strings(&mut scope, Vec::from_array(alloc, [second])?)?;
+    assert_eq!(rt; string_count(&scope), 2);
     Ok(())
 }
 

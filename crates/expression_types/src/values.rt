@@ -2,21 +2,22 @@
 
 ghost use Rattle.std.specs.Prelude.{◌≡◌, ◌⊎◌, Option, Some, None, IfOk, map, take};
 ghost use Rattle.std.specs.Option.{option_map};
-ghost use Rattle.typed.specs.View.{ex_of, piece_of, exs_of_values};
+ghost use Rattle.typed.specs.View.{ex_of, exs_of_values};
 ghost use Rattle.expression_types.specs.Least.{IsLeast};
-ghost use Rattle.expression_types.specs.Typing.{values, pieces, are_single, single_types, many_in, many, count, value_types, accepts, types_agree, operand_agrees, each, asked, fits, all_values, taken, taken_types};
-ghost use Rattle.expression_types.specs.Faults.{fault as fault_at, type_fault, SinglesFail, ValuesFail, RangeFails, TypesFail, MismatchFails, PlacedFail, TakeFails, count_fault};
-ghost use Rattle.expression_types.specs.Passing.{gives_of, seens, with_last, results_of};
+ghost use Rattle.expression_types.specs.Typing.{values, parts, are_single, are_parts, part_count, single_types, many_in, many, count, value_types, accepts, types_agree, operand_agrees, each, asked, fits, all_values, taken, taken_types};
+ghost use Rattle.expression_types.specs.Faults.{fault as fault_at, type_fault, SinglesFail, PartsFail, ValuesFail, RangeFails, TypesFail, MismatchFails, PlacedFail, TakeFails, count_fault};
+ghost use Rattle.expression_types.specs.Passing.{part_view, gives_of, seens, with_last, results_of};
 
 use crate::fault::{Fault, FaultKind, lesser};
 use crate::operand::{
-    Gives, Item, is_single, one_operand, one_type, piece_of, range_fault, single_fault, value_of,
+    Gives, Item, Part, is_part, is_single, one_operand, one_type, part_fault, part_in, range_fault,
+    single_fault, value_of,
 };
 use crate::operators::same_type;
 use crate::scope::ValueType;
 use base::{NoMemory, Pos};
 use std::alloc::Global;
-use typed::{Expr, Piece, Values};
+use typed::{Expr, Values};
 
 /// The fault of expressions each of which is to have one value.
 pub fn singles_fault(items: &[Item]) -> Option<Fault>
@@ -25,6 +26,17 @@ pub fn singles_fault(items: &[Item]) -> Option<Fault>
     let mut fault = None;
     for item in items {
         fault = lesser(fault, single_fault(&item.gives));
+    }
+    fault
+}
+
+/// The fault of expressions each of which is to be an operand of `print`, `println` or `panic`.
+pub fn parts_fault(items: &[Item]) -> Option<Fault>
+    ensures { IsLeast (PartsFail (seens items.now)) result }
+{
+    let mut fault = None;
+    for item in items {
+        fault = lesser(fault, part_fault(&item.gives));
     }
     fault
 }
@@ -40,6 +52,9 @@ pub fn range_faults(items: &[Item]) -> Option<Fault>
     fault
 }
 
+/// The types of the two results of `readInt`.
+const READ_TYPES: [ValueType; 2] = [ValueType::Int, ValueType::Bool];
+
 /// The place of a call that stands alone and has more than one value, and the types of these.
 fn many_types(items: &[Item]) -> Option<(Pos, &[ValueType])>
     ensures place { option_map (λ r. r.0) result ≡ option_map (λ m. m.at) (many (seens items.now)) }
@@ -48,6 +63,7 @@ fn many_types(items: &[Item]) -> Option<(Pos, &[ValueType])>
     match items {
         [item] => match &item.gives {
             Some(Gives::Called(pos, types, _, _)) if types.len() >= 2 => Some((*pos, types)),
+            Some(Gives::Asking(pos)) => Some((*pos, &READ_TYPES)),
             _ => None,
         },
         _ => None,
@@ -87,6 +103,27 @@ pub fn count(items: &[Item]) -> Option<usize>
                 None
             }
         }
+    }
+}
+
+fn are_parts(items: &[Item]) -> bool
+    ensures { result ≡ are_parts (seens items.now) }
+{
+    let mut all = true;
+    for item in items {
+        all = all && is_part(&item.gives);
+    }
+    all
+}
+
+/// How many operands of `print`, `println` or `panic` there are, where all may be some.
+pub fn part_count(items: &[Item]) -> Option<usize>
+    ensures { result ≡ part_count (seens items.now) }
+{
+    if are_parts(items) {
+        Some(items.len())
+    } else {
+        None
     }
 }
 
@@ -238,7 +275,7 @@ pub fn take_fault(own: Fault, places: &[Option<ValueType>], items: &[Item]) -> O
 }
 
 /// The value of each expression.
-fn values(alloc: Global, items: Vec<Item>) -> Result<Option<Vec<Expr>>, NoMemory>
+pub fn values(alloc: Global, items: Vec<Item>) -> Result<Option<Vec<Expr>>, NoMemory>
     ensures { IfOk result (λ r. option_map (λ v. map ex_of v.items) r ≡ values (seens items.items)) }
 {
     let mut values = Some(Vec::new(alloc));
@@ -250,15 +287,14 @@ fn values(alloc: Global, items: Vec<Item>) -> Result<Option<Vec<Expr>>, NoMemory
 }
 
 /// Each expression as an operand of `print`, `println` or `panic`.
-pub fn pieces(alloc: Global, items: Vec<Item>) -> Result<Option<Vec<Piece>>, NoMemory>
-    ensures { IfOk result (λ r. option_map (λ v. map piece_of v.items) r ≡ pieces (seens items.items)) }
+pub fn parts(alloc: Global, items: Vec<Item>) -> Result<Option<Vec<Part>>, NoMemory>
+    ensures { IfOk result (λ r. option_map (λ v. map part_view v.items) r ≡ parts (seens items.items)) }
 {
-    let mut pieces = Some(Vec::new(alloc));
+    let mut parts = Some(Vec::new(alloc));
     for item in items {
-        let piece = piece_of(one_operand(item.gives));
-        pieces = with_last(pieces, piece)?;
+        parts = with_last(parts, part_in(item.gives))?;
     }
-    Ok(pieces)
+    Ok(parts)
 }
 
 /// All results of a call that has more than one.
@@ -273,6 +309,7 @@ fn results_in(gives: Option<Gives>) -> Option<Values>
                 None
             }
         }
+        Some(Gives::Asking(_)) => Some(Values::ReadInt),
         _ => None,
     }
 }
@@ -302,7 +339,7 @@ fn results(items: Vec<Item>) -> Option<Values>
 }
 
 /// Whether there are as many values as places, of the types that these ask for.
-fn fits(places: &[Option<ValueType>], items: &[Item]) -> bool
+pub fn fits(places: &[Option<ValueType>], items: &[Item]) -> bool
     ensures { result ≡ fits places.now (seens items.now) }
 {
     match many_types(items) {

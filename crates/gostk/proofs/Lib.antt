@@ -1,7 +1,7 @@
 pub mod Early
 pub mod Endings
+pub mod Items
 pub mod Lines
 pub mod Numbers
 pub mod Runs
-pub mod Started
 pub mod Table

@@ -9,13 +9,15 @@ use Rattle.outside.specs.Took.{Took}
 use Rattle.simulation.specs.Outcome.{Outcome, ending_in}
 use Rattle.typed.specs.Syntax.{Program}
 use Rattle.meaning.specs.Trace as source
+use Rattle.meaning.specs.Meaning.{Item}
 use Rattle.meaning.specs.Output.{Sight, output}
 use Rattle.compile.specs.Accepted.{Accepted}
 use Rattle.base.specs.declared.pos.Pos.{Pos}
 use Rattle.gostk.specs.Answer.{status_of, line_of, reason_text, fault_text, panic_line, steps_line, stack_line}
-use Rattle.gostk.specs.Programs.{EndsBy, PanicsWith, PanicsBy, GoesOn, Reading, few_turns, all_turns}
+use Rattle.gostk.specs.Programs.{EndsBy, PanicsWith, PanicsBy, GoesOn, Begins, CameInOrder, Reading, few_turns, all_turns}
 use Rattle.gostk.specs.Words.{bounds_of, is_source, path_of, Asks, IsOffLimits, IsNoSource}
-use Rattle.gostk.specs.Rows.{Seen, Reads, IsNoText, IsRunOf, GainedRead, Allowed, Reported, FinishedOrPanicked, WriteFailed, StepsPassed, IsWrong, IsMissing, IsUnaccepted, Comes, IsCalm, Completes, Does}
+use Rattle.gostk.specs.Rows.{Seen, Reads, IsNoText, IsRunOf, GainedRead, Allowed, Reported, FinishedOrPanicked, WriteFailed, StepsPassed, TextRefused, MemoryRefused, IsWrong, IsMissing, IsUnaccepted, Comes, IsCalm, Completes, Does}
+use Rattle.gostk.proofs.Items.{none_came}
 use Rattle.gostk.specs.declared.answer.Answer.{Answer}
 use Rattle.gostk.specs.declared.answer.Answer.TheVariants.{Ended, Panicked, Usage, Limits, SourceOnly, Refused, ReadFault, WriteFault, Steps, StackLimit, NoMemory}
 
@@ -53,20 +55,20 @@ no_growth : (calls : List Call) (call : Call) → calls ≡ calls ++ call ∷ []
 no_growth calls call e = omega (arith, ap length e, length-append calls (call ∷ []))
 
 -- what ends in the sixteenth of the turns ends so in all of them
-early_end : (p : Program) (b : Bounds) (x y : source.Ending) (old new : Option (List ℕ)) (r : Reading) → EndsBy p b x old new → ending_in (few_turns p b r) ≡ Some y
-    → (x ≡ y) × Took old new (output (few_turns p b r))
-early_end p b x y old new r ends e =
+early_end : (p : Program) (b : Bounds) (answers : List Item) (x y : source.Ending) (old new : Option (List ℕ)) (r : Reading) → EndsBy p b answers x old new → Begins answers r
+    → ending_in (few_turns p b r) ≡ Some y → (x ≡ y) × Took old new (output (few_turns p b r))
+early_end p b answers x y old new r ends starts e =
     let same = ends.early r y e in
-    let is : Some x ≡ Some y = sym (ends.ends r) ∙ (ap ending_in (sym same) ∙ e) in
-    (cc, subst (λ (o : Outcome Sight source.Ending). Took old new (output o)) (sym same) (ends.took r))
+    let is : Some x ≡ Some y = sym (ends.ends r starts) ∙ (ap ending_in (sym same) ∙ e) in
+    (cc, subst (λ (o : Outcome Sight source.Ending). Took old new (output o)) (sym same) (ends.took r starts))
 
 -- what panics, and ends in the sixteenth of the turns, panics so in these
-early_panic : (p : Program) (b : Bounds) (text : List ℕ) (y : source.Ending) (old new : Option (List ℕ)) (r : Reading) → PanicsBy p b text old new → ending_in (few_turns p b r) ≡ Some y
-    → PanicsWith text (Some y) × Took old new (output (few_turns p b r))
-early_panic p b text y old new r ends e =
+early_panic : (p : Program) (b : Bounds) (answers : List Item) (text : List ℕ) (y : source.Ending) (old new : Option (List ℕ)) (r : Reading) → PanicsBy p b answers text old new → Begins answers r
+    → ending_in (few_turns p b r) ≡ Some y → PanicsWith text (Some y) × Took old new (output (few_turns p b r))
+early_panic p b answers text y old new r ends starts e =
     let same = ends.early r y e in
     let is : ending_in (all_turns p b r) ≡ Some y = ap ending_in (sym same) ∙ e in
-    (subst (λ (o : Option source.Ending). PanicsWith text o) is (ends.ends r), subst (λ (o : Outcome Sight source.Ending). Took old new (output o)) (sym same) (ends.took r))
+    (subst (λ (o : Option source.Ending). PanicsWith text o) is (ends.ends r starts), subst (λ (o : Outcome Sight source.Ending). Took old new (output o)) (sym same) (ends.took r starts))
 
 no_panic : (text : List ℕ) (x : source.Ending) → PanicsWith text (Some x) → ((at : Pos) (f : source.Fault) → x ≡ source.Panic at f → ⊥) → ⊥
 no_panic text x h other = other h.0 h.1 cc
@@ -77,16 +79,18 @@ same_panic text at f h =
     let is : h.1 ≡ f = cc in
     sym h.3 ∙ ap fault_text is
 
-module _ (p : Program) (b : Bounds) (old new : Seen) (status : ℕ) (err err' : Option (List ℕ)) where
+module _ (p : Program) (b : Bounds) (answers : List Item) (old new : Seen) (came : CameInOrder old.io.left answers) (status : ℕ) (err err' : Option (List ℕ)) where
   does_nothing : status ≡ 209 → Does p b old new status err err'
-  does_nothing h = record { ends = λ r n e. inr h; panics = λ r at f e. inr h; meets = λ r u a l e. inr h; stops = λ r e. inr h }
+  does_nothing h = record { answers = answers; came = came; ends = λ r starts n e. inr h; panics = λ r starts at f e. inr h; meets = λ r starts u a l e. inr h; stops = λ r starts e. inr h }
 
-  does_end : (n : ℕ) → EndsBy p b (source.Exit n) old.taken new.taken → status ≡ n → Took err err' [] → Does p b old new status err err'
+  does_end : (n : ℕ) → EndsBy p b answers (source.Exit n) old.io.taken new.io.taken → status ≡ n → Took err err' [] → Does p b old new status err err'
   does_end n ends is line = record {
-    ends = λ r m e. let h = early_end p b (source.Exit n) (source.Exit m) old.taken new.taken r ends e in inl (is ∙ same n m h.0, h.1, line);
-    panics = λ r at f e. absurd (no_fault n at f (early_end p b (source.Exit n) (source.Panic at f) old.taken new.taken r ends e).0);
-    meets = λ r u a l e. absurd (other n u a l (early_end p b (source.Exit n) (source.StackLimit u a l) old.taken new.taken r ends e).0);
-    stops = λ r e. absurd (none n (sym (ends.ends r) ∙ e));
+    answers = answers;
+    came = came;
+    ends = λ r starts m e. let h = early_end p b answers (source.Exit n) (source.Exit m) old.io.taken new.io.taken r ends starts e in inl (is ∙ same n m h.0, h.1, line);
+    panics = λ r starts at f e. absurd (no_fault n at f (early_end p b answers (source.Exit n) (source.Panic at f) old.io.taken new.io.taken r ends starts e).0);
+    meets = λ r starts u a l e. absurd (other n u a l (early_end p b answers (source.Exit n) (source.StackLimit u a l) old.io.taken new.io.taken r ends starts e).0);
+    stops = λ r starts e. absurd (none n (sym (ends.ends r starts) ∙ e));
   }
     where
       same : (n m : ℕ) → source.Exit n ≡ source.Exit m → n ≡ m
@@ -101,14 +105,16 @@ module _ (p : Program) (b : Bounds) (old new : Seen) (status : ℕ) (err err' : 
       none : (n : ℕ) → Some (source.Exit n) ≡ None → ⊥
       none n e = cc
 
-  does_panic : (text : List ℕ) → PanicsBy p b text old.taken new.taken → status ≡ 2 → Took err err' (panic_line text) → Does p b old new status err err'
+  does_panic : (text : List ℕ) → PanicsBy p b answers text old.io.taken new.io.taken → status ≡ 2 → Took err err' (panic_line text) → Does p b old new status err err'
   does_panic text ends is line = record {
-    ends = λ r m e. absurd (no_panic text (source.Exit m) (early_panic p b text (source.Exit m) old.taken new.taken r ends e).0 (λ at f same. no_exit m at f same));
-    panics = λ r at f e.
-        let h = early_panic p b text (source.Panic at f) old.taken new.taken r ends e in
+    answers = answers;
+    came = came;
+    ends = λ r starts m e. absurd (no_panic text (source.Exit m) (early_panic p b answers text (source.Exit m) old.io.taken new.io.taken r ends starts e).0 (λ at f same. no_exit m at f same));
+    panics = λ r starts at f e.
+        let h = early_panic p b answers text (source.Panic at f) old.io.taken new.io.taken r ends starts e in
         inl (is, h.1, subst (λ (t : List ℕ). Took err err' (panic_line t)) (same_panic text at f h.0) line);
-    meets = λ r u a l e. absurd (no_panic text (source.StackLimit u a l) (early_panic p b text (source.StackLimit u a l) old.taken new.taken r ends e).0 (λ at f same. no_limit u a l at f same));
-    stops = λ r e. absurd (let h = ends.ends r in none h.0 h.1 (sym h.2 ∙ e));
+    meets = λ r starts u a l e. absurd (no_panic text (source.StackLimit u a l) (early_panic p b answers text (source.StackLimit u a l) old.io.taken new.io.taken r ends starts e).0 (λ at f same. no_limit u a l at f same));
+    stops = λ r starts e. absurd (let h = ends.ends r starts in none h.0 h.1 (sym h.2 ∙ e));
   }
     where
       no_exit : (m : ℕ) (at : Pos) (f : source.Fault) → source.Exit m ≡ source.Panic at f → ⊥
@@ -120,15 +126,17 @@ module _ (p : Program) (b : Bounds) (old new : Seen) (status : ℕ) (err err' : 
       none : (at : Pos) (f : source.Fault) → Some (source.Panic at f) ≡ None → ⊥
       none at f e = cc
 
-  does_meet : (used asked limit : ℕ) → EndsBy p b (source.StackLimit used asked limit) old.taken new.taken → status ≡ 207 → Took err err' (stack_line used asked limit)
+  does_meet : (used asked limit : ℕ) → EndsBy p b answers (source.StackLimit used asked limit) old.io.taken new.io.taken → status ≡ 207 → Took err err' (stack_line used asked limit)
       → Does p b old new status err err'
   does_meet used asked limit ends is line = record {
-    ends = λ r m e. absurd (other m (early_end p b (source.StackLimit used asked limit) (source.Exit m) old.taken new.taken r ends e).0);
-    panics = λ r at f e. absurd (no_fault at f (early_end p b (source.StackLimit used asked limit) (source.Panic at f) old.taken new.taken r ends e).0);
-    meets = λ r u a l e.
-        let h = early_end p b (source.StackLimit used asked limit) (source.StackLimit u a l) old.taken new.taken r ends e in
+    answers = answers;
+    came = came;
+    ends = λ r starts m e. absurd (other m (early_end p b answers (source.StackLimit used asked limit) (source.Exit m) old.io.taken new.io.taken r ends starts e).0);
+    panics = λ r starts at f e. absurd (no_fault at f (early_end p b answers (source.StackLimit used asked limit) (source.Panic at f) old.io.taken new.io.taken r ends starts e).0);
+    meets = λ r starts u a l e.
+        let h = early_end p b answers (source.StackLimit used asked limit) (source.StackLimit u a l) old.io.taken new.io.taken r ends starts e in
         inl (is, h.1, subst (λ (t : List ℕ). Took err err' t) (same u a l h.0) line);
-    stops = λ r e. absurd (none (sym (ends.ends r) ∙ e));
+    stops = λ r starts e. absurd (none (sym (ends.ends r starts) ∙ e));
   }
     where
       same : (u a l : ℕ) → source.StackLimit used asked limit ≡ source.StackLimit u a l → stack_line used asked limit ≡ stack_line u a l
@@ -143,12 +151,14 @@ module _ (p : Program) (b : Bounds) (old new : Seen) (status : ℕ) (err err' : 
       none : Some (source.StackLimit used asked limit) ≡ None → ⊥
       none e = cc
 
-  does_stop : (n : ℕ) → GoesOn p b old.taken new.taken → n ≡ b.steps → status ≡ 205 → Took err err' (steps_line n) → Does p b old new status err err'
+  does_stop : (n : ℕ) → GoesOn p b answers old.io.taken new.io.taken → n ≡ b.steps → status ≡ 205 → Took err err' (steps_line n) → Does p b old new status err err'
   does_stop n on steps is line = record {
-    ends = λ r m e. absurd (none (source.Exit m) (sym (on.goes_on r) ∙ e));
-    panics = λ r at f e. absurd (none (source.Panic at f) (sym (on.goes_on r) ∙ e));
-    meets = λ r u a l e. absurd (none (source.StackLimit u a l) (sym (on.goes_on r) ∙ e));
-    stops = λ r e. inl (is, subst (λ (k : ℕ). Took err err' (steps_line k)) steps line);
+    answers = answers;
+    came = came;
+    ends = λ r starts m e. absurd (none (source.Exit m) (sym (on.goes_on r starts) ∙ e));
+    panics = λ r starts at f e. absurd (none (source.Panic at f) (sym (on.goes_on r starts) ∙ e));
+    meets = λ r starts u a l e. absurd (none (source.StackLimit u a l) (sym (on.goes_on r starts) ∙ e));
+    stops = λ r starts e. inl (is, subst (λ (k : ℕ). Took err err' (steps_line k)) steps line);
   }
     where
       none : (x : source.Ending) → None ≡ Some x → ⊥
@@ -156,28 +166,29 @@ module _ (p : Program) (b : Bounds) (old new : Seen) (status : ℕ) (err err' : 
 
 module _ (old new : Seen) (words : List (List ℕ)) (status : ℕ) (err err' : Option (List ℕ)) (before now : ℕ) (path text : List ℕ) (program : Program)
     (asks : Asks words path) (holds : old.content path ≡ Holds text) (accepted : Accepted text program) (calm : IsCalm old new before now) where
-  the_program : (p : Program) → IsRunOf p old new words → p ≡ program
-  the_program p run =
+  the_program : (p : Program) (answers : List Item) → IsRunOf p answers old new words → p ≡ program
+  the_program p answers run =
       let same : text ≡ run.text = here old.content words path text asks holds run.path run.text run.reads in
       run.accepted.only program (subst (λ (t : List ℕ). Accepted t program) same accepted)
 
-  of_program : (p : Program) → IsRunOf p old new words → Does p (bounds_of words) old new status err err' → Does program (bounds_of words) old new status err err'
-  of_program p run does = subst (λ (q : Program). Does q (bounds_of words) old new status err err') (the_program p run) does
+  of_program : (p : Program) (answers : List Item) → IsRunOf p answers old new words → Does p (bounds_of words) old new status err err' → Does program (bounds_of words) old new status err err'
+  of_program p answers run does = subst (λ (q : Program). Does q (bounds_of words) old new status err err') (the_program p answers run) does
 
   by_answer : (a : Answer) → Allowed old new words a → status ≡ status_of a → Took err err' (line_of a) → Does program (bounds_of words) old new status err err'
-  by_answer (Ended n) h is line = of_program h.0 h.1 (does_end h.0 (bounds_of words) old new status err err' n h.2 is line)
-  by_answer (Panicked reason) h is line = of_program h.0 h.1 (does_panic h.0 (bounds_of words) old new status err err' (reason_text reason) h.2 is line)
+  by_answer (Ended n) h is line = of_program h.0 h.1 h.2 (does_end h.0 (bounds_of words) h.1 old new h.2.came status err err' n h.3 is line)
+  by_answer (Panicked reason) h is line = of_program h.0 h.1 h.2 (does_panic h.0 (bounds_of words) h.1 old new h.2.came status err err' (reason_text reason) h.3 is line)
   by_answer (Usage t) h is line = absurd (h.0 asks.taken)
   by_answer (Limits f) h is line = absurd (off_limits words path f asks h.0)
   by_answer SourceOnly h is line = absurd (no_source words path asks h.0)
   by_answer (Refused file refusal) h is line =
       let same : text ≡ h.0 = here old.content words path text asks holds file.now h.0 h.1 in
       absurd (h.3 program (subst (λ (t : List ℕ). Accepted t program) same accepted))
-  by_answer ReadFault h is line = absurd (no_growth old.failed (ReadOf h.0.0) (sym calm.files ∙ h.0.2))
-  by_answer WriteFault h is line = absurd (calm.out h.2.rose)
-  by_answer (Steps n) h is line = of_program h.0 h.1 (does_stop h.0 (bounds_of words) old new status err err' n h.2 h.3 is line)
-  by_answer (StackLimit u a l) h is line = of_program h.0 h.1 (does_meet h.0 (bounds_of words) old new status err err' u a l h.2 is line)
-  by_answer NoMemory h is line = does_nothing program (bounds_of words) old new status err err' is
+  by_answer ReadFault (inl file) is line = absurd (no_growth old.failed (ReadOf file.gained.0) (sym calm.files ∙ file.gained.2))
+  by_answer ReadFault (inr input) is line = absurd (calm.input input.out.rose)
+  by_answer WriteFault h is line = absurd (calm.out h.3.rose)
+  by_answer (Steps n) h is line = of_program h.0 h.1 h.2 (does_stop h.0 (bounds_of words) h.1 old new h.2.came status err err' n h.3 h.4 is line)
+  by_answer (StackLimit u a l) h is line = of_program h.0 h.1 h.2 (does_meet h.0 (bounds_of words) h.1 old new h.2.came status err err' u a l h.3 is line)
+  by_answer NoMemory h is line = does_nothing program (bounds_of words) [] old new (none_came old.io.left) status err err' is
 
 -- what comes where a text is accepted and nothing fails
 pub completes : (old new : Seen) (words : List (List ℕ)) (a : Answer) (status : ℕ) (err err' : Option (List ℕ)) (before now : ℕ)
@@ -194,16 +205,17 @@ module _ (old new : Seen) (words : List (List ℕ)) (status : ℕ) (before now :
   -- words that ask for nothing
   wrong_by : (a : Answer) → Allowed old new words a → IsWrong words → (status ≡ status_of a) ⊎ ((status ≡ 204) × Rose before now) → Wanted 200
   wrong_by a h wrong (inr r) = inl (inr r)
-  wrong_by (Ended n) h wrong (inl is) = absurd (wrong h.1.path h.1.reads.asks)
-  wrong_by (Panicked reason) h wrong (inl is) = absurd (wrong h.1.path h.1.reads.asks)
+  wrong_by (Ended n) h wrong (inl is) = absurd (wrong h.2.path h.2.reads.asks)
+  wrong_by (Panicked reason) h wrong (inl is) = absurd (wrong h.2.path h.2.reads.asks)
   wrong_by (Usage t) h wrong (inl is) = inl (inl is)
   wrong_by (Limits f) h wrong (inl is) = inl (inl is)
   wrong_by SourceOnly h wrong (inl is) = inl (inl is)
   wrong_by (Refused file refusal) h wrong (inl is) = absurd (wrong file.now h.1.asks)
-  wrong_by ReadFault h wrong (inl is) = absurd (wrong h.0.0 h.0.1)
-  wrong_by WriteFault h wrong (inl is) = absurd (wrong h.1.path h.1.reads.asks)
-  wrong_by (Steps n) h wrong (inl is) = absurd (wrong h.1.path h.1.reads.asks)
-  wrong_by (StackLimit u x l) h wrong (inl is) = absurd (wrong h.1.path h.1.reads.asks)
+  wrong_by ReadFault (inl file) wrong (inl is) = absurd (wrong file.gained.0 file.gained.1)
+  wrong_by ReadFault (inr input) wrong (inl is) = absurd (wrong input.run.path input.run.reads.asks)
+  wrong_by WriteFault h wrong (inl is) = absurd (wrong h.2.path h.2.reads.asks)
+  wrong_by (Steps n) h wrong (inl is) = absurd (wrong h.2.path h.2.reads.asks)
+  wrong_by (StackLimit u x l) h wrong (inl is) = absurd (wrong h.2.path h.2.reads.asks)
   wrong_by NoMemory h wrong (inl is) = inr is
 
   -- a file that is missing
@@ -214,37 +226,38 @@ module _ (old new : Seen) (words : List (List ℕ)) (status : ℕ) (before now :
 
   missing_by : (a : Answer) → Allowed old new words a → IsMissing old.content words → (status ≡ status_of a) ⊎ ((status ≡ 204) × Rose before now) → Wanted 203
   missing_by a h m (inr r) = inl (inr r)
-  missing_by (Ended n) h m (inl is) = absurd (no_file m.0 m.1 m.2 h.1.path h.1.text h.1.reads)
-  missing_by (Panicked reason) h m (inl is) = absurd (no_file m.0 m.1 m.2 h.1.path h.1.text h.1.reads)
+  missing_by (Ended n) h m (inl is) = absurd (no_file m.0 m.1 m.2 h.2.path h.2.text h.2.reads)
+  missing_by (Panicked reason) h m (inl is) = absurd (no_file m.0 m.1 m.2 h.2.path h.2.text h.2.reads)
   missing_by (Usage t) h m (inl is) = absurd (h.0 m.1.taken)
   missing_by (Limits f) h m (inl is) = absurd (off_limits words m.0 f m.1 h.0)
   missing_by SourceOnly h m (inl is) = absurd (no_source words m.0 m.1 h.0)
   missing_by (Refused file refusal) h m (inl is) = absurd (no_file m.0 m.1 m.2 file.now h.0 h.1)
   missing_by ReadFault h m (inl is) = inl (inl is)
-  missing_by WriteFault h m (inl is) = absurd (no_file m.0 m.1 m.2 h.1.path h.1.text h.1.reads)
-  missing_by (Steps n) h m (inl is) = absurd (no_file m.0 m.1 m.2 h.1.path h.1.text h.1.reads)
-  missing_by (StackLimit u x l) h m (inl is) = absurd (no_file m.0 m.1 m.2 h.1.path h.1.text h.1.reads)
+  missing_by WriteFault h m (inl is) = absurd (no_file m.0 m.1 m.2 h.2.path h.2.text h.2.reads)
+  missing_by (Steps n) h m (inl is) = absurd (no_file m.0 m.1 m.2 h.2.path h.2.text h.2.reads)
+  missing_by (StackLimit u x l) h m (inl is) = absurd (no_file m.0 m.1 m.2 h.2.path h.2.text h.2.reads)
   missing_by NoMemory h m (inl is) = inr is
 
   -- a text that is not accepted
-  no_run : (path text : List ℕ) → Asks words path → old.content path ≡ Holds text → IsNoText text → (p : Program) → IsRunOf p old new words → ⊥
-  no_run path text asks holds none p run =
+  no_run : (path text : List ℕ) → Asks words path → old.content path ≡ Holds text → IsNoText text → (p : Program) (answers : List Item) → IsRunOf p answers old new words → ⊥
+  no_run path text asks holds none p answers run =
       let same : text ≡ run.text = here old.content words path text asks holds run.path run.text run.reads in
       none p (subst (λ (t : List ℕ). Accepted t p) (sym same) run.accepted.accepted)
 
   unaccepted_by : (a : Answer) → Allowed old new words a → IsUnaccepted old.content words → (status ≡ status_of a) ⊎ ((status ≡ 204) × Rose before now)
       → Comes 201 status before now ⊎ ((status ≡ 209) ⊎ GainedRead old.failed new.failed words)
   unaccepted_by a h u (inr r) = inl (inr r)
-  unaccepted_by (Ended n) h u (inl is) = absurd (no_run u.0 u.1 u.2 u.3 u.4 h.0 h.1)
-  unaccepted_by (Panicked reason) h u (inl is) = absurd (no_run u.0 u.1 u.2 u.3 u.4 h.0 h.1)
+  unaccepted_by (Ended n) h u (inl is) = absurd (no_run u.0 u.1 u.2 u.3 u.4 h.0 h.1 h.2)
+  unaccepted_by (Panicked reason) h u (inl is) = absurd (no_run u.0 u.1 u.2 u.3 u.4 h.0 h.1 h.2)
   unaccepted_by (Usage t) h u (inl is) = absurd (h.0 u.2.taken)
   unaccepted_by (Limits f) h u (inl is) = absurd (off_limits words u.0 f u.2 h.0)
   unaccepted_by SourceOnly h u (inl is) = absurd (no_source words u.0 u.2 h.0)
   unaccepted_by (Refused file refusal) h u (inl is) = inl (inl is)
-  unaccepted_by ReadFault h u (inl is) = inr (inr h.0)
-  unaccepted_by WriteFault h u (inl is) = absurd (no_run u.0 u.1 u.2 u.3 u.4 h.0 h.1)
-  unaccepted_by (Steps n) h u (inl is) = absurd (no_run u.0 u.1 u.2 u.3 u.4 h.0 h.1)
-  unaccepted_by (StackLimit x y z) h u (inl is) = absurd (no_run u.0 u.1 u.2 u.3 u.4 h.0 h.1)
+  unaccepted_by ReadFault (inl file) u (inl is) = inr (inr file.gained)
+  unaccepted_by ReadFault (inr input) u (inl is) = absurd (no_run u.0 u.1 u.2 u.3 u.4 input.program input.answers input.run)
+  unaccepted_by WriteFault h u (inl is) = absurd (no_run u.0 u.1 u.2 u.3 u.4 h.0 h.1 h.2)
+  unaccepted_by (Steps n) h u (inl is) = absurd (no_run u.0 u.1 u.2 u.3 u.4 h.0 h.1 h.2)
+  unaccepted_by (StackLimit x y z) h u (inl is) = absurd (no_run u.0 u.1 u.2 u.3 u.4 h.0 h.1 h.2)
   unaccepted_by NoMemory h u (inl is) = inr (inl is)
 
 how : (a : Answer) (status : ℕ) (err err' : Option (List ℕ)) (before now : ℕ) → Reported a status err err' before now → (status ≡ status_of a) ⊎ ((status ≡ 204) × Rose before now)
@@ -269,11 +282,11 @@ pub finished : (old new : Seen) (words : List (List ℕ)) (a : Answer) (status :
     → Allowed old new words a → Reported a status err err' before now → status ≤ 125 → FinishedOrPanicked status old new words err err'
 finished old new words a status err err' before now al (inr h) le = absurd (omega (arith, h.0, le))
 finished old new words (Ended n) status err err' before now al (inl h) le =
-    let out : EndsBy al.0 (bounds_of words) (source.Exit status) old.taken new.taken =
-    subst (λ (k : ℕ). EndsBy al.0 (bounds_of words) (source.Exit k) old.taken new.taken) (sym h.0) al.2 in
-    inl (record { program = al.0; run = al.1; out = out; line = h.1 })
+    let out : EndsBy al.0 (bounds_of words) al.1 (source.Exit status) old.io.taken new.io.taken =
+    subst (λ (k : ℕ). EndsBy al.0 (bounds_of words) al.1 (source.Exit k) old.io.taken new.io.taken) (sym h.0) al.3 in
+    inl (record { program = al.0; answers = al.1; run = al.2; out = out; line = h.1 })
 finished old new words (Panicked reason) status err err' before now al (inl h) le =
-    inr (h.0, record { program = al.0; text = reason_text reason; run = al.1; out = al.2; line = h.1 })
+    inr (h.0, record { program = al.0; answers = al.1; text = reason_text reason; run = al.2; out = al.3; line = h.1 })
 finished old new words (Usage t) status err err' before now al (inl h) le = absurd (omega (arith, h.0, le))
 finished old new words (Limits f) status err err' before now al (inl h) le = absurd (omega (arith, h.0, le))
 finished old new words SourceOnly status err err' before now al (inl h) le = absurd (omega (arith, h.0, le))
@@ -287,14 +300,14 @@ finished old new words NoMemory status err err' before now al (inl h) le = absur
 pub write_failed : (old new : Seen) (words : List (List ℕ)) (a : Answer) (status : ℕ) (err err' : Option (List ℕ)) (before now : ℕ)
     → Allowed old new words a → Reported a status err err' before now → status ≡ 204 → WriteFailed old new words err err' before now
 write_failed old new words a status err err' before now al (inr h) is = inr (record { answer = a; allowed = al; rose = h.1; line = h.2 })
-write_failed old new words (Ended n) status err err' before now al (inl h) is = absurd (omega (arith, h.0, is, al.3))
+write_failed old new words (Ended n) status err err' before now al (inl h) is = absurd (omega (arith, h.0, is, al.4))
 write_failed old new words (Panicked reason) status err err' before now al (inl h) is = absurd (omega (arith, h.0, is))
 write_failed old new words (Usage t) status err err' before now al (inl h) is = absurd (omega (arith, h.0, is))
 write_failed old new words (Limits f) status err err' before now al (inl h) is = absurd (omega (arith, h.0, is))
 write_failed old new words SourceOnly status err err' before now al (inl h) is = absurd (omega (arith, h.0, is))
 write_failed old new words (Refused file refusal) status err err' before now al (inl h) is = absurd (omega (arith, h.0, is))
 write_failed old new words ReadFault status err err' before now al (inl h) is = absurd (omega (arith, h.0, is))
-write_failed old new words WriteFault status err err' before now al (inl h) is = inl (record { program = al.0; run = al.1; out = al.2; line = h.1 })
+write_failed old new words WriteFault status err err' before now al (inl h) is = inl (record { program = al.0; answers = al.1; run = al.2; out = al.3; line = h.1 })
 write_failed old new words (Steps n) status err err' before now al (inl h) is = absurd (omega (arith, h.0, is))
 write_failed old new words (StackLimit u x l) status err err' before now al (inl h) is = absurd (omega (arith, h.0, is))
 write_failed old new words NoMemory status err err' before now al (inl h) is = absurd (omega (arith, h.0, is))
@@ -302,7 +315,7 @@ write_failed old new words NoMemory status err err' before now al (inl h) is = a
 pub steps_passed : (old new : Seen) (words : List (List ℕ)) (a : Answer) (status : ℕ) (err err' : Option (List ℕ)) (before now : ℕ)
     → Allowed old new words a → Reported a status err err' before now → status ≡ 205 → StepsPassed old new words err err'
 steps_passed old new words a status err err' before now al (inr h) is = absurd (omega (arith, h.0, is))
-steps_passed old new words (Ended n) status err err' before now al (inl h) is = absurd (omega (arith, h.0, is, al.3))
+steps_passed old new words (Ended n) status err err' before now al (inl h) is = absurd (omega (arith, h.0, is, al.4))
 steps_passed old new words (Panicked reason) status err err' before now al (inl h) is = absurd (omega (arith, h.0, is))
 steps_passed old new words (Usage t) status err err' before now al (inl h) is = absurd (omega (arith, h.0, is))
 steps_passed old new words (Limits f) status err err' before now al (inl h) is = absurd (omega (arith, h.0, is))
@@ -311,6 +324,37 @@ steps_passed old new words (Refused file refusal) status err err' before now al 
 steps_passed old new words ReadFault status err err' before now al (inl h) is = absurd (omega (arith, h.0, is))
 steps_passed old new words WriteFault status err err' before now al (inl h) is = absurd (omega (arith, h.0, is))
 steps_passed old new words (Steps n) status err err' before now al (inl h) is =
-    record { program = al.0; run = al.1; out = al.2; line = subst (λ (k : ℕ). Took err err' (steps_line k)) al.3 h.1 }
+    record { program = al.0; answers = al.1; run = al.2; out = al.3; line = subst (λ (k : ℕ). Took err err' (steps_line k)) al.4 h.1 }
 steps_passed old new words (StackLimit u x l) status err err' before now al (inl h) is = absurd (omega (arith, h.0, is))
 steps_passed old new words NoMemory status err err' before now al (inl h) is = absurd (omega (arith, h.0, is))
+
+pub text_refused : (old new : Seen) (words : List (List ℕ)) (a : Answer) (status : ℕ) (err err' : Option (List ℕ)) (before now : ℕ)
+    → Allowed old new words a → Reported a status err err' before now → status ≡ 201 → TextRefused old new words err err'
+text_refused old new words a status err err' before now al (inr h) is = absurd (omega (arith, h.0, is))
+text_refused old new words (Ended n) status err err' before now al (inl h) is = absurd (omega (arith, h.0, is, al.4))
+text_refused old new words (Panicked reason) status err err' before now al (inl h) is = absurd (omega (arith, h.0, is))
+text_refused old new words (Usage t) status err err' before now al (inl h) is = absurd (omega (arith, h.0, is))
+text_refused old new words (Limits f) status err err' before now al (inl h) is = absurd (omega (arith, h.0, is))
+text_refused old new words SourceOnly status err err' before now al (inl h) is = absurd (omega (arith, h.0, is))
+text_refused old new words (Refused file refusal) status err err' before now al (inl h) is =
+    record { path = file.now; text = al.0; refusal = refusal; reads = al.1; refused = al.2; unaccepted = al.3; untouched = al.4; line = h.1 }
+text_refused old new words ReadFault status err err' before now al (inl h) is = absurd (omega (arith, h.0, is))
+text_refused old new words WriteFault status err err' before now al (inl h) is = absurd (omega (arith, h.0, is))
+text_refused old new words (Steps n) status err err' before now al (inl h) is = absurd (omega (arith, h.0, is))
+text_refused old new words (StackLimit u x l) status err err' before now al (inl h) is = absurd (omega (arith, h.0, is))
+text_refused old new words NoMemory status err err' before now al (inl h) is = absurd (omega (arith, h.0, is))
+
+pub memory_refused : (old new : Seen) (words : List (List ℕ)) (a : Answer) (status : ℕ) (err err' : Option (List ℕ)) (before now : ℕ)
+    → Allowed old new words a → Reported a status err err' before now → status ≡ 209 → MemoryRefused old new words err err'
+memory_refused old new words a status err err' before now al (inr h) is = absurd (omega (arith, h.0, is))
+memory_refused old new words (Ended n) status err err' before now al (inl h) is = absurd (omega (arith, h.0, is, al.4))
+memory_refused old new words (Panicked reason) status err err' before now al (inl h) is = absurd (omega (arith, h.0, is))
+memory_refused old new words (Usage t) status err err' before now al (inl h) is = absurd (omega (arith, h.0, is))
+memory_refused old new words (Limits f) status err err' before now al (inl h) is = absurd (omega (arith, h.0, is))
+memory_refused old new words SourceOnly status err err' before now al (inl h) is = absurd (omega (arith, h.0, is))
+memory_refused old new words (Refused file refusal) status err err' before now al (inl h) is = absurd (omega (arith, h.0, is))
+memory_refused old new words ReadFault status err err' before now al (inl h) is = absurd (omega (arith, h.0, is))
+memory_refused old new words WriteFault status err err' before now al (inl h) is = absurd (omega (arith, h.0, is))
+memory_refused old new words (Steps n) status err err' before now al (inl h) is = absurd (omega (arith, h.0, is))
+memory_refused old new words (StackLimit u x l) status err err' before now al (inl h) is = absurd (omega (arith, h.0, is))
+memory_refused old new words NoMemory status err err' before now al (inl h) is = record { when = al; line = h.1 }

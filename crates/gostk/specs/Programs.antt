@@ -1,5 +1,5 @@
--- What a text is refused for, and what a run shows of an accepted one.
-use Rattle.std.specs.Prelude.{◌≡◌, ℕ, ◌/◌, List, Option, Some, None}
+-- What a text is refused for, and what a run reads and shows of an accepted one.
+use Rattle.std.specs.Prelude.{◌≡◌, ℕ, ◌/◌, ◌<◌, ◌≤◌, List, length, Option, Some, None}
 use Rattle.limits.specs.Limits.{Bounds}
 use Rattle.outside.specs.Causes.{Rose}
 use Rattle.outside.specs.Took.{Took, TookPrefix}
@@ -9,7 +9,8 @@ use Rattle.base.specs.declared.pos.Pos.{Pos}
 use Rattle.meaning.specs.Trace.{Ending, Panic, Fault}
 use Rattle.meaning.specs.Meaning.{Item}
 use Rattle.meaning.specs.Output.{Sight, source, output}
-use Rattle.codegen.specs.Correct.{Between, limits}
+use Rattle.machine.specs.Answers.{AllNumbers, ReadInOrder, HasFrom}
+use Rattle.codegen.specs.Correct.{AreNumbers, AsksFor, Between, asks_of, limits}
 use Rattle.compile.specs.Accepted.{Refuses as HasFault}
 use Rattle.compile.specs.declared.fault.CompileFault.{CompileFault}
 use Rattle.gostk.specs.Answer.{fault_text}
@@ -22,9 +23,21 @@ pub record Refuses (text : List ℕ) (refusal : Refusal) : Type 0 where
   pub cause : HasFault text fault
   pub is : refusal_of fault ≡ Some refusal
 
--- the items of the input: each run is told for all of them, since no program of this part reads
+-- the items of an input, by their number
 abbrev pub Reading : Type 0
 Reading = ℕ → Item
+
+-- these answers came in order from an input that had these bytes left; each is a number of 64 bits or none
+pub record CameInOrder (left : Option (List ℕ)) (answers : List Item) : Type 0 where
+  pub numbers : AllNumbers answers
+  pub rest : Option (List ℕ)
+  pub read : ReadInOrder left rest answers
+
+-- Items that begin with these, each a number of 64 bits or none. All that a run knows of the items of its input are the
+-- answers that came: so what is said of the run is said for whatever items begin with them.
+pub record Begins (answers : List Item) (r : Reading) : Type 0 where
+  pub numbers : AreNumbers r
+  pub has : HasFrom r 0 answers
 
 -- what the source of a program shows in as many turns as steps are allowed, under the limit of the stack
 abbrev pub all_turns : Program → Bounds → Reading → Outcome Sight Ending
@@ -34,35 +47,51 @@ all_turns p b r = source r p (limits p b.stack_max) b.steps
 abbrev pub few_turns : Program → Bounds → Reading → Outcome Sight Ending
 few_turns p b r = source r p (limits p b.stack_max) (b.steps / 16)
 
--- within the turns the source ends so, and out took exactly what it prints; where it ends in the sixteenth of them
--- already, that is the same run
-pub record EndsBy (p : Program) (b : Bounds) (e : Ending) (old new : Option (List ℕ)) : Type 0 where
-  pub ends : (r : Reading) → ending_in (all_turns p b r) ≡ Some e
-  pub took : (r : Reading) → Took old new (output (all_turns p b r))
+-- within the turns the source ends so, it asks for just the items that came, and out took exactly what it prints; where it
+-- ends in the sixteenth of them already, that is the same run
+pub record EndsBy (p : Program) (b : Bounds) (answers : List Item) (e : Ending) (old new : Option (List ℕ)) : Type 0 where
+  pub ends : (r : Reading) → Begins answers r → ending_in (all_turns p b r) ≡ Some e
+  pub took : (r : Reading) → Begins answers r → Took old new (output (all_turns p b r))
+  pub asks : (r : Reading) → Begins answers r → asks_of (all_turns p b r) ≡ length answers
   pub early : (r : Reading) (x : Ending) → ending_in (few_turns p b r) ≡ Some x → few_turns p b r ≡ all_turns p b r
 
 -- an ending by a panic with this text
 abbrev pub PanicsWith : List ℕ → Option Ending → Type 0
 PanicsWith text o = (at : Pos) × (f : Fault) × (o ≡ Some (Panic at f)) × (fault_text f ≡ text)
 
--- within the turns the source panics with this text, and out took exactly what it prints; where it ends in the sixteenth of
--- them already, that is the same run
-pub record PanicsBy (p : Program) (b : Bounds) (text : List ℕ) (old new : Option (List ℕ)) : Type 0 where
-  pub ends : (r : Reading) → PanicsWith text (ending_in (all_turns p b r))
-  pub took : (r : Reading) → Took old new (output (all_turns p b r))
+-- within the turns the source panics with this text, it asks for just the items that came, and out took exactly what it
+-- prints; where it ends in the sixteenth of them already, that is the same run
+pub record PanicsBy (p : Program) (b : Bounds) (answers : List Item) (text : List ℕ) (old new : Option (List ℕ)) : Type 0 where
+  pub ends : (r : Reading) → Begins answers r → PanicsWith text (ending_in (all_turns p b r))
+  pub took : (r : Reading) → Begins answers r → Took old new (output (all_turns p b r))
+  pub asks : (r : Reading) → Begins answers r → asks_of (all_turns p b r) ≡ length answers
   pub early : (r : Reading) (x : Ending) → ending_in (few_turns p b r) ≡ Some x → few_turns p b r ≡ all_turns p b r
 
 -- within the sixteenth of the turns the source has not ended; out took all that it prints in these, and nothing that it
--- doesn't print within all of them
-pub record GoesOn (p : Program) (b : Bounds) (old new : Option (List ℕ)) : Type 0 where
-  pub goes_on : (r : Reading) → ending_in (few_turns p b r) ≡ None
-  pub took : (r : Reading) → Between (output (few_turns p b r)) (output (all_turns p b r)) old new
+-- doesn't print within all of them; and so with the items that came and that it asks for
+pub record GoesOn (p : Program) (b : Bounds) (answers : List Item) (old new : Option (List ℕ)) : Type 0 where
+  pub goes_on : (r : Reading) → Begins answers r → ending_in (few_turns p b r) ≡ None
+  pub took : (r : Reading) → Begins answers r → Between (output (few_turns p b r)) (output (all_turns p b r)) old new
+  pub at_least : (r : Reading) → Begins answers r → asks_of (few_turns p b r) ≤ length answers
+  pub at_most : (r : Reading) → Begins answers r → length answers ≤ asks_of (all_turns p b r)
 
--- out took a front part of what the source prints within the turns
-pub record PrintedFront (p : Program) (b : Bounds) (old new : Option (List ℕ)) : Type 0 where
-  pub took : (r : Reading) → TookPrefix old new (output (all_turns p b r))
+-- out took a front part of what the source prints within the turns, and the source asks for the items that came
+pub record PrintedFront (p : Program) (b : Bounds) (answers : List Item) (old new : Option (List ℕ)) : Type 0 where
+  pub took : (r : Reading) → Begins answers r → TookPrefix old new (output (all_turns p b r))
+  pub asks : (r : Reading) → Begins answers r → length answers ≤ asks_of (all_turns p b r)
 
--- out failed, and took a front part of what the source prints within the turns
-pub record PrintedPart (p : Program) (b : Bounds) (old new : Option (List ℕ)) (before now : ℕ) : Type 0 where
-  pub took : (r : Reading) → TookPrefix old new (output (all_turns p b r))
+-- out failed, and took a front part of what the source prints within the turns; the source asks for the items that came
+pub record PrintedPart (p : Program) (b : Bounds) (answers : List Item) (old new : Option (List ℕ)) (before now : ℕ) : Type 0 where
+  pub took : (r : Reading) → Begins answers r → TookPrefix old new (output (all_turns p b r))
+  pub asks : (r : Reading) → Begins answers r → length answers ≤ asks_of (all_turns p b r)
   pub rose : Rose before now
+
+-- the input failed: within the turns the source asks for the item behind those that came, and out took exactly what it prints
+-- before that
+pub record AsksInVain (p : Program) (b : Bounds) (answers : List Item) (old new : Option (List ℕ)) (before now : ℕ) : Type 0 where
+  pub asks : (r : Reading) → Begins answers r → (text : List ℕ) × AsksFor (length answers) text (all_turns p b r) × Took old new text
+  pub rose : Rose before now
+
+-- within the turns the source asks for an item
+abbrev pub AsksOnce : Program → Bounds → List Item → Type 0
+AsksOnce p b answers = (r : Reading) → Begins answers r → 0 < asks_of (all_turns p b r)

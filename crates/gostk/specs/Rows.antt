@@ -8,13 +8,14 @@ use Rattle.outside.specs.Took.{Took, TookPrefix}
 use Rattle.simulation.specs.Outcome.{ending_in}
 use Rattle.typed.specs.Syntax.{Program}
 use Rattle.meaning.specs.Trace as source
+use Rattle.meaning.specs.Meaning.{Item}
 use Rattle.meaning.specs.Output.{output}
 use Rattle.base.specs.declared.pos.Pos.{Pos}
 use Rattle.gostk.specs.Answer.{status_of, line_of, reason_text, fault_text, panic_line, limits_line, steps_line, stack_line}
 use Rattle.machine.specs.declared.place.Panic.{Panic as MachinePanic}
 use Rattle.codegen.specs.Correct.{same_fault}
 use Rattle.compile.specs.Accepted.{Accepted}
-use Rattle.gostk.specs.Programs.{EndsBy, PanicsBy, GoesOn, PrintedFront, PrintedPart, Reading, Refuses, few_turns, all_turns}
+use Rattle.gostk.specs.Programs.{EndsBy, PanicsBy, GoesOn, PrintedFront, PrintedPart, AsksInVain, AsksOnce, Begins, CameInOrder, Reading, Refuses, few_turns, all_turns}
 use Rattle.gostk.specs.Refusal.{refusal_line}
 use Rattle.gostk.specs.Words.{bounds_of, Asks, IsUsage, IsOffLimits, IsNoSource}
 use Rattle.gostk.specs.declared.answer.Answer.{Answer}
@@ -23,15 +24,24 @@ use Rattle.gostk.specs.declared.refusal.Refusal.{Refusal}
 use Rattle.gostk.specs.declared.words.WordsFault.{WordsFault}
 use Rattle.gostk.specs.declared.words.WordsFault.TheVariants as words
 
--- what is seen of the files and of out
+-- what is seen of out, and of the input: its bytes left, and how often it failed
+pub record Streams : Type 0 where
+  pub taken : Option (List ℕ)
+  pub faults : ℕ
+  pub left : Option (List ℕ)
+  pub read_faults : ℕ
+
+abbrev pub streams : Option (List ℕ) → ℕ → Option (List ℕ) → ℕ → Streams
+streams taken faults left read_faults = record { taken = taken; faults = faults; left = left; read_faults = read_faults }
+
+-- what is seen of the files, of out and of the input
 pub record Seen : Type 0 where
   pub content : List ℕ → Content
   pub failed : List Call
-  pub taken : Option (List ℕ)
-  pub faults : ℕ
+  pub io : Streams
 
-abbrev pub seen : (List ℕ → Content) → List Call → Option (List ℕ) → ℕ → Seen
-seen content failed taken faults = record { content = content; failed = failed; taken = taken; faults = faults }
+abbrev pub seen : (List ℕ → Content) → List Call → Streams → Seen
+seen content failed io = record { content = content; failed = failed; io = io }
 
 -- the words run a file of source, which reads as this text
 pub record Reads (content : List ℕ → Content) (words : List (List ℕ)) (path text : List ℕ) : Type 0 where
@@ -47,43 +57,71 @@ pub record IsTextOf (text : List ℕ) (program : Program) : Type 0 where
 abbrev pub IsNoText : List ℕ → Type 0
 IsNoText text = (program : Program) → Accepted text program → ⊥
 
--- out took nothing, and no call on the files failed
-pub record IsUntouched (old new : Seen) : Type 0 where
+-- out took nothing, and the input is as it was
+pub record IsQuiet (old new : Streams) : Type 0 where
   pub out : Took old.taken new.taken []
+  pub input : new.left ≡ old.left
+  pub input_faults : new.read_faults ≡ old.read_faults
+
+-- out took nothing, the input is as it was, and no call on the files failed
+pub record IsUntouched (old new : Seen) : Type 0 where
+  pub io : IsQuiet old.io new.io
   pub files : new.failed ≡ old.failed
 
 -- the failed calls on the files gained just a read of the file that the words run
 abbrev pub GainedRead : List Call → List Call → List (List ℕ) → Type 0
 GainedRead old new words = (path : List ℕ) × Asks words path × (new ≡ old ++ ReadOf path ∷ [])
 
--- the words run a text that is accepted with this program, and no call on the files failed
-pub record IsRunOf (program : Program) (old new : Seen) (words : List (List ℕ)) : Type 0 where
+-- the words run a text that is accepted with this program, these answers came in order from the input, and no call on the
+-- files failed
+pub record IsRunOf (program : Program) (answers : List Item) (old new : Seen) (words : List (List ℕ)) : Type 0 where
   pub path : List ℕ
   pub text : List ℕ
   pub reads : Reads old.content words path text
   pub accepted : IsTextOf text program
+  pub came : CameInOrder old.io.left answers
   pub files : new.failed ≡ old.failed
+
+-- the file that the words run was not read: out took nothing, and the input is as it was
+pub record FileFailed (old new : Seen) (words : List (List ℕ)) : Type 0 where
+  pub gained : GainedRead old.failed new.failed words
+  pub io : IsQuiet old.io new.io
+
+-- the words run an accepted text, and the input failed where its program asks for an item; out took exactly what it prints
+-- before that
+pub record InputFailed (old new : Seen) (words : List (List ℕ)) : Type 0 where
+  pub program : Program
+  pub answers : List Item
+  pub run : IsRunOf program answers old new words
+  pub out : AsksInVain program (bounds_of words) answers old.io.taken new.io.taken old.io.read_faults new.io.read_faults
+
+-- the words run an accepted text whose program asks for an item of the input
+pub record RunsAsking (old new : Seen) (words : List (List ℕ)) : Type 0 where
+  pub program : Program
+  pub answers : List Item
+  pub run : IsRunOf program answers old new words
+  pub asks : AsksOnce program (bounds_of words) answers
 
 -- what the call leaves with each answer, its report aside
 abbrev pub Allowed : Seen → Seen → List (List ℕ) → Answer → Type 0
 Allowed old new words (Ended status) =
-    (p : Program) × IsRunOf p old new words × EndsBy p (bounds_of words) (source.Exit status) old.taken new.taken × (status ≤ 125)
+    (p : Program) × (answers : List Item) × IsRunOf p answers old new words × EndsBy p (bounds_of words) answers (source.Exit status) old.io.taken new.io.taken × (status ≤ 125)
 Allowed old new words (Panicked reason) =
-    (p : Program) × IsRunOf p old new words × PanicsBy p (bounds_of words) (reason_text reason) old.taken new.taken
+    (p : Program) × (answers : List Item) × IsRunOf p answers old new words × PanicsBy p (bounds_of words) answers (reason_text reason) old.io.taken new.io.taken
 Allowed old new words (Usage text) = IsUsage words × IsUntouched old new
 Allowed old new words (Limits fault) = IsOffLimits words fault × IsUntouched old new
 Allowed old new words SourceOnly = IsNoSource words × IsUntouched old new
 Allowed old new words (Refused file refusal) =
     (text : List ℕ) × Reads old.content words file.now text × Refuses text refusal × IsNoText text × IsUntouched old new
-Allowed old new words ReadFault = GainedRead old.failed new.failed words × Took old.taken new.taken []
+Allowed old new words ReadFault = FileFailed old new words ⊎ InputFailed old new words
 Allowed old new words WriteFault =
-    (p : Program) × IsRunOf p old new words × PrintedPart p (bounds_of words) old.taken new.taken old.faults new.faults
+    (p : Program) × (answers : List Item) × IsRunOf p answers old new words × PrintedPart p (bounds_of words) answers old.io.taken new.io.taken old.io.faults new.io.faults
 Allowed old new words (Steps n) =
-    (p : Program) × IsRunOf p old new words × GoesOn p (bounds_of words) old.taken new.taken × (n ≡ (bounds_of words).steps)
+    (p : Program) × (answers : List Item) × IsRunOf p answers old new words × GoesOn p (bounds_of words) answers old.io.taken new.io.taken × (n ≡ (bounds_of words).steps)
 Allowed old new words (StackLimit used asked limit) =
-    (p : Program) × IsRunOf p old new words × EndsBy p (bounds_of words) (source.StackLimit used asked limit) old.taken new.taken
+    (p : Program) × (answers : List Item) × IsRunOf p answers old new words × EndsBy p (bounds_of words) answers (source.StackLimit used asked limit) old.io.taken new.io.taken
 Allowed old new words NoMemory =
-    IsUntouched old new ⊎ ((p : Program) × IsRunOf p old new words × PrintedFront p (bounds_of words) old.taken new.taken)
+    IsUntouched old new ⊎ ((p : Program) × (answers : List Item) × IsRunOf p answers old new words × PrintedFront p (bounds_of words) answers old.io.taken new.io.taken)
 
 -- the status is the answer's and err took its line, or err failed and took a prefix of it
 abbrev pub Reported : Answer → ℕ → Option (List ℕ) → Option (List ℕ) → ℕ → ℕ → Type 0
@@ -95,17 +133,19 @@ Reported answer status err err' before now =
 -- prints, and err nothing
 pub record Finished (status : ℕ) (old new : Seen) (words : List (List ℕ)) (err err' : Option (List ℕ)) : Type 0 where
   pub program : Program
-  pub run : IsRunOf program old new words
-  pub out : EndsBy program (bounds_of words) (source.Exit status) old.taken new.taken
+  pub answers : List Item
+  pub run : IsRunOf program answers old new words
+  pub out : EndsBy program (bounds_of words) answers (source.Exit status) old.io.taken new.io.taken
   pub line : Took err err' []
 
 -- 2, beside an exit with that status: the text is accepted, and within the turns its program panics, for the reason that the line
 -- has; out took exactly what it prints
 pub record HasPanicked (old new : Seen) (words : List (List ℕ)) (err err' : Option (List ℕ)) : Type 0 where
   pub program : Program
+  pub answers : List Item
   pub text : List ℕ
-  pub run : IsRunOf program old new words
-  pub out : PanicsBy program (bounds_of words) text old.taken new.taken
+  pub run : IsRunOf program answers old new words
+  pub out : PanicsBy program (bounds_of words) answers text old.io.taken new.io.taken
   pub line : Took err err' (panic_line text)
 
 abbrev pub FinishedOrPanicked : (status : ℕ) → Seen → Seen → List (List ℕ) → Option (List ℕ) → Option (List ℕ) → Type 0
@@ -130,17 +170,18 @@ pub record TextRefused (old new : Seen) (words : List (List ℕ)) (err err' : Op
   pub untouched : IsUntouched old new
   pub line : Took err err' (refusal_line path refusal)
 
--- 203: the failed calls on the files gained the read of the file that the words run
+-- 203: the failed calls on the files gained the read of the file that the words run; or the input failed where the program of
+-- an accepted text asks for an item, and out took exactly what it prints before that
 pub record ReadFailed (old new : Seen) (words : List (List ℕ)) (err err' : Option (List ℕ)) : Type 0 where
-  pub gained : GainedRead old.failed new.failed words
-  pub out : Took old.taken new.taken []
+  pub cause : FileFailed old new words ⊎ InputFailed old new words
   pub line : Took err err' (codes "gostk: read fault\n")
 
 -- out failed: its count rose, and it took a front part of what the program of an accepted text prints
 pub record OutFailed (old new : Seen) (words : List (List ℕ)) (err err' : Option (List ℕ)) : Type 0 where
   pub program : Program
-  pub run : IsRunOf program old new words
-  pub out : PrintedPart program (bounds_of words) old.taken new.taken old.faults new.faults
+  pub answers : List Item
+  pub run : IsRunOf program answers old new words
+  pub out : PrintedPart program (bounds_of words) answers old.io.taken new.io.taken old.io.faults new.io.faults
   pub line : Took err err' (codes "gostk: write fault\n")
 
 -- err failed: its count rose, and it took a prefix of the line of an answer that is allowed here
@@ -158,24 +199,26 @@ WriteFailed old new words err err' before now = OutFailed old new words err err'
 -- or more, but nothing that it doesn't print within all of them
 pub record StepsPassed (old new : Seen) (words : List (List ℕ)) (err err' : Option (List ℕ)) : Type 0 where
   pub program : Program
-  pub run : IsRunOf program old new words
-  pub out : GoesOn program (bounds_of words) old.taken new.taken
+  pub answers : List Item
+  pub run : IsRunOf program answers old new words
+  pub out : GoesOn program (bounds_of words) answers old.io.taken new.io.taken
   pub line : Took err err' (steps_line (bounds_of words).steps)
 
 -- 207: the program of an accepted text ends at the limit of the stack, counted by its source; the line has the words in
 -- use, those asked for, and the limit, and out took exactly what it prints up to there
 pub record StackPassed (old new : Seen) (words : List (List ℕ)) (err err' : Option (List ℕ)) : Type 0 where
   pub program : Program
+  pub answers : List Item
   pub used : ℕ
   pub asked : ℕ
   pub limit : ℕ
-  pub run : IsRunOf program old new words
-  pub out : EndsBy program (bounds_of words) (source.StackLimit used asked limit) old.taken new.taken
+  pub run : IsRunOf program answers old new words
+  pub out : EndsBy program (bounds_of words) answers (source.StackLimit used asked limit) old.io.taken new.io.taken
   pub line : Took err err' (stack_line used asked limit)
 
 -- 209: nothing was written but the line; or the text is accepted, and out took a front part of what its program prints
 pub record MemoryRefused (old new : Seen) (words : List (List ℕ)) (err err' : Option (List ℕ)) : Type 0 where
-  pub when : IsUntouched old new ⊎ ((p : Program) × IsRunOf p old new words × PrintedFront p (bounds_of words) old.taken new.taken)
+  pub when : IsUntouched old new ⊎ ((p : Program) × (answers : List Item) × IsRunOf p answers old new words × PrintedFront p (bounds_of words) answers old.io.taken new.io.taken)
   pub line : Took err err' (codes "gostk: no memory\n")
 
 -- the status is this one, or err failed
@@ -194,63 +237,79 @@ IsMissing content words = (path : List ℕ) × Asks words path × (content path 
 abbrev pub IsUnaccepted : (List ℕ → Content) → List (List ℕ) → Type 0
 IsUnaccepted content words = (path : List ℕ) × (text : List ℕ) × Asks words path × (content path ≡ Holds text) × IsNoText text
 
--- nothing of the files, out and err failed
+-- nothing of the files, the input, out and err failed
 pub record IsCalm (old new : Seen) (before now : ℕ) : Type 0 where
   pub files : new.failed ≡ old.failed
-  pub out : Rose old.faults new.faults → ⊥
+  pub input : Rose old.io.read_faults new.io.read_faults → ⊥
+  pub out : Rose old.io.faults new.io.faults → ⊥
   pub err : Rose before now → ⊥
 
 -- the program ends in a sixteenth of the turns, so it does here: with its status, with all that it prints and no line
-abbrev pub EndsHere : Program → Bounds → Seen → Seen → ℕ → Option (List ℕ) → Option (List ℕ) → Type 0
-EndsHere p b old new status err err' =
-    (r : Reading) (n : ℕ) → ending_in (few_turns p b r) ≡ Some (source.Exit n)
-    → ((status ≡ n) × Took old.taken new.taken (output (few_turns p b r)) × Took err err' []) ⊎ (status ≡ 209)
+abbrev pub EndsHere : Program → Bounds → List Item → Seen → Seen → ℕ → Option (List ℕ) → Option (List ℕ) → Type 0
+EndsHere p b answers old new status err err' =
+    (r : Reading) → Begins answers r → (n : ℕ) → ending_in (few_turns p b r) ≡ Some (source.Exit n)
+    → ((status ≡ n) × Took old.io.taken new.io.taken (output (few_turns p b r)) × Took err err' []) ⊎ (status ≡ 209)
 
 -- the program panics in a sixteenth of the turns, so it does here
-abbrev pub PanicsHere : Program → Bounds → Seen → Seen → ℕ → Option (List ℕ) → Option (List ℕ) → Type 0
-PanicsHere p b old new status err err' =
-    (r : Reading) (at : Pos) (f : source.Fault) → ending_in (few_turns p b r) ≡ Some (source.Panic at f)
-    → ((status ≡ 2) × Took old.taken new.taken (output (few_turns p b r)) × Took err err' (panic_line (fault_text f))) ⊎ (status ≡ 209)
+abbrev pub PanicsHere : Program → Bounds → List Item → Seen → Seen → ℕ → Option (List ℕ) → Option (List ℕ) → Type 0
+PanicsHere p b answers old new status err err' =
+    (r : Reading) → Begins answers r → (at : Pos) (f : source.Fault) → ending_in (few_turns p b r) ≡ Some (source.Panic at f)
+    → ((status ≡ 2) × Took old.io.taken new.io.taken (output (few_turns p b r)) × Took err err' (panic_line (fault_text f))) ⊎ (status ≡ 209)
 
 -- the program meets the limit of the stack in a sixteenth of the turns, so it does here
-abbrev pub MeetsLimit : Program → Bounds → Seen → Seen → ℕ → Option (List ℕ) → Option (List ℕ) → Type 0
-MeetsLimit p b old new status err err' =
-    (r : Reading) (used asked limit : ℕ) → ending_in (few_turns p b r) ≡ Some (source.StackLimit used asked limit)
-    → ((status ≡ 207) × Took old.taken new.taken (output (few_turns p b r)) × Took err err' (stack_line used asked limit)) ⊎ (status ≡ 209)
+abbrev pub MeetsLimit : Program → Bounds → List Item → Seen → Seen → ℕ → Option (List ℕ) → Option (List ℕ) → Type 0
+MeetsLimit p b answers old new status err err' =
+    (r : Reading) → Begins answers r → (used asked limit : ℕ) → ending_in (few_turns p b r) ≡ Some (source.StackLimit used asked limit)
+    → ((status ≡ 207) × Took old.io.taken new.io.taken (output (few_turns p b r)) × Took err err' (stack_line used asked limit)) ⊎ (status ≡ 209)
 
 -- the program goes on beyond all turns, so it is stopped here
-abbrev pub StopsHere : Program → Bounds → ℕ → Option (List ℕ) → Option (List ℕ) → Type 0
-StopsHere p b status err err' =
-    (r : Reading) → ending_in (all_turns p b r) ≡ None
+abbrev pub StopsHere : Program → Bounds → List Item → ℕ → Option (List ℕ) → Option (List ℕ) → Type 0
+StopsHere p b answers status err err' =
+    (r : Reading) → Begins answers r → ending_in (all_turns p b r) ≡ None
     → ((status ≡ 205) × Took err err' (steps_line b.steps)) ⊎ (status ≡ 209)
 
--- what comes where a text is accepted and nothing fails
+-- what comes where a text is accepted and nothing fails, by the answers that came in order from the input
 pub record Does (p : Program) (b : Bounds) (old new : Seen) (status : ℕ) (err err' : Option (List ℕ)) : Type 0 where
-  pub ends : EndsHere p b old new status err err'
-  pub panics : PanicsHere p b old new status err err'
-  pub meets : MeetsLimit p b old new status err err'
-  pub stops : StopsHere p b status err err'
+  pub answers : List Item
+  pub came : CameInOrder old.io.left answers
+  pub ends : EndsHere p b answers old new status err err'
+  pub panics : PanicsHere p b answers old new status err err'
+  pub meets : MeetsLimit p b answers old new status err err'
+  pub stops : StopsHere p b answers status err err'
 
 abbrev pub Completes : Seen → Seen → List (List ℕ) → ℕ → Option (List ℕ) → Option (List ℕ) → ℕ → ℕ → Type 0
 Completes old new words status err err' before now =
     (path text : List ℕ) (program : Program) → Asks words path → old.content path ≡ Holds text → Accepted text program → IsCalm old new before now
     → Does program (bounds_of words) old new status err err'
 
--- what a run of the program leaves, by its answer
-abbrev pub Ran : Program → Bounds → Answer → Option (List ℕ) → Option (List ℕ) → ℕ → ℕ → Type 0
-Ran p b (Ended status) old new before now = EndsBy p b (source.Exit status) old new × (status ≤ 125)
-Ran p b (Panicked reason) old new before now = PanicsBy p b (reason_text reason) old new
-Ran p b (Steps n) old new before now = GoesOn p b old new × (n ≡ b.steps)
-Ran p b (StackLimit used asked limit) old new before now = EndsBy p b (source.StackLimit used asked limit) old new
-Ran p b WriteFault old new before now = PrintedPart p b old new before now
-Ran p b NoMemory old new before now = PrintedFront p b old new
-Ran p b answer old new before now = ⊥
+-- what a run of the program leaves, by its answer and the answers that came from the input
+abbrev pub Ran : Program → Bounds → List Item → Answer → Streams → Streams → Type 0
+Ran p b answers (Ended status) old new = EndsBy p b answers (source.Exit status) old.taken new.taken × (status ≤ 125)
+Ran p b answers (Panicked reason) old new = PanicsBy p b answers (reason_text reason) old.taken new.taken
+Ran p b answers (Steps n) old new = GoesOn p b answers old.taken new.taken × (n ≡ b.steps)
+Ran p b answers (StackLimit used asked limit) old new = EndsBy p b answers (source.StackLimit used asked limit) old.taken new.taken
+Ran p b answers ReadFault old new = AsksInVain p b answers old.taken new.taken old.read_faults new.read_faults
+Ran p b answers WriteFault old new = PrintedPart p b answers old.taken new.taken old.faults new.faults
+Ran p b answers NoMemory old new = PrintedFront p b answers old.taken new.taken
+Ran p b answers answer old new = ⊥
+
+-- the same, by the answers that came in order
+pub record RanBy (p : Program) (b : Bounds) (answer : Answer) (old new : Streams) : Type 0 where
+  pub answers : List Item
+  pub came : CameInOrder old.left answers
+  pub leaves : Ran p b answers answer old new
 
 -- what a run of a text leaves, by its answer
-abbrev pub RanText : (file text : List ℕ) → Bounds → Answer → Option (List ℕ) → Option (List ℕ) → ℕ → ℕ → Type 0
-RanText file text b (Refused name refusal) old new before now = (name.now ≡ file) × Refuses text refusal × IsNoText text × Took old new []
-RanText file text b NoMemory old new before now = Took old new [] ⊎ ((p : Program) × IsTextOf text p × PrintedFront p b old new)
-RanText file text b answer old new before now = (p : Program) × IsTextOf text p × Ran p b answer old new before now
+abbrev pub RanText : (file text : List ℕ) → Bounds → Answer → Streams → Streams → Type 0
+RanText file text b (Refused name refusal) old new = (name.now ≡ file) × Refuses text refusal × IsNoText text × IsQuiet old new
+RanText file text b NoMemory old new = IsQuiet old new ⊎ ((p : Program) × IsTextOf text p × RanBy p b NoMemory old new)
+RanText file text b answer old new = (p : Program) × IsTextOf text p × RanBy p b answer old new
+
+-- within the turns the program asks for an item of the input, whatever begins with the answers that came in order
+pub record Asking (p : Program) (b : Bounds) (left : Option (List ℕ)) : Type 0 where
+  pub answers : List Item
+  pub came : CameInOrder left answers
+  pub asks : AsksOnce p b answers
 
 -- what a panic comes to: it has the text that any panic of the source has that is the same; or memory was refused
 abbrev pub Tells : MachinePanic → List (List ℕ) → Answer → Type 0

@@ -34,7 +34,7 @@ pub enum Answer<'a> {
     SourceOnly,
     /// The text of the file is refused.
     Refused { file: &'a str, refusal: Refusal },
-    /// The file was not read.
+    /// The file was not read, or the input failed where the program asked for an item.
     ReadFault,
     /// The output was not written.
     WriteFault,

@@ -1,8 +1,9 @@
 //! The top call.
 ghost use Rattle.std.specs.Prelude.{◌≡◌, ◌⊎◌, ℕ, ◌≤◌, List, [], map, get_or, IfOk};
+ghost use Rattle.typed.specs.Syntax.{Program};
 ghost use Rattle.compile.specs.Compiled.{Does, compiled_program};
 ghost use Rattle.gostk.specs.Words.{texts_of};
-ghost use Rattle.gostk.specs.Rows.{seen, Tells, Allowed, Reported, FinishedOrPanicked, WordsRefused, TextRefused, ReadFailed, WriteFailed, StepsPassed, StackPassed, MemoryRefused, GainedRead, IsWrong, IsMissing, IsUnaccepted, Comes, Completes, Ran, RanText, words_answer};
+ghost use Rattle.gostk.specs.Rows.{seen, streams, IsTextOf, Tells, Allowed, Reported, FinishedOrPanicked, WordsRefused, TextRefused, ReadFailed, WriteFailed, StepsPassed, StackPassed, MemoryRefused, GainedRead, IsWrong, IsMissing, IsUnaccepted, Comes, Completes, RanBy, RanText, Asking, RunsAsking, words_answer};
 ghost use Rattle.gostk.specs.declared.answer.Answer.{Answer};
 
 use crate::answer::{Answer, Reason};
@@ -47,18 +48,23 @@ fn text_of(alloc: Global, number: u32, strings: &[Vec<u8>]) -> Result<Vec<u8>, N
 }
 
 // Runs a compiled text to its end or to its limits.
-fn run_compiled<O: Sink>(
+fn run_compiled<I: Source, O: Sink>(
     alloc: Global,
     compiled: &Compiled,
     limits: &Limits,
+    input: &mut I,
     out: &mut O,
 ) -> Answer<'static>
     requires { Does compiled.now }
-    ensures { Ran (compiled_program compiled.now) limits.now result (O.taken out.old) (O.taken out.new) (O.faults out.old) (O.faults out.new) }
+    ensures ran { RanBy (compiled_program compiled.now) limits.now result
+        (streams (O.taken out.old) (O.faults out.old) (I.left input.old) (I.faults input.old))
+        (streams (O.taken out.new) (O.faults out.new) (I.left input.new) (I.faults input.new)) }
+    ensures input { (input.new ≡ input.old) ⊎ Asking (compiled_program compiled.now) limits.now (I.left input.old) }
 {
     let steps = limits.steps();
+    let stack_max = limits.stack_max();
     let main = compiled.program.main;
-    match run(alloc, &compiled.code, main, limits.stack_max(), steps, out) {
+    match run(alloc, &compiled.code, main, stack_max, steps, input, out) {
         Ok(status) => Answer::Ended(status),
         Err(RunFault::Panic(panic)) => panicked(alloc, panic, compiled.code.strings()),
         Err(RunFault::Steps) => Answer::Steps(steps),
@@ -67,6 +73,7 @@ fn run_compiled<O: Sink>(
             asked,
             limit,
         },
+        Err(RunFault::ReadFault) => Answer::ReadFault,
         Err(RunFault::WriteFault) => Answer::WriteFault,
         Err(RunFault::NoMemory) => Answer::NoMemory,
     }
@@ -85,14 +92,18 @@ fn refused_words(fault: WordsFault) -> Answer<'static>
 }
 
 // Compiles and runs the text of a file.
-fn run_text<'a, O: Sink>(
+fn run_text<'a, I: Source, O: Sink>(
     alloc: Global,
     file: &'a str,
     text: &[u8],
     limits: &Limits,
+    input: &mut I,
     out: &mut O,
 ) -> Answer<'a>
-    ensures { RanText file.now text.now limits.now result (O.taken out.old) (O.taken out.new) (O.faults out.old) (O.faults out.new) }
+    ensures ran { RanText file.now text.now limits.now result
+        (streams (O.taken out.old) (O.faults out.old) (I.left input.old) (I.faults input.old))
+        (streams (O.taken out.new) (O.faults out.new) (I.left input.new) (I.faults input.new)) }
+    ensures input { (input.new ≡ input.old) ⊎ (p : Program) × IsTextOf text.now p × Asking p limits.now (I.left input.old) }
 {
     let compiled = match compile(alloc, text) {
         Ok(compiled) => compiled,
@@ -103,21 +114,25 @@ fn run_text<'a, O: Sink>(
             };
         }
     };
-    run_compiled(alloc, &compiled, limits, out)
+    run_compiled(alloc, &compiled, limits, input, out)
 }
 
 // Does what the words ask for, and answers what it came to.
-fn carry_out<'a, F: Files, O: Sink>(
+fn carry_out<'a, F: Files, I: Source, O: Sink>(
     alloc: Global,
     words: &'a [String],
     files: &mut F,
+    input: &mut I,
     out: &mut O,
 ) -> Answer<'a>
     ensures allowed { Allowed
-        (seen (F.content files.old) (F.failed files.old) (O.taken out.old) (O.faults out.old))
-        (seen (F.content files.new) (F.failed files.new) (O.taken out.new) (O.faults out.new))
+        (seen (F.content files.old) (F.failed files.old) (streams (O.taken out.old) (O.faults out.old) (I.left input.old) (I.faults input.old)))
+        (seen (F.content files.new) (F.failed files.new) (streams (O.taken out.new) (O.faults out.new) (I.left input.new) (I.faults input.new)))
         (texts_of words.now) result }
     ensures contents { (path : List ℕ) → F.content files.new path ≡ F.content files.old path }
+    ensures input { (input.new ≡ input.old) ⊎ RunsAsking
+        (seen (F.content files.old) (F.failed files.old) (streams (O.taken out.old) (O.faults out.old) (I.left input.old) (I.faults input.old)))
+        (seen (F.content files.new) (F.failed files.new) (streams (O.taken out.new) (O.faults out.new) (I.left input.new) (I.faults input.new))) (texts_of words.now) }
 {
     let Request { file, limits } = match read_words(alloc, words) {
         Ok(request) => request,
@@ -128,7 +143,7 @@ fn carry_out<'a, F: Files, O: Sink>(
         Err(FileFault::Failed) => return Answer::ReadFault,
         Err(FileFault::NoMemory) => return Answer::NoMemory,
     };
-    run_text(alloc, file, &text, &limits, out)
+    run_text(alloc, file, &text, &limits, input, out)
 }
 
 /// The program: does what the words ask for, with the files, the input and the output that are handed in, writes the
@@ -142,7 +157,7 @@ fn carry_out<'a, F: Files, O: Sink>(
 /// | 200 | the numbers of the options are no limits | `gostk: limits kind N` |
 /// | 200 | the file does not end in `.go` | `gostk: source only` |
 /// | 201 | the text is refused | `FILE:L:C: STAGE kind N`, for a frame that is too large with ` words W` behind it |
-/// | 203 | the file was not read | `gostk: read fault` |
+/// | 203 | the file was not read; or the input failed where the program asks for an item | `gostk: read fault` |
 /// | 204 | `out` or `err` failed | `gostk: write fault`; where `err` failed, a part of the line of another row |
 /// | 205 | so many instructions ran, and the program has not ended | `gostk: steps N` |
 /// | 207 | a call would have passed the limit of the stack | `gostk: stack used U asked A limit M` |
@@ -157,42 +172,42 @@ pub fn gostk<F: Files, I: Source, O: Sink, E: Sink>(
 ) -> u8
     // What came of the call is one row of the table, and is reported as such.
     ensures answered { (answer : Answer) × Allowed
-        (seen (F.content files.old) (F.failed files.old) (O.taken out.old) (O.faults out.old))
-        (seen (F.content files.new) (F.failed files.new) (O.taken out.new) (O.faults out.new)) (texts_of words.now) answer
+        (seen (F.content files.old) (F.failed files.old) (streams (O.taken out.old) (O.faults out.old) (I.left input.old) (I.faults input.old)))
+        (seen (F.content files.new) (F.failed files.new) (streams (O.taken out.new) (O.faults out.new) (I.left input.new) (I.faults input.new))) (texts_of words.now) answer
         × Reported answer result (E.taken err.old) (E.taken err.new) (E.faults err.old) (E.faults err.new) }
 
     // The rows, each by its status.
     ensures finished { result ≤ 125 → FinishedOrPanicked result
-        (seen (F.content files.old) (F.failed files.old) (O.taken out.old) (O.faults out.old))
-        (seen (F.content files.new) (F.failed files.new) (O.taken out.new) (O.faults out.new)) (texts_of words.now)
+        (seen (F.content files.old) (F.failed files.old) (streams (O.taken out.old) (O.faults out.old) (I.left input.old) (I.faults input.old)))
+        (seen (F.content files.new) (F.failed files.new) (streams (O.taken out.new) (O.faults out.new) (I.left input.new) (I.faults input.new))) (texts_of words.now)
         (E.taken err.old) (E.taken err.new) }
     ensures words_refused { result ≡ 200 → WordsRefused
-        (seen (F.content files.old) (F.failed files.old) (O.taken out.old) (O.faults out.old))
-        (seen (F.content files.new) (F.failed files.new) (O.taken out.new) (O.faults out.new)) (texts_of words.now)
+        (seen (F.content files.old) (F.failed files.old) (streams (O.taken out.old) (O.faults out.old) (I.left input.old) (I.faults input.old)))
+        (seen (F.content files.new) (F.failed files.new) (streams (O.taken out.new) (O.faults out.new) (I.left input.new) (I.faults input.new))) (texts_of words.now)
         (E.taken err.old) (E.taken err.new) }
     ensures text_refused { result ≡ 201 → TextRefused
-        (seen (F.content files.old) (F.failed files.old) (O.taken out.old) (O.faults out.old))
-        (seen (F.content files.new) (F.failed files.new) (O.taken out.new) (O.faults out.new)) (texts_of words.now)
+        (seen (F.content files.old) (F.failed files.old) (streams (O.taken out.old) (O.faults out.old) (I.left input.old) (I.faults input.old)))
+        (seen (F.content files.new) (F.failed files.new) (streams (O.taken out.new) (O.faults out.new) (I.left input.new) (I.faults input.new))) (texts_of words.now)
         (E.taken err.old) (E.taken err.new) }
     ensures read_failed { result ≡ 203 → ReadFailed
-        (seen (F.content files.old) (F.failed files.old) (O.taken out.old) (O.faults out.old))
-        (seen (F.content files.new) (F.failed files.new) (O.taken out.new) (O.faults out.new)) (texts_of words.now)
+        (seen (F.content files.old) (F.failed files.old) (streams (O.taken out.old) (O.faults out.old) (I.left input.old) (I.faults input.old)))
+        (seen (F.content files.new) (F.failed files.new) (streams (O.taken out.new) (O.faults out.new) (I.left input.new) (I.faults input.new))) (texts_of words.now)
         (E.taken err.old) (E.taken err.new) }
     ensures write_failed { result ≡ 204 → WriteFailed
-        (seen (F.content files.old) (F.failed files.old) (O.taken out.old) (O.faults out.old))
-        (seen (F.content files.new) (F.failed files.new) (O.taken out.new) (O.faults out.new)) (texts_of words.now)
+        (seen (F.content files.old) (F.failed files.old) (streams (O.taken out.old) (O.faults out.old) (I.left input.old) (I.faults input.old)))
+        (seen (F.content files.new) (F.failed files.new) (streams (O.taken out.new) (O.faults out.new) (I.left input.new) (I.faults input.new))) (texts_of words.now)
         (E.taken err.old) (E.taken err.new) (E.faults err.old) (E.faults err.new) }
     ensures steps_passed { result ≡ 205 → StepsPassed
-        (seen (F.content files.old) (F.failed files.old) (O.taken out.old) (O.faults out.old))
-        (seen (F.content files.new) (F.failed files.new) (O.taken out.new) (O.faults out.new)) (texts_of words.now)
+        (seen (F.content files.old) (F.failed files.old) (streams (O.taken out.old) (O.faults out.old) (I.left input.old) (I.faults input.old)))
+        (seen (F.content files.new) (F.failed files.new) (streams (O.taken out.new) (O.faults out.new) (I.left input.new) (I.faults input.new))) (texts_of words.now)
         (E.taken err.old) (E.taken err.new) }
     ensures stack_passed { result ≡ 207 → StackPassed
-        (seen (F.content files.old) (F.failed files.old) (O.taken out.old) (O.faults out.old))
-        (seen (F.content files.new) (F.failed files.new) (O.taken out.new) (O.faults out.new)) (texts_of words.now)
+        (seen (F.content files.old) (F.failed files.old) (streams (O.taken out.old) (O.faults out.old) (I.left input.old) (I.faults input.old)))
+        (seen (F.content files.new) (F.failed files.new) (streams (O.taken out.new) (O.faults out.new) (I.left input.new) (I.faults input.new))) (texts_of words.now)
         (E.taken err.old) (E.taken err.new) }
     ensures memory_refused { result ≡ 209 → MemoryRefused
-        (seen (F.content files.old) (F.failed files.old) (O.taken out.old) (O.faults out.old))
-        (seen (F.content files.new) (F.failed files.new) (O.taken out.new) (O.faults out.new)) (texts_of words.now)
+        (seen (F.content files.old) (F.failed files.old) (streams (O.taken out.old) (O.faults out.old) (I.left input.old) (I.faults input.old)))
+        (seen (F.content files.new) (F.failed files.new) (streams (O.taken out.new) (O.faults out.new) (I.left input.new) (I.faults input.new))) (texts_of words.now)
         (E.taken err.old) (E.taken err.new) }
 
     // Where a row has to come, unless `err` failed.
@@ -203,16 +218,18 @@ pub fn gostk<F: Files, I: Source, O: Sink, E: Sink>(
     ensures wrong_text { IsUnaccepted (F.content files.old) (texts_of words.now) →
         Comes 201 result (E.faults err.old) (E.faults err.new) ⊎ (result ≡ 209) ⊎ GainedRead (F.failed files.old) (F.failed files.new) (texts_of words.now) }
     ensures right_text { Completes
-        (seen (F.content files.old) (F.failed files.old) (O.taken out.old) (O.faults out.old))
-        (seen (F.content files.new) (F.failed files.new) (O.taken out.new) (O.faults out.new)) (texts_of words.now) result
+        (seen (F.content files.old) (F.failed files.old) (streams (O.taken out.old) (O.faults out.old) (I.left input.old) (I.faults input.old)))
+        (seen (F.content files.new) (F.failed files.new) (streams (O.taken out.new) (O.faults out.new) (I.left input.new) (I.faults input.new))) (texts_of words.now) result
         (E.taken err.old) (E.taken err.new) (E.faults err.old) (E.faults err.new) }
 
-    // What is left of the files and the input.
+    // What is left of the files and the input: it is as it was, unless the words run an accepted text whose program asks for an
+    // item of it.
     ensures contents { (path : List ℕ) → F.content files.new path ≡ F.content files.old path }
     ensures files { (F.failed files.new ≡ F.failed files.old) ⊎ GainedRead (F.failed files.old) (F.failed files.new) (texts_of words.now) }
-    ensures input { input.new ≡ input.old }
+    ensures input { (input.new ≡ input.old) ⊎ RunsAsking
+        (seen (F.content files.old) (F.failed files.old) (streams (O.taken out.old) (O.faults out.old) (I.left input.old) (I.faults input.old)))
+        (seen (F.content files.new) (F.failed files.new) (streams (O.taken out.new) (O.faults out.new) (I.left input.new) (I.faults input.new))) (texts_of words.now) }
 {
-    let _ = &*input;
-    let answer = carry_out(alloc, words, files, out);
+    let answer = carry_out(alloc, words, files, input, out);
     report(&answer, err)
 }

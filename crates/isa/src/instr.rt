@@ -77,6 +77,9 @@ pub enum Instr {
     PrintSpace,
     /// Prints a newline.
     PrintLine,
+    /// The slot a gets the number that the next item of the input spells, and the slot a + 1 gets 1; both get 0 where the
+    /// item spells none, and where the input has ended.
+    ReadInt { a: u16 },
     /// Returns to the frame above, behind the call; from the highest frame the run ends.
     Return,
     /// Ends the run with the slot's number as its status, if that is from 0 to 125; else the program panics.

@@ -1,5 +1,6 @@
 -- A run goes on by its steps.
-use Rattle.std.proofs.Common.{◌≡◌, ℕ, zero, suc, ◌+◌, ◌-◌, ◌<◌, ◌≤◌, List, [], ◌∷◌, ◌++◌, Option, Some, None, arith, refl, ap, sym, ◌∙◌, subst, length, append_assoc, append-nil}
+use Rattle.std.proofs.Common.{◌≡◌, ℕ, zero, suc, ◌+◌, ◌-◌, ◌<◌, ◌≤◌, Bool, true, false, List, [], ◌∷◌, ◌++◌, drop, Option, Some, None, arith, refl, ap, sym, ◌∙◌, subst, length, append_assoc, append-nil}
+use Rattle.std.specs.Prelude.{if◌then◌else◌, nat_lt, slice_get}
 use Rattle.std.proofs.lemmas.Option.{slice_get_within}
 use Rattle.outside.specs.Took.{Took, TookPrefix}
 use Rattle.outside.proofs.Took.{Took-trans, Took-nothing}
@@ -8,20 +9,21 @@ use Rattle.simulation.proofs.Whole.{many_none, many_more}
 use Rattle.isa.specs.Code.{Tables, IsCode}
 use Rattle.isa.specs.declared.instr.Instr.{Instr}
 use Rattle.isa.specs.declared.func.Func.{Func}
-use Rattle.machine.specs.Machine.{State, Does, Event, Printed, bytes_of, act}
+use Rattle.machine.specs.Machine.{State, Does, Event, Printed, Asked, Item, bytes_of, asks_in, act, act_on, calls, entered, address_of, zeroed, frame_of, owner_of}
 use Rattle.machine.specs.Inside.{Inside}
-use Rattle.machine.specs.Answers.{Answers, CallFits, Refused, printed_by}
+use Rattle.machine.specs.Answers.{Answers, AskedBehind, CallFits, Refused, WithAnswers, printed_by, state_of}
+use Rattle.machine.specs.declared.place.Place.{Place}
+use Rattle.machine.proofs.Reading.{joined, follows, nothing_read, goes_on_is_no_fault}
 use Rattle.machine.specs.declared.place.Ending.{Ending}
-use Rattle.machine.specs.declared.place.Ending.TheVariants.{Exit, Panic, WriteFault, NoMemory, StackLimit, WildAddress, WildReturn, WildLink}
+use Rattle.machine.specs.declared.place.Ending.TheVariants.{Exit, Panic, ReadFault, WriteFault, NoMemory, StackLimit, WildAddress, WildReturn, WildLink}
 
--- a run that has come so far
-pub record Going (t : Tables) (max steps : ℕ) (first : State) (left : ℕ) (s : State) (inside : Type 0) (old now : Option (List ℕ)) (before later : ℕ) : Type 0 where
+-- a run that has come so far, with so many items read
+pub record Going (t : Tables) (max : ℕ) (items : ℕ → Item) (steps : ℕ) (first : State) (left : ℕ) (s : State) (answered : ℕ) (old now : Option (List ℕ)) : Type 0 where
   pub done : List Event
   pub within : left ≤ steps
-  pub whole : (n k : ℕ) → k ≡ steps - left + n → many (act t max) k first ≡ behind done (many (act t max) n s)
+  pub whole : (n k : ℕ) → k ≡ steps - left + n → many (act t max items) k first ≡ behind done (many (act t max items) n s)
   pub took : Took old now (bytes_of done)
-  pub stands : inside
-  pub grown : before ≤ later
+  pub asked : asks_in done ≡ answered
 
 behind_nothing : (d : Does) → behind [] d ≡ d
 behind_nothing (Goes es s) = refl
@@ -34,93 +36,131 @@ behind_behind a b (Stops es e) = ap (λ (l : List Event). let d : Does = Stops l
 bytes_append : (a b : List Event) → bytes_of (a ++ b) ≡ bytes_of a ++ bytes_of b
 bytes_append [] b = refl
 bytes_append (Printed x ∷ a) b = ap (λ l. x ++ l) (bytes_append a b) ∙ sym (append_assoc x (bytes_of a) (bytes_of b))
+bytes_append (Asked ∷ a) b = bytes_append a b
 
-pub at_first : (t : Tables) (max steps : ℕ) (s : State) (inside : Type 0) (old : Option (List ℕ)) (faults : ℕ) → inside
-    → Going t max steps s steps s inside old old faults faults
-at_first t max steps s inside old faults i =
-    record { done = []; within = omega arith; whole = λ n k e. let same : k ≡ n = omega (arith, e) in ap (λ (m : ℕ). many (act t max) m s) same ∙ sym (behind_nothing (many (act t max) n s)); took = Took-nothing old; stands = i; grown = omega arith }
+asks_append : (a b : List Event) → asks_in (a ++ b) ≡ asks_in a + asks_in b
+asks_append [] b = omega arith
+asks_append (Printed x ∷ a) b = asks_append a b
+asks_append (Asked ∷ a) b = let more = asks_append a b in omega (arith, more)
 
-many_first : (t : Tables) (max n : ℕ) (s : State) → 0 < n → many (act t max) n s ≡ go_on (act t max s) (many (act t max) (n - 1))
-many_first t max zero s some = absurd (omega arith)
-many_first t max (suc n) s some = let same : suc n - 1 ≡ n = omega arith in rw same (many_more State Event Ending (act t max) n s)
+pub at_first : (t : Tables) (max : ℕ) (items : ℕ → Item) (steps : ℕ) (s : State) (old : Option (List ℕ)) → Going t max items steps s steps s 0 old old
+at_first t max items steps s old = record {
+  done = [];
+  within = omega arith;
+  whole = λ n k e. let same : k ≡ n = omega (arith, e) in ap (λ (m : ℕ). many (act t max items) m s) same ∙ sym (behind_nothing (many (act t max items) n s));
+  took = Took-nothing old;
+  asked = refl;
+}
 
--- what a first step prints comes first in what the run prints
-first_of : (t : Tables) (max n : ℕ) (d : Does) → (more : List Event) × (events_of (go_on d (many (act t max) n)) ≡ events_of d ++ more)
-first_of t max n (Goes es s) = by (many (act t max) n s)
+many_first : (t : Tables) (max : ℕ) (items : ℕ → Item) (n : ℕ) (s : State) → 0 < n → many (act t max items) n s ≡ go_on (act t max items s) (many (act t max items) (n - 1))
+many_first t max items zero s some = absurd (omega arith)
+many_first t max items (suc n) s some = let same : suc n - 1 ≡ n = omega arith in rw same (many_more State Event Ending (act t max items) n s)
+
+-- what a first step tells comes first in what the run tells
+first_of : (t : Tables) (max : ℕ) (items : ℕ → Item) (n : ℕ) (d : Does) → (more : List Event) × (events_of (go_on d (many (act t max items) n)) ≡ events_of d ++ more)
+first_of t max items n (Goes es s) = by (many (act t max items) n s)
   where
     by : (r : Does) → (more : List Event) × (events_of (behind es r) ≡ es ++ more)
     by (Goes fs u) = (fs, refl)
     by (Stops fs e) = (fs, refl)
-first_of t max n (Stops es e) = ([], sym (append-nil es))
+first_of t max items n (Stops es e) = ([], sym (append-nil es))
 
 events_behind : (es : List Event) (d : Does) → events_of (behind es d) ≡ es ++ events_of d
 events_behind es (Goes fs s) = refl
 events_behind es (Stops fs e) = refl
 
-module _ (t : Tables) (max steps : ℕ) (first : State) (left : ℕ) (s new : State) (here there : Type 0) (old now late : Option (List ℕ)) (before later last : ℕ) (g : Going t max steps first left s here old now before later) (some : 0 < left) where
-  whole : many (act t max) steps first ≡ behind g.done (many (act t max) left s)
+module _ (t : Tables) (max : ℕ) (items : ℕ → Item) (steps : ℕ) (first : State) (left : ℕ) (s new : State) (answered more : ℕ) (old now late : Option (List ℕ)) (g : Going t max items steps first left s answered old now) (some : 0 < left) where
+  whole : many (act t max items) steps first ≡ behind g.done (many (act t max items) left s)
   whole = let within = g.within in g.whole left steps (omega arith)
 
-  pub goes_on : (act t max s ≡ Goes (events_of (act t max s)) new) × Took now late (printed_by (act t max s)) → later ≤ last → there
-      → Going t max steps first (left - 1) new there old late before last
-  goes_on did grown i =
-      let es = events_of (act t max s) in
+  pub goes_on : (act t max items s ≡ Goes (events_of (act t max items s)) new) × Took now late (printed_by (act t max items s)) × (asks_in (events_of (act t max items s)) ≡ more)
+      → Going t max items steps first (left - 1) new (answered + more) old late
+  goes_on did =
+      let es = events_of (act t max items s) in
       let within = g.within in
-      let step : (n : ℕ) → many (act t max) (suc n) s ≡ behind es (many (act t max) n new) =
-      λ n. many_more State Event Ending (act t max) n s ∙ ap (λ (d : Does). go_on d (many (act t max) n)) did.0 in
+      let step : (n : ℕ) → many (act t max items) (suc n) s ≡ behind es (many (act t max items) n new) =
+      λ n. many_more State Event Ending (act t max items) n s ∙ ap (λ (d : Does). go_on d (many (act t max items) n)) did.0 in
       record {
         done = g.done ++ es;
         within = omega arith;
-        whole = λ n k e. g.whole (suc n) k (omega (arith, e)) ∙ ap (behind g.done) (step n) ∙ behind_behind g.done es (many (act t max) n new);
+        whole = λ n k e. g.whole (suc n) k (omega (arith, e)) ∙ ap (behind g.done) (step n) ∙ behind_behind g.done es (many (act t max items) n new);
         took = rw (bytes_append g.done es) (Took-trans old now late _ _ g.took did.1);
-        stands = i;
-        grown = let a = g.grown in omega arith;
+        asked = omega (arith, asks_append g.done es, g.asked, did.2);
       }
 
-  stopped : (e : Ending) → (act t max s ≡ Stops (events_of (act t max s)) e) × Took now late (printed_by (act t max s))
-      → (many (act t max) steps first ≡ Stops (events_of (many (act t max) steps first)) e) × Took old late (printed_by (many (act t max) steps first))
+  stopped : (e : Ending) → (act t max items s ≡ Stops (events_of (act t max items s)) e) × Took now late (printed_by (act t max items s)) × (asks_in (events_of (act t max items s)) ≡ more)
+      → (many (act t max items) steps first ≡ Stops (events_of (many (act t max items) steps first)) e) × Took old late (printed_by (many (act t max items) steps first)) × (asks_in (events_of (many (act t max items) steps first)) ≡ answered + more)
   stopped e did =
-      let es = events_of (act t max s) in
-      let step : many (act t max) left s ≡ Stops es e = many_first t max left s some ∙ ap (λ (d : Does). go_on d (many (act t max) (left - 1))) did.0 in
-      let all : many (act t max) steps first ≡ Stops (g.done ++ es) e = whole ∙ ap (behind g.done) step in
-      let told : events_of (many (act t max) steps first) ≡ g.done ++ es = ap (λ (d : Does). events_of d) all in (
+      let es = events_of (act t max items s) in
+      let step : many (act t max items) left s ≡ Stops es e = many_first t max items left s some ∙ ap (λ (d : Does). go_on d (many (act t max items) (left - 1))) did.0 in
+      let all : many (act t max items) steps first ≡ Stops (g.done ++ es) e = whole ∙ ap (behind g.done) step in
+      let told : events_of (many (act t max items) steps first) ≡ g.done ++ es = ap (λ (d : Does). events_of d) all in (
         all ∙ ap (λ (l : List Event). let d : Does = Stops l e in d) (sym told),
         rw (told, bytes_append g.done es) (Took-trans old now late _ _ g.took did.1),
+        rw told (omega (arith, asks_append g.done es, g.asked, did.2)),
       )
 
-  part_taken : TookPrefix now late (printed_by (act t max s)) → TookPrefix old late (printed_by (many (act t max) steps first))
+  -- what the run tells: what is done, what the step tells, and what comes later
+  told_in_order : (later : List Event) × (events_of (many (act t max items) steps first) ≡ g.done ++ (events_of (act t max items s) ++ later))
+  told_in_order =
+      let rest = first_of t max items (left - 1) (act t max items s) in (
+        rest.0,
+        ap (λ (d : Does). events_of d) (whole ∙ ap (behind g.done) (many_first t max items left s some)) ∙ events_behind g.done (go_on (act t max items s) (many (act t max items) (left - 1)))
+            ∙ ap (λ l. g.done ++ l) rest.1,
+      )
+
+  part_taken : TookPrefix now late (printed_by (act t max items s)) → TookPrefix old late (printed_by (many (act t max items) steps first))
   part_taken f =
-      let es = events_of (act t max s) in
+      let es = events_of (act t max items s) in
       let part = f.1 in
-      let more = first_of t max (left - 1) (act t max s) in
-      let all : events_of (many (act t max) steps first) ≡ g.done ++ (es ++ more.0) =
-      ap (λ (d : Does). events_of d) (whole ∙ ap (behind g.done) (many_first t max left s some)) ∙ events_behind g.done (go_on (act t max s) (many (act t max) (left - 1))) ∙ ap (λ l. g.done ++ l) more.1 in
-      let bytes : printed_by (many (act t max) steps first) ≡ bytes_of g.done ++ (bytes_of es ++ bytes_of more.0) =
-      ap bytes_of all ∙ bytes_append g.done (es ++ more.0) ∙ ap (λ l. bytes_of g.done ++ l) (bytes_append es more.0) in
-      let rest = f.0 ++ bytes_of more.0 in
-      let splits : (bytes_of g.done ++ part.done) ++ rest ≡ printed_by (many (act t max) steps first) =
+      let later = told_in_order.0 in
+      let bytes : printed_by (many (act t max items) steps first) ≡ bytes_of g.done ++ (bytes_of es ++ bytes_of later) =
+      ap bytes_of told_in_order.1 ∙ bytes_append g.done (es ++ later) ∙ ap (λ l. bytes_of g.done ++ l) (bytes_append es later) in
+      let rest = f.0 ++ bytes_of later in
+      let splits : (bytes_of g.done ++ part.done) ++ rest ≡ printed_by (many (act t max items) steps first) =
       append_assoc (bytes_of g.done) part.done rest
-      ∙ ap (λ l. bytes_of g.done ++ l) (sym (append_assoc part.done f.0 (bytes_of more.0)) ∙ ap (λ l. l ++ bytes_of more.0) part.splits)
+      ∙ ap (λ l. bytes_of g.done ++ l) (sym (append_assoc part.done f.0 (bytes_of later)) ∙ ap (λ l. l ++ bytes_of later) part.splits)
       ∙ sym bytes in
       (rest, record { done = bytes_of g.done ++ part.done; splits = splits; took = Took-trans old now late _ _ g.took part.took })
 
-  pub ends : (e : Ending) → Answers (act t max s) new (Some e) now late later last → Answers (many (act t max) steps first) new (Some e) old late before last
-  ends WriteFault a = (part_taken a.0, let rose = a.1 in let grown = g.grown in omega arith)
-  ends NoMemory a = part_taken a
-  ends (Exit n) a = stopped (Exit n) a
-  ends (Panic x) a = stopped (Panic x) a
-  ends (StackLimit used asked limit) a = stopped (StackLimit used asked limit) a
-  ends (WildAddress n) a = stopped (WildAddress n) a
-  ends (WildReturn n) a = stopped (WildReturn n) a
-  ends (WildLink n) a = stopped (WildLink n) a
+  part_asked : more ≤ asks_in (events_of (act t max items s)) → answered + more ≤ asks_in (events_of (many (act t max items) steps first))
+  part_asked few =
+      let es = events_of (act t max items s) in
+      let later = told_in_order.0 in
+      rw (told_in_order.1) (omega (arith, few, g.asked, asks_append g.done (es ++ later), asks_append es later))
 
-pub runs_out : (t : Tables) (max steps : ℕ) (first : State) (left : ℕ) (s : State) (here : Type 0) (old now : Option (List ℕ)) (before later : ℕ)
-    → Going t max steps first left s here old now before later → left ≤ 0 → Answers (many (act t max) steps first) s None old now before later
-runs_out t max steps first left s here old now before later g none =
+  asked_in_step : AskedBehind (act t max items s) more now late → AskedBehind (many (act t max items) steps first) (answered + more) old late
+  asked_in_step f =
+      let later = told_in_order.0 in
+      record {
+        before = g.done ++ f.before;
+        after = f.after ++ later;
+        splits = append_assoc g.done f.before (Asked ∷ (f.after ++ later))
+            ∙ ap (λ l. g.done ++ l) (sym (append_assoc f.before (Asked ∷ f.after) later) ∙ ap (λ l. l ++ later) f.splits)
+            ∙ sym told_in_order.1;
+        asked = omega (arith, asks_append g.done f.before, g.asked, f.asked);
+        took = rw (bytes_append g.done f.before) (Took-trans old now late _ _ g.took f.took);
+      }
+
+  module _ (before later last : ℕ) (grown : before ≤ later) where
+    pub ends : (e : Ending) → Answers (act t max items s) new more (Some e) now late later last → Answers (many (act t max items) steps first) new (answered + more) (Some e) old late before last
+    ends ReadFault a = asked_in_step a
+    ends WriteFault a = (part_taken a.0, let rose = a.1 in omega (arith, grown), part_asked a.2)
+    ends NoMemory a = (part_taken a.0, part_asked a.1)
+    ends (Exit n) a = stopped (Exit n) a
+    ends (Panic x) a = stopped (Panic x) a
+    ends (StackLimit used asked limit) a = stopped (StackLimit used asked limit) a
+    ends (WildAddress n) a = stopped (WildAddress n) a
+    ends (WildReturn n) a = stopped (WildReturn n) a
+    ends (WildLink n) a = stopped (WildLink n) a
+
+pub runs_out : (t : Tables) (max : ℕ) (items : ℕ → Item) (steps : ℕ) (first : State) (left : ℕ) (s : State) (answered : ℕ) (old now : Option (List ℕ)) (before later : ℕ)
+    → Going t max items steps first left s answered old now → left ≤ 0 → Answers (many (act t max items) steps first) s answered None old now before later
+runs_out t max items steps first left s answered old now before later g none =
     let within = g.within in
-    let whole : many (act t max) steps first ≡ Goes (g.done ++ []) s = g.whole 0 steps (omega arith) ∙ ap (behind g.done) (many_none State Event Ending (act t max) s) in
-    let told : events_of (many (act t max) steps first) ≡ g.done = ap (λ (d : Does). events_of d) whole ∙ append-nil g.done in
-    (whole ∙ ap (λ (l : List Event). let d : Does = Goes l s in d) (append-nil g.done ∙ sym told), rw told g.took)
+    let whole : many (act t max items) steps first ≡ Goes (g.done ++ []) s = g.whole 0 steps (omega arith) ∙ ap (behind g.done) (many_none State Event Ending (act t max items) s) in
+    let told : events_of (many (act t max items) steps first) ≡ g.done = ap (λ (d : Does). events_of d) whole ∙ append-nil g.done in
+    (whole ∙ ap (λ (l : List Event). let d : Does = Goes l s in d) (append-nil g.done ∙ sym told), rw told g.took, rw told g.asked)
 
 -- the tables that four slices show
 pub shown : (t : Tables) (instrs : List Instr) (owners : List ℕ) (funcs : List Func) (strings : List (List ℕ)) → instrs ≡ t.instrs → owners ≡ t.owners → funcs ≡ t.funcs → strings ≡ t.strings
@@ -130,34 +170,98 @@ shown t instrs owners funcs strings a b c d = rw (a, b, c, d) refl
 pub below : (t : Tables) (long pc base : ℕ) → IsCode t → Inside t long pc base → pc < length t.instrs
 below t long pc base code inside = subst (λ n. pc < n) code.same (slice_get_within t.owners pc inside.f inside.owner)
 
-pub on_by : (t r : Tables) (max steps : ℕ) (first : State) (left : ℕ) (s new : State) (here there : Type 0) (old now late : Option (List ℕ)) (before later last : ℕ) (e : Option Ending)
-    → Going t max steps first left s here old now before later → 0 < left → r ≡ t → e ≡ None → Answers (act r max s) new e now late later last → later ≤ last → there
-    → Going t max steps first (left - 1) new there old late before last
-on_by t r max steps first left s new here there old now late before later last e g some same none a grown i =
-    let b : Answers (act r max s) new None now late later last = subst (λ x. Answers (act r max s) new x now late later last) none a in
-    let d : Answers (act t max s) new None now late later last = subst (λ (x : Tables). Answers (act x max s) new None now late later last) same b in
-    goes_on t max steps first left s new here there old now late before later last g some d grown i
-
-pub ends_by : (t r : Tables) (max steps : ℕ) (first : State) (left : ℕ) (s new : State) (here : Type 0) (old now late : Option (List ℕ)) (before later last : ℕ) (e : Option Ending) (ending : Ending)
-    → Going t max steps first left s here old now before later → 0 < left → r ≡ t → e ≡ Some ending → Answers (act r max s) new e now late later last
-    → Answers (many (act t max) steps first) new e old late before last
-ends_by t r max steps first left s new here old now late before later last e ending g some same is a =
-    let b : Answers (act r max s) new (Some ending) now late later last = subst (λ x. Answers (act r max s) new x now late later last) is a in
-    let d : Answers (act t max s) new (Some ending) now late later last = subst (λ (x : Tables). Answers (act x max s) new (Some ending) now late later last) same b in
-    subst (λ x. Answers (many (act t max) steps first) new x old late before last) (sym is) (ends t max steps first left s new here here old now late before later last g some ending d)
-
 -- memory was refused to a call behind the steps that were done
-pub refused : (t r : Tables) (max steps : ℕ) (first : State) (left : ℕ) (s : State) (here : Type 0) (old now late : Option (List ℕ)) (before later : ℕ)
-    → Going t max steps first left s here old now before later → 0 < left → r ≡ t → CallFits r max s → Took now late [] → Refused t max steps first old late
-refused t r max steps first left s here old now late before later g some same call nothing =
+pub refused : (t : Tables) (max : ℕ) (items : ℕ → Item) (steps : ℕ) (first : State) (left : ℕ) (s : State) (answered : ℕ) (old now late : Option (List ℕ))
+    → Going t max items steps first left s answered old now → 0 < left → CallFits t max s.pc s.words → Took now late [] → Refused t max items steps first answered old late
+refused t max items steps first left s answered old now late g some call nothing =
     let within = g.within in
-    let so_far : many (act t max) (steps - left) first ≡ Goes (g.done ++ []) s = g.whole 0 (steps - left) (omega arith) ∙ ap (behind g.done) (many_none State Event Ending (act t max) s) in
+    let so_far : many (act t max items) (steps - left) first ≡ Goes (g.done ++ []) s =
+    g.whole 0 (steps - left) (omega arith) ∙ ap (behind g.done) (many_none State Event Ending (act t max items) s) in
     record {
       done = steps - left;
       before = omega arith;
       told = g.done ++ [];
       state = s;
       whole = so_far;
-      call = subst (λ (x : Tables). CallFits x max s) same call;
+      call = call;
+      asked = rw (append-nil g.done) g.asked;
       took = rw (bytes_append g.done []) (Took-trans old now late _ _ g.took nothing);
     }
+
+-- a call tells nothing
+call_events : (max frame : ℕ) (f : Option Func) (s : State) → events_of (calls max frame f s) ≡ []
+call_events max frame None s = refl
+call_events max frame (Some callee) s = by (nat_lt max (length s.words + callee.frame))
+  where
+    by : (b : Bool)
+        → events_of
+        (let done : Does = if b
+        then Stops [] (StackLimit (length s.words) callee.frame max)
+        else Goes [] (record { pc = callee.start; words = entered callee.frame (address_of max (length s.words - frame)) (s.pc + 1) (zeroed s.words callee.arguments callee.results); reads = s.reads }) in done)
+        ≡ []
+    by true = refl
+    by false = refl
+
+call_asks : (t : Tables) (max : ℕ) (items : ℕ → Item) (s : State) → CallFits t max s.pc s.words → asks_in (events_of (act t max items s)) ≡ 0
+call_asks t max items s call =
+    ap (λ i. asks_in (events_of (act_on t max items i s))) call.1 ∙ ap asks_in (call_events max (frame_of t (owner_of t s.pc)) (slice_get t.funcs call.0) s)
+
+-- how far a run is that began and goes on at these places of a block
+abbrev pub SoFar : Tables → ℕ → ℕ → List ℕ → Place → ℕ → List ℕ → Place → Option (List ℕ) → Option (List ℕ) → (ℕ → Item) → ℕ → ℕ → Type 0
+SoFar t max steps block0 at0 left block at old now items reads answered = Going t max items steps (state_of block0 at0 reads) left (state_of block at (reads + answered)) answered old now
+
+-- how it answers
+abbrev pub RunAnswers : Tables → ℕ → ℕ → List ℕ → Place → List ℕ → Place → Option Ending → Option (List ℕ) → Option (List ℕ) → ℕ → ℕ → (ℕ → Item) → ℕ → ℕ → Type 0
+RunAnswers t max steps block0 at0 block at e old new before now items reads answered =
+    Answers (many (act t max items) steps (state_of block0 at0 reads)) (state_of block at (reads + answered)) answered e old new before now
+    × (e ≡ Some NoMemory → Refused t max items steps (state_of block0 at0 reads) answered old new)
+
+-- how one step answers
+abbrev pub StepAnswers : Tables → ℕ → List ℕ → Place → List ℕ → Place → Option Ending → Option (List ℕ) → Option (List ℕ) → ℕ → ℕ → (ℕ → Item) → ℕ → ℕ → Type 0
+StepAnswers t max block0 at0 block at e old new before now items reads answered =
+    Answers (act t max items (state_of block0 at0 reads)) (state_of block at (reads + answered)) answered e old new before now
+
+module _ (t r : Tables) (max steps : ℕ) (block0 : List ℕ) (at0 : Place) (left : ℕ) (block : List ℕ) (at : Place) (block1 : List ℕ) (at1 : Place) (old now late : Option (List ℕ)) (before later last : ℕ) (come0 come come1 : Option (List ℕ)) (U V W : Type 0) (e : Option Ending)
+    (so_far : WithAnswers None come0 come U (SoFar t max steps block0 at0 left block at old now)) (some : 0 < left) (same : r ≡ t) (both : U → V → W) (did : WithAnswers e come come1 V (StepAnswers r max block at block1 at1 e now late later last)) where
+  pub on_by : e ≡ None → WithAnswers None come0 come1 W (SoFar t max steps block0 at0 (left - 1) block1 at1 old late)
+  on_by none =
+      let one = subst (λ (x : Tables). WithAnswers e come come1 V (StepAnswers x max block at block1 at1 e now late later last)) same did in
+      let two = subst (λ x. WithAnswers x come come1 V (StepAnswers t max block at block1 at1 x now late later last)) none one in
+      joined None come0 come come1 U V W _ _ (SoFar t max steps block0 at0 (left - 1) block1 at1 old late) so_far two both
+      (λ items reads a b g d.
+      let order : reads + (a + b) ≡ reads + a + b = omega arith in
+      rw order (goes_on t max items steps (state_of block0 at0 reads) left (state_of block at (reads + a)) (state_of block1 at1 (reads + a + b)) a b old now late g some d))
+
+  pub ends_by : (ending : Ending) → e ≡ Some ending → before ≤ later → (e ≡ Some NoMemory → CallFits r max at.pc (drop at.base block) × Took now late []) → WithAnswers e come0 come1 W (RunAnswers t max steps block0 at0 block1 at1 e old late before last)
+  ends_by ending is grown memory =
+      let one = subst (λ (x : Tables). WithAnswers e come come1 V (StepAnswers x max block at block1 at1 e now late later last)) same did in
+      joined e come0 come come1 U V W _ _ (RunAnswers t max steps block0 at0 block1 at1 e old late before last) so_far one both
+      (λ items reads a b g d.
+      let order : reads + (a + b) ≡ reads + a + b = omega arith in
+      let s = state_of block at (reads + a) in
+      let first = state_of block0 at0 reads in
+      let new = state_of block1 at1 (reads + a + b) in
+      let by_ending = subst (λ x. Answers (act t max items s) new b x now late later last) is d in
+      let answers = ends t max items steps first left s new a b old now late g some before later last grown ending by_ending in (
+        rw order (subst (λ x. Answers (many (act t max items) steps first) new (a + b) x old late before last) (sym is) answers),
+        λ refusal.
+            let fits = memory refusal in
+            let call = subst (λ (x : Tables). CallFits x max at.pc (drop at.base block)) same fits.0 in
+            let by_memory = subst (λ x. Answers (act t max items s) new b x now late later last) refusal d in
+            let none : a + b ≡ a = omega (arith, by_memory.1, call_asks t max items s call) in
+            rw none (refused t max items steps first left s a old now late g some call fits.1),
+      ))
+
+pub ran_out : (t : Tables) (max steps : ℕ) (block0 : List ℕ) (at0 : Place) (left : ℕ) (block : List ℕ) (at : Place) (old now : Option (List ℕ)) (before later : ℕ) (come0 come : Option (List ℕ)) (U : Type 0)
+    → WithAnswers None come0 come U (SoFar t max steps block0 at0 left block at old now) → left ≤ 0 → WithAnswers None come0 come U (RunAnswers t max steps block0 at0 block at None old now before later)
+ran_out t max steps block0 at0 left block at old now before later come0 come U so_far none =
+    follows None come0 come U _ (RunAnswers t max steps block0 at0 block at None old now before later) so_far
+    (λ items reads a g. (runs_out t max items steps (state_of block0 at0 reads) left (state_of block at (reads + a)) a old now before later g none, λ refusal. absurd (no_refusal refusal)))
+  where
+    no_refusal : (let e : Option Ending = None in e ≡ Some NoMemory) → ⊥
+    no_refusal e = cc
+
+pub at_start : (t : Tables) (max steps : ℕ) (block : List ℕ) (at : Place) (old come : Option (List ℕ)) (U : Type 0) → U → WithAnswers None come come U (SoFar t max steps block at steps block at old old)
+at_start t max steps block at old come U same =
+    nothing_read None come U (SoFar t max steps block at steps block at old old) goes_on_is_no_fault same
+    (λ items reads. let zero_more : reads + 0 ≡ reads = omega arith in rw zero_more (at_first t max items steps (state_of block at reads) old))

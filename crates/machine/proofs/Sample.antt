@@ -1,11 +1,11 @@
--- A code with a recursive function is one, and so is one with a string.
+-- A code with a recursive function is one, and so are one with a string and one that reads.
 use Rattle.std.proofs.Common.{◌≡◌, ℕ, zero, suc, ◌+◌, List, [], ◌∷◌, Some, refl, subst, arith}
 use Rattle.std.specs.Prelude.{slice_get, ⊤}
 use Rattle.std.proofs.lemmas.Option.{slice_get_within}
 use Rattle.isa.specs.Code.{Tables, CanCall, Fits, FitsPlace, IsLinked, IsCode}
 use Rattle.isa.specs.declared.instr.BinOp.TheVariants.{Add, Sub, Div, ShiftLeft}
 use Rattle.isa.specs.declared.instr.Instr.{Instr}
-use Rattle.isa.specs.declared.instr.Instr.TheVariants.{Const, MoveWords, Bin, Jump, JumpZero, Call, Argument, SetResults, PrintInt, PrintBool, PrintText, PrintSpace, PrintLine, Return, Exit, PanicText}
+use Rattle.isa.specs.declared.instr.Instr.TheVariants.{Const, MoveWords, Bin, Jump, JumpZero, Call, Argument, SetResults, PrintInt, PrintBool, PrintText, PrintSpace, PrintLine, ReadInt, Return, Exit, PanicText}
 use Rattle.isa.specs.declared.func.Func.{Func}
 
 some_injective : {A : Type 0} (x y : A) → Some x ≡ Some y → x ≡ y
@@ -148,3 +148,31 @@ ending_linked (suc f) fn is = absurd (let within = slice_get_within ending_funcs
 
 pub ending_is_code : (text : List ℕ) → IsCode (record { instrs = ending_instrs; owners = ending_owners; funcs = ending_funcs; strings = text ∷ [] })
 ending_is_code text = record { same = refl; fits = λ place i is. each_at ending_owners ending_funcs 1 0 ending_instrs each_ending place place i (omega arith) is; linked = ending_linked }
+
+abbrev pub reading_instrs : List Instr
+reading_instrs = ReadInt 0 ∷ (PrintInt 0 ∷ (PrintSpace ∷ (PrintBool 1 ∷ (PrintLine ∷ (Jump 0 ∷ [])))))
+
+abbrev pub reading_owners : List ℕ
+reading_owners = 0 ∷ (0 ∷ (0 ∷ (0 ∷ (0 ∷ (0 ∷ [])))))
+
+in_readings : (place : ℕ) (i : Instr) → slice_get reading_owners place ≡ Some 0 → Fits reading_owners ending_funcs 0 place 0 4 0 i → FitsPlace reading_owners ending_funcs 0 place i
+in_readings place i owner fits = record { f = 0; fn = main_func; owner = owner; is = refl; fits = fits }
+
+each_reading : Each reading_owners ending_funcs 0 0 reading_instrs
+each_reading = (
+  in_readings 0 (ReadInt 0) refl (omega arith, refl),
+  (
+    in_readings 1 (PrintInt 0) refl (omega arith, refl),
+    (
+      in_readings 2 PrintSpace refl refl,
+      (in_readings 3 (PrintBool 1) refl (omega arith, refl), (in_readings 4 PrintLine refl refl, (in_readings 5 (Jump 0) refl refl, tt))),
+    ),
+  ),
+)
+
+reading_linked : (f : ℕ) (fn : Func) → slice_get ending_funcs f ≡ Some fn → IsLinked reading_owners f fn
+reading_linked zero fn is = subst (λ g. IsLinked reading_owners 0 g) (some_injective main_func fn is) (record { frame = omega arith; start = refl })
+reading_linked (suc f) fn is = absurd (let within = slice_get_within ending_funcs (suc f) fn is in omega (arith, within))
+
+pub reading_is_code : IsCode (record { instrs = reading_instrs; owners = reading_owners; funcs = ending_funcs; strings = [] })
+reading_is_code = record { same = refl; fits = λ place i is. each_at reading_owners ending_funcs 0 0 reading_instrs each_reading place place i (omega arith) is; linked = reading_linked }

@@ -1,8 +1,8 @@
 -- Lists of words that a block and its frames are made of.
-use Rattle.std.proofs.Common.{◌≡◌, ℕ, ◌+◌, ◌-◌, ◌≤◌, List, ◌∷◌, ◌++◌, length, take, drop, replicate, get_or, ap, sym, ◌∙◌, arith, append_assoc}
+use Rattle.std.proofs.Common.{◌≡◌, ℕ, ◌+◌, ◌-◌, ◌≤◌, List, [], ◌∷◌, ◌++◌, length, take, drop, replicate, get_or, refl, ap, sym, ◌∙◌, arith, append_assoc}
 use Rattle.std.specs.Prelude.{slice_index, slice_set}
 use Rattle.std.proofs.Math.Seq.{drop-set-add, get_or-drop}
-use Rattle.std.proofs.lemmas.List.{drop-append-le, drop-take, drop-drop, drop_at, drop_more, set_at, set-append_right, length-take-le, length-replicate}
+use Rattle.std.proofs.lemmas.List.{take-append-drop, drop-append-le, drop-take, drop-drop, drop_at, drop_more, set_at, set-append_right, length-take-le, length-replicate}
 use Rattle.machine.specs.Machine.{put_words, words_at, zeroed, entered}
 
 pub slot_read : (words : List ℕ) (base a : ℕ) → slice_index (drop base words) a ≡ slice_index words (base + a)
@@ -46,6 +46,18 @@ set_two zeros rest x y link ret n m long next =
     let two = set-append_right zeros (link ∷ (y ∷ rest)) n m ret long (omega arith) in
     let at : m - n ≡ 1 = omega arith in
     ap (λ l. slice_set l m ret) one ∙ two ∙ ap (λ k. zeros ++ slice_set (link ∷ (y ∷ rest)) k ret) at
+
+-- two words of a list are replaced, one by one
+pub put_two : (words : List ℕ) (a x y : ℕ) → a + 2 ≤ length words → slice_set (slice_set words a x) (a + 1) y ≡ put_words words a (x ∷ (y ∷ []))
+put_two words a x y room =
+    let front = length-take-le a words (omega (arith, room)) in
+    let one = drop_more words a 0 (omega (arith, room)) in
+    let two = drop_more words (a + 1) 0 (omega (arith, room)) in
+    let next : a + 1 + 1 ≡ a + 2 = omega arith in
+    let apart : words ≡ take a words ++ (get_or words a 0 ∷ (get_or words (a + 1) 0 ∷ drop (a + 2) words)) =
+    sym (take-append-drop a words) ∙ ap (λ l. take a words ++ l) (one ∙ ap (λ l. get_or words a 0 ∷ l) (two ∙ ap (λ n. get_or words (a + 1) 0 ∷ drop n words) next)) in
+    ap (λ l. slice_set (slice_set l a x) (a + 1) y) apart
+    ∙ set_two (take a words) (drop (a + 2) words) _ _ x y a (a + 1) front refl
 
 -- a frame below an index, seen from its lowest word
 pub pushed : (words : List ℕ) (base frame low link ret : ℕ) → 2 ≤ frame → frame ≤ base → base ≤ length words → low ≡ base - frame

@@ -1,54 +1,100 @@
--- Steps were done, and out took what they print; or out failed in one, or memory was refused to one.
-use Rattle.std.specs.Prelude.{◌≡◌, ℕ, ◌+◌, ◌<◌, ◌≤◌, ⊤, List, [], length, drop, Option, Some, None, slice_get}
+-- Steps were done with the items that were read, and out took what they print; or a device failed in one, or memory was refused to one.
+use Rattle.std.specs.Prelude.{◌≡◌, ◌≢◌, ℕ, suc, ◌+◌, ◌<◌, ◌≤◌, ⊤, List, [], ◌∷◌, ◌++◌, length, drop, Option, Some, None, slice_get, IfSome, FitsSigned}
+use Rattle.std.specs.Int.{w64}
 use Rattle.outside.specs.Causes.{Rose}
+use Rattle.outside.specs.Items.{Reads, Loses}
 use Rattle.outside.specs.Took.{Took, TookPrefix}
 use Rattle.simulation.specs.Steps.{Goes, Stops, events_of, many}
 use Rattle.isa.specs.Code.{Tables}
 use Rattle.isa.specs.declared.instr.Instr.TheVariants.{Call}
-use Rattle.machine.specs.Machine.{State, Event, Does, act, bytes_of, frame_of}
+use Rattle.machine.specs.Machine.{State, Event, Asked, Item, Does, act, bytes_of, asks_in, frame_of}
 use Rattle.machine.specs.declared.place.Place.{Place}
 use Rattle.machine.specs.declared.place.Ending.{Ending}
-use Rattle.machine.specs.declared.place.Ending.TheVariants.{Exit, WriteFault, NoMemory}
+use Rattle.machine.specs.declared.place.Ending.TheVariants.{Exit, ReadFault, WriteFault, NoMemory}
 
--- the state whose frame begins at an index of a block of words
-abbrev pub state_of : List ℕ → Place → State
-state_of block at = record { pc = at.pc; words = drop at.base block }
+-- the state whose frame begins at an index of a block of words, where so many items were read before
+abbrev pub state_of : List ℕ → Place → ℕ → State
+state_of block at reads = record { pc = at.pc; words = drop at.base block; reads = reads }
 
 abbrev pub printed_by : Does → List ℕ
 printed_by d = bytes_of (events_of d)
 
-abbrev pub Answers : Does → State → Option Ending → Option (List ℕ) → Option (List ℕ) → ℕ → ℕ → Type 0
-Answers d s (Some WriteFault) old new before now = TookPrefix old new (printed_by d) × Rose before now
-Answers d s (Some NoMemory) old new before now = TookPrefix old new (printed_by d)
-Answers d s None old new before now = (d ≡ Goes (events_of d) s) × Took old new (printed_by d)
-Answers d s (Some e) old new before now = (d ≡ Stops (events_of d) e) × Took old new (printed_by d)
+-- behind so many answered ones an item is asked for, and out took what is printed up to there
+pub record AskedBehind (d : Does) (answered : ℕ) (old new : Option (List ℕ)) : Type 0 where
+  pub before : List Event
+  pub after : List Event
+  pub splits : before ++ (Asked ∷ after) ≡ events_of d
+  pub asked : asks_in before ≡ answered
+  pub took : Took old new (bytes_of before)
 
--- what comes of a step that prints nothing
+-- what steps come to, for which so many items were read, against an answer and the state in it, the bytes that a sink has
+-- taken, and its counts of faults
+abbrev pub Answers : Does → State → (answered : ℕ) → Option Ending → Option (List ℕ) → Option (List ℕ) → ℕ → ℕ → Type 0
+Answers d s answered (Some ReadFault) old new before now = AskedBehind d answered old new
+Answers d s answered (Some WriteFault) old new before now = TookPrefix old new (printed_by d) × Rose before now × (answered ≤ asks_in (events_of d))
+Answers d s answered (Some NoMemory) old new before now = TookPrefix old new (printed_by d) × (answered ≤ asks_in (events_of d))
+Answers d s answered None old new before now = (d ≡ Goes (events_of d) s) × Took old new (printed_by d) × (asks_in (events_of d) ≡ answered)
+Answers d s answered (Some e) old new before now = (d ≡ Stops (events_of d) e) × Took old new (printed_by d) × (asks_in (events_of d) ≡ answered)
+
+-- what comes of a step that tells nothing
 abbrev pub Comes : Does → State → Option Ending → Type 0
+Comes d s (Some ReadFault) = ⊥
 Comes d s (Some WriteFault) = ⊥
 Comes d s (Some NoMemory) = ⊤
 Comes d s None = d ≡ Goes [] s
 Comes d s (Some e) = d ≡ Stops [] e
+
+-- these answers came in order from a reader, in front of which stood the old bytes, and behind them the new ones
+abbrev pub ReadInOrder : Option (List ℕ) → Option (List ℕ) → List Item → Type 0
+ReadInOrder old new [] = new ≡ old
+ReadInOrder old new (answer ∷ answers) = (next : Option (List ℕ)) × Reads old next answer × ReadInOrder next new answers
+
+-- the same, and behind them came a read that failed, where the ending says so
+abbrev pub ReadsUpTo : Option Ending → Option (List ℕ) → Option (List ℕ) → List Item → Type 0
+ReadsUpTo (Some ReadFault) old new answers = (next : Option (List ℕ)) × ReadInOrder old next answers × Loses next new
+ReadsUpTo ending old new answers = ReadInOrder old new answers
+
+-- from a number on the items of the input are these
+abbrev pub HasFrom : (ℕ → Item) → ℕ → List Item → Type 0
+HasFrom items number [] = ⊤
+HasFrom items number (answer ∷ answers) = (items number ≡ answer) × HasFrom items (suc number) answers
+
+-- each number that came is one of 64 bits with a sign
+abbrev pub AllNumbers : List Item → Type 0
+AllNumbers [] = ⊤
+AllNumbers (answer ∷ answers) = IfSome answer (FitsSigned w64) × AllNumbers answers
+
+-- What was read, and what was done with it. All that is known of the items of the input are the answers of the reader: so
+-- for whatever items have them from the number of reads on, and for any such number, a claim holds that is also told how
+-- many answers there are. Where there are none, and no read failed, the reader and the source are as before.
+pub record WithAnswers (ending : Option Ending) (old new : Option (List ℕ)) (untouched : Type 0) (claim : (ℕ → Item) → ℕ → ℕ → Type 0) : Type 0 where
+  pub answers : List Item
+  pub numbers : AllNumbers answers
+  pub read : ReadsUpTo ending old new answers
+  pub unread : ending ≢ Some ReadFault → answers ≡ [] → untouched
+  pub does : (items : ℕ → Item) (reads : ℕ) → HasFrom items reads answers → claim items reads (length answers)
 
 -- a program that ended by itself has a status that a process can end with
 abbrev pub StatusFits : Option Ending → Type 0
 StatusFits (Some (Exit status)) = status ≤ 125
 StatusFits _ = ⊤
 
--- the next instruction is a call whose frame the limit allows
-abbrev pub CallFits : Tables → ℕ → State → Type 0
-CallFits t max s = (g : ℕ) × (slice_get t.instrs s.pc ≡ Some (Call g)) × (length s.words + frame_of t g ≤ max)
+-- at a place stands a call whose frame the limit allows below these words
+abbrev pub CallFits : Tables → ℕ → ℕ → List ℕ → Type 0
+CallFits t max pc words = (g : ℕ) × (slice_get t.instrs pc ≡ Some (Call g)) × (length words + frame_of t g ≤ max)
 
 -- it has no room below an index of the block
 abbrev pub NoRoom : Tables → Place → Type 0
 NoRoom t at = (g : ℕ) × (slice_get t.instrs at.pc ≡ Some (Call g)) × (at.base < frame_of t g)
 
--- behind so many steps stands a call that fits, to which memory was refused, and out took what they print
-pub record Refused (t : Tables) (max steps : ℕ) (first : State) (old new : Option (List ℕ)) : Type 0 where
+-- behind so many steps, for which so many items were read, stands a call that fits, to which memory was refused, and out took
+-- what they print
+pub record Refused (t : Tables) (max : ℕ) (items : ℕ → Item) (steps : ℕ) (first : State) (answered : ℕ) (old new : Option (List ℕ)) : Type 0 where
   pub done : ℕ
   pub before : done < steps
   pub told : List Event
   pub state : State
-  pub whole : many (act t max) done first ≡ Goes told state
-  pub call : CallFits t max state
+  pub whole : many (act t max items) done first ≡ Goes told state
+  pub call : CallFits t max state.pc state.words
+  pub asked : asks_in told ≡ answered
   pub took : Took old new (bytes_of told)

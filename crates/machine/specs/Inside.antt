@@ -2,7 +2,7 @@
 use Rattle.std.specs.Prelude.{◌≡◌, ℕ, ◌+◌, ◌<◌, ◌≤◌, ⊤, length, slice_get, Some}
 use Rattle.isa.specs.Code.{Tables}
 use Rattle.isa.specs.declared.instr.Instr.{Instr}
-use Rattle.isa.specs.declared.instr.Instr.TheVariants.{Const, Move, MoveWords, Bin, Un, Jump, JumpZero, Call, Argument, SetResults, PrintInt, PrintBool, PrintText, Return, Exit, PanicText, PanicInt, PanicBool}
+use Rattle.isa.specs.declared.instr.Instr.TheVariants.{Const, Move, MoveWords, Bin, Un, Jump, JumpZero, Call, Argument, SetResults, PrintInt, PrintBool, PrintText, ReadInt, Return, Exit, PanicText, PanicInt, PanicBool}
 use Rattle.isa.specs.declared.func.Func.{Func}
 
 pub record Inside (t : Tables) (long pc base : ℕ) : Type 0 where
@@ -47,6 +47,7 @@ Touches t long base (SetResults a b n) = base + (a + n) ≤ long
 Touches t long base (PrintInt a) = base + a < long
 Touches t long base (PrintBool a) = base + a < long
 Touches t long base (PrintText text) = text < length t.strings
+Touches t long base (ReadInt a) = base + (a + 2) ≤ long
 Touches t long base (Exit a) = base + a < long
 Touches t long base (PanicInt a) = base + a < long
 Touches t long base (PanicBool a) = base + a < long

@@ -1,16 +1,21 @@
 //! The machine: one step, and a run of steps.
 //!
-//! One definition says what a step does: `act` takes the tables of a code, the most words that the stack may have, and a
-//! state, the place of the next instruction and the words of the stack in use, and gives what comes of it, a line for
-//! each instruction. It goes on in a state or stops by an ending, each with the events that it tells. The contract of
-//! `step` speaks of `act`, the one of `run` of its iteration, and whoever has a theorem on the code has it on the
-//! iteration too, so the two meet there.
+//! One definition says what a step does: `act` takes the tables of a code, the most words that the stack may have, the
+//! items of the input, and a state, which is the place of the next instruction, the words of the stack in use and how
+//! many items were read. It gives what comes of it, a line for each instruction: the machine goes on in a state or stops
+//! by an ending, each with the events that it tells. The contract of `step` speaks of `act`, the one of `run` of its
+//! iteration, and whoever has a theorem on the code has it on the iteration too, so the two meet there.
 //!
 //! In the definition the stack is the list of its used words from the lowest address: the running frame comes first,
 //! and slot a is word a. A call puts a frame before them, a return takes its frame away. A place is named by its distance
 //! from the stack's upper end, and its address follows from that alone. A frame's two highest words are its links: the
 //! place behind the call, and the address behind the caller's frame. A return tests both, so words that a program wrote
 //! over are found out and not followed.
+//!
+//! The items of the input have numbers, and the definition takes them as a function of these, as though all were known
+//! before the run. In truth nobody knows an item before it was read. So a contract tells the answers that came from the
+//! reader, and says what was done for whatever items have them from the number of reads on. Where a read fails, the
+//! definition asks for an item behind just these answers, and the sink took what is printed up to there.
 //!
 //! In the program the stack stands at the upper end of a block of words, and its lowest word has an index: slot a is
 //! `block[base + a]`. What lies below the index is not used and no definition sees it. Where a call's frame has no room

@@ -1,5 +1,5 @@
 //! Calls and returns.
-ghost use Rattle.std.specs.Prelude.{◌≡◌, ◌≢◌, ◌↔◌, ◌+◌, ◌-◌, ◌<◌, ◌≤◌, ◌^◌, length, drop, map, slice_get, IsTrue, Some, None, []};
+ghost use Rattle.std.specs.Prelude.{◌≡◌, ◌≢◌, ◌↔◌, ℕ, ◌+◌, ◌-◌, ◌<◌, ◌≤◌, ◌^◌, length, drop, map, slice_get, IsTrue, Some, None, []};
 ghost use Rattle.simulation.specs.Steps.{Stops};
 ghost use Rattle.isa.specs.Code.{Tables, IsCode};
 ghost use Rattle.machine.specs.Machine.{address_of, entered, calls, exits, returns, follows_call, owner_of};
@@ -53,10 +53,11 @@ pub fn call(
     requires frame { at.base + frame ≤ length words.old.items }
     requires callee { (2 ≤ callee.frame) × (at.base + (callee.arguments + callee.results) ≤ length words.old.items) }
     requires place { at.pc < 2 ^ 40 }
-    ensures calls { Comes (calls stack_max frame (Some callee) (state_of words.old.items at)) (state_of words.new.items result.at) result.ending }
+    ensures calls { (reads : ℕ) → Comes (calls stack_max frame (Some callee) (state_of words.old.items at reads)) (state_of words.new.items result.at reads) result.ending }
     ensures entered { result.ending ≡ None → (result.at.pc ≡ callee.start) × (result.at.base + callee.frame ≤ length words.new.items) }
     ensures length { length words.new.items ≤ stack_max }
     ensures status { StatusFits result.ending }
+    ensures read { result.ending ≢ Some Ending.ReadFault }
     ensures refused { result.ending ≡ Some Ending.NoMemory → (at.base < callee.frame) × (length (drop at.base words.old.items) + callee.frame ≤ stack_max) × (words.new ≡ words.old) }
 {
     let asked = callee.frame as usize;
@@ -117,6 +118,7 @@ fn exit(ret: u64, link: u64) -> Ending
     ensures status { StatusFits (Some result) }
     ensures memory { result ≢ Ending.NoMemory }
     ensures write { result ≢ Ending.WriteFault }
+    ensures read { result ≢ Ending.ReadFault }
 {
     if ret != 0 {
         return Ending::WildReturn(ret);
@@ -151,10 +153,11 @@ pub fn leave(
     requires words { (length words.now.items ≤ stack_max) × (stack_max ≤ 2 ^ 32) }
     requires inside { Inside (record { instrs = instrs.now; owners = owners.now; funcs = funcs.now; strings = map (λ bytes. bytes.items) strings.now }) (length words.now.items) at.pc at.base }
     requires place { at.pc < length instrs.now }
-    ensures returns { let t : Tables = record { instrs = instrs.now; owners = owners.now; funcs = funcs.now; strings = map (λ bytes. bytes.items) strings.now } in Comes (returns t stack_max (owner_of t at.pc) (state_of words.now.items at)) (state_of words.now.items result.at) result.ending }
+    ensures returns { let t : Tables = record { instrs = instrs.now; owners = owners.now; funcs = funcs.now; strings = map (λ bytes. bytes.items) strings.now } in (reads : ℕ) → Comes (returns t stack_max (owner_of t at.pc) (state_of words.now.items at reads)) (state_of words.now.items result.at reads) result.ending }
     ensures stays { result.ending ≡ None → Inside (record { instrs = instrs.now; owners = owners.now; funcs = funcs.now; strings = map (λ bytes. bytes.items) strings.now }) (length words.now.items) result.at.pc result.at.base }
     ensures status { StatusFits result.ending }
     ensures memory { result.ending ≢ Some Ending.NoMemory }
+    ensures read { result.ending ≢ Some Ending.ReadFault }
 {
     let frame = own_frame(instrs, owners, funcs, strings, words, at);
     let ret = slot(words, at.base, frame - 1);

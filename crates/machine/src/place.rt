@@ -30,6 +30,8 @@ pub enum Ending {
     Exit(u32),
     /// The program panicked.
     Panic(Panic),
+    /// The source failed in a read of the input.
+    ReadFault,
     /// The sink failed.
     WriteFault,
     /// A call needed a larger block of words, and memory for it was refused.

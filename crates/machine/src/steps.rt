@@ -1,21 +1,23 @@
 //! One step.
-ghost use Rattle.outside.specs.Causes.{Rose};
+ghost use Rattle.outside.specs.Causes.{HasCause, Rose};
+ghost use Rattle.outside.specs.Items.{Reads, Loses};
+ghost use Rattle.outside.specs.Pending.{to_come};
 ghost use Rattle.outside.specs.Took.{Took, TookPrefix};
 ghost use Rattle.std.specs.Fmt.{signed_decimal};
 ghost use Rattle.std.specs.Int.{w64, cast_signed};
-ghost use Rattle.std.specs.Prelude.{◌≡◌, ◌⊎◌, ◌≢◌, [], OnOk, OnErr, IfOk, IfErr, ◌+◌, ◌-◌, ◌<◌, ◌≤◌, ◌^◌, ◌==◌, length, drop, map, if◌then◌else◌, slice_get, slice_index, slice_set, Some, None};
+ghost use Rattle.std.specs.Prelude.{◌≡◌, ◌⊎◌, ◌≢◌, ℕ, List, Option, [], OnOk, OnErr, IfOk, IfErr, ◌+◌, ◌-◌, ◌<◌, ◌≤◌, ◌^◌, ◌==◌, length, drop, map, if◌then◌else◌, slice_get, slice_index, slice_set, Some, None, IfSome, FitsSigned};
 ghost use Rattle.simulation.specs.Steps.{Stops};
 ghost use Rattle.isa.specs.Code.{Tables, IsCode};
-ghost use Rattle.machine.specs.Machine.{act, exits_with, prints, truth_bytes, panic_of, address_of, frame_of, owner_of};
+ghost use Rattle.machine.specs.Machine.{Item, act, reads_item, item_words, put_words, exits_with, prints, truth_bytes, panic_of, address_of, frame_of, owner_of};
 ghost use Rattle.machine.specs.Inside.{Inside, Callable, Touches, Leads};
-ghost use Rattle.machine.specs.Answers.{Answers, Comes, StatusFits, CallFits, NoRoom, state_of};
+ghost use Rattle.machine.specs.Answers.{Answers, Comes, StatusFits, CallFits, NoRoom, WithAnswers, state_of};
 
 use crate::functions::{callee, own_frame, string};
 use crate::links::{address, call, leave};
 use crate::slots::{copy_slots, set_slot, slot};
 use crate::{Ending, Next, Panic, Place};
 use isa::{BinFault, Func, Instr, bin, un};
-use outside::{Sink, WriteFault, put_bool, put_bytes, put_int};
+use outside::{IntReader, ReadFault, Sink, Source, WriteFault, put_bool, put_bytes, put_int};
 use std::alloc::Global;
 
 const LARGEST_STATUS: i64 = 125;
@@ -37,7 +39,7 @@ fn printed(at: Place, written: Result<(), WriteFault>) -> Next
 #[inline(always)]
 fn print<O: Sink>(_words: &Vec<u64>, at: Place, piece: &[u8], out: &mut O) -> Next
     requires { at.pc < 2 ^ 40 }
-    ensures step { Answers (prints (state_of _words.now.items at) piece.now) (state_of _words.now.items result.at) result.ending (O.taken out.old) (O.taken out.new) (O.faults out.old) (O.faults out.new) }
+    ensures step { (reads : ℕ) → Answers (prints (state_of _words.now.items at reads) piece.now) (state_of _words.now.items result.at reads) 0 result.ending (O.taken out.old) (O.taken out.new) (O.faults out.old) (O.faults out.new) }
     ensures later { O.faults out.old ≤ O.faults out.new }
     ensures on { result.ending ≡ None → result.at ≡ record { pc = at.pc + 1; base = at.base } }
     ensures status { StatusFits result.ending }
@@ -52,7 +54,7 @@ fn print<O: Sink>(_words: &Vec<u64>, at: Place, piece: &[u8], out: &mut O) -> Ne
 fn print_int<O: Sink>(words: &Vec<u64>, at: Place, a: u16, out: &mut O) -> Next
     requires slot { at.base + a < length words.now.items }
     requires place { at.pc < 2 ^ 40 }
-    ensures step { Answers (prints (state_of words.now.items at) (signed_decimal (cast_signed w64 (slice_index (drop at.base words.now.items) a)))) (state_of words.now.items result.at) result.ending (O.taken out.old) (O.taken out.new) (O.faults out.old) (O.faults out.new) }
+    ensures step { (reads : ℕ) → Answers (prints (state_of words.now.items at reads) (signed_decimal (cast_signed w64 (slice_index (drop at.base words.now.items) a)))) (state_of words.now.items result.at reads) 0 result.ending (O.taken out.old) (O.taken out.new) (O.faults out.old) (O.faults out.new) }
     ensures later { O.faults out.old ≤ O.faults out.new }
     ensures on { result.ending ≡ None → result.at ≡ record { pc = at.pc + 1; base = at.base } }
     ensures status { StatusFits result.ending }
@@ -67,7 +69,7 @@ fn print_int<O: Sink>(words: &Vec<u64>, at: Place, a: u16, out: &mut O) -> Next
 fn print_bool<O: Sink>(words: &Vec<u64>, at: Place, a: u16, out: &mut O) -> Next
     requires slot { at.base + a < length words.now.items }
     requires place { at.pc < 2 ^ 40 }
-    ensures step { Answers (prints (state_of words.now.items at) (truth_bytes (slice_index (drop at.base words.now.items) a))) (state_of words.now.items result.at) result.ending (O.taken out.old) (O.taken out.new) (O.faults out.old) (O.faults out.new) }
+    ensures step { (reads : ℕ) → Answers (prints (state_of words.now.items at reads) (truth_bytes (slice_index (drop at.base words.now.items) a))) (state_of words.now.items result.at reads) 0 result.ending (O.taken out.old) (O.taken out.new) (O.faults out.old) (O.faults out.new) }
     ensures later { O.faults out.old ≤ O.faults out.new }
     ensures on { result.ending ≡ None → result.at ≡ record { pc = at.pc + 1; base = at.base } }
     ensures status { StatusFits result.ending }
@@ -123,6 +125,7 @@ fn exit(status: i64) -> Ending
     ensures status { StatusFits (Some result) }
     ensures memory { result ≢ Ending.NoMemory }
     ensures write { result ≢ Ending.WriteFault }
+    ensures read { result ≢ Ending.ReadFault }
 {
     if (0..=LARGEST_STATUS).contains(&status) {
         return Ending::Exit(status as u32);
@@ -150,10 +153,74 @@ fn fetch(
     instrs[at.pc]
 }
 
+// What an item gives goes to the slots a and a + 1.
+#[inline(always)]
+fn set_item(words: &mut Vec<u64>, base: usize, a: usize, item: Option<i64>)
+    requires { base + (a + 2) ≤ length words.old.items }
+    ensures words { drop base words.new.items ≡ put_words (drop base words.old.items) a (item_words item) }
+    ensures length { length words.new.items ≡ length words.old.items }
+    ensures number { IfSome item (FitsSigned w64) }
+{
+    let (word, is_number) = match item {
+        Some(number) => (number.cast_unsigned(), 1),
+        None => (0, 0),
+    };
+    set_slot(words, base, a, word);
+    set_slot(words, base, a + 1, is_number);
+}
+
+// What the next item of the input gives goes to two slots. The reader stands out of line, so that the other instructions
+// keep their registers.
+#[inline(never)]
+fn read_item<I: Source>(
+    words: &mut Vec<u64>,
+    base: usize,
+    a: u16,
+    reader: &mut IntReader,
+    input: &mut I,
+) -> Result<(), ReadFault>
+    requires { base + (a + 2) ≤ length words.old.items }
+    ensures item { OnOk result ((item : Item) × Reads (to_come reader.old (I.left input.old)) (to_come reader.new (I.left input.new)) item
+        × (drop base words.new.items ≡ put_words (drop base words.old.items) a (item_words item)) × IfSome item (FitsSigned w64)) }
+    ensures lost { OnErr result (Loses (to_come reader.old (I.left input.old)) (to_come reader.new (I.left input.new))) }
+    ensures cause { HasCause (I.faults input.old) (I.faults input.new) result }
+    ensures length { length words.new.items ≡ length words.old.items }
+{
+    let item = reader.next(input)?;
+    set_item(words, base, a as usize, item);
+    Ok(())
+}
+
+// Reads the next item of the input.
+#[inline(always)]
+fn read_int<I: Source>(
+    words: &mut Vec<u64>,
+    at: Place,
+    a: u16,
+    reader: &mut IntReader,
+    input: &mut I,
+) -> Next
+    requires slots { at.base + (a + 2) ≤ length words.old.items }
+    requires place { at.pc < 2 ^ 40 }
+    ensures step { WithAnswers result.ending (to_come reader.old (I.left input.old)) (to_come reader.new (I.left input.new)) ((reader.new ≡ reader.old) × (input.new ≡ input.old))
+        (λ items reads answered. (taken : Option (List ℕ)) (faults : ℕ) → Answers (reads_item (state_of words.old.items at reads) a (items reads)) (state_of words.new.items result.at (reads + answered)) answered result.ending taken taken faults faults) }
+    ensures later { I.faults input.old ≤ I.faults input.new }
+    ensures fault { result.ending ≡ Some Ending.ReadFault → Rose (I.faults input.old) (I.faults input.new) }
+    ensures on { result.ending ≡ None → result.at ≡ record { pc = at.pc + 1; base = at.base } }
+    ensures length { length words.new.items ≡ length words.old.items }
+    ensures status { StatusFits result.ending }
+    ensures which { (result.ending ≡ None) ⊎ (result.ending ≡ Some Ending.ReadFault) }
+{
+    match read_item(words, at.base, a, reader, input) {
+        Ok(()) => Next::on(at),
+        Err(_fault) => Next::ended(at, Ending::ReadFault),
+    }
+}
+
 /// Does one instruction, where the stack may have at most so many words. The place in the answer is that of the next one,
 /// or where the run ended.
 #[inline(always)]
-pub fn step<O: Sink>(
+pub fn step<I: Source, O: Sink>(
     alloc: Global,
     instrs: &[Instr],
     owners: &[u16],
@@ -162,19 +229,24 @@ pub fn step<O: Sink>(
     words: &mut Vec<u64>,
     stack_max: u64,
     at: Place,
+    reader: &mut IntReader,
+    input: &mut I,
     out: &mut O,
 ) -> Next
     requires code { IsCode (record { instrs = instrs.now; owners = owners.now; funcs = funcs.now; strings = map (λ bytes. bytes.items) strings.now }) }
     requires words { (length words.old.items ≤ stack_max) × (stack_max ≤ 2 ^ 32) }
     requires inside { Inside (record { instrs = instrs.now; owners = owners.now; funcs = funcs.now; strings = map (λ bytes. bytes.items) strings.now }) (length words.old.items) at.pc at.base }
     requires place { (at.pc < length instrs.now) × (length instrs.now < 2 ^ 40) }
-    ensures step { Answers (act (record { instrs = instrs.now; owners = owners.now; funcs = funcs.now; strings = map (λ bytes. bytes.items) strings.now }) stack_max (state_of words.old.items at)) (state_of words.new.items result.at) result.ending
-        (O.taken out.old) (O.taken out.new) (O.faults out.old) (O.faults out.new) }
+    ensures step { WithAnswers result.ending (to_come reader.old (I.left input.old)) (to_come reader.new (I.left input.new)) ((reader.new ≡ reader.old) × (input.new ≡ input.old))
+        (λ items reads answered. Answers (act (record { instrs = instrs.now; owners = owners.now; funcs = funcs.now; strings = map (λ bytes. bytes.items) strings.now }) stack_max items (state_of words.old.items at reads)) (state_of words.new.items result.at (reads + answered)) answered result.ending
+        (O.taken out.old) (O.taken out.new) (O.faults out.old) (O.faults out.new)) }
     ensures later { O.faults out.old ≤ O.faults out.new }
+    ensures source_later { I.faults input.old ≤ I.faults input.new }
+    ensures read_fault { result.ending ≡ Some Ending.ReadFault → Rose (I.faults input.old) (I.faults input.new) }
     ensures stays { result.ending ≡ None → Inside (record { instrs = instrs.now; owners = owners.now; funcs = funcs.now; strings = map (λ bytes. bytes.items) strings.now }) (length words.new.items) result.at.pc result.at.base }
     ensures length { length words.new.items ≤ stack_max }
     ensures status { StatusFits result.ending }
-    ensures memory { result.ending ≡ Some Ending.NoMemory → CallFits (record { instrs = instrs.now; owners = owners.now; funcs = funcs.now; strings = map (λ bytes. bytes.items) strings.now }) stack_max (state_of words.old.items at) × Took (O.taken out.old) (O.taken out.new) [] × (words.new ≡ words.old) }
+    ensures memory { result.ending ≡ Some Ending.NoMemory → CallFits (record { instrs = instrs.now; owners = owners.now; funcs = funcs.now; strings = map (λ bytes. bytes.items) strings.now }) stack_max at.pc (drop at.base words.old.items) × Took (O.taken out.old) (O.taken out.new) [] × (words.new ≡ words.old) }
     ensures room { result.ending ≡ Some Ending.NoMemory → NoRoom (record { instrs = instrs.now; owners = owners.now; funcs = funcs.now; strings = map (λ bytes. bytes.items) strings.now }) at }
 {
     let base = at.base;
@@ -250,6 +322,7 @@ pub fn step<O: Sink>(
         Instr::PrintText { text } => print(words, at, string(strings, text), out),
         Instr::PrintSpace => print(words, at, b" ", out),
         Instr::PrintLine => print(words, at, b"\n", out),
+        Instr::ReadInt { a } => read_int(words, at, a, reader, input),
         Instr::Return => leave(instrs, owners, funcs, strings, words, stack_max, at),
         Instr::Exit { a } => { Next::ended(at, exit(slot(words, base, a as usize).cast_signed())) }
         Instr::PanicText { text } => panicked(at, Panic::Text(text)),

@@ -6,7 +6,7 @@ ghost use Rattle.machine.specs.Inside.{Inside};
 
 use crate::{Ending, Panic, Place, run};
 use isa::{BinOp, Code, Func, Instr};
-use outside::MemSink;
+use outside::{IntReader, MemSink, MemSource};
 use std::alloc::Global;
 use std::test::Fail;
 
@@ -102,6 +102,31 @@ fn endings(alloc: Global) -> Result<Code, Fail>
     Ok(Code::made(instrs, owners, funcs, strings))
 }
 
+// func main() { for { a, ok := readInt(); println(a, ok) } }
+fn readings(alloc: Global) -> Result<Code, Fail>
+    ensures { IfOk result (λ c. length c.instrs ≡ 6) }
+{
+    let instrs = vec![in alloc;
+        Instr::ReadInt { a: 0 },
+        Instr::PrintInt { a: 0 },
+        Instr::PrintSpace,
+        Instr::PrintBool { a: 1 },
+        Instr::PrintLine,
+        Instr::Jump { to: 0 },
+    ]?;
+    let owners = vec![in alloc; 0, 0, 0, 0, 0, 0]?;
+    let funcs = vec![in alloc; MAIN]?;
+    Ok(Code::made(instrs, owners, funcs, Vec::new(alloc)))
+}
+
+// A reader, and a source that has ended.
+fn no_input(alloc: Global) -> (IntReader, MemSource) {
+    (
+        IntReader::new(),
+        MemSource::new(Vec::new(alloc), Vec::new(alloc)),
+    )
+}
+
 // Whether a frame lies inside so many words.
 fn is_inside(code: &Code, long: usize, at: Place) -> bool
     requires { at.base ≤ 2 ^ 32 }
@@ -145,7 +170,18 @@ fn sums_are_printed(rt: HostRuntime) -> Result<(), Fail> {
         let mut out = MemSink::new(rt.alloc(), Vec::new(rt.alloc()));
         let at = Place { pc: 0, base: 0 };
         assert!(rt; is_inside(&code, words.len(), at));
-        let end = run(rt.alloc(), &code, &mut words, stack_max, at, &mut out, 1000);
+        let (mut reader, mut input) = no_input(rt.alloc());
+        let end = run(
+            rt.alloc(),
+            &code,
+            &mut words,
+            stack_max,
+            at,
+            &mut reader,
+            &mut input,
+            &mut out,
+            1000,
+        );
         assert_eq!(rt; end.ending, Some(want));
         assert_eq!(rt; out.bytes(), printed);
     }
@@ -159,9 +195,30 @@ fn a_run_goes_on(rt: HostRuntime) -> Result<(), Fail> {
     let mut out = MemSink::new(rt.alloc(), Vec::new(rt.alloc()));
     let at = Place { pc: 0, base: 0 };
     assert!(rt; is_inside(&code, words.len(), at));
-    let first = run(rt.alloc(), &code, &mut words, 100, at, &mut out, 60);
+    let (mut reader, mut input) = no_input(rt.alloc());
+    let first = run(
+        rt.alloc(),
+        &code,
+        &mut words,
+        100,
+        at,
+        &mut reader,
+        &mut input,
+        &mut out,
+        60,
+    );
     assert_eq!(rt; first.ending, None);
-    let next = run(rt.alloc(), &code, &mut words, 100, first.at, &mut out, 60);
+    let next = run(
+        rt.alloc(),
+        &code,
+        &mut words,
+        100,
+        first.at,
+        &mut reader,
+        &mut input,
+        &mut out,
+        60,
+    );
     assert_eq!(rt; next.ending, Some(Ending::Exit(0)));
     assert_eq!(rt; out.bytes(), b"10 55\n".as_slice());
     Ok(())
@@ -188,8 +245,70 @@ fn runs_end(rt: HostRuntime) -> Result<(), Fail> {
         let mut out = MemSink::new(rt.alloc(), Vec::new(rt.alloc()));
         let at = Place { pc, base: 0 };
         assert!(rt; is_inside(&code, words.len(), at));
-        let end = run(rt.alloc(), &code, &mut words, 100, at, &mut out, 1000);
+        let (mut reader, mut input) = no_input(rt.alloc());
+        let end = run(
+            rt.alloc(),
+            &code,
+            &mut words,
+            100,
+            at,
+            &mut reader,
+            &mut input,
+            &mut out,
+            1000,
+        );
         assert_eq!(rt; end.ending, Some(want));
+        assert_eq!(rt; out.bytes(), printed);
+    }
+    Ok(())
+}
+
+// Four rounds of six steps, where the source gives all its bytes in one read, or where a read fails.
+#[test]
+fn items_are_read(rt: HostRuntime) -> Result<(), Fail> {
+    let code = readings(rt.alloc())?;
+    let cases: [(&[u8], u64, Option<Ending>, &[u8]); 6] = [
+        (b"5 -7 x", 0, None, b"5 true\n-7 true\n0 false\n0 false\n"),
+        (
+            b"9223372036854775807\n-9223372036854775808\t9223372036854775808 +1",
+            0,
+            None,
+            b"9223372036854775807 true\n-9223372036854775808 true\n0 false\n0 false\n",
+        ),
+        (b"", 0, None, b"0 false\n0 false\n0 false\n0 false\n"),
+        (b"5 -7 x", 1, Some(Ending::ReadFault), b""),
+        (b"5 -7 x", 2, Some(Ending::ReadFault), b"5 true\n-7 true\n"),
+        (
+            b"5 -7 x 8 9",
+            2,
+            None,
+            b"5 true\n-7 true\n0 false\n8 true\n",
+        ),
+    ];
+    for (text, fails, want, printed) in cases {
+        let mut words = vec![in rt.alloc(); 0; 6]?;
+        let (mut reader, mut input) = (
+            IntReader::new(),
+            MemSource::new(
+                Vec::from_slice(rt.alloc(), text)?,
+                vec![in rt.alloc(); fails]?,
+            ),
+        );
+        let mut out = MemSink::new(rt.alloc(), Vec::new(rt.alloc()));
+        let at = Place { pc: 0, base: 0 };
+        assert!(rt; is_inside(&code, words.len(), at));
+        let end = run(
+            rt.alloc(),
+            &code,
+            &mut words,
+            100,
+            at,
+            &mut reader,
+            &mut input,
+            &mut out,
+            24,
+        );
+        assert_eq!(rt; end.ending, want);
         assert_eq!(rt; out.bytes(), printed);
     }
     Ok(())
@@ -244,7 +363,18 @@ fn wild_words_are_found(rt: HostRuntime) -> Result<(), Fail> {
         let mut out = MemSink::new(rt.alloc(), Vec::new(rt.alloc()));
         let at = Place { pc, base: 0 };
         assert!(rt; is_inside(&code, words.len(), at));
-        let end = run(rt.alloc(), &code, &mut words, 100, at, &mut out, 1000);
+        let (mut reader, mut input) = no_input(rt.alloc());
+        let end = run(
+            rt.alloc(),
+            &code,
+            &mut words,
+            100,
+            at,
+            &mut reader,
+            &mut input,
+            &mut out,
+            1000,
+        );
         assert_eq!(rt; end.ending, Some(want));
     }
     Ok(())

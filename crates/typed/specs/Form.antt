@@ -6,7 +6,7 @@ use Rattle.typed.specs.declared.operators.BinOp.TheVariants.{Add, Sub, Equal, No
 use Rattle.typed.specs.declared.operators.UnOp.{UnOp}
 use Rattle.typed.specs.declared.operators.UnOp.TheVariants.{Not}
 use Rattle.typed.specs.Value.{Value, int, bool}
-use Rattle.typed.specs.Syntax.{Ex, Exs, Pl, Left, Piece, Over, St, Sts, Func, Program, constant, read, unary, binary, both, either, call, local, none, more, results, blank, new, to, text, shown, over_int, declare, assign, update, bump, discard, block, choose, loop, range, break_off, go_on, give_back, print, raise, quit, done, next, int_type, bool_type, argument_words, result_words, results_of}
+use Rattle.typed.specs.Syntax.{Ex, Exs, Pl, Left, Piece, St, Sts, Func, Program, constant, read, unary, binary, both, either, call, local, none, more, results, asked, blank, new, to, text, shown, over_int, declare, assign, update, bump, discard, block, choose, loop, range, break_off, go_on, give_back, print, raise, quit, done, next, int_type, bool_type, argument_words, result_words}
 use Rattle.typed.specs.View.{zero_values}
 
 -- ---- types
@@ -182,6 +182,7 @@ module _ (p : Program) where
     ExsFit scope [] none = Unit {0}
     ExsFit scope (t ∷ ts) (more e es) = ExFits scope t e × ExsFit scope ts es
     ExsFit scope ts (results f es) = (func : Func) × (slice_get p.funcs f ≡ Some func) × (func.results ≡ ts) × ExsFit scope func.param_types es
+    ExsFit scope ts asked = ts ≡ int_type ∷ bool_type ∷ []
     ExsFit scope ts es = ⊥
 
   abbrev pub TestFits : List ℕ → Option Ex → Type 0
@@ -211,6 +212,7 @@ module _ (p : Program) where
       StFits looped scope m n (update at q op e) = IsArithmetic op × PlFits scope int_type q × ExFits scope int_type e
       StFits looped scope m n (bump q op) = IsStep op × PlFits scope int_type q
       StFits looped scope m n (discard (results f es)) = (ts : List ℕ) × ExsFit scope ts (results f es)
+      StFits looped scope m n (discard asked) = (ts : List ℕ) × ExsFit scope ts asked
       StFits looped scope m n (block ss) = StsFit looped scope m n ss
       StFits looped scope m n (choose e a b) = ExFits scope bool_type e × StsFit looped scope m n a × StsFit looped scope (m + births_all a) n b
       StFits looped scope m n (loop sites test post body) =

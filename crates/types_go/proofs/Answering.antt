@@ -19,16 +19,16 @@ use Rattle.std.specs.Global.{Vec}
 use Rattle.expression_types.specs.declared.fault.Fault.{Fault}
 use Rattle.expression_types.specs.declared.fault.FaultKind.TheVariants.{NoMain}
 use Rattle.expression_types.specs.declared.scope.Declared.{Declared}
-use Rattle.expression_types.specs.declared.scope.Declared.TheVariants.{Untyped, Function, TypeName}
+use Rattle.expression_types.specs.declared.scope.Declared.TheVariants.{Untyped, Function, External, TypeName}
 use Rattle.expression_types.specs.Profile.{is_main}
 use Rattle.expression_types.specs.Least.{IsLeast, lesser}
-use Rattle.expression_types.specs.Scope.{Scope, declaration, with_declaration, beginning}
+use Rattle.expression_types.specs.Scope.{Scope, declaration, with_declaration, with_signature, beginning}
 use Rattle.expression_types.specs.Typing.{allowed}
 use Rattle.expression_types.specs.Faults.{fault, IsFault}
-use Rattle.types_go.specs.Functions.{number_of, plain_number, declares_name, with_name, with_names, with_values, with_types, with_item, with_items, functions_in, are_supported, functions, declarations_in, package_scope, main_number, program_functions}
+use Rattle.types_go.specs.Functions.{number_of, plain_number, declares_name, external_named, is_external, signature_in, with_name, with_names, with_values, with_types, with_item, with_items, functions_in, are_supported, functions, behind_functions, declarations_in, package_scope, main_number, program_functions}
 use Rattle.types_go.specs.StatementFaults.{fault_where}
 use Rattle.types_go.specs.FunctionFaults.{DeclarationsFail, FailsInFunctions, FailsIn, first_byte}
-use Rattle.types_go.specs.Checked.{Types, sites_in, program_with}
+use Rattle.types_go.specs.Checked.{Types, sites_in, strings_in, program_with}
 use Rattle.expression_types.proofs.Decided.{Decided}
 use Rattle.expression_types.proofs.Leasts.{least_join}
 use Rattle.expression_types.proofs.Options.{none_some, same_some}
@@ -62,13 +62,18 @@ item_depth : (text : List ℕ) (s : Scope) (d : Declaration) → length (with_it
 item_depth text s (constants at specs) = values_depth text s specs
 item_depth text s (variables at specs) = values_depth text s specs
 item_depth text s (types at specs) = types_depth text s specs
-item_depth text s (tree.function g) = name_depth text (Function (record { 0 = length s.signatures })) s g.name
+item_depth text s (tree.function g) = by (is_external text g)
+  where
+    by : (b : Bool) → length (cond b (with_name text (External (external_named (spelled text g.name)) g.name.pos) s g.name) (with_signature (with_name text (Function (record { 0 = length s.signatures })) s g.name) (signature_in text g))).blocks ≡ length s.blocks
+    by true = name_depth text (External (external_named (spelled text g.name)) g.name.pos) s g.name
+    by false = name_depth text (Function (record { 0 = length s.signatures })) s g.name
 
 pub items_depth : (text : List ℕ) (s : Scope) (ds : List Declaration) → length (with_items text s ds).blocks ≡ length s.blocks
 items_depth text s [] = refl
 items_depth text s (d ∷ ds) = items_depth text (with_item text s d) ds ∙ item_depth text s d
 
-pub typed : (t : Syntax) (p : ProgramData) → program_functions t ≡ Some (map func_of p.funcs.items) → main_number t ≡ Some p.main.0 → p.sites.items ≡ sites_in t → p.strings.items ≡ [] → Types t (program_of p)
+pub typed : (t : Syntax) (p : ProgramData) → program_functions t ≡ Some (map func_of p.funcs.items) → main_number t ≡ Some p.main.0 → p.sites.items ≡ sites_in t → map (λ (bytes : Vec ℕ). bytes.items) p.strings.items ≡ strings_in t
+    → Types t (program_of p)
 typed t p funcs main sites strings = record {
   funcs = map func_of p.funcs.items;
   main = p.main.0;
@@ -81,11 +86,11 @@ typed t p funcs main sites strings = record {
     strings = map (λ (bytes : Vec ℕ). bytes.items) p.strings.items;
     globals = [];
     main = p.main.0;
-  }) sites ∙ ap (λ (l : List (Vec ℕ)). record {
+  }) sites ∙ ap (λ (l : List (List ℕ)). record {
     funcs = map func_of p.funcs.items;
     zeros = zero_values;
     sites = map (λ (site : Site). site.type_id.0) (sites_in t);
-    strings = map (λ (bytes : Vec ℕ). bytes.items) l;
+    strings = l;
     globals = [];
     main = p.main.0;
   }) strings;
@@ -112,7 +117,7 @@ main_sound (Some k) m f is h = h
 pub typed_or_fails : (t : Syntax) (p : Program) (f : Fault) → Types t p → FailsIn t f → ⊥
 typed_or_fails t p f a (inl h) = main_sound (main_number t) a.main f a.main_is h
 typed_or_fails t p f a (inr h) =
-    decided_some (program_functions t) a.funcs (λ g. DeclarationsFail (declarations_in t) g ⊎ FailsInFunctions t.text (package_scope t) 0 (functions_in (declarations_in t)) g) a.functions (all_decided t) f h
+    decided_some (program_functions t) a.funcs (λ g. DeclarationsFail t.text (package_scope t) (declarations_in t) g ⊎ FailsInFunctions t.text (package_scope t) 0 (functions_in t.text (declarations_in t)) g) a.functions (all_decided t) f h
 
 -- where no rule fails there is a typed program
 pub given_main : (t : Syntax) → IsLeast (FailsIn t) None → main_number t ≡ None → ⊥
@@ -120,21 +125,21 @@ given_main t least is = least (fault NoMain first_byte) (inl (subst (λ o. IsFau
 
 given_program : (t : Syntax) → IsLeast (FailsIn t) None → program_functions t ≡ None → ⊥
 given_program t least is =
-    let f = decided_given (program_functions t) (λ g. DeclarationsFail (declarations_in t) g ⊎ FailsInFunctions t.text (package_scope t) 0 (functions_in (declarations_in t)) g) is (all_decided t) in
+    let f = decided_given (program_functions t) (λ g. DeclarationsFail t.text (package_scope t) (declarations_in t) g ⊎ FailsInFunctions t.text (package_scope t) 0 (functions_in t.text (declarations_in t)) g) is (all_decided t) in
     least f.0 (inr f.1)
 
 -- then all declarations are of forms that are taken
-pub given_functions : (t : Syntax) → IsLeast (FailsIn t) None → (o : Option (List Func)) → o ≡ functions t.text (package_scope t) 0 (functions_in (declarations_in t)) → o ≡ program_functions t
-given_functions t least o is = is ∙ by (are_supported (declarations_in t)) refl
+pub given_functions : (t : Syntax) → IsLeast (FailsIn t) None → (o : Option (List Func)) → o ≡ functions t.text (package_scope t) 0 (functions_in t.text (declarations_in t)) → o ≡ program_functions t
+given_functions t least o is = is ∙ by (are_supported t.text (package_scope t) (declarations_in t)) refl
   where
     found : Option (List Func)
-    found = functions t.text (package_scope t) 0 (functions_in (declarations_in t))
+    found = functions t.text (package_scope t) 0 (functions_in t.text (declarations_in t))
 
-    by : (b : Bool) → are_supported (declarations_in t) ≡ b → found ≡ allowed b found
+    by : (b : Bool) → are_supported t.text (package_scope t) (declarations_in t) ≡ b → found ≡ allowed b found
     by true b_is = refl
     by false b_is = absurd (given_program t least (ap (λ c. allowed c found) b_is))
 
-pub functions_given : (t : Syntax) → IsLeast (FailsIn t) None → (o : Option (List Func)) → o ≡ functions t.text (package_scope t) 0 (functions_in (declarations_in t)) → o ≡ None → ⊥
+pub functions_given : (t : Syntax) → IsLeast (FailsIn t) None → (o : Option (List Func)) → o ≡ functions t.text (package_scope t) 0 (functions_in t.text (declarations_in t)) → o ≡ None → ⊥
 functions_given t least o is none = given_program t least (sym (given_functions t least o is) ∙ none)
 
 -- ---- what the pass has worked out, of the tree that it was given
@@ -143,24 +148,31 @@ module _ (tree1 : Tree) where
   abbrev syntax : Syntax
   syntax = syntax_of tree1
 
-  abbrev funcs_in : List Decl → List TreeFunction
-  funcs_in ds = functions_in (declarations_of ds)
+  abbrev funcs_in : List ℕ → List Decl → List TreeFunction
+  funcs_in text ds = functions_in text (declarations_of ds)
 
   pub package_is : (text : List ℕ) (ds : List Decl) (b r : Scope) → text ≡ tree1.text.items → ds ≡ tree1.decls.items → b ≡ beginning → r ≡ with_items text b (declarations_of ds) → r ≡ package_scope syntax
   package_is text ds b r text_is ds_is b_is r_is =
       r_is ∙ ap (λ v. with_items text v (declarations_of ds)) b_is ∙ ap (λ x. with_items x beginning (declarations_of ds)) text_is ∙ ap (λ (l : List Decl). with_items tree1.text.items beginning (declarations_of l)) ds_is
 
   pub main_number_is : (text : List ℕ) (ds : List Decl) (r : Scope) (o : Option ℕ) → text ≡ tree1.text.items → ds ≡ tree1.decls.items → r ≡ package_scope syntax
-      → o ≡ cond (is_main (spelled text tree1.package)) (plain_number (funcs_in ds) (number_of (declaration r (codes "main")))) None → o ≡ main_number syntax
+      → o ≡ cond (is_main (spelled text tree1.package)) (plain_number (funcs_in text ds) (number_of (declaration r (codes "main")))) None → o ≡ main_number syntax
   main_number_is text ds r o text_is ds_is r_is is =
-      is ∙ ap (λ x. cond (is_main (spelled x tree1.package)) (plain_number (funcs_in ds) (number_of (declaration r (codes "main")))) None) text_is
-      ∙ ap (λ (l : List Decl). cond (is_main (spelled tree1.text.items tree1.package)) (plain_number (funcs_in l) (number_of (declaration r (codes "main")))) None) ds_is
-      ∙ ap (λ v. cond (is_main (spelled tree1.text.items tree1.package)) (plain_number (funcs_in tree1.decls.items) (number_of (declaration v (codes "main")))) None) r_is
+      is ∙ ap (λ x. cond (is_main (spelled x tree1.package)) (plain_number (funcs_in x ds) (number_of (declaration r (codes "main")))) None) text_is
+      ∙ ap (λ (l : List Decl). cond (is_main (spelled tree1.text.items tree1.package)) (plain_number (funcs_in tree1.text.items l) (number_of (declaration r (codes "main")))) None) ds_is
+      ∙ ap (λ v. cond (is_main (spelled tree1.text.items tree1.package)) (plain_number (funcs_in tree1.text.items tree1.decls.items) (number_of (declaration v (codes "main")))) None) r_is
 
   pub functions_are : (text : List ℕ) (ds : List Decl) (r : Scope) (o : Option (List Func)) → text ≡ tree1.text.items → ds ≡ tree1.decls.items → r ≡ package_scope syntax
-      → o ≡ functions text r 0 (funcs_in ds) → o ≡ functions syntax.text (package_scope syntax) 0 (functions_in (declarations_in syntax))
+      → o ≡ functions text r 0 (funcs_in text ds) → o ≡ functions syntax.text (package_scope syntax) 0 (functions_in syntax.text (declarations_in syntax))
   functions_are text ds r o text_is ds_is r_is is =
-      is ∙ ap (λ x. functions x r 0 (funcs_in ds)) text_is ∙ ap (λ (l : List Decl). functions tree1.text.items r 0 (funcs_in l)) ds_is ∙ ap (λ v. functions tree1.text.items v 0 (funcs_in tree1.decls.items)) r_is
+      is ∙ ap (λ x. functions x r 0 (funcs_in x ds)) text_is ∙ ap (λ (l : List Decl). functions tree1.text.items r 0 (funcs_in tree1.text.items l)) ds_is
+      ∙ ap (λ v. functions tree1.text.items v 0 (funcs_in tree1.text.items tree1.decls.items)) r_is
+
+  pub behind_is : (text : List ℕ) (ds : List Decl) (r s : Scope) → text ≡ tree1.text.items → ds ≡ tree1.decls.items → r ≡ package_scope syntax
+      → s ≡ behind_functions text r (funcs_in text ds) → s ≡ behind_functions syntax.text (package_scope syntax) (functions_in syntax.text (declarations_in syntax))
+  behind_is text ds r s text_is ds_is r_is is =
+      is ∙ ap (λ x. behind_functions x r (funcs_in x ds)) text_is ∙ ap (λ (l : List Decl). behind_functions tree1.text.items r (funcs_in tree1.text.items l)) ds_is
+      ∙ ap (λ v. behind_functions tree1.text.items v (funcs_in tree1.text.items tree1.decls.items)) r_is
 
   none_test : (o : Option FuncId) (absent : Bool) → is_some o ≡ not absent → absent ≡ not (is_some (option_map (λ (f : FuncId). f.0) o))
   none_test None true is = refl
@@ -169,12 +181,13 @@ module _ (tree1 : Tree) where
   none_test (Some f) false is = refl
 
   pub least_is : (text : List ℕ) (ds : List Decl) (r : Scope) (main : Option FuncId) (absent : Bool) (mf df cf : Option Fault) → text ≡ tree1.text.items → ds ≡ tree1.decls.items → r ≡ package_scope syntax
-      → option_map (λ (f : FuncId). f.0) main ≡ main_number syntax → is_some main ≡ not absent → IsLeast (IsFault (fault_where absent (fault NoMain first_byte))) mf → IsLeast (DeclarationsFail (declarations_of ds)) df
-      → IsLeast (FailsInFunctions text r 0 (funcs_in ds)) cf → IsLeast (FailsIn syntax) (lesser mf (lesser df cf))
+      → option_map (λ (f : FuncId). f.0) main ≡ main_number syntax → is_some main ≡ not absent → IsLeast (IsFault (fault_where absent (fault NoMain first_byte))) mf → IsLeast (DeclarationsFail text r (declarations_of ds)) df
+      → IsLeast (FailsInFunctions text r 0 (funcs_in text ds)) cf → IsLeast (FailsIn syntax) (lesser mf (lesser df cf))
   least_is text ds r main absent mf df cf text_is ds_is r_is main_is absent_is no_main forms all =
-      least_join (IsFault (fault_where (not (is_some (main_number syntax))) (fault NoMain first_byte))) (λ f. DeclarationsFail (declarations_in syntax) f ⊎ FailsInFunctions syntax.text (package_scope syntax) 0 (functions_in (declarations_in syntax)) f) mf (lesser df cf)
+      let Forms : List ℕ → List Decl → Scope → Fault → Type 0 = λ x l v. DeclarationsFail x v (declarations_of l) in
+      let All : List ℕ → List Decl → Scope → Fault → Type 0 = λ x l v. FailsInFunctions x v 0 (funcs_in x l) in
+      least_join (IsFault (fault_where (not (is_some (main_number syntax))) (fault NoMain first_byte))) (λ f. Forms tree1.text.items tree1.decls.items (package_scope syntax) f ⊎ All tree1.text.items tree1.decls.items (package_scope syntax) f) mf (lesser df cf)
       (subst (λ o. IsLeast (IsFault (fault_where (not (is_some o)) (fault NoMain first_byte))) mf) main_is (subst (λ b. IsLeast (IsFault (fault_where b (fault NoMain first_byte))) mf) (none_test main absent absent_is) no_main))
-      (least_join (DeclarationsFail (declarations_in syntax)) (FailsInFunctions syntax.text (package_scope syntax) 0 (functions_in (declarations_in syntax))) df cf
-      (subst (λ (l : List Decl). IsLeast (DeclarationsFail (declarations_of l)) df) ds_is forms)
-      (subst (λ v. IsLeast (FailsInFunctions tree1.text.items v 0 (funcs_in tree1.decls.items)) cf) r_is
-      (subst (λ (l : List Decl). IsLeast (FailsInFunctions tree1.text.items r 0 (funcs_in l)) cf) ds_is (subst (λ x. IsLeast (FailsInFunctions x r 0 (funcs_in ds)) cf) text_is all))))
+      (least_join (Forms tree1.text.items tree1.decls.items (package_scope syntax)) (All tree1.text.items tree1.decls.items (package_scope syntax)) df cf
+      (subst (λ v. IsLeast (Forms tree1.text.items tree1.decls.items v) df) r_is (subst (λ (l : List Decl). IsLeast (Forms tree1.text.items l r) df) ds_is (subst (λ x. IsLeast (Forms x ds r) df) text_is forms)))
+      (subst (λ v. IsLeast (All tree1.text.items tree1.decls.items v) cf) r_is (subst (λ (l : List Decl). IsLeast (All tree1.text.items l r) cf) ds_is (subst (λ x. IsLeast (All x ds r) cf) text_is all))))

@@ -1,5 +1,6 @@
--- What a statement keeps of a scope: the blocks outside the innermost one, the declarations before it, and the signatures.
-use Rattle.std.proofs.Common.{◌≡◌, ℕ, Bool, true, false, cond, List, [], ◌∷◌, ◌++◌, length, Option, Some, None, refl, sym, ap, ◌∙◌, append-nil, append_assoc}
+-- What a statement keeps of a scope: the blocks outside the innermost one, the declarations before it, and the signatures. There are at least
+-- as many strings behind it.
+use Rattle.std.proofs.Common.{◌≡◌, ℕ, ◌≤◌, Bool, true, false, cond, List, [], ◌∷◌, ◌++◌, length, Option, Some, None, refl, sym, ap, ◌∙◌, arith, append-nil, append_assoc, length-append}
 use Rattle.std.specs.Prelude.{⊤, not, ◌&&◌}
 use Rattle.std.specs.List.{AllByRecursion}
 use Rattle.base.specs.declared.pos.Pos.{Pos}
@@ -12,12 +13,13 @@ use Rattle.syntax.specs.Declarations.{Body, Function as TreeFunction}
 use Rattle.typed.specs.declared.program.Site.{Site}
 use Rattle.expression_types.specs.declared.scope.ValueType.{ValueType}
 use Rattle.expression_types.specs.declared.scope.Declared.{Declared}
-use Rattle.expression_types.specs.declared.scope.Declared.TheVariants.{Variable, Untyped, Function, TypeName}
+use Rattle.expression_types.specs.declared.scope.Declared.TheVariants.{Variable, Untyped, Function, External, TypeName}
 use Rattle.expression_types.specs.Profile.{is_reserved}
-use Rattle.expression_types.specs.Scope.{Scope, type_number, is_here, with_variable, outer, opened, closed}
+use Rattle.expression_types.specs.Scope.{Scope, type_number, is_here, with_variable, with_strings, outer, opened, closed}
+use Rattle.expression_types.specs.Typing.{gives}
 use Rattle.types_go.specs.declared.slots.Slot.{Slot}
 use Rattle.types_go.specs.Entries.{slots_each, behind_entry_name, behind_entry, behind_entries}
-use Rattle.types_go.specs.Statements.{new_slots, definition_types, with_slot, with_variables, number_type, over, target_slots, header, clause_scope, spec_slots, behind_spec, behind_specs, behind_simple, behind, behind_else, behind_all}
+use Rattle.types_go.specs.Statements.{new_slots, definition_types, with_slot, with_variables, strings_in, number_type, over, target_slots, header, behind_post_simple, behind_post, clause_scope, spec_slots, behind_spec, behind_specs, behind_simple, behind, behind_else, behind_all}
 use Rattle.types_go.specs.Functions.{slots_of, behind_params, body_scope, behind_body, behind_function, behind_functions}
 
 -- what statements and parameters declare
@@ -25,6 +27,7 @@ abbrev pub IsLocal : Declared → Type 0
 IsLocal (Variable site t) = ⊤
 IsLocal Untyped = ⊤
 IsLocal (Function g) = ⊥
+IsLocal (External e at) = ⊥
 IsLocal TypeName = ⊥
 
 -- some declarations, and more of statements behind them
@@ -45,6 +48,7 @@ pub record Grows (s r : Scope) : Type 0 where
   pub declared : Longer s.declared r.declared
   pub sites : Extends s.sites r.sites
   pub signatures : r.signatures ≡ s.signatures
+  pub strings : length s.strings ≤ length r.strings
 
 -- the same blocks, and more declarations
 pub record Keeps (s r : Scope) : Type 0 where
@@ -52,6 +56,7 @@ pub record Keeps (s r : Scope) : Type 0 where
   pub declared : Longer s.declared r.declared
   pub sites : Extends s.sites r.sites
   pub signatures : r.signatures ≡ s.signatures
+  pub strings : length s.strings ≤ length r.strings
 
 pub extends_none : (a : List Site) → Extends a a
 extends_none a = ([], sym (append-nil a), tt)
@@ -71,7 +76,7 @@ longer_twice a b c p q = (p.0 ++ q.0, q.1 ∙ ap (λ l. l ++ q.0) p.1 ∙ append
     all_both (d ∷ ds) all = (all.0, all_both ds all.1)
 
 pub grows_none : (s : Scope) → Grows s s
-grows_none s = record { around = refl; depth = refl; declared = ([], sym (append-nil s.declared), tt); sites = extends_none s.sites; signatures = refl }
+grows_none s = record { around = refl; depth = refl; declared = ([], sym (append-nil s.declared), tt); sites = extends_none s.sites; signatures = refl; strings = omega arith }
 
 pub grows_twice : (a b c : Scope) → Grows a b → Grows b c → Grows a c
 grows_twice a b c p q = record {
@@ -80,6 +85,7 @@ grows_twice a b c p q = record {
   declared = longer_twice a.declared b.declared c.declared p.declared q.declared;
   sites = extends_twice a.sites b.sites c.sites p.sites q.sites;
   signatures = q.signatures ∙ p.signatures;
+  strings = omega (arith, p.strings, q.strings);
 }
 
 pub keeps_twice : (a b c : Scope) → Keeps a b → Keeps b c → Keeps a c
@@ -88,17 +94,27 @@ keeps_twice a b c p q = record {
   declared = longer_twice a.declared b.declared c.declared p.declared q.declared;
   sites = extends_twice a.sites b.sites c.sites p.sites q.sites;
   signatures = q.signatures ∙ p.signatures;
+  strings = omega (arith, p.strings, q.strings);
 }
 
 pub keeps_none : (s : Scope) → Keeps s s
-keeps_none s = record { blocks = refl; declared = ([], sym (append-nil s.declared), tt); sites = extends_none s.sites; signatures = refl }
+keeps_none s = record { blocks = refl; declared = ([], sym (append-nil s.declared), tt); sites = extends_none s.sites; signatures = refl; strings = omega arith }
 
 pub keeps_grows : (s r : Scope) → Keeps s r → Grows s r
-keeps_grows s r k = record { around = ap outer k.blocks; depth = ap length k.blocks; declared = k.declared; sites = k.sites; signatures = k.signatures }
+keeps_grows s r k = record { around = ap outer k.blocks; depth = ap length k.blocks; declared = k.declared; sites = k.sites; signatures = k.signatures; strings = k.strings }
+
+-- more strings
+pub keeps_strings : (s : Scope) (strings : List (List ℕ)) → Keeps s (with_strings s strings)
+keeps_strings s strings =
+    let long = length-append s.strings strings in
+    record { blocks = refl; declared = ([], sym (append-nil s.declared), tt); sites = extends_none s.sites; signatures = refl; strings = omega (arith, long) }
+
+pub grows_strings : (s : Scope) (strings : List (List ℕ)) → Grows s (with_strings s strings)
+grows_strings s strings = keeps_grows s (with_strings s strings) (keeps_strings s strings)
 
 -- behind a block
 pub keeps_inner : (s r : Scope) → Grows (opened s) r → Keeps s (closed r)
-keeps_inner s r g = record { blocks = g.around; declared = g.declared; sites = g.sites; signatures = g.signatures }
+keeps_inner s r g = record { blocks = g.around; declared = g.declared; sites = g.sites; signatures = g.signatures; strings = g.strings }
 
 insert_outer : (bs : Blocks) (name : List ℕ) (k : ℕ) → outer (insert bs name k) ≡ outer bs
 insert_outer [] name k = refl
@@ -109,8 +125,8 @@ insert_length [] name k = refl
 insert_length (b ∷ bs) name k = refl
 
 pub grows_variable : (t : Option ValueType) (s : Scope) (name : List ℕ) (at : Pos) → Grows s (with_variable t s name at)
-grows_variable (Some t) s name at = record { around = insert_outer s.blocks name _; depth = insert_length s.blocks name _; declared = (_, refl, (tt, tt)); sites = (_, refl, ((t, refl), tt)); signatures = refl }
-grows_variable None s name at = record { around = insert_outer s.blocks name _; depth = insert_length s.blocks name _; declared = (_, refl, (tt, tt)); sites = extends_none s.sites; signatures = refl }
+grows_variable (Some t) s name at = record { around = insert_outer s.blocks name _; depth = insert_length s.blocks name _; declared = (_, refl, (tt, tt)); sites = (_, refl, ((t, refl), tt)); signatures = refl; strings = omega arith }
+grows_variable None s name at = record { around = insert_outer s.blocks name _; depth = insert_length s.blocks name _; declared = (_, refl, (tt, tt)); sites = extends_none s.sites; signatures = refl; strings = omega arith }
 
 grows_where : (b : Bool) (t : Option ValueType) (s : Scope) (name : List ℕ) (at : Pos) → Grows s (cond b (with_variable t s name at) s)
 grows_where true t s name at = grows_variable t s name at
@@ -136,7 +152,7 @@ module _ (text : List ℕ) where
   grows_entries s (p ∷ ps) = grows_twice s (behind_entry text s p) (behind_entries text (behind_entry text s p) ps) (grows_entry p.value_type s p.name) (grows_entries (behind_entry text s p) ps)
 
   pub grows_simple : (s : Scope) (m : Simple) → Grows s (behind_simple text s m)
-  grows_simple s (tree.express e) = grows_none s
+  grows_simple s (tree.express e) = grows_strings s (strings_in (gives text s e))
   grows_simple s (tree.assign ls at es) = grows_none s
   grows_simple s (tree.update ls at op es) = grows_none s
   grows_simple s (tree.define ns at es) = grows_variables s (new_slots text s (slots_each (definition_types text s ns es) ns))
@@ -147,10 +163,25 @@ module _ (text : List ℕ) where
   grows_header s None = grows_none (opened s)
   grows_header s (Some m) = grows_simple (opened s) m
 
+  -- a post statement declares nothing
+  keeps_post_simple : (s : Scope) (m : Simple) → Keeps s (behind_post_simple text s m)
+  keeps_post_simple s (tree.express e) = keeps_strings s (strings_in (gives text s e))
+  keeps_post_simple s (tree.assign ls at es) = keeps_none s
+  keeps_post_simple s (tree.update ls at op es) = keeps_none s
+  keeps_post_simple s (tree.define ns at es) = keeps_none s
+  keeps_post_simple s (tree.increment e at) = keeps_none s
+  keeps_post_simple s (tree.decrement e at) = keeps_none s
+
+  pub keeps_post : (s : Scope) (post : Option Simple) → Keeps s (behind_post text s post)
+  keeps_post s None = keeps_none s
+  keeps_post s (Some m) = keeps_post_simple s m
+
   pub grows_clause : (s : Scope) (c : Clause) → Grows (opened s) (clause_scope text s c)
   grows_clause s forever = grows_none (opened s)
   grows_clause s (while_true e) = grows_none (opened s)
-  grows_clause s (counting init test post) = grows_header s init
+  grows_clause s (counting init test post) =
+      let h = header text s init in
+      grows_twice (opened s) h (behind_post text h post) (grows_header s init) (keeps_grows h (behind_post text h post) (keeps_post h post))
   grows_clause s (ranging t at e) = grows_entries (opened s) (target_slots (number_type (over text s e)) t)
 
   pub grows_specs : (s : Scope) (vs : List ValueSpec) → Grows s (behind_specs text s vs)

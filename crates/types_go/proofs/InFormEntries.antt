@@ -15,7 +15,7 @@ use Rattle.types_go.specs.declared.entries.Role.{Role}
 use Rattle.types_go.specs.declared.entries.Role.TheVariants.{Parameter, Result}
 use Rattle.types_go.specs.Entries.{blank_entry, variable_entry, entry_of, sites_of, entry_left, slot_with, slots_each, entry_in, behind_entry_name, behind_entry, entries, behind_entries}
 use Rattle.expression_types.proofs.Options.{and_then_some, map_some, none_some, same_some}
-use Rattle.types_go.proofs.Growth.{Extends, extends_twice, grows_entries}
+use Rattle.types_go.proofs.Growth.{Extends, extends_twice, Grows, grows_entries}
 use Rattle.types_go.proofs.Visible.{HasSite, has_longer, Visible, visible_with}
 
 -- ---- the sites of a program
@@ -31,6 +31,13 @@ HasSites p all = p.sites ≡ map (λ (site : Site). site.type_id.0) all
 
 pub site_is : (p : Program) (all : List Site) → HasSites p all → (site : ℕ) (t : ValueType) → HasSite all site t → site_type p site ≡ type_number t
 site_is p all has site t h = ap (λ (l : List ℕ). get_or l site int_type) has ∙ get_mapped all site h.0 h.1 ∙ h.2
+
+-- a scope before the end: its sites are the first ones of the program, which has its strings
+abbrev pub Within : Program → List Site → Scope → Type 0
+Within p all s = Extends s.sites all × (length s.strings ≤ length p.strings)
+
+pub within_before : (p : Program) (all : List Site) (s r : Scope) → Grows s r → Within p all r → Within p all s
+within_before p all s r grow w = (extends_twice s.sites r.sites all grow.sites w.0, omega (arith, grow.strings, w.1))
 
 -- ---- names with these types
 

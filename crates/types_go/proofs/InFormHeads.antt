@@ -18,14 +18,14 @@ use Rattle.expression_types.specs.Typing.{same_type, type_of, as_value, operand_
 use Rattle.types_go.specs.declared.slots.Slot.{Slot}
 use Rattle.types_go.specs.declared.entries.Role.TheVariants.{Parameter}
 use Rattle.types_go.specs.Entries.{sites_of, entry_left, slot_with, slots_each, entries, behind_entries}
-use Rattle.types_go.specs.Statements.{Choice, Head, repeated, counted, alone, new_in, declared_in, headed, chosen, looped_by, key_of, as_int, number_type, all_accept, target_slots, is_bare, left, lefts, all_wanted, simple_statement, header, init_statement, post_simple, post_statement, guard_head, over, all_blank, target_lefts, clause_scope, clause_head, spec_type, spec_wanted, spec_slots_of, spec_slots, behind_spec, spec_entries, is_known, spec_declared, spec_assigned, spec_statement, taken_types}
+use Rattle.types_go.specs.Statements.{Choice, Head, repeated, counted, alone, new_in, declared_in, headed, chosen, looped_by, key_of, as_int, number_type, all_accept, target_slots, is_bare, left, lefts, all_wanted, simple_statement, header, init_statement, post_simple, post_statement, behind_post_simple, behind_post, guard_head, over, all_blank, target_lefts, clause_scope, clause_head, spec_type, spec_wanted, spec_slots_of, spec_slots, behind_spec, spec_entries, is_known, spec_declared, spec_assigned, spec_statement, taken_types}
 use Rattle.expression_types.proofs.Options.{and_then_some, map_some, none_some, same_some}
 use Rattle.expression_types.proofs.InForm.{Agrees, AreAccepted, OptionalFits, same_type_same, value_fits, operand_fits, maybe_fits, taken_fits, gives_fit, seen_fit, condition_fits, test_fits}
 use Rattle.types_go.proofs.SettledEntries.{allowed_is}
 use Rattle.types_go.proofs.SettledSimple.{assignment_some}
-use Rattle.types_go.proofs.Growth.{Extends, extends_twice, grows_simple, grows_entries}
-use Rattle.types_go.proofs.Visible.{Visible, visible_opened}
-use Rattle.types_go.proofs.InFormEntries.{HasSites, SlotsHave, each_have, with_have, sites_long, left_sites, left_scope, named_scope_of, lefts_of_params, next_of_params, EntriesFit, entries_fit}
+use Rattle.types_go.proofs.Growth.{Extends, extends_twice, keeps_grows, grows_simple, grows_header, keeps_post, grows_entries}
+use Rattle.types_go.proofs.Visible.{Visible, visible_opened, visible_kept}
+use Rattle.types_go.proofs.InFormEntries.{HasSites, Within, within_before, SlotsHave, each_have, with_have, sites_long, left_sites, left_scope, named_scope_of, lefts_of_params, next_of_params, EntriesFit, entries_fit}
 use Rattle.types_go.proofs.InFormSimple.{Formed, StFormed, Still, OldFit, accepted_long, known_all, lefts_fit, simple_still, simple_formed}
 
 -- ---- init statements
@@ -124,11 +124,11 @@ module _ (text : List ℕ) (p : Program) (all : List Site) (has : HasSites p all
   }
 
   module _ (s : Scope) (scope : List ℕ) (visible : Visible s scope) (agreed : (r : Scope) → r.signatures ≡ s.signatures → Extends r.sites all → Agrees r p) where
-    pub init_fits : (looped : Bool) (init : Option Simple) (i : Option St) → init_statement text s init ≡ Some i → Extends (header text s init).sites all → InitFits looped s scope (header text s init) i
+    pub init_fits : (looped : Bool) (init : Option Simple) (i : Option St) → init_statement text s init ≡ Some i → Within p all (header text s init) → InitFits looped s scope (header text s init) i
     init_fits looped None i is ext = subst (λ (o : Option St). InitFits looped s scope (opened s) o) (same_some is) (no_init looped s scope visible)
     init_fits looped (Some m) i is ext =
         let q = map_some Some (simple_statement text (opened s) m) i is in
-        let ext0 = extends_twice s.sites (header text s (Some m)).sites all (grows_simple text (opened s) m).sites ext in
+        let ext0 = (within_before p all (opened s) (header text s (Some m)) (grows_simple text (opened s) m) ext).0 in
         subst (λ (o : Option St). InitFits looped s scope (header text s (Some m)) o) q.2
         (some_init looped s scope (header text s (Some m)) q.0
         (simple_formed text p all has wanted1 named looped (opened s) scope (visible_opened s scope visible) (agreed (opened s) refl ext0) m q.0 ext ext0 q.1))
@@ -139,13 +139,13 @@ module _ (text : List ℕ) (p : Program) (all : List Site) (has : HasSites p all
     abbrev pub ChoiceFits : (looped : Bool) → Scope → Choice → Type 0
     ChoiceFits looped h c = InitFits looped s scope h c.init × ExFits p (init_scope scope c.init) bool_type c.condition
 
-    pub guard_fits : (looped : Bool) (g : Guard) (c : Choice) → guard_head text s g ≡ Some c → Extends (header text s g.init).sites all → (header text s g.init).signatures ≡ s.signatures → ChoiceFits looped (header text s g.init) c
+    pub guard_fits : (looped : Bool) (g : Guard) (c : Choice) → guard_head text s g ≡ Some c → Within p all (header text s g.init) → (header text s g.init).signatures ≡ s.signatures → ChoiceFits looped (header text s g.init) c
     guard_fits looped g c is ext signed =
         let h = header text s g.init in
         let r = and_then_some (λ i. option_map (λ x. record { init = i; condition = x }) (condition text h g.condition)) (init_statement text s g.init) c is in
         let q = map_some (λ x. record { init = r.0; condition = x }) (condition text h g.condition) c r.2 in
         let i = init_fits looped g.init r.0 r.1 ext in
-        subst (λ (k : Choice). ChoiceFits looped h k) q.2 (i, condition_fits p (init_scope scope r.0) text h i.visible.shown (agreed h signed ext) g.condition q.0 q.1)
+        subst (λ (k : Choice). ChoiceFits looped h k) q.2 (i, condition_fits p (init_scope scope r.0) text h i.visible.shown (agreed h signed ext.0) g.condition q.0 q.1)
 
     pub choice_formed : (looped : Bool) (h inner after : Scope) (c : Choice) (y z : Sts) → ChoiceFits looped h c → StsFormed looped h (init_scope scope c.init) inner y → StsFormed looped inner (init_scope scope c.init) after z
         → Formed1 looped s scope after (chosen c y z)
@@ -201,20 +201,40 @@ module _ (text : List ℕ) (p : Program) (all : List Site) (has : HasSites p all
     abbrev PostFits : List ℕ → Sts → Type 0
     PostFits sc b = (births_all b ≡ 0) × ((m n : ℕ) → StsFit p wanted1 named false sc m n b)
 
-    post_fits : (h : Scope) (sc : List ℕ) (post : Option Simple) (b : Sts) → Visible h sc → Agrees h p → Extends h.sites all → post_statement text h post ≡ Some b → PostFits sc b
+    post_fits : (h : Scope) (sc : List ℕ) (post : Option Simple) (b : Sts) → Visible h sc → Agrees h p → Within p all (behind_post text h post) → post_statement text h post ≡ Some b → PostFits sc b
     post_fits h sc None b v agrees ext is = subst (λ (x : Sts). PostFits sc x) (same_some is) (refl, λ m n. tt)
     post_fits h sc (Some k) b v agrees ext is =
         let q = map_some alone (post_simple text h k) b is in
-        let f = by k q.0 q.1 in
+        let f = by k q.0 ext q.1 in
         subst (λ (x : Sts). PostFits sc x) q.2 (omega (arith, f.0), λ m n. (f.1 m n, tt))
       where
-        by : (m : Simple) (t : St) → post_simple text h m ≡ Some t → Still text p all has wanted1 named false sc t
-        by (tree.express e) t is1 = simple_still text p all has wanted1 named false h sc v agrees (tree.express e) t tt ext is1
-        by (tree.assign ls at es) t is1 = simple_still text p all has wanted1 named false h sc v agrees (tree.assign ls at es) t tt ext is1
-        by (tree.update ls at tree_op es) t is1 = simple_still text p all has wanted1 named false h sc v agrees (tree.update ls at tree_op es) t tt ext is1
-        by (tree.define ns at es) t is1 = absurd (none_some is1)
-        by (tree.increment e at) t is1 = simple_still text p all has wanted1 named false h sc v agrees (tree.increment e at) t tt ext is1
-        by (tree.decrement e at) t is1 = simple_still text p all has wanted1 named false h sc v agrees (tree.decrement e at) t tt ext is1
+        by : (m : Simple) (t : St) → Within p all (behind_post_simple text h m) → post_simple text h m ≡ Some t → Still text p all has wanted1 named false sc t
+        by (tree.express e) t ext1 is1 = simple_still text p all has wanted1 named false h sc v agrees (tree.express e) t tt ext1 is1
+        by (tree.assign ls at es) t ext1 is1 = simple_still text p all has wanted1 named false h sc v agrees (tree.assign ls at es) t tt ext1 is1
+        by (tree.update ls at tree_op es) t ext1 is1 = simple_still text p all has wanted1 named false h sc v agrees (tree.update ls at tree_op es) t tt ext1 is1
+        by (tree.define ns at es) t ext1 is1 = absurd (none_some is1)
+        by (tree.increment e at) t ext1 is1 = simple_still text p all has wanted1 named false h sc v agrees (tree.increment e at) t tt ext1 is1
+        by (tree.decrement e at) t ext1 is1 = simple_still text p all has wanted1 named false h sc v agrees (tree.decrement e at) t tt ext1 is1
+
+    -- what fits before a post statement fits behind it
+    post_sites : (h : Scope) (post : Option Simple) → (behind_post text h post).sites ≡ h.sites
+    post_sites h None = refl
+    post_sites h (Some (tree.express e)) = refl
+    post_sites h (Some (tree.assign ls at es)) = refl
+    post_sites h (Some (tree.update ls at tree_op es)) = refl
+    post_sites h (Some (tree.define ns at es)) = refl
+    post_sites h (Some (tree.increment e at)) = refl
+    post_sites h (Some (tree.decrement e at)) = refl
+
+    init_behind : (looped : Bool) (h : Scope) (post : Option Simple) (i : Option St) → InitFits looped s scope h i → InitFits looped s scope (behind_post text h post) i
+    init_behind looped h post i k =
+        let same1 : length (behind_post text h post).sites ≡ length h.sites = ap length (post_sites h post) in
+        record {
+          visible = visible_kept h (behind_post text h post) (init_scope scope i) k.visible (keeps_post text h post);
+          headed_fits = λ after t still f. k.headed_fits after t still
+              (record { count = omega (arith, f.count, same1); fit = λ n le. subst (λ j. StFits p wanted1 named looped (init_scope scope i) j n t) same1 (f.fit n le) });
+          keeps = k.keeps;
+        }
 
     -- what gets the numbers
     record KeyFits (h : Scope) (key : Left) : Type 0 where
@@ -305,29 +325,30 @@ module _ (text : List ℕ) (p : Program) (all : List Site) (has : HasSites p all
         let fits = operand_fits p scope (gives text s e) q.0 (maybe_fits p scope (gives text s e) (λ g g_is. gives_fit p scope text s visible.shown agrees e g g_is)) q.1 in
         subst (λ (t : ValueType). ExFits p scope (type_number t) x) (sym (same_type_same Int (type_of q.0) a.0)) (value_fits p scope q.0 x fits a.1)
 
-    pub clause_fits : (looped : Bool) (c : Clause) (k : Head) → clause_head text s c ≡ Some k → Extends (clause_scope text s c).sites all → (clause_scope text s c).signatures ≡ s.signatures → HeadFits looped (clause_scope text s c) k
-    clause_fits looped forever k is ext signed = subst (λ (x : Head). HeadFits looped (opened s) x) (same_some is) (no_init looped s scope visible, tt, refl, λ m n. tt)
-    clause_fits looped (while_true e) k is ext signed =
+    pub clause_fits : (looped : Bool) (c : Clause) (k : Head) → clause_head text s c ≡ Some k → Within p all (clause_scope text s c) → HeadFits looped (clause_scope text s c) k
+    clause_fits looped forever k is ext = subst (λ (x : Head). HeadFits looped (opened s) x) (same_some is) (no_init looped s scope visible, tt, refl, λ m n. tt)
+    clause_fits looped (while_true e) k is ext =
         let r = and_then_some (λ x. option_map (repeated None x) (Some done)) (option_map Some (condition text (opened s) e)) k is in
         let q = map_some Some (condition text (opened s) e) r.0 r.1 in
-        let fits = condition_fits p scope text (opened s) (visible_opened s scope visible).shown (agreed (opened s) refl ext) e q.0 q.1 in
+        let fits = condition_fits p scope text (opened s) (visible_opened s scope visible).shown (agreed (opened s) refl ext.0) e q.0 q.1 in
         subst (λ (x : Head). HeadFits looped (opened s) x) (same_some (ap (λ (x : Option Ex). Some (repeated None x done)) q.2 ∙ r.2)) (no_init looped s scope visible, fits, refl, λ m n. tt)
-    clause_fits looped (counting init test1 post) k is ext signed =
+    clause_fits looped (counting init test1 post) k is ext =
         let h = header text s init in
         let r = and_then_some (λ i. option_and_then (λ x. option_map (repeated i x) (post_statement text h post)) (test text h test1)) (init_statement text s init) k is in
         let q = and_then_some (λ x. option_map (repeated r.0 x) (post_statement text h post)) (test text h test1) k r.2 in
         let o = map_some (repeated r.0 q.0) (post_statement text h post) k q.2 in
-        let i = init_fits looped init r.0 r.1 ext in
-        let agrees = agreed h signed ext in
+        let ext1 = within_before p all h (behind_post text h post) (keeps_grows h (behind_post text h post) (keeps_post text h post)) ext in
+        let i = init_fits looped init r.0 r.1 ext1 in
+        let agrees = agreed h (grows_header text s init).signatures ext1.0 in
         let last1 = post_fits h (init_scope scope r.0) post o.0 i.visible agrees ext o.1 in
-        subst (λ (x : Head). HeadFits looped h x) o.2 (i, optional_test (init_scope scope r.0) q.0 (test_fits p (init_scope scope r.0) text h i.visible.shown agrees test1 q.0 q.1), last1.0, last1.1)
-    clause_fits looped (ranging t at e) k is ext signed =
+        subst (λ (x : Head). HeadFits looped (behind_post text h post) x) o.2 (init_behind looped h post r.0 i, optional_test (init_scope scope r.0) q.0 (test_fits p (init_scope scope r.0) text h i.visible.shown agrees test1 q.0 q.1), last1.0, last1.1)
+    clause_fits looped (ranging t at e) k is ext =
         let n = number_type (over text s e) in
         let r = and_then_some (λ x. option_map (counted x) (option_and_then key_of (target_lefts text (opened s) n t))) (over text s e) k is in
         let q = map_some (counted r.0) (option_and_then key_of (target_lefts text (opened s) n t)) k r.2 in
         let l = and_then_some key_of (target_lefts text (opened s) n t) q.0 q.1 in
         let int1 : n ≡ Some Int = ap number_type r.1 in
-        let ext1 : Extends (behind_entries text (opened s) (target_slots (Some Int) t)).sites all = subst (λ (o : Option ValueType). Extends (behind_entries text (opened s) (target_slots o t)).sites all) int1 ext in
+        let ext1 : Extends (behind_entries text (opened s) (target_slots (Some Int) t)).sites all = subst (λ (o : Option ValueType). Extends (behind_entries text (opened s) (target_slots o t)).sites all) int1 ext.0 in
         let ext0 = extends_twice s.sites (behind_entries text (opened s) (target_slots (Some Int) t)).sites all (grows_entries text (opened s) (target_slots (Some Int) t)).sites ext1 in
         let f = keys_fit t l.0 q.0 ext0 ext1 (ap (λ (o : Option ValueType). target_lefts text (opened s) o t) (sym int1) ∙ l.1) l.2 in
         subst (λ (x : Head). HeadFits looped (behind_entries text (opened s) (target_slots n t)) x) q.2

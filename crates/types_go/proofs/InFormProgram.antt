@@ -14,22 +14,21 @@ use Rattle.typed.specs.Syntax.{Sts, Func, Program, argument_words, result_words,
 use Rattle.typed.specs.Form.{IsPlain, site_type, ends_all, ParamsFit, NamedFit, named_params as with_sites, params_scope, scope_in, body_first, StsFit, FuncFits, IsInForm}
 use Rattle.expression_types.specs.declared.scope.ValueType.{ValueType}
 use Rattle.expression_types.specs.declared.scope.ValueType.TheVariants.{Int, Bool as Truth}
-use Rattle.expression_types.specs.declared.scope.Declared.TheVariants.{Function}
 use Rattle.expression_types.specs.Profile.{is_blank, is_main, is_predeclared, is_reserved}
-use Rattle.expression_types.specs.Scope.{Scope, Signature, type_number, type_numbers, declaration, is_here, with_declaration, with_signature, opened, beginning}
+use Rattle.expression_types.specs.Scope.{Scope, Signature, type_number, type_numbers, declaration, is_here, opened, beginning}
 use Rattle.expression_types.specs.Typing.{asked}
 use Rattle.types_go.specs.declared.slots.Slot.{Slot}
 use Rattle.types_go.specs.declared.entries.Role.{Role}
 use Rattle.types_go.specs.declared.entries.Role.TheVariants.{Parameter, Result}
 use Rattle.types_go.specs.Entries.{entry_of, sites_of, entry_in, behind_entry, entries}
 use Rattle.types_go.specs.Statements.{behind_all, ends_after}
-use Rattle.types_go.specs.Functions.{Param, param_with, unnamed_params, named_params, params_of, is_named, slot_of, slots_of, words, is_small, is_plain, number_of, plain_number, declares_name, types_of, number_or_int, slot_number, signature_in, with_function, functions_in, are_supported, behind_params, body_scope, behind_body, behind_function, behind_functions, returns_of, may_be_named, func, function, functions, declarations_in, package_scope, main_number}
-use Rattle.types_go.specs.Checked.{Types, sites_in, program_with}
+use Rattle.types_go.specs.Functions.{Param, param_with, unnamed_params, named_params, params_of, is_named, slot_of, slots_of, words, is_small, is_plain, number_of, plain_number, declares_name, types_of, number_or_int, slot_number, signature_in, is_external, with_function, functions_in, are_supported, behind_params, body_scope, behind_body, behind_function, behind_functions, returns_of, may_be_named, func, function, functions, declarations_in, package_scope, main_number}
+use Rattle.types_go.specs.Checked.{Types, sites_in, strings_in, program_with}
 use Rattle.expression_types.proofs.Options.{and_then_some, map_some, none_some, same_some}
-use Rattle.types_go.proofs.SettledFunctions.{allowed_some, signature_parts, small_signed, function_some, with_functions, only_functions}
-use Rattle.types_go.proofs.Growth.{IsSite, Extends, extends_twice, keeps_function, keeps_functions, grows_entries, grows_body, grows_all}
+use Rattle.types_go.proofs.SettledFunctions.{allowed_some, signature_parts, small_signed, function_some, with_functions, all_in, numbered, numbered_are, only_functions, declared_one}
+use Rattle.types_go.proofs.Growth.{IsSite, extends_twice, keeps_grows, keeps_function, keeps_functions, grows_entries, grows_body, grows_all}
 use Rattle.types_go.proofs.Visible.{Visible, visible_beginning, visible_opened, visible_kept, visible_package}
-use Rattle.types_go.proofs.InFormEntries.{HasSites, SlotsHave, sites_long, named_of_params, named_scope_of, variable_is, entries_fit}
+use Rattle.types_go.proofs.InFormEntries.{HasSites, Within, within_before, SlotsHave, sites_long, named_of_params, named_scope_of, variable_is, entries_fit}
 use Rattle.types_go.proofs.InFormSimple.{ReturnsFit}
 use Rattle.types_go.proofs.InFormStatements.{AreSigned, formed_all}
 use Rattle.types_go.proofs.Terminating.{ends_same, ends_list}
@@ -210,7 +209,7 @@ module _ (text : List ℕ) where
   }
 
   module _ (p : Program) (all : List Site) (has : HasSites p all) (sigs : List (Option Signature)) (agrees : AreSigned sigs p.funcs) where
-    function_fits : (s : Scope) (i : ℕ) (g : TreeFunction) (t : Func) → Visible s [] → s.signatures ≡ sigs → Extends (behind_function text s g).sites all → function text s i g ≡ Some t → FuncFits p t
+    function_fits : (s : Scope) (i : ℕ) (g : TreeFunction) (t : Func) → Visible s [] → s.signatures ≡ sigs → Within p all (behind_function text s g) → function text s i g ≡ Some t → FuncFits p t
     function_fits s i g t visible signed ext0 is =
         let found = function_some text s i g t is in
         let b = found.0 in
@@ -224,8 +223,8 @@ module _ (text : List ℕ) where
         let have_results = slots_have (slots_of text g.results) types.1 types.3 in
         let inner = body_scope text s g in
         let last1 = behind_all text inner b.statements in
-        let ext : Extends last1.sites all = subst (λ (o : Option Body). Extends (behind_body text s g o).sites all) found.1.0 ext0 in
-        let ext_inner = extends_twice inner.sites last1.sites all (grows_all text inner b.statements).sites ext in
+        let ext : Within p all last1 = subst (λ (o : Option Body). Within p all (behind_body text s g o)) found.1.0 ext0 in
+        let ext_inner = extends_twice inner.sites last1.sites all (grows_all text inner b.statements).sites ext.0 in
         let ext_params = extends_twice (behind_params text s g).sites inner.sites all (grows_entries text (behind_params text s g) (slots_of text g.results)).sites ext_inner in
         let one1 = entries_fit text p all has Parameter (opened s) [] (slots_of text g.params) types.0 ps (visible_opened s [] visible) have_params k.3.3 ext_params in
         let two1 = entries_fit text p all has Result (behind_params text s g) (params_scope [] ps) (slots_of text g.results) types.1 rs one1.visible have_results k.3.4 ext_inner in
@@ -275,14 +274,14 @@ module _ (text : List ℕ) where
       (later.0, (later.1.0, (later.1.1.0, (ap (λ (l : List Func). slice_get l (suc k)) (sym q.2) ∙ later.1.1.1.0, later.1.1.1.1))))
 
   module _ (p : Program) (all : List Site) (has : HasSites p all) (sigs : List (Option Signature)) (agrees : AreSigned sigs p.funcs) where
-    all_fit : (s : Scope) (i : ℕ) (gs : List TreeFunction) (ts : List Func) → Visible s [] → s.signatures ≡ sigs → Extends (behind_functions text s gs).sites all → functions text s i gs ≡ Some ts → (k : ℕ) (t : Func) → slice_get ts k ≡ Some t → FuncFits p t
+    all_fit : (s : Scope) (i : ℕ) (gs : List TreeFunction) (ts : List Func) → Visible s [] → s.signatures ≡ sigs → Within p all (behind_functions text s gs) → functions text s i gs ≡ Some ts → (k : ℕ) (t : Func) → slice_get ts k ≡ Some t → FuncFits p t
     all_fit s i [] ts visible signed ext is k t found = absurd (none_some (subst (λ (l : List Func). slice_get l k ≡ Some t) (sym (same_some is)) found))
     all_fit s i (h ∷ gs) ts visible signed ext is k t found =
         let s1 = behind_function text s h in
         let r = and_then_some (λ x. option_map (λ us. x ∷ us) (functions text s1 (1 + i) gs)) (function text s i h) ts is in
         let q = map_some (λ us. r.0 ∷ us) (functions text s1 (1 + i) gs) ts r.2 in
         let keeps = keeps_function text s h in
-        let ext1 = extends_twice s1.sites (behind_functions text s1 gs).sites all (keeps_functions text s1 gs).sites ext in
+        let ext1 = within_before p all s1 (behind_functions text s1 gs) (keeps_grows s1 (behind_functions text s1 gs) (keeps_functions text s1 gs)) ext in
         by k r.0 q.0 (function_fits p all has sigs agrees s i h r.0 visible signed ext1 r.1)
         (λ j found1. all_fit s1 (1 + i) gs q.0 (visible_kept s s1 [] visible keeps) (keeps.signatures ∙ signed) ext q.1 j t found1)
         (subst (λ (l : List Func). slice_get l k ≡ Some t) (sym q.2) found)
@@ -302,25 +301,28 @@ module _ (text : List ℕ) where
       let e : suc (length q.0) ≡ length ts = ap length q.2 in
       omega (arith, rest, e)
 
-  -- the signatures of the package block are those of its functions
-  signatures_are : (s : Scope) (gs : List TreeFunction) → (with_functions text s gs).signatures ≡ s.signatures ++ map (signature_in text) gs
+  -- the signatures of the package block are those of its functions that have numbers
+  signatures_are : (s : Scope) (gs : List TreeFunction) → (with_functions text s gs).signatures ≡ s.signatures ++ map (signature_in text) (numbered text gs)
   signatures_are s [] = sym (append-nil s.signatures)
-  signatures_are s (g ∷ gs) =
-      signatures_are (with_function text s g) gs ∙ (ap (λ l. l ++ map (signature_in text) gs) (by (declares_name s (spelled text g.name))) ∙ append_assoc s.signatures (signature_in text g ∷ []) (map (signature_in text) gs))
+  signatures_are s (g ∷ gs) = by (λ v. signatures_are v gs) (is_external text g) (declares_name s (spelled text g.name))
     where
-      by : (b : Bool) → (with_signature (cond b (with_declaration s (spelled text g.name) (Function (record { 0 = length s.signatures }))) s) (signature_in text g)).signatures ≡ s.signatures ++ signature_in text g ∷ []
-      by true = refl
-      by false = refl
+      by : ((v : Scope) → (with_functions text v gs).signatures ≡ v.signatures ++ map (signature_in text) (numbered text gs)) → (b c : Bool)
+          → (with_functions text (declared_one text s g b c) gs).signatures ≡ s.signatures ++ map (signature_in text) (cond b (numbered text gs) (g ∷ numbered text gs))
+      by later true true = later (declared_one text s g true true)
+      by later true false = later s
+      by later false true = later (declared_one text s g false true) ∙ append_assoc s.signatures (signature_in text g ∷ []) (map (signature_in text) (numbered text gs))
+      by later false false = later (declared_one text s g false false) ∙ append_assoc s.signatures (signature_in text g ∷ []) (map (signature_in text) (numbered text gs))
 
   signed_function : (gs : List TreeFunction) (k : ℕ) (sig : Signature) → option_and_then (λ o. o) (slice_get (map (signature_in text) gs) k) ≡ Some sig → (g : TreeFunction) × ((slice_get gs k ≡ Some g) × (signature_in text g ≡ Some sig))
   signed_function [] k sig is = absurd (none_some is)
   signed_function (g ∷ gs) zero sig is = (g, (refl, is))
   signed_function (g ∷ gs) (suc k) sig is = signed_function gs k sig is
 
-  agree : (gs : List TreeFunction) (ts : List Func) → functions text (with_functions text beginning gs) 0 gs ≡ Some ts → AreSigned (with_functions text beginning gs).signatures ts
-  agree gs ts is k sig found =
-      let g = signed_function gs k sig (ap (λ (l : List (Option Signature)). option_and_then (λ o. o) (slice_get l k)) (sym (signatures_are beginning gs)) ∙ found) in
-      let at = function_at (with_functions text beginning gs) 0 gs ts is k g.0 g.1.0 in
+  agree : (hs : List TreeFunction) (ts : List Func) → functions text (with_functions text beginning hs) 0 (numbered text hs) ≡ Some ts → AreSigned (with_functions text beginning hs).signatures ts
+  agree hs ts is k sig found =
+      let gs = numbered text hs in
+      let g = signed_function gs k sig (ap (λ (l : List (Option Signature)). option_and_then (λ o. o) (slice_get l k)) (sym (signatures_are beginning hs)) ∙ found) in
+      let at = function_at (with_functions text beginning hs) 0 gs ts is k g.0 g.1.0 in
       let types = function_types at.0 at.1.0 g.0 at.1.1.0 sig at.1.1.1.1 g.1.1 in
       (at.1.1.0, at.1.1.1.0, types.0, types.1)
 
@@ -337,11 +339,13 @@ sites_plain (site ∷ sites) all (suc k) = sites_plain sites all.1 k
 
 no_sites : (text : List ℕ) (s : Scope) (gs : List TreeFunction) → s.sites ≡ [] → (with_functions text s gs).sites ≡ []
 no_sites text s [] is = is
-no_sites text s (g ∷ gs) is = no_sites text (with_function text s g) gs (by (declares_name s (spelled text g.name)))
+no_sites text s (g ∷ gs) is = no_sites text (with_function text s g) gs (by (is_external text g) (declares_name s (spelled text g.name)))
   where
-    by : (b : Bool) → (with_signature (cond b (with_declaration s (spelled text g.name) (Function (record { 0 = length s.signatures }))) s) (signature_in text g)).sites ≡ []
-    by true = is
-    by false = is
+    by : (b c : Bool) → (declared_one text s g b c).sites ≡ []
+    by true true = is
+    by true false = is
+    by false true = is
+    by false false = is
 
 -- a function without parameters and results
 abbrev PlainAt : List TreeFunction → ℕ → Type 0
@@ -361,11 +365,11 @@ plain_some gs (Some i) m is = by (slice_get gs i) refl is
     by None found is1 = absurd (none_some is1)
     by (Some g) found is1 = plain_here gs i m g found ((length (params_of g.params) == 0) && (length (params_of g.results) == 0)) refl is1
 
-main_some : (t : Syntax) (m : ℕ) → main_number t ≡ Some m → PlainAt (functions_in (declarations_in t)) m
+main_some : (t : Syntax) (m : ℕ) → main_number t ≡ Some m → PlainAt (functions_in t.text (declarations_in t)) m
 main_some t m is = by (is_main (spelled t.text t.file.package_name)) is
   where
     gs : List TreeFunction
-    gs = functions_in (declarations_in t)
+    gs = functions_in t.text (declarations_in t)
 
     by : (b : Bool) → cond b (plain_number gs (number_of (declaration (package_scope t) (codes "main")))) None ≡ Some m → PlainAt gs m
     by true is1 = plain_some gs (number_of (declaration (package_scope t) (codes "main"))) m is1
@@ -383,26 +387,33 @@ plain_function text s i g t is no_params no_results =
 
 pub in_form : (t : Syntax) (p : Program) → Types t p → IsInForm p
 in_form t p a =
-    let gs = functions_in (declarations_in t) in
-    let w = allowed_some (are_supported (declarations_in t)) (functions t.text (package_scope t) 0 gs) a.funcs a.functions in
-    let s = with_functions t.text beginning gs in
-    let scope_is = only_functions t.text beginning (declarations_in t) w.0 in
-    let found : functions t.text s 0 gs ≡ Some a.funcs = ap (λ v. functions t.text v 0 gs) (sym scope_is) ∙ w.1 in
-    let all = (behind_functions t.text s gs).sites in
-    let sites_are : sites_in t ≡ all = ap (λ (v : Scope). (behind_functions t.text v gs).sites) scope_is in
+    let ds = declarations_in t in
+    let hs = all_in t.text ds in
+    let gs = numbered t.text hs in
+    let gs_are : functions_in t.text ds ≡ gs = numbered_are t.text ds in
+    let w = allowed_some (are_supported t.text (package_scope t) ds) (functions t.text (package_scope t) 0 (functions_in t.text ds)) a.funcs a.functions in
+    let s = with_functions t.text beginning hs in
+    let scope_is : package_scope t ≡ s = only_functions t.text (package_scope t) beginning ds w.0 in
+    let found : functions t.text s 0 gs ≡ Some a.funcs = ap (λ v. functions t.text v 0 gs) (sym scope_is) ∙ (ap (λ (l : List TreeFunction). functions t.text (package_scope t) 0 l) (sym gs_are) ∙ w.1) in
+    let last1 = behind_functions t.text s gs in
+    let all = last1.sites in
+    let last_is : behind_functions t.text (package_scope t) (functions_in t.text ds) ≡ last1 = ap (λ (l : List TreeFunction). behind_functions t.text (package_scope t) l) gs_are ∙ ap (λ v. behind_functions t.text v gs) scope_is in
+    let sites_are : sites_in t ≡ all = ap (λ (v : Scope). v.sites) last_is in
+    let strings_are : length (strings_in t) ≡ length last1.strings = ap (λ (v : Scope). length v.strings) last_is in
     let p0 = program_with t a.funcs a.main in
     let has : HasSites p0 all = ap (map (λ (site : Site). site.type_id.0)) sites_are in
-    let agrees = agree t.text gs a.funcs found in
-    let g = main_some t a.main a.main_is in
+    let agrees = agree t.text hs a.funcs found in
+    let g = subst (λ (l : List TreeFunction). PlainAt l a.main) gs_are (main_some t a.main a.main_is) in
     let at = function_at t.text s 0 gs a.funcs found a.main g.0 g.1.0 in
     let plain = plain_function t.text at.0 at.1.0 g.0 at.1.1.0 at.1.1.1.1 g.1.1.0 g.1.1.1 in
     let few0 = few_functions t.text s 0 gs a.funcs found (omega arith) in
     let few : length a.funcs ≤ 4096 = omega (arith, few0) in
     let grown = (keeps_functions t.text s gs).sites in
-    let every : AllByRecursion IsSite all = subst (λ (l : List Site). AllByRecursion IsSite l) (sym (grown.1 ∙ ap (λ (l : List Site). l ++ grown.0) (no_sites t.text beginning gs refl))) grown.2 in
+    let every : AllByRecursion IsSite all = subst (λ (l : List Site). AllByRecursion IsSite l) (sym (grown.1 ∙ ap (λ (l : List Site). l ++ grown.0) (no_sites t.text beginning hs refl))) grown.2 in
+    let within : Within p0 all last1 = (([], sym (append-nil all), tt), omega (arith, strings_are)) in
     subst IsInForm (sym a.is)
     (record {
-      fits = λ k f got. all_fit t.text p0 all has s.signatures agrees s 0 gs a.funcs (visible_package t.text beginning gs visible_beginning) refl ([], sym (append-nil all), tt) found k f got;
+      fits = λ k f got. all_fit t.text p0 all has s.signatures agrees s 0 gs a.funcs (visible_package t.text beginning hs visible_beginning) refl within found k f got;
       few = few;
       main = (at.1.1.0, at.1.1.1.0, plain.0, plain.1.0, plain.1.1);
       plain = λ site. subst (λ (l : List ℕ). IsPlain (get_or l site int_type)) (sym has) (sites_plain all every site);

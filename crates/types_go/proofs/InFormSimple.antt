@@ -17,24 +17,24 @@ use Rattle.syntax.specs.Statements as tree
 use Rattle.typed.specs.declared.operators.BinOp.{BinOp as TypedOp}
 use Rattle.typed.specs.declared.operators.BinOp.TheVariants as op
 use Rattle.typed.specs.declared.program.Site.{Site}
-use Rattle.typed.specs.Syntax.{Exs, Left, Pl, St, Program, read, local, here, none, more, results, asked as asked_two, blank, new, to, update, give_back, int_type}
-use Rattle.typed.specs.Form.{IsArithmetic, IsStep, PlFits, LeftsFit, new_sites, births, scope_behind, scope_after, ExFits, ExsFit, ReturnFits, StFits}
+use Rattle.typed.specs.Syntax.{Exs, Left, Pl, St, Program, read, local, here, none, more, results, asked as asked_two, blank, new, to, update, give_back, int_type, bool_type}
+use Rattle.typed.specs.Form.{IsArithmetic, IsStep, PlFits, LeftsFit, new_sites, births, scope_behind, scope_after, ExFits, ExsFit, PieceFits, PiecesFit, ReturnFits, StFits}
 use Rattle.expression_types.specs.declared.scope.ValueType.{ValueType}
 use Rattle.expression_types.specs.declared.scope.ValueType.TheVariants.{Int, Bool as Truth}
 use Rattle.expression_types.specs.declared.scope.Declared.{Declared}
-use Rattle.expression_types.specs.declared.scope.Declared.TheVariants.{Variable, Untyped, Function, TypeName}
+use Rattle.expression_types.specs.declared.scope.Declared.TheVariants.{Variable, Untyped, Function, External, TypeName}
 use Rattle.expression_types.specs.Profile.{is_blank, is_main, is_predeclared, is_reserved}
-use Rattle.expression_types.specs.Scope.{Scope, type_number, type_numbers, declaration, is_here, with_variable}
-use Rattle.expression_types.specs.Typing.{value, Gives, one, called, printed, panicked, arithmetic_of, combined, both, operand_in, Seen, value_types, asked, taken, name_in, gives, seen}
+use Rattle.expression_types.specs.Scope.{Scope, type_number, type_numbers, declaration, is_here, with_variable, with_strings}
+use Rattle.expression_types.specs.Typing.{value, Part, said, valued, Gives, one, called, asking, quoted, printed, panicked, exited, arithmetic_of, combined, both, operand_in, Seen, value_types, asked, taken, name_in, gives, seen}
 use Rattle.types_go.specs.declared.slots.Slot.{Slot}
 use Rattle.types_go.specs.Entries.{slot_with, slots_each}
-use Rattle.types_go.specs.Statements.{Returns, only, target, variable_type, variable_value, left_of, wanted_of, new_left_of, new_wanted_of, declares, expressed, updated, stepped, returned, assignment, left, wanted, lefts, all_wanted, new_left, new_wanted, new_lefts, all_new_wanted, new_slots, with_variables, may_define, own_value, definition_types, behind_simple, update_one, update_statement, step_statement, simple_statement}
+use Rattle.types_go.specs.Statements.{Returns, only, target, variable_type, variable_value, left_of, wanted_of, new_left_of, new_wanted_of, declares, strings_of, piece_from, pieces_from, strings_in_call, strings_in, expressed, updated, stepped, returned, assignment, left, wanted, lefts, all_wanted, new_left, new_wanted, new_lefts, all_new_wanted, new_slots, with_variables, may_define, own_value, definition_types, behind_simple, update_one, update_statement, step_statement, simple_statement}
 use Rattle.expression_types.proofs.Options.{and_then_some, map_some, none_some, same_some}
-use Rattle.expression_types.proofs.InForm.{Agrees, AreAccepted, GivesFit, AllFit, OperandFits, CallFits, value_fits, operand_fits, taken_fits, asked_types, gives_fit, seen_fit, maybe_fits}
+use Rattle.expression_types.proofs.InForm.{Agrees, AreAccepted, PartFits, PartsFit, GivesFit, AllFit, OperandFits, CallFits, value_fits, operand_fits, taken_fits, asked_types, gives_fit, seen_fit, maybe_fits}
 use Rattle.types_go.proofs.SettledSimple.{assignment_some, where_some, own_read, update_some}
 use Rattle.types_go.proofs.Growth.{Extends, extends_twice, grows_variables}
-use Rattle.types_go.proofs.Visible.{has_longer, Visible, visible_with}
-use Rattle.types_go.proofs.InFormEntries.{HasSites, site_is}
+use Rattle.types_go.proofs.Visible.{has_longer, Visible, visible_with, visible_strings}
+use Rattle.types_go.proofs.InFormEntries.{HasSites, site_is, Within}
 
 -- what a `return` may give goes together with the results of a function, and the names for them
 pub record ReturnsFit (r : Returns) (results1 : List ℕ) (named : ℕ) : Type 0 where
@@ -100,6 +100,7 @@ module _ (p : Program) where
   target_old scope None t l has wants is = absurd (none_some is)
   target_old scope (Some Untyped) t l has wants is = absurd (none_some is)
   target_old scope (Some (Function g)) t l has wants is = absurd (none_some is)
+  target_old scope (Some (External e at)) t l has wants is = absurd (none_some is)
   target_old scope (Some TypeName) t l has wants is = absurd (none_some is)
   target_old scope (Some (Variable site u)) t l has wants is =
       inr (site.0, sym (same_some is), subst (λ (v : ValueType). PlFits p scope (type_number v) (local site.0 here)) (wants u refl) (has site u refl))
@@ -241,14 +242,26 @@ module _ (text : List ℕ) (p : Program) (all : List Site) (has : HasSites p all
         by (t1 ∷ ts) no_values none fit = absurd fit
         by l no_values (more e es) fit = fit
         by l no_values (results f es) fit = fit
-        by [] no_values asked_two fit = absurd fit
-        by (t1 ∷ ts) no_values asked_two fit = absurd fit
+        by l no_values asked_two fit = fit
 
-    express_still : (looped : Bool) (scope : List ℕ) (g : Gives) (t : St) → GivesFit p scope g → expressed g ≡ Some t → Still looped scope t
-    express_still looped scope (one x) t fits is = absurd (none_some is)
-    express_still looped scope (called at ts f es) t fits is = subst (λ (x : St). Still looped scope x) (same_some is) (refl, λ m n. (type_numbers ts, results_fit p scope ts f es fits), refl)
-    express_still looped scope (printed at line ps) t fits is = subst (λ (x : St). Still looped scope x) (same_some is) (refl, λ m n. fits, refl)
-    express_still looped scope (panicked at q) t fits is = subst (λ (x : St). Still looped scope x) (same_some is) (refl, λ m n. fits, refl)
+    -- operands whose strings the program has
+    piece_fits : (scope : List ℕ) (n : ℕ) (q : Part) → PartFits p scope q → n + length (strings_of (q ∷ [])) ≤ length p.strings → PieceFits p scope (piece_from n q)
+    piece_fits scope n (said bytes) fits le = omega (arith, le)
+    piece_fits scope n (valued t e) fits le = fits
+
+    pieces_fit : (scope : List ℕ) (n : ℕ) (ps : List Part) → PartsFit p scope ps → n + length (strings_of ps) ≤ length p.strings → PiecesFit p scope (pieces_from n ps)
+    pieces_fit scope n [] fits le = tt
+    pieces_fit scope n (said bytes ∷ ps) fits le = (omega (arith, le), pieces_fit scope (1 + n) ps fits.1 (omega (arith, le)))
+    pieces_fit scope n (valued t e ∷ ps) fits le = (fits.0, pieces_fit scope n ps fits.1 le)
+
+    express_still : (looped : Bool) (scope : List ℕ) (k : ℕ) (g : Gives) (t : St) → GivesFit p scope g → k + length (strings_in_call g) ≤ length p.strings → expressed k g ≡ Some t → Still looped scope t
+    express_still looped scope k (one x) t fits le is = absurd (none_some is)
+    express_still looped scope k (called at ts f es) t fits le is = subst (λ (x : St). Still looped scope x) (same_some is) (refl, λ m n. (type_numbers ts, results_fit p scope ts f es fits), refl)
+    express_still looped scope k (asking at) t fits le is = subst (λ (x : St). Still looped scope x) (same_some is) (refl, λ m n. (int_type ∷ bool_type ∷ [], refl), refl)
+    express_still looped scope k (quoted at bytes) t fits le is = absurd (none_some is)
+    express_still looped scope k (printed at line ps) t fits le is = subst (λ (x : St). Still looped scope x) (same_some is) (refl, λ m n. pieces_fit scope k ps fits le, refl)
+    express_still looped scope k (panicked at q) t fits le is = subst (λ (x : St). Still looped scope x) (same_some is) (refl, λ m n. piece_fits scope k q fits le, refl)
+    express_still looped scope k (exited at e) t fits le is = subst (λ (x : St). Still looped scope x) (same_some is) (refl, λ m n. fits, refl)
 
     module _ (looped : Bool) (s : Scope) (scope : List ℕ) (visible : Visible s scope) (agrees : Agrees s p) where
       assign_still : (ls : TreeExs) (es : TreeExs) (t : St) → Extends s.sites all → assignment (lefts text s ls) (taken (all_wanted text s ls) (seen text s es)) ≡ Some t → Still looped scope t
@@ -285,6 +298,7 @@ module _ (text : List ℕ) (p : Program) (all : List Site) (has : HasSites p all
           of_variable None known is1 = absurd (none_some is1)
           of_variable (Some Untyped) known is1 = absurd (none_some is1)
           of_variable (Some (Function g)) known is1 = absurd (none_some is1)
+          of_variable (Some (External e at)) known is1 = absurd (none_some is1)
           of_variable (Some TypeName) known is1 = absurd (none_some is1)
           of_variable (Some (Variable site u)) known is1 =
               let read_is : value u (read (local site.0 here)) ≡ value t (read q) = same_some is1 in
@@ -324,22 +338,36 @@ module _ (text : List ℕ) (p : Program) (all : List Site) (has : HasSites p all
           by Truth l found is1 = absurd (none_some is1)
           by Int l found is1 = subst (λ (y : St). Still looped scope y) (same_some is1) (refl, λ m n. (steps, own_fits ext (name_in e) Int l found), refl)
 
-      pub simple_still : (m : Simple) (t : St) → DeclaresNone m → Extends s.sites all → simple_statement text s m ≡ Some t → Still looped scope t
-      simple_still (tree.express e) t none1 ext is = let q = and_then_some expressed (gives text s e) t is in express_still looped scope q.0 t (gives_fit p scope text s visible.shown agrees e q.0 q.1) q.2
-      simple_still (tree.assign ls at es) t none1 ext is = assign_still ls es t ext is
-      simple_still (tree.update ls at tree_op es) t none1 ext is = update_still ext tree_op (only ls) (only es) t is
-      simple_still (tree.define ns at es) t none1 ext is = absurd none1
-      simple_still (tree.increment e at) t none1 ext is = step_still ext op.Add (inl refl) e t is
-      simple_still (tree.decrement e at) t none1 ext is = step_still ext op.Sub (inr refl) e t is
+      call_still : (e : TreeEx) (t : St) → Within p all (with_strings s (strings_in (gives text s e))) → option_and_then (expressed (length s.strings)) (gives text s e) ≡ Some t → Still looped scope t
+      call_still e t within is =
+          let q = and_then_some (expressed (length s.strings)) (gives text s e) t is in
+          let count1 : length (strings_in (gives text s e)) ≡ length (strings_in_call q.0) = ap (λ (o : Option Gives). length (strings_in o)) q.1 in
+          let count2 = length-append s.strings (strings_in (gives text s e)) in
+          express_still looped scope (length s.strings) q.0 t (gives_fit p scope text s visible.shown agrees e q.0 q.1) (omega (arith, within.1, count1, count2)) q.2
 
-      pub simple_formed : (m : Simple) (t : St) → Extends (behind_simple text s m).sites all → Extends s.sites all → simple_statement text s m ≡ Some t
+      pub simple_still : (m : Simple) (t : St) → DeclaresNone m → Within p all (behind_simple text s m) → simple_statement text s m ≡ Some t → Still looped scope t
+      simple_still (tree.express e) t none1 within is = call_still e t within is
+      simple_still (tree.assign ls at es) t none1 within is = assign_still ls es t within.0 is
+      simple_still (tree.update ls at tree_op es) t none1 within is = update_still within.0 tree_op (only ls) (only es) t is
+      simple_still (tree.define ns at es) t none1 within is = absurd none1
+      simple_still (tree.increment e at) t none1 within is = step_still within.0 op.Add (inl refl) e t is
+      simple_still (tree.decrement e at) t none1 within is = step_still within.0 op.Sub (inr refl) e t is
+
+      call_formed : (e : TreeEx) (t : St) → Still looped scope t → StFormed looped s scope (behind_simple text s (tree.express e)) t × Visible (behind_simple text s (tree.express e)) (scope_after scope t)
+      call_formed e t f =
+          let strings1 = strings_in (gives text s e) in (
+            record { count = omega (arith, f.0); fit = λ n le. f.1 (length s.sites) n },
+            subst (λ (w : List ℕ). Visible (with_strings s strings1) w) (sym f.2) (visible_strings s scope strings1 visible),
+          )
+
+      pub simple_formed : (m : Simple) (t : St) → Within p all (behind_simple text s m) → Extends s.sites all → simple_statement text s m ≡ Some t
           → StFormed looped s scope (behind_simple text s m) t × Visible (behind_simple text s m) (scope_after scope t)
-      simple_formed (tree.express e) t ext ext0 is = still_formed looped s scope t visible (simple_still (tree.express e) t tt ext0 is)
-      simple_formed (tree.assign ls at es) t ext ext0 is = still_formed looped s scope t visible (simple_still (tree.assign ls at es) t tt ext0 is)
-      simple_formed (tree.update ls at tree_op es) t ext ext0 is = still_formed looped s scope t visible (simple_still (tree.update ls at tree_op es) t tt ext0 is)
-      simple_formed (tree.define ns at es) t ext ext0 is = define_formed ns at es t ext ext0 is
-      simple_formed (tree.increment e at) t ext ext0 is = still_formed looped s scope t visible (simple_still (tree.increment e at) t tt ext0 is)
-      simple_formed (tree.decrement e at) t ext ext0 is = still_formed looped s scope t visible (simple_still (tree.decrement e at) t tt ext0 is)
+      simple_formed (tree.express e) t within ext0 is = call_formed e t (call_still e t within is)
+      simple_formed (tree.assign ls at es) t within ext0 is = still_formed looped s scope t visible (simple_still (tree.assign ls at es) t tt within is)
+      simple_formed (tree.update ls at tree_op es) t within ext0 is = still_formed looped s scope t visible (simple_still (tree.update ls at tree_op es) t tt within is)
+      simple_formed (tree.define ns at es) t within ext0 is = define_formed ns at es t within.0 ext0 is
+      simple_formed (tree.increment e at) t within ext0 is = still_formed looped s scope t visible (simple_still (tree.increment e at) t tt within is)
+      simple_formed (tree.decrement e at) t within ext0 is = still_formed looped s scope t visible (simple_still (tree.decrement e at) t tt within is)
 
       pub return_formed : (r : Returns) (goes : ReturnsFit r wanted1 named) (es : TreeExs) (t : St) → returned r (seen text s es) ≡ Some t → StFormed looped s scope s t × Visible s (scope_after scope t)
       return_formed r goes es t is = still_formed looped s scope t visible (return_still looped scope r goes (seen text s es) t (seen_fit p scope text s visible.shown agrees es) is)

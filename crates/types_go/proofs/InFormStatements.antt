@@ -14,9 +14,9 @@ use Rattle.expression_types.proofs.Options.{and_then_some, map_some, same_some}
 use Rattle.expression_types.proofs.InForm.{Agrees}
 use Rattle.types_go.proofs.SettledEntries.{allowed_is}
 use Rattle.types_go.proofs.SettledStatements.{choice_some, loop_some}
-use Rattle.types_go.proofs.Growth.{Extends, extends_twice, Keeps, grows_specs, grows_entries, grows_header, grows_clause, keeps_block, keeps_else, keeps_choice, keeps_loop, grows, grows_all}
+use Rattle.types_go.proofs.Growth.{Extends, extends_twice, Keeps, keeps_grows, grows_specs, grows_entries, grows_header, grows_clause, keeps_block, keeps_else, keeps_choice, keeps_loop, grows, grows_all}
 use Rattle.types_go.proofs.Visible.{Visible, visible_opened, visible_kept, got_longer}
-use Rattle.types_go.proofs.InFormEntries.{HasSites, get_mapped}
+use Rattle.types_go.proofs.InFormEntries.{HasSites, Within, within_before, get_mapped}
 use Rattle.types_go.proofs.InFormSimple.{ReturnsFit, simple_formed, return_formed}
 use Rattle.types_go.proofs.InFormHeads.{Formed1, StsFormed, init_scope, head_scope, head_visible, guard_fits, choice_formed, clause_fits, loop_formed, loop_keeps, spec_formed}
 
@@ -89,10 +89,10 @@ module _ (text : List ℕ) (p : Program) (all : List Site) (has : HasSites p all
 
     -- an `if` of its parts
     choice_in : (looped : Bool) (s : Scope) (scope : List ℕ) (g1 : Guard) (body : Stms) (rest : Els) → Visible s scope → s.signatures ≡ sigs
-        → Extends (closed (behind_else text (closed (behind_all text (opened (header text s g1.init)) body)) rest)).sites all → (c : Choice) (y z : Sts) (t : St)
+        → Within p all (closed (behind_else text (closed (behind_all text (opened (header text s g1.init)) body)) rest)) → (c : Choice) (y z : Sts) (t : St)
         → guard_head text s g1 ≡ Some c → chosen c y z ≡ t
-        → ((sc : List ℕ) → Visible (header text s g1.init) sc → Extends (behind_all text (opened (header text s g1.init)) body).sites all → StsFormed text p all has wanted1 named looped (opened (header text s g1.init)) sc (behind_all text (opened (header text s g1.init)) body) y)
-        → ((sc : List ℕ) → Visible (closed (behind_all text (opened (header text s g1.init)) body)) sc → Extends (behind_else text (closed (behind_all text (opened (header text s g1.init)) body)) rest).sites all
+        → ((sc : List ℕ) → Visible (header text s g1.init) sc → Within p all (behind_all text (opened (header text s g1.init)) body) → StsFormed text p all has wanted1 named looped (opened (header text s g1.init)) sc (behind_all text (opened (header text s g1.init)) body) y)
+        → ((sc : List ℕ) → Visible (closed (behind_all text (opened (header text s g1.init)) body)) sc → Within p all (behind_else text (closed (behind_all text (opened (header text s g1.init)) body)) rest)
         → StsFormed text p all has wanted1 named looped (closed (behind_all text (opened (header text s g1.init)) body)) sc (behind_else text (closed (behind_all text (opened (header text s g1.init)) body)) rest) z)
         → Formed1 text p all has wanted1 named looped s scope (closed (behind_else text (closed (behind_all text (opened (header text s g1.init)) body)) rest)) t × (scope_after scope t ≡ scope)
     choice_in looped s scope g1 body rest v g ext c y z t found same1 first second =
@@ -100,8 +100,8 @@ module _ (text : List ℕ) (p : Program) (all : List Site) (has : HasSites p all
         let inner = closed (behind_all text (opened h) body) in
         let last1 = behind_else text inner rest in
         let grow = grows_header text s g1.init in
-        let ext2 = extends_twice inner.sites last1.sites all (keeps_else text inner rest).sites ext in
-        let ext1 = extends_twice h.sites inner.sites all (keeps_block text h body).sites ext2 in
+        let ext2 = within_before p all inner last1 (keeps_grows inner last1 (keeps_else text inner rest)) ext in
+        let ext1 = within_before p all h inner (keeps_grows h inner (keeps_block text h body)) ext2 in
         let fits = guard_fits text p all has wanted1 named s scope v (λ r1 same2 e. agreed r1 (same2 ∙ g) e) looped g1 c found ext1 grow.signatures in
         let sc = init_scope scope c.init in
         let shows = fits.0.visible in
@@ -112,11 +112,11 @@ module _ (text : List ℕ) (p : Program) (all : List Site) (has : HasSites p all
         (subst (λ (x : St). Formed1 text p all has wanted1 named looped s scope (closed last1) x) same1 whole, ap (scope_after scope) (sym same1) ∙ keeps)
 
     mutual
-      formed : (looped : Bool) (s : Scope) (scope : List ℕ) (m : Stm) (b : Sts) → Visible s scope → s.signatures ≡ sigs → Extends (behind text s m).sites all → statement text r looped s m ≡ Some b → Whole looped s scope (behind text s m) b
-      formed looped s scope (tree.declare at specs) b v g ext is = specs_formed looped s scope specs b v g ext is
+      formed : (looped : Bool) (s : Scope) (scope : List ℕ) (m : Stm) (b : Sts) → Visible s scope → s.signatures ≡ sigs → Within p all (behind text s m) → statement text r looped s m ≡ Some b → Whole looped s scope (behind text s m) b
+      formed looped s scope (tree.declare at specs) b v g ext is = specs_formed looped s scope specs b v g ext.0 is
       formed looped s scope (tree.simple m) b v g ext is =
           let q = map_some alone (simple_statement text s m) b is in
-          let ext0 = extends_twice s.sites (behind text s (tree.simple m)).sites all (grows text s (tree.simple m)).sites ext in
+          let ext0 = (within_before p all s (behind text s (tree.simple m)) (grows text s (tree.simple m)) ext).0 in
           subst (λ (x : Sts). Whole looped s scope (behind text s (tree.simple m)) x) q.2
           (one looped s (behind text s (tree.simple m)) scope q.0 (simple_formed text p all has wanted1 named looped s scope v (agreed s g ext0) m q.0 ext ext0 q.1))
       formed looped s scope (tree.block ms) b v g ext is =
@@ -140,8 +140,8 @@ module _ (text : List ℕ) (p : Program) (all : List Site) (has : HasSites p all
           let u = map_some alone (loop_of (clause_head text s c) (statements text r true (opened h) body)) b is in
           let q = loop_some (clause_head text s c) (statements text r true (opened h) body) u.0 u.1 in
           let grow = grows_clause text s c in
-          let ext1 = extends_twice h.sites inner.sites all (keeps_block text h body).sites ext in
-          let fits = clause_fits text p all has wanted1 named s scope v (λ r1 same1 e. agreed r1 (same1 ∙ g) e) looped c q.0 q.2 ext1 grow.signatures in
+          let ext1 = within_before p all h inner (keeps_grows h inner (keeps_block text h body)) ext in
+          let fits = clause_fits text p all has wanted1 named s scope v (λ r1 same1 e. agreed r1 (same1 ∙ g) e) looped c q.0 q.2 ext1 in
           let shows = head_visible text p all has wanted1 named s scope v (λ r1 same1 e. agreed r1 (same1 ∙ g) e) looped h q.0 fits in
           let a = formed_all true (opened h) (head_scope text p all has wanted1 named s scope v (λ r1 same1 e. agreed r1 (same1 ∙ g) e) q.0) body q.1 (visible_opened h _ shows) (grow.signatures ∙ g) ext q.3 in
           let whole = loop_formed text p all has wanted1 named s scope v (λ r1 same1 e. agreed r1 (same1 ∙ g) e) looped h (closed inner) q.0 q.1 fits (record { count = a.count; fit = a.fit }) in
@@ -152,9 +152,9 @@ module _ (text : List ℕ) (p : Program) (all : List Site) (has : HasSites p all
       formed looped s scope (tree.continue_at at) b v g ext is = jump looped s scope go_on b refl (λ l m n. l) refl v is
       formed looped s scope (tree.give_back at es) b v g ext is =
           let q = map_some alone (returned r (seen text s es)) b is in
-          subst (λ (x : Sts). Whole looped s scope s x) q.2 (one looped s s scope q.0 (return_formed text p all has wanted1 named looped s scope v (agreed s g ext) r goes es q.0 q.1))
+          subst (λ (x : Sts). Whole looped s scope s x) q.2 (one looped s s scope q.0 (return_formed text p all has wanted1 named looped s scope v (agreed s g ext.0) r goes es q.0 q.1))
 
-      formed_else : (looped : Bool) (s : Scope) (scope : List ℕ) (e : Els) (b : Sts) → Visible s scope → s.signatures ≡ sigs → Extends (behind_else text s e).sites all → alternative text r looped s e ≡ Some b
+      formed_else : (looped : Bool) (s : Scope) (scope : List ℕ) (e : Els) (b : Sts) → Visible s scope → s.signatures ≡ sigs → Within p all (behind_else text s e) → alternative text r looped s e ≡ Some b
           → StsFormed text p all has wanted1 named looped s scope (behind_else text s e) b
       formed_else looped s scope tree.no_else b v g ext is = subst (λ (x : Sts). StsFormed text p all has wanted1 named looped s scope s x) (same_some is) (record { count = omega arith; fit = λ n le. tt })
       formed_else looped s scope (tree.else_block ms) b v g ext is =
@@ -170,7 +170,7 @@ module _ (text : List ℕ) (p : Program) (all : List Site) (has : HasSites p all
           (λ sc sv se. formed_else looped inner sc rest q.2 sv ((keeps_block text h body).signatures ∙ ((grows_header text s g1.init).signatures ∙ g)) se q.5) in
           subst (λ (x : Sts). StsFormed text p all has wanted1 named looped s scope (closed last1) x) u.2 (kept looped s (closed last1) scope u.0 v (keeps_choice text s g1 body rest) f.0 f.1).0
 
-      pub formed_all : (looped : Bool) (s : Scope) (scope : List ℕ) (ms : Stms) (b : Sts) → Visible s scope → s.signatures ≡ sigs → Extends (behind_all text s ms).sites all → statements text r looped s ms ≡ Some b
+      pub formed_all : (looped : Bool) (s : Scope) (scope : List ℕ) (ms : Stms) (b : Sts) → Visible s scope → s.signatures ≡ sigs → Within p all (behind_all text s ms) → statements text r looped s ms ≡ Some b
           → StsFormed text p all has wanted1 named looped s scope (behind_all text s ms) b
       formed_all looped s scope tree.nil b v g ext is = subst (λ (x : Sts). StsFormed text p all has wanted1 named looped s scope s x) (same_some is) (record { count = omega arith; fit = λ n le. tt })
       formed_all looped s scope (tree.cons m ms) b v g ext is =
@@ -178,7 +178,7 @@ module _ (text : List ℕ) (p : Program) (all : List Site) (has : HasSites p all
           let q = and_then_some (λ t. option_map (before t) (statements text r looped s1 ms)) (statement text r looped s m) b is in
           let k = map_some (before q.0) (statements text r looped s1 ms) b q.2 in
           let grow = grows text s m in
-          let ext1 = extends_twice s1.sites (behind_all text s1 ms).sites all (grows_all text s1 ms).sites ext in
+          let ext1 = within_before p all s1 (behind_all text s1 ms) (grows_all text s1 ms) ext in
           let first = formed looped s scope m q.0 v g ext1 q.1 in
           let others = formed_all looped s1 (scope_behind_all scope q.0) ms k.0 first.1 (grow.signatures ∙ g) ext k.1 in
           let born = before_births q.0 k.0 in

@@ -16,6 +16,7 @@ mod SettledHeads
 mod SettledSimple
 mod SettledStatements
 mod Sites
+mod Strings
 mod Terminating
 mod Visible
 mod Walk

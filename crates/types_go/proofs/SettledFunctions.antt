@@ -1,6 +1,6 @@
 -- A tree has a typed program, or a rule fails in it, and never both.
 use Rattle.std.proofs.Common.{◌≡◌, ℕ, zero, suc, ◌+◌, ◌<◌, ◌≤◌, Bool, true, false, cond, List, [], ◌∷◌, ◌++◌, ◌⊎◌, inl, inr, length, map, Option, Some, None, refl, sym, ap, ◌∙◌, subst, arith, length-append}
-use Rattle.std.specs.Prelude.{⊤, option_and_then, not, slice_get, nat_lt, nat_le}
+use Rattle.std.specs.Prelude.{⊤, option_and_then, not, ◌&&◌, ◌||◌, slice_get, nat_lt, nat_le}
 use Rattle.std.specs.List.{AllByRecursion}
 use Rattle.std.specs.Option.{option_map}
 use Rattle.base.specs.declared.pos.Pos.{Pos}
@@ -14,7 +14,7 @@ use Rattle.expression_types.specs.declared.fault.Fault.{Fault}
 use Rattle.expression_types.specs.declared.fault.FaultKind.TheVariants.{Unknown, Redeclared, MissingReturn, BadOperand, OutOfProfile, TooLarge}
 use Rattle.expression_types.specs.declared.scope.ValueType.{ValueType}
 use Rattle.expression_types.specs.declared.scope.Declared.{Declared}
-use Rattle.expression_types.specs.declared.scope.Declared.TheVariants.{Variable, Untyped, Function, TypeName}
+use Rattle.expression_types.specs.declared.scope.Declared.TheVariants.{Variable, Untyped, Function, External, TypeName}
 use Rattle.expression_types.specs.Profile.{named_type, is_blank, is_type_name, is_value_name, is_predeclared}
 use Rattle.expression_types.specs.Scope.{Scope, Signature, declaration, with_declaration, with_signature, opened, beginning}
 use Rattle.expression_types.specs.Typing.{type_in, allowed}
@@ -23,9 +23,9 @@ use Rattle.types_go.specs.declared.slots.Slot.{Slot}
 use Rattle.types_go.specs.declared.entries.Role.TheVariants.{Parameter, Result}
 use Rattle.types_go.specs.EntryFaults.{EntriesFail}
 use Rattle.types_go.specs.Statements.{behind_all}
-use Rattle.types_go.specs.Functions.{Param, params_of, slot_of, slots_of, types_of, words, is_number, may_be_named, is_small, declares_name, signature_in, with_function, with_items, functions_in, is_supported, are_supported, behind_params, body_scope, behind_body, behind_function, returns_of, may_end, func, param_entries, result_entries, body_of, parts, function_head, function_with, function, functions, declarations_in, package_scope, program_functions}
+use Rattle.types_go.specs.Functions.{Param, params_of, slot_of, slots_of, types_of, words, is_number, may_be_named, is_small, declares_name, external_named, is_external_at, signature_in, is_external, with_function, with_items, functions_in, is_supported, are_supported, behind_params, body_scope, behind_body, behind_function, returns_of, may_end, func, param_entries, result_entries, body_of, parts, function_head, function_with, function, functions, declarations_in, package_scope, program_functions}
 use Rattle.types_go.specs.StatementFaults.{fault_where, FailsInStatements}
-use Rattle.types_go.specs.FunctionFaults.{function_name_fault, size_fault, TypesFail, FailsInHead, FailsInTypes, FailsInParts, external_fault, FailsWith, FailsInFunction, FailsInFunctions, DeclarationFails, DeclarationsFail}
+use Rattle.types_go.specs.FunctionFaults.{function_name_fault, size_fault, TypesFail, FailsInHead, FailsInTypes, FailsInParts, external_fault, FailsWith, FailsInFunction, FailsInFunctions, external_name_fault, DeclarationFails, DeclarationsFail}
 use Rattle.expression_types.proofs.Decided.{Decided, Tested, further, same, mapped, after, both_decided, both_tested}
 use Rattle.expression_types.proofs.Options.{and_then_some, map_some}
 use Rattle.expression_types.proofs.Settled.{HasSignature, IsTyped, IsSettled}
@@ -54,6 +54,7 @@ abbrev IsNoType : Declared → Type 0
 IsNoType (Variable site t) = ⊤
 IsNoType Untyped = ⊤
 IsNoType (Function g) = ⊤
+IsNoType (External e at) = ⊤
 IsNoType TypeName = ⊥
 
 abbrev pub NoTypes : Scope → Type 0
@@ -64,6 +65,7 @@ locals_no_types [] local = tt
 locals_no_types (Variable site t ∷ more) local = (tt, locals_no_types more local.1)
 locals_no_types (Untyped ∷ more) local = (tt, locals_no_types more local.1)
 locals_no_types (Function g ∷ more) local = absurd local.0
+locals_no_types (External e at ∷ more) local = absurd local.0
 locals_no_types (TypeName ∷ more) local = absurd local.0
 
 no_types_more : (ds more : List Declared) → AllByRecursion IsNoType ds → AllByRecursion IsLocal more → AllByRecursion IsNoType (ds ++ more)
@@ -79,6 +81,7 @@ found_type [] k all is = cc is
 found_type (Variable site t ∷ ds) zero all is = cc is
 found_type (Untyped ∷ ds) zero all is = cc is
 found_type (Function g ∷ ds) zero all is = cc is
+found_type (External e at ∷ ds) zero all is = cc is
 found_type (TypeName ∷ ds) zero all is = all.0
 found_type (d ∷ ds) (suc k) all is = found_type ds k all.1 is
 
@@ -97,6 +100,7 @@ type_name_decided None false false None at known = (fault Unknown at, refl)
 type_name_decided None false false (Some (Variable site t)) at known = (fault BadOperand at, refl)
 type_name_decided None false false (Some Untyped) at known = (fault BadOperand at, refl)
 type_name_decided None false false (Some (Function g)) at known = (fault BadOperand at, refl)
+type_name_decided None false false (Some (External e place)) at known = (fault BadOperand at, refl)
 type_name_decided None false false (Some TypeName) at known = absurd (known refl)
 
 -- three tests before what a function's parts are
@@ -167,7 +171,7 @@ module _ (text : List ℕ) where
       (name_tested i (is_blank (spelled text g.name)) (is_predeclared (spelled text g.name)) (declaration s (spelled text g.name)) g.name.pos) (where_not (nat_lt i 4096) (fault TooLarge g.name.pos))
 
   with_decided : (s : Scope) (i : ℕ) (g : TreeFunction) (o : Option Body) → NoTypes s → IsSettled s → Decided (function_with text s i g o) (FailsWith text s i g o)
-  with_decided s i g None no_types settled = (external_fault text g, inr refl)
+  with_decided s i g None no_types settled = (external_fault g, inr refl)
   with_decided s i g (Some b) no_types settled =
       three_decided (function_head text s i g) (is_small (signature_in text g)) (may_end text g b) (parts text s g b) (FailsInHead text s i g) (FailsInTypes text s g) (FailsInParts text s g b) (IsFault (fault_where (not (may_end text g b)) (fault MissingReturn b.end)))
       (head_tested s i g) (small_tested (signature_in text g) g.name.pos (λ f. TypesFail text s (params_of g.params) f ⊎ TypesFail text s (params_of g.results) f) (signature_decided s no_types g))
@@ -225,7 +229,7 @@ module _ (text : List ℕ) where
   AllSigned (g ∷ gs) = HasSignature (signature_in text g) × AllSigned gs
 
   unsigned_with : (s : Scope) (i : ℕ) (g : TreeFunction) (o : Option Body) → NoTypes s → signature_in text g ≡ None → (function_with text s i g o ≡ None) × ((f : Fault) × FailsWith text s i g o f)
-  unsigned_with s i g None no_types is = (refl, (external_fault text g, inr refl))
+  unsigned_with s i g None no_types is = (refl, (external_fault g, inr refl))
   unsigned_with s i g (Some b) no_types is =
       let d : (f : Fault) × (TypesFail text s (params_of g.params) f ⊎ TypesFail text s (params_of g.results) f) =
       subst (λ o. Decided o (λ f. TypesFail text s (params_of g.params) f ⊎ TypesFail text s (params_of g.results) f)) is (signature_decided s no_types g) in
@@ -253,22 +257,52 @@ module _ (text : List ℕ) where
       by (Some sig) is (inl all) = inl (subst HasSignature (sym is) tt, all)
       by (Some sig) is (inr r) = inr (whole (function text s i g) r.0, (r.1.0, inr r.1.1))
 
-  -- ---- the package block, where only functions are declared
+  -- ---- the package block, where only functions are declared, those without a body perhaps among them
 
   abbrev pub with_functions : Scope → List TreeFunction → Scope
   with_functions s [] = s
   with_functions s (g ∷ gs) = with_functions (with_function text s g) gs
 
-  pub only_functions : (s : Scope) (ds : List Declaration) → are_supported ds ≡ true → with_items text s ds ≡ with_functions s (functions_in ds)
-  only_functions s [] is = refl
-  only_functions s (constants at specs ∷ ds) is = cc is
-  only_functions s (variables at specs ∷ ds) is = cc is
-  only_functions s (types at specs ∷ ds) is = cc is
-  only_functions s (tree.function g ∷ ds) is = only_functions (with_function text s g) ds is
+  abbrev pub all_in : List Declaration → List TreeFunction
+  all_in [] = []
+  all_in (constants at specs ∷ ds) = all_in ds
+  all_in (variables at specs ∷ ds) = all_in ds
+  all_in (types at specs ∷ ds) = all_in ds
+  all_in (tree.function g ∷ ds) = g ∷ all_in ds
 
-  -- the declarations are functions with numbers below one
+  -- those that have numbers
+  abbrev pub numbered : List TreeFunction → List TreeFunction
+  numbered [] = []
+  numbered (g ∷ gs) = cond (is_external text g) (numbered gs) (g ∷ numbered gs)
+
+  pub numbered_are : (ds : List Declaration) → functions_in text ds ≡ numbered (all_in ds)
+  numbered_are [] = refl
+  numbered_are (constants at specs ∷ ds) = numbered_are ds
+  numbered_are (variables at specs ∷ ds) = numbered_are ds
+  numbered_are (types at specs ∷ ds) = numbered_are ds
+  numbered_are (tree.function g ∷ ds) = ap (λ l. cond (is_external text g) l (g ∷ l)) (numbered_are ds)
+
+  both_second : (a b : Bool) → (a && b) ≡ true → b ≡ true
+  both_second true b is = is
+  both_second false b is = cc is
+
+  pub only_functions : (r s : Scope) (ds : List Declaration) → are_supported text r ds ≡ true → with_items text s ds ≡ with_functions s (all_in ds)
+  only_functions r s [] is = refl
+  only_functions r s (constants at specs ∷ ds) is = cc is
+  only_functions r s (variables at specs ∷ ds) is = cc is
+  only_functions r s (types at specs ∷ ds) is = cc is
+  only_functions r s (tree.function g ∷ ds) is = only_functions r (with_function text s g) ds (both_second (is_supported text r (tree.function g)) (are_supported text r ds) is)
+
+  -- one more of them, whether it is one without a body, and whether it is declared
+  abbrev pub declared_one : Scope → TreeFunction → (external declares : Bool) → Scope
+  declared_one s g external declares =
+      cond external (cond declares (with_declaration s (spelled text g.name) (External (external_named (spelled text g.name)) g.name.pos)) s)
+      (with_signature (cond declares (with_declaration s (spelled text g.name) (Function (record { 0 = length s.signatures }))) s) (signature_in text g))
+
+  -- the declarations are functions with numbers below one, or without a body
   abbrev AreFunctions : ℕ → Declared → Type 0
   AreFunctions n (Function g) = g.0 < n
+  AreFunctions n (External e at) = ⊤
   AreFunctions n (Variable site t) = ⊥
   AreFunctions n Untyped = ⊥
   AreFunctions n TypeName = ⊥
@@ -276,6 +310,7 @@ module _ (text : List ℕ) where
   more_functions : (n m : ℕ) → n ≤ m → (ds : List Declared) → AllByRecursion (AreFunctions n) ds → AllByRecursion (AreFunctions m) ds
   more_functions n m le [] all = tt
   more_functions n m le (Function g ∷ ds) all = (omega (arith, all.0, le), more_functions n m le ds all.1)
+  more_functions n m le (External e at ∷ ds) all = (tt, more_functions n m le ds all.1)
   more_functions n m le (Variable site t ∷ ds) all = absurd all.0
   more_functions n m le (Untyped ∷ ds) all = absurd all.0
   more_functions n m le (TypeName ∷ ds) all = absurd all.0
@@ -284,14 +319,16 @@ module _ (text : List ℕ) where
   Numbered s = AllByRecursion (AreFunctions (length s.signatures)) s.declared
 
   numbered_more : (s : Scope) (g : TreeFunction) → Numbered s → Numbered (with_function text s g)
-  numbered_more s g all = by (declares_name s (spelled text g.name))
+  numbered_more s g all = by (is_external text g) (declares_name s (spelled text g.name))
     where
       long : length (s.signatures ++ signature_in text g ∷ []) ≡ length s.signatures + 1
       long = length-append s.signatures (signature_in text g ∷ [])
 
-      by : (b : Bool) → Numbered (with_signature (cond b (with_declaration s (spelled text g.name) (Function (record { 0 = length s.signatures }))) s) (signature_in text g))
-      by false = more_functions (length s.signatures) (length (s.signatures ++ signature_in text g ∷ [])) (omega (arith, long)) s.declared all
-      by true =
+      by : (b c : Bool) → Numbered (declared_one s g b c)
+      by true false = all
+      by true true = one_more_declared (AreFunctions (length s.signatures)) s.declared (External (external_named (spelled text g.name)) g.name.pos) all tt
+      by false false = more_functions (length s.signatures) (length (s.signatures ++ signature_in text g ∷ [])) (omega (arith, long)) s.declared all
+      by false true =
           one_more_declared (AreFunctions (length (s.signatures ++ signature_in text g ∷ []))) s.declared (Function (record { 0 = length s.signatures }))
           (more_functions (length s.signatures) (length (s.signatures ++ signature_in text g ∷ [])) (omega (arith, long)) s.declared all) (omega (arith, long))
 
@@ -302,6 +339,7 @@ module _ (text : List ℕ) where
   numbers_no_types : (n : ℕ) (ds : List Declared) → AllByRecursion (AreFunctions n) ds → AllByRecursion IsNoType ds
   numbers_no_types n [] all = tt
   numbers_no_types n (Function g ∷ ds) all = (tt, numbers_no_types n ds all.1)
+  numbers_no_types n (External e at ∷ ds) all = (tt, numbers_no_types n ds all.1)
   numbers_no_types n (Variable site t ∷ ds) all = absurd all.0
   numbers_no_types n (Untyped ∷ ds) all = absurd all.0
   numbers_no_types n (TypeName ∷ ds) all = absurd all.0
@@ -314,16 +352,16 @@ module _ (text : List ℕ) where
   given_more [] sig all has = (has, tt)
   given_more (x ∷ sigs) sig all has = (all.0, given_more sigs sig all.1 has)
 
-  given_one : (s : Scope) (g : TreeFunction) → AllGiven s.signatures → HasSignature (signature_in text g) → AllGiven (with_function text s g).signatures
-  given_one s g all has = by (declares_name s (spelled text g.name))
-    where
-      by : (b : Bool) → AllGiven (with_signature (cond b (with_declaration s (spelled text g.name) (Function (record { 0 = length s.signatures }))) s) (signature_in text g)).signatures
-      by true = given_more s.signatures (signature_in text g) all has
-      by false = given_more s.signatures (signature_in text g) all has
-
-  given_in_all : (s : Scope) (gs : List TreeFunction) → AllGiven s.signatures → AllSigned gs → AllGiven (with_functions s gs).signatures
+  given_in_all : (s : Scope) (gs : List TreeFunction) → AllGiven s.signatures → AllSigned (numbered gs) → AllGiven (with_functions s gs).signatures
   given_in_all s [] all signed = all
-  given_in_all s (g ∷ gs) all signed = given_in_all (with_function text s g) gs (given_one s g all signed.0) signed.1
+  given_in_all s (g ∷ gs) all signed = by (λ v all1 signed1. given_in_all v gs all1 signed1) (is_external text g) (declares_name s (spelled text g.name)) signed
+    where
+      by : ((v : Scope) → AllGiven v.signatures → AllSigned (numbered gs) → AllGiven (with_functions v gs).signatures) → (b c : Bool) → AllSigned (cond b (numbered gs) (g ∷ numbered gs))
+          → AllGiven (with_functions (declared_one s g b c) gs).signatures
+      by later true true signed1 = later (declared_one s g true true) all signed1
+      by later true false signed1 = later s all signed1
+      by later false true signed1 = later (declared_one s g false true) (given_more s.signatures (signature_in text g) all signed1.0) signed1.1
+      by later false false signed1 = later (declared_one s g false false) (given_more s.signatures (signature_in text g) all signed1.0) signed1.1
 
   signed_at : (sigs : List (Option Signature)) (k : ℕ) → AllGiven sigs → k < length sigs → HasSignature (option_and_then (λ o. o) (slice_get sigs k))
   signed_at [] k all lt = absurd (omega (arith, lt))
@@ -334,6 +372,7 @@ module _ (text : List ℕ) where
   functions_typed : (sigs : List (Option Signature)) (ds : List Declared) → AllGiven sigs → AllByRecursion (AreFunctions (length sigs)) ds → AllByRecursion (IsTyped sigs) ds
   functions_typed sigs [] given all = tt
   functions_typed sigs (Function g ∷ ds) given all = (signed_at sigs g.0 given all.0, functions_typed sigs ds given all.1)
+  functions_typed sigs (External e at ∷ ds) given all = (tt, functions_typed sigs ds given all.1)
   functions_typed sigs (Variable site t ∷ ds) given all = absurd all.0
   functions_typed sigs (Untyped ∷ ds) given all = absurd all.0
   functions_typed sigs (TypeName ∷ ds) given all = absurd all.0
@@ -342,38 +381,44 @@ module _ (text : List ℕ) where
   decided_none None P is f h = (f, h)
   decided_none (Some x) P is f h = cc is
 
-  all_functions : (gs : List TreeFunction) → Decided (functions text (with_functions beginning gs) 0 gs) (FailsInFunctions text (with_functions beginning gs) 0 gs)
+  all_functions : (gs : List TreeFunction) → Decided (functions text (with_functions beginning gs) 0 (numbered gs)) (FailsInFunctions text (with_functions beginning gs) 0 (numbered gs))
   all_functions gs =
       let s = with_functions beginning gs in
-      let numbered = numbered_all beginning gs tt in
-      let no_types = numbers_no_types (length s.signatures) s.declared numbered in
-      elim (signed_or s 0 gs no_types) [
-        | inl all ↦ functions_decided s 0 gs no_types (record { all = functions_typed s.signatures s.declared (given_in_all beginning gs tt all) numbered })
-        | inr r ↦ decided_none (functions text s 0 gs) (FailsInFunctions text s 0 gs) r.0 r.1.0 r.1.1
+      let below = numbered_all beginning gs tt in
+      let no_types = numbers_no_types (length s.signatures) s.declared below in
+      elim (signed_or s 0 (numbered gs) no_types) [
+        | inl all ↦ functions_decided s 0 (numbered gs) no_types (record { all = functions_typed s.signatures s.declared (given_in_all beginning gs tt all) below })
+        | inr r ↦ decided_none (functions text s 0 (numbered gs)) (FailsInFunctions text s 0 (numbered gs)) r.0 r.1.0 r.1.1
       ]
 
--- a declaration of a form that is left out fails
-forms_tested : (ds : List Declaration) → Tested (are_supported ds) (DeclarationsFail ds)
-forms_tested [] = λ f h. h
-forms_tested (d ∷ ds) = both_tested (DeclarationFails d) (DeclarationsFail ds) (is_supported d) (are_supported ds) (one d) (forms_tested ds)
-  where
-    one : (d : Declaration) → Tested (is_supported d) (DeclarationFails d)
-    one (constants at specs) = (fault OutOfProfile at, refl)
-    one (variables at specs) = (fault OutOfProfile at, refl)
-    one (types at specs) = (fault OutOfProfile at, refl)
-    one (tree.function g) = λ f h. h
+  -- a declaration of a form that is left out fails, and one of a function without a body behind another of its name
+  external_tested : (b : Bool) (d : Option Declared) (at : Pos) → Tested (not b || is_external_at at d) (IsFault (external_name_fault b d at))
+  external_tested true d at = where_not (is_external_at at d) (fault Redeclared at)
+  external_tested false d at = λ f h. h
 
-pub all_decided : (t : Syntax) → Decided (program_functions t) (λ f. DeclarationsFail (declarations_in t) f ⊎ FailsInFunctions t.text (package_scope t) 0 (functions_in (declarations_in t)) f)
-all_decided t = by (are_supported (declarations_in t)) refl (forms_tested (declarations_in t))
+  forms_tested : (s : Scope) (ds : List Declaration) → Tested (are_supported text s ds) (DeclarationsFail text s ds)
+  forms_tested s [] = λ f h. h
+  forms_tested s (d ∷ ds) = both_tested (DeclarationFails text s d) (DeclarationsFail text s ds) (is_supported text s d) (are_supported text s ds) (one d) (forms_tested s ds)
+    where
+      one : (d : Declaration) → Tested (is_supported text s d) (DeclarationFails text s d)
+      one (constants at specs) = (fault OutOfProfile at, refl)
+      one (variables at specs) = (fault OutOfProfile at, refl)
+      one (types at specs) = (fault OutOfProfile at, refl)
+      one (tree.function g) = external_tested (is_external text g) (declaration s (spelled text g.name)) g.name.pos
+
+pub all_decided : (t : Syntax) → Decided (program_functions t) (λ f. DeclarationsFail t.text (package_scope t) (declarations_in t) f ⊎ FailsInFunctions t.text (package_scope t) 0 (functions_in t.text (declarations_in t)) f)
+all_decided t = by (are_supported t.text (package_scope t) ds) refl (forms_tested t.text (package_scope t) ds)
   where
     ds : List Declaration
     ds = declarations_in t
 
     gs : List TreeFunction
-    gs = functions_in ds
+    gs = functions_in t.text ds
 
-    by : (b : Bool) → are_supported ds ≡ b → Tested b (DeclarationsFail ds) → Decided (allowed b (functions t.text (package_scope t) 0 gs)) (λ f. DeclarationsFail ds f ⊎ FailsInFunctions t.text (package_scope t) 0 gs f)
+    by : (b : Bool) → are_supported t.text (package_scope t) ds ≡ b → Tested b (DeclarationsFail t.text (package_scope t) ds)
+        → Decided (allowed b (functions t.text (package_scope t) 0 gs)) (λ f. DeclarationsFail t.text (package_scope t) ds f ⊎ FailsInFunctions t.text (package_scope t) 0 gs f)
     by false is forms = (forms.0, inl forms.1)
     by true is forms =
-        further (DeclarationsFail ds) (FailsInFunctions t.text (package_scope t) 0 gs) (functions t.text (package_scope t) 0 gs) forms
-        (subst (λ s. Decided (functions t.text s 0 gs) (FailsInFunctions t.text s 0 gs)) (sym (only_functions t.text beginning ds is)) (all_functions t.text gs))
+        further (DeclarationsFail t.text (package_scope t) ds) (FailsInFunctions t.text (package_scope t) 0 gs) (functions t.text (package_scope t) 0 gs) forms
+        (subst (λ (l : List TreeFunction). Decided (functions t.text (package_scope t) 0 l) (FailsInFunctions t.text (package_scope t) 0 l)) (sym (numbered_are t.text ds))
+        (subst (λ s. Decided (functions t.text s 0 (numbered t.text (all_in t.text ds))) (FailsInFunctions t.text s 0 (numbered t.text (all_in t.text ds)))) (sym (only_functions t.text (package_scope t) beginning ds is)) (all_functions t.text (all_in t.text ds))))

@@ -23,7 +23,7 @@ use Rattle.types_go.specs.declared.slots.Slot.{Slot}
 use Rattle.types_go.specs.declared.entries.Role.TheVariants.{Parameter}
 use Rattle.types_go.specs.Entries.{sites_of, entry_left, slot_with, slots_each, entry_in, entries, behind_entry, behind_entries}
 use Rattle.types_go.specs.EntryFaults.{EntriesFail}
-use Rattle.types_go.specs.Statements.{Choice, Head, repeated, counted, alone, assignment, choice_head, loop_head, key_of, range_head, as_int, number_type, all_accept, target_slots, is_bare, wanted, lefts, all_wanted, simple_statement, header, init_statement, post_simple, post_statement, guard_head, over, all_blank, target_lefts, clause_scope, clause_head, spec_type, spec_wanted, spec_slots_of, spec_slots, behind_spec, spec_entries, is_known, spec_declared, spec_assigned, spec_statement, spec_statements, behind_specs, taken_types}
+use Rattle.types_go.specs.Statements.{Choice, Head, repeated, counted, alone, assignment, choice_head, loop_head, key_of, range_head, as_int, number_type, all_accept, target_slots, is_bare, wanted, lefts, all_wanted, simple_statement, header, init_statement, post_simple, post_statement, behind_post_simple, behind_post, guard_head, over, all_blank, target_lefts, clause_scope, clause_head, spec_type, spec_wanted, spec_slots_of, spec_slots, behind_spec, spec_entries, is_known, spec_declared, spec_assigned, spec_statement, spec_statements, behind_specs, taken_types}
 use Rattle.types_go.specs.StatementFaults.{fault_where, names_place, over_fault, given_fault, keys_fault, LeftsFail, FailsInInit, PostFails, FailsInPost, FailsInOver, GivenFail, TargetsFail, target_count, FailsInRange, FailsInClause, FailsInGuard, SpecTypeFails, SpecTakeFails, SpecValuesFail, FailsInSpec, FailsInSpecs}
 use Rattle.expression_types.proofs.Decided.{Decided, Tested, further, tested, turned, mapped, after, both_tested}
 use Rattle.expression_types.proofs.DecidedValues.{operand_decided, as_value_decided, take_decided}
@@ -172,12 +172,24 @@ module _ (text : List ℕ) where
   slots_typed t (targets_assigned ls at) = tt
   slots_typed t (targets_defined ns at) = with_typed t ns
 
+  settled_post_simple : (s : Scope) (m : Simple) → IsSettled s → IsSettled (behind_post_simple text s m)
+  settled_post_simple s (tree.express e) settled = record { all = settled.all }
+  settled_post_simple s (tree.assign ls at es) settled = settled
+  settled_post_simple s (tree.update ls at tree_op es) settled = settled
+  settled_post_simple s (tree.define ns at es) settled = settled
+  settled_post_simple s (tree.increment e at) settled = settled
+  settled_post_simple s (tree.decrement e at) settled = settled
+
+  settled_post : (s : Scope) (post : Option Simple) → IsSettled s → IsSettled (behind_post text s post)
+  settled_post s None settled = settled
+  settled_post s (Some m) settled = settled_post_simple s m settled
+
   pub settled_clause : (s : Scope) (c : Clause) (h : Head) → IsSettled s → clause_head text s c ≡ Some h → IsSettled (clause_scope text s c)
   settled_clause s forever h settled is = settled_opened s settled
   settled_clause s (while_true e) h settled is = settled_opened s settled
   settled_clause s (counting init test1 post) h settled is =
       let r = and_then_some (λ i. option_and_then (λ x. option_map (repeated i x) (post_statement text (header text s init) post)) (test text (header text s init) test1)) (init_statement text s init) h is in
-      settled_header s init r.0 settled r.1
+      settled_post (header text s init) post (settled_header s init r.0 settled r.1)
   settled_clause s (ranging t at e) h settled is =
       let r = and_then_some (λ x. option_map (counted x) (option_and_then key_of (target_lefts text (opened s) (number_type (over text s e)) t))) (over text s e) h is in
       subst (λ (o : Option ValueType). IsSettled (behind_entries text (opened s) (target_slots o t))) (sym (number_is (over text s e) r.0 r.1))

@@ -21,10 +21,10 @@ use Rattle.expression_types.specs.declared.fault.FaultKind.TheVariants.{Unknown,
 use Rattle.expression_types.specs.declared.scope.ValueType.{ValueType}
 use Rattle.expression_types.specs.declared.scope.ValueType.TheVariants.{Int, Bool as Truth}
 use Rattle.expression_types.specs.declared.scope.Declared.{Declared}
-use Rattle.expression_types.specs.declared.scope.Declared.TheVariants.{Variable, Untyped, Function, TypeName}
+use Rattle.expression_types.specs.declared.scope.Declared.TheVariants.{Variable, Untyped, Function, External, TypeName}
 use Rattle.expression_types.specs.Profile.{is_blank, is_main, is_predeclared, is_reserved}
 use Rattle.expression_types.specs.Scope.{Scope, Signature, declaration, is_here}
-use Rattle.expression_types.specs.Typing.{Operand, value, Gives, one, called, printed, panicked, type_of, as_value, takes, right_allowed, both_values, arithmetic_of, combined, both, operand_in, Seen, many, count, taken, name_in, gives, seen}
+use Rattle.expression_types.specs.Typing.{Operand, value, Gives, one, called, asking, quoted, printed, panicked, exited, type_of, as_value, takes, right_allowed, both_values, arithmetic_of, combined, both, operand_in, Seen, many, count, taken, name_in, gives, seen}
 use Rattle.expression_types.specs.Faults.{fault, IsFault, pair_fault, refused_fault, ValuesFail, CountFails, TakeFails, Fails, FailsInEach, FailsAsOperand}
 use Rattle.types_go.specs.Entries.{slots_each}
 use Rattle.types_go.specs.Statements.{Returns, only, variable_value, left_of, new_left_of, declares, noted, is_noted, expressed, assignment, updated, stepped, returned, left, lefts, all_wanted, new_left, new_lefts, all_new_wanted, new_slots, with_variables, are_distinct, has_all, may_define, own_value, behind_simple, update_one, update_statement, step_statement, simple_statement}
@@ -45,6 +45,7 @@ left_decided sigs false false None at whole typed = (fault Unknown at, refl)
 left_decided sigs false false (Some (Variable site t)) at whole typed = λ f h. h
 left_decided sigs false false (Some Untyped) at whole typed = absurd (typed Untyped refl)
 left_decided sigs false false (Some (Function g)) at whole typed = (fault NotAssignable whole, refl)
+left_decided sigs false false (Some (External e place)) at whole typed = (fault NotAssignable whole, refl)
 left_decided sigs false false (Some TypeName) at whole typed = (fault BadOperand at, refl)
 
 own_decided : (sigs : List (Option Signature)) (is_blank other : Bool) (d : Option Declared) (at whole : Pos) → ((x : Declared) → d ≡ Some x → IsTyped sigs x)
@@ -55,6 +56,7 @@ own_decided sigs false false None at whole typed = (fault Unknown at, refl)
 own_decided sigs false false (Some (Variable site t)) at whole typed = λ f h. h
 own_decided sigs false false (Some Untyped) at whole typed = absurd (typed Untyped refl)
 own_decided sigs false false (Some (Function g)) at whole typed = (fault NotAssignable whole, refl)
+own_decided sigs false false (Some (External e place)) at whole typed = (fault NotAssignable whole, refl)
 own_decided sigs false false (Some TypeName) at whole typed = (fault BadOperand at, refl)
 
 new_left_decided : (sigs : List (Option Signature)) (is_blank reserved is_here : Bool) (d : Option Declared) (site : ℕ) (at : Pos) → ((x : Declared) → d ≡ Some x → IsTyped sigs x)
@@ -99,12 +101,15 @@ define_decided true ls (Some v) V N T t n d = by ls (n refl)
     by None e = (e.0, inl (inr e.1))
     by (Some l) e = λ f h. elim h [ inl k ↦ elim k [ inl u ↦ d f u | inr u ↦ e f u ] | inr k ↦ t f k ]
 
-use_decided : (o : Option Gives) (at : Pos) (P : Fault → Type 0) → Decided o P → Decided (option_and_then expressed o) (λ f. P f ⊎ IsFault (use_fault o at) f)
-use_decided None at P d = (d.0, inl d.1)
-use_decided (Some (one x)) at P d = (fault NotUsedValue at, inr refl)
-use_decided (Some (called place ts g es)) at P d = λ f h. elim h [ inl k ↦ d f k | inr k ↦ k ]
-use_decided (Some (printed place line ps)) at P d = λ f h. elim h [ inl k ↦ d f k | inr k ↦ k ]
-use_decided (Some (panicked place p)) at P d = λ f h. elim h [ inl k ↦ d f k | inr k ↦ k ]
+use_decided : (n : ℕ) (o : Option Gives) (at : Pos) (P : Fault → Type 0) → Decided o P → Decided (option_and_then (expressed n) o) (λ f. P f ⊎ IsFault (use_fault o at) f)
+use_decided n None at P d = (d.0, inl d.1)
+use_decided n (Some (one x)) at P d = (fault NotUsedValue at, inr refl)
+use_decided n (Some (called place ts g es)) at P d = λ f h. elim h [ inl k ↦ d f k | inr k ↦ k ]
+use_decided n (Some (asking place)) at P d = λ f h. elim h [ inl k ↦ d f k | inr k ↦ k ]
+use_decided n (Some (quoted place bytes)) at P d = (fault OutOfProfile place, inr refl)
+use_decided n (Some (printed place line ps)) at P d = λ f h. elim h [ inl k ↦ d f k | inr k ↦ k ]
+use_decided n (Some (panicked place p)) at P d = λ f h. elim h [ inl k ↦ d f k | inr k ↦ k ]
+use_decided n (Some (exited place e)) at P d = λ f h. elim h [ inl k ↦ d f k | inr k ↦ k ]
 
 pub return_decided : (at : Pos) (r : Returns) (os : List Seen) (P : Fault → Type 0) → Decided (given_all os) P → Decided (returned r os) (λ f. P f ⊎ ReturnFails at r os f)
 return_decided at r [] P d = further P (ReturnFails at r []) (cond r.may_be_bare (Some (give_back none)) None) d (by r.may_be_bare)
@@ -125,6 +130,7 @@ variable_read None x is = absurd (none_some is)
 variable_read (Some (Variable site t)) x is = (t, local site.0 here, sym (same_some is))
 variable_read (Some Untyped) x is = absurd (none_some is)
 variable_read (Some (Function g)) x is = absurd (none_some is)
+variable_read (Some (External e at)) x is = absurd (none_some is)
 variable_read (Some TypeName) x is = absurd (none_some is)
 
 -- what an operator gives of a variable and an operand has the form of an operator on two
@@ -189,7 +195,13 @@ step_decided typed_op (Some x) at P reads d =
 module _ (text : List ℕ) where
   value_decided : (s : Scope) (e : TreeEx) (o : Option Gives) → Decided o (Fails text s e) → (f : Fault) × (Fails text s e f ⊎ IsFault (value_left_fault o (first_place e)) f)
   value_decided s e None d = (d.0, inl d.1)
-  value_decided s e (Some g) d = (fault NotAssignable (first_place e), inr refl)
+  value_decided s e (Some (one x)) d = (fault NotAssignable (first_place e), inr refl)
+  value_decided s e (Some (called at ts g es)) d = (fault NotAssignable (first_place e), inr refl)
+  value_decided s e (Some (asking at)) d = (fault NotAssignable (first_place e), inr refl)
+  value_decided s e (Some (quoted at bytes)) d = (fault OutOfProfile at, inr refl)
+  value_decided s e (Some (printed at line ps)) d = (fault NotAssignable (first_place e), inr refl)
+  value_decided s e (Some (panicked at p)) d = (fault NotAssignable (first_place e), inr refl)
+  value_decided s e (Some (exited at x)) d = (fault NotAssignable (first_place e), inr refl)
 
   side_decided : (s : Scope) (settled : IsSettled s) (o : Option Name) (e : TreeEx) → Decided (left text s o) (LeftSideFails text s o e)
   side_decided s settled None e = value_decided s e (gives text s e) (gives_decided text s settled e)
@@ -286,7 +298,7 @@ module _ (text : List ℕ) where
       step_decided typed_op (own_value text s (name_in e)) (first_place e) (OwnSideFails text s (name_in e) e) (λ x is. own_read s (name_in e) x is) (own_side_decided s settled (name_in e) e)
 
   pub simple_decided : (s : Scope) (m : Simple) → IsSettled s → Decided (simple_statement text s m) (FailsInSimple text s m)
-  simple_decided s (tree.express e) settled = use_decided (gives text s e) (first_place e) (Fails text s e) (gives_decided text s settled e)
+  simple_decided s (tree.express e) settled = use_decided (length s.strings) (gives text s e) (first_place e) (Fails text s e) (gives_decided text s settled e)
   simple_decided s (tree.assign ls at es) settled = assign_statement s ls at es settled
   simple_decided s (tree.update ls at tree_op es) settled = update_decided s ls at tree_op es settled (only ls) (only es)
   simple_decided s (tree.define ns at es) settled = define_statement s ns at es settled
@@ -294,7 +306,7 @@ module _ (text : List ℕ) where
   simple_decided s (tree.decrement e at) settled = step_statement_decided s op.Sub e settled
 
   pub settled_simple : (s : Scope) (m : Simple) (t : St) → IsSettled s → simple_statement text s m ≡ Some t → IsSettled (behind_simple text s m)
-  settled_simple s (tree.express e) t settled is = settled
+  settled_simple s (tree.express e) t settled is = record { all = settled.all }
   settled_simple s (tree.assign ls at es) t settled is = settled
   settled_simple s (tree.update ls at tree_op es) t settled is = settled
   settled_simple s (tree.define ns at es) t settled is =

@@ -12,7 +12,7 @@ use Rattle.syntax.specs.Statements.{Simple, ValueSpec, Guard, Clause, forever, w
 use Rattle.syntax.specs.Statements as tree
 use Rattle.typed.specs.declared.operators.BinOp.{BinOp as TypedOp}
 use Rattle.typed.specs.declared.operators.BinOp.TheVariants as op
-use Rattle.typed.specs.Syntax.{Exs, Left, St, Sts, Piece, constant, unary as unary_of, binary as binary_of, both as both_of, either as either_of, call as call_of, read, declare, block, choose, loop, break_off, go_on, give_back, none, done, next}
+use Rattle.typed.specs.Syntax.{Exs, Left, St, Sts, constant, unary as unary_of, binary as binary_of, both as both_of, either as either_of, call as call_of, read, declare, block, choose, loop, break_off, go_on, give_back, none, done, next}
 use Rattle.typed.specs.Form.{ends, ends_all, breaks, breaks_all}
 use Rattle.expression_types.specs.declared.profile.Word.{Word}
 use Rattle.expression_types.specs.declared.profile.Word.TheVariants as word
@@ -20,7 +20,7 @@ use Rattle.expression_types.specs.declared.scope.ValueType.TheVariants.{Int, Boo
 use Rattle.expression_types.specs.declared.scope.Declared.{Declared}
 use Rattle.expression_types.specs.Profile.{word_of}
 use Rattle.expression_types.specs.Scope.{Scope, declaration, opened, closed}
-use Rattle.expression_types.specs.Typing.{Operand, untyped, value, Gives, one, called, printed, panicked, both, combined, operand_in, Seen, pieces, taken, panicked_with, called_with, spread_over, callee_named, callee, name_in, gives, seen, condition, test}
+use Rattle.expression_types.specs.Typing.{Operand, untyped, value, Part, Gives, one, called, asking, quoted, printed, panicked, exited, both, combined, operand_in, Seen, parts, taken, panicked_with, called_with, spread_over, callee_named, callee, name_in, gives, seen, condition, test}
 use Rattle.types_go.specs.Entries.{sites_of, entry_left}
 use Rattle.types_go.specs.Statements.{Returns, Choice, Head, repeated, counted, only, alone, before, expressed, declared_in, assignment, updated, stepped, returned, headed, looped_by, choice_of, loop_of, lefts, all_wanted, new_lefts, all_new_wanted, may_define, own_value, update_statement, simple_statement, header, init_statement, post_statement, guard_head, clause_scope, clause_head, key_of, number_type, over, target_lefts, is_bare, spec_entries, spec_wanted, is_known, spec_declared, spec_assigned, spec_statement, spec_statements, behind_spec, behind, behind_all, statement, alternative, statements, is_endless, leaves, leaves_else, leaves_any, is_panic, names_panic, panics, ends_simple, is_terminating, is_terminating_else, ends_after}
 use Rattle.expression_types.proofs.Options.{and_then_some, map_some, none_some, same_some}
@@ -103,11 +103,14 @@ stepped_still o (value Int (both_of a b)) t is = absurd (none_some is)
 stepped_still o (value Int (either_of a b)) t is = absurd (none_some is)
 stepped_still o (value Int (call_of f es)) t is = absurd (none_some is)
 
-expressed_still : (g : Gives) (t : St) → expressed g ≡ Some t → IsStill t
-expressed_still (one x) t is = absurd (none_some is)
-expressed_still (called at ts f es) t is = ap breaks (sym (same_some is))
-expressed_still (printed at line ps) t is = ap breaks (sym (same_some is))
-expressed_still (panicked at q) t is = ap breaks (sym (same_some is))
+expressed_still : (k : ℕ) (g : Gives) (t : St) → expressed k g ≡ Some t → IsStill t
+expressed_still k (one x) t is = absurd (none_some is)
+expressed_still k (called at ts f es) t is = ap breaks (sym (same_some is))
+expressed_still k (asking at) t is = ap breaks (sym (same_some is))
+expressed_still k (quoted at bytes) t is = absurd (none_some is)
+expressed_still k (printed at line ps) t is = ap breaks (sym (same_some is))
+expressed_still k (panicked at q) t is = ap breaks (sym (same_some is))
+expressed_still k (exited at e) t is = ap breaks (sym (same_some is))
 
 returned_as : (r : Returns) (os : List Seen) (t : St) → returned r os ≡ Some t → (es : Exs) × (t ≡ give_back es)
 returned_as r [] t is = let w = where_some r.may_be_bare (Some (give_back none)) t is in (none, sym (same_some w.1))
@@ -120,9 +123,9 @@ headed_ends (Some i) t = refl
 module _ (text : List ℕ) where
   -- a call of `panic` gives that
   abbrev IsPanicked : Gives → Type 0
-  IsPanicked g = (at : Pos) × (q : Piece) × (g ≡ panicked at q)
+  IsPanicked g = (at : Pos) × (q : Part) × (g ≡ panicked at q)
 
-  panicked_from : (at : Pos) (qs : List Piece) (g : Gives) → panicked_with at qs ≡ Some g → IsPanicked g
+  panicked_from : (at : Pos) (qs : List Part) (g : Gives) → panicked_with at qs ≡ Some g → IsPanicked g
   panicked_from at [] g is = absurd (none_some is)
   panicked_from at (q ∷ []) g is = (at, q, sym (same_some is))
   panicked_from at (q ∷ r ∷ qs) g is = absurd (none_some is)
@@ -134,10 +137,11 @@ module _ (text : List ℕ) where
       at_word : (w : Word) (d : Option Declared) (b : Bool) → is_panic w ≡ true → called_with (first_place f) (spread_over b (callee_named s w d)) (seen text s es) ≡ Some g → IsPanicked g
       at_word (word.Truth t) d b w_is is1 = cc w_is
       at_word (word.Print line) d b w_is is1 = cc w_is
+      at_word word.Blank d b w_is is1 = cc w_is
       at_word word.Reserved d b w_is is1 = cc w_is
       at_word word.Free d b w_is is1 = cc w_is
       at_word word.Panic d true w_is is1 = absurd (none_some is1)
-      at_word word.Panic d false w_is is1 = let r = and_then_some (panicked_with (first_place f)) (pieces (seen text s es)) g is1 in panicked_from (first_place f) r.0 g r.2
+      at_word word.Panic d false w_is is1 = let r = and_then_some (panicked_with (first_place f)) (parts (seen text s es)) g is1 in panicked_from (first_place f) r.0 g r.2
 
       by : (o : Option Name) → names_panic text o ≡ true → called_with (first_place f) (spread_over spread (callee text s o (gives text s f))) (seen text s es) ≡ Some g → IsPanicked g
       by None o_is is1 = cc o_is
@@ -155,11 +159,11 @@ module _ (text : List ℕ) where
   panic_gives s (literal e es) g panic1 is = cc panic1
   panic_gives s (elements at es) g panic1 is = cc panic1
 
-  panicked_ends : (g : Gives) (t : St) → IsPanicked g → expressed g ≡ Some t → ends t ≡ true
-  panicked_ends g t r is = ap ends (sym (same_some (ap expressed (sym r.2) ∙ is)))
+  panicked_ends : (k : ℕ) (g : Gives) (t : St) → IsPanicked g → expressed k g ≡ Some t → ends t ≡ true
+  panicked_ends k g t r is = ap ends (sym (same_some (ap (expressed k) (sym r.2) ∙ is)))
 
   simple_ends : (s : Scope) (m : Simple) (t : St) → ends_simple text m ≡ true → simple_statement text s m ≡ Some t → ends t ≡ true
-  simple_ends s (tree.express e) t ending is = let q = and_then_some expressed (gives text s e) t is in panicked_ends q.0 t (panic_gives s e q.0 ending q.1) q.2
+  simple_ends s (tree.express e) t ending is = let q = and_then_some (expressed (length s.strings)) (gives text s e) t is in panicked_ends (length s.strings) q.0 t (panic_gives s e q.0 ending q.1) q.2
   simple_ends s (tree.assign ls at es) t ending is = cc ending
   simple_ends s (tree.update ls at tree_op es) t ending is = cc ending
   simple_ends s (tree.define ns at es) t ending is = cc ending
@@ -172,7 +176,7 @@ module _ (text : List ℕ) where
   update_still s tree_op (Some e) (Some v) t is = let q = and_then_some updated (both (combined (first_place e) (Arithmetic tree_op)) (own_value text s (name_in e)) (operand_in (gives text s v))) t is in updated_still q.0 t q.2
 
   simple_still : (s : Scope) (m : Simple) (t : St) → simple_statement text s m ≡ Some t → IsStill t
-  simple_still s (tree.express e) t is = let q = and_then_some expressed (gives text s e) t is in expressed_still q.0 t q.2
+  simple_still s (tree.express e) t is = let q = and_then_some (expressed (length s.strings)) (gives text s e) t is in expressed_still (length s.strings) q.0 t q.2
   simple_still s (tree.assign ls at es) t is = assigned_still (lefts text s ls) (taken (all_wanted text s ls) (seen text s es)) t is
   simple_still s (tree.update ls at tree_op es) t is = update_still s tree_op (only ls) (only es) t is
   simple_still s (tree.define ns at es) t is =

@@ -7,13 +7,13 @@ use Rattle.base.specs.declared.pos.Pos.{Pos}
 use Rattle.names.specs.Blocks.{Names, Blocks, entry_of, or_else, lookup, with_entry, insert}
 use Rattle.typed.specs.Form.{InScope}
 use Rattle.expression_types.specs.declared.scope.Declared.{Declared}
-use Rattle.expression_types.specs.declared.scope.Declared.TheVariants.{Variable, Function}
+use Rattle.expression_types.specs.declared.scope.Declared.TheVariants.{Variable, Function, External}
 use Rattle.syntax.specs.Expressions.{spelled}
 use Rattle.syntax.specs.Declarations.{Function as TreeFunction}
 use Rattle.typed.specs.declared.program.Site.{Site}
 use Rattle.expression_types.specs.declared.scope.ValueType.{ValueType}
-use Rattle.expression_types.specs.Scope.{Scope, type_number, declaration, with_declaration, with_variable, with_signature, opened, beginning}
-use Rattle.types_go.specs.Functions.{signature_in, declares_name, with_function}
+use Rattle.expression_types.specs.Scope.{Scope, type_number, declaration, with_declaration, with_variable, with_signature, with_strings, opened, beginning}
+use Rattle.types_go.specs.Functions.{signature_in, external_named, is_external, declares_name, with_function}
 use Rattle.expression_types.proofs.Options.{and_then_some, none_some}
 use Rattle.types_go.proofs.Growth.{Extends, extends_none, Keeps}
 use Rattle.types_go.proofs.SettledFunctions.{with_functions}
@@ -150,6 +150,9 @@ visible_beginning = record { bounded = (tt, tt); shown = λ name site t is. absu
 pub visible_opened : (s : Scope) (scope : List ℕ) → Visible s scope → Visible (opened s) scope
 visible_opened s scope v = record { bounded = (tt, v.bounded); shown = v.shown }
 
+pub visible_strings : (s : Scope) (scope : List ℕ) (strings : List (List ℕ)) → Visible s scope → Visible (with_strings s strings) scope
+visible_strings s scope strings v = record { bounded = v.bounded; shown = v.shown }
+
 -- the same blocks, and more declarations
 pub visible_kept : (s r : Scope) (scope : List ℕ) → Visible s scope → Keeps s r → Visible r scope
 visible_kept s r scope v k = record {
@@ -217,13 +220,21 @@ visible_with s scope name u at v =
 -- the package block names no variables
 pub visible_package : (text : List ℕ) (s : Scope) (gs : List TreeFunction) → Visible s [] → Visible (with_functions text s gs) []
 visible_package text s [] v = v
-visible_package text s (g ∷ gs) v = visible_package text (with_function text s g) gs (by (declares_name s (spelled text g.name)))
+visible_package text s (g ∷ gs) v = visible_package text (with_function text s g) gs (by (is_external text g) (declares_name s (spelled text g.name)))
   where
-    no_variable : (site : SiteId) (t : ValueType) → Function (record { 0 = length s.signatures }) ≡ Variable site t → InScope site.0 [] × HasSite s.sites site.0 t
-    no_variable site t is = cc is
+    no_function : (site : SiteId) (t : ValueType) → Function (record { 0 = length s.signatures }) ≡ Variable site t → InScope site.0 [] × HasSite s.sites site.0 t
+    no_function site t is = cc is
 
-    by : (b : Bool) → Visible (with_signature (cond b (with_declaration s (spelled text g.name) (Function (record { 0 = length s.signatures }))) s) (signature_in text g)) []
-    by false = record { bounded = v.bounded; shown = v.shown }
-    by true =
-        let w = visible_more s s.sites [] [] (spelled text g.name) (Function (record { 0 = length s.signatures })) v (extends_none s.sites) (λ u h. h) no_variable in
+    no_external : (site : SiteId) (t : ValueType) → External (external_named (spelled text g.name)) g.name.pos ≡ Variable site t → InScope site.0 [] × HasSite s.sites site.0 t
+    no_external site t is = cc is
+
+    by : (b c : Bool)
+        → Visible (cond b (cond c (with_declaration s (spelled text g.name) (External (external_named (spelled text g.name)) g.name.pos)) s) (with_signature (cond c (with_declaration s (spelled text g.name) (Function (record { 0 = length s.signatures }))) s) (signature_in text g))) []
+    by true false = v
+    by true true =
+        let w = visible_more s s.sites [] [] (spelled text g.name) (External (external_named (spelled text g.name)) g.name.pos) v (extends_none s.sites) (λ u h. h) no_external in
+        record { bounded = w.0; shown = w.1 }
+    by false false = record { bounded = v.bounded; shown = v.shown }
+    by false true =
+        let w = visible_more s s.sites [] [] (spelled text g.name) (Function (record { 0 = length s.signatures })) v (extends_none s.sites) (λ u h. h) no_function in
         record { bounded = w.0; shown = w.1 }

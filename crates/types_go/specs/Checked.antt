@@ -14,18 +14,22 @@ use Rattle.types_go.specs.FunctionFaults.{FailsIn}
 
 -- the variables, in the order of the text, and their places
 abbrev pub sites_in : Syntax → List Site
-sites_in t = (behind_functions t.text (package_scope t) (functions_in (declarations_in t))).sites
+sites_in t = (behind_functions t.text (package_scope t) (functions_in t.text (declarations_in t))).sites
 
 abbrev pub places_of : Syntax → List Pos
 places_of t = map (λ site. site.pos) (sites_in t)
 
 -- the places of the functions' names
 abbrev pub function_places : Syntax → List Pos
-function_places t = map (λ f. f.name.pos) (functions_in (declarations_in t))
+function_places t = map (λ f. f.name.pos) (functions_in t.text (declarations_in t))
 
--- two types, and no strings yet
+-- the strings of its statements
+abbrev pub strings_in : Syntax → List (List ℕ)
+strings_in t = (behind_functions t.text (package_scope t) (functions_in t.text (declarations_in t))).strings
+
+-- two types
 abbrev pub program_with : Syntax → List Func → ℕ → Program
-program_with t funcs main = record { funcs = funcs; zeros = zero_values; sites = map (λ site. site.type_id.0) (sites_in t); strings = []; globals = []; main = main }
+program_with t funcs main = record { funcs = funcs; zeros = zero_values; sites = map (λ site. site.type_id.0) (sites_in t); strings = strings_in t; globals = []; main = main }
 
 -- the rules give a tree this typed program
 pub record Types (t : Syntax) (p : Program) : Type 0 where

@@ -1,6 +1,6 @@
 -- Which rules fail in a declaration and in a tree, and where each is reported. A form that is left out fails at its first byte, and nothing
 -- behind that is looked at: whatever fails further right is never reported.
-use Rattle.std.specs.Prelude.{◌≡◌, ℕ, ◌+◌, ◌⊎◌, Bool, true, false, not, List, [], ◌∷◌, Option, Some, None, is_some, nat_lt, nat_le, if◌then◌else◌}
+use Rattle.std.specs.Prelude.{◌≡◌, ℕ, ◌+◌, ◌⊎◌, Bool, true, false, not, List, [], ◌∷◌, Option, Some, None, is_some, nat_lt, nat_le}
 use Rattle.base.specs.declared.pos.Pos.{Pos}
 use Rattle.syntax.specs.Expressions.{spelled}
 use Rattle.syntax.specs.Declarations.{Body, Function as TreeFunction, Declaration, constants, variables, types, Syntax}
@@ -13,7 +13,7 @@ use Rattle.expression_types.specs.Scope.{Scope, Signature, declaration, opened}
 use Rattle.expression_types.specs.Faults.{fault, IsFault, FormFails, FailsAsType}
 use Rattle.types_go.specs.declared.entries.Role.TheVariants.{Parameter as parameter, Result as result}
 use Rattle.types_go.specs.EntryFaults.{EntriesFail}
-use Rattle.types_go.specs.Functions.{Param, is_number, params_of, slots_of, words, is_external, functions_in, signature_in, behind_params, body_scope, behind_function, returns_of, may_end, declarations_in, package_scope, main_number}
+use Rattle.types_go.specs.Functions.{Param, is_number, params_of, slots_of, words, is_external, is_external_at, functions_in, signature_in, behind_params, body_scope, behind_function, returns_of, may_end, declarations_in, package_scope, main_number}
 use Rattle.types_go.specs.StatementFaults.{fault_where, FailsInStatements}
 
 -- the name of the function of a number: the first declaration of a name stays
@@ -26,6 +26,10 @@ function_name_fault i false false d at = fault_where (not (is_number i d)) (faul
 abbrev pub size_fault : Option Signature → Pos → Option Fault
 size_fault None at = None
 size_fault (Some sig) at = fault_where (not (nat_le (words sig) 65535)) (fault TooLarge at)
+
+-- no other function than `readInt` and `exit` has no body
+abbrev pub external_fault : TreeFunction → Fault
+external_fault g = fault BadExternal g.name.pos
 
 module _ (text : List ℕ) where
   abbrev pub TypesFail : Scope → List Param → Fault → Type 0
@@ -46,10 +50,6 @@ module _ (text : List ℕ) where
       (EntriesFail text parameter (opened s) (slots_of text g.params) f ⊎ EntriesFail text result (behind_params text s g) (slots_of text g.results) f)
       ⊎ FailsInStatements text (returns_of text g) false (body_scope text s g) b.statements f
 
-  -- a function without a body is one of those that may have none, and these are left out
-  abbrev pub external_fault : TreeFunction → Fault
-  external_fault g = if is_external (spelled text g.name) then fault OutOfProfile g.place else fault BadExternal g.name.pos
-
   -- with results, a function ends in a terminating statement
   abbrev pub FailsWith : Scope → ℕ → TreeFunction → Option Body → Fault → Type 0
   FailsWith s i g None f = FailsInHead s i g f ⊎ (f ≡ external_fault g)
@@ -62,16 +62,22 @@ module _ (text : List ℕ) where
   FailsInFunctions s i [] f = ⊥
   FailsInFunctions s i (g ∷ gs) f = FailsInFunction s i g f ⊎ FailsInFunctions (behind_function text s g) (1 + i) gs f
 
--- a declaration of a form that is left out
-abbrev pub DeclarationFails : Declaration → Fault → Type 0
-DeclarationFails (constants at specs) f = FormFails at f
-DeclarationFails (variables at specs) f = FormFails at f
-DeclarationFails (types at specs) f = FormFails at f
-DeclarationFails (tree.function g) f = ⊥
+-- the name of a function that may be one of the two without a body: the first declaration of a name stays
+abbrev pub external_name_fault : Bool → Option Declared → Pos → Option Fault
+external_name_fault false d at = None
+external_name_fault true d at = fault_where (not (is_external_at at d)) (fault Redeclared at)
 
-abbrev pub DeclarationsFail : List Declaration → Fault → Type 0
-DeclarationsFail [] f = ⊥
-DeclarationsFail (d ∷ ds) f = DeclarationFails d f ⊎ DeclarationsFail ds f
+module _ (text : List ℕ) where
+  -- a declaration of a form that is left out, or of a function without a body behind another of its name
+  abbrev pub DeclarationFails : Scope → Declaration → Fault → Type 0
+  DeclarationFails s (constants at specs) f = FormFails at f
+  DeclarationFails s (variables at specs) f = FormFails at f
+  DeclarationFails s (types at specs) f = FormFails at f
+  DeclarationFails s (tree.function g) f = IsFault (external_name_fault (is_external text g) (declaration s (spelled text g.name)) g.name.pos) f
+
+  abbrev pub DeclarationsFail : Scope → List Declaration → Fault → Type 0
+  DeclarationsFail s [] f = ⊥
+  DeclarationsFail s (d ∷ ds) f = DeclarationFails s d f ⊎ DeclarationsFail s ds f
 
 -- the first byte of a text
 abbrev pub first_byte : Pos
@@ -81,4 +87,4 @@ first_byte = record { offset = 0; line = 1; col = 1 }
 abbrev pub FailsIn : Syntax → Fault → Type 0
 FailsIn t f =
     IsFault (fault_where (not (is_some (main_number t))) (fault NoMain first_byte)) f
-    ⊎ (DeclarationsFail (declarations_in t) f ⊎ FailsInFunctions t.text (package_scope t) 0 (functions_in (declarations_in t)) f)
+    ⊎ (DeclarationsFail t.text (package_scope t) (declarations_in t) f ⊎ FailsInFunctions t.text (package_scope t) 0 (functions_in t.text (declarations_in t)) f)

@@ -1,6 +1,6 @@
 -- The package block and the functions of a program (Go specification, "Function declarations", "Function types", "Blocks", "Program
 -- initialization and execution").
-use Rattle.std.specs.Prelude.{ℕ, length, ◌+◌, ◌-◌, ◌==◌, Bool, true, false, not, ◌&&◌, ◌||◌, List, [], ◌∷◌, ◌++◌, codes, map, slice_get, Option, Some, None, option_and_then, nat_lt, nat_le, if◌then◌else◌}
+use Rattle.std.specs.Prelude.{ℕ, length, ◌+◌, ◌-◌, ◌==◌, Bool, true, false, not, ◌&&◌, ◌||◌, List, [], ◌∷◌, ◌++◌, codes, map, slice_get, Option, Some, None, is_some, option_and_then, nat_lt, nat_le, if◌then◌else◌}
 use Rattle.std.specs.Option.{option_map}
 use Rattle.std.specs.Str.{bytes_eq}
 use Rattle.syntax.specs.declared.expression.Name.{Name}
@@ -10,9 +10,13 @@ use Rattle.syntax.specs.Statements.{ValueSpec}
 use Rattle.syntax.specs.Declarations.{Field, Parameters, unnamed, named, TypeSpec, Body, Function as TreeFunction, Declaration, constants, variables, types, Syntax}
 use Rattle.syntax.specs.Declarations as tree
 use Rattle.typed.specs.Syntax.{Sts, Func, int_type}
+use Rattle.base.specs.declared.pos.Pos.{Pos}
 use Rattle.expression_types.specs.declared.scope.ValueType.{ValueType}
+use Rattle.expression_types.specs.declared.scope.ValueType.TheVariants.{Int, Bool as Boolean}
+use Rattle.expression_types.specs.declared.scope.External.{External as ExternalData}
+use Rattle.expression_types.specs.declared.scope.External.TheVariants as external
 use Rattle.expression_types.specs.declared.scope.Declared.{Declared}
-use Rattle.expression_types.specs.declared.scope.Declared.TheVariants.{Variable, Untyped, Function, TypeName}
+use Rattle.expression_types.specs.declared.scope.Declared.TheVariants.{Variable, Untyped, Function, External, TypeName}
 use Rattle.expression_types.specs.Profile.{is_blank, is_main, is_predeclared}
 use Rattle.expression_types.specs.Scope.{Scope, Signature, type_number, declaration, is_here, with_declaration, with_signature, opened, closed, beginning}
 use Rattle.expression_types.specs.Typing.{type_in, allowed}
@@ -69,6 +73,7 @@ declares_name s n = not (is_blank n || is_predeclared n) && not (is_here s n)
 abbrev pub is_number : ℕ → Option Declared → Bool
 is_number i None = true
 is_number i (Some (Function f)) = f.0 == i
+is_number i (Some (External e at)) = false
 is_number i (Some (Variable site t)) = false
 is_number i (Some Untyped) = false
 is_number i (Some TypeName) = false
@@ -79,13 +84,41 @@ may_be_named i is_blank predeclared d = is_blank || (not predeclared && is_numbe
 abbrev pub number_of : Option Declared → Option ℕ
 number_of None = None
 number_of (Some (Function f)) = Some f.0
+number_of (Some (External e at)) = None
 number_of (Some (Variable site t)) = None
 number_of (Some Untyped) = None
 number_of (Some TypeName) = None
 
--- the functions that a program may declare without a body
-abbrev pub is_external : List ℕ → Bool
-is_external name = bytes_eq name (codes "readInt") || bytes_eq name (codes "exit")
+-- one parameter, an int, and no results
+abbrev pub takes_one_int : List ValueType → List ValueType → Bool
+takes_one_int (Int ∷ []) [] = true
+takes_one_int params results = false
+
+abbrev pub is_of_exit : Option Signature → Bool
+is_of_exit None = false
+is_of_exit (Some sig) = takes_one_int sig.params sig.results
+
+-- no parameters, and an int and a bool as results
+abbrev pub gives_int_and_bool : List ValueType → List ValueType → Bool
+gives_int_and_bool [] (Int ∷ Boolean ∷ []) = true
+gives_int_and_bool params results = false
+
+abbrev pub is_of_read_int : Option Signature → Bool
+is_of_read_int None = false
+is_of_read_int (Some sig) = gives_int_and_bool sig.params sig.results
+
+-- which of the two functions without a body has a name that one of them has
+abbrev pub external_named : List ℕ → ExternalData
+external_named name = if bytes_eq name (codes "exit") then external.Exit else external.ReadInt
+
+-- whether a name stands for the function without a body that is declared at a place
+abbrev pub is_external_at : Pos → Option Declared → Bool
+is_external_at place None = false
+is_external_at place (Some (External e at)) = at.offset == place.offset
+is_external_at place (Some (Function f)) = false
+is_external_at place (Some (Variable site t)) = false
+is_external_at place (Some Untyped) = false
+is_external_at place (Some TypeName) = false
 
 abbrev pub is_plain : Option TreeFunction → Bool
 is_plain None = false
@@ -98,27 +131,6 @@ number_or_int (Some t) = type_number t
 
 abbrev pub slot_number : Slot → ℕ
 slot_number p = number_or_int p.value_type
-
--- ---- declarations at the level of the package
-
--- the functions among them, which have numbers in this order
-abbrev pub functions_in : List Declaration → List TreeFunction
-functions_in [] = []
-functions_in (constants at specs ∷ ds) = functions_in ds
-functions_in (variables at specs ∷ ds) = functions_in ds
-functions_in (types at specs ∷ ds) = functions_in ds
-functions_in (tree.function f ∷ ds) = f ∷ functions_in ds
-
--- forms that are not left out
-abbrev pub is_supported : Declaration → Bool
-is_supported (constants at specs) = false
-is_supported (variables at specs) = false
-is_supported (types at specs) = false
-is_supported (tree.function f) = true
-
-abbrev pub are_supported : List Declaration → Bool
-are_supported [] = true
-are_supported (d ∷ ds) = is_supported d && are_supported ds
 
 module _ (text : List ℕ) where
   -- a parameter or result with its type, where that is known
@@ -139,6 +151,38 @@ module _ (text : List ℕ) where
   abbrev pub signature_in : TreeFunction → Option Signature
   signature_in f = option_and_then (λ ps. option_map (λ rs. record { params = ps; results = rs }) (types_of (slots_of f.results))) (types_of (slots_of f.params))
 
+  -- ---- declarations at the level of the package
+
+  -- `exit` takes an int; `readInt` gives an int and a bool, which have no names
+  abbrev pub has_exit_head : TreeFunction → Bool
+  has_exit_head f = bytes_eq (spelled text f.name) (codes "exit") && is_of_exit (signature_in f)
+
+  abbrev pub has_read_int_head : TreeFunction → Bool
+  has_read_int_head f = bytes_eq (spelled text f.name) (codes "readInt") && (is_of_read_int (signature_in f) && not (is_named f.results))
+
+  -- whether a function is one of the two, which have no body
+  abbrev pub is_external : TreeFunction → Bool
+  is_external f = not (is_some f.body) && (has_exit_head f || has_read_int_head f)
+
+  -- the other functions among them, which have numbers in this order
+  abbrev pub functions_in : List Declaration → List TreeFunction
+  functions_in [] = []
+  functions_in (constants at specs ∷ ds) = functions_in ds
+  functions_in (variables at specs ∷ ds) = functions_in ds
+  functions_in (types at specs ∷ ds) = functions_in ds
+  functions_in (tree.function f ∷ ds) = if is_external f then functions_in ds else f ∷ functions_in ds
+
+  -- in the package block: forms that are not left out; and a function without a body is the first of its name
+  abbrev pub is_supported : Scope → Declaration → Bool
+  is_supported s (constants at specs) = false
+  is_supported s (variables at specs) = false
+  is_supported s (types at specs) = false
+  is_supported s (tree.function f) = not (is_external f) || is_external_at f.name.pos (declaration s (spelled text f.name))
+
+  abbrev pub are_supported : Scope → List Declaration → Bool
+  are_supported s [] = true
+  are_supported s (d ∷ ds) = is_supported s d && are_supported s ds
+
   -- ---- the package block: the first declaration of a name stays
 
   abbrev pub with_name : Declared → Scope → Name → Scope
@@ -158,7 +202,8 @@ module _ (text : List ℕ) where
   with_types s (t ∷ ts) = with_types (with_name TypeName s t.name) ts
 
   abbrev pub with_function : Scope → TreeFunction → Scope
-  with_function s f = with_signature (with_name (Function (record { 0 = length s.signatures })) s f.name) (signature_in f)
+  with_function s f =
+      if is_external f then with_name (External (external_named (spelled text f.name)) f.name.pos) s f.name else with_signature (with_name (Function (record { 0 = length s.signatures })) s f.name) (signature_in f)
 
   abbrev pub with_item : Scope → Declaration → Scope
   with_item s (constants at specs) = with_values s specs
@@ -246,8 +291,9 @@ plain_number fs (Some i) = if is_plain (slice_get fs i) then Some i else None
 -- in the package `main`
 abbrev pub main_number : Syntax → Option ℕ
 main_number t =
-    if is_main (spelled t.text t.file.package_name) then plain_number (functions_in (declarations_in t)) (number_of (declaration (package_scope t) (codes "main"))) else None
+    if is_main (spelled t.text t.file.package_name) then plain_number (functions_in t.text (declarations_in t)) (number_of (declaration (package_scope t) (codes "main"))) else None
 
 -- the functions, where all declarations are of forms that are not left out
 abbrev pub program_functions : Syntax → Option (List Func)
-program_functions t = allowed (are_supported (declarations_in t)) (functions t.text (package_scope t) 0 (functions_in (declarations_in t)))
+program_functions t =
+    allowed (are_supported t.text (package_scope t) (declarations_in t)) (functions t.text (package_scope t) 0 (functions_in t.text (declarations_in t)))

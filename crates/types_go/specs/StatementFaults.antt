@@ -17,10 +17,10 @@ use Rattle.expression_types.specs.declared.fault.FaultKind.TheVariants.{Unknown,
 use Rattle.expression_types.specs.declared.scope.ValueType.{ValueType}
 use Rattle.expression_types.specs.declared.scope.ValueType.TheVariants.{Int}
 use Rattle.expression_types.specs.declared.scope.Declared.{Declared}
-use Rattle.expression_types.specs.declared.scope.Declared.TheVariants.{Variable, Untyped, Function, TypeName}
+use Rattle.expression_types.specs.declared.scope.Declared.TheVariants.{Variable, Untyped, Function, External, TypeName}
 use Rattle.expression_types.specs.Profile.{is_blank, is_reserved}
 use Rattle.expression_types.specs.Scope.{Scope, declaration, is_here, opened, closed}
-use Rattle.expression_types.specs.Typing.{Operand, Gives, one, called, printed, panicked, same_type, accepts, type_of, operand_in, Seen, many, count, name_in, gives, seen}
+use Rattle.expression_types.specs.Typing.{Operand, Gives, one, called, asking, quoted, printed, panicked, exited, same_type, accepts, type_of, operand_in, Seen, many, count, name_in, gives, seen}
 use Rattle.expression_types.specs.Faults.{fault, IsFault, FormFails, range_fault, pair_fault, refused_fault, ValuesFail, PlacedFail, CountFails, TakeFails, FailsAsType, Fails, FailsInEach, FailsAsOperand, FailsInCondition, FailsInTest}
 use Rattle.types_go.specs.declared.entries.Role.TheVariants.{Parameter}
 use Rattle.types_go.specs.Entries.{slot_with}
@@ -41,6 +41,7 @@ left_fault false false None at whole = Some (fault Unknown at)
 left_fault false false (Some (Variable site t)) at whole = None
 left_fault false false (Some Untyped) at whole = None
 left_fault false false (Some (Function g)) at whole = Some (fault NotAssignable whole)
+left_fault false false (Some (External e place)) at whole = Some (fault NotAssignable whole)
 left_fault false false (Some TypeName) at whole = Some (fault BadOperand at)
 
 -- a name on the left of `:=` is blank, or not the language's own; one that the block has is a variable
@@ -55,9 +56,10 @@ abbrev pub own_fault : (is_blank reserved : Bool) → Option Declared → Pos �
 own_fault true reserved d at whole = Some (fault Unknown at)
 own_fault false reserved d at whole = left_fault false reserved d at whole
 
--- any other left side that gives something
+-- any other left side that gives something; a string stands nowhere else than among operands
 abbrev pub value_left_fault : Option Gives → Pos → Option Fault
 value_left_fault None at = None
+value_left_fault (Some (quoted place bytes)) at = Some (fault OutOfProfile place)
 value_left_fault (Some g) at = Some (fault NotAssignable at)
 
 -- where a statement with names begins, and one with expressions on its left
@@ -76,8 +78,11 @@ abbrev pub use_fault : Option Gives → Pos → Option Fault
 use_fault None at = None
 use_fault (Some (one x)) at = Some (fault NotUsedValue at)
 use_fault (Some (called place ts g es)) at = None
+use_fault (Some (asking place)) at = None
+use_fault (Some (quoted place bytes)) at = Some (fault OutOfProfile place)
 use_fault (Some (printed place line ps)) at = None
 use_fault (Some (panicked place p)) at = None
+use_fault (Some (exited place e)) at = None
 
 -- `++` and `--` take an int
 abbrev pub step_fault : Option Operand → Pos → Option Fault

@@ -14,16 +14,16 @@ use Rattle.syntax.specs.Statements.{Simple, ValueSpec, Guard, Targets, no_target
 use Rattle.syntax.specs.Statements as tree
 use Rattle.typed.specs.declared.operators.BinOp.{BinOp as TypedOp}
 use Rattle.typed.specs.declared.operators.BinOp.TheVariants as op
-use Rattle.typed.specs.Syntax.{Ex, Exs, Left, St, Sts, binary, read, local, here, none, results, blank, new, to, over_int, declare, assign, update, bump, discard, block, choose, loop, range, break_off, go_on, give_back, print, raise, done, next}
+use Rattle.typed.specs.Syntax.{Ex, Exs, Left, Piece, St, Sts, text as string_number, shown, binary, read, local, here, none, results, asked, blank, new, to, over_int, declare, assign, update, bump, discard, block, choose, loop, range, break_off, go_on, give_back, print, raise, quit, done, next}
 use Rattle.expression_types.specs.declared.profile.Word.{Word}
 use Rattle.expression_types.specs.declared.profile.Word.TheVariants as word
 use Rattle.expression_types.specs.declared.scope.ValueType.{ValueType}
 use Rattle.expression_types.specs.declared.scope.ValueType.TheVariants.{Int}
 use Rattle.expression_types.specs.declared.scope.Declared.{Declared}
-use Rattle.expression_types.specs.declared.scope.Declared.TheVariants.{Variable, Untyped, Function, TypeName}
+use Rattle.expression_types.specs.declared.scope.Declared.TheVariants.{Variable, Untyped, Function, External, TypeName}
 use Rattle.expression_types.specs.Profile.{is_blank, is_reserved, word_of}
-use Rattle.expression_types.specs.Scope.{Scope, declaration, is_here, with_variable, opened, closed}
-use Rattle.expression_types.specs.Typing.{Operand, value, Gives, one, called, printed, panicked, allowed, same_type, accepts, type_of, as_value, both, combined, operand_in, Seen, value_types, taken, name_in, type_in, gives, seen, condition, test}
+use Rattle.expression_types.specs.Scope.{Scope, declaration, is_here, with_variable, with_strings, opened, closed}
+use Rattle.expression_types.specs.Typing.{Operand, value, Part, said, valued, Gives, one, called, asking, quoted, printed, panicked, exited, allowed, same_type, accepts, type_of, as_value, both, combined, operand_in, Seen, value_types, taken, name_in, type_in, gives, seen, condition, test}
 use Rattle.types_go.specs.declared.slots.Slot.{Slot}
 use Rattle.types_go.specs.declared.entries.Role.TheVariants.{Parameter}
 use Rattle.types_go.specs.declared.statements.Returns.{Returns as ReturnsData}
@@ -51,6 +51,7 @@ target None = None
 target (Some (Variable site t)) = Some (to (local site.0 here))
 target (Some Untyped) = None
 target (Some (Function f)) = None
+target (Some (External e at)) = None
 target (Some TypeName) = None
 
 -- the type that it asks for
@@ -59,6 +60,7 @@ variable_type None = None
 variable_type (Some (Variable site t)) = Some t
 variable_type (Some Untyped) = None
 variable_type (Some (Function f)) = None
+variable_type (Some (External e at)) = None
 variable_type (Some TypeName) = None
 
 -- its value
@@ -67,6 +69,7 @@ variable_value None = None
 variable_value (Some (Variable site t)) = Some (value t (read (local site.0 here)))
 variable_value (Some Untyped) = None
 variable_value (Some (Function f)) = None
+variable_value (Some (External e at)) = None
 variable_value (Some TypeName) = None
 
 -- a left side of `=`, and the type that it asks for
@@ -108,12 +111,40 @@ abbrev pub before : Sts → Sts → Sts
 before done r = r
 before (next t ts) r = next t (before ts r)
 
--- a call as a statement
-abbrev pub expressed : Gives → Option St
-expressed (one x) = None
-expressed (called at ts f es) = Some (discard (results f es))
-expressed (printed at line ps) = Some (print line ps)
-expressed (panicked at p) = Some (raise at p)
+-- the strings among operands, and the operands where the strings are numbered from one on
+abbrev pub strings_of : List Part → List (List ℕ)
+strings_of [] = []
+strings_of (said bytes ∷ ps) = bytes ∷ strings_of ps
+strings_of (valued t e ∷ ps) = strings_of ps
+
+abbrev pub piece_from : ℕ → Part → Piece
+piece_from n (said bytes) = string_number n
+piece_from n (valued t e) = shown t e
+
+abbrev pub pieces_from : ℕ → List Part → List Piece
+pieces_from n [] = []
+pieces_from n (said bytes ∷ ps) = string_number n ∷ pieces_from (1 + n) ps
+pieces_from n (valued t e ∷ ps) = shown t e ∷ pieces_from n ps
+
+-- those of a call
+abbrev pub strings_in_call : Gives → List (List ℕ)
+strings_in_call (printed at line ps) = strings_of ps
+strings_in_call (panicked at p) = strings_of (p ∷ [])
+strings_in_call other = []
+
+abbrev pub strings_in : Option Gives → List (List ℕ)
+strings_in None = []
+strings_in (Some g) = strings_in_call g
+
+-- a call as a statement, where its strings are numbered from one on
+abbrev pub expressed : ℕ → Gives → Option St
+expressed n (one x) = None
+expressed n (called at ts f es) = Some (discard (results f es))
+expressed n (asking at) = Some (discard asked)
+expressed n (quoted at bytes) = None
+expressed n (printed at line ps) = Some (print line (pieces_from n ps))
+expressed n (panicked at p) = Some (raise at (piece_from n p))
+expressed n (exited at e) = Some (quit at e)
 
 -- a declaration or an assignment with these left sides and values
 abbrev pub assignment : Option (List Left) → Option Exs → Option St
@@ -303,7 +334,7 @@ module _ (text : List ℕ) where
   definition_types s ns es = taken_types (all_new_wanted s ns) (seen text s es)
 
   abbrev pub behind_simple : Scope → Simple → Scope
-  behind_simple s (tree.express e) = s
+  behind_simple s (tree.express e) = with_strings s (strings_in (gives text s e))
   behind_simple s (tree.assign ls at es) = s
   behind_simple s (tree.update ls at tree_op es) = s
   behind_simple s (tree.define ns at es) = with_variables s (new_slots s (slots_each (definition_types s ns es) ns))
@@ -320,7 +351,7 @@ module _ (text : List ℕ) where
   step_statement s typed_op e = option_and_then (stepped typed_op) (own_value s (name_in e))
 
   abbrev pub simple_statement : Scope → Simple → Option St
-  simple_statement s (tree.express e) = option_and_then expressed (gives text s e)
+  simple_statement s (tree.express e) = option_and_then (expressed (length s.strings)) (gives text s e)
   simple_statement s (tree.assign ls at es) = assignment (lefts s ls) (taken (all_wanted s ls) (seen text s es))
   simple_statement s (tree.update ls at tree_op es) = update_statement s tree_op (only ls) (only es)
   simple_statement s (tree.define ns at es) = if may_define s ns then assignment (new_lefts s (length s.sites) ns) (taken (all_new_wanted s ns) (seen text s es)) else None
@@ -347,6 +378,15 @@ module _ (text : List ℕ) where
   post_statement s None = Some done
   post_statement s (Some m) = option_map alone (post_simple s m)
 
+  -- behind it
+  abbrev pub behind_post_simple : Scope → Simple → Scope
+  behind_post_simple s (tree.define ns at es) = s
+  behind_post_simple s m = behind_simple s m
+
+  abbrev pub behind_post : Scope → Option Simple → Scope
+  behind_post s None = s
+  behind_post s (Some m) = behind_post_simple s m
+
   abbrev pub guard_head : Scope → Guard → Option Choice
   guard_head s g = choice_head (init_statement s g.init) (condition text (header s g.init) g.condition)
 
@@ -363,11 +403,11 @@ module _ (text : List ℕ) where
   target_lefts s t (targets_assigned ls at) = allowed (all_accept t (all_wanted s ls)) (lefts s ls)
   target_lefts s t (targets_defined ns at) = allowed (not (all_blank ns)) (option_map (map entry_left) (entries text Parameter s (map (slot_with t) ns)))
 
-  -- the scope of a loop's condition, post statement and body
+  -- the scope of a loop's body, around its block: behind the header
   abbrev pub clause_scope : Scope → Clause → Scope
   clause_scope s forever = opened s
   clause_scope s (while_true e) = opened s
-  clause_scope s (counting init test1 post) = header s init
+  clause_scope s (counting init test1 post) = behind_post (header s init) post
   clause_scope s (ranging t at e) = behind_entries text (opened s) (target_slots (number_type (over s e)) t)
 
   abbrev pub clause_head : Scope → Clause → Option Head

@@ -10,17 +10,17 @@ ghost use Rattle.typed.specs.Syntax.{Program as ProgramOf};
 ghost use Rattle.expression_types.specs.Profile.{is_main};
 ghost use Rattle.expression_types.specs.Scope.{scope_of, declaration};
 ghost use Rattle.expression_types.specs.Least.{IsLeast};
-ghost use Rattle.expression_types.specs.Faults.{fault as fault_at, IsFault};
+ghost use Rattle.expression_types.specs.Faults.{fault as fault_at, IsFault, FormFails};
 ghost use Rattle.expression_types.specs.declared.fault.FaultKind.TheVariants.{NoMain};
-ghost use Rattle.types_go.specs.Functions.{number_of, is_plain, plain_number, functions_in, functions, declarations_in, package_scope, main_number};
+ghost use Rattle.types_go.specs.Functions.{number_of, is_plain, plain_number, is_external, functions_in, functions, declarations_in, package_scope, main_number};
 ghost use Rattle.types_go.specs.StatementFaults.{fault_where};
-ghost use Rattle.types_go.specs.FunctionFaults.{DeclarationFails, DeclarationsFail, FailsIn, first_byte};
+ghost use Rattle.types_go.specs.FunctionFaults.{external_name_fault, DeclarationFails, DeclarationsFail, FailsIn, first_byte};
 ghost use Rattle.types_go.specs.Passing.{AreAt};
-ghost use Rattle.types_go.specs.Checked.{Types, Reports, OnlyProgram, sites_in, function_places};
+ghost use Rattle.types_go.specs.Checked.{Types, Reports, OnlyProgram, sites_in, strings_in, function_places};
 
 use crate::declaring::fault_where;
 use crate::functions::check_functions;
-use crate::signatures::add_items;
+use crate::signatures::{add_items, is_external, is_external_at};
 use crate::slots::has_some;
 use base::{FuncId, NoMemory, Pos};
 use expression_types::{
@@ -47,8 +47,8 @@ fn is_plain(f: &Func) -> bool
 }
 
 /// Whether there is a function of a number, and has no parameters and results.
-fn is_plain_at(decls: &[Decl], number: usize) -> bool
-    ensures { result ≡ is_plain (slice_get (functions_in (declarations_of decls.now)) number) }
+fn is_plain_at(alloc: Global, text: &[u8], decls: &[Decl], number: usize) -> Result<bool, NoMemory>
+    ensures { IfOk result (λ b. b ≡ is_plain (slice_get (functions_in text.now (declarations_of decls.now)) number)) }
 {
     let mut before = number;
     for decl in decls {
@@ -57,64 +57,123 @@ fn is_plain_at(decls: &[Decl], number: usize) -> bool
             Decl::Var(_, _) => {}
             Decl::Type(_, _) => {}
             Decl::Func(f) => {
-                if before == 0 {
-                    return is_plain(f);
+                if !is_external(alloc, text, f)? {
+                    if before == 0 {
+                        return Ok(is_plain(f));
+                    }
+                    before -= 1;
                 }
-                before -= 1;
             }
         }
     }
-    false
+    Ok(false)
 }
 
 /// The function of a number, if it has no parameters and results.
-fn plain_number(decls: &[Decl], function: Option<FuncId>) -> Option<FuncId>
-    ensures { option_map (λ f. f.0) result ≡ plain_number (functions_in (declarations_of decls.now)) (option_map (λ f. f.0) function) }
+fn plain_number(
+    alloc: Global,
+    text: &[u8],
+    decls: &[Decl],
+    function: Option<FuncId>,
+) -> Result<Option<FuncId>, NoMemory>
+    ensures { IfOk result (λ r. option_map (λ f. f.0) r ≡ plain_number (functions_in text.now (declarations_of decls.now)) (option_map (λ f. f.0) function)) }
 {
-    let function = function?;
-    if is_plain_at(decls, function.0 as usize) {
-        Some(function)
+    let Some(function) = function else {
+        return Ok(None);
+    };
+    if is_plain_at(alloc, text, decls, function.0 as usize)? {
+        Ok(Some(function))
     } else {
-        None
+        Ok(None)
     }
 }
 
 /// The function `main` of the package `main`.
-fn main_number(text: &[u8], scope: &Scope, package_name: Name, decls: &[Decl]) -> Option<FuncId>
-    ensures { option_map (λ f. f.0) result ≡ (if is_main (spelled text.now package_name) then plain_number (functions_in (declarations_of decls.now)) (number_of (declaration (scope_of scope.now) (codes "main"))) else None) }
+fn main_number(
+    alloc: Global,
+    text: &[u8],
+    scope: &Scope,
+    package_name: Name,
+    decls: &[Decl],
+) -> Result<Option<FuncId>, NoMemory>
+    ensures { IfOk result (λ r. option_map (λ f. f.0) r ≡ (if is_main (spelled text.now package_name) then plain_number (functions_in text.now (declarations_of decls.now)) (number_of (declaration (scope_of scope.now) (codes "main"))) else None)) }
 {
     if is_main(spelled(text, package_name)) {
-        plain_number(decls, number_of(declaration(scope, "main".as_bytes())))
+        let function = number_of(declaration(scope, "main".as_bytes()));
+        plain_number(alloc, text, decls, function)
     } else {
-        None
+        Ok(None)
     }
 }
 
 /// The fault of a declaration of a form that is left out.
-fn form_fault(decl: &Decl) -> Option<Fault>
-    ensures { IsLeast (DeclarationFails (declaration_of decl.now)) result }
+#[tactic(auto, using(expression_types::proofs::Leasts::leaf))]
+fn left_out(pos: Pos) -> Option<Fault>
+    ensures { IsLeast (FormFails pos) result }
 {
-    let pos = match decl {
-        Decl::Const(pos, _) => *pos,
-        Decl::Var(pos, _) => *pos,
-        Decl::Type(pos, _) => *pos,
-        Decl::Func(_) => return None,
-    };
     Some(Fault {
         kind: FaultKind::OutOfProfile,
         pos,
     })
 }
 
-/// The fault of declarations of forms that are left out.
-fn form_faults(decls: &[Decl]) -> Option<Fault>
-    ensures { IsLeast (DeclarationsFail (declarations_of decls.now)) result }
+/// The fault of the name of a function that may have no body.
+fn external_name_fault(is_external: bool, declared: Option<Declared>, pos: Pos) -> Option<Fault>
+    ensures { result ≡ external_name_fault is_external declared pos }
+{
+    let own = Fault {
+        kind: FaultKind::Redeclared,
+        pos,
+    };
+    fault_where(is_external && !is_external_at(pos, declared), own)
+}
+
+/// The fault of a function without a body, behind another declaration of its name.
+fn external_fault(
+    alloc: Global,
+    text: &[u8],
+    scope: &Scope,
+    f: &Func,
+) -> Result<Option<Fault>, NoMemory>
+    ensures { IfOk result (λ r. r ≡ external_name_fault (is_external text.now (function_of f.now)) (declaration (scope_of scope.now) (spelled text.now f.now.name)) f.now.name.pos) }
+{
+    let is_external = is_external(alloc, text, f)?;
+    let declared = declaration(scope, spelled(text, f.name));
+    Ok(external_name_fault(is_external, declared, f.name.pos))
+}
+
+/// The fault of a declaration at the level of the package.
+fn declaration_fault(
+    alloc: Global,
+    text: &[u8],
+    scope: &Scope,
+    decl: &Decl,
+) -> Result<Option<Fault>, NoMemory>
+    ensures { IfOk result (λ r. IsLeast (DeclarationFails text.now (scope_of scope.now) (declaration_of decl.now)) r) }
+{
+    match decl {
+        Decl::Const(pos, _) => Ok(left_out(*pos)),
+        Decl::Var(pos, _) => Ok(left_out(*pos)),
+        Decl::Type(pos, _) => Ok(left_out(*pos)),
+        Decl::Func(f) => external_fault(alloc, text, scope, f),
+    }
+}
+
+/// The fault of the declarations at the level of the package.
+fn declaration_faults(
+    alloc: Global,
+    text: &[u8],
+    scope: &Scope,
+    decls: &[Decl],
+) -> Result<Option<Fault>, NoMemory>
+    ensures { IfOk result (λ r. IsLeast (DeclarationsFail text.now (scope_of scope.now) (declarations_of decls.now)) r) }
 {
     let mut fault = None;
     for decl in decls {
-        fault = lesser(fault, form_fault(decl));
+        let own = declaration_fault(alloc, text, scope, decl)?;
+        fault = lesser(fault, own);
     }
-    fault
+    Ok(fault)
 }
 
 /// The fault of a package without a function `main`.
@@ -133,20 +192,23 @@ fn no_main_fault(is_absent: bool) -> Option<Fault>
     fault_where(is_absent, own)
 }
 
-/// What the pass over a tree finds: the number of `main`, the typed functions, where all have a typed form, the sites, and the fault.
+/// What the pass over a tree finds: the number of `main`, the typed functions, where all have a typed form, the sites, the strings,
+/// and the fault.
 #[derive(Drop)]
 struct Passed {
     main: Option<FuncId>,
     funcs: Option<Vec<typed::Func>>,
     sites: Vec<Site>,
+    strings: Vec<Vec<u8>>,
     fault: Option<Fault>,
 }
 
 /// The pass over a tree.
 fn pass(alloc: Global, tree: &Tree) -> Result<Passed, NoMemory>
     ensures main { IfOk result (λ r. option_map (λ f. f.0) r.main ≡ main_number (syntax_of tree.now)) }
-    ensures funcs { IfOk result (λ r. option_map (λ v. map func_of v.items) r.funcs ≡ functions (syntax_of tree.now).text (package_scope (syntax_of tree.now)) 0 (functions_in (declarations_in (syntax_of tree.now)))) }
+    ensures funcs { IfOk result (λ r. option_map (λ v. map func_of v.items) r.funcs ≡ functions (syntax_of tree.now).text (package_scope (syntax_of tree.now)) 0 (functions_in (syntax_of tree.now).text (declarations_in (syntax_of tree.now)))) }
     ensures sites { IfOk result (λ r. r.sites.items ≡ sites_in (syntax_of tree.now)) }
+    ensures strings { IfOk result (λ r. map (λ string. string.items) r.strings.items ≡ strings_in (syntax_of tree.now)) }
     ensures places { IfOk result (λ r. AreAt (function_places (syntax_of tree.now)) (option_map (λ v. v.items) r.funcs)) }
     ensures fault { IfOk result (λ r. IsLeast (FailsIn (syntax_of tree.now)) r.fault) }
 {
@@ -154,14 +216,16 @@ fn pass(alloc: Global, tree: &Tree) -> Result<Passed, NoMemory>
     let decls: &[Decl] = &tree.decls;
     let mut scope = beginning(alloc);
     add_items(alloc, text, &mut scope, decls)?;
-    let main = main_number(text, &scope, tree.package, decls);
+    let main = main_number(alloc, text, &scope, tree.package, decls)?;
+    let declared = declaration_faults(alloc, text, &scope, decls)?;
     let checked = check_functions(alloc, text, &mut scope, decls)?;
     let main_fault = no_main_fault(main.is_none());
-    let others = lesser(form_faults(decls), checked.fault);
+    let others = lesser(declared, checked.fault);
     Ok(Passed {
         main,
         funcs: checked.funcs,
         sites: scope.sites,
+        strings: scope.strings,
         fault: lesser(main_fault, others),
     })
 }
@@ -186,6 +250,7 @@ pub fn check(alloc: Global, tree: &Tree) -> Result<Program, TypeFault>
         main,
         funcs,
         sites,
+        strings,
         fault,
     } = pass(alloc, tree)?;
     match fault {
@@ -197,7 +262,7 @@ pub fn check(alloc: Global, tree: &Tree) -> Result<Program, TypeFault>
                 funcs,
                 main,
                 sites,
-                strings: Vec::new(alloc),
+                strings,
             })
         }
     }

@@ -147,6 +147,7 @@ pub fn left_fault_of(
         match declared {
             None => (FaultKind::Unknown, pos),
             Some(Declared::Function(_)) => (FaultKind::NotAssignable, whole),
+            Some(Declared::External(_, _)) => (FaultKind::NotAssignable, whole),
             Some(Declared::TypeName) => (FaultKind::BadOperand, pos),
             Some(_) => return None,
         }
@@ -261,13 +262,12 @@ fn name_left_fault(text: &[u8], scope: &Scope, name: Name, whole: Pos) -> Option
 fn value_left_fault(gives: &Option<Gives>, pos: Pos) -> Option<Fault>
     ensures { result ≡ value_left_fault (option_map gives_of gives.now) pos }
 {
-    match gives {
-        Some(_) => Some(Fault {
-            kind: FaultKind::NotAssignable,
-            pos,
-        }),
-        None => None,
-    }
+    let (kind, pos) = match gives {
+        Some(Gives::Quoted(place, _)) => (FaultKind::OutOfProfile, *place),
+        Some(_) => (FaultKind::NotAssignable, pos),
+        None => return None,
+    };
+    Some(Fault { kind, pos })
 }
 
 /// The fault of a left side that is no name.

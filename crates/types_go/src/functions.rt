@@ -24,7 +24,9 @@ use crate::blocks::check_stmts;
 use crate::declaring::fault_where;
 use crate::endings::ends_in_terminating;
 use crate::entries::{Role, check_entries, sites_of};
-use crate::signatures::{function_name_fault, is_small, may_be_named, signature_in, size_fault};
+use crate::signatures::{
+    function_name_fault, is_external, is_small, may_be_named, signature_in, size_fault,
+};
 use crate::slots::{Slot, has_some, is_named, slot_types, slots_of, types_fault};
 use crate::statements::Returns;
 use base::{NoMemory, Pos, SiteId, TypeId};
@@ -285,27 +287,13 @@ fn check_with_body(
     })
 }
 
-/// Whether a function of this name may have no body.
-fn is_external(name: &[u8]) -> bool
-    ensures { result ≡ is_external name.now }
-{
-    name == "readInt".as_bytes() || name == "exit".as_bytes()
-}
-
 /// The fault of a function without a body.
-fn external_fault(text: &[u8], f: &Func) -> Fault
-    ensures { result ≡ external_fault text.now (function_of f.now) }
+fn external_fault(f: &Func) -> Fault
+    ensures { result ≡ external_fault (function_of f.now) }
 {
-    if is_external(spelled(text, f.name)) {
-        Fault {
-            kind: FaultKind::OutOfProfile,
-            pos: f.pos,
-        }
-    } else {
-        Fault {
-            kind: FaultKind::BadExternal,
-            pos: f.name.pos,
-        }
+    Fault {
+        kind: FaultKind::BadExternal,
+        pos: f.name.pos,
     }
 }
 
@@ -318,7 +306,7 @@ fn check_external(text: &[u8], scope: &Scope, number: usize, f: &Func) -> Functi
     let head = check_head(text, scope, number, f);
     Function {
         func: None,
-        fault: lesser(head.fault, Some(external_fault(text, f))),
+        fault: lesser(head.fault, Some(external_fault(f))),
     }
 }
 
@@ -365,10 +353,10 @@ pub fn check_functions(
     decls: &[Decl],
 ) -> Result<Functions, NoMemory>
     requires { 0 < length scope.old.names }
-    ensures funcs { IfOk result (λ r. option_map (λ v. map func_of v.items) r.funcs ≡ functions text.now (scope_of scope.old) 0 (functions_in (declarations_of decls.now))) }
-    ensures places { IfOk result (λ r. AreAt (map (λ f. f.name.pos) (functions_in (declarations_of decls.now))) (option_map (λ v. v.items) r.funcs)) }
-    ensures fault { IfOk result (λ r. IsLeast (FailsInFunctions text.now (scope_of scope.old) 0 (functions_in (declarations_of decls.now))) r.fault) }
-    ensures scope { OnOk result (scope_of scope.new ≡ behind_functions text.now (scope_of scope.old) (functions_in (declarations_of decls.now))) }
+    ensures funcs { IfOk result (λ r. option_map (λ v. map func_of v.items) r.funcs ≡ functions text.now (scope_of scope.old) 0 (functions_in text.now (declarations_of decls.now))) }
+    ensures places { IfOk result (λ r. AreAt (map (λ f. f.name.pos) (functions_in text.now (declarations_of decls.now))) (option_map (λ v. v.items) r.funcs)) }
+    ensures fault { IfOk result (λ r. IsLeast (FailsInFunctions text.now (scope_of scope.old) 0 (functions_in text.now (declarations_of decls.now))) r.fault) }
+    ensures scope { OnOk result (scope_of scope.new ≡ behind_functions text.now (scope_of scope.old) (functions_in text.now (declarations_of decls.now))) }
 {
     let mut funcs = Some(Vec::new(alloc));
     let mut fault = None;
@@ -379,10 +367,12 @@ pub fn check_functions(
             Decl::Var(_, _) => {}
             Decl::Type(_, _) => {}
             Decl::Func(f) => {
-                let checked = check_function(alloc, text, scope, number, f)?;
-                funcs = with_func(funcs, checked.func)?;
-                fault = lesser(fault, checked.fault);
-                number += 1;
+                if !is_external(alloc, text, f)? {
+                    let checked = check_function(alloc, text, scope, number, f)?;
+                    funcs = with_func(funcs, checked.func)?;
+                    fault = lesser(fault, checked.fault);
+                    number += 1;
+                }
             }
         }
     }

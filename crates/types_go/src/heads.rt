@@ -14,7 +14,7 @@ ghost use Rattle.expression_types.specs.Typing.{allowed, test, condition_in};
 ghost use Rattle.expression_types.specs.Faults.{fault as fault_at, IsFault, range_fault, FailsInTest};
 ghost use Rattle.expression_types.specs.Passing.{operand_of};
 ghost use Rattle.types_go.specs.Entries.{slot_with, behind_entries};
-ghost use Rattle.types_go.specs.Statements.{alone, key_of, range_head, as_int, number_type, over, all_accept, all_wanted, wanted, all_blank, target_slots, target_lefts, header, init_statement, post_simple, post_statement, guard_head, choice_head, loop_head, clause_scope, clause_head};
+ghost use Rattle.types_go.specs.Statements.{alone, key_of, range_head, as_int, number_type, over, all_accept, all_wanted, wanted, all_blank, target_slots, target_lefts, header, init_statement, post_simple, post_statement, behind_post_simple, behind_post, guard_head, choice_head, loop_head, clause_scope, clause_head};
 ghost use Rattle.types_go.specs.StatementFaults.{over_fault, given_fault, keys_fault, target_count, FailsInInit, PostFails, FailsInPost, FailsInOver, GivenFail, TargetsFail, FailsInRange, FailsInClause, FailsInGuard};
 ghost use Rattle.types_go.specs.Passing.{choice_view, head_view};
 
@@ -157,7 +157,7 @@ fn check_post_simple(
 ) -> Result<Line, NoMemory>
     ensures statement { IfOk result (λ c. option_map st_of c.statement ≡ post_simple text.now (scope_of scope.old) (simple_of simple.now)) }
     ensures fault { IfOk result (λ c. IsLeast (PostFails text.now (scope_of scope.old) (simple_of simple.now)) c.fault) }
-    ensures scope { OnOk result (scope_of scope.new ≡ scope_of scope.old) }
+    ensures scope { OnOk result (scope_of scope.new ≡ behind_post_simple text.now (scope_of scope.old) (simple_of simple.now)) }
 {
     match simple {
         Simple::Define(names, pos, _) => Ok(left_out(names_pos(names, *pos))),
@@ -190,7 +190,7 @@ fn check_post(
 ) -> Result<Post, NoMemory>
     ensures statements { IfOk result (λ p. option_map (λ v. sts_of v.items) p.statements ≡ post_statement text.now (scope_of scope.old) (simple_in post.now)) }
     ensures fault { IfOk result (λ p. IsLeast (FailsInPost text.now (scope_of scope.old) (simple_in post.now)) p.fault) }
-    ensures scope { OnOk result (scope_of scope.new ≡ scope_of scope.old) }
+    ensures scope { OnOk result (scope_of scope.new ≡ behind_post text.now (scope_of scope.old) (simple_in post.now)) }
 {
     match post {
         Some(simple) => {
@@ -233,7 +233,7 @@ fn check_counting(
 ) -> Result<Headed, NoMemory>
     ensures head { IfOk result (λ h. option_map head_view h.head ≡ loop_head (init_statement text.now (scope_of scope.old) (simple_in init.now)) (test text.now (header text.now (scope_of scope.old) (simple_in init.now)) (condition_in (clause_of clause.now))) (post_statement text.now (header text.now (scope_of scope.old) (simple_in init.now)) (simple_in post.now))) }
     ensures fault { IfOk result (λ h. IsLeast (λ f. (FailsInInit text.now (scope_of scope.old) (simple_in init.now) f ⊎ FailsInTest text.now (header text.now (scope_of scope.old) (simple_in init.now)) pos (condition_in (clause_of clause.now)) f) ⊎ FailsInPost text.now (header text.now (scope_of scope.old) (simple_in init.now)) (simple_in post.now) f) h.fault) }
-    ensures scope { OnOk result (scope_of scope.new ≡ header text.now (scope_of scope.old) (simple_in init.now)) }
+    ensures scope { OnOk result (scope_of scope.new ≡ behind_post text.now (header text.now (scope_of scope.old) (simple_in init.now)) (simple_in post.now)) }
 {
     let init = check_init(alloc, text, scope, init)?;
     let test = check_test(alloc, text, scope, pos, clause)?;

@@ -1,22 +1,23 @@
 //! The package block: what it declares, and the names and signatures of functions.
 
-ghost use Rattle.std.specs.Prelude.{◌≡◌, Option, Some, None, IfOk, OnOk, option_and_then, not, ◌||◌, ◌&&◌};
+ghost use Rattle.std.specs.Prelude.{◌≡◌, Option, Some, None, IfOk, OnOk, option_and_then, not, codes, ◌||◌, ◌&&◌};
 ghost use Rattle.std.specs.Option.{option_map};
+ghost use Rattle.std.specs.Str.{bytes_eq};
 ghost use Rattle.syntax.specs.Expressions.{spelled};
 ghost use Rattle.syntax.specs.Statements.{value_specs_of};
-ghost use Rattle.syntax.specs.Declarations.{type_specs_of, function_of, declaration_of, declarations_of};
+ghost use Rattle.syntax.specs.Declarations.{parameters_of, type_specs_of, function_of, declaration_of, declarations_of};
 ghost use Rattle.expression_types.specs.declared.scope.Declared.TheVariants.{Untyped as NoType};
 ghost use Rattle.expression_types.specs.Profile.{is_blank, is_predeclared};
 ghost use Rattle.expression_types.specs.Scope.{scope_of, signature_of, declaration, is_here};
-ghost use Rattle.types_go.specs.Functions.{signature_in, declares_name, with_name, with_names, with_values, with_types, with_function, with_item, with_items, is_number, may_be_named, is_small, words};
+ghost use Rattle.types_go.specs.Functions.{signature_in, declares_name, with_name, with_names, with_values, with_types, with_function, with_item, with_items, is_number, may_be_named, is_small, is_named, words, takes_one_int, is_of_exit, gives_int_and_bool, is_of_read_int, external_named, is_external, is_external_at};
 ghost use Rattle.types_go.specs.FunctionFaults.{function_name_fault, size_fault};
 
 use crate::declaring::fault_where;
-use crate::slots::{slots_of, types_of};
+use crate::slots::{is_named, slots_of, types_of};
 use base::{FuncId, NoMemory, Pos};
 use expression_types::{
-    Declared, Fault, FaultKind, Scope, Signature, ValueType, add_signature, declare, is_blank,
-    is_here, is_predeclared, spelled,
+    Declared, External, Fault, FaultKind, Scope, Signature, ValueType, add_signature, declare,
+    is_blank, is_here, is_predeclared, spelled,
 };
 use std::alloc::Global;
 use syntax::{Decl, Func, Name, TypeSpec, ValueSpec};
@@ -39,6 +40,81 @@ pub fn signature_in(alloc: Global, text: &[u8], f: &Func) -> Result<Option<Signa
     let params = types_of(alloc, &params)?;
     let results = types_of(alloc, &results)?;
     Ok(joined(params, results))
+}
+
+/// Whether a signature is that of `exit`: one parameter, an int, and no results.
+fn is_of_exit(signature: &Option<Signature>) -> bool
+    ensures { result ≡ is_of_exit (option_map signature_of signature.now) }
+{
+    match signature {
+        Some(signature) => takes_one_int(&signature.params, &signature.results),
+        None => false,
+    }
+}
+
+fn takes_one_int(params: &[ValueType], results: &[ValueType]) -> bool
+    ensures { result ≡ takes_one_int params.now results.now }
+{
+    match (params, results) {
+        ([ValueType::Int], []) => true,
+        _ => false,
+    }
+}
+
+/// Whether a signature is that of `readInt`: no parameters, and an int and a bool as results.
+fn is_of_read_int(signature: &Option<Signature>) -> bool
+    ensures { result ≡ is_of_read_int (option_map signature_of signature.now) }
+{
+    match signature {
+        Some(signature) => gives_int_and_bool(&signature.params, &signature.results),
+        None => false,
+    }
+}
+
+fn gives_int_and_bool(params: &[ValueType], results: &[ValueType]) -> bool
+    ensures { result ≡ gives_int_and_bool params.now results.now }
+{
+    match (params, results) {
+        ([], [ValueType::Int, ValueType::Bool]) => true,
+        _ => false,
+    }
+}
+
+/// Which of the functions without a body has a name that one of them has.
+fn external_named(name: &[u8]) -> External
+    ensures { result ≡ external_named name.now }
+{
+    if name == "exit".as_bytes() {
+        External::Exit
+    } else {
+        External::ReadInt
+    }
+}
+
+/// Whether a function has the name and the types of `exit`.
+fn has_exit_head(text: &[u8], f: &Func, signature: &Option<Signature>) -> bool
+    ensures { result ≡ (bytes_eq (spelled text.now f.now.name) (codes "exit") && is_of_exit (option_map signature_of signature.now)) }
+{
+    spelled(text, f.name) == "exit".as_bytes() && is_of_exit(signature)
+}
+
+/// Whether a function has the name and the types of `readInt`, and no names for its results.
+fn has_read_int_head(text: &[u8], f: &Func, signature: &Option<Signature>) -> bool
+    ensures { result ≡ (bytes_eq (spelled text.now f.now.name) (codes "readInt") && (is_of_read_int (option_map signature_of signature.now) && not (is_named (parameters_of f.now.results)))) }
+{
+    let has_types = is_of_read_int(signature) && !is_named(&f.results);
+    spelled(text, f.name) == "readInt".as_bytes() && has_types
+}
+
+/// Whether a function is `readInt` or `exit`, which have no body.
+pub fn is_external(alloc: Global, text: &[u8], f: &Func) -> Result<bool, NoMemory>
+    ensures { IfOk result (λ b. b ≡ is_external text.now (function_of f.now)) }
+{
+    if f.body.is_some() {
+        return Ok(false);
+    }
+    let signature = signature_in(alloc, text, f)?;
+    Ok(has_exit_head(text, f, &signature) || has_read_int_head(text, f, &signature))
 }
 
 fn declares_name(scope: &Scope, name: &[u8]) -> bool
@@ -89,10 +165,18 @@ fn add_types(text: &[u8], scope: &mut Scope, specs: &[TypeSpec]) -> Result<(), N
     Ok(())
 }
 
-/// Declares a function with the next number.
+/// Declares a function with the next number, or one without a body, which has none.
 fn add_function(alloc: Global, text: &[u8], scope: &mut Scope, f: &Func) -> Result<(), NoMemory>
     ensures { OnOk result (scope_of scope.new ≡ with_function text.now (scope_of scope.old) (function_of f.now)) }
 {
+    if is_external(alloc, text, f)? {
+        return add_name(
+            text,
+            scope,
+            f.name,
+            Declared::External(external_named(spelled(text, f.name)), f.name.pos),
+        );
+    }
     let signature = signature_in(alloc, text, f)?;
     let Ok(number) = u32::try_from(scope.signatures.len()) else {
         return Err(NoMemory);
@@ -173,6 +257,16 @@ pub fn function_name_fault(
             kind: FaultKind::Redeclared,
             pos,
         })
+    }
+}
+
+/// Whether a name stands for the function without a body that is declared at a place.
+pub fn is_external_at(place: Pos, declared: Option<Declared>) -> bool
+    ensures { result ≡ is_external_at place declared }
+{
+    match declared {
+        Some(Declared::External(_, pos)) => pos.offset == place.offset,
+        _ => false,
     }
 }
 

@@ -4,21 +4,22 @@ ghost use Rattle.std.specs.Prelude.{◌≡◌, ◌⊎◌, Option, Some, None, If
 ghost use Rattle.std.specs.Option.{option_map};
 ghost use Rattle.syntax.specs.Expressions.{ex_of as tree_of, exs_of as trees_of};
 ghost use Rattle.syntax.specs.FirstBytes.{first_place};
-ghost use Rattle.syntax.specs.Statements.{simple_of, define};
+ghost use Rattle.syntax.specs.Statements.{simple_of, express, define};
 ghost use Rattle.typed.specs.View.{exs_of_values, left_of as left_view, st_of};
 ghost use Rattle.typed.specs.Syntax.{give_back as given_back, none};
 ghost use Rattle.expression_types.specs.Least.{IsLeast};
-ghost use Rattle.expression_types.specs.Scope.{scope_of};
-ghost use Rattle.expression_types.specs.Typing.{count, gives, seen, taken};
-ghost use Rattle.expression_types.specs.Faults.{fault as fault_at, IsFault, FormFails, Fails, FailsInEach};
+ghost use Rattle.expression_types.specs.Scope.{scope_of, with_strings};
+ghost use Rattle.expression_types.specs.Typing.{count, seen, taken};
+ghost use Rattle.expression_types.specs.Faults.{fault as fault_at, IsFault, FormFails, FailsInEach};
 ghost use Rattle.expression_types.specs.Passing.{gives_of, seens};
-ghost use Rattle.types_go.specs.Statements.{returns_view, assignment, expressed, returned, lefts, all_wanted, simple_statement, behind_simple};
+ghost use Rattle.types_go.specs.Statements.{returns_view, assignment, strings_in, expressed, returned, lefts, all_wanted, simple_statement, behind_simple};
 ghost use Rattle.types_go.specs.StatementFaults.{fault_where, use_fault, ReturnFails, FailsInSimple, FailsInAssignment, FailsInDefinition, lefts_place};
 
 use crate::declaring::{
     all_new_wanted, all_wanted, check_lefts, check_names, check_new_lefts, declare_variables,
     fault_where, lefts_pos, names_pos, new_slots,
 };
+use crate::operands::{numbered, pieces};
 use crate::slots::slots_each;
 use crate::updating::{check_step, check_update};
 use base::{NoMemory, Pos};
@@ -174,17 +175,31 @@ fn check_assign(
     })
 }
 
-/// A call as a statement.
-fn expressed(gives: Option<Gives>) -> Option<typed::Stmt>
-    ensures { option_map st_of result ≡ option_and_then expressed (option_map gives_of gives) }
+/// A call as a statement, whose strings come behind those of the statements before it.
+fn expressed(
+    alloc: Global,
+    scope: &mut Scope,
+    gives: Option<Gives>,
+) -> Result<Option<typed::Stmt>, NoMemory>
+    ensures statement { IfOk result (λ r. option_map st_of r ≡ option_and_then (expressed (length (scope_of scope.old).strings)) (option_map gives_of gives)) }
+    ensures scope { OnOk result (scope_of scope.new ≡ with_strings (scope_of scope.old) (strings_in (option_map gives_of gives))) }
 {
     match gives {
-        Some(Gives::Called(_, _, function, arguments)) => Some(typed::Stmt::Discard(Values::Results(
-            function, arguments,
-        ))),
-        Some(Gives::Printed(_, line, pieces)) => Some(typed::Stmt::Print(line, pieces)),
-        Some(Gives::Panicked(pos, piece)) => Some(typed::Stmt::Panic(pos, piece)),
-        _ => None,
+        Some(Gives::Called(_, _, function, arguments)) => {
+            let results = Values::Results(function, arguments);
+            Ok(Some(typed::Stmt::Discard(results)))
+        }
+        Some(Gives::Asking(_)) => Ok(Some(typed::Stmt::Discard(Values::ReadInt))),
+        Some(Gives::Printed(_, line, parts)) => {
+            let pieces = pieces(alloc, scope, parts)?;
+            Ok(Some(typed::Stmt::Print(line, pieces)))
+        }
+        Some(Gives::Panicked(pos, part)) => {
+            let piece = numbered(scope, part)?;
+            Ok(Some(typed::Stmt::Panic(pos, piece)))
+        }
+        Some(Gives::Exited(pos, status)) => Ok(Some(typed::Stmt::Exit(pos, status))),
+        _ => Ok(None),
     }
 }
 
@@ -192,24 +207,25 @@ fn expressed(gives: Option<Gives>) -> Option<typed::Stmt>
 fn use_fault(gives: &Option<Gives>, pos: Pos) -> Option<Fault>
     ensures { result ≡ use_fault (option_map gives_of gives.now) pos }
 {
-    match gives {
-        Some(Gives::One(_)) => Some(Fault {
-            kind: FaultKind::NotUsedValue,
-            pos,
-        }),
-        _ => None,
-    }
+    let (kind, pos) = match gives {
+        Some(Gives::One(_)) => (FaultKind::NotUsedValue, pos),
+        Some(Gives::Quoted(place, _)) => (FaultKind::OutOfProfile, *place),
+        _ => return None,
+    };
+    Some(Fault { kind, pos })
 }
 
 /// An expression as a statement.
-fn check_express(alloc: Global, text: &[u8], scope: &Scope, e: &Expr) -> Result<Line, NoMemory>
-    ensures statement { IfOk result (λ c. option_map st_of c.statement ≡ option_and_then expressed (gives text.now (scope_of scope.now) (tree_of e.now))) }
-    ensures fault { IfOk result (λ c. IsLeast (λ f. Fails text.now (scope_of scope.now) (tree_of e.now) f ⊎ IsFault (use_fault (gives text.now (scope_of scope.now) (tree_of e.now)) (first_place (tree_of e.now))) f) c.fault) }
+fn check_express(alloc: Global, text: &[u8], scope: &mut Scope, e: &Expr) -> Result<Line, NoMemory>
+    ensures statement { IfOk result (λ c. option_map st_of c.statement ≡ simple_statement text.now (scope_of scope.old) (express (tree_of e.now))) }
+    ensures fault { IfOk result (λ c. IsLeast (FailsInSimple text.now (scope_of scope.old) (express (tree_of e.now))) c.fault) }
+    ensures scope { OnOk result (scope_of scope.new ≡ behind_simple text.now (scope_of scope.old) (express (tree_of e.now))) }
 {
     let checked = check_expr(alloc, text, scope, e)?;
     let own = use_fault(&checked.gives, checked.pos);
+    let statement = expressed(alloc, scope, checked.gives)?;
     Ok(Line {
-        statement: expressed(checked.gives),
+        statement,
         fault: lesser(checked.fault, own),
     })
 }

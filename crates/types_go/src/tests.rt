@@ -1,16 +1,20 @@
 //! Trees built by hand over one text, and what the checker says of them.
 
+use crate::statements::check_simple;
 use crate::{FaultKind, TypeFault, check};
 use base::Pos;
+use expression_types::beginning;
 use std::alloc::Global;
 use std::test::Fail;
 use syntax::{
     ArithmeticOp, BinOp, Body, Clause, CompareOp, Decl, Expr, Field, Func, Name, Params, Simple,
     Stmt, Targets, Tree, TypeSpec, ValueSpec,
 };
+use typed::{Piece, Values};
 
-/// Names of a program, of functions without a body, of parameters, of a type and of the language.
-const TEXT: &[u8] = b"main f readInt a b T int u bool";
+/// Names of a program, of functions without a body, of parameters, of a type and of the language, and strings.
+const TEXT: &[u8] =
+    b"main f readInt a b T int u bool exit exit println panic \"hi\" \"\\n\" readInt";
 
 const MAIN: (u32, u32) = (0, 4);
 
@@ -30,6 +34,20 @@ const U: (u32, u32) = (25, 26);
 
 const BOOL: (u32, u32) = (27, 31);
 
+const EXIT: (u32, u32) = (32, 36);
+
+const EXIT_AGAIN: (u32, u32) = (37, 41);
+
+const PRINTLN: (u32, u32) = (42, 49);
+
+const PANIC: (u32, u32) = (50, 55);
+
+const HI: (u32, u32) = (56, 60);
+
+const LINE_END: (u32, u32) = (61, 65);
+
+const READ_INT_AGAIN: (u32, u32) = (66, 73);
+
 fn at(offset: u32) -> Pos {
     Pos {
         offset,
@@ -47,6 +65,20 @@ fn name(span: (u32, u32)) -> Name {
 
 fn word(span: (u32, u32)) -> Expr {
     Expr::Name(name(span))
+}
+
+fn text(span: (u32, u32)) -> Expr {
+    Expr::String(at(span.0), span.1)
+}
+
+fn call(alloc: Global, span: (u32, u32), arguments: Vec<Expr>) -> Result<Expr, Fail> {
+    Ok(Expr::Call(Box::new(alloc, word(span))?, arguments, false))
+}
+
+/// A call as a statement.
+fn calling(alloc: Global, span: (u32, u32), arguments: Vec<Expr>) -> Result<Stmt, Fail> {
+    let e = call(alloc, span, arguments)?;
+    Ok(Stmt::Simple(Simple::Express(e)))
 }
 
 /// A function whose word stands at 50, with these parameters and results.
@@ -141,8 +173,8 @@ fn declarations_that_are_left_out(rt: HostRuntime) -> Result<(), Fail> {
         ),
         (
             function(READ_INT, nothing(alloc), nothing(alloc), None),
-            FaultKind::OutOfProfile,
-            50,
+            FaultKind::BadExternal,
+            7,
         ),
     ];
     for (decl, kind, offset) in table {
@@ -267,6 +299,337 @@ fn declared_variables(rt: HostRuntime) -> Result<(), Fail> {
         let main = main_with(alloc, statement)?;
         let tree = tree(alloc, second_of_two(alloc)?, main)?;
         assert!(rt; fails(alloc, &tree, kind, offset));
+    }
+    Ok(())
+}
+
+/// `func exit(a int)`, with these results, under a name
+fn exit_with(
+    alloc: Global,
+    span: (u32, u32),
+    results: Params,
+    body: Option<Body>,
+) -> Result<Decl, Fail> {
+    let field = Field {
+        names: Vec::from_array(alloc, [name(A)])?,
+        type_expr: word(INT),
+    };
+    let params = Params::Named(Vec::from_array(alloc, [field])?);
+    Ok(function(span, params, results, body))
+}
+
+/// `println("hi", 1, "\n")`
+fn said(alloc: Global) -> Result<Simple, Fail> {
+    let operands = Vec::from_array(alloc, [text(HI), Expr::Int(at(70), 1), text(LINE_END)])?;
+    Ok(Simple::Express(call(alloc, PRINTLN, operands)?))
+}
+
+/// The numbers of the strings that a statement prints.
+fn numbers(alloc: Global, statement: &Option<typed::Stmt>) -> Result<Vec<u32>, Fail> {
+    let mut numbers = Vec::new(alloc);
+    if let Some(typed::Stmt::Print(_, pieces)) = statement {
+        for piece in pieces {
+            if let Piece::Text(number) = piece {
+                numbers.push(*number)?;
+            }
+        }
+    }
+    Ok(numbers)
+}
+
+#[test]
+fn strings_of_statements(rt: HostRuntime) -> Result<(), Fail> {
+    let alloc = rt.alloc();
+    let again = calling(alloc, PANIC, Vec::from_array(alloc, [text(HI)])?)?;
+    let body = Vec::from_array(alloc, [Stmt::Simple(said(alloc)?), again])?;
+    let main = main_with(alloc, Stmt::Block(body))?;
+    let good = tree(alloc, second_of_two(alloc)?, main)?;
+    match check(alloc, &good) {
+        Ok(program) => {
+            let strings = program.strings.as_slice();
+            assert!(rt; strings.len() == 3);
+            assert!(rt; strings[0].as_slice() == b"hi".as_slice());
+            assert!(rt; strings[1].as_slice() == b"\n".as_slice());
+            assert!(rt; strings[2].as_slice() == b"hi".as_slice());
+        }
+        Err(_) => assert!(rt; false),
+    }
+    Ok(())
+}
+
+#[test]
+fn numbers_of_strings(rt: HostRuntime) -> Result<(), Fail> {
+    let alloc = rt.alloc();
+    let mut scope = beginning(alloc);
+    for want in [[0, 1], [2, 3]] {
+        let line = check_simple(alloc, TEXT, &mut scope, &said(alloc)?)?;
+        let numbers = numbers(alloc, &line.statement)?;
+        assert!(rt; numbers.as_slice() == want.as_slice());
+    }
+    Ok(())
+}
+
+#[test]
+fn strings_that_are_refused(rt: HostRuntime) -> Result<(), Fail> {
+    let alloc = rt.alloc();
+    let left = Vec::from_array(alloc, [text(HI)])?;
+    let right = Vec::from_array(alloc, [Expr::Int(at(70), 1)])?;
+    let names = Vec::from_array(alloc, [name(A)])?;
+    let value = Vec::from_array(alloc, [text(HI)])?;
+    let step = Simple::Increment(text(HI), at(70));
+    let out = FaultKind::OutOfProfile;
+    let table: [(Stmt, FaultKind, u32); 4] = [
+        (Stmt::Simple(Simple::Express(text(HI))), out, 56),
+        (Stmt::Simple(Simple::Assign(left, at(65), right)), out, 56),
+        (Stmt::Simple(Simple::Define(names, at(71), value)), out, 56),
+        (Stmt::Simple(step), out, 56),
+    ];
+    for (statement, kind, offset) in table {
+        let main = main_with(alloc, statement)?;
+        let tree = tree(alloc, second_of_two(alloc)?, main)?;
+        assert!(rt; fails(alloc, &tree, kind, offset));
+    }
+    Ok(())
+}
+
+#[test]
+fn exits(rt: HostRuntime) -> Result<(), Fail> {
+    let alloc = rt.alloc();
+    let status = Vec::from_array(alloc, [Expr::Int(at(70), 3)])?;
+    let main = main_with(alloc, calling(alloc, EXIT, status)?)?;
+    let exit = exit_with(alloc, EXIT, nothing(alloc), None)?;
+    let good = tree(alloc, exit, main)?;
+    match check(alloc, &good) {
+        Ok(program) => assert!(rt; program.funcs.len() == 1 && program.main.0 == 0),
+        Err(_) => assert!(rt; false),
+    }
+
+    let two = Vec::from_array(alloc, [Expr::Int(at(70), 3), Expr::Int(at(72), 4)])?;
+    let said = Vec::from_array(alloc, [text(HI)])?;
+    let target = Vec::from_array(alloc, [word(EXIT)])?;
+    let value = Vec::from_array(alloc, [Expr::Int(at(72), 1)])?;
+    let table: [(Stmt, FaultKind, u32); 4] = [
+        (calling(alloc, EXIT, two)?, FaultKind::ArgCount, 32),
+        (calling(alloc, EXIT, said)?, FaultKind::OutOfProfile, 56),
+        (
+            Stmt::Simple(Simple::Express(word(EXIT))),
+            FaultKind::OutOfProfile,
+            32,
+        ),
+        (
+            Stmt::Simple(Simple::Assign(target, at(70), value)),
+            FaultKind::NotAssignable,
+            32,
+        ),
+    ];
+    for (statement, kind, offset) in table {
+        let main = main_with(alloc, statement)?;
+        let exit = exit_with(alloc, EXIT, nothing(alloc), None)?;
+        let tree = tree(alloc, exit, main)?;
+        assert!(rt; fails(alloc, &tree, kind, offset));
+    }
+    Ok(())
+}
+
+/// A tree of `main`, which does nothing, between two other functions.
+fn between(alloc: Global, first: Decl, last: Decl) -> Result<Tree, Fail> {
+    let main = main_with(alloc, Stmt::Block(Vec::new(alloc)))?;
+    Ok(Tree {
+        text: TEXT.to_vec(alloc)?,
+        package: name(MAIN),
+        decls: Vec::from_array(alloc, [first, main, last])?,
+    })
+}
+
+#[test]
+fn declarations_of_exit(rt: HostRuntime) -> Result<(), Fail> {
+    let alloc = rt.alloc();
+
+    // Twice, as itself both times, or as a function of the program one time.
+    let first = exit_with(alloc, EXIT, nothing(alloc), None)?;
+    let last = exit_with(alloc, EXIT_AGAIN, nothing(alloc), None)?;
+    let tree = between(alloc, first, last)?;
+    assert!(rt; fails(alloc, &tree, FaultKind::Redeclared, 37));
+    let body = block(alloc, Stmt::Block(Vec::new(alloc)))?;
+    let first = exit_with(alloc, EXIT, nothing(alloc), body)?;
+    let last = exit_with(alloc, EXIT_AGAIN, nothing(alloc), None)?;
+    let tree = between(alloc, first, last)?;
+    assert!(rt; fails(alloc, &tree, FaultKind::Redeclared, 37));
+    let first = exit_with(alloc, EXIT, nothing(alloc), None)?;
+    let body = block(alloc, Stmt::Block(Vec::new(alloc)))?;
+    let last = exit_with(alloc, EXIT_AGAIN, nothing(alloc), body)?;
+    let tree = between(alloc, first, last)?;
+    assert!(rt; fails(alloc, &tree, FaultKind::Redeclared, 37));
+
+    // With a body it is a function as any other, and with other results one that may not be without a body.
+    let body = block(alloc, Stmt::Block(Vec::new(alloc)))?;
+    let first = exit_with(alloc, EXIT, nothing(alloc), body)?;
+    let tree = between(alloc, first, second_of_two(alloc)?)?;
+    match check(alloc, &tree) {
+        Ok(program) => assert!(rt; program.funcs.len() == 3 && program.main.0 == 1),
+        Err(_) => assert!(rt; false),
+    }
+    let results = Params::Unnamed(Vec::from_array(alloc, [word(INT)])?);
+    let first = exit_with(alloc, EXIT, results, None)?;
+    let tree = between(alloc, first, second_of_two(alloc)?)?;
+    assert!(rt; fails(alloc, &tree, FaultKind::BadExternal, 32));
+    Ok(())
+}
+
+/// `(int, bool)`
+fn int_and_bool(alloc: Global) -> Result<Params, Fail> {
+    let types = Vec::from_array(alloc, [word(INT), word(BOOL)])?;
+    Ok(Params::Unnamed(types))
+}
+
+/// `a int, b bool`
+fn named_int_and_bool(alloc: Global) -> Result<Params, Fail> {
+    let a = Field {
+        names: Vec::from_array(alloc, [name(A)])?,
+        type_expr: word(INT),
+    };
+    let b = Field {
+        names: Vec::from_array(alloc, [name(B)])?,
+        type_expr: word(BOOL),
+    };
+    Ok(Params::Named(Vec::from_array(alloc, [a, b])?))
+}
+
+/// `func readInt() (int, bool)`, where it is first or once more
+fn read_int(alloc: Global, span: (u32, u32), body: Option<Body>) -> Result<Decl, Fail> {
+    Ok(function(span, nothing(alloc), int_and_bool(alloc)?, body))
+}
+
+/// `readInt()`
+fn read(alloc: Global) -> Result<Expr, Fail> {
+    call(alloc, READ_INT, Vec::new(alloc))
+}
+
+/// A tree of `readInt`, of `func f(a int, b bool)` and of `main` with one statement.
+fn reading(alloc: Global, statement: Stmt) -> Result<Tree, Fail> {
+    let body = block(alloc, Stmt::Block(Vec::new(alloc)))?;
+    let taking = function(F, named_int_and_bool(alloc)?, nothing(alloc), body);
+    let main = main_with(alloc, statement)?;
+    let first = read_int(alloc, READ_INT, None)?;
+    Ok(Tree {
+        text: TEXT.to_vec(alloc)?,
+        package: name(MAIN),
+        decls: Vec::from_array(alloc, [first, taking, main])?,
+    })
+}
+
+/// Whether a statement takes the two values of `readInt`, as left sides, as arguments or as nothing.
+fn takes_two(statement: &typed::Stmt) -> bool {
+    match statement {
+        typed::Stmt::Discard(Values::Results(function, arguments)) => {
+            let arguments: &Values = arguments;
+            function.0 == 0 && matches!(arguments, Values::ReadInt)
+        }
+        typed::Stmt::Discard(Values::ReadInt) => true,
+        typed::Stmt::Assign(lefts, Values::ReadInt) => lefts.len() == 2,
+        _ => false,
+    }
+}
+
+#[test]
+fn reads(rt: HostRuntime) -> Result<(), Fail> {
+    let alloc = rt.alloc();
+    let names = Vec::from_array(alloc, [name(A), name(B)])?;
+    let values = Vec::from_array(alloc, [read(alloc)?])?;
+    let define = Stmt::Simple(Simple::Define(names, at(61), values));
+    let alone = Stmt::Simple(Simple::Express(read(alloc)?));
+    let passed = calling(alloc, F, Vec::from_array(alloc, [read(alloc)?])?)?;
+    let statements: [Stmt; 3] = [define, alone, passed];
+    for statement in statements {
+        let tree = reading(alloc, statement)?;
+        match check(alloc, &tree) {
+            Ok(program) => match program.funcs.as_slice() {
+                [_, main] => {
+                    let statements = main.body.as_slice();
+                    assert!(rt; statements.len() == 1 && takes_two(&statements[0]));
+                }
+                _ => assert!(rt; false),
+            },
+            Err(_) => assert!(rt; false),
+        }
+    }
+    Ok(())
+}
+
+#[test]
+fn reads_that_are_refused(rt: HostRuntime) -> Result<(), Fail> {
+    let alloc = rt.alloc();
+    let names = Vec::from_array(alloc, [name(A)])?;
+    let values = Vec::from_array(alloc, [read(alloc)?])?;
+    let one = Vec::from_array(alloc, [Expr::Int(at(70), 1)])?;
+    let two = Vec::from_array(alloc, [read(alloc)?])?;
+    let printed = Vec::from_array(alloc, [read(alloc)?])?;
+    let target = Vec::from_array(alloc, [word(READ_INT)])?;
+    let value = Vec::from_array(alloc, [Expr::Int(at(72), 1)])?;
+    let value_of = Stmt::Simple(Simple::Express(word(READ_INT)));
+    let count = FaultKind::ArgCount;
+    let table: [(Stmt, FaultKind, u32); 6] = [
+        (
+            Stmt::Simple(Simple::Define(names, at(61), values)),
+            count,
+            15,
+        ),
+        (calling(alloc, READ_INT, one)?, count, 7),
+        (variables(alloc, INT, two)?, FaultKind::Mismatch, 7),
+        (calling(alloc, PRINTLN, printed)?, FaultKind::ResultCount, 7),
+        (value_of, FaultKind::OutOfProfile, 7),
+        (
+            Stmt::Simple(Simple::Assign(target, at(70), value)),
+            FaultKind::NotAssignable,
+            7,
+        ),
+    ];
+    for (statement, kind, offset) in table {
+        let tree = reading(alloc, statement)?;
+        assert!(rt; fails(alloc, &tree, kind, offset));
+    }
+    Ok(())
+}
+
+/// A body that never ends.
+fn forever(alloc: Global) -> Result<Option<Body>, Fail> {
+    block(alloc, Stmt::For(at(80), Clause::Forever, Vec::new(alloc)))
+}
+
+#[test]
+fn declarations_of_read_int(rt: HostRuntime) -> Result<(), Fail> {
+    let alloc = rt.alloc();
+
+    // With a parameter, or with names for its results.
+    let field = Field {
+        names: Vec::from_array(alloc, [name(A)])?,
+        type_expr: word(INT),
+    };
+    let params = Params::Named(Vec::from_array(alloc, [field])?);
+    let first = function(READ_INT, params, int_and_bool(alloc)?, None);
+    let tree = between(alloc, first, second_of_two(alloc)?)?;
+    assert!(rt; fails(alloc, &tree, FaultKind::BadExternal, 7));
+    let results = named_int_and_bool(alloc)?;
+    let first = function(READ_INT, nothing(alloc), results, None);
+    let tree = between(alloc, first, second_of_two(alloc)?)?;
+    assert!(rt; fails(alloc, &tree, FaultKind::BadExternal, 7));
+
+    // Twice, as itself both times, or as a function of the program one time.
+    let first = read_int(alloc, READ_INT, None)?;
+    let last = read_int(alloc, READ_INT_AGAIN, None)?;
+    let tree = between(alloc, first, last)?;
+    assert!(rt; fails(alloc, &tree, FaultKind::Redeclared, 66));
+    let first = read_int(alloc, READ_INT, forever(alloc)?)?;
+    let last = read_int(alloc, READ_INT_AGAIN, None)?;
+    let tree = between(alloc, first, last)?;
+    assert!(rt; fails(alloc, &tree, FaultKind::Redeclared, 66));
+
+    // With a body it is a function as any other.
+    let first = read_int(alloc, READ_INT, forever(alloc)?)?;
+    let tree = between(alloc, first, second_of_two(alloc)?)?;
+    match check(alloc, &tree) {
+        Ok(program) => assert!(rt; program.funcs.len() == 3 && program.main.0 == 1),
+        Err(_) => assert!(rt; false),
     }
     Ok(())
 }

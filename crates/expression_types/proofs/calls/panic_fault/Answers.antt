@@ -1,5 +1,5 @@
 use Rattle.expression_types.specs.declared.fault.FaultKind.TheVariants.{ArgCount}
-use Rattle.expression_types.specs.Typing.{count}
+use Rattle.expression_types.specs.Typing.{part_count}
 use Rattle.expression_types.specs.Faults.{fault, count_fault}
 use Rattle.expression_types.specs.Passing.{seens}
 use Rattle.expression_types.proofs.Leasts.{least_join, leaf}
@@ -8,4 +8,4 @@ use Rattle.expression_types.proofs.calls.panic_fault.Goals as goal
 pub returns : goal.returns
 returns c =
     let os = seens c.args.arguments.now in
-    rw (c.lesser.ensures, c.count_fault.ensures, c.count.ensures) (least_join _ _ c.pieces_fault.result _ c.pieces_fault.ensures (leaf (count_fault (count os) 1 (fault ArgCount c.args.pos))))
+    rw (c.lesser.ensures, c.count_fault.ensures, c.part_count.ensures) (least_join _ _ c.print_fault.result _ c.print_fault.ensures (leaf (count_fault (part_count os) 1 (fault ArgCount c.args.pos))))

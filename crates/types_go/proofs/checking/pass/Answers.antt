@@ -1,13 +1,13 @@
-use Rattle.std.proofs.Common.{◌≡◌, List, ap, ◌∙◌, subst, arith, length, map}
+use Rattle.std.proofs.Common.{◌≡◌, ℕ, List, ap, subst, arith, length, map}
 use Rattle.std.specs.Option.{option_map}
 use Rattle.base.specs.declared.ids.FuncId.{FuncId}
 use Rattle.syntax.specs.declared.declaration.Decl.{Decl}
 use Rattle.syntax.specs.Declarations.{declarations_of, syntax_of}
 use Rattle.typed.specs.View.{func_of}
 use Rattle.expression_types.specs.Scope.{Scope, scope_of}
-use Rattle.types_go.specs.Functions.{functions_in, behind_functions, package_scope, main_number}
+use Rattle.types_go.specs.Functions.{functions_in, package_scope, main_number}
 use Rattle.types_go.specs.Passing.{AreAt}
-use Rattle.types_go.proofs.Answering.{items_depth, package_is, main_number_is, functions_are, least_is}
+use Rattle.types_go.proofs.Answering.{items_depth, package_is, main_number_is, functions_are, behind_is, least_is}
 use Rattle.types_go.proofs.checking.pass.Goals as goal
 
 pub check_functions-requires : goal.check_functions-requires
@@ -29,7 +29,7 @@ returns-clause-main c =
     let ds_is : ds ≡ tree.decls.items = c.deref-decls.ensures.value in
     let r = scope_of c.add_items.new.scope in
     let r_is : r ≡ package_scope t = package_is tree text ds (scope_of c.beginning-scope.result) r text_is ds_is c.beginning-scope.ensures c.in_ok-add_items.ensures in
-    main_number_is tree text ds r (option_map (λ (f : FuncId). f.0) c.main_number-main.result) text_is ds_is r_is c.main_number-main.ensures
+    main_number_is tree text ds r (option_map (λ (f : FuncId). f.0) c.in_ok-main.main) text_is ds_is r_is c.in_ok-main.ensures
 
 pub returns-clause-funcs : goal.returns-clause-funcs
 returns-clause-funcs c =
@@ -53,12 +53,28 @@ returns-clause-sites c =
     let ds_is : ds ≡ tree.decls.items = c.deref-decls.ensures.value in
     let r = scope_of c.add_items.new.scope in
     let r_is : r ≡ package_scope t = package_is tree text ds (scope_of c.beginning-scope.result) r text_is ds_is c.beginning-scope.ensures c.in_ok-add_items.ensures in
-    ap (λ (v : Scope). v.sites) (c.in_ok-checked.ensures.scope ∙ ap (λ x. behind_functions x r (functions_in (declarations_of ds))) text_is
-    ∙ ap (λ (l : List Decl). behind_functions t.text r (functions_in (declarations_of l))) ds_is ∙ ap (λ v. behind_functions t.text v (functions_in (declarations_of tree.decls.items))) r_is)
+    ap (λ (v : Scope). v.sites) (behind_is tree text ds r (scope_of c.check_functions.new.scope) text_is ds_is r_is c.in_ok-checked.ensures.scope)
+
+pub returns-clause-strings : goal.returns-clause-strings
+returns-clause-strings c =
+    let tree = c.args.tree.now in
+    let t = syntax_of tree in
+    let text = c.deref-text.result.now in
+    let ds = c.deref-decls.result.now in
+    let text_is : text ≡ tree.text.items = c.deref-text.ensures.value in
+    let ds_is : ds ≡ tree.decls.items = c.deref-decls.ensures.value in
+    let r = scope_of c.add_items.new.scope in
+    let r_is : r ≡ package_scope t = package_is tree text ds (scope_of c.beginning-scope.result) r text_is ds_is c.beginning-scope.ensures c.in_ok-add_items.ensures in
+    ap (λ (v : Scope). v.strings) (behind_is tree text ds r (scope_of c.check_functions.new.scope) text_is ds_is r_is c.in_ok-checked.ensures.scope)
 
 pub returns-clause-places : goal.returns-clause-places
 returns-clause-places c =
-    subst (λ (l : List Decl). AreAt (map (λ f. f.name.pos) (functions_in (declarations_of l))) (option_map (λ v. v.items) c.in_ok-checked.checked.funcs)) c.deref-decls.ensures.value c.in_ok-checked.ensures.places
+    let tree = c.args.tree.now in
+    let text = c.deref-text.result.now in
+    let ds = c.deref-decls.result.now in
+    let funcs = option_map (λ v. v.items) c.in_ok-checked.checked.funcs in
+    subst (λ (x : List ℕ). AreAt (map (λ f. f.name.pos) (functions_in x (declarations_of tree.decls.items))) funcs) c.deref-text.ensures.value
+    (subst (λ (l : List Decl). AreAt (map (λ f. f.name.pos) (functions_in text (declarations_of l))) funcs) c.deref-decls.ensures.value c.in_ok-checked.ensures.places)
 
 pub returns-clause-fault : goal.returns-clause-fault
 returns-clause-fault c =
@@ -70,8 +86,8 @@ returns-clause-fault c =
     let ds_is : ds ≡ tree.decls.items = c.deref-decls.ensures.value in
     let r = scope_of c.add_items.new.scope in
     let r_is : r ≡ package_scope t = package_is tree text ds (scope_of c.beginning-scope.result) r text_is ds_is c.beginning-scope.ensures c.in_ok-add_items.ensures in
-    let main_is : option_map (λ (f : FuncId). f.0) c.main_number-main.result ≡ main_number t =
-    main_number_is tree text ds r (option_map (λ (f : FuncId). f.0) c.main_number-main.result) text_is ds_is r_is c.main_number-main.ensures in
+    let main_is : option_map (λ (f : FuncId). f.0) c.in_ok-main.main ≡ main_number t =
+    main_number_is tree text ds r (option_map (λ (f : FuncId). f.0) c.in_ok-main.main) text_is ds_is r_is c.in_ok-main.ensures in
     rw (c.lesser.ensures, c.lesser-others.ensures)
-    (least_is tree text ds r c.main_number-main.result c.is_none.result c.no_main_fault-main_fault.result c.form_faults.result c.in_ok-checked.checked.fault text_is ds_is r_is main_is c.is_none.ensures c.no_main_fault-main_fault.ensures
-    c.form_faults.ensures c.in_ok-checked.ensures.fault)
+    (least_is tree text ds r c.in_ok-main.main c.is_none.result c.no_main_fault-main_fault.result c.in_ok-declared.declared c.in_ok-checked.checked.fault text_is ds_is r_is main_is c.is_none.ensures c.no_main_fault-main_fault.ensures
+    c.in_ok-declared.ensures c.in_ok-checked.ensures.fault)

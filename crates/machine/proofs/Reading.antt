@@ -1,0 +1,127 @@
+-- What a call read from the input, by what its parts read.
+use Rattle.std.proofs.Common.{◌≡◌, ◌≢◌, ℕ, suc, ◌+◌, List, [], ◌∷◌, ◌++◌, Option, Some, None, length, arith, refl, ap, sym, ◌∙◌, subst, length-append}
+use Rattle.std.specs.Prelude.{IfSome, FitsSigned}
+use Rattle.std.specs.Int.{w64}
+use Rattle.outside.specs.Items.{Reads, Loses}
+use Rattle.outside.proofs.Took.{Took-nothing}
+use Rattle.outside.specs.Took.{Took}
+use Rattle.simulation.specs.Steps.{Goes, Stops, events_of}
+use Rattle.machine.specs.Machine.{State, Does, Event, Asked, Item, asks_in, reads_item, item_words, put_words}
+use Rattle.machine.specs.Answers.{AllNumbers, Answers, Comes, HasFrom, ReadInOrder, ReadsUpTo, WithAnswers, printed_by}
+use Rattle.machine.specs.declared.place.Ending.{Ending}
+use Rattle.machine.specs.declared.place.Ending.TheVariants.{Exit, Panic, ReadFault, WriteFault, NoMemory, StackLimit, WildAddress, WildReturn, WildLink}
+
+has_front : (items : ℕ → Item) (n : ℕ) (a b : List Item) → HasFrom items n (a ++ b) → HasFrom items n a
+has_front items n [] b h = tt
+has_front items n (x ∷ a) b h = (h.0, has_front items (suc n) a b h.1)
+
+has_rest : (items : ℕ → Item) (n : ℕ) (a b : List Item) → HasFrom items n (a ++ b) → HasFrom items (n + length a) b
+has_rest items n [] b h = let same : n ≡ n + 0 = omega arith in subst (λ k. HasFrom items k b) same h
+has_rest items n (x ∷ a) b h =
+    let same : suc n + length a ≡ n + suc (length a) = omega arith in
+    subst (λ k. HasFrom items k b) same (has_rest items (suc n) a b h.1)
+
+read_more : (old mid new : Option (List ℕ)) (a b : List Item) → ReadInOrder old mid a → ReadInOrder mid new b → ReadInOrder old new (a ++ b)
+read_more old mid new [] b p q = subst (λ o. ReadInOrder o new b) p q
+read_more old mid new (x ∷ a) b p q = (p.0, p.1, read_more p.0 mid new a b p.2 q)
+
+reads_more : (e : Option Ending) (old mid new : Option (List ℕ)) (a b : List Item) → ReadInOrder old mid a → ReadsUpTo e mid new b → ReadsUpTo e old new (a ++ b)
+reads_more (Some ReadFault) old mid new a b p q = (q.0, read_more old mid q.0 a b p q.1, q.2)
+reads_more e old mid new a b p q = read_more old mid new a b p q
+
+all_more : (a b : List Item) → AllNumbers a → AllNumbers b → AllNumbers (a ++ b)
+all_more [] b p q = q
+all_more (x ∷ a) b p q = (p.0, all_more a b p.1 q)
+
+nil_front : (a b : List Item) → a ++ b ≡ [] → a ≡ []
+nil_front [] b e = refl
+nil_front (x ∷ a) b e = absurd cc
+
+nil_rest : (a b : List Item) → a ++ b ≡ [] → b ≡ []
+nil_rest [] b e = e
+nil_rest (x ∷ a) b e = absurd cc
+
+pub goes_on_is_no_fault : let e : Option Ending = None in e ≢ Some ReadFault
+goes_on_is_no_fault e = cc
+
+-- two parts of a call, of which the first doesn't end it
+pub joined : (e : Option Ending) (old mid new : Option (List ℕ)) (U V W : Type 0) (P Q R : (ℕ → Item) → ℕ → ℕ → Type 0) → WithAnswers None old mid U P → WithAnswers e mid new V Q
+    → (U → V → W) → ((items : ℕ → Item) (reads a b : ℕ) → P items reads a → Q items (reads + a) b → R items reads (a + b)) → WithAnswers e old new W R
+joined e old mid new U V W P Q R p q both goes = record {
+  answers = p.answers ++ q.answers;
+  numbers = all_more p.answers q.answers p.numbers q.numbers;
+  read = reads_more e old mid new p.answers q.answers p.read q.read;
+  unread = λ fine none. both (p.unread goes_on_is_no_fault (nil_front p.answers q.answers none)) (q.unread fine (nil_rest p.answers q.answers none));
+  does = λ items reads has.
+      rw (length-append p.answers q.answers)
+      (goes items reads (length p.answers) (length q.answers) (p.does items reads (has_front items reads p.answers q.answers has)) (q.does items (reads + length p.answers) (has_rest items reads p.answers q.answers has)));
+}
+
+-- a claim that follows from another one
+pub follows : (e : Option Ending) (old new : Option (List ℕ)) (U : Type 0) (P Q : (ℕ → Item) → ℕ → ℕ → Type 0) → WithAnswers e old new U P
+    → ((items : ℕ → Item) (reads a : ℕ) → P items reads a → Q items reads a) → WithAnswers e old new U Q
+follows e old new U P Q p goes = record { answers = p.answers; numbers = p.numbers; read = p.read; unread = p.unread; does = λ items reads has. goes items reads (length p.answers) (p.does items reads has) }
+
+reads_nothing : (e : Option Ending) (old : Option (List ℕ)) → e ≢ Some ReadFault → ReadsUpTo e old old []
+reads_nothing (Some ReadFault) old fine = absurd (fine refl)
+reads_nothing e old fine = refl
+
+pub nothing_read : (e : Option Ending) (old : Option (List ℕ)) (U : Type 0) (P : (ℕ → Item) → ℕ → ℕ → Type 0) → e ≢ Some ReadFault → U → ((items : ℕ → Item) (reads : ℕ) → P items reads 0) → WithAnswers e old old U P
+nothing_read e old U P fine same goes = record { answers = []; numbers = tt; read = reads_nothing e old fine; unread = λ f n. same; does = λ items reads has. goes items reads }
+
+one_is_not_none : (x : Item) → x ∷ [] ≢ []
+one_is_not_none x e = cc
+
+pub one_read : (answer : Item) (old new : Option (List ℕ)) (U : Type 0) (P : (ℕ → Item) → ℕ → ℕ → Type 0) → Reads old new answer → IfSome answer (FitsSigned w64) → ((items : ℕ → Item) (reads : ℕ) → items reads ≡ answer → P items reads 1) → WithAnswers None old new U P
+one_read answer old new U P reads number goes = record {
+  answers = answer ∷ [];
+  numbers = (number, tt);
+  read = (new, reads, refl);
+  unread = λ f none. absurd (one_is_not_none answer none);
+  does = λ items from has. goes items from has.0;
+}
+
+pub read_failed : (old new : Option (List ℕ)) (U : Type 0) (P : (ℕ → Item) → ℕ → ℕ → Type 0) → Loses old new → ((items : ℕ → Item) (reads : ℕ) → P items reads 0) → WithAnswers (Some ReadFault) old new U P
+read_failed old new U P lost goes = record { answers = []; numbers = tt; read = (old, refl, lost); unread = λ fine n. absurd (fine refl); does = λ items reads has. goes items reads }
+
+goes_quietly : (d : Does) (s : State) (taken : Option (List ℕ)) → d ≡ Goes [] s → (d ≡ Goes (events_of d) s) × Took taken taken (printed_by d) × (asks_in (events_of d) ≡ 0)
+goes_quietly d s taken is =
+    let told : events_of d ≡ [] = ap (λ (x : Does). events_of x) is in
+    (is ∙ ap (λ (l : List Event). let x : Does = Goes l s in x) (sym told), rw told (Took-nothing taken), ap asks_in told)
+
+stops_quietly : (d : Does) (e : Ending) (taken : Option (List ℕ)) → d ≡ Stops [] e → (d ≡ Stops (events_of d) e) × Took taken taken (printed_by d) × (asks_in (events_of d) ≡ 0)
+stops_quietly d e taken is =
+    let told : events_of d ≡ [] = ap (λ (x : Does). events_of x) is in
+    (is ∙ ap (λ (l : List Event). let x : Does = Stops l e in x) (sym told), rw told (Took-nothing taken), ap asks_in told)
+
+-- a step that tells nothing, in a call that read nothing and left the sink
+pub told_nothing : (d : Does) (s : State) (e : Option Ending) (taken : Option (List ℕ)) (faults : ℕ) → Comes d s e → Answers d s 0 e taken taken faults faults
+told_nothing d s None taken faults c = goes_quietly d s taken c
+told_nothing d s (Some ReadFault) taken faults c = absurd c
+told_nothing d s (Some WriteFault) taken faults c = absurd c
+told_nothing d s (Some NoMemory) taken faults c = ((printed_by d, record { done = []; splits = refl; took = Took-nothing taken }), omega arith)
+told_nothing d s (Some (Exit n)) taken faults c = stops_quietly d (Exit n) taken c
+told_nothing d s (Some (Panic x)) taken faults c = stops_quietly d (Panic x) taken c
+told_nothing d s (Some (StackLimit used asked limit)) taken faults c = stops_quietly d (StackLimit used asked limit) taken c
+told_nothing d s (Some (WildAddress n)) taken faults c = stops_quietly d (WildAddress n) taken c
+told_nothing d s (Some (WildReturn n)) taken faults c = stops_quietly d (WildReturn n) taken c
+told_nothing d s (Some (WildLink n)) taken faults c = stops_quietly d (WildLink n) taken c
+
+-- what comes of a read, and the state that it comes to
+pub item_read : (s new : State) (a : ℕ) (item answer : Item) → item ≡ answer → new.pc ≡ s.pc + 1 → new.words ≡ put_words s.words a (item_words answer) → new.reads ≡ s.reads + 1
+    → reads_item s a item ≡ Goes (Asked ∷ []) new
+item_read s new a item answer is pc words reads =
+    let more : new.reads ≡ suc s.reads = omega (arith, reads) in
+    let same : (let x : State = record { pc = s.pc + 1; words = put_words s.words a (item_words answer); reads = suc s.reads } in x) ≡ new =
+    rw (sym pc, sym words, sym more) refl in
+    ap (reads_item s a) is ∙ ap (λ (x : State). let d : Does = Goes (Asked ∷ []) x in d) same
+
+-- a step that asks for an item, and the item came
+pub asked_once : (d : Does) (s : State) (taken : Option (List ℕ)) (faults : ℕ) → d ≡ Goes (Asked ∷ []) s → Answers d s 1 None taken taken faults faults
+asked_once d s taken faults is =
+    let told : events_of d ≡ Asked ∷ [] = ap (λ (x : Does). events_of x) is in
+    (is ∙ ap (λ (l : List Event). let x : Does = Goes l s in x) (sym told), rw told (Took-nothing taken), ap asks_in told)
+
+-- the same, and the read failed
+pub asked_in_vain : (d : Does) (new : State) (taken : Option (List ℕ)) (faults : ℕ) → events_of d ≡ Asked ∷ [] → Answers d new 0 (Some ReadFault) taken taken faults faults
+asked_in_vain d new taken faults told = record { before = []; after = []; splits = sym told; asked = refl; took = Took-nothing taken }

@@ -1,0 +1,9 @@
+package main
+
+func exit(code int)
+
+func exit(n int)
+
+func main() {
+	exit(0)
+}

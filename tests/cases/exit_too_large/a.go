@@ -1,0 +1,8 @@
+package main
+
+func exit(int)
+
+func main() {
+	print("x")
+	exit(126)
+}

@@ -1,0 +1,6 @@
+package main
+
+func exit(code int) bool
+
+func main() {
+}

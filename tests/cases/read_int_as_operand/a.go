@@ -1,0 +1,7 @@
+package main
+
+func readInt() (int, bool)
+
+func main() {
+	println(readInt())
+}

@@ -1,0 +1,6 @@
+package main
+
+func readInt() (n int, ok bool)
+
+func main() {
+}

@@ -1,2 +1,0 @@
-package main
-func main() { println("a") }
