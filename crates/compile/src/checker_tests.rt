@@ -115,10 +115,10 @@ fn faults_of_names_and_forms(rt: HostRuntime) -> Result<(), Fail> {
             25,
         ),
         (
-            "package main\nconst c = 1; func main() { println(c) }",
-            FaultKind::OutOfProfile,
+            "package main\nconst a, b = c, a; const c = b; func main() { }",
+            FaultKind::RecursiveType,
             2,
-            1,
+            7,
         ),
         (
             "package main\nvar v = 1; func main() { v = 2 }",
@@ -297,10 +297,10 @@ fn faults_of_names_and_forms(rt: HostRuntime) -> Result<(), Fail> {
             10,
         ),
         (
-            "package main\nfunc len() {}; func main() {}",
+            "package main\nfunc main() {}; func init() {}",
             FaultKind::OutOfProfile,
             2,
-            6,
+            17,
         ),
         (
             "package main\nfunc f() (_ int) { return }; func main() {}",
@@ -321,16 +321,16 @@ fn faults_of_names_and_forms(rt: HostRuntime) -> Result<(), Fail> {
             20,
         ),
         (
-            "package main\nfunc main() { main() }",
+            "package main\nfunc main() { a := len }",
             FaultKind::OutOfProfile,
             2,
-            15,
+            20,
         ),
         (
-            "package main\nfunc f(len int) {}; func main() {}",
-            FaultKind::OutOfProfile,
+            "package main\nfunc main() { true = false }",
+            FaultKind::NotAssignable,
             2,
-            8,
+            15,
         ),
         (
             "package main\nfunc main() { f() }; func f(a string) {}",
@@ -352,7 +352,7 @@ fn faults_of_names_and_forms(rt: HostRuntime) -> Result<(), Fail> {
 /// The same for the faults of values, their types and their number.
 #[test]
 fn faults_of_values(rt: HostRuntime) -> Result<(), Fail> {
-    let table: [(&str, FaultKind, u32, u32); 54] = [
+    let table: [(&str, FaultKind, u32, u32); 62] = [
         (
             "package main\nfunc main() { a := 1; println(!a) }",
             FaultKind::BadOperand,
@@ -666,6 +666,54 @@ fn faults_of_values(rt: HostRuntime) -> Result<(), Fail> {
             26,
         ),
         (
+            "package main\nfunc main() { x := println }",
+            FaultKind::BadOperand,
+            2,
+            20,
+        ),
+        (
+            "package main\nfunc main() { x := int }",
+            FaultKind::BadOperand,
+            2,
+            20,
+        ),
+        (
+            "package main\nfunc main() { x := (int)(3) }",
+            FaultKind::OutOfProfile,
+            2,
+            20,
+        ),
+        (
+            "package main\nconst a int = 9223372036854775808; func main() { }",
+            FaultKind::ConstRange,
+            2,
+            15,
+        ),
+        (
+            "package main\nconst a int = 1; func main() { println(a + 9223372036854775808) }",
+            FaultKind::ConstRange,
+            2,
+            44,
+        ),
+        (
+            "package main\nconst a bool = 1; func main() { }",
+            FaultKind::Mismatch,
+            2,
+            16,
+        ),
+        (
+            "package main\nconst a = 1 / 0; func main() { }",
+            FaultKind::ConstZeroDivisor,
+            2,
+            15,
+        ),
+        (
+            "package main\nconst a, b = 1; func main() { }",
+            FaultKind::ArgCount,
+            2,
+            1,
+        ),
+        (
             "package main\nfunc f(a f) {}; func main() {}",
             FaultKind::BadOperand,
             2,
@@ -690,7 +738,7 @@ fn faults_of_values(rt: HostRuntime) -> Result<(), Fail> {
 
 #[test]
 fn accepted_texts(rt: HostRuntime) -> Result<(), Fail> {
-    let table: [&str; 15] = [
+    let table: [&str; 18] = [
         "package main\nfunc two(n int) (q, r int) { q = n + 1; r = n * 2; return }; func main() { a, b := two(5); a, b = b, a; println(a, b) }",
         "package main\nfunc f(_ int, _ int) {}; func _() int { return 1 }; func main() { f(1, 2) }",
         "package main\nfunc g() (int, int) { return 1, 2 }; func f(a, b int) {}; func main() { f(g()); _, _ = g(); (g()) }",
@@ -705,6 +753,9 @@ fn accepted_texts(rt: HostRuntime) -> Result<(), Fail> {
         "package main\nfunc main() { if a := 1; a == 1 { } else if b := a; b > 2 { panic(b) } }",
         "package main\nfunc f(a, b bool) (c bool, d int) { c = a && !b; d = 1 << 3; return }; func main() { a, b := f(true, 1 < 2); println(a, b) }",
         "package main\nfunc f(n int) int { for { if n > 0 { return n }; n++ } }; func g() bool { panic(true) }; func main() { println(f(-1), g()) }",
+        "package main\nconst true, len = 1, 2; func print(int int) int { return int }; func main() { string, _ := true, len; println(print(string)) }",
+        "package main\nconst a = b + 1; const (b int = 1 << 3; c = a > b); func main() { for i, _ := range a { if c { println(i, 1 << 100 >> 98) } } }",
+        "package main\nfunc f(n int) { if n > 0 { main() } }; func main() { f(0) }",
         "package main\nfunc exit(code int); func readInt() (int, bool); func main() { n, ok := readInt(); println(\"n\", n, ok); if !ok { panic(\"none\") }; exit(n) }",
     ];
     for text in table {

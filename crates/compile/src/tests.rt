@@ -71,8 +71,8 @@ fn faults_of_each_stage(rt: HostRuntime) -> Result<(), Fail> {
             type_fault(FaultKind::Mismatch, pos(32, 2, 20)),
         ),
         (
-            "len := 1",
-            type_fault(FaultKind::OutOfProfile, pos(27, 2, 15)),
+            "x := len",
+            type_fault(FaultKind::OutOfProfile, pos(32, 2, 20)),
         ),
         ("_ := y", type_fault(FaultKind::NothingNew, pos(29, 2, 17))),
         (

@@ -9,12 +9,13 @@ use Rattle.typed.specs.Syntax.{Ex, Exs}
 use Rattle.typed.specs.Syntax as typed
 use Rattle.expression_types.specs.declared.fault.Fault.{Fault}
 use Rattle.expression_types.specs.declared.fault.FaultKind.TheVariants.{ConstRange, Mismatch}
-use Rattle.expression_types.specs.declared.operand.Constant.TheVariants.{Number, Truth}
+use Rattle.expression_types.specs.declared.constant.Constant.{Constant}
+use Rattle.expression_types.specs.declared.constant.Constant.TheVariants.{Number, Truth}
 use Rattle.expression_types.specs.declared.scope.ValueType.{ValueType}
 use Rattle.expression_types.specs.Least.{IsLeast}
 use Rattle.expression_types.specs.Scope.{type_number}
-use Rattle.expression_types.specs.Typing.{Operand, untyped, value, Part, valued, Gives, one, called, asking, quoted, printed, panicked, exited, Seen, Many, allowed, type_of, single, operand_in, value_in, as_value, as_part, part_in, is_part, is_int, listed, values, parts, are_single, are_parts, part_count, many_in, many, count_of, count, each, types_agree, values_agree, fits_with, fits, all_values, taken, types_with, value_types, single_types, taken_types, panicked_with, exit_places, exited_with}
-use Rattle.expression_types.specs.Faults.{fault, IsFault, single_fault, part_fault, SinglesFail, PartsFail, ValuesFail, range_fault, RangeFails, TypesFail, results_fault, MismatchFails, CountFails, TakeFails, refused_fault}
+use Rattle.expression_types.specs.Typing.{Operand, constant, value, Part, valued, Gives, one, called, asking, quoted, printed, panicked, exited, Seen, Many, allowed, type_of, single, operand_in, value_in, constant_value, as_value, as_part, part_in, is_part, is_int, listed, values, parts, are_single, are_parts, part_count, many_in, many, count_of, count, each, types_agree, values_agree, fits_with, fits, all_values, taken, types_with, value_types, single_types, taken_types, panicked_with, exit_places, exited_with}
+use Rattle.expression_types.specs.Faults.{fault, IsFault, single_fault, part_fault, constant_range_fault, SinglesFail, PartsFail, ValuesFail, range_fault, RangeFails, TypesFail, results_fault, MismatchFails, CountFails, TakeFails, refused_fault}
 use Rattle.expression_types.proofs.Decided.{Decided, Tested, further, mapped, after, both_tested, same, turned}
 use Rattle.expression_types.proofs.Items.{and_true}
 use Rattle.expression_types.proofs.Places.{agree_tested}
@@ -36,14 +37,17 @@ pub operand_decided : (o : Option Gives) (P : Fault → Type 0) → Decided o P 
 operand_decided None P d = (d.0, inl d.1)
 operand_decided (Some g) P d = further P (IsFault (single_fault (Some g))) (single g) d (single_decided g)
 
-pub as_value_decided : (at : Pos) (x : Operand) → Decided (as_value x) (IsFault (range_fault at (Some x)))
-as_value_decided at (value t x) = λ f h. h
-as_value_decided at (untyped (Truth b)) = λ f h. h
-as_value_decided at (untyped (Number z)) = by (is_int z)
+constant_value_decided : (at : Pos) (c : Constant) → Decided (constant_value c) (IsFault (constant_range_fault at c))
+constant_value_decided at (Truth b) = λ f h. h
+constant_value_decided at (Number z) = by (is_int z)
   where
     by : (b : Bool) → Decided (cond b (Some (typed.constant (int z))) None) (IsFault (cond b None (Some (fault ConstRange at))))
     by true = λ f h. h
     by false = (_, refl)
+
+pub as_value_decided : (at : Pos) (x : Operand) → Decided (as_value x) (IsFault (range_fault at (Some x)))
+as_value_decided at (value t x) = λ f h. h
+as_value_decided at (constant c) = constant_value_decided at c.value
 
 abbrev pub IsGiven : Option Gives → Type 0
 IsGiven None = ⊥

@@ -1,6 +1,6 @@
 -- What expressions give is in form: what they read is in scope and has its type, constants are words, and operators and calls have operands
 -- of the types that they take.
-use Rattle.std.proofs.Common.{◌≡◌, ℕ, ◌^◌, ℤ, pos, Bool, true, false, cond, List, [], ◌∷◌, Option, Some, None, Result, Ok, Err, refl, sym, ap, ◌∙◌, subst, arith, length}
+use Rattle.std.proofs.Common.{◌≡◌, ℕ, ◌^◌, ℤ, pos, Bool, true, false, cond, List, [], ◌∷◌, Option, Some, None, Result, refl, sym, ap, ◌∙◌, subst, arith, length}
 use Rattle.std.specs.Prelude.{option_and_then, nat_lt, nat_le, slice_get, ◌==◌, ◌&&◌}
 use Rattle.std.specs.Option.{option_map}
 use Rattle.std.proofs.lemmas.Int.{ints as int_lemmas}
@@ -22,24 +22,24 @@ use Rattle.syntax.specs.Expressions as tree
 use Rattle.typed.specs.declared.operators.UnOp.{UnOp as TypedPrefix}
 use Rattle.typed.specs.declared.program.Site.{Site}
 use Rattle.typed.specs.Value.{int}
-use Rattle.typed.specs.Syntax.{Ex, Exs, Func, Program, constant, more, none, int_type, bool_type}
+use Rattle.typed.specs.Syntax.{Ex, Exs, Func, Program, more, none, int_type, bool_type}
 use Rattle.typed.specs.Syntax as typed
 use Rattle.typed.specs.Form.{InScope, IsWord, TakesOne, site_type, ExFits, ExsFit}
 use Rattle.names.specs.declared.constants.Const.{Const}
-use Rattle.names.specs.declared.constants.Const.TheVariants as const
 use Rattle.names.specs.declared.constants.ConstFault.{ConstFault}
-use Rattle.expression_types.specs.declared.operand.Constant.TheVariants.{Number, Truth}
-use Rattle.expression_types.specs.declared.profile.Word.{Word}
-use Rattle.expression_types.specs.declared.profile.Word.TheVariants as word
+use Rattle.names.specs.Constants.{folded_one}
+use Rattle.expression_types.specs.declared.constant.Constant.{Constant}
+use Rattle.expression_types.specs.declared.constant.Constant.TheVariants.{Number, Truth}
+use Rattle.expression_types.specs.declared.constant.Fixed.{Fixed}
 use Rattle.expression_types.specs.declared.scope.ValueType.{ValueType}
 use Rattle.expression_types.specs.declared.scope.ValueType.TheVariants.{Int, Bool as Boolean}
 use Rattle.expression_types.specs.declared.scope.Declared.{Declared}
-use Rattle.expression_types.specs.declared.scope.Declared.TheVariants.{Variable, Untyped, Function, External, TypeName}
+use Rattle.expression_types.specs.declared.scope.Declared.TheVariants as declared
 use Rattle.expression_types.specs.declared.scope.External.TheVariants.{ReadInt, Exit}
-use Rattle.expression_types.specs.Profile.{word_of}
-use Rattle.expression_types.specs.Scope.{Scope, Signature, type_number, type_numbers, declaration, signature}
-use Rattle.expression_types.specs.Typing.{Operand, untyped, value, Part, said, valued, Gives, one, called, asking, quoted, printed, panicked, exited, allowed, same_type, type_of, is_int, as_value, constant_of, name_operand, has_rules, takes_one, prefix_of, prefixed, prefix_gives, takes, result_type, right_allowed, arithmetic_of, compare_of, typed_pair, both, both_values, value_pair, combined, pair_gives, single, operand_in, value_in, as_part, part_in, Seen, values, parts, type_in_one, single_types, Many, many_in, many, types_with, value_types, accepts, types_agree, operand_agrees, values_agree, each, fits_with, fits, all_values, taken, asked, Callee, printer, panicker, reader, exiter, function, no_function, no_spread, no_text_spread, nothing, function_with, callee_declared, callee_named, callee_value, spread_over, panicked_with, exit_places, exited_with, called_with, name_in, as_condition, callee, gives, seen, condition, test}
+use Rattle.expression_types.specs.Scope.{Scope, Signature, type_number, type_numbers, declaration, signature, fixed}
+use Rattle.expression_types.specs.Typing.{Operand, constant, untyped, value, Part, said, valued, Gives, one, called, asking, quoted, printed, panicked, exited, allowed, same_type, type_of, is_int, is_held, constant_type, constant_value, const_of, as_value, constant_of, joint_type, converts, worked_out, name_operand, has_rules, takes_one, prefix_of, prefixed, prefix_gives, takes, result_type, right_allowed, arithmetic_of, compare_of, typed_pair, both, both_values, value_pair, combined, pair_gives, single, operand_in, value_in, as_part, part_in, Seen, values, parts, type_in_one, single_types, Many, many_in, many, types_with, value_types, accepts, types_agree, operand_agrees, values_agree, each, fits_with, fits, all_values, taken, asked, Callee, printer, panicker, reader, exiter, function, conversion, no_function, no_spread, no_text_spread, nothing, function_with, callee_declared, callee_value, spread_over, panicked_with, exit_places, exited_with, called_with, name_in, as_condition, callee, gives, seen, condition, test}
 use Rattle.expression_types.proofs.DecidedValues.{many_single}
+use Rattle.expression_types.proofs.Held.{AreHeld, held_type, constant_is}
 use Rattle.expression_types.proofs.Options.{and_then_some, map_some, none_some, same_some}
 
 is_word : (z : ℤ) → is_int z ≡ true → IsWord (int z)
@@ -57,7 +57,7 @@ HasSite s k t = (site : Site) × (slice_get s.sites k ≡ Some site) × (site.ty
 
 -- the variables that names stand for are in scope
 abbrev pub AreShown : Scope → List ℕ → Type 0
-AreShown s scope = (n : List ℕ) (site : SiteId) (t : ValueType) → declaration s n ≡ Some (Variable site t) → InScope site.0 scope × HasSite s site.0 t
+AreShown s scope = (n : List ℕ) (site : SiteId) (t : ValueType) → declaration s n ≡ Some (declared.Variable site t) → InScope site.0 scope × HasSite s site.0 t
 
 -- values of these types are taken at these places
 abbrev pub AreAccepted : List (Option ValueType) → List ValueType → Type 0
@@ -170,7 +170,7 @@ takes_prefix Address Boolean g is found = cc is
 
 module _ (p : Program) (scope : List ℕ) where
   abbrev pub OperandFits : Operand → Type 0
-  OperandFits (untyped c) = Unit {0}
+  OperandFits (constant f) = is_held f.value_type f.value ≡ true
   OperandFits (value t x) = ExFits p scope (type_number t) x
 
   -- a call of a function with these results
@@ -210,21 +210,19 @@ module _ (p : Program) (scope : List ℕ) where
   some_fits : (x y : Operand) → OperandFits x → Some x ≡ Some y → OperandFits y
   some_fits x y fits is = subst OperandFits (same_some is) fits
 
-  constant_fits : (r : Result Const ConstFault) (x : Operand) → constant_of r ≡ Some x → OperandFits x
-  constant_fits (Ok (const.Int z)) x is = some_fits (untyped (Number z)) x tt is
-  constant_fits (Ok (const.Bool b)) x is = some_fits (untyped (Truth b)) x tt is
-  constant_fits (Ok const.NoConst) x is = absurd (none_some is)
-  constant_fits (Err e) x is = absurd (none_some is)
+  -- a constant as a value of the type that it has by itself
+  constant_fits : (c : Constant) (e : Ex) → constant_value c ≡ Some e → ExFits p scope (type_number (constant_type None c)) e
+  constant_fits (Truth b) e is = subst (ExFits p scope 1) (same_some is) (refl, tt)
+  constant_fits (Number z) e is = by (is_int z) refl is
+    where
+      by : (b : Bool) → is_int z ≡ b → cond b (Some (typed.constant (int z))) None ≡ Some e → ExFits p scope 0 e
+      by true h is1 = subst (ExFits p scope 0) (same_some is1) (refl, is_word z h)
+      by false h is1 = absurd (none_some is1)
 
   -- an operand as a value of its type
   pub value_fits : (x : Operand) (e : Ex) → OperandFits x → as_value x ≡ Some e → ExFits p scope (type_number (type_of x)) e
   value_fits (value t x) e fits is = subst (ExFits p scope (type_number t)) (same_some is) fits
-  value_fits (untyped (Truth b)) e fits is = subst (ExFits p scope 1) (same_some is) (refl, tt)
-  value_fits (untyped (Number z)) e fits is = by (is_int z) refl is
-    where
-      by : (b : Bool) → is_int z ≡ b → cond b (Some (constant (int z))) None ≡ Some e → ExFits p scope 0 e
-      by true h is1 = subst (ExFits p scope 0) (same_some is1) (refl, is_word z h)
-      by false h is1 = absurd (none_some is1)
+  value_fits (constant f) e fits is = subst (λ (t : ValueType). ExFits p scope (type_number t) e) (sym (held_type f.value_type f.value fits)) (constant_fits f.value e is)
 
   single_fits : (g : Gives) (x : Operand) → GivesFit g → single g ≡ Some x → OperandFits x
   single_fits (one y) x fits is = some_fits y x fits is
@@ -381,14 +379,19 @@ module _ (p : Program) (scope : List ℕ) where
       let k = both_true (takes op (type_of x) (type_of y)) (right_allowed op y) a.0 in
       both_fit at op (type_of x) (type_of y) (as_value x) (as_value y) z k.0 (λ e h. value_fits x e f h) (λ e h. value_fits y e g h) a.1
 
+  -- what constants are folded to is held by its type
+  folded_fits : (b : Bool) (t : Option ValueType) (r : Result Const ConstFault) (x : Operand) → allowed b (constant_of t r) ≡ Some x → OperandFits x
+  folded_fits b t r x is = constant_is OperandFits (λ f h. h) t r x (allowed_some b (constant_of t r) x is).1
+
   pub pair_fits : (at : Pos) (op : BinOp) (x y z : Operand) → OperandFits x → OperandFits y → combined at op x y ≡ Some z → OperandFits z
-  pair_fits at op (untyped c) (untyped d) z f g is = constant_fits _ z is
-  pair_fits at op (untyped c) (value t y) z f g is = value_pair_fits at op (untyped c) (value t y) z f g is
-  pair_fits at op (value s x) (untyped d) z f g is = value_pair_fits at op (value s x) (untyped d) z f g is
+  pair_fits at op (constant a) (constant b) z f g is =
+      folded_fits (takes op (constant_type a.value_type a.value) (constant_type b.value_type b.value) && converts op a b) (joint_type op a.value_type b.value_type) (worked_out op a b) z is
+  pair_fits at op (constant a) (value t y) z f g is = value_pair_fits at op (constant a) (value t y) z f g is
+  pair_fits at op (value s x) (constant b) z f g is = value_pair_fits at op (value s x) (constant b) z f g is
   pair_fits at op (value s x) (value t y) z f g is = value_pair_fits at op (value s x) (value t y) z f g is
 
   prefix_fits : (op : UnOp) (x y : Operand) → OperandFits x → prefixed op x ≡ Some y → OperandFits y
-  prefix_fits op (untyped c) y fits is = constant_fits _ y is
+  prefix_fits op (constant f) y fits is = folded_fits (takes_one op (constant_type f.value_type f.value)) f.value_type (folded_one op (const_of f.value)) y is
   prefix_fits op (value t x) y fits is =
       let a = allowed_some (takes_one op t) (option_map (λ g. value t (typed.unary g x)) (prefix_of op)) y is in
       let r = map_some (λ g. value t (typed.unary g x)) (prefix_of op) y a.1 in
@@ -441,6 +444,7 @@ module _ (p : Program) (scope : List ℕ) where
   CalleeFits panicker = Unit {0}
   CalleeFits reader = Unit {0}
   CalleeFits exiter = Unit {0}
+  CalleeFits conversion = Unit {0}
   CalleeFits no_function = Unit {0}
   CalleeFits no_spread = Unit {0}
   CalleeFits no_text_spread = Unit {0}
@@ -456,57 +460,62 @@ module _ (p : Program) (scope : List ℕ) where
       let t = taken_fits ps os r.0 all r.1 in
       let same1 : k.1 ≡ t.types = asked_types k.1 t.types (subst (λ (l : List (Option ValueType)). AreAccepted l t.types) k.2 t.accepted) in
       subst GivesFit r.2 (k.0, k.3, k.5, subst (λ (l : List ℕ). ExsFit p scope l r.0) (ap type_numbers (sym same1) ∙ sym k.4) t.fit)
+  call_fits at conversion os g k all is = absurd (none_some is)
   call_fits at no_function os g k all is = absurd (none_some is)
   call_fits at no_spread os g k all is = absurd (none_some is)
   call_fits at no_text_spread os g k all is = absurd (none_some is)
   call_fits at nothing os g k all is = absurd (none_some is)
 
-  module _ (text : List ℕ) (s : Scope) (are_shown : AreShown s scope) (agrees : Agrees s p) where
-    variable_fits : (n : List ℕ) (site : SiteId) (t : ValueType) → declaration s n ≡ Some (Variable site t) → InScope site.0 scope × (site_type p site.0 ≡ type_number t)
+  module _ (text : List ℕ) (s : Scope) (are_shown : AreShown s scope) (held : AreHeld s.constants) (agrees : Agrees s p) where
+    variable_fits : (n : List ℕ) (site : SiteId) (t : ValueType) → declaration s n ≡ Some (declared.Variable site t) → InScope site.0 scope × (site_type p site.0 ≡ type_number t)
     variable_fits n site t is = let k = are_shown n site t is in (k.0, agrees.sites site.0 k.1.0 k.1.1 ∙ k.1.2)
 
-    name_fits : (w : Word) (d : Option Declared) (g : Gives) → ((site : SiteId) (t : ValueType) → d ≡ Some (Variable site t) → InScope site.0 scope × (site_type p site.0 ≡ type_number t))
-        → option_map one (name_operand w d) ≡ Some g → GivesFit g
-    name_fits (word.Truth b) d g has is = subst GivesFit (same_some is) tt
-    name_fits (word.Print line) d g has is = absurd (none_some is)
-    name_fits word.Panic d g has is = absurd (none_some is)
-    name_fits word.Blank d g has is = absurd (none_some is)
-    name_fits word.Reserved d g has is = absurd (none_some is)
-    name_fits word.Free None g has is = absurd (none_some is)
-    name_fits word.Free (Some Untyped) g has is = absurd (none_some is)
-    name_fits word.Free (Some (Function f)) g has is = absurd (none_some is)
-    name_fits word.Free (Some (External e at)) g has is = absurd (none_some is)
-    name_fits word.Free (Some TypeName) g has is = absurd (none_some is)
-    name_fits word.Free (Some (Variable site t)) g has is = subst GivesFit (same_some is) (has site t refl)
+    constant_fits_name : (o : Option Fixed) (g : Gives) → ((f : Fixed) → o ≡ Some f → is_held f.value_type f.value ≡ true) → option_map one (option_map constant o) ≡ Some g → GivesFit g
+    constant_fits_name None g known is = absurd (none_some is)
+    constant_fits_name (Some f) g known is = subst GivesFit (same_some is) (known f refl)
+
+    name_fits : (d : Option Declared) (g : Gives) → ((site : SiteId) (t : ValueType) → d ≡ Some (declared.Variable site t) → InScope site.0 scope × (site_type p site.0 ≡ type_number t)) → option_map one (name_operand s d) ≡ Some g → GivesFit g
+    name_fits None g has is = absurd (none_some is)
+    name_fits (Some (declared.Variable site t)) g has is = subst GivesFit (same_some is) (has site t refl)
+    name_fits (Some declared.Untyped) g has is = absurd (none_some is)
+    name_fits (Some (declared.Constant k)) g has is = constant_fits_name (fixed s k.0) g (λ f known. held k.0 f known) is
+    name_fits (Some (declared.Function f)) g has is = absurd (none_some is)
+    name_fits (Some (declared.External e at)) g has is = absurd (none_some is)
+    name_fits (Some declared.TypeName) g has is = absurd (none_some is)
+    name_fits (Some (declared.«Type» t)) g has is = absurd (none_some is)
+    name_fits (Some (declared.Truth b)) g has is = subst GivesFit (same_some is) refl
+    name_fits (Some (declared.Print line)) g has is = absurd (none_some is)
+    name_fits (Some declared.Panic) g has is = absurd (none_some is)
+    name_fits (Some declared.LeftOutType) g has is = absurd (none_some is)
+    name_fits (Some declared.LeftOutValue) g has is = absurd (none_some is)
 
     callee_signed : (f : ℕ) (sig : Option Signature) → signature s f ≡ sig → CalleeFits (function_with f sig)
     callee_signed f None is = tt
     callee_signed f (Some sig) is = let k = agrees.functions f sig is in (k.0, sig.params, refl, k.1, k.2, k.3)
 
-    declared_fits : (d : Option Declared) → CalleeFits (callee_declared s d)
-    declared_fits None = tt
-    declared_fits (Some (Variable site t)) = tt
-    declared_fits (Some Untyped) = tt
-    declared_fits (Some (Function f)) = callee_signed f.0 (signature s f.0) refl
-    declared_fits (Some (External ReadInt at)) = tt
-    declared_fits (Some (External Exit at)) = tt
-    declared_fits (Some TypeName) = tt
-
     callee_value_fits : (o : Option Operand) → CalleeFits (callee_value o)
     callee_value_fits None = tt
     callee_value_fits (Some x) = tt
 
-    named_fits : (w : Word) (d : Option Declared) → CalleeFits (callee_named s w d)
-    named_fits (word.Truth b) d = tt
-    named_fits (word.Print line) d = tt
-    named_fits word.Panic d = tt
-    named_fits word.Blank d = tt
-    named_fits word.Reserved d = tt
-    named_fits word.Free d = declared_fits d
+    declared_fits : (d : Option Declared) → CalleeFits (callee_declared s d)
+    declared_fits None = tt
+    declared_fits (Some (declared.Variable site t)) = tt
+    declared_fits (Some declared.Untyped) = tt
+    declared_fits (Some (declared.Constant k)) = callee_value_fits (option_map constant (fixed s k.0))
+    declared_fits (Some (declared.Function f)) = callee_signed f.0 (signature s f.0) refl
+    declared_fits (Some (declared.External ReadInt at)) = tt
+    declared_fits (Some (declared.External Exit at)) = tt
+    declared_fits (Some declared.TypeName) = tt
+    declared_fits (Some (declared.«Type» t)) = tt
+    declared_fits (Some (declared.Truth b)) = tt
+    declared_fits (Some (declared.Print line)) = tt
+    declared_fits (Some declared.Panic) = tt
+    declared_fits (Some declared.LeftOutType) = tt
+    declared_fits (Some declared.LeftOutValue) = tt
 
     callee_fits : (n : Option Name) (o : Option Gives) → CalleeFits (callee text s n o)
     callee_fits None o = callee_value_fits (operand_in o)
-    callee_fits (Some n) o = named_fits (word_of (spelled text n)) (declaration s (spelled text n))
+    callee_fits (Some n) o = declared_fits (declaration s (spelled text n))
 
     spread_fits : (spread : Bool) (k : Callee) → CalleeFits k → CalleeFits (spread_over spread k)
     spread_fits false k fits = fits
@@ -515,6 +524,7 @@ module _ (p : Program) (scope : List ℕ) where
     spread_fits true reader fits = tt
     spread_fits true exiter fits = tt
     spread_fits true (function f ps ts) fits = tt
+    spread_fits true conversion fits = tt
     spread_fits true no_function fits = tt
     spread_fits true no_spread fits = tt
     spread_fits true no_text_spread fits = tt
@@ -538,10 +548,10 @@ module _ (p : Program) (scope : List ℕ) where
       pub gives_fit : (e : TreeEx) (g : Gives) → gives text s e ≡ Some g → GivesFit g
       gives_fit (number at n) g is = by (nat_lt n (2 ^ 127)) is
         where
-          by : (b : Bool) → cond b (Some (one (untyped (Number (pos n))))) None ≡ Some g → GivesFit g
-          by true is1 = subst GivesFit (same_some is1) tt
+          by : (b : Bool) → cond b (Some (one (constant (untyped (Number (pos n)))))) None ≡ Some g → GivesFit g
+          by true is1 = subst GivesFit (same_some is1) refl
           by false is1 = absurd (none_some is1)
-      gives_fit (name n) g is = name_fits (word_of (spelled text n)) (declaration s (spelled text n)) g (λ site t h. variable_fits (spelled text n) site t h) is
+      gives_fit (name n) g is = name_fits (declaration s (spelled text n)) g (λ site t h. variable_fits (spelled text n) site t h) is
       gives_fit (unary at op e) g is =
           unary_fits op (has_rules op) (operand_in (gives text s e)) g (λ x h. operand_fits (gives text s e) x (maybe_fits (gives text s e) (λ k i. gives_fit e k i)) h) is
       gives_fit (binary at op a b) g is =

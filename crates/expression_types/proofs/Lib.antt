@@ -1,5 +1,6 @@
 pub mod Decided
 pub mod DecidedValues
+pub mod Held
 pub mod InForm
 pub mod Items
 pub mod Leasts

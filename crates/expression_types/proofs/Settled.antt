@@ -1,7 +1,8 @@
--- Where every variable has a type and every function a signature, an expression gives something, or a rule fails in it, and never both.
+-- Where every variable has a type, every constant a value and every function a signature, an expression gives something, or a rule fails in it, and never both.
 use Rattle.std.proofs.Common.{◌≡◌, ℕ, zero, suc, ◌^◌, ℤ, pos, Bool, true, false, cond, List, [], ◌∷◌, ◌⊎◌, inl, inr, Option, Some, None, Result, Ok, Err, refl, subst}
-use Rattle.std.specs.Prelude.{⊤, option_and_then, slice_get, nat_lt, not, ◌&&◌, neg_ℤ}
+use Rattle.std.specs.Prelude.{⊤, option_and_then, slice_get, nat_lt, not, ◌&&◌, neg_ℤ, codes}
 use Rattle.std.specs.List.{AllByRecursion}
+use Rattle.std.specs.Str.{bytes_eq}
 use Rattle.std.specs.Option.{option_map}
 use Rattle.std.proofs.lemmas.Bool.{false≢true}
 use Rattle.base.specs.declared.pos.Pos.{Pos}
@@ -26,48 +27,88 @@ use Rattle.names.specs.Blocks.{lookup}
 use Rattle.names.specs.Constants.{exact, in_range_or_fault, kept, as_constant, compared_bools, folded, folded_one}
 use Rattle.expression_types.specs.declared.fault.Fault.{Fault}
 use Rattle.expression_types.specs.declared.fault.FaultKind.TheVariants.{NotCallable, ArgCount, ConstRange, BadOperand, OutOfProfile, ConstZeroDivisor}
-use Rattle.expression_types.specs.declared.operand.Constant.{Constant}
-use Rattle.expression_types.specs.declared.operand.Constant.TheVariants.{Number, Truth}
-use Rattle.expression_types.specs.declared.profile.Word.{Word}
-use Rattle.expression_types.specs.declared.profile.Word.TheVariants as word
+use Rattle.expression_types.specs.declared.constant.Constant.{Constant}
+use Rattle.expression_types.specs.declared.constant.Constant.TheVariants.{Number, Truth}
+use Rattle.expression_types.specs.declared.constant.Fixed.{Fixed}
 use Rattle.expression_types.specs.declared.scope.ValueType.{ValueType}
 use Rattle.expression_types.specs.declared.scope.ValueType.TheVariants.{Int, Bool as Boolean}
 use Rattle.expression_types.specs.declared.scope.Declared.{Declared}
-use Rattle.expression_types.specs.declared.scope.Declared.TheVariants.{Variable, Untyped, Function, External, TypeName}
+use Rattle.expression_types.specs.declared.scope.Declared.TheVariants as declared
 use Rattle.expression_types.specs.declared.scope.External.TheVariants.{ReadInt, Exit}
-use Rattle.expression_types.specs.Profile.{named_type, is_type_name, is_value_name, word_of}
-use Rattle.expression_types.specs.Scope.{Scope, Signature, declaration, signature}
-use Rattle.expression_types.specs.Typing.{Operand, untyped, value, Gives, one, allowed, constant_type, is_int, constant_value, const_of, constant_of, name_operand, has_rules, takes_one, prefix_of, prefixed, prefix_gives, takes, is_division, is_shift, is_zero, is_negative, stands_right, both, both_values, combined, operand_in, Seen, parts, taken, Callee, printer, panicker, reader, exiter, function, no_function, no_spread, no_text_spread, nothing, function_with, callee_declared, callee_named, callee_value, spread_over, called_with, name_in, as_condition, type_in, callee, gives, seen, condition, test}
-use Rattle.expression_types.specs.Faults.{fault, IsFault, FormFails, WhereTaken, name_fault, callee_declared_fault, callee_name_fault, type_name_fault, single_fault, constant_range_fault, literal_fault, condition_fault, constant_fault, prefix_fault, unfit_kind, right_fault, two_fault, pair_fault, PartsFail, RangeFails, CallFails, CalleeFails, FailsAsType, Fails, FailsInEach, FailsAsOperand, FailsInCondition, FailsInTest}
+use Rattle.expression_types.specs.Universe.{is_type_name, is_value_name, left_out, predeclared_function, predeclared}
+use Rattle.expression_types.specs.Scope.{Scope, Signature, numbered, declaration, signature, fixed}
+use Rattle.expression_types.specs.Typing.{Operand, constant, untyped, value, Gives, one, allowed, same_type, constant_type, is_int, constant_value, const_of, is_held, of_type, constant_of, joint_type, converts, worked_out, name_operand, declared_type, has_rules, takes_one, prefix_of, prefixed, prefix_gives, takes, is_division, is_shift, is_zero, is_negative, stands_right, both, both_values, combined, operand_in, Seen, parts, taken, Callee, printer, panicker, reader, exiter, function, conversion, no_function, no_spread, no_text_spread, nothing, function_with, callee_declared, callee_value, spread_over, called_with, name_in, as_condition, type_in, callee, gives, seen, condition, test}
+use Rattle.expression_types.specs.Faults.{fault, IsFault, FormFails, WhereTaken, name_fault, callee_name_fault, type_name_fault, single_fault, constant_range_fault, literal_fault, condition_fault, held_fault, constant_fault, prefix_fault, unfit_kind, right_fault, two_fault, pair_fault, PartsFail, RangeFails, CallFails, CalleeFails, FailsAsType, Fails, FailsInEach, FailsAsOperand, FailsInCondition, FailsInTest}
 use Rattle.expression_types.proofs.Decided.{Decided, further, same, mapped, after}
+use Rattle.expression_types.proofs.Held.{IsHeld, held_type, operand_held}
+use Rattle.expression_types.proofs.Options.{none_some, same_some}
 use Rattle.expression_types.proofs.DecidedValues.{operand_decided, given_all, take_decided, print_decided, panic_decided, read_decided, exit_decided, refused, parts_refused}
 
 abbrev pub HasSignature : Option Signature → Type 0
 HasSignature None = ⊥
 HasSignature (Some sig) = ⊤
 
--- a variable with a type, a function with a signature, or one that needs none; types of a program are left out
-abbrev pub IsTyped : List (Option Signature) → Declared → Type 0
-IsTyped sigs (Variable site t) = ⊤
-IsTyped sigs Untyped = ⊥
-IsTyped sigs (Function f) = HasSignature (option_and_then (λ o. o) (slice_get sigs f.0))
-IsTyped sigs (External e at) = ⊤
-IsTyped sigs TypeName = ⊥
+-- a value that is known, and held by its type
+abbrev pub HasValue : Option Fixed → Type 0
+HasValue None = ⊥
+HasValue (Some f) = is_held f.value_type f.value ≡ true
+
+-- a variable with a type, a constant with a value, a function with a signature, or what needs none; types of a program are left out
+abbrev pub IsTyped : List (Option Signature) → List (Option Fixed) → Declared → Type 0
+IsTyped sigs constants (declared.Variable site t) = ⊤
+IsTyped sigs constants declared.Untyped = ⊥
+IsTyped sigs constants (declared.Constant k) = HasValue (option_and_then (λ o. o) (slice_get constants k.0))
+IsTyped sigs constants (declared.Function f) = HasSignature (option_and_then (λ o. o) (slice_get sigs f.0))
+IsTyped sigs constants (declared.External e at) = ⊤
+IsTyped sigs constants declared.TypeName = ⊥
+IsTyped sigs constants (declared.«Type» t) = ⊤
+IsTyped sigs constants (declared.Truth b) = ⊤
+IsTyped sigs constants (declared.Print line) = ⊤
+IsTyped sigs constants declared.Panic = ⊤
+IsTyped sigs constants declared.LeftOutType = ⊤
+IsTyped sigs constants declared.LeftOutValue = ⊤
 
 pub record IsSettled (s : Scope) : Type 0 where
-  pub all : AllByRecursion (IsTyped s.signatures) s.declared
+  pub all : AllByRecursion (IsTyped s.signatures s.constants) s.declared
 
 element : (P : Declared → Type 0) (ds : List Declared) (k : ℕ) (d : Declared) → AllByRecursion P ds → slice_get ds k ≡ Some d → P d
 element P [] k d all is = cc is
 element P (e ∷ es) zero d all is = let same1 : e ≡ d = cc is in subst P same1 all.0
 element P (e ∷ es) (suc k) d all is = element P es k d all.1 is
 
-looked_up : (P : Declared → Type 0) (ds : List Declared) (o : Option ℕ) (d : Declared) → AllByRecursion P ds → option_and_then (λ k. slice_get ds k) o ≡ Some d → P d
-looked_up P ds None d all is = cc is
-looked_up P ds (Some k) d all is = element P ds k d all is
+-- ---- the universe
 
-pub declared_typed : (s : Scope) → IsSettled s → (n : List ℕ) (d : Declared) → declaration s n ≡ Some d → IsTyped s.signatures d
-declared_typed s settled n d is = looked_up (IsTyped s.signatures) s.declared (lookup s.blocks n) d settled.all is
+-- one that is there by a test, or another one
+by_test : (P : Declared → Type 0) (b : Bool) (e : Declared) (o : Option Declared) → P e → ((d : Declared) → o ≡ Some d → P d) → (d : Declared) → cond b (Some e) o ≡ Some d → P d
+by_test P true e o here further1 d is = subst P (same_some is) here
+by_test P false e o here further1 d is = further1 d is
+
+module _ (P : Declared → Type 0) (type_is : (t : ValueType) → P (declared.«Type» t)) (truth_is : (b : Bool) → P (declared.Truth b)) (print_is : (line : Bool) → P (declared.Print line)) (panic_is : P declared.Panic) (left_type_is : P declared.LeftOutType) (left_value_is : P declared.LeftOutValue) where
+  left_out_is : (n : List ℕ) (d : Declared) → left_out n ≡ Some d → P d
+  left_out_is n = by_test P (is_type_name n) declared.LeftOutType _ left_type_is (by_test P (is_value_name n) declared.LeftOutValue None left_value_is (λ d is. absurd (none_some is)))
+
+  function_is : (n : List ℕ) (d : Declared) → predeclared_function n ≡ Some d → P d
+  function_is n =
+      by_test P (bytes_eq n (codes "println")) (declared.Print true) _ (print_is true)
+      (by_test P (bytes_eq n (codes "print")) (declared.Print false) _ (print_is false) (by_test P (bytes_eq n (codes "panic")) declared.Panic _ panic_is (left_out_is n)))
+
+  -- what the language declares is a type, a truth value, `print`, `println`, `panic`, or left out
+  pub predeclared_is : (n : List ℕ) (d : Declared) → predeclared n ≡ Some d → P d
+  unfolding predeclared
+  predeclared_is n =
+      by_test P (bytes_eq n (codes "int")) (declared.«Type» Int) _ (type_is Int)
+      (by_test P (bytes_eq n (codes "bool")) (declared.«Type» Boolean) _ (type_is Boolean)
+      (by_test P (bytes_eq n (codes "true")) (declared.Truth true) _ (truth_is true) (by_test P (bytes_eq n (codes "false")) (declared.Truth false) _ (truth_is false) (function_is n))))
+
+predeclared_typed : (sigs : List (Option Signature)) (constants : List (Option Fixed)) (n : List ℕ) (d : Declared) → predeclared n ≡ Some d → IsTyped sigs constants d
+predeclared_typed sigs constants n d is = predeclared_is (IsTyped sigs constants) (λ t. tt) (λ b. tt) (λ line. tt) tt tt tt n d is
+
+numbered_typed : (s : Scope) → IsSettled s → (n : List ℕ) (o : Option ℕ) (d : Declared) → numbered s n o ≡ Some d → IsTyped s.signatures s.constants d
+numbered_typed s settled n None d is = predeclared_typed s.signatures s.constants n d is
+numbered_typed s settled n (Some k) d is = element (IsTyped s.signatures s.constants) s.declared k d settled.all is
+
+pub declared_typed : (s : Scope) → IsSettled s → (n : List ℕ) (d : Declared) → declaration s n ≡ Some d → IsTyped s.signatures s.constants d
+declared_typed s settled n d is = numbered_typed s settled n (lookup s.blocks n) d is
 
 -- ---- constants
 
@@ -76,88 +117,77 @@ abbrev IsConstant : Result Const ConstFault → Type 0
 IsConstant (Ok const.NoConst) = ⊥
 IsConstant other = ⊤
 
-constant_decided : (at right : Pos) (r : Result Const ConstFault) → IsConstant r → Decided (constant_of r) (IsFault (constant_fault at right r))
-constant_decided at right (Ok (const.Int z)) is = λ f h. h
-constant_decided at right (Ok (const.Bool b)) is = λ f h. h
-constant_decided at right (Ok const.NoConst) is = absurd is
-constant_decided at right (Err Overflow) is = (_, refl)
-constant_decided at right (Err ZeroDivisor) is = (_, refl)
-constant_decided at right (Err NegativeShift) is = (_, refl)
-constant_decided at right (Err NotConstant) is = (_, refl)
+held_decided : (at : Pos) (t : Option ValueType) (c : Constant) → Decided (of_type t c) (IsFault (held_fault t at c))
+held_decided at t c = by (is_held t c)
+  where
+    by : (b : Bool) → Decided (allowed b (Some (constant (record { value_type = t; value = c })))) (IsFault (cond b None (Some (fault ConstRange at))))
+    by true = λ f h. h
+    by false = (_, refl)
+
+constant_decided : (t : Option ValueType) (at right : Pos) (r : Result Const ConstFault) → IsConstant r → Decided (constant_of t r) (IsFault (constant_fault t at right r))
+constant_decided t at right (Ok (const.Int z)) is = held_decided at t (Number z)
+constant_decided t at right (Ok (const.Bool b)) is = held_decided at t (Truth b)
+constant_decided t at right (Ok const.NoConst) is = absurd is
+constant_decided t at right (Err Overflow) is = (_, refl)
+constant_decided t at right (Err ZeroDivisor) is = (_, refl)
+constant_decided t at right (Err NegativeShift) is = (_, refl)
+constant_decided t at right (Err NotConstant) is = (_, refl)
 
 number_is : (r : Result ℤ ConstFault) → IsConstant (as_constant r)
 number_is (Ok z) = tt
 number_is (Err e) = tt
 
--- where a test holds there is a constant, and else no value
-abbrev FoldedIs : Bool → Result Const ConstFault → Type 0
-FoldedIs true r = IsConstant r
-FoldedIs false r = constant_of r ≡ None
-
-prefix_is : (op : UnOp) (c : Constant) → FoldedIs (takes_one op (constant_type c)) (folded_one op (const_of c))
+prefix_is : (op : UnOp) (c : Constant) → IsConstant (folded_one op (const_of c))
 prefix_is Plus (Number z) = tt
 prefix_is Negate (Number z) = number_is (in_range_or_fault (neg_ℤ z))
 prefix_is Complement (Number z) = tt
-prefix_is Not (Number z) = refl
-prefix_is Star (Number z) = refl
-prefix_is Address (Number z) = refl
-prefix_is Plus (Truth b) = refl
-prefix_is Negate (Truth b) = refl
-prefix_is Complement (Truth b) = refl
+prefix_is Not (Number z) = tt
+prefix_is Star (Number z) = tt
+prefix_is Address (Number z) = tt
+prefix_is Plus (Truth b) = tt
+prefix_is Negate (Truth b) = tt
+prefix_is Complement (Truth b) = tt
 prefix_is Not (Truth b) = tt
-prefix_is Star (Truth b) = refl
-prefix_is Address (Truth b) = refl
+prefix_is Star (Truth b) = tt
+prefix_is Address (Truth b) = tt
 
-bools_is : (op : CompareOp) (p q : Bool) → FoldedIs (takes (Compare op) Boolean Boolean) (compared_bools op p q)
+bools_is : (op : CompareOp) (p q : Bool) → IsConstant (compared_bools op p q)
 bools_is Equal p q = tt
 bools_is NotEqual p q = tt
-bools_is Less p q = refl
-bools_is LessEqual p q = refl
-bools_is Greater p q = refl
-bools_is GreaterEqual p q = refl
+bools_is Less p q = tt
+bools_is LessEqual p q = tt
+bools_is Greater p q = tt
+bools_is GreaterEqual p q = tt
 
-folded_is : (op : BinOp) (c d : Constant) → FoldedIs (takes op (constant_type c) (constant_type d)) (folded op (const_of c) (const_of d))
+folded_is : (op : BinOp) (c d : Constant) → IsConstant (folded op (const_of c) (const_of d))
 folded_is (Arithmetic op) (Number x) (Number y) = number_is (kept (exact op x y))
-folded_is (Arithmetic op) (Number x) (Truth q) = refl
-folded_is (Arithmetic op) (Truth p) (Number y) = refl
-folded_is (Arithmetic op) (Truth p) (Truth q) = refl
+folded_is (Arithmetic op) (Number x) (Truth q) = tt
+folded_is (Arithmetic op) (Truth p) (Number y) = tt
+folded_is (Arithmetic op) (Truth p) (Truth q) = tt
 folded_is (Compare op) (Number x) (Number y) = tt
-folded_is (Compare op) (Number x) (Truth q) = mixed op
-  where
-    mixed : (k : CompareOp) → FoldedIs (takes (Compare k) Int Boolean) (folded (Compare k) (const.Int x) (const.Bool q))
-    mixed Equal = refl
-    mixed NotEqual = refl
-    mixed Less = refl
-    mixed LessEqual = refl
-    mixed Greater = refl
-    mixed GreaterEqual = refl
-folded_is (Compare op) (Truth p) (Number y) = mixed op
-  where
-    mixed : (k : CompareOp) → FoldedIs (takes (Compare k) Boolean Int) (folded (Compare k) (const.Bool p) (const.Int y))
-    mixed Equal = refl
-    mixed NotEqual = refl
-    mixed Less = refl
-    mixed LessEqual = refl
-    mixed Greater = refl
-    mixed GreaterEqual = refl
+folded_is (Compare op) (Number x) (Truth q) = tt
+folded_is (Compare op) (Truth p) (Number y) = tt
 folded_is (Compare op) (Truth p) (Truth q) = bools_is op p q
-folded_is Both (Number x) (Number y) = refl
-folded_is Both (Number x) (Truth q) = refl
-folded_is Both (Truth p) (Number y) = refl
+folded_is Both (Number x) (Number y) = tt
+folded_is Both (Number x) (Truth q) = tt
+folded_is Both (Truth p) (Number y) = tt
 folded_is Both (Truth p) (Truth q) = tt
-folded_is Either (Number x) (Number y) = refl
-folded_is Either (Number x) (Truth q) = refl
-folded_is Either (Truth p) (Number y) = refl
+folded_is Either (Number x) (Number y) = tt
+folded_is Either (Number x) (Truth q) = tt
+folded_is Either (Truth p) (Number y) = tt
 folded_is Either (Truth p) (Truth q) = tt
 
--- what is taken is folded, and what isn't has the fault of the type
-constants_decided : (at right : Pos) (own : Fault) (b : Bool) (r : Result Const ConstFault) → FoldedIs b r → Decided (constant_of r) (IsFault (cond b (constant_fault at right r) (Some own)))
-constants_decided at right own true r is = constant_decided at right r is
-constants_decided at right own false r is = by (constant_of r) is
-  where
-    by : (o : Option Operand) → o ≡ None → Decided o (IsFault (Some own))
-    by None e = (own, refl)
-    by (Some x) e = cc e
+-- what a prefix doesn't take has a fault of its own
+prefix_taken : (own : Fault) (b : Bool) (o : Option Operand) (r : Option Fault) → Decided o (IsFault r) → Decided (allowed b o) (IsFault (cond b r (Some own)))
+prefix_taken own true o r d = d
+prefix_taken own false o r d = (own, refl)
+
+-- what an operator doesn't take has a fault of its own, and so has a constant that the other's type doesn't hold
+pair_taken : (own first second : Fault) (b c h : Bool) (o : Option Operand) (r : Option Fault) → Decided o (IsFault r) → Decided (allowed (b && c) o) (IsFault (cond b (cond c r (cond h (Some second) (Some first))) (Some own)))
+pair_taken own first second true true h o r d = d
+pair_taken own first second true false true o r d = (second, refl)
+pair_taken own first second true false false o r d = (first, refl)
+pair_taken own first second false c h o r d = (own, refl)
 
 -- ---- operators
 
@@ -178,7 +208,9 @@ no_prefix Address Boolean is = refl
 
 prefix_decided : (at : Pos) (op : UnOp) (x : Operand) → Decided (prefixed op x) (IsFault (prefix_fault at op (Some x)))
 prefix_decided at op (value t x) = value_prefix_decided (fault BadOperand at) (takes_one op t) (prefix_of op) t x (no_prefix op t)
-prefix_decided at op (untyped c) = constants_decided at at (fault BadOperand at) (takes_one op (constant_type c)) (folded_one op (const_of c)) (prefix_is op c)
+prefix_decided at op (constant f) =
+    prefix_taken (fault BadOperand at) (takes_one op (constant_type f.value_type f.value)) (constant_of f.value_type (folded_one op (const_of f.value))) (constant_fault f.value_type at at (folded_one op (const_of f.value)))
+    (constant_decided f.value_type at at (folded_one op (const_of f.value)) (prefix_is op f.value))
 
 -- two values, where an operator takes them
 left_decided : (at : Pos) (op : BinOp) (c : Constant) (x : Ex) → Decided (both_values at op (constant_value c) (Some x)) (IsFault (constant_range_fault at c))
@@ -209,12 +241,19 @@ where_taken own true c o r d = d
 where_taken own false c o r d = (own, refl)
 
 two_decided : (at right : Pos) (op : BinOp) (x y : Operand) → Decided (combined at op x y) (IsFault (two_fault at right op x y))
-two_decided at right op (untyped c) (untyped d) =
-    constants_decided at right (fault (unfit_kind op (constant_type c) (constant_type d)) at) (takes op (constant_type c) (constant_type d)) (folded op (const_of c) (const_of d)) (folded_is op c d)
-two_decided at right op (untyped c) (value t x) =
-    where_taken (fault (unfit_kind op (constant_type c) t) at) (takes op (constant_type c) t) true (both_values at op (constant_value c) (Some x)) (constant_range_fault at c) (left_decided at op c x)
-two_decided at right op (value t x) (untyped d) =
-    where_taken (fault (unfit_kind op t (constant_type d)) at) (takes op t (constant_type d)) (stands_right op d) (both_values at op (Some x) (constant_value d)) (right_fault at right op d)
+two_decided at right op (constant a) (constant b) =
+    let j = joint_type op a.value_type b.value_type in
+    pair_taken (fault (unfit_kind op (constant_type a.value_type a.value) (constant_type b.value_type b.value)) at) (fault ConstRange at) (fault ConstRange right)
+    (takes op (constant_type a.value_type a.value) (constant_type b.value_type b.value)) (converts op a b) (is_held b.value_type a.value) (constant_of j (worked_out op a b)) (constant_fault j at right (worked_out op a b))
+    (constant_decided j at right (worked_out op a b) (folded_is op a.value b.value))
+two_decided at right op (constant a) (value t x) =
+    let c = a.value in
+    let u = constant_type a.value_type c in
+    where_taken (fault (unfit_kind op u t) at) (takes op u t) true (both_values at op (constant_value c) (Some x)) (constant_range_fault at c) (left_decided at op c x)
+two_decided at right op (value t x) (constant b) =
+    let d = b.value in
+    let u = constant_type b.value_type d in
+    where_taken (fault (unfit_kind op t u) at) (takes op t u) (stands_right op d) (both_values at op (Some x) (constant_value d)) (right_fault at right op d)
     (right_decided (fault ConstZeroDivisor right) (fault BadOperand at) (is_division op && is_zero d) (is_shift op && is_negative d) (both_values at op (Some x) (constant_value d)) (constant_range_fault right d)
     (right_value_decided at right op x d))
 two_decided at right op (value s x) (value t y) =
@@ -232,45 +271,79 @@ pair_decided at right op (Some x) None P Q p q = (q.0, inl (inr q.1))
 pair_decided at right op (Some x) (Some y) P Q p q =
     further (λ f. P f ⊎ Q f) (IsFault (two_fault at right op x y)) (combined at op x y) (λ f h. elim h [ inl u ↦ p f u | inr u ↦ q f u ]) (two_decided at right op x y)
 
-literal_decided : (at : Pos) (n : ℕ) → Decided (cond (nat_lt n (2 ^ 127)) (Some (one (untyped (Number (pos n))))) None) (IsFault (literal_fault at n))
+literal_decided : (at : Pos) (n : ℕ) → Decided (cond (nat_lt n (2 ^ 127)) (Some (one (constant (untyped (Number (pos n)))))) None) (IsFault (literal_fault at n))
 literal_decided at n = by (nat_lt n (2 ^ 127))
   where
-    by : (b : Bool) → Decided (cond b (Some (one (untyped (Number (pos n))))) None) (IsFault (cond b None (Some (fault ConstRange at))))
+    by : (b : Bool) → Decided (cond b (Some (one (constant (untyped (Number (pos n)))))) None) (IsFault (cond b None (Some (fault ConstRange at))))
     by true = λ f h. h
     by false = (_, refl)
 
-condition_value_decided : (at : Pos) (x : Operand) → Decided (as_condition x) (IsFault (condition_fault at (Some x)))
-condition_value_decided at (untyped (Number z)) = (_, refl)
-condition_value_decided at (untyped (Truth b)) = λ f h. h
-condition_value_decided at (value Int x) = (_, refl)
-condition_value_decided at (value Boolean x) = λ f h. h
+-- a truth value that is held by its type is one
+condition_value_decided : (at : Pos) (x : Operand) → IsHeld x → Decided (as_condition x) (IsFault (condition_fault at (Some x)))
+condition_value_decided at (value Int x) held = (_, refl)
+condition_value_decided at (value Boolean x) held = λ f h. h
+condition_value_decided at (constant a) held = by (constant_type a.value_type a.value) a.value (held_type a.value_type a.value held)
+  where
+    by : (t : ValueType) (c : Constant) → t ≡ constant_type None c → Decided (allowed (same_type Boolean t) (constant_value c)) (IsFault (cond (same_type Boolean t) None (Some (fault BadOperand at))))
+    by Int c same1 = (_, refl)
+    by Boolean (Truth b) same1 = λ f h. h
+    by Boolean (Number z) same1 = cc same1
 
 -- ---- names
 
-name_decided : (sigs : List (Option Signature)) (w : Word) (d : Option Declared) (at : Pos) → ((x : Declared) → d ≡ Some x → IsTyped sigs x) → Decided (option_map one (name_operand w d)) (IsFault (name_fault w d at))
-name_decided sigs (word.Truth b) d at typed = λ f h. h
-name_decided sigs (word.Print line) d at typed = (_, refl)
-name_decided sigs word.Panic d at typed = (_, refl)
-name_decided sigs word.Blank d at typed = (_, refl)
-name_decided sigs word.Reserved d at typed = (_, refl)
-name_decided sigs word.Free None at typed = (_, refl)
-name_decided sigs word.Free (Some (Variable site t)) at typed = λ f h. h
-name_decided sigs word.Free (Some Untyped) at typed = absurd (typed Untyped refl)
-name_decided sigs word.Free (Some (Function g)) at typed = (_, refl)
-name_decided sigs word.Free (Some (External e place)) at typed = (_, refl)
-name_decided sigs word.Free (Some TypeName) at typed = (_, refl)
+constant_name_decided : (o : Option Fixed) → HasValue o → Decided (option_map one (option_map constant o)) (IsFault None)
+constant_name_decided None has = absurd has
+constant_name_decided (Some f) has = λ g h. h
 
-type_name_decided : (sigs : List (Option Signature)) (t : Option ValueType) (is_type is_value : Bool) (d : Option Declared) (at : Pos) → ((x : Declared) → d ≡ Some x → IsTyped sigs x)
-    → Decided t (IsFault (type_name_fault t is_type is_value d at))
-type_name_decided sigs (Some t) is_type is_value d at typed = λ f h. h
-type_name_decided sigs None true is_value d at typed = (_, refl)
-type_name_decided sigs None false true d at typed = (_, refl)
-type_name_decided sigs None false false None at typed = (_, refl)
-type_name_decided sigs None false false (Some (Variable site t)) at typed = (_, refl)
-type_name_decided sigs None false false (Some Untyped) at typed = (_, refl)
-type_name_decided sigs None false false (Some (Function g)) at typed = (_, refl)
-type_name_decided sigs None false false (Some (External e place)) at typed = (_, refl)
-type_name_decided sigs None false false (Some TypeName) at typed = absurd (typed TypeName refl)
+name_decided : (s : Scope) (d : Option Declared) (at : Pos) → ((x : Declared) → d ≡ Some x → IsTyped s.signatures s.constants x) → Decided (option_map one (name_operand s d)) (IsFault (name_fault d at))
+name_decided s None at typed = (_, refl)
+name_decided s (Some (declared.Variable site t)) at typed = λ f h. h
+name_decided s (Some declared.Untyped) at typed = absurd (typed declared.Untyped refl)
+name_decided s (Some (declared.Constant k)) at typed = constant_name_decided (fixed s k.0) (typed (declared.Constant k) refl)
+name_decided s (Some (declared.Function g)) at typed = (_, refl)
+name_decided s (Some (declared.External e place)) at typed = (_, refl)
+name_decided s (Some declared.TypeName) at typed = (_, refl)
+name_decided s (Some (declared.«Type» t)) at typed = (_, refl)
+name_decided s (Some (declared.Truth b)) at typed = λ f h. h
+name_decided s (Some (declared.Print line)) at typed = (_, refl)
+name_decided s (Some declared.Panic) at typed = (_, refl)
+name_decided s (Some declared.LeftOutType) at typed = (_, refl)
+name_decided s (Some declared.LeftOutValue) at typed = (_, refl)
+
+type_name_decided : (s : Scope) (d : Option Declared) (at : Pos) → ((x : Declared) → d ≡ Some x → IsTyped s.signatures s.constants x) → Decided (declared_type d) (IsFault (type_name_fault d at))
+type_name_decided s None at typed = (_, refl)
+type_name_decided s (Some (declared.Variable site t)) at typed = (_, refl)
+type_name_decided s (Some declared.Untyped) at typed = (_, refl)
+type_name_decided s (Some (declared.Constant k)) at typed = (_, refl)
+type_name_decided s (Some (declared.Function g)) at typed = (_, refl)
+type_name_decided s (Some (declared.External e place)) at typed = (_, refl)
+type_name_decided s (Some declared.TypeName) at typed = absurd (typed declared.TypeName refl)
+type_name_decided s (Some (declared.«Type» t)) at typed = λ f h. h
+type_name_decided s (Some (declared.Truth b)) at typed = (_, refl)
+type_name_decided s (Some (declared.Print line)) at typed = (_, refl)
+type_name_decided s (Some declared.Panic) at typed = (_, refl)
+type_name_decided s (Some declared.LeftOutType) at typed = (_, refl)
+type_name_decided s (Some declared.LeftOutValue) at typed = (_, refl)
+
+-- a constant that a name stands for is held by its type
+fixed_held : (o : Option Fixed) (x : Operand) → HasValue o → option_map constant o ≡ Some x → IsHeld x
+fixed_held None x has is = absurd has
+fixed_held (Some f) x has is = subst IsHeld (same_some is) has
+
+name_held : (s : Scope) (d : Option Declared) (x : Operand) → ((y : Declared) → d ≡ Some y → IsTyped s.signatures s.constants y) → name_operand s d ≡ Some x → IsHeld x
+name_held s None x typed is = absurd (none_some is)
+name_held s (Some (declared.Variable site t)) x typed is = subst IsHeld (same_some is) tt
+name_held s (Some declared.Untyped) x typed is = absurd (none_some is)
+name_held s (Some (declared.Constant k)) x typed is = fixed_held (fixed s k.0) x (typed (declared.Constant k) refl) is
+name_held s (Some (declared.Function g)) x typed is = absurd (none_some is)
+name_held s (Some (declared.External e place)) x typed is = absurd (none_some is)
+name_held s (Some declared.TypeName) x typed is = absurd (none_some is)
+name_held s (Some (declared.«Type» t)) x typed is = absurd (none_some is)
+name_held s (Some (declared.Truth b)) x typed is = subst IsHeld (same_some is) refl
+name_held s (Some (declared.Print line)) x typed is = absurd (none_some is)
+name_held s (Some declared.Panic) x typed is = absurd (none_some is)
+name_held s (Some declared.LeftOutType) x typed is = absurd (none_some is)
+name_held s (Some declared.LeftOutValue) x typed is = absurd (none_some is)
 
 -- ---- calls
 
@@ -282,6 +355,7 @@ CalleeIs panicker C = (f : Fault) → C f → ⊥
 CalleeIs reader C = (f : Fault) → C f → ⊥
 CalleeIs exiter C = (f : Fault) → C f → ⊥
 CalleeIs (function g ps ts) C = (f : Fault) → C f → ⊥
+CalleeIs conversion C = Unit {0}
 CalleeIs no_function C = (f : Fault) → C f → ⊥
 CalleeIs no_spread C = (f : Fault) → C f → ⊥
 CalleeIs no_text_spread C = (f : Fault) → C f → ⊥
@@ -294,14 +368,25 @@ callee_function_is : (f : ℕ) (sig : Option Signature) (C : Fault → Type 0) �
 callee_function_is f None C has none = absurd has
 callee_function_is f (Some sig) C has none = none
 
-callee_declared_is : (s : Scope) (d : Option Declared) (at : Pos) → ((x : Declared) → d ≡ Some x → IsTyped s.signatures x) → CalleeIs (callee_declared s d) (IsFault (callee_declared_fault d at))
+callee_constant_is : (o : Option Fixed) (C : Fault → Type 0) → HasValue o → ((g : Fault) → C g → ⊥) → CalleeIs (callee_value (option_map constant o)) C
+callee_constant_is None C has none = absurd has
+callee_constant_is (Some f) C has none = none
+
+callee_declared_is : (s : Scope) (d : Option Declared) (at : Pos) → ((x : Declared) → d ≡ Some x → IsTyped s.signatures s.constants x) → CalleeIs (callee_declared s d) (IsFault (callee_name_fault d at))
 callee_declared_is s None at typed = (_, refl)
-callee_declared_is s (Some (Variable site t)) at typed = λ f h. h
-callee_declared_is s (Some Untyped) at typed = absurd (typed Untyped refl)
-callee_declared_is s (Some (Function g)) at typed = callee_function_is g.0 (signature s g.0) (IsFault (callee_declared_fault (Some (Function g)) at)) (typed (Function g) refl) (λ f h. h)
-callee_declared_is s (Some (External ReadInt place)) at typed = λ f h. h
-callee_declared_is s (Some (External Exit place)) at typed = λ f h. h
-callee_declared_is s (Some TypeName) at typed = (_, refl)
+callee_declared_is s (Some (declared.Variable site t)) at typed = λ f h. h
+callee_declared_is s (Some declared.Untyped) at typed = absurd (typed declared.Untyped refl)
+callee_declared_is s (Some (declared.Constant k)) at typed = callee_constant_is (fixed s k.0) (IsFault (callee_name_fault (Some (declared.Constant k)) at)) (typed (declared.Constant k) refl) (λ f h. h)
+callee_declared_is s (Some (declared.Function g)) at typed = callee_function_is g.0 (signature s g.0) (IsFault (callee_name_fault (Some (declared.Function g)) at)) (typed (declared.Function g) refl) (λ f h. h)
+callee_declared_is s (Some (declared.External ReadInt place)) at typed = λ f h. h
+callee_declared_is s (Some (declared.External Exit place)) at typed = λ f h. h
+callee_declared_is s (Some declared.TypeName) at typed = tt
+callee_declared_is s (Some (declared.«Type» t)) at typed = tt
+callee_declared_is s (Some (declared.Truth b)) at typed = λ f h. h
+callee_declared_is s (Some (declared.Print line)) at typed = λ f h. h
+callee_declared_is s (Some declared.Panic) at typed = λ f h. h
+callee_declared_is s (Some declared.LeftOutType) at typed = tt
+callee_declared_is s (Some declared.LeftOutValue) at typed = (_, refl)
 
 spread_is : (spread : Bool) (k : Callee) (C : Fault → Type 0) → CalleeIs k C → CalleeIs (spread_over spread k) C
 spread_is false k C is = is
@@ -310,18 +395,11 @@ spread_is true panicker C is = is
 spread_is true reader C is = is
 spread_is true exiter C is = is
 spread_is true (function f ps ts) C is = is
+spread_is true conversion C is = is
 spread_is true no_function C is = is
 spread_is true no_spread C is = is
 spread_is true no_text_spread C is = is
 spread_is true nothing C is = is
-
-callee_named_is : (s : Scope) (w : Word) (d : Option Declared) (at : Pos) → ((x : Declared) → d ≡ Some x → IsTyped s.signatures x) → CalleeIs (callee_named s w d) (IsFault (callee_name_fault w d at))
-callee_named_is s (word.Truth b) d at typed = λ f h. h
-callee_named_is s (word.Print line) d at typed = λ f h. h
-callee_named_is s word.Panic d at typed = λ f h. h
-callee_named_is s word.Blank d at typed = (_, refl)
-callee_named_is s word.Reserved d at typed = (_, refl)
-callee_named_is s word.Free d at typed = callee_declared_is s d at typed
 
 with_callee : {A : Type 0} (C E K : Fault → Type 0) (o : Option A) → ((f : Fault) → C f → ⊥) → Decided o (λ f. E f ⊎ K f) → Decided o (λ f. (C f ⊎ E f) ⊎ K f)
 with_callee C E K o none d = same (λ f. E f ⊎ K f) (λ f. (C f ⊎ E f) ⊎ K f) o (λ f h. elim h [ inl e ↦ inl (inr e) | inr k ↦ inr k ]) back d
@@ -344,6 +422,7 @@ call_decided at exiter os C E c e = with_callee C E (CallFails at exiter os) (ca
 call_decided at (function g ps ts) os C E c e =
     with_callee C E (CallFails at (function g ps ts) os) (called_with at (function g ps ts) os) c
     (mapped _ (taken ps os) (λ f. E f ⊎ CallFails at (function g ps ts) os f) (take_decided os E e _ ps))
+call_decided at conversion os C E c e = (fault OutOfProfile at, inr refl)
 call_decided at no_function os C E c e = let u = refused os E e (fault NotCallable at) in (u.0, refused_call C E (CallFails at no_function os) u.0 u.1)
 call_decided at no_spread os C E c e = let u = refused os E e (fault BadOperand at) in (u.0, refused_call C E (CallFails at no_spread os) u.0 u.1)
 call_decided at no_text_spread os C E c e = let u = parts_refused os E e (fault BadOperand at) in (u.0, refused_call C E (CallFails at no_text_spread os) u.0 u.1)
@@ -352,7 +431,7 @@ call_decided at nothing os C E c e = (c.0, inl (inl c.1))
 module _ (text : List ℕ) (s : Scope) (settled : IsSettled s) where
   callee_is : (o : Option Name) (g : Option Gives) (P : Fault → Type 0) → Decided g P → CalleeIs (callee text s o g) (CalleeFails text s o P g)
   callee_is None g P d = callee_value_is (operand_in g) (λ f. P f ⊎ IsFault (single_fault g) f) (operand_decided g P d)
-  callee_is (Some n) g P d = callee_named_is s (word_of (spelled text n)) (declaration s (spelled text n)) n.pos (λ x is. declared_typed s settled (spelled text n) x is)
+  callee_is (Some n) g P d = callee_declared_is s (declaration s (spelled text n)) n.pos (λ x is. declared_typed s settled (spelled text n) x is)
 
   unary_decided : (at : Pos) (op : UnOp) (e : TreeEx) (taken1 : Bool) → Decided (operand_in (gives text s e)) (FailsAsOperand text s e)
       → Decided (prefix_gives op taken1 (operand_in (gives text s e))) (WhereTaken taken1 (λ g. FailsAsOperand text s e g ⊎ IsFault (prefix_fault at op (operand_in (gives text s e))) g) (λ g. FormFails at g))
@@ -365,7 +444,7 @@ module _ (text : List ℕ) (s : Scope) (settled : IsSettled s) where
     -- an expression gives something, or a rule fails in it
     pub gives_decided : (e : TreeEx) → Decided (gives text s e) (Fails text s e)
     gives_decided (number at n) = literal_decided at n
-    gives_decided (name n) = name_decided s.signatures (word_of (spelled text n)) (declaration s (spelled text n)) n.pos (λ x is. declared_typed s settled (spelled text n) x is)
+    gives_decided (name n) = name_decided s (declaration s (spelled text n)) n.pos (λ x is. declared_typed s settled (spelled text n) x is)
     gives_decided (unary at op e) = unary_decided at op e (has_rules op) (operand_decided (gives text s e) (Fails text s e) (gives_decided e))
     gives_decided (binary at op a b) =
         mapped one (both (combined (first_place a) op) (operand_in (gives text s a)) (operand_in (gives text s b))) (λ g. Fails text s (binary at op a b) g)
@@ -389,14 +468,21 @@ module _ (text : List ℕ) (s : Scope) (settled : IsSettled s) where
     seen_decided (some e es) = after (gives text s e) (λ x. given_all (seen text s es)) (Fails text s e) (FailsInEach text s es) (gives_decided e) (λ x is. seen_decided es)
 
   -- an expression is a type, or a rule of types fails in it
-  pub type_decided : (e : TreeEx) → Decided (type_in text e) (FailsAsType text s e)
-  type_decided (name n) = type_name_decided s.signatures (named_type (spelled text n)) (is_type_name (spelled text n)) (is_value_name (spelled text n)) (declaration s (spelled text n)) n.pos (λ x is. declared_typed s settled (spelled text n) x is)
+  pub type_decided : (e : TreeEx) → Decided (type_in text s e) (FailsAsType text s e)
+  type_decided (name n) = type_name_decided s (declaration s (spelled text n)) n.pos (λ x is. declared_typed s settled (spelled text n) x is)
   type_decided (paren at e) = type_decided e
   type_decided e = (fault OutOfProfile (first_place e), refl)
 
+  -- a constant that an expression gives is held by its type
+  pub gives_held : (e : TreeEx) (x : Operand) → operand_in (gives text s e) ≡ Some x → IsHeld x
+  gives_held e x is = operand_held text s (λ n y named. name_held s (declaration s n) y (λ d found. declared_typed s settled n d found) named) e x is
+
   pub condition_decided : (at : Pos) (e : TreeEx) → Decided (condition text s e) (FailsInCondition text s at e)
-  condition_decided at e =
-      one_decided as_condition (condition_fault at) (operand_in (gives text s e)) (FailsAsOperand text s e) (operand_decided (gives text s e) (Fails text s e) (gives_decided e)) (condition_value_decided at)
+  condition_decided at e = by (operand_in (gives text s e)) (gives_held e) (operand_decided (gives text s e) (Fails text s e) (gives_decided e))
+    where
+      by : (o : Option Operand) → ((x : Operand) → o ≡ Some x → IsHeld x) → Decided o (FailsAsOperand text s e) → Decided (option_and_then as_condition o) (λ f. FailsAsOperand text s e f ⊎ IsFault (condition_fault at o) f)
+      by None held d = (d.0, inl d.1)
+      by (Some x) held d = further (FailsAsOperand text s e) (IsFault (condition_fault at (Some x))) (as_condition x) d (condition_value_decided at x (held x refl))
 
   pub test_decided : (at : Pos) (o : Option TreeEx) → Decided (test text s o) (FailsInTest text s at o)
   test_decided at None = λ f h. h

@@ -13,23 +13,22 @@ use Rattle.syntax.specs.FirstBytes.{first_place}
 use Rattle.syntax.specs.Expressions.{Ex as TreeEx, Exs as TreeExs, number, string, name, unary, binary, paren, call, selector, index, slice, array_type, slice_type, literal, elements, some, spelled}
 use Rattle.syntax.specs.Expressions as tree
 use Rattle.names.specs.declared.constants.Const.{Const}
+use Rattle.names.specs.declared.constants.Const.TheVariants as const
 use Rattle.names.specs.declared.constants.ConstFault.{ConstFault}
 use Rattle.names.specs.declared.constants.ConstFault.TheVariants.{Overflow, ZeroDivisor, NegativeShift, NotConstant}
-use Rattle.names.specs.Constants.{folded, folded_one}
+use Rattle.names.specs.Constants.{folded_one}
 use Rattle.expression_types.specs.declared.fault.Fault.{Fault}
 use Rattle.expression_types.specs.declared.fault.FaultKind.{FaultKind}
 use Rattle.expression_types.specs.declared.fault.FaultKind.TheVariants.{Unknown, Mismatch, NotCallable, ArgCount, ResultCount, ConstRange, BadOperand, OutOfProfile, ConstZeroDivisor}
-use Rattle.expression_types.specs.declared.operand.Constant.{Constant}
-use Rattle.expression_types.specs.declared.operand.Constant.TheVariants.{Number, Truth}
-use Rattle.expression_types.specs.declared.profile.Word.{Word}
-use Rattle.expression_types.specs.declared.profile.Word.TheVariants as word
+use Rattle.expression_types.specs.declared.constant.Constant.{Constant}
+use Rattle.expression_types.specs.declared.constant.Constant.TheVariants.{Number, Truth}
+use Rattle.expression_types.specs.declared.constant.Fixed.{Fixed}
 use Rattle.expression_types.specs.declared.scope.Declared.{Declared}
-use Rattle.expression_types.specs.declared.scope.Declared.TheVariants.{Variable, Untyped, Function, External, TypeName}
+use Rattle.expression_types.specs.declared.scope.Declared.TheVariants as declared
 use Rattle.expression_types.specs.declared.scope.ValueType.{ValueType}
 use Rattle.expression_types.specs.declared.scope.ValueType.TheVariants.{Bool as Boolean}
-use Rattle.expression_types.specs.Profile.{named_type, is_type_name, is_value_name, word_of}
 use Rattle.expression_types.specs.Scope.{Scope, declaration}
-use Rattle.expression_types.specs.Typing.{Operand, untyped, value, Gives, one, called, asking, quoted, printed, panicked, exited, same_type, type_of, is_int, const_of, has_rules, takes_one, takes, is_division, is_shift, is_zero, is_negative, operand_in, Seen, Many, many, count, part_count, types_agree, operand_agrees, Callee, printer, panicker, reader, exiter, function, no_function, no_spread, no_text_spread, nothing, exit_places, spread_over, name_in, callee, gives, seen}
+use Rattle.expression_types.specs.Typing.{Operand, constant, value, Gives, one, called, asking, quoted, printed, panicked, exited, same_type, type_of, is_int, const_of, is_held, joint_type, converts, worked_out, has_rules, takes_one, takes, is_division, is_shift, is_zero, is_negative, operand_in, Seen, Many, many, count, part_count, types_agree, operand_agrees, Callee, printer, panicker, reader, exiter, function, conversion, no_function, no_spread, no_text_spread, nothing, exit_places, spread_over, name_in, callee, gives, seen}
 
 abbrev pub fault : FaultKind → Pos → Fault
 fault kind at = record { kind = kind; pos = at }
@@ -51,55 +50,35 @@ WhereTaken false taken left_out f = left_out f
 -- ---- names
 
 -- a function or a type is no value
-abbrev pub declared_fault : Option Declared → Pos → Option Fault
-declared_fault None at = Some (fault Unknown at)
-declared_fault (Some (Variable site t)) at = None
-declared_fault (Some Untyped) at = None
-declared_fault (Some (Function g)) at = Some (fault OutOfProfile at)
-declared_fault (Some (External e place)) at = Some (fault OutOfProfile at)
-declared_fault (Some TypeName) at = Some (fault BadOperand at)
-
--- a name as a value: a truth value, or one that is declared and not the language's own; the blank name has none
-abbrev pub name_fault : Word → Option Declared → Pos → Option Fault
-name_fault (word.Truth b) d at = None
-name_fault (word.Print line) d at = Some (fault OutOfProfile at)
-name_fault word.Panic d at = Some (fault OutOfProfile at)
-name_fault word.Blank d at = Some (fault Unknown at)
-name_fault word.Reserved d at = Some (fault OutOfProfile at)
-name_fault word.Free d at = declared_fault d at
-
-abbrev pub callee_declared_fault : Option Declared → Pos → Option Fault
-callee_declared_fault None at = Some (fault Unknown at)
-callee_declared_fault (Some (Variable site t)) at = None
-callee_declared_fault (Some Untyped) at = None
-callee_declared_fault (Some (Function g)) at = None
-callee_declared_fault (Some (External e place)) at = None
-callee_declared_fault (Some TypeName) at = Some (fault BadOperand at)
+abbrev pub name_fault : Option Declared → Pos → Option Fault
+name_fault None at = Some (fault Unknown at)
+name_fault (Some (declared.Variable site t)) at = None
+name_fault (Some declared.Untyped) at = None
+name_fault (Some (declared.Constant k)) at = None
+name_fault (Some (declared.Function g)) at = Some (fault OutOfProfile at)
+name_fault (Some (declared.External e place)) at = Some (fault OutOfProfile at)
+name_fault (Some declared.TypeName) at = Some (fault BadOperand at)
+name_fault (Some (declared.«Type» t)) at = Some (fault BadOperand at)
+name_fault (Some (declared.Truth b)) at = None
+name_fault (Some (declared.Print line)) at = Some (fault BadOperand at)
+name_fault (Some declared.Panic) at = Some (fault BadOperand at)
+name_fault (Some declared.LeftOutType) at = Some (fault OutOfProfile at)
+name_fault (Some declared.LeftOutValue) at = Some (fault OutOfProfile at)
 
 -- the name of what is called
-abbrev pub callee_name_fault : Word → Option Declared → Pos → Option Fault
-callee_name_fault (word.Truth b) d at = None
-callee_name_fault (word.Print line) d at = None
-callee_name_fault word.Panic d at = None
-callee_name_fault word.Blank d at = Some (fault Unknown at)
-callee_name_fault word.Reserved d at = Some (fault OutOfProfile at)
-callee_name_fault word.Free d at = callee_declared_fault d at
+abbrev pub callee_name_fault : Option Declared → Pos → Option Fault
+callee_name_fault None at = Some (fault Unknown at)
+callee_name_fault (Some declared.LeftOutType) at = Some (fault OutOfProfile at)
+callee_name_fault (Some declared.LeftOutValue) at = Some (fault OutOfProfile at)
+callee_name_fault (Some other) at = None
 
--- the name of what may be a type of the program
-abbrev pub declared_type_fault : Option Declared → Pos → Option Fault
-declared_type_fault None at = Some (fault Unknown at)
-declared_type_fault (Some (Variable site t)) at = Some (fault BadOperand at)
-declared_type_fault (Some Untyped) at = Some (fault BadOperand at)
-declared_type_fault (Some (Function g)) at = Some (fault BadOperand at)
-declared_type_fault (Some (External e place)) at = Some (fault BadOperand at)
-declared_type_fault (Some TypeName) at = None
-
--- the name of a type: `int` or `bool`; another type of the language; what is no type; what is declared
-abbrev pub type_name_fault : Option ValueType → (is_type is_value : Bool) → Option Declared → Pos → Option Fault
-type_name_fault (Some t) is_type is_value d at = None
-type_name_fault None true is_value d at = Some (fault OutOfProfile at)
-type_name_fault None false true d at = Some (fault BadOperand at)
-type_name_fault None false false d at = declared_type_fault d at
+-- the name of a type: another type of the language, or what is no type
+abbrev pub type_name_fault : Option Declared → Pos → Option Fault
+type_name_fault None at = Some (fault Unknown at)
+type_name_fault (Some declared.TypeName) at = None
+type_name_fault (Some (declared.«Type» t)) at = None
+type_name_fault (Some declared.LeftOutType) at = Some (fault OutOfProfile at)
+type_name_fault (Some other) at = Some (fault BadOperand at)
 
 -- ---- one value
 
@@ -131,7 +110,7 @@ constant_range_fault at (Truth b) = None
 
 abbrev pub range_fault : Pos → Option Operand → Option Fault
 range_fault at None = None
-range_fault at (Some (untyped c)) = constant_range_fault at c
+range_fault at (Some (constant f)) = constant_range_fault at f.value
 range_fault at (Some (value t x)) = None
 
 -- a literal that leaves 128 bits
@@ -145,17 +124,23 @@ condition_fault at (Some x) = if same_type Boolean (type_of x) then None else So
 
 -- ---- operators
 
--- a constant expression has no value: the divisor is the operand on the right
-abbrev pub constant_fault : Pos → Pos → Result Const ConstFault → Option Fault
-constant_fault at right (Ok c) = None
-constant_fault at right (Err Overflow) = Some (fault ConstRange at)
-constant_fault at right (Err ZeroDivisor) = Some (fault ConstZeroDivisor right)
-constant_fault at right (Err NegativeShift) = Some (fault BadOperand at)
-constant_fault at right (Err NotConstant) = Some (fault BadOperand at)
+-- a type doesn't hold a constant
+abbrev pub held_fault : Option ValueType → Pos → Constant → Option Fault
+held_fault t at c = if is_held t c then None else Some (fault ConstRange at)
+
+-- a constant expression has no value, or none of its type: the divisor is the operand on the right
+abbrev pub constant_fault : Option ValueType → Pos → Pos → Result Const ConstFault → Option Fault
+constant_fault t at right (Ok (const.Int z)) = held_fault t at (Number z)
+constant_fault t at right (Ok (const.Bool b)) = held_fault t at (Truth b)
+constant_fault t at right (Ok const.NoConst) = None
+constant_fault t at right (Err Overflow) = Some (fault ConstRange at)
+constant_fault t at right (Err ZeroDivisor) = Some (fault ConstZeroDivisor right)
+constant_fault t at right (Err NegativeShift) = Some (fault BadOperand at)
+constant_fault t at right (Err NotConstant) = Some (fault BadOperand at)
 
 -- a prefix on an operand of a type that it takes
 abbrev pub fitting_prefix_fault : Pos → UnOp → Operand → Option Fault
-fitting_prefix_fault at op (untyped c) = constant_fault at at (folded_one op (const_of c))
+fitting_prefix_fault at op (constant f) = constant_fault f.value_type at at (folded_one op (const_of f.value))
 fitting_prefix_fault at op (value t x) = None
 
 abbrev pub prefix_fault : Pos → UnOp → Option Operand → Option Fault
@@ -172,11 +157,19 @@ right_fault at right op c =
     if is_division op && is_zero c then Some (fault ConstZeroDivisor right)
     else (if is_shift op && is_negative c then Some (fault BadOperand at) else constant_range_fault right c)
 
+-- the one of two constants that the type of the other doesn't hold
+abbrev pub conversion_fault : Pos → Pos → Fixed → Fixed → Option Fault
+conversion_fault at right a b = if is_held b.value_type a.value then Some (fault ConstRange right) else Some (fault ConstRange at)
+
+abbrev pub constants_fault : Pos → Pos → BinOp → Fixed → Fixed → Option Fault
+constants_fault at right op a b =
+    if converts op a b then constant_fault (joint_type op a.value_type b.value_type) at right (worked_out op a b) else conversion_fault at right a b
+
 -- two operands of types that an operator takes
 abbrev pub fitting_fault : Pos → Pos → BinOp → Operand → Operand → Option Fault
-fitting_fault at right op (untyped c) (untyped d) = constant_fault at right (folded op (const_of c) (const_of d))
-fitting_fault at right op (untyped c) (value t x) = constant_range_fault at c
-fitting_fault at right op (value t x) (untyped d) = right_fault at right op d
+fitting_fault at right op (constant a) (constant b) = constants_fault at right op a b
+fitting_fault at right op (constant a) (value t x) = constant_range_fault at a.value
+fitting_fault at right op (value t x) (constant b) = right_fault at right op b.value
 fitting_fault at right op (value s x) (value t y) = None
 
 abbrev pub two_fault : Pos → Pos → BinOp → Operand → Operand → Option Fault
@@ -257,6 +250,7 @@ CallFails at panicker os f = (PartsFail os f ⊎ RangeFails os f) ⊎ CountFails
 CallFails at reader os f = TakeFails (fault ArgCount at) [] os f
 CallFails at exiter os f = TakeFails (fault ArgCount at) exit_places os f
 CallFails at (function g ps ts) os f = TakeFails (fault ArgCount at) ps os f
+CallFails at conversion os f = FormFails at f
 CallFails at no_function os f = ValuesFail (many os) os f ⊎ IsFault (refused_fault (count os) (fault NotCallable at)) f
 CallFails at no_spread os f = ValuesFail (many os) os f ⊎ IsFault (refused_fault (count os) (fault BadOperand at)) f
 CallFails at no_text_spread os f = PartsFail os f ⊎ IsFault (refused_fault (part_count os) (fault BadOperand at)) f
@@ -265,12 +259,12 @@ CallFails at nothing os f = ValuesFail (many os) os f
 module _ (text : List ℕ) where
   -- what is called is a name, or an expression with one value, in which this fails and which gives this
   abbrev pub CalleeFails : Scope → Option Name → (Fault → Type 0) → Option Gives → Fault → Type 0
-  CalleeFails s (Some n) P o f = IsFault (callee_name_fault (word_of (spelled text n)) (declaration s (spelled text n)) n.pos) f
+  CalleeFails s (Some n) P o f = IsFault (callee_name_fault (declaration s (spelled text n)) n.pos) f
   CalleeFails s None P o f = P f ⊎ IsFault (single_fault o) f
 
   -- a rule of a type: the name of one, in parentheses or not; all others are left out
   abbrev pub FailsAsType : Scope → TreeEx → Fault → Type 0
-  FailsAsType s (name n) f = IsFault (type_name_fault (named_type (spelled text n)) (is_type_name (spelled text n)) (is_value_name (spelled text n)) (declaration s (spelled text n)) n.pos) f
+  FailsAsType s (name n) f = IsFault (type_name_fault (declaration s (spelled text n)) n.pos) f
   FailsAsType s (paren at e) f = FailsAsType s e f
   FailsAsType s other f = FormFails (first_place other) f
 
@@ -279,7 +273,7 @@ module _ (text : List ℕ) where
     pub Fails : Scope → TreeEx → Fault → Type 0
     Fails s (number at n) f = IsFault (literal_fault at n) f
     Fails s (string at behind) f = ⊥
-    Fails s (name n) f = IsFault (name_fault (word_of (spelled text n)) (declaration s (spelled text n)) n.pos) f
+    Fails s (name n) f = IsFault (name_fault (declaration s (spelled text n)) n.pos) f
     Fails s (unary at op e) f =
         WhereTaken (has_rules op) (λ g. (Fails s e g ⊎ IsFault (single_fault (gives text s e)) g) ⊎ IsFault (prefix_fault at op (operand_in (gives text s e))) g) (λ g. FormFails at g) f
     Fails s (binary at op a b) f =

@@ -17,6 +17,7 @@ kind_number kind.NotUsedValue = 10
 kind_number kind.MissingReturn = 11
 kind_number kind.ConstRange = 12
 kind_number kind.BadOperand = 14
+kind_number kind.RecursiveType = 15
 kind_number kind.BreakOutside = 17
 kind_number kind.NoMain = 18
 kind_number kind.BadExternal = 19

@@ -1,5 +1,5 @@
 pub mod Least
-pub mod Profile
+pub mod Universe
 pub mod Scope
 pub mod Typing
 pub mod Faults

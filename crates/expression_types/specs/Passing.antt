@@ -3,20 +3,20 @@ use Rattle.std.specs.Prelude.{ℕ, ◌^◌, pos, List, [], ◌∷◌, ◌++◌, 
 use Rattle.std.specs.Option.{option_map}
 use Rattle.typed.specs.Syntax.{Exs}
 use Rattle.typed.specs.View.{ex_of, exs_of_values}
-use Rattle.expression_types.specs.declared.operand.Constant.TheVariants.{Number}
+use Rattle.expression_types.specs.declared.constant.Constant.TheVariants.{Number}
 use Rattle.expression_types.specs.declared.operand.Operand.{Operand as OperandData}
-use Rattle.expression_types.specs.declared.operand.Operand.TheVariants.{Untyped, Value}
+use Rattle.expression_types.specs.declared.operand.Operand.TheVariants.{Constant, Value}
 use Rattle.expression_types.specs.declared.operand.Gives.{Gives as GivesData}
 use Rattle.expression_types.specs.declared.operand.Part.{Part as PartData}
 use Rattle.expression_types.specs.declared.operand.Part.TheVariants.{Said, Valued}
 use Rattle.expression_types.specs.declared.operand.Gives.TheVariants.{One, Called, Asking, Quoted, Printed, Panicked, Exited}
 use Rattle.expression_types.specs.declared.operand.Item.{Item}
 use Rattle.expression_types.specs.declared.operand.Callee.{Callee as CalleeData}
-use Rattle.expression_types.specs.declared.operand.Callee.TheVariants.{Printer, Panicker, Reader, Exiter, Function, NoFunction, NoSpread, NoTextSpread, Nothing}
-use Rattle.expression_types.specs.Typing.{Operand, untyped, value, Part, said, valued, Gives, one, called, asking, quoted, printed, panicked, exited, Seen, Many, Callee, printer, panicker, reader, exiter, function, no_function, no_spread, no_text_spread, nothing}
+use Rattle.expression_types.specs.declared.operand.Callee.TheVariants.{Printer, Panicker, Reader, Exiter, Function, Conversion, NoFunction, NoSpread, NoTextSpread, Nothing}
+use Rattle.expression_types.specs.Typing.{Operand, constant, untyped, value, Part, said, valued, Gives, one, called, asking, quoted, printed, panicked, exited, Seen, Many, Callee, printer, panicker, reader, exiter, function, conversion, no_function, no_spread, no_text_spread, nothing}
 
 abbrev pub operand_of : OperandData → Operand
-operand_of (Untyped c) = untyped c
+operand_of (Constant f) = constant f
 operand_of (Value t e) = value t (ex_of e)
 
 abbrev pub part_view : PartData → Part
@@ -44,6 +44,7 @@ callee_of Panicker = panicker
 callee_of Reader = reader
 callee_of Exiter = exiter
 callee_of (Function f ps ts) = function f.0 ps.items ts.items
+callee_of Conversion = conversion
 callee_of NoFunction = no_function
 callee_of NoSpread = no_spread
 callee_of NoTextSpread = no_text_spread
@@ -54,7 +55,7 @@ abbrev pub results_of : Many → Exs
 results_of m = m.values
 
 abbrev pub literal_operand : ℕ → Option Gives
-literal_operand n = if nat_lt n (2 ^ 127) then Some (one (untyped (Number (pos n)))) else None
+literal_operand n = if nat_lt n (2 ^ 127) then Some (one (constant (untyped (Number (pos n))))) else None
 
 -- one more, where all are some
 abbrev pub with_last : {A : Type 0} → Option (List A) → Option A → Option (List A)

@@ -1,5 +1,5 @@
 -- What the rules of the language give expressions (Go specification, "Constant expressions", "Operators", "Calls", "Bootstrapping").
-use Rattle.std.specs.Prelude.{ℕ, length, ◌-◌, ◌^◌, ◌==◌, ℤ, pos, negsuc, Bool, true, false, not, ◌&&◌, List, [], ◌∷◌, map, Option, Some, None, Result, Ok, Err, is_some, option_and_then, take, drop, nat_lt, nat_le, int_le, int_lt, if◌then◌else◌}
+use Rattle.std.specs.Prelude.{ℕ, length, ◌-◌, ◌^◌, ◌==◌, ℤ, pos, negsuc, Bool, true, false, not, ◌&&◌, ◌||◌, List, [], ◌∷◌, map, Option, Some, None, Result, Ok, Err, is_some, option_and_then, take, drop, nat_lt, nat_le, int_le, int_lt, if◌then◌else◌}
 use Rattle.std.specs.Option.{option_map}
 use Rattle.base.specs.declared.pos.Pos.{Pos}
 use Rattle.syntax.specs.declared.operator.ArithmeticOp.{ArithmeticOp}
@@ -20,31 +20,28 @@ use Rattle.typed.specs.declared.operators.BinOp.TheVariants as op
 use Rattle.typed.specs.declared.operators.UnOp.{UnOp as TypedPrefix}
 use Rattle.typed.specs.declared.operators.UnOp.TheVariants as prefix
 use Rattle.typed.specs.Value.{int, bool}
-use Rattle.typed.specs.Syntax.{Ex, Exs, constant, read, local, here, none, more, results, asked as items}
+use Rattle.typed.specs.Syntax.{Ex, Exs, read, local, here, none, more, results, asked as items}
 use Rattle.typed.specs.Syntax as typed
 use Rattle.names.specs.declared.constants.Const.{Const}
 use Rattle.names.specs.declared.constants.Const.TheVariants as const
 use Rattle.names.specs.declared.constants.ConstFault.{ConstFault}
 use Rattle.names.specs.Constants.{folded, folded_one}
 use Rattle.string_value.specs.StringValue.{string_value}
-use Rattle.expression_types.specs.declared.operand.Constant.{Constant}
-use Rattle.expression_types.specs.declared.operand.Constant.TheVariants.{Number, Truth}
-use Rattle.expression_types.specs.declared.profile.Word.{Word}
-use Rattle.expression_types.specs.declared.profile.Word.TheVariants as word
+use Rattle.expression_types.specs.declared.constant.Constant.{Constant}
+use Rattle.expression_types.specs.declared.constant.Constant.TheVariants.{Number, Truth}
+use Rattle.expression_types.specs.declared.constant.Fixed.{Fixed}
 use Rattle.expression_types.specs.declared.scope.Declared.{Declared}
-use Rattle.expression_types.specs.declared.scope.Declared.TheVariants.{Variable, Untyped, Function, External, TypeName}
+use Rattle.expression_types.specs.declared.scope.Declared.TheVariants as declared
 use Rattle.expression_types.specs.declared.scope.External.{External as ExternalFunction}
 use Rattle.expression_types.specs.declared.scope.External.TheVariants as external
 use Rattle.expression_types.specs.declared.scope.ValueType.{ValueType}
 use Rattle.expression_types.specs.declared.scope.ValueType.TheVariants.{Int, Bool as Boolean}
-use Rattle.expression_types.specs.Profile.{named_type, word_of}
 pub use Rattle.expression_types.specs.Scope.{type_number}
-use Rattle.expression_types.specs.Scope.{Scope, Signature, declaration, signature}
+use Rattle.expression_types.specs.Scope.{Scope, Signature, declaration, signature, fixed}
 
--- what an expression gives as one value: an untyped constant with its exact value, or a value of a type that is worked out when the program
--- runs
+-- what an expression gives as one value: a constant with its exact value, or a value of a type that is worked out when the program runs
 pub data Operand : Type 0 where
-  untyped : Constant → Operand
+  constant : Fixed → Operand
   value : ValueType → Ex → Operand
 
 -- an operand of `print`, `println` or `panic`: the bytes of a string, or a value and its type
@@ -79,13 +76,14 @@ same_type Int Int = true
 same_type Boolean Boolean = true
 same_type s t = false
 
--- an untyped constant is a number or a truth value
-abbrev pub constant_type : Constant → ValueType
-constant_type (Number z) = Int
-constant_type (Truth b) = Boolean
+-- the type of a constant: its own, or else that of numbers or of truth values
+abbrev pub constant_type : Option ValueType → Constant → ValueType
+constant_type (Some t) c = t
+constant_type None (Number z) = Int
+constant_type None (Truth b) = Boolean
 
 abbrev pub type_of : Operand → ValueType
-type_of (untyped c) = constant_type c
+type_of (constant f) = constant_type f.value_type f.value
 type_of (value t x) = t
 
 -- from -2^63 to 2^63 - 1
@@ -94,11 +92,11 @@ is_int z = int_le (negsuc (2 ^ 63 - 1)) z && int_le z (pos (2 ^ 63 - 1))
 
 -- a constant as a value of its type, where the type has one
 abbrev pub constant_value : Constant → Option Ex
-constant_value (Number z) = if is_int z then Some (constant (int z)) else None
-constant_value (Truth b) = Some (constant (bool b))
+constant_value (Number z) = if is_int z then Some (typed.constant (int z)) else None
+constant_value (Truth b) = Some (typed.constant (bool b))
 
 abbrev pub as_value : Operand → Option Ex
-as_value (untyped c) = constant_value c
+as_value (constant f) = constant_value f.value
 as_value (value t x) = Some x
 
 -- ---- constants
@@ -107,31 +105,54 @@ abbrev pub const_of : Constant → Const
 const_of (Number z) = const.Int z
 const_of (Truth b) = const.Bool b
 
+-- a constant that has no type
+abbrev pub untyped : Constant → Fixed
+untyped c = record { value_type = None; value = c }
+
+-- whether a type holds a constant (Go specification, "Representability")
+abbrev pub holds : ValueType → Constant → Bool
+holds Int (Number z) = is_int z
+holds Boolean (Truth b) = true
+holds t c = false
+
+-- the same, where there is a type
+abbrev pub is_held : Option ValueType → Constant → Bool
+is_held None c = true
+is_held (Some t) c = holds t c
+
+-- a constant of a type or of none
+abbrev pub of_type : Option ValueType → Constant → Option Operand
+of_type t c = allowed (is_held t c) (Some (constant (record { value_type = t; value = c })))
+
 -- a constant expression's value, where it has one
-abbrev pub constant_of : Result Const ConstFault → Option Operand
-constant_of (Ok (const.Int z)) = Some (untyped (Number z))
-constant_of (Ok (const.Bool b)) = Some (untyped (Truth b))
-constant_of (Ok const.NoConst) = None
-constant_of (Err e) = None
+abbrev pub constant_of : Option ValueType → Result Const ConstFault → Option Operand
+constant_of t (Ok (const.Int z)) = of_type t (Number z)
+constant_of t (Ok (const.Bool b)) = of_type t (Truth b)
+constant_of t (Ok const.NoConst) = None
+constant_of t (Err e) = None
 
 -- ---- names
 
--- a variable's read
-abbrev pub operand_of_name : Option Declared → Option Operand
-operand_of_name None = None
-operand_of_name (Some (Variable site t)) = Some (value t (read (local site.0 here)))
-operand_of_name (Some Untyped) = None
-operand_of_name (Some (Function f)) = None
-operand_of_name (Some (External e at)) = None
-operand_of_name (Some TypeName) = None
+-- a constant whose value is known, or a variable's read
+abbrev pub name_operand : Scope → Option Declared → Option Operand
+name_operand s None = None
+name_operand s (Some (declared.Variable site t)) = Some (value t (read (local site.0 here)))
+name_operand s (Some declared.Untyped) = None
+name_operand s (Some (declared.Constant k)) = option_map constant (fixed s k.0)
+name_operand s (Some (declared.Function f)) = None
+name_operand s (Some (declared.External e at)) = None
+name_operand s (Some declared.TypeName) = None
+name_operand s (Some (declared.«Type» t)) = None
+name_operand s (Some (declared.Truth b)) = Some (constant (untyped (Truth b)))
+name_operand s (Some (declared.Print line)) = None
+name_operand s (Some declared.Panic) = None
+name_operand s (Some declared.LeftOutType) = None
+name_operand s (Some declared.LeftOutValue) = None
 
-abbrev pub name_operand : Word → Option Declared → Option Operand
-name_operand (word.Truth b) d = Some (untyped (Truth b))
-name_operand (word.Print line) d = None
-name_operand word.Panic d = None
-name_operand word.Blank d = None
-name_operand word.Reserved d = None
-name_operand word.Free d = operand_of_name d
+-- the type that a name stands for
+abbrev pub declared_type : Option Declared → Option ValueType
+declared_type (Some (declared.«Type» t)) = Some t
+declared_type other = None
 
 -- ---- operators
 
@@ -196,7 +217,7 @@ abbrev pub stands_right : BinOp → Constant → Bool
 stands_right op c = not (is_division op && is_zero c) && not (is_shift op && is_negative c)
 
 abbrev pub right_allowed : BinOp → Operand → Bool
-right_allowed op (untyped c) = stands_right op c
+right_allowed op (constant f) = stands_right op f.value
 right_allowed op (value t x) = true
 
 abbrev pub arithmetic_of : ArithmeticOp → TypedOp
@@ -229,7 +250,7 @@ typed_pair at Either x y = typed.either x y
 
 -- constants are worked out exactly, all else is worked out when the program runs
 abbrev pub prefixed : UnOp → Operand → Option Operand
-prefixed op (untyped c) = constant_of (folded_one op (const_of c))
+prefixed op (constant f) = allowed (takes_one op (constant_type f.value_type f.value)) (constant_of f.value_type (folded_one op (const_of f.value)))
 prefixed op (value t x) = allowed (takes_one op t) (option_map (λ typed_op. value t (typed.unary typed_op x)) (prefix_of op))
 
 abbrev pub prefix_gives : UnOp → Bool → Option Operand → Option Gives
@@ -244,8 +265,29 @@ both_values at op x y = None
 abbrev pub value_pair : Pos → BinOp → Operand → Operand → Option Operand
 value_pair at op a b = allowed (takes op (type_of a) (type_of b) && right_allowed op b) (both_values at op (as_value a) (as_value b))
 
+-- the type of what two constants give: a comparison gives an untyped truth value, a shift has the type of its left operand, and all else the
+-- type of an operand that has one
+abbrev pub either_type : Option ValueType → Option ValueType → Option ValueType
+either_type None t = t
+either_type (Some s) t = Some s
+
+abbrev pub joint_type : BinOp → Option ValueType → Option ValueType → Option ValueType
+joint_type (Compare op) s t = None
+joint_type op s t = if is_shift op then s else either_type s t
+
+-- an untyped operand takes the type of the other one, but for the count of a shift
+abbrev pub converts : BinOp → Fixed → Fixed → Bool
+converts op a b = is_shift op || (is_held b.value_type a.value && is_held a.value_type b.value)
+
+abbrev pub worked_out : BinOp → Fixed → Fixed → Result Const ConstFault
+worked_out op a b = folded op (const_of a.value) (const_of b.value)
+
+abbrev pub constant_pair : BinOp → Fixed → Fixed → Option Operand
+constant_pair op a b =
+    allowed (takes op (constant_type a.value_type a.value) (constant_type b.value_type b.value) && converts op a b) (constant_of (joint_type op a.value_type b.value_type) (worked_out op a b))
+
 abbrev pub combined : Pos → BinOp → Operand → Operand → Option Operand
-combined at op (untyped c) (untyped d) = constant_of (folded op (const_of c) (const_of d))
+combined at op (constant a) (constant b) = constant_pair op a b
 combined at op a b = value_pair at op a b
 
 -- what two operands give together, where both give something
@@ -421,14 +463,15 @@ asked ts = map (λ t. Some t) ts
 -- ---- calls
 
 -- what is called: `print`, or `println` where true is said; `panic`; `readInt`; `exit`; a function by its number, with the places for its arguments
--- and the types of its results; a value that is no function; what takes no `...`, with strings among its arguments or without; or what has
--- no type
+-- and the types of its results; a type, which is left out; a value that is no function; what takes no `...`, with strings among its arguments
+-- or without; or what has no type
 pub data Callee : Type 0 where
   printer : Bool → Callee
   panicker : Callee
   reader : Callee
   exiter : Callee
   function : ℕ → List (Option ValueType) → (results : List ValueType) → Callee
+  conversion : Callee
   no_function : Callee
   no_spread : Callee
   no_text_spread : Callee
@@ -442,25 +485,24 @@ abbrev pub callee_external : ExternalFunction → Callee
 callee_external external.ReadInt = reader
 callee_external external.Exit = exiter
 
-abbrev pub callee_declared : Scope → Option Declared → Callee
-callee_declared s None = nothing
-callee_declared s (Some (Variable site t)) = no_function
-callee_declared s (Some Untyped) = nothing
-callee_declared s (Some (Function f)) = function_with f.0 (signature s f.0)
-callee_declared s (Some (External e at)) = callee_external e
-callee_declared s (Some TypeName) = nothing
-
-abbrev pub callee_named : Scope → Word → Option Declared → Callee
-callee_named s (word.Truth b) d = no_function
-callee_named s (word.Print line) d = printer line
-callee_named s word.Panic d = panicker
-callee_named s word.Blank d = nothing
-callee_named s word.Reserved d = nothing
-callee_named s word.Free d = callee_declared s d
-
 abbrev pub callee_value : Option Operand → Callee
 callee_value None = nothing
 callee_value (Some x) = no_function
+
+abbrev pub callee_declared : Scope → Option Declared → Callee
+callee_declared s None = nothing
+callee_declared s (Some (declared.Variable site t)) = no_function
+callee_declared s (Some declared.Untyped) = nothing
+callee_declared s (Some (declared.Constant k)) = callee_value (option_map constant (fixed s k.0))
+callee_declared s (Some (declared.Function f)) = function_with f.0 (signature s f.0)
+callee_declared s (Some (declared.External e at)) = callee_external e
+callee_declared s (Some declared.TypeName) = conversion
+callee_declared s (Some (declared.«Type» t)) = conversion
+callee_declared s (Some (declared.Truth b)) = no_function
+callee_declared s (Some (declared.Print line)) = printer line
+callee_declared s (Some declared.Panic) = panicker
+callee_declared s (Some declared.LeftOutType) = conversion
+callee_declared s (Some declared.LeftOutValue) = nothing
 
 -- what is called where `...` stands behind the arguments: nothing takes it yet
 abbrev pub spread_over : Bool → Callee → Callee
@@ -493,6 +535,7 @@ called_with at panicker os = option_and_then (panicked_with at) (parts os)
 called_with at reader os = allowed (fits [] os) (Some (asking at))
 called_with at exiter os = option_and_then (exited_with at) (allowed (fits exit_places os) (values os))
 called_with at (function f ps ts) os = option_map (called at ts f) (taken ps os)
+called_with at conversion os = None
 called_with at no_function os = None
 called_with at no_spread os = None
 called_with at no_text_spread os = None
@@ -523,22 +566,22 @@ between text from behind = take (behind - from) (drop from text)
 
 module _ (text : List ℕ) where
   -- the type that an expression is, in parentheses or not
-  abbrev pub type_in : TreeEx → Option ValueType
-  type_in (name n) = named_type (spelled text n)
-  type_in (paren at e) = type_in e
-  type_in other = None
+  abbrev pub type_in : Scope → TreeEx → Option ValueType
+  type_in s (name n) = declared_type (declaration s (spelled text n))
+  type_in s (paren at e) = type_in s e
+  type_in s other = None
 
   -- what a name stands for where it is called, or else an expression that gives this
   abbrev pub callee : Scope → Option Name → Option Gives → Callee
   callee s None o = callee_value (operand_in o)
-  callee s (Some n) o = callee_named s (word_of (spelled text n)) (declaration s (spelled text n))
+  callee s (Some n) o = callee_declared s (declaration s (spelled text n))
 
   -- what an expression gives in a scope, where no rule fails in it; a form that is left out of the profile gives nothing
   abbrev mutual
     pub gives : Scope → TreeEx → Option Gives
-    gives s (number at n) = if nat_lt n (2 ^ 127) then Some (one (untyped (Number (pos n)))) else None
+    gives s (number at n) = if nat_lt n (2 ^ 127) then Some (one (constant (untyped (Number (pos n))))) else None
     gives s (string at behind) = Some (quoted at (string_value (between text at.offset behind)))
-    gives s (name n) = option_map one (name_operand (word_of (spelled text n)) (declaration s (spelled text n)))
+    gives s (name n) = option_map one (name_operand s (declaration s (spelled text n)))
     gives s (unary at op e) = prefix_gives op (has_rules op) (operand_in (gives s e))
     gives s (binary at op a b) = pair_gives (first_place a) op (operand_in (gives s a)) (operand_in (gives s b))
     gives s (paren at e) = gives s e

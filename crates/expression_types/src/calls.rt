@@ -6,17 +6,16 @@ ghost use Rattle.syntax.specs.Expressions.{ex_of as tree_of, spelled};
 ghost use Rattle.expression_types.specs.declared.fault.FaultKind.TheVariants.{ArgCount};
 ghost use Rattle.expression_types.specs.Least.{IsLeast};
 ghost use Rattle.expression_types.specs.Scope.{scope_of, declaration, signature};
-ghost use Rattle.expression_types.specs.Profile.{word_of};
-ghost use Rattle.expression_types.specs.Typing.{operand_in, name_in, function_with, callee_declared, callee_named, callee_value, spread_over, many, count, part_count, exit_places, panicked_with, exited_with, called_with};
-ghost use Rattle.expression_types.specs.Faults.{fault as fault_at, IsFault, PartsFail, ValuesFail, RangeFails, TakeFails, CallFails, callee_declared_fault, callee_name_fault, refused_fault};
+ghost use Rattle.expression_types.specs.Typing.{constant, operand_in, name_in, function_with, callee_declared, callee_value, spread_over, many, count, part_count, exit_places, panicked_with, exited_with, called_with};
+ghost use Rattle.expression_types.specs.Faults.{fault as fault_at, IsFault, FormFails, PartsFail, ValuesFail, RangeFails, TakeFails, CallFails, callee_name_fault, refused_fault};
 ghost use Rattle.expression_types.specs.Passing.{part_view, gives_of, operand_of, seens, callee_of};
 ghost use Rattle.typed.specs.View.{ex_of};
 
+use crate::constant::Fixed;
 use crate::fault::{Fault, FaultKind, lesser};
 use crate::naming::spelled;
 use crate::operand::{Callee, Gives, Item, Operand, Part};
-use crate::profile::{Word, word_of};
-use crate::scope::{Declared, External, Scope, ValueType, declaration};
+use crate::scope::{Declared, External, Scope, ValueType, declaration, fixed};
 use crate::values::{
     asked, count, count_fault, fits, part_count, parts, parts_fault, range_faults, take_fault,
     taken, values, values_fault,
@@ -54,6 +53,16 @@ fn callee_function(alloc: Global, scope: &Scope, function: FuncId) -> Result<Cal
     }
 }
 
+/// A constant as what is called, where its value is known.
+fn callee_constant(fixed: Option<Fixed>) -> Callee
+    ensures { callee_of result ≡ callee_value (option_map constant fixed) }
+{
+    match fixed {
+        Some(_) => Callee::NoFunction,
+        None => Callee::Nothing,
+    }
+}
+
 fn callee_declared(
     alloc: Global,
     scope: &Scope,
@@ -61,13 +70,17 @@ fn callee_declared(
 ) -> Result<Callee, NoMemory>
     ensures { IfOk result (λ c. callee_of c ≡ callee_declared (scope_of scope.now) declared) }
 {
-    match declared {
-        Some(Declared::Function(function)) => callee_function(alloc, scope, function),
-        Some(Declared::External(External::ReadInt, _)) => Ok(Callee::Reader),
-        Some(Declared::External(External::Exit, _)) => Ok(Callee::Exiter),
-        Some(Declared::Variable(_, _)) => Ok(Callee::NoFunction),
-        _ => Ok(Callee::Nothing),
-    }
+    Ok(match declared {
+        Some(Declared::Function(function)) => return callee_function(alloc, scope, function),
+        Some(Declared::Constant(number)) => callee_constant(fixed(scope, number)),
+        Some(Declared::External(External::ReadInt, _)) => Callee::Reader,
+        Some(Declared::External(External::Exit, _)) => Callee::Exiter,
+        Some(Declared::Print(line)) => Callee::Printer(line),
+        Some(Declared::Panic) => Callee::Panicker,
+        Some(Declared::Variable(_, _) | Declared::Truth(_)) => Callee::NoFunction,
+        Some(Declared::TypeName | Declared::Type(_) | Declared::LeftOutType) => Callee::Conversion,
+        Some(Declared::Untyped | Declared::LeftOutValue) | None => Callee::Nothing,
+    })
 }
 
 /// What a name stands for where it is called.
@@ -77,25 +90,18 @@ pub fn callee_named(
     scope: &Scope,
     name: Name,
 ) -> Result<Callee, NoMemory>
-    ensures { IfOk result (λ c. callee_of c ≡ callee_named (scope_of scope.now) (word_of (spelled text.now name)) (declaration (scope_of scope.now) (spelled text.now name))) }
+    ensures { IfOk result (λ c. callee_of c ≡ callee_declared (scope_of scope.now) (declaration (scope_of scope.now) (spelled text.now name))) }
 {
-    let bytes = spelled(text, name);
-    match word_of(bytes) {
-        Word::Truth(_) => Ok(Callee::NoFunction),
-        Word::Print(line) => Ok(Callee::Printer(line)),
-        Word::Panic => Ok(Callee::Panicker),
-        Word::Blank | Word::Reserved => Ok(Callee::Nothing),
-        Word::Free => callee_declared(alloc, scope, declaration(scope, bytes)),
-    }
+    callee_declared(alloc, scope, declaration(scope, spelled(text, name)))
 }
 
 fn declared_fault(declared: Option<Declared>, pos: Pos) -> Option<Fault>
-    ensures { result ≡ callee_declared_fault declared pos }
+    ensures { result ≡ callee_name_fault declared pos }
 {
     let kind = match declared {
-        Some(Declared::TypeName) => FaultKind::BadOperand,
-        Some(_) => return None,
         None => FaultKind::Unknown,
+        Some(Declared::LeftOutType | Declared::LeftOutValue) => FaultKind::OutOfProfile,
+        Some(_) => return None,
     };
     Some(Fault { kind, pos })
 }
@@ -103,22 +109,9 @@ fn declared_fault(declared: Option<Declared>, pos: Pos) -> Option<Fault>
 /// The fault of a name that is called.
 #[tactic(auto, using(crate::proofs::Leasts::leaf))]
 pub fn callee_name_fault(text: &[u8], scope: &Scope, name: Name) -> Option<Fault>
-    ensures { IsLeast (IsFault (callee_name_fault (word_of (spelled text.now name)) (declaration (scope_of scope.now) (spelled text.now name)) name.pos)) result }
+    ensures { IsLeast (IsFault (callee_name_fault (declaration (scope_of scope.now) (spelled text.now name)) name.pos)) result }
 {
-    let bytes = spelled(text, name);
-    let pos = name.pos;
-    match word_of(bytes) {
-        Word::Blank => Some(Fault {
-            kind: FaultKind::Unknown,
-            pos,
-        }),
-        Word::Reserved => Some(Fault {
-            kind: FaultKind::OutOfProfile,
-            pos,
-        }),
-        Word::Free => declared_fault(declaration(scope, bytes), pos),
-        _ => None,
-    }
+    declared_fault(declaration(scope, spelled(text, name)), name.pos)
 }
 
 /// An expression that is no name, as what is called.
@@ -214,6 +207,16 @@ fn places_fault(pos: Pos, places: &[Option<ValueType>], arguments: &[Item]) -> O
     take_fault(own, places, arguments)
 }
 
+/// The fault of a conversion, which is left out of the profile.
+fn conversion_fault(pos: Pos) -> Option<Fault>
+    ensures { IsLeast (FormFails pos) result }
+{
+    Some(Fault {
+        kind: FaultKind::OutOfProfile,
+        pos,
+    })
+}
+
 /// The fault of a call with these arguments.
 pub fn call_fault(pos: Pos, callee: &Callee, arguments: &[Item]) -> Option<Fault>
     ensures { IsLeast (CallFails pos (callee_of callee.now) (seens arguments.now)) result }
@@ -224,6 +227,7 @@ pub fn call_fault(pos: Pos, callee: &Callee, arguments: &[Item]) -> Option<Fault
         Callee::Reader => places_fault(pos, &[], arguments),
         Callee::Exiter => places_fault(pos, &EXIT_PLACES, arguments),
         Callee::Function(_, places, _) => places_fault(pos, places, arguments),
+        Callee::Conversion => conversion_fault(pos),
         Callee::NoFunction => refused(FaultKind::NotCallable, pos, arguments),
         Callee::NoSpread => refused(FaultKind::BadOperand, pos, arguments),
         Callee::NoTextSpread => spread_fault(pos, arguments),

@@ -14,9 +14,10 @@ ghost use Rattle.expression_types.specs.Passing.{operand_of, gives_of, seens, ca
 use crate::calls::{
     call_fault, call_value, callee_name_fault, callee_named, callee_value, name_in, spread_over,
 };
+use crate::constant::{Constant, untyped};
 use crate::fault::{Fault, FaultKind, lesser};
 use crate::naming::{between, name_fault, name_value};
-use crate::operand::{Callee, Constant, Gives, Item, Operand, one_operand, single_fault};
+use crate::operand::{Callee, Gives, Item, Operand, one_operand, single_fault};
 use crate::operators::{has_rules, pair_fault, paired, prefix_fault, prefixed};
 use crate::scope::Scope;
 use crate::type_names::type_fault;
@@ -87,7 +88,7 @@ fn literal(pos: Pos, number: u128) -> Checked
     match i128::try_from(number) {
         Ok(value) => Checked {
             pos,
-            gives: Some(Gives::One(Operand::Untyped(Constant::Number(value)))),
+            gives: Some(Gives::One(Operand::Constant(untyped(Constant::Number(value))))),
             fault: None,
         },
         Err(_) => Checked {

@@ -33,9 +33,11 @@ pub enum FaultKind {
     MissingReturn,
     /// A constant that an int cannot hold, or that leaves 128 bits.
     ConstRange,
-    /// What does not fit its place: a value for a type, a type for a value, an operand that its operator doesn't take, a condition that
-    /// is none, `...` behind arguments, a shift by a negative count.
+    /// What does not fit its place: a value for a type, a type or a built-in function for a value, an operand that its operator doesn't
+    /// take, a condition that is none, `...` behind arguments, a shift by a negative count.
     BadOperand,
+    /// A constant that needs itself.
+    RecursiveType,
     /// A `break` or `continue` outside of a loop.
     BreakOutside,
     /// A package other than `main`, or one without a function `main` that has no parameters and results.
@@ -68,6 +70,7 @@ impl FaultKind {
             FaultKind::MissingReturn => 11,
             FaultKind::ConstRange => 12,
             FaultKind::BadOperand => 14,
+            FaultKind::RecursiveType => 15,
             FaultKind::BreakOutside => 17,
             FaultKind::NoMain => 18,
             FaultKind::BadExternal => 19,

@@ -4,15 +4,15 @@ ghost use Rattle.std.specs.Prelude.{◌≡◌, Option, Some, None};
 ghost use Rattle.std.specs.Option.{option_map};
 ghost use Rattle.syntax.specs.Expressions.{name as name_of, spelled};
 ghost use Rattle.expression_types.specs.Least.{IsLeast};
-ghost use Rattle.expression_types.specs.Scope.{scope_of, declaration};
+ghost use Rattle.expression_types.specs.Scope.{scope_of};
 ghost use Rattle.expression_types.specs.Typing.{one, name_operand, between, gives};
-ghost use Rattle.expression_types.specs.Faults.{declared_fault, name_fault, Fails};
+ghost use Rattle.expression_types.specs.Faults.{name_fault, Fails};
 ghost use Rattle.expression_types.specs.Passing.{gives_of};
 
+use crate::constant::{Constant, untyped};
 use crate::fault::{Fault, FaultKind};
-use crate::operand::{Constant, Gives, Operand};
-use crate::profile::{Word, word_of};
-use crate::scope::{Declared, Scope, declaration};
+use crate::operand::{Gives, Operand};
+use crate::scope::{Declared, Scope, declaration, fixed};
 use base::Pos;
 use syntax::Name;
 use typed::Expr;
@@ -34,53 +34,46 @@ pub fn spelled(text: &[u8], name: Name) -> &[u8]
     between(text, name.pos.offset, name.end)
 }
 
-fn value_of(word: Word, declared: Option<Declared>) -> Option<Gives>
-    ensures { option_map gives_of result ≡ option_map one (name_operand word declared) }
+fn value_of(scope: &Scope, declared: Option<Declared>) -> Option<Gives>
+    ensures { option_map gives_of result ≡ option_map one (name_operand (scope_of scope.now) declared) }
 {
-    match (word, declared) {
-        (Word::Truth(truth), _) => Some(Gives::One(Operand::Untyped(Constant::Truth(truth)))),
-        (Word::Free, Some(Declared::Variable(site, value_type))) => {
-            Some(Gives::One(Operand::Value(value_type, Expr::Local(site))))
-        }
-        _ => None,
-    }
+    let operand = match declared {
+        Some(Declared::Variable(site, value_type)) => Operand::Value(value_type, Expr::Local(site)),
+        Some(Declared::Constant(number)) => Operand::Constant(fixed(scope, number)?),
+        Some(Declared::Truth(truth)) => Operand::Constant(untyped(Constant::Truth(truth))),
+        _ => return None,
+    };
+    Some(Gives::One(operand))
 }
 
-/// The truth value or the variable that a name stands for.
+/// The constant or the variable that a name stands for.
 pub fn name_value(text: &[u8], scope: &Scope, name: Name) -> Option<Gives>
     ensures { option_map gives_of result ≡ gives text.now (scope_of scope.now) (name_of name) }
 {
-    let bytes = spelled(text, name);
-    value_of(word_of(bytes), declaration(scope, bytes))
+    value_of(scope, declaration(scope, spelled(text, name)))
 }
 
 fn declared_fault(declared: Option<Declared>, pos: Pos) -> Option<Fault>
-    ensures { result ≡ declared_fault declared pos }
+    ensures { result ≡ name_fault declared pos }
 {
     let kind = match declared {
-        Some(Declared::Function(_) | Declared::External(_, _)) => FaultKind::OutOfProfile,
-        Some(Declared::TypeName) => FaultKind::BadOperand,
-        Some(_) => return None,
         None => FaultKind::Unknown,
+        Some(
+            Declared::Variable(_, _)
+            | Declared::Untyped
+            | Declared::Constant(_)
+            | Declared::Truth(_),
+        ) => return None,
+        Some(Declared::TypeName | Declared::Type(_) | Declared::Print(_) | Declared::Panic) =>
+            FaultKind::BadOperand,
+        Some(
+            Declared::Function(_)
+            | Declared::External(_, _)
+            | Declared::LeftOutType
+            | Declared::LeftOutValue,
+        ) => FaultKind::OutOfProfile,
     };
     Some(Fault { kind, pos })
-}
-
-fn fault_of(word: Word, declared: Option<Declared>, pos: Pos) -> Option<Fault>
-    ensures { result ≡ name_fault word declared pos }
-{
-    match word {
-        Word::Truth(_) => None,
-        Word::Free => declared_fault(declared, pos),
-        Word::Blank => Some(Fault {
-            kind: FaultKind::Unknown,
-            pos,
-        }),
-        _ => Some(Fault {
-            kind: FaultKind::OutOfProfile,
-            pos,
-        }),
-    }
 }
 
 /// The fault of a name as a value.
@@ -88,6 +81,5 @@ fn fault_of(word: Word, declared: Option<Declared>, pos: Pos) -> Option<Fault>
 pub fn name_fault(text: &[u8], scope: &Scope, name: Name) -> Option<Fault>
     ensures { IsLeast (Fails text.now (scope_of scope.now) (name_of name)) result }
 {
-    let bytes = spelled(text, name);
-    fault_of(word_of(bytes), declaration(scope, bytes), name.pos)
+    declared_fault(declaration(scope, spelled(text, name)), name.pos)
 }

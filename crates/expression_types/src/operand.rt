@@ -1,28 +1,22 @@
 //! What expressions give.
 
-ghost use Rattle.std.specs.Prelude.{◌≡◌, Option, Some, None, if◌then◌else◌, option_and_then, is_some};
+ghost use Rattle.std.specs.Prelude.{◌≡◌, Option, Some, None, option_and_then, is_some};
 ghost use Rattle.std.specs.Option.{option_map};
 ghost use Rattle.typed.specs.View.{ex_of};
-ghost use Rattle.expression_types.specs.Typing.{constant_type, type_of, constant_value, as_value, as_part, is_int, operand_in, part_in, is_part};
-ghost use Rattle.expression_types.specs.Faults.{constant_range_fault, range_fault, single_fault, part_fault};
+ghost use Rattle.expression_types.specs.Typing.{type_of, as_value, as_part, operand_in, part_in, is_part};
+ghost use Rattle.expression_types.specs.Faults.{range_fault, single_fault, part_fault};
 ghost use Rattle.expression_types.specs.Passing.{operand_of, part_view, gives_of};
 
+use crate::constant::{Fixed, constant_range_fault, constant_type, constant_value};
 use crate::fault::{Fault, FaultKind};
 use crate::scope::ValueType;
 use base::{FuncId, Pos, TypeId};
-use typed::{Const, Expr, Values};
+use typed::{Expr, Values};
 
-/// An untyped constant, with its exact value.
-#[derive(Clone, Copy)]
-pub enum Constant {
-    Number(i128),
-    Truth(bool),
-}
-
-/// What an expression gives as one value: an untyped constant, or a value of a type that is worked out when the program runs.
+/// What an expression gives as one value: a constant, or a value of a type that is worked out when the program runs.
 #[derive(Drop)]
 pub enum Operand {
-    Untyped(Constant),
+    Constant(Fixed),
     Value(ValueType, Expr),
 }
 
@@ -73,6 +67,8 @@ pub enum Callee {
     Exiter,
     /// A function, the places for its arguments, and the types of its results.
     Function(FuncId, Vec<Option<ValueType>>, Vec<ValueType>),
+    /// A type: a conversion.
+    Conversion,
     /// A value that is no function.
     NoFunction,
     /// What takes no `...`, which stands behind the arguments.
@@ -83,46 +79,13 @@ pub enum Callee {
     Nothing,
 }
 
-/// The constant as an int, where one can hold it.
-fn int_constant(value: i128) -> Option<i64>
-    ensures { result ≡ (if is_int value then Some value else None) }
-{
-    if value < i64::MIN as i128 || value > i64::MAX as i128 {
-        None
-    } else {
-        Some(value as i64)
-    }
-}
-
-fn constant_type(constant: Constant) -> ValueType
-    ensures { result ≡ constant_type constant }
-{
-    match constant {
-        Constant::Number(_) => ValueType::Int,
-        Constant::Truth(_) => ValueType::Bool,
-    }
-}
-
 /// The type of an operand.
 pub fn type_of(operand: &Operand) -> ValueType
     ensures { result ≡ type_of (operand_of operand.now) }
 {
     match operand {
-        Operand::Untyped(constant) => constant_type(*constant),
+        Operand::Constant(fixed) => constant_type(*fixed),
         Operand::Value(value_type, _) => *value_type,
-    }
-}
-
-/// A constant as a value of its type (Go specification, "Representability").
-fn constant_value(constant: Constant) -> Option<Expr>
-    ensures { option_map ex_of result ≡ constant_value constant }
-{
-    match constant {
-        Constant::Number(value) => match int_constant(value) {
-            Some(number) => Some(Expr::Constant(Const::Int(number))),
-            None => None,
-        },
-        Constant::Truth(truth) => Some(Expr::Constant(Const::Bool(truth))),
     }
 }
 
@@ -131,7 +94,7 @@ pub fn as_value(operand: Operand) -> Option<Expr>
     ensures { option_map ex_of result ≡ as_value (operand_of operand) }
 {
     match operand {
-        Operand::Untyped(constant) => constant_value(constant),
+        Operand::Constant(fixed) => constant_value(fixed.value),
         Operand::Value(_, e) => Some(e),
     }
 }
@@ -154,22 +117,6 @@ fn as_part(operand: Operand) -> Option<Part>
     match as_value(operand) {
         Some(value) => Some(Part::Valued(type_id, value)),
         None => None,
-    }
-}
-
-/// The fault of a constant as a value: no int can hold it.
-pub fn constant_range_fault(pos: Pos, constant: Constant) -> Option<Fault>
-    ensures { result ≡ constant_range_fault pos constant }
-{
-    match constant {
-        Constant::Number(value) => match int_constant(value) {
-            Some(_) => None,
-            None => Some(Fault {
-                kind: FaultKind::ConstRange,
-                pos,
-            }),
-        },
-        Constant::Truth(_) => None,
     }
 }
 
@@ -265,7 +212,7 @@ pub fn range_fault(pos: Pos, gives: &Option<Gives>) -> Option<Fault>
     ensures { result ≡ range_fault pos (operand_in (option_map gives_of gives.now)) }
 {
     match gives {
-        Some(Gives::One(Operand::Untyped(constant))) => constant_range_fault(pos, *constant),
+        Some(Gives::One(Operand::Constant(fixed))) => constant_range_fault(pos, fixed.value),
         _ => None,
     }
 }

@@ -5,12 +5,16 @@
 ghost use Rattle.std.specs.Prelude.{◌≡◌, Option, Some, None, option_and_then, IfOk};
 ghost use Rattle.std.specs.Option.{option_map};
 ghost use Rattle.typed.specs.View.{ex_of};
-ghost use Rattle.expression_types.specs.Typing.{same_type, const_of, constant_of, has_rules, takes_one, prefix_of, prefixed, takes, result_type, is_division, is_shift, is_zero, is_negative, stands_right, right_allowed, arithmetic_of, compare_of, typed_pair, as_value, value, both, both_values, value_pair, combined};
-ghost use Rattle.expression_types.specs.Faults.{constant_fault, fitting_prefix_fault, prefix_fault, unfit_kind, right_fault, fitting_fault, two_fault, pair_fault};
+ghost use Rattle.expression_types.specs.Typing.{same_type, of_type, constant_of, has_rules, takes_one, prefix_of, prefixed, takes, result_type, is_division, is_shift, stands_right, right_allowed, arithmetic_of, compare_of, typed_pair, as_value, value, both, both_values, value_pair, either_type, joint_type, converts, worked_out, constant_pair, combined};
+ghost use Rattle.expression_types.specs.Faults.{constant_fault, fitting_prefix_fault, prefix_fault, unfit_kind, right_fault, conversion_fault, constants_fault, fitting_fault, two_fault, pair_fault};
 ghost use Rattle.expression_types.specs.Passing.{operand_of};
 
+use crate::constant::{
+    Constant, Fixed, const_of, constant_range_fault, constant_type, held_fault, is_held,
+    is_negative, is_zero,
+};
 use crate::fault::{Fault, FaultKind};
-use crate::operand::{Constant, Operand, as_value, constant_range_fault, type_of};
+use crate::operand::{Operand, as_value, type_of};
 use crate::scope::ValueType;
 use base::{NoMemory, Pos};
 use names::{Const, ConstFault, fold, fold_one};
@@ -103,32 +107,19 @@ fn is_shift(op: BinOp) -> bool
     }
 }
 
-fn is_zero(constant: Constant) -> bool
-    ensures { result ≡ is_zero constant }
+/// Whether a constant is no divisor 0 and no negative count.
+fn stands_right(op: BinOp, constant: Constant) -> bool
+    ensures { result ≡ stands_right op constant }
 {
-    match constant {
-        Constant::Number(value) => value == 0,
-        Constant::Truth(_) => false,
-    }
+    !(is_division(op) && is_zero(constant)) && !(is_shift(op) && is_negative(constant))
 }
 
-fn is_negative(constant: Constant) -> bool
-    ensures { result ≡ is_negative constant }
-{
-    match constant {
-        Constant::Number(value) => value < 0,
-        Constant::Truth(_) => false,
-    }
-}
-
-/// Whether an operand may stand on the right of one that is no constant: it is no divisor 0 and no negative count.
+/// Whether an operand may stand on the right of one that is no constant.
 fn right_allowed(op: BinOp, operand: &Operand) -> bool
     ensures { result ≡ right_allowed op (operand_of operand.now) }
 {
     match operand {
-        Operand::Untyped(constant) => {
-            !(is_division(op) && is_zero(*constant)) && !(is_shift(op) && is_negative(*constant))
-        }
+        Operand::Constant(fixed) => stands_right(op, fixed.value),
         Operand::Value(_, _) => true,
     }
 }
@@ -164,37 +155,57 @@ fn compare_of(op: CompareOp) -> typed::BinOp
     }
 }
 
-fn const_of(constant: Constant) -> Const
-    ensures { result ≡ const_of constant }
+/// A constant of a type or of none.
+fn of_type(value_type: Option<ValueType>, value: Constant) -> Option<Operand>
+    ensures { option_map operand_of result ≡ of_type value_type value }
 {
-    match constant {
-        Constant::Number(value) => Const::Int(value),
-        Constant::Truth(truth) => Const::Bool(truth),
+    if is_held(value_type, value) {
+        Some(Operand::Constant(Fixed { value_type, value }))
+    } else {
+        None
     }
 }
 
-/// What a constant expression gives that was worked out.
-fn constant(value: Result<Const, ConstFault>) -> Option<Operand>
-    ensures { option_map operand_of result ≡ constant_of value }
+/// What a constant expression of a type or of none gives that was worked out.
+fn constant(value_type: Option<ValueType>, value: Result<Const, ConstFault>) -> Option<Operand>
+    ensures { option_map operand_of result ≡ constant_of value_type value }
 {
     match value {
-        Ok(Const::Int(number)) => Some(Operand::Untyped(Constant::Number(number))),
-        Ok(Const::Bool(truth)) => Some(Operand::Untyped(Constant::Truth(truth))),
+        Ok(Const::Int(number)) => of_type(value_type, Constant::Number(number)),
+        Ok(Const::Bool(truth)) => of_type(value_type, Constant::Truth(truth)),
         _ => None,
     }
 }
 
 /// The fault of a constant expression: at its first byte, or at the operand on the right where that is a zero divisor.
-fn constant_fault(pos: Pos, right_pos: Pos, value: Result<Const, ConstFault>) -> Option<Fault>
-    ensures { result ≡ constant_fault pos right_pos value }
+fn constant_fault(
+    value_type: Option<ValueType>,
+    pos: Pos,
+    right_pos: Pos,
+    value: Result<Const, ConstFault>,
+) -> Option<Fault>
+    ensures { result ≡ constant_fault value_type pos right_pos value }
 {
     let (kind, pos) = match value {
-        Ok(_) => return None,
+        Ok(Const::Int(number)) => return held_fault(value_type, pos, Constant::Number(number)),
+        Ok(Const::Bool(truth)) => return held_fault(value_type, pos, Constant::Truth(truth)),
+        Ok(Const::NoConst) => return None,
         Err(ConstFault::Overflow) => (FaultKind::ConstRange, pos),
         Err(ConstFault::ZeroDivisor) => (FaultKind::ConstZeroDivisor, right_pos),
         Err(ConstFault::NegativeShift | ConstFault::NotConstant) => (FaultKind::BadOperand, pos),
     };
     Some(Fault { kind, pos })
+}
+
+/// A prefix on a constant.
+fn prefixed_constant(op: UnOp, fixed: Fixed) -> Option<Operand>
+    ensures { option_map operand_of result ≡ prefixed op (Rattle.expression_types.specs.Typing.constant fixed) }
+{
+    if takes_one(op, constant_type(fixed)) {
+        constant(fixed.value_type, fold_one(op, const_of(fixed.value)))
+    } else {
+        None
+    }
 }
 
 /// A prefix on a value of a type.
@@ -228,7 +239,7 @@ pub fn prefixed(
 {
     match operand {
         None => Ok(None),
-        Some(Operand::Untyped(value)) => Ok(constant(fold_one(op, const_of(value)))),
+        Some(Operand::Constant(fixed)) => Ok(prefixed_constant(op, fixed)),
         Some(Operand::Value(value_type, e)) => prefixed_value(alloc, op, value_type, e),
     }
 }
@@ -238,7 +249,12 @@ fn fitting_prefix_fault(op: UnOp, pos: Pos, operand: &Operand) -> Option<Fault>
     ensures { result ≡ fitting_prefix_fault pos op (operand_of operand.now) }
 {
     match operand {
-        Operand::Untyped(value) => constant_fault(pos, pos, fold_one(op, const_of(*value))),
+        Operand::Constant(fixed) => constant_fault(
+            fixed.value_type,
+            pos,
+            pos,
+            fold_one(op, const_of(fixed.value)),
+        ),
         Operand::Value(_, _) => None,
     }
 }
@@ -342,6 +358,86 @@ fn right_fault(pos: Pos, right_pos: Pos, op: BinOp, constant: Constant) -> Optio
     }
 }
 
+/// The type of two operands, where one of them has one.
+fn either_type(left: Option<ValueType>, right: Option<ValueType>) -> Option<ValueType>
+    ensures { result ≡ either_type left right }
+{
+    match left {
+        Some(value_type) => Some(value_type),
+        None => right,
+    }
+}
+
+/// The type of what two constants give: a comparison gives an untyped truth value, and a shift has the type of its left operand.
+fn joint_type(op: BinOp, left: Option<ValueType>, right: Option<ValueType>) -> Option<ValueType>
+    ensures { result ≡ joint_type op left right }
+{
+    match op {
+        BinOp::Compare(_) => None,
+        op => {
+            if is_shift(op) {
+                left
+            } else {
+                either_type(left, right)
+            }
+        }
+    }
+}
+
+/// Whether each of two constants can take the type of the other, but for the count of a shift.
+fn converts(op: BinOp, left: Fixed, right: Fixed) -> bool
+    ensures { result ≡ converts op left right }
+{
+    is_shift(op) || (is_held(right.value_type, left.value) && is_held(left.value_type, right.value))
+}
+
+fn worked_out(op: BinOp, left: Fixed, right: Fixed) -> Result<Const, ConstFault>
+    ensures { result ≡ worked_out op left right }
+{
+    fold(op, const_of(left.value), const_of(right.value))
+}
+
+/// What two constants give together.
+fn constant_pair(op: BinOp, left: Fixed, right: Fixed) -> Option<Operand>
+    ensures { option_map operand_of result ≡ constant_pair op left right }
+{
+    if takes(op, constant_type(left), constant_type(right)) && converts(op, left, right) {
+        constant(
+            joint_type(op, left.value_type, right.value_type),
+            worked_out(op, left, right),
+        )
+    } else {
+        None
+    }
+}
+
+/// The fault of two constants one of which the type of the other doesn't hold.
+fn conversion_fault(pos: Pos, right_pos: Pos, left: Fixed, right: Fixed) -> Option<Fault>
+    ensures { result ≡ conversion_fault pos right_pos left right }
+{
+    let pos = if is_held(right.value_type, left.value) {
+        right_pos
+    } else {
+        pos
+    };
+    Some(Fault {
+        kind: FaultKind::ConstRange,
+        pos,
+    })
+}
+
+/// The fault of an operator between constants of types that it takes.
+fn constants_fault(op: BinOp, pos: Pos, right_pos: Pos, left: Fixed, right: Fixed) -> Option<Fault>
+    ensures { result ≡ constants_fault pos right_pos op left right }
+{
+    if converts(op, left, right) {
+        let value_type = joint_type(op, left.value_type, right.value_type);
+        constant_fault(value_type, pos, right_pos, worked_out(op, left, right))
+    } else {
+        conversion_fault(pos, right_pos, left, right)
+    }
+}
+
 /// The fault of an operator between operands of types that it takes.
 fn fitting_fault(
     op: BinOp,
@@ -353,11 +449,11 @@ fn fitting_fault(
     ensures { result ≡ fitting_fault pos right_pos op (operand_of left.now) (operand_of right.now) }
 {
     match (left, right) {
-        (Operand::Untyped(y), Operand::Untyped(z)) => {
-            constant_fault(pos, right_pos, fold(op, const_of(*y), const_of(*z)))
+        (Operand::Constant(y), Operand::Constant(z)) => {
+            constants_fault(op, pos, right_pos, *y, *z)
         }
-        (Operand::Untyped(y), Operand::Value(_, _)) => constant_range_fault(pos, *y),
-        (Operand::Value(_, _), Operand::Untyped(z)) => right_fault(pos, right_pos, op, *z),
+        (Operand::Constant(y), Operand::Value(_, _)) => constant_range_fault(pos, y.value),
+        (Operand::Value(_, _), Operand::Constant(z)) => right_fault(pos, right_pos, op, z.value),
         (Operand::Value(_, _), Operand::Value(_, _)) => None,
     }
 }
@@ -405,9 +501,7 @@ pub fn combined(
     ensures { IfOk result (λ o. option_map operand_of o ≡ combined pos op (operand_of left) (operand_of right)) }
 {
     match (left, right) {
-        (Operand::Untyped(y), Operand::Untyped(z)) => {
-            Ok(constant(fold(op, const_of(y), const_of(z))))
-        }
+        (Operand::Constant(y), Operand::Constant(z)) => Ok(constant_pair(op, y, z)),
         (left, right) => value_pair(alloc, pos, op, left, right),
     }
 }

@@ -2,8 +2,10 @@
 
 ghost use Rattle.std.specs.Prelude.{◌≡◌, ◌<◌, length, map, OnOk, IfOk, Option, None, Some, ◌+◌};
 ghost use Rattle.std.specs.Option.{option_map};
-ghost use Rattle.expression_types.specs.Scope.{type_number, scope_of, signature_of, declaration, is_here, signature, beginning, with_declaration, with_variable, with_signature, with_strings, opened, closed};
+ghost use Rattle.expression_types.specs.Scope.{type_number, scope_of, signature_of, declaration, is_here, signature, fixed, beginning, with_declaration, with_variable, with_signature, with_constant, with_fixed, with_strings, opened, closed};
 
+use crate::constant::Fixed;
+use crate::universe::predeclared;
 use base::{FuncId, NoMemory, Pos, SiteId, TypeId};
 use names::Block;
 use std::alloc::Global;
@@ -42,29 +44,49 @@ pub enum External {
     Exit,
 }
 
+/// The number of a constant of the program, in the order of the text.
+#[derive(Clone, Copy, Debug, PartialEq, Eq)]
+pub struct ConstId(pub u32);
+
 /// What a name stands for.
 #[derive(Clone, Copy, Debug, PartialEq, Eq)]
 pub enum Declared {
     /// A variable of a type.
     Variable(SiteId, ValueType),
-    /// A variable or constant whose value or type has no type.
+    /// A variable whose value or type has no type.
     Untyped,
+    /// A constant of the program.
+    Constant(ConstId),
     /// A function of the program.
     Function(FuncId),
     /// A function that has no body, and the place of its name.
     External(External, Pos),
     /// A type of the program.
     TypeName,
+    /// A predeclared type.
+    Type(ValueType),
+    /// `true` or `false`.
+    Truth(bool),
+    /// `print`, or `println` where true is said.
+    Print(bool),
+    /// `panic`.
+    Panic,
+    /// A predeclared type that is left out of the profile.
+    LeftOutType,
+    /// Any other predeclared name that is left out of it.
+    LeftOutValue,
 }
 
 /// The declarations that are in scope: the open blocks number them. And the sites of the variables that have a type, the
-/// signature of each function, where it has one, and the bytes of the strings that stand in statements so far.
+/// signature of each function, where it has one, the value of each constant, where it is known, and the bytes of the
+/// strings that stand in statements so far.
 #[derive(Drop)]
 pub struct Scope {
     pub names: Block,
     pub declared: Vec<Declared>,
     pub sites: Vec<Site>,
     pub signatures: Vec<Option<Signature>>,
+    pub constants: Vec<Option<Fixed>>,
     pub strings: Vec<Vec<u8>>,
 }
 
@@ -77,16 +99,19 @@ pub fn beginning(alloc: Global) -> Scope
         declared: Vec::new(alloc),
         sites: Vec::new(alloc),
         signatures: Vec::new(alloc),
+        constants: Vec::new(alloc),
         strings: Vec::new(alloc),
     }
 }
 
-/// What a name stands for.
+/// What a name stands for: the innermost block that declares it says so, and outside of them all the language.
 pub fn declaration(scope: &Scope, name: &[u8]) -> Option<Declared>
     ensures { result ≡ declaration (scope_of scope.now) name.now }
 {
-    let number = scope.names.lookup(name)?;
-    scope.declared.get(number as usize).copied()
+    match scope.names.lookup(name) {
+        Some(number) => scope.declared.get(number as usize).copied(),
+        None => predeclared(name),
+    }
 }
 
 /// Whether the innermost block declares a name.
@@ -114,6 +139,41 @@ pub fn add_signature(scope: &mut Scope, signature: Option<Signature>) -> Result<
 {
     scope.signatures.push(signature)?;
     Ok(())
+}
+
+/// How many constants there are.
+pub fn constant_count(scope: &Scope) -> usize
+    ensures { result ≡ length (scope_of scope.now).constants }
+{
+    scope.constants.len()
+}
+
+/// The value of a constant, where it is known.
+pub fn fixed(scope: &Scope, constant: ConstId) -> Option<Fixed>
+    ensures { result ≡ fixed (scope_of scope.now) constant.0 }
+{
+    match scope.constants.get(constant.0 as usize) {
+        Some(value) => *value,
+        None => None,
+    }
+}
+
+/// Adds a constant with the next number, by its value if that is known.
+pub fn add_constant(scope: &mut Scope, value: Option<Fixed>) -> Result<(), NoMemory>
+    ensures { OnOk result (scope_of scope.new ≡ with_constant (scope_of scope.old) value) }
+{
+    scope.constants.push(value)?;
+    Ok(())
+}
+
+/// Says what is known of a constant.
+pub fn set_fixed(scope: &mut Scope, constant: ConstId, value: Option<Fixed>)
+    ensures { scope_of scope.new ≡ with_fixed (scope_of scope.old) constant.0 value }
+{
+    let index = constant.0 as usize;
+    if index < scope.constants.len() {
+        scope.constants[index] = value;
+    }
 }
 
 /// How many strings stand in the statements so far.

@@ -1,9 +1,11 @@
 //! Trees built by hand over one text, and what the checker says of them.
 
 use crate::{
-    Declared, External, Fault, FaultKind, Gives, Part, Scope, Signature, ValueType, add_signature,
-    add_strings, asked, beginning, check_condition, check_expr, check_list, declare,
-    declare_variable, string_count, take_fault, taken, type_fault, type_in, value_types,
+    ConstId, Constant, Declared, External, Fault, FaultKind, Fixed, Gives, Operand, Part, Scope,
+    Signature, ValueType, add_constant, add_signature, add_strings, asked, beginning,
+    check_condition, check_expr, check_list, constant_count, declaration, declare,
+    declare_variable, fixed, open, set_fixed, string_count, take_fault, taken, type_fault, type_in,
+    untyped, value_types,
 };
 use base::{FuncId, Pos};
 use std::alloc::Global;
@@ -12,9 +14,10 @@ use syntax::{ArithmeticOp, BinOp, CompareOp, Expr, Name, UnOp};
 use typed::Values;
 
 /// A variable, a variable without a type, a function, a type, what is not declared, names of the language, a truth variable, truth
-/// values, a function of a truth value, one with two results, more names of the language, `exit`, the blank name, strings, and `readInt`.
+/// values, a function of a truth value, one with two results, more names of the language, `exit`, the blank name, strings, `readInt`,
+/// constants of type int and of type bool, an untyped one, one whose value is not known, and types that are left out.
 const TEXT: &[u8] =
-    b"x c f T u int println nil bool b true false g h print panic exit _ \"hi\" \"\" \"\\x41\\n\" \"\\u00e9\" readInt";
+    b"x c f T u int println nil bool b true false g h print panic exit _ \"hi\" \"\" \"\\x41\\n\" \"\\u00e9\" readInt k l m n string len";
 
 const X: u32 = 0;
 
@@ -43,6 +46,24 @@ const BLANK: u32 = 65;
 const HI: u32 = 67;
 
 const READ: u32 = 93;
+
+/// A constant of type int, 5.
+const K: u32 = 101;
+
+/// A constant of type bool, true.
+const L: u32 = 103;
+
+/// An untyped constant, 1 << 63.
+const M: u32 = 105;
+
+/// A constant whose value is not known.
+const N: u32 = 107;
+
+const INT: u32 = 10;
+
+const STRING: u32 = 109;
+
+const LEN: u32 = 116;
 
 fn at(offset: u32) -> Pos {
     Pos {
@@ -128,7 +149,28 @@ fn scope(alloc: Global) -> Result<Scope, Fail> {
     add_function(alloc, &mut scope, &[Int], &[Int])?;
     add_function(alloc, &mut scope, &[Bool], &[Bool])?;
     add_function(alloc, &mut scope, &[], &[Int, Bool])?;
+    add_constants(&mut scope)?;
     Ok(scope)
+}
+
+fn add_constants(scope: &mut Scope) -> Result<(), Fail> {
+    let k = Fixed {
+        value_type: Some(ValueType::Int),
+        value: Constant::Number(5),
+    };
+    let l = Fixed {
+        value_type: Some(ValueType::Bool),
+        value: Constant::Truth(true),
+    };
+    declare(scope, b"k", Declared::Constant(ConstId(0)))?;
+    declare(scope, b"l", Declared::Constant(ConstId(1)))?;
+    declare(scope, b"m", Declared::Constant(ConstId(2)))?;
+    declare(scope, b"n", Declared::Constant(ConstId(3)))?;
+    add_constant(scope, Some(k))?;
+    add_constant(scope, Some(l))?;
+    add_constant(scope, Some(untyped(Constant::Number(1 << 63))))?;
+    add_constant(scope, None)?;
+    Ok(())
 }
 
 /// Whether no rule fails in an expression.
@@ -191,15 +233,21 @@ fn number(offset: u32, value: u128) -> Expr {
 
 #[test]
 fn names(rt: HostRuntime) -> Result<(), Fail> {
-    let table: [(Expr, Option<FaultKind>, u32); 11] = [
+    let table: [(Expr, Option<FaultKind>, u32); 17] = [
         (letter(X), None, X),
         (letter(B), None, B),
         (truth(), None, 33),
+        (letter(K), None, K),
+        (letter(L), None, L),
+        (letter(M), None, M),
         (letter(F), Some(FaultKind::OutOfProfile), F),
         (letter(T), Some(FaultKind::BadOperand), T),
         (letter(U), Some(FaultKind::Unknown), U),
-        (word(10, 13), Some(FaultKind::OutOfProfile), 10),
-        (panicking(), Some(FaultKind::OutOfProfile), PANIC),
+        (word(INT, 13), Some(FaultKind::BadOperand), INT),
+        (word(14, 21), Some(FaultKind::BadOperand), 14),
+        (panicking(), Some(FaultKind::BadOperand), PANIC),
+        (word(22, 25), Some(FaultKind::OutOfProfile), 22),
+        (word(STRING, 115), Some(FaultKind::OutOfProfile), STRING),
         (exiting(), Some(FaultKind::OutOfProfile), EXIT),
         (reading(), Some(FaultKind::OutOfProfile), READ),
         (letter(BLANK), Some(FaultKind::Unknown), BLANK),
@@ -210,6 +258,111 @@ fn names(rt: HostRuntime) -> Result<(), Fail> {
             Some(kind) => assert!(rt; fails(rt.alloc(), Ok(e), kind, offset)?),
         }
     }
+    Ok(())
+}
+
+/// What is known of a name in a scope that declares names of the language anew, in an inner block.
+fn fault_anew(alloc: Global, e: Expr) -> Result<Option<Fault>, Fail> {
+    let mut scope = scope(alloc)?;
+    open(&mut scope)?;
+    declare_variable(&mut scope, b"true", at(33), Some(ValueType::Int))?;
+    declare_variable(&mut scope, b"int", at(INT), Some(ValueType::Bool))?;
+    declare(&mut scope, b"println", Declared::Constant(ConstId(0)))?;
+    declare(&mut scope, b"nil", Declared::Function(FuncId(0)))?;
+    declare(&mut scope, b"string", Declared::TypeName)?;
+    Ok(check_expr(alloc, TEXT, &scope, &e)?.fault)
+}
+
+/// A fault of a kind at an offset.
+fn wanted(want: Option<(FaultKind, u32)>) -> Option<Fault> {
+    want.map(|(kind, offset)| Fault {
+        kind,
+        pos: at(offset),
+    })
+}
+
+/// A program may declare each name of the language anew.
+#[test]
+fn names_declared_anew(rt: HostRuntime) -> Result<(), Fail> {
+    let alloc = rt.alloc();
+    let table: [(Expr, Option<(FaultKind, u32)>); 6] = [
+        (truth(), None),
+        (word(38, 43), None),
+        (word(INT, 13), None),
+        (word(22, 25), Some((FaultKind::OutOfProfile, 22))),
+        (word(STRING, 115), Some((FaultKind::BadOperand, STRING))),
+        (panicking(), Some((FaultKind::BadOperand, PANIC))),
+    ];
+    for (e, want) in table {
+        assert_eq!(rt; fault_anew(alloc, e)?, wanted(want));
+    }
+    let sum = pair(alloc, ADD, word(14, 21), truth())?;
+    assert_eq!(rt; fault_anew(alloc, sum)?, None);
+    let not = prefix(alloc, UnOp::Not, word(INT, 13))?;
+    assert_eq!(rt; fault_anew(alloc, not)?, None);
+    let not = prefix(alloc, UnOp::Not, truth())?;
+    assert_eq!(rt;
+        fault_anew(alloc, not)?,
+        wanted(Some((FaultKind::BadOperand, 60)))
+    );
+    Ok(())
+}
+
+/// So what is called is what the program declares.
+#[test]
+fn calls_declared_anew(rt: HostRuntime) -> Result<(), Fail> {
+    let alloc = rt.alloc();
+    let table: [(Expr, Option<(FaultKind, u32)>); 4] = [
+        (word(22, 25), None),
+        (word(14, 21), Some((FaultKind::NotCallable, 14))),
+        (word(INT, 13), Some((FaultKind::NotCallable, INT))),
+        (word(STRING, 115), Some((FaultKind::OutOfProfile, STRING))),
+    ];
+    for (function, want) in table {
+        let e = call(alloc, function, truth(), false)?;
+        assert_eq!(rt; fault_anew(alloc, e)?, wanted(want));
+    }
+    Ok(())
+}
+
+/// Outside of all blocks the language declares its names.
+#[test]
+fn the_universe(rt: HostRuntime) -> Result<(), Fail> {
+    let scope = beginning(rt.alloc());
+    let table: [(&[u8], Option<Declared>); 12] = [
+        (b"int", Some(Declared::Type(ValueType::Int))),
+        (b"bool", Some(Declared::Type(ValueType::Bool))),
+        (b"true", Some(Declared::Truth(true))),
+        (b"false", Some(Declared::Truth(false))),
+        (b"print", Some(Declared::Print(false))),
+        (b"println", Some(Declared::Print(true))),
+        (b"panic", Some(Declared::Panic)),
+        (b"uint8", Some(Declared::LeftOutType)),
+        (b"iota", Some(Declared::LeftOutValue)),
+        (b"main", None),
+        (b"_", None),
+        (b"Int", None),
+    ];
+    for (name, want) in table {
+        assert_eq!(rt; declaration(&scope, name), want);
+    }
+    Ok(())
+}
+
+/// The constants of a scope, by their numbers.
+#[test]
+fn constants_of_a_scope(rt: HostRuntime) -> Result<(), Fail> {
+    let mut scope = beginning(rt.alloc());
+    let five = untyped(Constant::Number(5));
+    add_constant(&mut scope, None)?;
+    add_constant(&mut scope, None)?;
+    assert_eq!(rt; constant_count(&scope), 2);
+    set_fixed(&mut scope, ConstId(1), Some(five));
+    set_fixed(&mut scope, ConstId(2), Some(five));
+    assert_eq!(rt; constant_count(&scope), 2);
+    assert_eq!(rt; fixed(&scope, ConstId(0)), None);
+    assert_eq!(rt; fixed(&scope, ConstId(1)), Some(five));
+    assert_eq!(rt; fixed(&scope, ConstId(2)), None);
     Ok(())
 }
 
@@ -342,6 +495,170 @@ fn values(rt: HostRuntime) -> Result<(), Fail> {
     Ok(())
 }
 
+/// The constant that an expression gives, where no rule fails in it.
+fn constant_in(alloc: Global, e: &Expr) -> Result<Option<Fixed>, Fail> {
+    let checked = check_expr(alloc, TEXT, &scope(alloc)?, e)?;
+    Ok(match (&checked.gives, &checked.fault) {
+        (Some(Gives::One(Operand::Constant(fixed))), None) => Some(*fixed),
+        _ => None,
+    })
+}
+
+/// Constants of type int stay within it, and an untyped operand takes the type of the other.
+#[test]
+fn typed_constants(rt: HostRuntime) -> Result<(), Fail> {
+    use ArithmeticOp::Sub;
+    let alloc = rt.alloc();
+    let int = Some(ValueType::Int);
+    let table: [(BinOp, Expr, Expr, Option<ValueType>, Constant); 8] = [
+        (ADD, letter(K), letter(K), int, Constant::Number(10)),
+        (ADD, number(30, 1), letter(K), int, Constant::Number(6)),
+        (
+            BinOp::Arithmetic(Sub),
+            letter(K),
+            number(30, 7),
+            int,
+            Constant::Number(-2),
+        ),
+        (SHIFT, number(30, 1), letter(K), None, Constant::Number(32)),
+        (SHIFT, letter(K), number(30, 2), int, Constant::Number(20)),
+        (SHIFT, letter(M), letter(K), None, Constant::Number(1 << 68)),
+        (LESS, letter(K), number(30, 7), None, Constant::Truth(true)),
+        (
+            BinOp::Both,
+            truth(),
+            letter(L),
+            Some(ValueType::Bool),
+            Constant::Truth(true),
+        ),
+    ];
+    for (op, left, right, value_type, value) in table {
+        let e = pair(alloc, op, left, right)?;
+        assert_eq!(rt; constant_in(alloc, &e)?, Some(Fixed { value_type, value }));
+    }
+    let negative = Fixed {
+        value_type: int,
+        value: Constant::Number(-5),
+    };
+    let e = prefix(alloc, UnOp::Negate, letter(K))?;
+    assert_eq!(rt; constant_in(alloc, &e)?, Some(negative));
+    Ok(())
+}
+
+/// The rules of constants that have a type: a value that it doesn't hold, and operands that it can't.
+#[test]
+fn typed_constant_faults(rt: HostRuntime) -> Result<(), Fail> {
+    let alloc = rt.alloc();
+    let range = FaultKind::ConstRange;
+    let greatest = (1 << 63) - 1;
+    let difference = pair(
+        alloc,
+        BinOp::Arithmetic(ArithmeticOp::Sub),
+        letter(K),
+        letter(K),
+    )?;
+    let negative = prefix(alloc, UnOp::Negate, letter(K))?;
+    let table: [(BinOp, Expr, Expr, FaultKind, u32); 11] = [
+        (ADD, letter(K), number(30, greatest), range, K),
+        (ADD, letter(K), letter(M), range, M),
+        (ADD, letter(M), letter(K), range, M),
+        (LESS, letter(K), letter(M), range, M),
+        (SHIFT, letter(K), number(30, 62), range, K),
+        (SHIFT, letter(K), letter(M), range, K),
+        (SHIFT, letter(K), negative, FaultKind::BadOperand, K),
+        (
+            DIV,
+            number(30, 1),
+            difference,
+            FaultKind::ConstZeroDivisor,
+            K,
+        ),
+        (
+            DIV,
+            letter(K),
+            number(30, 0),
+            FaultKind::ConstZeroDivisor,
+            30,
+        ),
+        (ADD, letter(K), letter(L), FaultKind::Mismatch, K),
+        (ADD, letter(L), letter(L), FaultKind::BadOperand, L),
+    ];
+    for (op, left, right, kind, offset) in table {
+        assert!(rt; fails(alloc, pair(alloc, op, left, right), kind, offset)?);
+    }
+    assert!(rt; passes(alloc, pair(alloc, ADD, letter(X), letter(K)))?);
+    assert!(rt; fails(alloc, pair(alloc, ADD, letter(X), letter(M)), range, M)?);
+    assert!(rt;
+        fails(
+            alloc,
+            call(alloc, letter(K), letter(X), false),
+            FaultKind::NotCallable,
+            K
+        )?
+    );
+    Ok(())
+}
+
+/// Whether an expression gives nothing, and no rule fails in it.
+fn is_unknown(alloc: Global, e: Result<Expr, Fail>) -> Result<bool, Fail> {
+    let e = e?;
+    let checked = check_expr(alloc, TEXT, &scope(alloc)?, &e)?;
+    Ok(checked.fault.is_none() && checked.gives.is_none())
+}
+
+/// A constant whose value is not known gives nothing, and has no fault of its own.
+#[test]
+fn unknown_constants(rt: HostRuntime) -> Result<(), Fail> {
+    let alloc = rt.alloc();
+    assert!(rt; is_unknown(alloc, Ok(letter(N)))?);
+    assert!(rt; is_unknown(alloc, pair(alloc, ADD, letter(N), letter(K)))?);
+    assert!(rt; is_unknown(alloc, call(alloc, letter(N), letter(X), false))?);
+    Ok(())
+}
+
+/// A type that is called is a conversion, which is left out at the first byte of the call.
+#[test]
+fn conversions(rt: HostRuntime) -> Result<(), Fail> {
+    let alloc = rt.alloc();
+    let kind = FaultKind::OutOfProfile;
+    assert!(rt;
+        fails(
+            alloc,
+            call(alloc, word(INT, 13), letter(X), false),
+            kind,
+            INT
+        )?
+    );
+    assert!(rt; fails(alloc, call(alloc, letter(T), letter(X), false), kind, T)?);
+    assert!(rt;
+        fails(
+            alloc,
+            call(alloc, word(STRING, 115), letter(X), false),
+            kind,
+            STRING
+        )?
+    );
+    assert!(rt;
+        fails(
+            alloc,
+            call(alloc, word(LEN, 119), letter(X), false),
+            kind,
+            LEN
+        )?
+    );
+    assert!(rt;
+        fails(
+            alloc,
+            call(alloc, word(INT, 13), letter(X), true),
+            kind,
+            INT
+        )?
+    );
+    let inner = in_parentheses(alloc, word(INT, 13))?;
+    assert!(rt; fails(alloc, call(alloc, inner, number(70, 1), false), kind, 60)?);
+    Ok(())
+}
+
 #[test]
 fn prefixes(rt: HostRuntime) -> Result<(), Fail> {
     let alloc = rt.alloc();
@@ -384,7 +701,6 @@ fn calls(rt: HostRuntime) -> Result<(), Fail> {
             33
         )?
     );
-    assert!(rt; fails(alloc, call(alloc, letter(T), letter(X), false), kind, T)?);
     assert!(rt; passes(alloc, call(alloc, word(14, 21), letter(B), false))?);
     assert!(rt; passes(alloc, call(alloc, printing(), number(50, 1), false))?);
     assert!(rt; passes(alloc, call(alloc, panicking(), letter(B), false))?);
@@ -666,20 +982,22 @@ fn conditions(rt: HostRuntime) -> Result<(), Fail> {
 fn types(rt: HostRuntime) -> Result<(), Fail> {
     let alloc = rt.alloc();
     let scope = scope(alloc)?;
-    let table: [(u32, u32, Option<FaultKind>); 6] = [
+    let table: [(u32, u32, Option<FaultKind>); 8] = [
         (10, 13, None),
         (26, 30, None),
         (T, 7, None),
         (22, 25, Some(FaultKind::BadOperand)),
         (F, 5, Some(FaultKind::BadOperand)),
         (U, 9, Some(FaultKind::Unknown)),
+        (K, 102, Some(FaultKind::BadOperand)),
+        (STRING, 115, Some(FaultKind::OutOfProfile)),
     ];
     for (start, end, kind) in table {
         let fault = type_fault(TEXT, &scope, &word(start, end));
         assert_eq!(rt; fault.map(|fault| fault.kind), kind);
     }
     let inner = in_parentheses(alloc, word(26, 30))?;
-    assert_eq!(rt; type_in(TEXT, &inner), Some(ValueType::Bool));
-    assert_eq!(rt; type_in(TEXT, &letter(T)), None);
+    assert_eq!(rt; type_in(TEXT, &scope, &inner), Some(ValueType::Bool));
+    assert_eq!(rt; type_in(TEXT, &scope, &letter(T)), None);
     Ok(())
 }

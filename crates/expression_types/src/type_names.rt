@@ -4,37 +4,46 @@ ghost use Rattle.std.specs.Prelude.{◌≡◌, Option, Some, None};
 ghost use Rattle.syntax.specs.Expressions.{ex_of as tree_of, spelled};
 ghost use Rattle.expression_types.specs.Least.{IsLeast};
 ghost use Rattle.expression_types.specs.Scope.{scope_of, declaration};
-ghost use Rattle.expression_types.specs.Profile.{named_type, is_type_name, is_value_name};
-ghost use Rattle.expression_types.specs.Typing.{type_in};
-ghost use Rattle.expression_types.specs.Faults.{IsFault, declared_type_fault, type_name_fault, FailsAsType};
+ghost use Rattle.expression_types.specs.Typing.{declared_type, type_in};
+ghost use Rattle.expression_types.specs.Faults.{IsFault, type_name_fault, FailsAsType};
 
 use crate::fault::{Fault, FaultKind};
 use crate::naming::spelled;
-use crate::profile::{is_type_name, is_value_name, named_type};
 use crate::scope::{Declared, Scope, ValueType, declaration};
 use base::Pos;
 use syntax::{Expr, Name};
 
+/// The type that a name stands for.
+fn declared_type(declared: Option<Declared>) -> Option<ValueType>
+    ensures { result ≡ declared_type declared }
+{
+    match declared {
+        Some(Declared::Type(value_type)) => Some(value_type),
+        _ => None,
+    }
+}
+
 /// The type that an expression is, where it is one of this part.
-pub fn type_in(text: &[u8], e: &Expr) -> Option<ValueType>
-    ensures { result ≡ type_in text.now (tree_of e.now) }
+pub fn type_in(text: &[u8], scope: &Scope, e: &Expr) -> Option<ValueType>
+    ensures { result ≡ type_in text.now (scope_of scope.now) (tree_of e.now) }
 {
     match e {
-        Expr::Name(name) => named_type(spelled(text, *name)),
+        Expr::Name(name) => declared_type(declaration(scope, spelled(text, *name))),
         Expr::Paren(_, inner) => {
             let inner: &Expr = inner;
-            type_in(text, inner)
+            type_in(text, scope, inner)
         }
         _ => None,
     }
 }
 
 fn declared_fault(declared: Option<Declared>, pos: Pos) -> Option<Fault>
-    ensures { result ≡ declared_type_fault declared pos }
+    ensures { result ≡ type_name_fault declared pos }
 {
     let kind = match declared {
         None => FaultKind::Unknown,
-        Some(Declared::TypeName) => return None,
+        Some(Declared::TypeName | Declared::Type(_)) => return None,
+        Some(Declared::LeftOutType) => FaultKind::OutOfProfile,
         Some(_) => FaultKind::BadOperand,
     };
     Some(Fault { kind, pos })
@@ -43,25 +52,9 @@ fn declared_fault(declared: Option<Declared>, pos: Pos) -> Option<Fault>
 /// The fault of a name as a type.
 #[tactic(auto, using(crate::proofs::Leasts::leaf))]
 fn name_fault(text: &[u8], scope: &Scope, name: Name) -> Option<Fault>
-    ensures { IsLeast (IsFault (type_name_fault (named_type (spelled text.now name)) (is_type_name (spelled text.now name)) (is_value_name (spelled text.now name)) (declaration (scope_of scope.now) (spelled text.now name)) name.pos)) result }
+    ensures { IsLeast (IsFault (type_name_fault (declaration (scope_of scope.now) (spelled text.now name)) name.pos)) result }
 {
-    let bytes = spelled(text, name);
-    let pos = name.pos;
-    if named_type(bytes).is_some() {
-        None
-    } else if is_type_name(bytes) {
-        Some(Fault {
-            kind: FaultKind::OutOfProfile,
-            pos,
-        })
-    } else if is_value_name(bytes) {
-        Some(Fault {
-            kind: FaultKind::BadOperand,
-            pos,
-        })
-    } else {
-        declared_fault(declaration(scope, bytes), pos)
-    }
+    declared_fault(declaration(scope, spelled(text, name)), name.pos)
 }
 
 /// The fault of an expression as a type.

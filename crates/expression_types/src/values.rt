@@ -80,7 +80,7 @@ pub fn values_fault(items: &[Item]) -> Option<Fault>
     }
 }
 
-fn are_single(items: &[Item]) -> bool
+pub fn are_single(items: &[Item]) -> bool
     ensures { result ≡ are_single (seens items.now) }
 {
     let mut all = true;

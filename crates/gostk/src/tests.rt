@@ -369,10 +369,10 @@ fn texts(rt: HostRuntime) -> Result<(), Fail> {
             "a.go:2:23: type kind 12\n",
         ),
         (
-            "package main\nfunc main() { main := 1; println(main) }",
+            "package main\nfunc main() { x := main; println(x) }",
             201,
             "",
-            "a.go:2:15: type kind 20\n",
+            "a.go:2:20: type kind 20\n",
         ),
         (
             "package main\nfunc main() { println('a') }",

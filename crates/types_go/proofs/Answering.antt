@@ -19,19 +19,22 @@ use Rattle.std.specs.Global.{Vec}
 use Rattle.expression_types.specs.declared.fault.Fault.{Fault}
 use Rattle.expression_types.specs.declared.fault.FaultKind.TheVariants.{NoMain}
 use Rattle.expression_types.specs.declared.scope.Declared.{Declared}
-use Rattle.expression_types.specs.declared.scope.Declared.TheVariants.{Untyped, Function, External, TypeName}
-use Rattle.expression_types.specs.Profile.{is_main}
+use Rattle.expression_types.specs.declared.scope.Declared.TheVariants.{Untyped, Constant, Function, External, TypeName}
+use Rattle.expression_types.specs.Universe.{is_main}
 use Rattle.expression_types.specs.Least.{IsLeast, lesser}
 use Rattle.expression_types.specs.Scope.{Scope, declaration, with_declaration, with_signature, beginning}
 use Rattle.expression_types.specs.Typing.{allowed}
 use Rattle.expression_types.specs.Faults.{fault, IsFault}
-use Rattle.types_go.specs.Functions.{number_of, plain_number, declares_name, external_named, is_external, signature_in, with_name, with_names, with_values, with_types, with_item, with_items, functions_in, are_supported, functions, behind_functions, declarations_in, package_scope, main_number, program_functions}
+use Rattle.package_constants.specs.Constants.{Item, items_in, settled}
+use Rattle.package_constants.specs.ConstantFaults.{ConstantsFail}
+use Rattle.types_go.specs.Functions.{number_of, plain_number, declares_name, external_named, is_external, signature_in, with_name, with_names, with_values, with_types, with_heads, with_constant_name, with_constant_names, with_constants, with_item, with_items, functions_in, are_supported, functions, behind_functions, declarations_in, heads_of, numbered_functions, package_scope, main_number, program_functions}
 use Rattle.types_go.specs.StatementFaults.{fault_where}
 use Rattle.types_go.specs.FunctionFaults.{DeclarationsFail, FailsInFunctions, FailsIn, first_byte}
 use Rattle.types_go.specs.Checked.{Types, sites_in, strings_in, program_with}
 use Rattle.expression_types.proofs.Decided.{Decided}
 use Rattle.expression_types.proofs.Leasts.{least_join}
 use Rattle.expression_types.proofs.Options.{none_some, same_some}
+use Rattle.types_go.proofs.Package.{settled_kept}
 use Rattle.types_go.proofs.SettledFunctions.{all_decided}
 
 insert_length : (bs : Blocks) (name : List ℕ) (k : ℕ) → length (insert bs name k) ≡ length bs
@@ -58,27 +61,48 @@ types_depth : (text : List ℕ) (s : Scope) (ts : List TypeSpec) → length (wit
 types_depth text s [] = refl
 types_depth text s (t ∷ ts) = types_depth text (with_name text TypeName s t.name) ts ∙ name_depth text TypeName s t.name
 
-item_depth : (text : List ℕ) (s : Scope) (d : Declaration) → length (with_item text s d).blocks ≡ length s.blocks
-item_depth text s (constants at specs) = values_depth text s specs
-item_depth text s (variables at specs) = values_depth text s specs
-item_depth text s (types at specs) = types_depth text s specs
-item_depth text s (tree.function g) = by (is_external text g)
-  where
-    by : (b : Bool) → length (cond b (with_name text (External (external_named (spelled text g.name)) g.name.pos) s g.name) (with_signature (with_name text (Function (record { 0 = length s.signatures })) s g.name) (signature_in text g))).blocks ≡ length s.blocks
-    by true = name_depth text (External (external_named (spelled text g.name)) g.name.pos) s g.name
-    by false = name_depth text (Function (record { 0 = length s.signatures })) s g.name
+constant_names_depth : (text : List ℕ) (s : Scope) (ns : List Name) → length (with_constant_names text s ns).blocks ≡ length s.blocks
+constant_names_depth text s [] = refl
+constant_names_depth text s (n ∷ ns) = constant_names_depth text (with_constant_name text s n) ns ∙ name_depth text (Constant (record { 0 = length s.constants })) s n
 
-pub items_depth : (text : List ℕ) (s : Scope) (ds : List Declaration) → length (with_items text s ds).blocks ≡ length s.blocks
-items_depth text s [] = refl
-items_depth text s (d ∷ ds) = items_depth text (with_item text s d) ds ∙ item_depth text s d
+constants_depth : (text : List ℕ) (s : Scope) (vs : List ValueSpec) → length (with_constants text s vs).blocks ≡ length s.blocks
+constants_depth text s [] = refl
+constants_depth text s (v ∷ vs) = constants_depth text (with_constant_names text s v.names) vs ∙ constant_names_depth text s v.names
 
-pub typed : (t : Syntax) (p : ProgramData) → program_functions t ≡ Some (map func_of p.funcs.items) → main_number t ≡ Some p.main.0 → p.sites.items ≡ sites_in t → map (λ (bytes : Vec ℕ). bytes.items) p.strings.items ≡ strings_in t
-    → Types t (program_of p)
-typed t p funcs main sites strings = record {
+module _ (text : List ℕ) (heads : Scope) where
+  item_depth : (s : Scope) (d : Declaration) → length (with_item text heads s d).blocks ≡ length s.blocks
+  item_depth s (constants at specs) = constants_depth text s specs
+  item_depth s (variables at specs) = values_depth text s specs
+  item_depth s (types at specs) = types_depth text s specs
+  item_depth s (tree.function g) = by (is_external text heads g)
+    where
+      by : (b : Bool) → length (cond b (with_name text (External (external_named (spelled text g.name)) g.name.pos) s g.name) (with_signature (with_name text (Function (record { 0 = length s.signatures })) s g.name) (signature_in text heads g))).blocks ≡ length s.blocks
+      by true = name_depth text (External (external_named (spelled text g.name)) g.name.pos) s g.name
+      by false = name_depth text (Function (record { 0 = length s.signatures })) s g.name
+
+  pub items_depth : (s : Scope) (ds : List Declaration) → length (with_items text heads s ds).blocks ≡ length s.blocks
+  items_depth s [] = refl
+  items_depth s (d ∷ ds) = items_depth (with_item text heads s d) ds ∙ item_depth s d
+
+-- working out the constants leaves the blocks
+pub settled_depth : (text : List ℕ) (s : Scope) (is : List Item) → length (settled text s is).blocks ≡ length s.blocks
+settled_depth text s is = settled_kept text (λ (r : Scope). length r.blocks ≡ length s.blocks) (λ r k i h. h) s is refl
+
+-- no rule of the constants fails
+abbrev pub Sound : Syntax → Type 0
+Sound t = (f : Fault) → ConstantsFail t.text (package_scope t) (declarations_in t) f → ⊥
+
+pub sound : (t : Syntax) → IsLeast (FailsIn t) None → Sound t
+sound t least f h = least f (inr (inl (inr h)))
+
+pub typed : (t : Syntax) (p : ProgramData) → Sound t → program_functions t ≡ Some (map func_of p.funcs.items) → main_number t ≡ Some p.main.0 → p.sites.items ≡ sites_in t
+    → map (λ (bytes : Vec ℕ). bytes.items) p.strings.items ≡ strings_in t → Types t (program_of p)
+typed t p constants_sound funcs main sites strings = record {
   funcs = map func_of p.funcs.items;
   main = p.main.0;
   functions = funcs;
   main_is = main;
+  constants = constants_sound;
   is = ap (λ (l : List Site). record {
     funcs = map func_of p.funcs.items;
     zeros = zero_values;
@@ -113,11 +137,16 @@ main_sound : (o : Option ℕ) (m : ℕ) (f : Fault) → o ≡ Some m → IsFault
 main_sound None m f is h = absurd (none_some is)
 main_sound (Some k) m f is h = h
 
+-- a rule of a declaration or a function fails
+abbrev OtherFails : Syntax → Fault → Type 0
+OtherFails t f = DeclarationsFail t.text (heads_of t) (package_scope t) (declarations_in t) f ⊎ FailsInFunctions t.text (heads_of t) (package_scope t) 0 (numbered_functions t) f
+
 -- a tree with a typed program has no failing rule
 pub typed_or_fails : (t : Syntax) (p : Program) (f : Fault) → Types t p → FailsIn t f → ⊥
 typed_or_fails t p f a (inl h) = main_sound (main_number t) a.main f a.main_is h
-typed_or_fails t p f a (inr h) =
-    decided_some (program_functions t) a.funcs (λ g. DeclarationsFail t.text (package_scope t) (declarations_in t) g ⊎ FailsInFunctions t.text (package_scope t) 0 (functions_in t.text (declarations_in t)) g) a.functions (all_decided t) f h
+typed_or_fails t p f a (inr (inl (inr h))) = a.constants f h
+typed_or_fails t p f a (inr (inl (inl h))) = decided_some (program_functions t) a.funcs (OtherFails t) a.functions (all_decided t a.constants) f (inl h)
+typed_or_fails t p f a (inr (inr h)) = decided_some (program_functions t) a.funcs (OtherFails t) a.functions (all_decided t a.constants) f (inr h)
 
 -- where no rule fails there is a typed program
 pub given_main : (t : Syntax) → IsLeast (FailsIn t) None → main_number t ≡ None → ⊥
@@ -125,21 +154,21 @@ given_main t least is = least (fault NoMain first_byte) (inl (subst (λ o. IsFau
 
 given_program : (t : Syntax) → IsLeast (FailsIn t) None → program_functions t ≡ None → ⊥
 given_program t least is =
-    let f = decided_given (program_functions t) (λ g. DeclarationsFail t.text (package_scope t) (declarations_in t) g ⊎ FailsInFunctions t.text (package_scope t) 0 (functions_in t.text (declarations_in t)) g) is (all_decided t) in
-    least f.0 (inr f.1)
+    let f = decided_given (program_functions t) (OtherFails t) is (all_decided t (sound t least)) in
+    elim (f.1) [ inl h ↦ least f.0 (inr (inl (inl h))) | inr h ↦ least f.0 (inr (inr h)) ]
 
 -- then all declarations are of forms that are taken
-pub given_functions : (t : Syntax) → IsLeast (FailsIn t) None → (o : Option (List Func)) → o ≡ functions t.text (package_scope t) 0 (functions_in t.text (declarations_in t)) → o ≡ program_functions t
-given_functions t least o is = is ∙ by (are_supported t.text (package_scope t) (declarations_in t)) refl
+pub given_functions : (t : Syntax) → IsLeast (FailsIn t) None → (o : Option (List Func)) → o ≡ functions t.text (heads_of t) (package_scope t) 0 (numbered_functions t) → o ≡ program_functions t
+given_functions t least o is = is ∙ by (are_supported t.text (heads_of t) (package_scope t) (declarations_in t)) refl
   where
     found : Option (List Func)
-    found = functions t.text (package_scope t) 0 (functions_in t.text (declarations_in t))
+    found = functions t.text (heads_of t) (package_scope t) 0 (numbered_functions t)
 
-    by : (b : Bool) → are_supported t.text (package_scope t) (declarations_in t) ≡ b → found ≡ allowed b found
+    by : (b : Bool) → are_supported t.text (heads_of t) (package_scope t) (declarations_in t) ≡ b → found ≡ allowed b found
     by true b_is = refl
     by false b_is = absurd (given_program t least (ap (λ c. allowed c found) b_is))
 
-pub functions_given : (t : Syntax) → IsLeast (FailsIn t) None → (o : Option (List Func)) → o ≡ functions t.text (package_scope t) 0 (functions_in t.text (declarations_in t)) → o ≡ None → ⊥
+pub functions_given : (t : Syntax) → IsLeast (FailsIn t) None → (o : Option (List Func)) → o ≡ functions t.text (heads_of t) (package_scope t) 0 (numbered_functions t) → o ≡ None → ⊥
 functions_given t least o is none = given_program t least (sym (given_functions t least o is) ∙ none)
 
 -- ---- what the pass has worked out, of the tree that it was given
@@ -148,31 +177,37 @@ module _ (tree1 : Tree) where
   abbrev syntax : Syntax
   syntax = syntax_of tree1
 
-  abbrev funcs_in : List ℕ → List Decl → List TreeFunction
-  funcs_in text ds = functions_in text (declarations_of ds)
+  abbrev funcs_in : List ℕ → Scope → List Decl → List TreeFunction
+  funcs_in text h ds = functions_in text h (declarations_of ds)
 
-  pub package_is : (text : List ℕ) (ds : List Decl) (b r : Scope) → text ≡ tree1.text.items → ds ≡ tree1.decls.items → b ≡ beginning → r ≡ with_items text b (declarations_of ds) → r ≡ package_scope syntax
-  package_is text ds b r text_is ds_is b_is r_is =
-      r_is ∙ ap (λ v. with_items text v (declarations_of ds)) b_is ∙ ap (λ x. with_items x beginning (declarations_of ds)) text_is ∙ ap (λ (l : List Decl). with_items tree1.text.items beginning (declarations_of l)) ds_is
+  pub heads_is : (text : List ℕ) (ds : List Decl) (b h : Scope) → text ≡ tree1.text.items → ds ≡ tree1.decls.items → b ≡ beginning → h ≡ with_heads text b (declarations_of ds) → h ≡ heads_of syntax
+  heads_is text ds b h text_is ds_is b_is h_is =
+      h_is ∙ ap (λ v. with_heads text v (declarations_of ds)) b_is ∙ ap (λ x. with_heads x beginning (declarations_of ds)) text_is ∙ ap (λ (l : List Decl). with_heads tree1.text.items beginning (declarations_of l)) ds_is
 
-  pub main_number_is : (text : List ℕ) (ds : List Decl) (r : Scope) (o : Option ℕ) → text ≡ tree1.text.items → ds ≡ tree1.decls.items → r ≡ package_scope syntax
-      → o ≡ cond (is_main (spelled text tree1.package)) (plain_number (funcs_in text ds) (number_of (declaration r (codes "main")))) None → o ≡ main_number syntax
-  main_number_is text ds r o text_is ds_is r_is is =
-      is ∙ ap (λ x. cond (is_main (spelled x tree1.package)) (plain_number (funcs_in x ds) (number_of (declaration r (codes "main")))) None) text_is
-      ∙ ap (λ (l : List Decl). cond (is_main (spelled tree1.text.items tree1.package)) (plain_number (funcs_in tree1.text.items l) (number_of (declaration r (codes "main")))) None) ds_is
-      ∙ ap (λ v. cond (is_main (spelled tree1.text.items tree1.package)) (plain_number (funcs_in tree1.text.items tree1.decls.items) (number_of (declaration v (codes "main")))) None) r_is
+  pub package_is : (text : List ℕ) (ds : List Decl) (h r : Scope) → text ≡ tree1.text.items → ds ≡ tree1.decls.items → h ≡ heads_of syntax → r ≡ settled text (with_items text h beginning (declarations_of ds)) (items_in (declarations_of ds)) → r ≡ package_scope syntax
+  package_is text ds h r text_is ds_is h_is r_is =
+      let Block : List ℕ → List Decl → Scope → Scope = λ x l v. settled x (with_items x v beginning (declarations_of l)) (items_in (declarations_of l)) in
+      r_is ∙ ap (λ x. Block x ds h) text_is ∙ ap (λ (l : List Decl). Block tree1.text.items l h) ds_is ∙ ap (λ v. Block tree1.text.items tree1.decls.items v) h_is
 
-  pub functions_are : (text : List ℕ) (ds : List Decl) (r : Scope) (o : Option (List Func)) → text ≡ tree1.text.items → ds ≡ tree1.decls.items → r ≡ package_scope syntax
-      → o ≡ functions text r 0 (funcs_in text ds) → o ≡ functions syntax.text (package_scope syntax) 0 (functions_in syntax.text (declarations_in syntax))
-  functions_are text ds r o text_is ds_is r_is is =
-      is ∙ ap (λ x. functions x r 0 (funcs_in x ds)) text_is ∙ ap (λ (l : List Decl). functions tree1.text.items r 0 (funcs_in tree1.text.items l)) ds_is
-      ∙ ap (λ v. functions tree1.text.items v 0 (funcs_in tree1.text.items tree1.decls.items)) r_is
+  pub main_number_is : (text : List ℕ) (ds : List Decl) (h r : Scope) (o : Option ℕ) → text ≡ tree1.text.items → ds ≡ tree1.decls.items → h ≡ heads_of syntax → r ≡ package_scope syntax
+      → o ≡ cond (is_main (spelled text tree1.package)) (plain_number (funcs_in text h ds) (number_of (declaration r (codes "main")))) None → o ≡ main_number syntax
+  main_number_is text ds h r o text_is ds_is h_is r_is is =
+      is ∙ ap (λ x. cond (is_main (spelled x tree1.package)) (plain_number (funcs_in x h ds) (number_of (declaration r (codes "main")))) None) text_is
+      ∙ ap (λ (l : List Decl). cond (is_main (spelled tree1.text.items tree1.package)) (plain_number (funcs_in tree1.text.items h l) (number_of (declaration r (codes "main")))) None) ds_is
+      ∙ ap (λ v. cond (is_main (spelled tree1.text.items tree1.package)) (plain_number (funcs_in tree1.text.items v tree1.decls.items) (number_of (declaration r (codes "main")))) None) h_is
+      ∙ ap (λ v. cond (is_main (spelled tree1.text.items tree1.package)) (plain_number (numbered_functions syntax) (number_of (declaration v (codes "main")))) None) r_is
 
-  pub behind_is : (text : List ℕ) (ds : List Decl) (r s : Scope) → text ≡ tree1.text.items → ds ≡ tree1.decls.items → r ≡ package_scope syntax
-      → s ≡ behind_functions text r (funcs_in text ds) → s ≡ behind_functions syntax.text (package_scope syntax) (functions_in syntax.text (declarations_in syntax))
-  behind_is text ds r s text_is ds_is r_is is =
-      is ∙ ap (λ x. behind_functions x r (funcs_in x ds)) text_is ∙ ap (λ (l : List Decl). behind_functions tree1.text.items r (funcs_in tree1.text.items l)) ds_is
-      ∙ ap (λ v. behind_functions tree1.text.items v (funcs_in tree1.text.items tree1.decls.items)) r_is
+  pub functions_are : (text : List ℕ) (ds : List Decl) (h r : Scope) (o : Option (List Func)) → text ≡ tree1.text.items → ds ≡ tree1.decls.items → h ≡ heads_of syntax → r ≡ package_scope syntax
+      → o ≡ functions text h r 0 (funcs_in text h ds) → o ≡ functions syntax.text (heads_of syntax) (package_scope syntax) 0 (numbered_functions syntax)
+  functions_are text ds h r o text_is ds_is h_is r_is is =
+      is ∙ ap (λ x. functions x h r 0 (funcs_in x h ds)) text_is ∙ ap (λ (l : List Decl). functions tree1.text.items h r 0 (funcs_in tree1.text.items h l)) ds_is
+      ∙ ap (λ v. functions tree1.text.items v r 0 (funcs_in tree1.text.items v tree1.decls.items)) h_is ∙ ap (λ v. functions tree1.text.items (heads_of syntax) v 0 (numbered_functions syntax)) r_is
+
+  pub behind_is : (text : List ℕ) (ds : List Decl) (h r s : Scope) → text ≡ tree1.text.items → ds ≡ tree1.decls.items → h ≡ heads_of syntax → r ≡ package_scope syntax
+      → s ≡ behind_functions text h r (funcs_in text h ds) → s ≡ behind_functions syntax.text (heads_of syntax) (package_scope syntax) (numbered_functions syntax)
+  behind_is text ds h r s text_is ds_is h_is r_is is =
+      is ∙ ap (λ x. behind_functions x h r (funcs_in x h ds)) text_is ∙ ap (λ (l : List Decl). behind_functions tree1.text.items h r (funcs_in tree1.text.items h l)) ds_is
+      ∙ ap (λ v. behind_functions tree1.text.items v r (funcs_in tree1.text.items v tree1.decls.items)) h_is ∙ ap (λ v. behind_functions tree1.text.items (heads_of syntax) v (numbered_functions syntax)) r_is
 
   none_test : (o : Option FuncId) (absent : Bool) → is_some o ≡ not absent → absent ≡ not (is_some (option_map (λ (f : FuncId). f.0) o))
   none_test None true is = refl
@@ -180,14 +215,22 @@ module _ (tree1 : Tree) where
   none_test (Some f) true is = cc is
   none_test (Some f) false is = refl
 
-  pub least_is : (text : List ℕ) (ds : List Decl) (r : Scope) (main : Option FuncId) (absent : Bool) (mf df cf : Option Fault) → text ≡ tree1.text.items → ds ≡ tree1.decls.items → r ≡ package_scope syntax
-      → option_map (λ (f : FuncId). f.0) main ≡ main_number syntax → is_some main ≡ not absent → IsLeast (IsFault (fault_where absent (fault NoMain first_byte))) mf → IsLeast (DeclarationsFail text r (declarations_of ds)) df
-      → IsLeast (FailsInFunctions text r 0 (funcs_in text ds)) cf → IsLeast (FailsIn syntax) (lesser mf (lesser df cf))
-  least_is text ds r main absent mf df cf text_is ds_is r_is main_is absent_is no_main forms all =
-      let Forms : List ℕ → List Decl → Scope → Fault → Type 0 = λ x l v. DeclarationsFail x v (declarations_of l) in
-      let All : List ℕ → List Decl → Scope → Fault → Type 0 = λ x l v. FailsInFunctions x v 0 (funcs_in x l) in
-      least_join (IsFault (fault_where (not (is_some (main_number syntax))) (fault NoMain first_byte))) (λ f. Forms tree1.text.items tree1.decls.items (package_scope syntax) f ⊎ All tree1.text.items tree1.decls.items (package_scope syntax) f) mf (lesser df cf)
+  -- a rule of the package block fails
+  abbrev BlockFails : List ℕ → List Decl → Scope → Scope → Fault → Type 0
+  BlockFails x l v w f = DeclarationsFail x v w (declarations_of l) f ⊎ ConstantsFail x w (declarations_of l) f
+
+  abbrev AllFail : List ℕ → List Decl → Scope → Scope → Fault → Type 0
+  AllFail x l v w f = FailsInFunctions x v w 0 (funcs_in x v l) f
+
+  pub least_is : (text : List ℕ) (ds : List Decl) (h r : Scope) (main : Option FuncId) (absent : Bool) (mf df cf : Option Fault) → text ≡ tree1.text.items → ds ≡ tree1.decls.items → h ≡ heads_of syntax → r ≡ package_scope syntax
+      → option_map (λ (f : FuncId). f.0) main ≡ main_number syntax → is_some main ≡ not absent → IsLeast (IsFault (fault_where absent (fault NoMain first_byte))) mf → IsLeast (BlockFails text ds h r) df
+      → IsLeast (AllFail text ds h r) cf → IsLeast (FailsIn syntax) (lesser mf (lesser df cf))
+  least_is text ds h r main absent mf df cf text_is ds_is h_is r_is main_is absent_is no_main forms all =
+      least_join (IsFault (fault_where (not (is_some (main_number syntax))) (fault NoMain first_byte)))
+      (λ f. BlockFails tree1.text.items tree1.decls.items (heads_of syntax) (package_scope syntax) f ⊎ AllFail tree1.text.items tree1.decls.items (heads_of syntax) (package_scope syntax) f) mf (lesser df cf)
       (subst (λ o. IsLeast (IsFault (fault_where (not (is_some o)) (fault NoMain first_byte))) mf) main_is (subst (λ b. IsLeast (IsFault (fault_where b (fault NoMain first_byte))) mf) (none_test main absent absent_is) no_main))
-      (least_join (Forms tree1.text.items tree1.decls.items (package_scope syntax)) (All tree1.text.items tree1.decls.items (package_scope syntax)) df cf
-      (subst (λ v. IsLeast (Forms tree1.text.items tree1.decls.items v) df) r_is (subst (λ (l : List Decl). IsLeast (Forms tree1.text.items l r) df) ds_is (subst (λ x. IsLeast (Forms x ds r) df) text_is forms)))
-      (subst (λ v. IsLeast (All tree1.text.items tree1.decls.items v) cf) r_is (subst (λ (l : List Decl). IsLeast (All tree1.text.items l r) cf) ds_is (subst (λ x. IsLeast (All x ds r) cf) text_is all))))
+      (least_join (BlockFails tree1.text.items tree1.decls.items (heads_of syntax) (package_scope syntax)) (AllFail tree1.text.items tree1.decls.items (heads_of syntax) (package_scope syntax)) df cf
+      (subst (λ w. IsLeast (BlockFails tree1.text.items tree1.decls.items (heads_of syntax) w) df) r_is (subst (λ v. IsLeast (BlockFails tree1.text.items tree1.decls.items v r) df) h_is
+      (subst (λ (l : List Decl). IsLeast (BlockFails tree1.text.items l h r) df) ds_is (subst (λ x. IsLeast (BlockFails x ds h r) df) text_is forms))))
+      (subst (λ w. IsLeast (AllFail tree1.text.items tree1.decls.items (heads_of syntax) w) cf) r_is (subst (λ v. IsLeast (AllFail tree1.text.items tree1.decls.items v r) cf) h_is
+      (subst (λ (l : List Decl). IsLeast (AllFail tree1.text.items l h r) cf) ds_is (subst (λ x. IsLeast (AllFail x ds h r) cf) text_is all)))))

@@ -1,10 +1,11 @@
--- What a statement keeps of a scope: the blocks outside the innermost one, the declarations before it, and the signatures. There are at least
--- as many strings behind it.
-use Rattle.std.proofs.Common.{◌≡◌, ℕ, ◌≤◌, Bool, true, false, cond, List, [], ◌∷◌, ◌++◌, length, Option, Some, None, refl, sym, ap, ◌∙◌, arith, append-nil, append_assoc, length-append}
+-- What a statement keeps of a scope: the blocks outside the innermost one, the declarations before it, the signatures and the constants. There
+-- are at least as many strings behind it.
+use Rattle.std.proofs.Common.{◌≡◌, ℕ, ◌≤◌, Bool, true, false, cond, List, [], ◌∷◌, ◌++◌, length, Option, Some, None, refl, sym, ap, ◌∙◌, subst, arith, append-nil, append_assoc, length-append}
 use Rattle.std.specs.Prelude.{⊤, not, ◌&&◌}
 use Rattle.std.specs.List.{AllByRecursion}
 use Rattle.base.specs.declared.pos.Pos.{Pos}
-use Rattle.names.specs.Blocks.{Blocks, insert}
+use Rattle.std.specs.Str.{bytes_eq}
+use Rattle.names.specs.Blocks.{Names, Blocks, with_entry, insert}
 use Rattle.syntax.specs.declared.expression.Name.{Name}
 use Rattle.syntax.specs.Expressions.{spelled}
 use Rattle.syntax.specs.Statements.{Simple, ValueSpec, Guard, Clause, forever, while_true, counting, ranging, Stm, Stms, Els}
@@ -13,8 +14,8 @@ use Rattle.syntax.specs.Declarations.{Body, Function as TreeFunction}
 use Rattle.typed.specs.declared.program.Site.{Site}
 use Rattle.expression_types.specs.declared.scope.ValueType.{ValueType}
 use Rattle.expression_types.specs.declared.scope.Declared.{Declared}
-use Rattle.expression_types.specs.declared.scope.Declared.TheVariants.{Variable, Untyped, Function, External, TypeName}
-use Rattle.expression_types.specs.Profile.{is_reserved}
+use Rattle.expression_types.specs.declared.scope.Declared.TheVariants.{Variable, Untyped}
+use Rattle.expression_types.specs.Universe.{is_blank}
 use Rattle.expression_types.specs.Scope.{Scope, type_number, is_here, with_variable, with_strings, outer, opened, closed}
 use Rattle.expression_types.specs.Typing.{gives}
 use Rattle.types_go.specs.declared.slots.Slot.{Slot}
@@ -26,9 +27,7 @@ use Rattle.types_go.specs.Functions.{slots_of, behind_params, body_scope, behind
 abbrev pub IsLocal : Declared → Type 0
 IsLocal (Variable site t) = ⊤
 IsLocal Untyped = ⊤
-IsLocal (Function g) = ⊥
-IsLocal (External e at) = ⊥
-IsLocal TypeName = ⊥
+IsLocal other = ⊥
 
 -- some declarations, and more of statements behind them
 abbrev pub Longer : List Declared → List Declared → Type 0
@@ -42,12 +41,24 @@ IsSite site = (t : ValueType) × (site.type_id.0 ≡ type_number t)
 abbrev pub Extends : List Site → List Site → Type 0
 Extends a b = (more : List Site) × (b ≡ a ++ more) × AllByRecursion IsSite more
 
+-- the numbers of the names in a block, and in the innermost one, are not below one
+abbrev pub EntriesAbove : ℕ → Names → Type 0
+EntriesAbove n [] = Unit {0}
+EntriesAbove n (e ∷ es) = (n ≤ e.1) × EntriesAbove n es
+
+abbrev pub InnerAbove : ℕ → Blocks → Type 0
+InnerAbove n [] = Unit {0}
+InnerAbove n (b ∷ bs) = EntriesAbove n b
+
+-- the names of the innermost block that are new have numbers behind those of the declarations so far
 pub record Grows (s r : Scope) : Type 0 where
   pub around : outer r.blocks ≡ outer s.blocks
   pub depth : length r.blocks ≡ length s.blocks
+  pub newer : (n : ℕ) → n ≤ length s.declared → InnerAbove n s.blocks → InnerAbove n r.blocks
   pub declared : Longer s.declared r.declared
   pub sites : Extends s.sites r.sites
   pub signatures : r.signatures ≡ s.signatures
+  pub constants : r.constants ≡ s.constants
   pub strings : length s.strings ≤ length r.strings
 
 -- the same blocks, and more declarations
@@ -56,6 +67,7 @@ pub record Keeps (s r : Scope) : Type 0 where
   pub declared : Longer s.declared r.declared
   pub sites : Extends s.sites r.sites
   pub signatures : r.signatures ≡ s.signatures
+  pub constants : r.constants ≡ s.constants
   pub strings : length s.strings ≤ length r.strings
 
 pub extends_none : (a : List Site) → Extends a a
@@ -68,23 +80,28 @@ extends_twice a b c p q = (p.0 ++ q.0, q.1 ∙ ap (λ l. l ++ q.0) p.1 ∙ appen
     all_both [] all = q.2
     all_both (site ∷ sites) all = (all.0, all_both sites all.1)
 
-longer_twice : (a b c : List Declared) → Longer a b → Longer b c → Longer a c
+pub longer_twice : (a b c : List Declared) → Longer a b → Longer b c → Longer a c
 longer_twice a b c p q = (p.0 ++ q.0, q.1 ∙ ap (λ l. l ++ q.0) p.1 ∙ append_assoc a p.0 q.0, all_both p.0 p.2)
   where
     all_both : (ds : List Declared) → AllByRecursion IsLocal ds → AllByRecursion IsLocal (ds ++ q.0)
     all_both [] all = q.2
     all_both (d ∷ ds) all = (all.0, all_both ds all.1)
 
+pub longer_length : (a b : List Declared) → Longer a b → length a ≤ length b
+longer_length a b p = let whole = ap length p.1 ∙ length-append a p.0 in omega (arith, whole)
+
 pub grows_none : (s : Scope) → Grows s s
-grows_none s = record { around = refl; depth = refl; declared = ([], sym (append-nil s.declared), tt); sites = extends_none s.sites; signatures = refl; strings = omega arith }
+grows_none s = record { around = refl; depth = refl; newer = λ n le above. above; declared = ([], sym (append-nil s.declared), tt); sites = extends_none s.sites; signatures = refl; constants = refl; strings = omega arith }
 
 pub grows_twice : (a b c : Scope) → Grows a b → Grows b c → Grows a c
 grows_twice a b c p q = record {
   around = q.around ∙ p.around;
   depth = q.depth ∙ p.depth;
+  newer = λ n le above. q.newer n (omega (arith, le, longer_length a.declared b.declared p.declared)) (p.newer n le above);
   declared = longer_twice a.declared b.declared c.declared p.declared q.declared;
   sites = extends_twice a.sites b.sites c.sites p.sites q.sites;
   signatures = q.signatures ∙ p.signatures;
+  constants = q.constants ∙ p.constants;
   strings = omega (arith, p.strings, q.strings);
 }
 
@@ -94,27 +111,28 @@ keeps_twice a b c p q = record {
   declared = longer_twice a.declared b.declared c.declared p.declared q.declared;
   sites = extends_twice a.sites b.sites c.sites p.sites q.sites;
   signatures = q.signatures ∙ p.signatures;
+  constants = q.constants ∙ p.constants;
   strings = omega (arith, p.strings, q.strings);
 }
 
 pub keeps_none : (s : Scope) → Keeps s s
-keeps_none s = record { blocks = refl; declared = ([], sym (append-nil s.declared), tt); sites = extends_none s.sites; signatures = refl; strings = omega arith }
+keeps_none s = record { blocks = refl; declared = ([], sym (append-nil s.declared), tt); sites = extends_none s.sites; signatures = refl; constants = refl; strings = omega arith }
 
 pub keeps_grows : (s r : Scope) → Keeps s r → Grows s r
-keeps_grows s r k = record { around = ap outer k.blocks; depth = ap length k.blocks; declared = k.declared; sites = k.sites; signatures = k.signatures; strings = k.strings }
+keeps_grows s r k = record { around = ap outer k.blocks; depth = ap length k.blocks; newer = λ n le above. subst (InnerAbove n) (sym k.blocks) above; declared = k.declared; sites = k.sites; signatures = k.signatures; constants = k.constants; strings = k.strings }
 
 -- more strings
 pub keeps_strings : (s : Scope) (strings : List (List ℕ)) → Keeps s (with_strings s strings)
 keeps_strings s strings =
     let long = length-append s.strings strings in
-    record { blocks = refl; declared = ([], sym (append-nil s.declared), tt); sites = extends_none s.sites; signatures = refl; strings = omega (arith, long) }
+    record { blocks = refl; declared = ([], sym (append-nil s.declared), tt); sites = extends_none s.sites; signatures = refl; constants = refl; strings = omega (arith, long) }
 
 pub grows_strings : (s : Scope) (strings : List (List ℕ)) → Grows s (with_strings s strings)
 grows_strings s strings = keeps_grows s (with_strings s strings) (keeps_strings s strings)
 
 -- behind a block
 pub keeps_inner : (s r : Scope) → Grows (opened s) r → Keeps s (closed r)
-keeps_inner s r g = record { blocks = g.around; declared = g.declared; sites = g.sites; signatures = g.signatures; strings = g.strings }
+keeps_inner s r g = record { blocks = g.around; declared = g.declared; sites = g.sites; signatures = g.signatures; constants = g.constants; strings = g.strings }
 
 insert_outer : (bs : Blocks) (name : List ℕ) (k : ℕ) → outer (insert bs name k) ≡ outer bs
 insert_outer [] name k = refl
@@ -124,9 +142,21 @@ insert_length : (bs : Blocks) (name : List ℕ) (k : ℕ) → length (insert bs 
 insert_length [] name k = refl
 insert_length (b ∷ bs) name k = refl
 
+with_entry_above : (n k : ℕ) → n ≤ k → (es : Names) (name : List ℕ) → EntriesAbove n es → EntriesAbove n (with_entry es name k)
+with_entry_above n k le [] name above = (le, tt)
+with_entry_above n k le (e ∷ es) name above = by (with_entry_above n k le es name above.1) (bytes_eq name e.0)
+  where
+    by : EntriesAbove n (with_entry es name k) → (b : Bool) → EntriesAbove n (cond b ((e.0, k) ∷ es) (e ∷ with_entry es name k))
+    by later true = (le, above.1)
+    by later false = (above.0, later)
+
+insert_above : (n k : ℕ) → n ≤ k → (bs : Blocks) (name : List ℕ) → InnerAbove n bs → InnerAbove n (insert bs name k)
+insert_above n k le [] name above = tt
+insert_above n k le (b ∷ bs) name above = with_entry_above n k le b name above
+
 pub grows_variable : (t : Option ValueType) (s : Scope) (name : List ℕ) (at : Pos) → Grows s (with_variable t s name at)
-grows_variable (Some t) s name at = record { around = insert_outer s.blocks name _; depth = insert_length s.blocks name _; declared = (_, refl, (tt, tt)); sites = (_, refl, ((t, refl), tt)); signatures = refl; strings = omega arith }
-grows_variable None s name at = record { around = insert_outer s.blocks name _; depth = insert_length s.blocks name _; declared = (_, refl, (tt, tt)); sites = extends_none s.sites; signatures = refl; strings = omega arith }
+grows_variable (Some t) s name at = record { around = insert_outer s.blocks name _; depth = insert_length s.blocks name _; newer = λ n le above. insert_above n (length s.declared) le s.blocks name above; declared = (_, refl, (tt, tt)); sites = (_, refl, ((t, refl), tt)); signatures = refl; constants = refl; strings = omega arith }
+grows_variable None s name at = record { around = insert_outer s.blocks name _; depth = insert_length s.blocks name _; newer = λ n le above. insert_above n (length s.declared) le s.blocks name above; declared = (_, refl, (tt, tt)); sites = extends_none s.sites; signatures = refl; constants = refl; strings = omega arith }
 
 grows_where : (b : Bool) (t : Option ValueType) (s : Scope) (name : List ℕ) (at : Pos) → Grows s (cond b (with_variable t s name at) s)
 grows_where true t s name at = grows_variable t s name at
@@ -145,7 +175,7 @@ module _ (text : List ℕ) where
 
   grows_entry : (t : Option ValueType) (s : Scope) (n : Option Name) → Grows s (behind_entry_name text t s n)
   grows_entry t s None = grows_none s
-  grows_entry t s (Some n) = grows_where (not (is_reserved (spelled text n)) && not (is_here s (spelled text n))) t s (spelled text n) n.pos
+  grows_entry t s (Some n) = grows_where (not (is_blank (spelled text n)) && not (is_here s (spelled text n))) t s (spelled text n) n.pos
 
   pub grows_entries : (s : Scope) (ps : List Slot) → Grows s (behind_entries text s ps)
   grows_entries s [] = grows_none s
@@ -239,21 +269,22 @@ module _ (text : List ℕ) where
       let h = clause_scope text s c in
       keeps_headed s h (closed (behind_all text (opened h) body)) (grows_clause s c) (keeps_block h body)
 
-  -- ---- functions
+-- ---- functions
 
-  pub grows_body : (s : Scope) (g : TreeFunction) → Grows (opened s) (body_scope text s g)
+module _ (text : List ℕ) (heads : Scope) where
+  pub grows_body : (s : Scope) (g : TreeFunction) → Grows (opened s) (body_scope text heads s g)
   grows_body s g =
-      grows_twice (opened s) (behind_params text s g) (body_scope text s g) (grows_entries (opened s) (slots_of text g.params)) (grows_entries (behind_params text s g) (slots_of text g.results))
+      grows_twice (opened s) (behind_params text heads s g) (body_scope text heads s g) (grows_entries text (opened s) (slots_of text heads g.params)) (grows_entries text (behind_params text heads s g) (slots_of text heads g.results))
 
-  pub keeps_body : (s : Scope) (g : TreeFunction) (b : Option Body) → Keeps s (behind_body text s g b)
+  pub keeps_body : (s : Scope) (g : TreeFunction) (b : Option Body) → Keeps s (behind_body text heads s g b)
   keeps_body s g None = keeps_none s
   keeps_body s g (Some b) =
-      let last1 = behind_all text (body_scope text s g) b.statements in
-      keeps_inner s last1 (grows_twice (opened s) (body_scope text s g) last1 (grows_body s g) (grows_all (body_scope text s g) b.statements))
+      let last1 = behind_all text (body_scope text heads s g) b.statements in
+      keeps_inner s last1 (grows_twice (opened s) (body_scope text heads s g) last1 (grows_body s g) (grows_all text (body_scope text heads s g) b.statements))
 
-  pub keeps_function : (s : Scope) (g : TreeFunction) → Keeps s (behind_function text s g)
+  pub keeps_function : (s : Scope) (g : TreeFunction) → Keeps s (behind_function text heads s g)
   keeps_function s g = keeps_body s g g.body
 
-  pub keeps_functions : (s : Scope) (gs : List TreeFunction) → Keeps s (behind_functions text s gs)
+  pub keeps_functions : (s : Scope) (gs : List TreeFunction) → Keeps s (behind_functions text heads s gs)
   keeps_functions s [] = keeps_none s
-  keeps_functions s (g ∷ gs) = keeps_twice s (behind_function text s g) (behind_functions text (behind_function text s g) gs) (keeps_function s g) (keeps_functions (behind_function text s g) gs)
+  keeps_functions s (g ∷ gs) = keeps_twice s (behind_function text heads s g) (behind_functions text heads (behind_function text heads s g) gs) (keeps_function s g) (keeps_functions (behind_function text heads s g) gs)

@@ -8,7 +8,7 @@ use Rattle.typed.specs.declared.program.Site.{Site}
 use Rattle.typed.specs.Syntax.{Program, int_type}
 use Rattle.typed.specs.Form.{site_type, LeftsFit, new_sites, scope_behind, scope_with, SitesNext, ParamsFit, NamedFit, named_params as with_sites, params_scope}
 use Rattle.expression_types.specs.declared.scope.ValueType.{ValueType}
-use Rattle.expression_types.specs.Profile.{is_blank, is_main, is_predeclared}
+use Rattle.expression_types.specs.Universe.{is_blank}
 use Rattle.expression_types.specs.Scope.{Scope, type_number, type_numbers, is_here, with_variable}
 use Rattle.types_go.specs.declared.slots.Slot.{Slot}
 use Rattle.types_go.specs.declared.entries.Role.{Role}
@@ -112,11 +112,10 @@ pub blank_is : (role : Role) (e : Option ℕ) → blank_entry role ≡ Some e �
 blank_is Parameter e is = sym (same_some is)
 blank_is Result e is = absurd (none_some is)
 
--- a variable: not reserved, and new
-pub variable_is : (r h : Bool) (site : ℕ) (e : Option ℕ) → variable_entry r h site ≡ Some e → (r ≡ false) × (h ≡ false) × (e ≡ Some site)
-variable_is true h site e is = absurd (none_some is)
-variable_is false true site e is = absurd (none_some is)
-variable_is false false site e is = (refl, refl, sym (same_some is))
+-- a variable: a new one
+pub variable_is : (h : Bool) (site : ℕ) (e : Option ℕ) → variable_entry h site ≡ Some e → (h ≡ false) × (e ≡ Some site)
+variable_is true site e is = absurd (none_some is)
+variable_is false site e is = (refl, sym (same_some is))
 
 module _ (text : List ℕ) (p : Program) (all : List Site) (has : HasSites p all) where
   pub entries_fit : (role : Role) (s : Scope) (scope : List ℕ) (ps : List Slot) (ts : List ValueType) (es : List (Option ℕ)) → Visible s scope → SlotsHave ps ts → entries text role s ps ≡ Some es → Extends (behind_entries text s ps).sites all
@@ -164,17 +163,16 @@ module _ (text : List ℕ) (p : Program) (all : List Site) (has : HasSites p all
           newest : (n1 : Name) → HasSite (with_variable (Some t) s (spelled text n1) n1.pos).sites (length s.sites) t
           newest n1 = (record { pos = n1.pos; type_id = record { 0 = type_number t } }, last_site s.sites (record { pos = n1.pos; type_id = record { 0 = type_number t } }), refl)
 
-      with_name : (n : Name) (b r h : Bool) (e : Option ℕ) (xs : List (Option ℕ)) → entry_of role b (b || r) h (length s.sites) ≡ Some e
-          → entries text role (cond (not (b || r) && not h) (with_variable (Some t) s (spelled text n) n.pos) s) ps ≡ Some xs
-          → Extends (behind_entries text (cond (not (b || r) && not h) (with_variable (Some t) s (spelled text n) n.pos) s) ps).sites all → Later
-          → Whole (cond (not (b || r) && not h) (with_variable (Some t) s (spelled text n) n.pos) s) (e ∷ xs)
-      with_name n true r h e xs e_is xs_is x later = subst (λ (o : Option ℕ). Whole s (o ∷ xs)) (sym (blank_is role e e_is)) (nothing xs (later s scope xs visible xs_is x))
-      with_name n false true h e xs e_is xs_is x later = let v = variable_is true h (length s.sites) e e_is in absurd cc
-      with_name n false false true e xs e_is xs_is x later = let v = variable_is false true (length s.sites) e e_is in absurd cc
-      with_name n false false false e xs e_is xs_is x later =
-          let v = variable_is false false (length s.sites) e e_is in
+      with_name : (n : Name) (b h : Bool) (e : Option ℕ) (xs : List (Option ℕ)) → entry_of role b h (length s.sites) ≡ Some e
+          → entries text role (cond (not b && not h) (with_variable (Some t) s (spelled text n) n.pos) s) ps ≡ Some xs
+          → Extends (behind_entries text (cond (not b && not h) (with_variable (Some t) s (spelled text n) n.pos) s) ps).sites all → Later
+          → Whole (cond (not b && not h) (with_variable (Some t) s (spelled text n) n.pos) s) (e ∷ xs)
+      with_name n true h e xs e_is xs_is x later = subst (λ (o : Option ℕ). Whole s (o ∷ xs)) (sym (blank_is role e e_is)) (nothing xs (later s scope xs visible xs_is x))
+      with_name n false true e xs e_is xs_is x later = let v = variable_is true (length s.sites) e e_is in absurd cc
+      with_name n false false e xs e_is xs_is x later =
+          let v = variable_is false (length s.sites) e e_is in
           let s1 = with_variable (Some t) s (spelled text n) n.pos in
-          subst (λ (o : Option ℕ). Whole s1 (o ∷ xs)) (sym v.2) (variable n xs (later s1 (length s.sites ∷ scope) xs (visible_with s scope (spelled text n) t n.pos visible) xs_is x) x)
+          subst (λ (o : Option ℕ). Whole s1 (o ∷ xs)) (sym v.1) (variable n xs (later s1 (length s.sites ∷ scope) xs (visible_with s scope (spelled text n) t n.pos visible) xs_is x) x)
 
       by : (n : Option Name) → q.name ≡ n → (e : Option ℕ) (xs : List (Option ℕ)) → entry_in text role s n ≡ Some e → entries text role (behind_entry_name text (Some t) s q.name) ps ≡ Some xs
           → Extends (behind_entries text (behind_entry_name text (Some t) s q.name) ps).sites all → Later → EntriesFit text p s scope (q ∷ ps) (t ∷ ts) (e ∷ xs)
@@ -185,4 +183,4 @@ module _ (text : List ℕ) (p : Program) (all : List Site) (has : HasSites p all
       by (Some n) n_is e xs e_is xs_is x later =
           let found : entries text role (behind_entry_name text (Some t) s (Some n)) ps ≡ Some xs = ap (λ (m : Option Name). entries text role (behind_entry_name text (Some t) s m) ps) (sym n_is) ∙ xs_is in
           let x1 : Extends (behind_entries text (behind_entry_name text (Some t) s (Some n)) ps).sites all = subst (λ (m : Option Name). Extends (behind_entries text (behind_entry_name text (Some t) s m) ps).sites all) n_is x in
-          as_fit (Some n) n_is (e ∷ xs) (with_name n (is_blank (spelled text n)) (is_main (spelled text n) || is_predeclared (spelled text n)) (is_here s (spelled text n)) e xs e_is found x1 later)
+          as_fit (Some n) n_is (e ∷ xs) (with_name n (is_blank (spelled text n)) (is_here s (spelled text n)) e xs e_is found x1 later)

@@ -145,7 +145,7 @@ module _ (text : List ℕ) (p : Program) (all : List Site) (has : HasSites p all
         let r = and_then_some (λ i. option_map (λ x. record { init = i; condition = x }) (condition text h g.condition)) (init_statement text s g.init) c is in
         let q = map_some (λ x. record { init = r.0; condition = x }) (condition text h g.condition) c r.2 in
         let i = init_fits looped g.init r.0 r.1 ext in
-        subst (λ (k : Choice). ChoiceFits looped h k) q.2 (i, condition_fits p (init_scope scope r.0) text h i.visible.shown (agreed h signed ext.0) g.condition q.0 q.1)
+        subst (λ (k : Choice). ChoiceFits looped h k) q.2 (i, condition_fits p (init_scope scope r.0) text h i.visible.shown i.visible.held (agreed h signed ext.0) g.condition q.0 q.1)
 
     pub choice_formed : (looped : Bool) (h inner after : Scope) (c : Choice) (y z : Sts) → ChoiceFits looped h c → StsFormed looped h (init_scope scope c.init) inner y → StsFormed looped inner (init_scope scope c.init) after z
         → Formed1 looped s scope after (chosen c y z)
@@ -245,66 +245,63 @@ module _ (text : List ℕ) (p : Program) (all : List Site) (has : HasSites p all
     nothing_fits : KeyFits (opened s) blank
     nothing_fits = record { shows = visible_opened s scope visible; count = omega arith; fit = λ n le. tt }
 
-    -- one left side
-    one_key : (l : List Left) (key : Left) → key_of l ≡ Some key → (l ≡ []) × (key ≡ blank) ⊎ (l ≡ key ∷ [])
-    one_key [] key is = inl (refl, sym (same_some is))
-    one_key (x ∷ []) key is = inr (ap (λ (y : Left). y ∷ []) (same_some is))
-    one_key (x ∷ y ∷ l) key is = absurd (none_some is)
+    -- one left side, or one before a blank one
+    key_sites : (l : List Left) (key : Left) → key_of l ≡ Some key → new_sites l ≡ new_sites (key ∷ [])
+    key_sites [] key is = ap (λ (k : Left). new_sites (k ∷ [])) (same_some is)
+    key_sites (x ∷ []) key is = ap (λ (k : Left). new_sites (k ∷ [])) (same_some is)
+    key_sites (x ∷ blank ∷ []) key is = by x ∙ ap (λ (k : Left). new_sites (k ∷ [])) (same_some is)
+      where
+        by : (y : Left) → new_sites (y ∷ blank ∷ []) ≡ new_sites (y ∷ [])
+        by blank = refl
+        by (new site) = refl
+        by (to q) = refl
+    key_sites other key is = absurd (none_some is)
 
-    lefts_long : (ls : TreeExs) (l : List Left) → lefts text (opened s) ls ≡ Some l → length (all_wanted text (opened s) ls) ≡ length l
-    lefts_long expressions.none l is = ap length (same_some is)
-    lefts_long (some e es) l is =
-        let r = and_then_some (λ k. option_map (λ ks. k ∷ ks) (lefts text (opened s) es)) (left text (opened s) (name_in e)) l is in
-        let q = map_some (λ ks. r.0 ∷ ks) (lefts text (opened s) es) l r.2 in
-        ap suc (lefts_long es q.0 q.1) ∙ ap length q.2
+    key_scope : (wide : List ℕ) (l : List Left) (key : Left) → key_of l ≡ Some key → scope_behind wide l ≡ scope_behind wide (key ∷ [])
+    key_scope wide [] key is = ap (λ (k : Left). scope_behind wide (k ∷ [])) (same_some is)
+    key_scope wide (x ∷ []) key is = ap (λ (k : Left). scope_behind wide (k ∷ [])) (same_some is)
+    key_scope wide (x ∷ blank ∷ []) key is = by x ∙ ap (λ (k : Left). scope_behind wide (k ∷ [])) (same_some is)
+      where
+        by : (y : Left) → scope_behind wide (y ∷ blank ∷ []) ≡ scope_behind wide (y ∷ [])
+        by blank = refl
+        by (new site) = refl
+        by (to q) = refl
+    key_scope wide other key is = absurd (none_some is)
+
+    first_fits : (m n : ℕ) (ts : List ℕ) (x : Left) (ls : List Left) → LeftsFit p scope m n (int_type ∷ ts) (x ∷ ls) → LeftsFit p scope m n (int_type ∷ []) (x ∷ [])
+    first_fits m n ts blank ls fit = tt
+    first_fits m n ts (new site) ls fit = (fit.0, fit.1, fit.2, tt)
+    first_fits m n ts (to q) ls fit = (fit.0, tt)
+
+    key_fits : {A : Type 0} (m n : ℕ) (xs : List A) (l : List Left) (key : Left) → key_of l ≡ Some key → LeftsFit p scope m n (type_numbers (map (λ (x : A). Int) xs)) l → LeftsFit p scope m n (int_type ∷ []) (key ∷ [])
+    key_fits m n xs [] key is fit = subst (λ (k : Left). LeftsFit p scope m n (int_type ∷ []) (k ∷ [])) (same_some is) tt
+    key_fits m n [] (x ∷ l) key is fit = absurd fit
+    key_fits m n (a ∷ xs) (x ∷ []) key is fit = subst (λ (k : Left). LeftsFit p scope m n (int_type ∷ []) (k ∷ [])) (same_some is) (first_fits m n (type_numbers (map (λ (y : _). Int) xs)) x [] fit)
+    key_fits m n (a ∷ xs) (x ∷ blank ∷ []) key is fit = subst (λ (k : Left). LeftsFit p scope m n (int_type ∷ []) (k ∷ [])) (same_some is) (first_fits m n (type_numbers (map (λ (y : _). Int) xs)) x (blank ∷ []) fit)
+    key_fits m n (a ∷ xs) other key is fit = absurd (none_some is)
 
     assigned_fits : (ls : TreeExs) (l : List Left) (key : Left) → Extends s.sites all → lefts text (opened s) ls ≡ Some l → all_accept (Some Int) (all_wanted text (opened s) ls) ≡ true → key_of l ≡ Some key → KeyFits (opened s) key
     assigned_fits ls l key ext found accept is =
         let ps = all_wanted text (opened s) ls in
-        let types = map (λ (q : Option ValueType). Int) ps in
-        by ps l (lefts_long ls l found)
-        (lefts_fit p text (opened s) scope (known_all text p all has (opened s) scope (visible_opened s scope visible) ext) ls types l (given_types Int ps accept) found) (one_key l key is)
-      where
-        by : (ps : List (Option ValueType)) (l1 : List Left) → length ps ≡ length l1 → OldFit p scope (map (λ (q : Option ValueType). Int) ps) l1 → (l1 ≡ []) × (key ≡ blank) ⊎ (l1 ≡ key ∷ []) → KeyFits (opened s) key
-        by ps l1 long old (inl k) = subst (λ (x : Left). KeyFits (opened s) x) (sym k.1) nothing_fits
-        by [] l1 long old (inr k) = let one1 : length l1 ≡ 1 = ap length k in absurd (omega (arith, long, one1))
-        by (w ∷ v ∷ ps) l1 long old (inr k) = let one1 : length l1 ≡ 1 = ap length k in absurd (omega (arith, long, one1))
-        by (w ∷ []) l1 long old (inr k) =
-            let sites_are : new_sites (key ∷ []) ≡ 0 = ap new_sites (sym k) ∙ old.sites in
-            record {
-              shows = subst (λ (w : List ℕ). Visible (opened s) w) (sym (ap (scope_behind scope) (sym k) ∙ old.behind scope)) (visible_opened s scope visible);
-              count = omega (arith, sites_are);
-              fit = λ n le. subst (λ (x : List Left). LeftsFit p scope (length s.sites) n (int_type ∷ []) x) k (old.fit (length s.sites) n);
-            }
+        let old = lefts_fit p text (opened s) scope (known_all text p all has (opened s) scope (visible_opened s scope visible) ext) ls (map (λ (q : Option ValueType). Int) ps) l (given_types Int ps accept) found in
+        let sites_are : new_sites (key ∷ []) ≡ 0 = sym (key_sites l key is) ∙ old.sites in
+        record {
+          shows = subst (λ (w : List ℕ). Visible (opened s) w) (sym (old.behind scope) ∙ key_scope scope l key is) (visible_opened s scope visible);
+          count = omega (arith, sites_are);
+          fit = λ n le. key_fits (length s.sites) n ps l key is (old.fit (length s.sites) n);
+        }
 
     defined_fits : (ns : List Name) (es : List (Option ℕ)) (key : Left) → Extends (behind_entries text (opened s) (map (slot_with (Some Int)) ns)).sites all → entries text Parameter (opened s) (map (slot_with (Some Int)) ns) ≡ Some es
         → key_of (map entry_left es) ≡ Some key → KeyFits (behind_entries text (opened s) (map (slot_with (Some Int)) ns)) key
     defined_fits ns es key ext found is =
         let h = behind_entries text (opened s) (map (slot_with (Some Int)) ns) in
         let f = entries_fit text p all has Parameter (opened s) scope (map (slot_with (Some Int)) ns) (map (λ (n : Name). Int) ns) es (visible_opened s scope visible) (with_have Int ns) found ext in
-        by ns es f (one_key (map entry_left es) key is)
-      where
-        by : (ns1 : List Name) (es1 : List (Option ℕ)) → EntriesFit text p (opened s) scope (map (slot_with (Some Int)) ns1) (map (λ (n : Name). Int) ns1) es1 → (map entry_left es1 ≡ []) × (key ≡ blank) ⊎ (map entry_left es1 ≡ key ∷ [])
-            → KeyFits (behind_entries text (opened s) (map (slot_with (Some Int)) ns1)) key
-        by [] [] f (inl k) = subst (λ (x : Left). KeyFits (opened s) x) (sym k.1) nothing_fits
-        by (n ∷ ns1) [] f k = let long = f.long in absurd (omega (arith, long))
-        by [] (e ∷ es1) f k = let long = f.long in absurd (omega (arith, long))
-        by (n ∷ ns1) (e ∷ es1) f (inl k) = let none1 : length (map entry_left (e ∷ es1)) ≡ 0 = ap length k.0 in absurd (omega (arith, none1))
-        by [] [] f (inr k) = let one1 : 0 ≡ length (key ∷ []) = ap length k in absurd (omega (arith, one1))
-        by (n ∷ m ∷ ns1) (e ∷ es1) f (inr k) =
-            let one1 : length (map entry_left (e ∷ es1)) ≡ 1 = ap length k in
-            let long = f.long in
-            let same1 = length-map (m ∷ ns1) (slot_with (Some Int)) in
-            let same2 = length-map es1 entry_left in
-            absurd (omega (arith, one1, long, same1, same2))
-        by (n ∷ []) (e ∷ es1) f (inr k) =
-            let h = behind_entries text (opened s) (map (slot_with (Some Int)) (n ∷ [])) in
-            let sites_are : new_sites (key ∷ []) ≡ with_sites (e ∷ es1) = ap new_sites (sym k) ∙ left_sites (e ∷ es1) in
-            record {
-              shows = subst (λ (w : List ℕ). Visible h w) (sym (ap (scope_behind scope) (sym k) ∙ left_scope scope (e ∷ es1))) f.visible;
-              count = omega (arith, sites_are, f.count);
-              fit = λ n1 le. subst (λ (x : List Left). LeftsFit p scope (length s.sites) n1 (int_type ∷ []) x) k (lefts_of_params p scope (length s.sites) n1 (int_type ∷ []) (e ∷ es1) f.fit (omega (arith, le, f.count)));
-            }
+        let sites_are : new_sites (key ∷ []) ≡ with_sites es = sym (key_sites (map entry_left es) key is) ∙ left_sites es in
+        record {
+          shows = subst (λ (w : List ℕ). Visible h w) (sym (left_scope scope es) ∙ key_scope scope (map entry_left es) key is) f.visible;
+          count = omega (arith, sites_are, f.count);
+          fit = λ n le. key_fits (length s.sites) n ns (map entry_left es) key is (lefts_of_params p scope (length s.sites) n (type_numbers (map (λ (m : Name). Int) ns)) es f.fit (omega (arith, le, f.count)));
+        }
 
     keys_fit : (t : Targets) (l : List Left) (key : Left) → Extends s.sites all → Extends (behind_entries text (opened s) (target_slots (Some Int) t)).sites all → target_lefts text (opened s) (Some Int) t ≡ Some l → key_of l ≡ Some key
         → KeyFits (behind_entries text (opened s) (target_slots (Some Int) t)) key
@@ -322,7 +319,7 @@ module _ (text : List ℕ) (p : Program) (all : List Site) (has : HasSites p all
         let q = and_then_some as_int (operand_in (gives text s e)) x is in
         let a = allowed_is (same_type Int (type_of q.0)) (as_value q.0) x q.2 in
         let agrees = agreed s refl ext in
-        let fits = operand_fits p scope (gives text s e) q.0 (maybe_fits p scope (gives text s e) (λ g g_is. gives_fit p scope text s visible.shown agrees e g g_is)) q.1 in
+        let fits = operand_fits p scope (gives text s e) q.0 (maybe_fits p scope (gives text s e) (λ g g_is. gives_fit p scope text s visible.shown visible.held agrees e g g_is)) q.1 in
         subst (λ (t : ValueType). ExFits p scope (type_number t) x) (sym (same_type_same Int (type_of q.0) a.0)) (value_fits p scope q.0 x fits a.1)
 
     pub clause_fits : (looped : Bool) (c : Clause) (k : Head) → clause_head text s c ≡ Some k → Within p all (clause_scope text s c) → HeadFits looped (clause_scope text s c) k
@@ -330,7 +327,7 @@ module _ (text : List ℕ) (p : Program) (all : List Site) (has : HasSites p all
     clause_fits looped (while_true e) k is ext =
         let r = and_then_some (λ x. option_map (repeated None x) (Some done)) (option_map Some (condition text (opened s) e)) k is in
         let q = map_some Some (condition text (opened s) e) r.0 r.1 in
-        let fits = condition_fits p scope text (opened s) (visible_opened s scope visible).shown (agreed (opened s) refl ext.0) e q.0 q.1 in
+        let fits = condition_fits p scope text (opened s) (visible_opened s scope visible).shown (visible_opened s scope visible).held (agreed (opened s) refl ext.0) e q.0 q.1 in
         subst (λ (x : Head). HeadFits looped (opened s) x) (same_some (ap (λ (x : Option Ex). Some (repeated None x done)) q.2 ∙ r.2)) (no_init looped s scope visible, fits, refl, λ m n. tt)
     clause_fits looped (counting init test1 post) k is ext =
         let h = header text s init in
@@ -341,7 +338,7 @@ module _ (text : List ℕ) (p : Program) (all : List Site) (has : HasSites p all
         let i = init_fits looped init r.0 r.1 ext1 in
         let agrees = agreed h (grows_header text s init).signatures ext1.0 in
         let last1 = post_fits h (init_scope scope r.0) post o.0 i.visible agrees ext o.1 in
-        subst (λ (x : Head). HeadFits looped (behind_post text h post) x) o.2 (init_behind looped h post r.0 i, optional_test (init_scope scope r.0) q.0 (test_fits p (init_scope scope r.0) text h i.visible.shown agrees test1 q.0 q.1), last1.0, last1.1)
+        subst (λ (x : Head). HeadFits looped (behind_post text h post) x) o.2 (init_behind looped h post r.0 i, optional_test (init_scope scope r.0) q.0 (test_fits p (init_scope scope r.0) text h i.visible.shown i.visible.held agrees test1 q.0 q.1), last1.0, last1.1)
     clause_fits looped (ranging t at e) k is ext =
         let n = number_type (over text s e) in
         let r = and_then_some (λ x. option_map (counted x) (option_and_then key_of (target_lefts text (opened s) n t))) (over text s e) k is in
@@ -370,12 +367,12 @@ module _ (text : List ℕ) (p : Program) (all : List Site) (has : HasSites p all
         )
 
     spec_assigned_formed : (looped : Bool) (v : ValueSpec) (t : St) → Extends s.sites all → Extends (behind_spec text s v).sites all
-        → ((ts : List ValueType) → taken_types (spec_wanted text v) (seen text s v.values) ≡ Some ts → AreAccepted (spec_wanted text v) ts → SlotsHave (spec_slots text s v) ts) → spec_assigned text s v ≡ Some t
+        → ((ts : List ValueType) → taken_types (spec_wanted text s v) (seen text s v.values) ≡ Some ts → AreAccepted (spec_wanted text s v) ts → SlotsHave (spec_slots text s v) ts) → spec_assigned text s v ≡ Some t
         → Formed1 looped s scope (behind_spec text s v) t × Visible (behind_spec text s v) (scope_after scope t)
     spec_assigned_formed looped v t ext0 ext have is =
         let after = behind_spec text s v in
-        let a = assignment_some (option_map (map entry_left) (spec_entries text s v)) (taken (spec_wanted text v) (seen text s v.values)) t is in
-        let values = taken_fits p scope (spec_wanted text v) (seen text s v.values) a.1 (seen_fit p scope text s visible.shown (agreed s refl ext0) v.values) a.3 in
+        let a = assignment_some (option_map (map entry_left) (spec_entries text s v)) (taken (spec_wanted text s v) (seen text s v.values)) t is in
+        let values = taken_fits p scope (spec_wanted text s v) (seen text s v.values) a.1 (seen_fit p scope text s visible.shown visible.held (agreed s refl ext0) v.values) a.3 in
         let types_are = ap (option_and_then (λ x. value_types (seen text s v.values))) a.3 ∙ values.found in
         let q = map_some (map entry_left) (spec_entries text s v) a.0 a.2 in
         let f = entries_fit text p all has Parameter s scope (spec_slots text s v) values.types q.0 visible (have values.types types_are values.accepted) q.1 ext in
@@ -388,29 +385,29 @@ module _ (text : List ℕ) (p : Program) (all : List Site) (has : HasSites p all
     pub spec_formed : (looped : Bool) (v : ValueSpec) (t : St) → Extends s.sites all → Extends (behind_spec text s v).sites all → spec_statement text s v ≡ Some t
         → Formed1 looped s scope (behind_spec text s v) t × Visible (behind_spec text s v) (scope_after scope t)
     spec_formed looped v t ext0 ext is =
-        let a = allowed_is (is_known text v.type_expr) (cond (is_bare v.type_expr v.values) (spec_declared text s v) (spec_assigned text s v)) t is in
+        let a = allowed_is (is_known text s v.type_expr) (cond (is_bare v.type_expr v.values) (spec_declared text s v) (spec_assigned text s v)) t is in
         by v.type_expr refl a.0 a.1
       where
-        slots_are : (o : Option TreeEx) → v.type_expr ≡ o → spec_slots text s v ≡ spec_slots_of text o (taken_types (spec_wanted text v) (seen text s v.values)) v.names
-        slots_are o o_is = ap (λ (k : Option TreeEx). spec_slots_of text k (taken_types (spec_wanted text v) (seen text s v.values)) v.names) o_is
+        slots_are : (o : Option TreeEx) → v.type_expr ≡ o → spec_slots text s v ≡ spec_slots_of text s o (taken_types (spec_wanted text s v) (seen text s v.values)) v.names
+        slots_are o o_is = ap (λ (k : Option TreeEx). spec_slots_of text s k (taken_types (spec_wanted text s v) (seen text s v.values)) v.names) o_is
 
-        of_type : (e : TreeEx) (u : ValueType) → v.type_expr ≡ Some e → type_in text e ≡ Some u → SlotsHave (spec_slots text s v) (map (λ (n : Name). u) v.names)
+        of_type : (e : TreeEx) (u : ValueType) → v.type_expr ≡ Some e → type_in text s e ≡ Some u → SlotsHave (spec_slots text s v) (map (λ (n : Name). u) v.names)
         of_type e u o_is u_is =
             subst (λ (ps : List Slot). SlotsHave ps (map (λ (n : Name). u) v.names)) (sym (slots_are (Some e) o_is))
             (subst (λ (w : Option ValueType). SlotsHave (map (slot_with w) v.names) (map (λ (n : Name). u) v.names)) (sym u_is) (with_have u v.names))
 
-        wanted_are : (e : TreeEx) (u : ValueType) → v.type_expr ≡ Some e → type_in text e ≡ Some u → spec_wanted text v ≡ map (λ (n : Name). Some u) v.names
-        wanted_are e u o_is u_is = ap (λ (k : Option TreeEx). map (λ (n : Name). spec_type text k) v.names) o_is ∙ ap (λ (w : Option ValueType). map (λ (n : Name). w) v.names) u_is
+        wanted_are : (e : TreeEx) (u : ValueType) → v.type_expr ≡ Some e → type_in text s e ≡ Some u → spec_wanted text s v ≡ map (λ (n : Name). Some u) v.names
+        wanted_are e u o_is u_is = ap (λ (k : Option TreeEx). map (λ (n : Name). spec_type text s k) v.names) o_is ∙ ap (λ (w : Option ValueType). map (λ (n : Name). w) v.names) u_is
 
-        by : (o : Option TreeEx) → v.type_expr ≡ o → is_known text o ≡ true → cond (is_bare o v.values) (spec_declared text s v) (spec_assigned text s v) ≡ Some t
+        by : (o : Option TreeEx) → v.type_expr ≡ o → is_known text s o ≡ true → cond (is_bare o v.values) (spec_declared text s v) (spec_assigned text s v) ≡ Some t
             → Formed1 looped s scope (behind_spec text s v) t × Visible (behind_spec text s v) (scope_after scope t)
         by None o_is known is1 =
             spec_assigned_formed looped v t ext0 ext
             (λ ts found accepted. subst (λ (ps : List Slot). SlotsHave ps ts) (sym (slots_are None o_is))
-            (subst (λ (w : Option (List ValueType)). SlotsHave (slots_each w v.names) ts) (sym found) (each_have ts v.names (accepted_long (spec_wanted text v) ts accepted ∙ length-map v.names (λ (n : Name). spec_type text v.type_expr))))) is1
-        by (Some e) o_is known is1 = with_type (type_in text e) refl known (is_bare (Some e) v.values) is1
+            (subst (λ (w : Option (List ValueType)). SlotsHave (slots_each w v.names) ts) (sym found) (each_have ts v.names (accepted_long (spec_wanted text s v) ts accepted ∙ length-map v.names (λ (n : Name). spec_type text s v.type_expr))))) is1
+        by (Some e) o_is known is1 = with_type (type_in text s e) refl known (is_bare (Some e) v.values) is1
           where
-            with_type : (u : Option ValueType) → type_in text e ≡ u → is_some u ≡ true → (b : Bool) → cond b (spec_declared text s v) (spec_assigned text s v) ≡ Some t
+            with_type : (u : Option ValueType) → type_in text s e ≡ u → is_some u ≡ true → (b : Bool) → cond b (spec_declared text s v) (spec_assigned text s v) ≡ Some t
                 → Formed1 looped s scope (behind_spec text s v) t × Visible (behind_spec text s v) (scope_after scope t)
             with_type None u_is known1 b is2 = absurd cc
             with_type (Some u) u_is known1 true is2 = spec_declared_formed looped v (map (λ (n : Name). u) v.names) t (of_type e u o_is u_is) ext is2

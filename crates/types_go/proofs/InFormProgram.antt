@@ -8,13 +8,13 @@ use Rattle.std.proofs.lemmas.List.{length-map}
 use Rattle.syntax.specs.declared.expression.Name.{Name}
 use Rattle.syntax.specs.Expressions.{Ex as TreeEx, Exs as TreeExs, some, spelled}
 use Rattle.syntax.specs.Expressions as expressions
-use Rattle.syntax.specs.Declarations.{Field, Parameters, unnamed, named, Body, Function as TreeFunction, Syntax}
+use Rattle.syntax.specs.Declarations.{Field, Parameters, unnamed, named, Body, Function as TreeFunction, Declaration, Syntax}
 use Rattle.typed.specs.declared.program.Site.{Site}
 use Rattle.typed.specs.Syntax.{Sts, Func, Program, argument_words, result_words, int_type}
 use Rattle.typed.specs.Form.{IsPlain, site_type, ends_all, ParamsFit, NamedFit, named_params as with_sites, params_scope, scope_in, body_first, StsFit, FuncFits, IsInForm}
 use Rattle.expression_types.specs.declared.scope.ValueType.{ValueType}
 use Rattle.expression_types.specs.declared.scope.ValueType.TheVariants.{Int, Bool as Truth}
-use Rattle.expression_types.specs.Profile.{is_blank, is_main, is_predeclared, is_reserved}
+use Rattle.expression_types.specs.Universe.{is_blank, is_main}
 use Rattle.expression_types.specs.Scope.{Scope, Signature, type_number, type_numbers, declaration, is_here, opened, beginning}
 use Rattle.expression_types.specs.Typing.{asked}
 use Rattle.types_go.specs.declared.slots.Slot.{Slot}
@@ -22,15 +22,18 @@ use Rattle.types_go.specs.declared.entries.Role.{Role}
 use Rattle.types_go.specs.declared.entries.Role.TheVariants.{Parameter, Result}
 use Rattle.types_go.specs.Entries.{entry_of, sites_of, entry_in, behind_entry, entries}
 use Rattle.types_go.specs.Statements.{behind_all, ends_after}
-use Rattle.types_go.specs.Functions.{Param, param_with, unnamed_params, named_params, params_of, is_named, slot_of, slots_of, words, is_small, is_plain, number_of, plain_number, declares_name, types_of, number_or_int, slot_number, signature_in, is_external, with_function, functions_in, are_supported, behind_params, body_scope, behind_body, behind_function, behind_functions, returns_of, may_be_named, func, function, functions, declarations_in, package_scope, main_number}
-use Rattle.types_go.specs.Checked.{Types, sites_in, strings_in, program_with}
+use Rattle.types_go.specs.Functions.{Param, param_with, unnamed_params, named_params, params_of, is_named, slot_of, slots_of, words, is_small, is_plain, number_of, plain_number, types_of, number_or_int, slot_number, signature_in, with_items, functions_in, are_supported, behind_params, body_scope, behind_body, behind_function, behind_functions, returns_of, may_be_named, func, function, functions, declarations_in, heads_of, numbered_functions, package_scope, main_number}
+use Rattle.types_go.specs.Checked.{Types, program_with}
+use Rattle.package_constants.specs.Constants.{items_in, settled}
 use Rattle.expression_types.proofs.Options.{and_then_some, map_some, none_some, same_some}
-use Rattle.types_go.proofs.SettledFunctions.{allowed_some, signature_parts, small_signed, function_some, with_functions, all_in, numbered, numbered_are, only_functions, declared_one}
+use Rattle.types_go.proofs.SettledFunctions.{allowed_some, signature_parts, small_signed, function_some}
+use Rattle.types_go.proofs.Package.{constant_one, declared_one, signatures_are, items_kept, settled_kept}
 use Rattle.types_go.proofs.Growth.{IsSite, extends_twice, keeps_grows, keeps_function, keeps_functions, grows_entries, grows_body, grows_all}
 use Rattle.types_go.proofs.Visible.{Visible, visible_beginning, visible_opened, visible_kept, visible_package}
 use Rattle.types_go.proofs.InFormEntries.{HasSites, Within, within_before, SlotsHave, sites_long, named_of_params, named_scope_of, variable_is, entries_fit}
 use Rattle.types_go.proofs.InFormSimple.{ReturnsFit}
 use Rattle.types_go.proofs.InFormStatements.{AreSigned, formed_all}
+use Rattle.types_go.proofs.Inside.{inside_start, inside_grows}
 use Rattle.types_go.proofs.Terminating.{ends_same, ends_list}
 
 empty_list : {A : Type 0} (xs : List A) → length xs ≡ 0 → xs ≡ []
@@ -72,9 +75,9 @@ wanted_are (p ∷ ps) [] have = absurd have
 -- ---- names of results
 
 -- a result with a name has a variable
-result_is : (b r h : Bool) (site : ℕ) (e : Option ℕ) → entry_of Result b r h site ≡ Some e → e ≡ Some site
-result_is true r h site e is = absurd (none_some is)
-result_is false r h site e is = (variable_is r h site e is).2
+result_is : (b h : Bool) (site : ℕ) (e : Option ℕ) → entry_of Result b h site ≡ Some e → e ≡ Some site
+result_is true h site e is = absurd (none_some is)
+result_is false h site e is = (variable_is h site e is).1
 
 abbrev NoNames : List Slot → Type 0
 NoNames [] = Unit {0}
@@ -101,16 +104,16 @@ all_types p m (t ∷ ts) (None ∷ es) every fit = absurd every
 all_types p m [] (e ∷ es) every fit = absurd fit
 all_types p m (t ∷ ts) [] every fit = absurd fit
 
-module _ (text : List ℕ) where
-  no_names : (ts : TreeExs) → NoNames (map (slot_of text) (unnamed_params ts))
+module _ (text : List ℕ) (heads : Scope) where
+  no_names : (ts : TreeExs) → NoNames (map (slot_of text heads) (unnamed_params ts))
   no_names expressions.none = tt
   no_names (some t ts) = (refl, no_names ts)
 
-  field_names : (t : TreeEx) (ns : List Name) (rest : List Param) → AllNames (map (slot_of text) rest) → AllNames (map (slot_of text) (map (param_with t) ns ++ rest))
+  field_names : (t : TreeEx) (ns : List Name) (rest : List Param) → AllNames (map (slot_of text heads) rest) → AllNames (map (slot_of text heads) (map (param_with t) ns ++ rest))
   field_names t [] rest all = all
   field_names t (n ∷ ns) rest all = ((n, refl), field_names t ns rest all)
 
-  all_names : (fs : List Field) → AllNames (map (slot_of text) (named_params fs))
+  all_names : (fs : List Field) → AllNames (map (slot_of text heads) (named_params fs))
   all_names [] = tt
   all_names (f ∷ fs) = field_names f.type_expr f.names (named_params fs) (all_names fs)
 
@@ -129,7 +132,7 @@ module _ (text : List ℕ) where
 
   site_of : (s : Scope) (o : Option Name) (n : Name) (e : Option ℕ) → o ≡ Some n → entry_in text Result s o ≡ Some e → e ≡ Some (length s.sites)
   site_of s None n e o_is is = absurd (none_some o_is)
-  site_of s (Some m) n e o_is is = result_is (is_blank (spelled text m)) (is_reserved (spelled text m)) (is_here s (spelled text m)) (length s.sites) e is
+  site_of s (Some m) n e o_is is = result_is (is_blank (spelled text m)) (is_here s (spelled text m)) (length s.sites) e is
 
   -- results with names have a variable each
   entries_named : (s : Scope) (ps : List Slot) (es : List (Option ℕ)) → AllNames ps → entries text Result s ps ≡ Some es → AllSites es
@@ -141,8 +144,8 @@ module _ (text : List ℕ) where
       let later = entries_named (behind_entry text s p) ps q.0 all.1 q.1 in
       subst AllSites q.2 (subst (λ (x : Option ℕ). AllSites (x ∷ q.0)) (sym e_is) later)
 
-  slots_long : (ps : Parameters) → length (slots_of text ps) ≡ length (params_of ps)
-  slots_long ps = length-map (params_of ps) (slot_of text)
+  slots_long : (ps : Parameters) → length (slots_of text heads ps) ≡ length (params_of ps)
+  slots_long ps = length-map (params_of ps) (slot_of text heads)
 
   entries_long : (role : Role) (s : Scope) (ps : List Slot) (es : List (Option ℕ)) → entries text role s ps ≡ Some es → length es ≡ length ps
   entries_long role s [] es is = ap length (sym (same_some is))
@@ -152,136 +155,136 @@ module _ (text : List ℕ) where
       ap length (sym q.2) ∙ ap suc (entries_long role (behind_entry text s p) ps q.0 q.1)
 
   -- the signature of a function counts its parameters and results
-  signature_counts : (g : TreeFunction) (sig : Signature) → signature_in text g ≡ Some sig → (length sig.params ≡ length (params_of g.params)) × (length sig.results ≡ length (params_of g.results))
+  signature_counts : (g : TreeFunction) (sig : Signature) → signature_in text heads g ≡ Some sig → (length sig.params ≡ length (params_of g.params)) × (length sig.results ≡ length (params_of g.results))
   signature_counts g sig is =
-      let r = and_then_some (λ ps. option_map (λ rs. record { params = ps; results = rs }) (types_of (slots_of text g.results))) (types_of (slots_of text g.params)) sig is in
-      let q = map_some (λ rs. record { params = r.0; results = rs }) (types_of (slots_of text g.results)) sig r.2 in (
-        ap (λ (x : Signature). length x.params) (sym q.2) ∙ types_long (slots_of text g.params) r.0 r.1 ∙ slots_long g.params,
-        ap (λ (x : Signature). length x.results) (sym q.2) ∙ types_long (slots_of text g.results) q.0 q.1 ∙ slots_long g.results,
+      let r = and_then_some (λ ps. option_map (λ rs. record { params = ps; results = rs }) (types_of (slots_of text heads g.results))) (types_of (slots_of text heads g.params)) sig is in
+      let q = map_some (λ rs. record { params = r.0; results = rs }) (types_of (slots_of text heads g.results)) sig r.2 in (
+        ap (λ (x : Signature). length x.params) (sym q.2) ∙ types_long (slots_of text heads g.params) r.0 r.1 ∙ slots_long g.params,
+        ap (λ (x : Signature). length x.results) (sym q.2) ∙ types_long (slots_of text heads g.results) q.0 q.1 ∙ slots_long g.results,
       )
 
-  numbers_long : (ps : Parameters) → length (map slot_number (slots_of text ps)) ≡ length (params_of ps)
-  numbers_long ps = length-map (slots_of text ps) slot_number ∙ slots_long ps
+  numbers_long : (ps : Parameters) → length (map slot_number (slots_of text heads ps)) ≡ length (params_of ps)
+  numbers_long ps = length-map (slots_of text heads ps) slot_number ∙ slots_long ps
 
-  function_counts : (s : Scope) (i : ℕ) (g : TreeFunction) (t : Func) → function text s i g ≡ Some t → (argument_words t ≡ length (params_of g.params)) × (result_words t ≡ length (params_of g.results))
+  function_counts : (s : Scope) (i : ℕ) (g : TreeFunction) (t : Func) → function text heads s i g ≡ Some t → (argument_words t ≡ length (params_of g.params)) × (result_words t ≡ length (params_of g.results))
   function_counts s i g t is =
-      let p = (function_some text s i g t is).1.1 in
-      (ap argument_words (sym p.3.6) ∙ entries_long Parameter (opened s) (slots_of text g.params) p.3.0 p.3.3 ∙ slots_long g.params, ap result_words (sym p.3.6) ∙ numbers_long g.results)
+      let p = (function_some text heads s i g t is).1.1 in
+      (ap argument_words (sym p.3.6) ∙ entries_long Parameter (opened s) (slots_of text heads g.params) p.3.0 p.3.3 ∙ slots_long g.params, ap result_words (sym p.3.6) ∙ numbers_long g.results)
 
   -- a function has the types that its signature says
-  function_types : (s : Scope) (i : ℕ) (g : TreeFunction) (t : Func) (sig : Signature) → function text s i g ≡ Some t → signature_in text g ≡ Some sig → (t.param_types ≡ type_numbers sig.params) × (t.results ≡ type_numbers sig.results)
+  function_types : (s : Scope) (i : ℕ) (g : TreeFunction) (t : Func) (sig : Signature) → function text heads s i g ≡ Some t → signature_in text heads g ≡ Some sig → (t.param_types ≡ type_numbers sig.params) × (t.results ≡ type_numbers sig.results)
   function_types s i g t sig is signed =
-      let p = (function_some text s i g t is).1.1 in
-      let r = and_then_some (λ ps. option_map (λ rs. record { params = ps; results = rs }) (types_of (slots_of text g.results))) (types_of (slots_of text g.params)) sig signed in
-      let q = map_some (λ rs. record { params = r.0; results = rs }) (types_of (slots_of text g.results)) sig r.2 in (
-        ap (λ (x : Func). x.param_types) (sym p.3.6) ∙ numbers_are (slots_of text g.params) r.0 (slots_have (slots_of text g.params) r.0 r.1) ∙ ap (λ (x : Signature). type_numbers x.params) q.2,
-        ap (λ (x : Func). x.results) (sym p.3.6) ∙ numbers_are (slots_of text g.results) q.0 (slots_have (slots_of text g.results) q.0 q.1) ∙ ap (λ (x : Signature). type_numbers x.results) q.2,
+      let p = (function_some text heads s i g t is).1.1 in
+      let r = and_then_some (λ ps. option_map (λ rs. record { params = ps; results = rs }) (types_of (slots_of text heads g.results))) (types_of (slots_of text heads g.params)) sig signed in
+      let q = map_some (λ rs. record { params = r.0; results = rs }) (types_of (slots_of text heads g.results)) sig r.2 in (
+        ap (λ (x : Func). x.param_types) (sym p.3.6) ∙ numbers_are (slots_of text heads g.params) r.0 (slots_have (slots_of text heads g.params) r.0 r.1) ∙ ap (λ (x : Signature). type_numbers x.params) q.2,
+        ap (λ (x : Func). x.results) (sym p.3.6) ∙ numbers_are (slots_of text heads g.results) q.0 (slots_have (slots_of text heads g.results) q.0 q.1) ∙ ap (λ (x : Signature). type_numbers x.results) q.2,
       )
 
-  small_words : (g : TreeFunction) → is_small (signature_in text g) ≡ true → length (params_of g.params) + length (params_of g.results) ≤ 65535
-  small_words g is = by (signature_in text g) refl is
+  small_words : (g : TreeFunction) → is_small (signature_in text heads g) ≡ true → length (params_of g.params) + length (params_of g.results) ≤ 65535
+  small_words g is = by (signature_in text heads g) refl is
     where
-      by : (sig : Option Signature) → signature_in text g ≡ sig → is_small sig ≡ true → length (params_of g.params) + length (params_of g.results) ≤ 65535
+      by : (sig : Option Signature) → signature_in text heads g ≡ sig → is_small sig ≡ true → length (params_of g.params) + length (params_of g.results) ≤ 65535
       by None found small = absurd cc
       by (Some sig) found small = let k = signature_counts g sig found in omega (arith, leb-true (words sig) 65535 small, k.0, k.1)
 
   -- ---- one function
 
   -- all results have a variable of their type, or none has
-  names_of : (p : Program) (m : ℕ) (s : Scope) (ps : Parameters) (ts : List ℕ) (rs : List (Option ℕ)) → entries text Result s (slots_of text ps) ≡ Some rs → ParamsFit p m ts rs → (sites_of rs ≡ []) ⊎ (map (site_type p) (sites_of rs) ≡ ts)
-  names_of p m s (unnamed us) ts rs is fit = inl (entries_unnamed Result s (slots_of text (unnamed us)) rs (no_names us) is)
-  names_of p m s (named fs) ts rs is fit = inr (all_types p m ts rs (entries_named s (slots_of text (named fs)) rs (all_names fs) is) fit)
+  names_of : (p : Program) (m : ℕ) (s : Scope) (ps : Parameters) (ts : List ℕ) (rs : List (Option ℕ)) → entries text Result s (slots_of text heads ps) ≡ Some rs → ParamsFit p m ts rs → (sites_of rs ≡ []) ⊎ (map (site_type p) (sites_of rs) ≡ ts)
+  names_of p m s (unnamed us) ts rs is fit = inl (entries_unnamed Result s (slots_of text heads (unnamed us)) rs (no_names us) is)
+  names_of p m s (named fs) ts rs is fit = inr (all_types p m ts rs (entries_named s (slots_of text heads (named fs)) rs (all_names fs) is) fit)
 
-  bare_of : (s : Scope) (ps : Parameters) (rs : List (Option ℕ)) → entries text Result s (slots_of text ps) ≡ Some rs → length rs ≡ length (params_of ps) → (b : Bool) → (length (params_of ps) == 0) ≡ b → (b || is_named ps) ≡ true
+  bare_of : (s : Scope) (ps : Parameters) (rs : List (Option ℕ)) → entries text Result s (slots_of text heads ps) ≡ Some rs → length rs ≡ length (params_of ps) → (b : Bool) → (length (params_of ps) == 0) ≡ b → (b || is_named ps) ≡ true
       → length (params_of ps) ≡ length (sites_of rs)
   bare_of s ps rs found long true zero1 is = let z = eqb-true (length (params_of ps)) 0 zero1 in z ∙ ap (λ l. length (sites_of l)) (sym (empty_list rs (long ∙ z)))
   bare_of s (unnamed ts) rs found long false zero1 is = absurd cc
-  bare_of s (named fs) rs found long false zero1 is = sym (all_long rs (entries_named s (slots_of text (named fs)) rs (all_names fs) found) ∙ long)
+  bare_of s (named fs) rs found long false zero1 is = sym (all_long rs (entries_named s (slots_of text heads (named fs)) rs (all_names fs) found) ∙ long)
 
-  returns_fit : (s : Scope) (g : TreeFunction) (ts : List ValueType) (rs : List (Option ℕ)) → SlotsHave (slots_of text g.results) ts → entries text Result s (slots_of text g.results) ≡ Some rs → length rs ≡ length (params_of g.results)
-      → ReturnsFit (returns_of text g) (map slot_number (slots_of text g.results)) (length (sites_of rs))
+  returns_fit : (s : Scope) (g : TreeFunction) (ts : List ValueType) (rs : List (Option ℕ)) → SlotsHave (slots_of text heads g.results) ts → entries text Result s (slots_of text heads g.results) ≡ Some rs → length rs ≡ length (params_of g.results)
+      → ReturnsFit (returns_of text heads g) (map slot_number (slots_of text heads g.results)) (length (sites_of rs))
   returns_fit s g ts rs have found long = record {
     types = ts;
-    wanted = wanted_are (slots_of text g.results) ts have;
-    numbers = sym (numbers_are (slots_of text g.results) ts have);
+    wanted = wanted_are (slots_of text heads g.results) ts have;
+    numbers = sym (numbers_are (slots_of text heads g.results) ts have);
     bare = λ is. numbers_long g.results ∙ bare_of s g.results rs found long (length (params_of g.results) == 0) refl is;
     no_values = λ is. ap (λ l. length (sites_of l)) (empty_list rs (long ∙ (sym (numbers_long g.results) ∙ ap length is)));
   }
 
   module _ (p : Program) (all : List Site) (has : HasSites p all) (sigs : List (Option Signature)) (agrees : AreSigned sigs p.funcs) where
-    function_fits : (s : Scope) (i : ℕ) (g : TreeFunction) (t : Func) → Visible s [] → s.signatures ≡ sigs → Within p all (behind_function text s g) → function text s i g ≡ Some t → FuncFits p t
+    function_fits : (s : Scope) (i : ℕ) (g : TreeFunction) (t : Func) → Visible s [] → s.signatures ≡ sigs → Within p all (behind_function text heads s g) → function text heads s i g ≡ Some t → FuncFits p t
     function_fits s i g t visible signed ext0 is =
-        let found = function_some text s i g t is in
+        let found = function_some text heads s i g t is in
         let b = found.0 in
         let k = found.1.1 in
         let ps = k.3.0 in
         let rs = k.3.1 in
         let body = k.3.2 in
-        let results1 = map slot_number (slots_of text g.results) in
-        let types = signature_parts text g (small_signed (signature_in text g) k.1) in
-        let have_params = slots_have (slots_of text g.params) types.0 types.2 in
-        let have_results = slots_have (slots_of text g.results) types.1 types.3 in
-        let inner = body_scope text s g in
+        let results1 = map slot_number (slots_of text heads g.results) in
+        let types = signature_parts text heads g (small_signed (signature_in text heads g) k.1) in
+        let have_params = slots_have (slots_of text heads g.params) types.0 types.2 in
+        let have_results = slots_have (slots_of text heads g.results) types.1 types.3 in
+        let inner = body_scope text heads s g in
         let last1 = behind_all text inner b.statements in
-        let ext : Within p all last1 = subst (λ (o : Option Body). Within p all (behind_body text s g o)) found.1.0 ext0 in
+        let ext : Within p all last1 = subst (λ (o : Option Body). Within p all (behind_body text heads s g o)) found.1.0 ext0 in
         let ext_inner = extends_twice inner.sites last1.sites all (grows_all text inner b.statements).sites ext.0 in
-        let ext_params = extends_twice (behind_params text s g).sites inner.sites all (grows_entries text (behind_params text s g) (slots_of text g.results)).sites ext_inner in
-        let one1 = entries_fit text p all has Parameter (opened s) [] (slots_of text g.params) types.0 ps (visible_opened s [] visible) have_params k.3.3 ext_params in
-        let two1 = entries_fit text p all has Result (behind_params text s g) (params_scope [] ps) (slots_of text g.results) types.1 rs one1.visible have_results k.3.4 ext_inner in
+        let ext_params = extends_twice (behind_params text heads s g).sites inner.sites all (grows_entries text (behind_params text heads s g) (slots_of text heads g.results)).sites ext_inner in
+        let one1 = entries_fit text p all has Parameter (opened s) [] (slots_of text heads g.params) types.0 ps (visible_opened s [] visible) have_params k.3.3 ext_params in
+        let two1 = entries_fit text p all has Result (behind_params text heads s g) (params_scope [] ps) (slots_of text heads g.results) types.1 rs one1.visible have_results k.3.4 ext_inner in
         let long : length rs ≡ length (params_of g.results) = two1.long ∙ slots_long g.results in
-        let goes = returns_fit (behind_params text s g) g types.1 rs have_results k.3.4 long in
-        let formed = formed_all text p all has sigs agrees (returns_of text g) results1 (length (sites_of rs)) goes false inner (params_scope (params_scope [] ps) rs) b.statements body two1.visible ((grows_body text s g).signatures ∙ signed) ext k.3.5 in
-        let t0 = func text s g b ps rs body in
+        let goes = returns_fit (behind_params text heads s g) g types.1 rs have_results k.3.4 long in
+        let formed = formed_all text p all has sigs agrees (returns_of text heads g) results1 (length (sites_of rs)) goes false inner (params_scope (params_scope [] ps) rs) b.statements body two1.visible ((grows_body text heads s g).signatures ∙ signed) ext k.3.5 in
+        let t0 = func text heads s g b ps rs body in
         let named_long = sites_long rs in
         let words_are : result_words t0 ≡ length (params_of g.results) = numbers_long g.results in
-        let param_types_are = numbers_are (slots_of text g.params) types.0 have_params in
-        let result_types_are = numbers_are (slots_of text g.results) types.1 have_results in
-        let first_is : t0.first + with_sites ps ≡ length (behind_params text s g).sites = one1.count in
+        let param_types_are = numbers_are (slots_of text heads g.params) types.0 have_params in
+        let result_types_are = numbers_are (slots_of text heads g.results) types.1 have_results in
+        let first_is : t0.first + with_sites ps ≡ length (behind_params text heads s g).sites = one1.count in
         let body_is : body_first t0 ≡ length inner.sites = omega (arith, one1.count, two1.count, named_long) in
         let whole : t0.first + t0.count ≡ length last1.sites = omega (arith, one1.count, two1.count, formed.count) in
         let statements1 : StsFit p results1 (length (sites_of rs)) false (params_scope (params_scope [] ps) rs) (length inner.sites) (length last1.sites) body = formed.fit (length last1.sites) (omega arith) in
         subst (FuncFits p) k.3.6
         (record {
           params = subst (λ l. ParamsFit p (length s.sites) l ps) (sym param_types_are) one1.fit;
-          named = subst (λ m. NamedFit p m (sites_of rs)) (sym first_is) (named_of_params p (length (behind_params text s g).sites) (type_numbers types.1) rs two1.fit);
-          names = names_of p (length (behind_params text s g).sites) (behind_params text s g) g.results results1 rs k.3.4 (subst (λ l. ParamsFit p (length (behind_params text s g).sites) l rs) (sym result_types_are) two1.fit);
+          named = subst (λ m. NamedFit p m (sites_of rs)) (sym first_is) (named_of_params p (length (behind_params text heads s g).sites) (type_numbers types.1) rs two1.fit);
+          names = names_of p (length (behind_params text heads s g).sites) (behind_params text heads s g) g.results results1 rs k.3.4 (subst (λ l. ParamsFit p (length (behind_params text heads s g).sites) l rs) (sym result_types_are) two1.fit);
           count = omega (arith, one1.count, two1.count, formed.count, named_long);
           body = subst (λ n. StsFit p results1 (length (sites_of rs)) false (scope_in t0) (body_first t0) n body) (sym whole)
               (subst (λ m. StsFit p results1 (length (sites_of rs)) false (scope_in t0) m (length last1.sites) body) (sym body_is)
               (subst (λ (l : List ℕ). StsFit p results1 (length (sites_of rs)) false l (length inner.sites) (length last1.sites) body) (named_scope_of (params_scope [] ps) rs) statements1));
-          end = finish b body (result_words t0) (length (params_of g.results) == 0) refl k.2 (λ ending. sym (ends_same body) ∙ ends_list text (returns_of text g) false inner b.statements body k.3.5 false ending) words_are;
+          end = finish b body (result_words t0) (length (params_of g.results) == 0) refl k.2 (λ ending. sym (ends_same body) ∙ ends_list text (returns_of text heads g) s false inner (inside_grows s (opened s) inner (inside_start s) (grows_body text heads s g)) b.statements body k.3.5 false ending) words_are;
           small = omega (arith, small_words g k.1, words_are, one1.long, slots_long g.params);
         })
       where
-        finish : (b : Body) (body : Sts) (w : ℕ) (none1 : Bool) → (length (params_of g.results) == 0) ≡ none1 → (none1 || ends_after text false b.statements) ≡ true → (ends_after text false b.statements ≡ true → ends_all body ≡ true) → w ≡ length (params_of g.results)
+        finish : (b : Body) (body : Sts) (w : ℕ) (none1 : Bool) → (length (params_of g.results) == 0) ≡ none1 → (none1 || ends_after text s false b.statements) ≡ true → (ends_after text s false b.statements ≡ true → ends_all body ≡ true) → w ≡ length (params_of g.results)
             → (w ≡ 0) ⊎ (ends_all body ≡ true)
         finish b body w true zero1 is1 same w_is = inl (w_is ∙ eqb-true (length (params_of g.results)) 0 zero1)
         finish b body w false zero1 is1 same w_is = inr (same is1)
 
   -- ---- the functions of a program
 
-  function_at : (s : Scope) (i : ℕ) (gs : List TreeFunction) (ts : List Func) → functions text s i gs ≡ Some ts → (k : ℕ) (g : TreeFunction) → slice_get gs k ≡ Some g
-      → (r : Scope) × ((j : ℕ) × ((t : Func) × ((slice_get ts k ≡ Some t) × (function text r j g ≡ Some t))))
+  function_at : (s : Scope) (i : ℕ) (gs : List TreeFunction) (ts : List Func) → functions text heads s i gs ≡ Some ts → (k : ℕ) (g : TreeFunction) → slice_get gs k ≡ Some g
+      → (r : Scope) × ((j : ℕ) × ((t : Func) × ((slice_get ts k ≡ Some t) × (function text heads r j g ≡ Some t))))
   function_at s i [] ts is k g found = absurd (none_some found)
   function_at s i (h ∷ gs) ts is zero g found =
-      let r = and_then_some (λ t. option_map (λ us. t ∷ us) (functions text (behind_function text s h) (1 + i) gs)) (function text s i h) ts is in
-      let q = map_some (λ us. r.0 ∷ us) (functions text (behind_function text s h) (1 + i) gs) ts r.2 in
-      (s, (i, (r.0, (ap (λ (l : List Func). slice_get l 0) (sym q.2), subst (λ (x : TreeFunction). function text s i x ≡ Some r.0) (same_some found) r.1))))
+      let r = and_then_some (λ t. option_map (λ us. t ∷ us) (functions text heads (behind_function text heads s h) (1 + i) gs)) (function text heads s i h) ts is in
+      let q = map_some (λ us. r.0 ∷ us) (functions text heads (behind_function text heads s h) (1 + i) gs) ts r.2 in
+      (s, (i, (r.0, (ap (λ (l : List Func). slice_get l 0) (sym q.2), subst (λ (x : TreeFunction). function text heads s i x ≡ Some r.0) (same_some found) r.1))))
   function_at s i (h ∷ gs) ts is (suc k) g found =
-      let r = and_then_some (λ t. option_map (λ us. t ∷ us) (functions text (behind_function text s h) (1 + i) gs)) (function text s i h) ts is in
-      let q = map_some (λ us. r.0 ∷ us) (functions text (behind_function text s h) (1 + i) gs) ts r.2 in
-      let later = function_at (behind_function text s h) (1 + i) gs q.0 q.1 k g found in
+      let r = and_then_some (λ t. option_map (λ us. t ∷ us) (functions text heads (behind_function text heads s h) (1 + i) gs)) (function text heads s i h) ts is in
+      let q = map_some (λ us. r.0 ∷ us) (functions text heads (behind_function text heads s h) (1 + i) gs) ts r.2 in
+      let later = function_at (behind_function text heads s h) (1 + i) gs q.0 q.1 k g found in
       (later.0, (later.1.0, (later.1.1.0, (ap (λ (l : List Func). slice_get l (suc k)) (sym q.2) ∙ later.1.1.1.0, later.1.1.1.1))))
 
   module _ (p : Program) (all : List Site) (has : HasSites p all) (sigs : List (Option Signature)) (agrees : AreSigned sigs p.funcs) where
-    all_fit : (s : Scope) (i : ℕ) (gs : List TreeFunction) (ts : List Func) → Visible s [] → s.signatures ≡ sigs → Within p all (behind_functions text s gs) → functions text s i gs ≡ Some ts → (k : ℕ) (t : Func) → slice_get ts k ≡ Some t → FuncFits p t
+    all_fit : (s : Scope) (i : ℕ) (gs : List TreeFunction) (ts : List Func) → Visible s [] → s.signatures ≡ sigs → Within p all (behind_functions text heads s gs) → functions text heads s i gs ≡ Some ts → (k : ℕ) (t : Func) → slice_get ts k ≡ Some t → FuncFits p t
     all_fit s i [] ts visible signed ext is k t found = absurd (none_some (subst (λ (l : List Func). slice_get l k ≡ Some t) (sym (same_some is)) found))
     all_fit s i (h ∷ gs) ts visible signed ext is k t found =
-        let s1 = behind_function text s h in
-        let r = and_then_some (λ x. option_map (λ us. x ∷ us) (functions text s1 (1 + i) gs)) (function text s i h) ts is in
-        let q = map_some (λ us. r.0 ∷ us) (functions text s1 (1 + i) gs) ts r.2 in
-        let keeps = keeps_function text s h in
-        let ext1 = within_before p all s1 (behind_functions text s1 gs) (keeps_grows s1 (behind_functions text s1 gs) (keeps_functions text s1 gs)) ext in
+        let s1 = behind_function text heads s h in
+        let r = and_then_some (λ x. option_map (λ us. x ∷ us) (functions text heads s1 (1 + i) gs)) (function text heads s i h) ts is in
+        let q = map_some (λ us. r.0 ∷ us) (functions text heads s1 (1 + i) gs) ts r.2 in
+        let keeps = keeps_function text heads s h in
+        let ext1 = within_before p all s1 (behind_functions text heads s1 gs) (keeps_grows s1 (behind_functions text heads s1 gs) (keeps_functions text heads s1 gs)) ext in
         by k r.0 q.0 (function_fits p all has sigs agrees s i h r.0 visible signed ext1 r.1)
         (λ j found1. all_fit s1 (1 + i) gs q.0 (visible_kept s s1 [] visible keeps) (keeps.signatures ∙ signed) ext q.1 j t found1)
         (subst (λ (l : List Func). slice_get l k ≡ Some t) (sym q.2) found)
@@ -290,41 +293,49 @@ module _ (text : List ℕ) where
         by zero x us here1 later found1 = subst (FuncFits p) (same_some found1) here1
         by (suc j) x us here1 later found1 = later j found1
 
-  few_functions : (s : Scope) (i : ℕ) (gs : List TreeFunction) (ts : List Func) → functions text s i gs ≡ Some ts → i ≤ 4096 → i + length ts ≤ 4096
+  few_functions : (s : Scope) (i : ℕ) (gs : List TreeFunction) (ts : List Func) → functions text heads s i gs ≡ Some ts → i ≤ 4096 → i + length ts ≤ 4096
   few_functions s i [] ts is le = let e : 0 ≡ length ts = ap length (same_some is) in omega (arith, le, e)
   few_functions s i (h ∷ gs) ts is le =
-      let r = and_then_some (λ x. option_map (λ us. x ∷ us) (functions text (behind_function text s h) (1 + i) gs)) (function text s i h) ts is in
-      let q = map_some (λ us. r.0 ∷ us) (functions text (behind_function text s h) (1 + i) gs) ts r.2 in
-      let head = (function_some text s i h r.0 r.1).1.1.0 in
-      let lt = both_true (may_be_named i (is_blank (spelled text h.name)) (is_predeclared (spelled text h.name)) (declaration s (spelled text h.name))) (nat_lt i 4096) head in
-      let rest = few_functions (behind_function text s h) (1 + i) gs q.0 q.1 (omega (arith, ltb-true i 4096 lt.1)) in
+      let r = and_then_some (λ x. option_map (λ us. x ∷ us) (functions text heads (behind_function text heads s h) (1 + i) gs)) (function text heads s i h) ts is in
+      let q = map_some (λ us. r.0 ∷ us) (functions text heads (behind_function text heads s h) (1 + i) gs) ts r.2 in
+      let head = (function_some text heads s i h r.0 r.1).1.1.0 in
+      let lt = both_true (may_be_named i (is_blank (spelled text h.name)) (declaration s (spelled text h.name))) (nat_lt i 4096) head in
+      let rest = few_functions (behind_function text heads s h) (1 + i) gs q.0 q.1 (omega (arith, ltb-true i 4096 lt.1)) in
       let e : suc (length q.0) ≡ length ts = ap length q.2 in
       omega (arith, rest, e)
 
-  -- the signatures of the package block are those of its functions that have numbers
-  signatures_are : (s : Scope) (gs : List TreeFunction) → (with_functions text s gs).signatures ≡ s.signatures ++ map (signature_in text) (numbered text gs)
-  signatures_are s [] = sym (append-nil s.signatures)
-  signatures_are s (g ∷ gs) = by (λ v. signatures_are v gs) (is_external text g) (declares_name s (spelled text g.name))
-    where
-      by : ((v : Scope) → (with_functions text v gs).signatures ≡ v.signatures ++ map (signature_in text) (numbered text gs)) → (b c : Bool)
-          → (with_functions text (declared_one text s g b c) gs).signatures ≡ s.signatures ++ map (signature_in text) (cond b (numbered text gs) (g ∷ numbered text gs))
-      by later true true = later (declared_one text s g true true)
-      by later true false = later s
-      by later false true = later (declared_one text s g false true) ∙ append_assoc s.signatures (signature_in text g ∷ []) (map (signature_in text) (numbered text gs))
-      by later false false = later (declared_one text s g false false) ∙ append_assoc s.signatures (signature_in text g ∷ []) (map (signature_in text) (numbered text gs))
-
-  signed_function : (gs : List TreeFunction) (k : ℕ) (sig : Signature) → option_and_then (λ o. o) (slice_get (map (signature_in text) gs) k) ≡ Some sig → (g : TreeFunction) × ((slice_get gs k ≡ Some g) × (signature_in text g ≡ Some sig))
+  signed_function : (gs : List TreeFunction) (k : ℕ) (sig : Signature) → option_and_then (λ o. o) (slice_get (map (signature_in text heads) gs) k) ≡ Some sig → (g : TreeFunction) × ((slice_get gs k ≡ Some g) × (signature_in text heads g ≡ Some sig))
   signed_function [] k sig is = absurd (none_some is)
   signed_function (g ∷ gs) zero sig is = (g, (refl, is))
   signed_function (g ∷ gs) (suc k) sig is = signed_function gs k sig is
 
-  agree : (hs : List TreeFunction) (ts : List Func) → functions text (with_functions text beginning hs) 0 (numbered text hs) ≡ Some ts → AreSigned (with_functions text beginning hs).signatures ts
-  agree hs ts is k sig found =
-      let gs = numbered text hs in
-      let g = signed_function gs k sig (ap (λ (l : List (Option Signature)). option_and_then (λ o. o) (slice_get l k)) (sym (signatures_are beginning hs)) ∙ found) in
-      let at = function_at (with_functions text beginning hs) 0 gs ts is k g.0 g.1.0 in
+  agree : (s : Scope) (gs : List TreeFunction) (ts : List Func) → s.signatures ≡ map (signature_in text heads) gs → functions text heads s 0 gs ≡ Some ts → AreSigned s.signatures ts
+  agree s gs ts signatures is k sig found =
+      let g = signed_function gs k sig (ap (λ (l : List (Option Signature)). option_and_then (λ o. o) (slice_get l k)) (sym signatures) ∙ found) in
+      let at = function_at s 0 gs ts is k g.0 g.1.0 in
       let types = function_types at.0 at.1.0 g.0 at.1.1.0 sig at.1.1.1.1 g.1.1 in
       (at.1.1.0, at.1.1.1.0, types.0, types.1)
+
+  -- the signatures of the package block
+  package_signatures : (r : Scope) (ds : List Declaration) → are_supported text heads r ds ≡ true → (settled text (with_items text heads beginning ds) (items_in ds)).signatures ≡ map (signature_in text heads) (functions_in text heads ds)
+  package_signatures r ds is =
+      let s = with_items text heads beginning ds in
+      settled_kept text (λ (v : Scope). v.signatures ≡ s.signatures) (λ v k i h. h) s (items_in ds) refl ∙ signatures_are text heads r beginning ds is
+
+  -- it has no sites
+  no_sites : (r : Scope) (ds : List Declaration) → are_supported text heads r ds ≡ true → (settled text (with_items text heads beginning ds) (items_in ds)).sites ≡ []
+  no_sites r ds is =
+      settled_kept text (λ (v : Scope). v.sites ≡ []) (λ v k i h. h) (with_items text heads beginning ds) (items_in ds) (items_kept text heads r (λ (v : Scope). v.sites ≡ []) constant_sites function_sites beginning ds is refl)
+    where
+      constant_sites : (s : Scope) (n : Name) (declares : Bool) → s.sites ≡ [] → (constant_one text s n declares).sites ≡ []
+      constant_sites s n true h = h
+      constant_sites s n false h = h
+
+      function_sites : (s : Scope) (g : TreeFunction) (external declares : Bool) → s.sites ≡ [] → (declared_one text heads s g external declares).sites ≡ []
+      function_sites s g true true h = h
+      function_sites s g true false h = h
+      function_sites s g false true h = h
+      function_sites s g false false h = h
 
 -- ---- the sites of a program
 
@@ -336,16 +347,6 @@ sites_plain : (sites : List Site) → AllByRecursion IsSite sites → (k : ℕ) 
 sites_plain [] all k = inl refl
 sites_plain (site ∷ sites) all zero = subst IsPlain (sym all.0.1) (type_plain all.0.0)
 sites_plain (site ∷ sites) all (suc k) = sites_plain sites all.1 k
-
-no_sites : (text : List ℕ) (s : Scope) (gs : List TreeFunction) → s.sites ≡ [] → (with_functions text s gs).sites ≡ []
-no_sites text s [] is = is
-no_sites text s (g ∷ gs) is = no_sites text (with_function text s g) gs (by (is_external text g) (declares_name s (spelled text g.name)))
-  where
-    by : (b c : Bool) → (declared_one text s g b c).sites ≡ []
-    by true true = is
-    by true false = is
-    by false true = is
-    by false false = is
 
 -- a function without parameters and results
 abbrev PlainAt : List TreeFunction → ℕ → Type 0
@@ -365,55 +366,50 @@ plain_some gs (Some i) m is = by (slice_get gs i) refl is
     by None found is1 = absurd (none_some is1)
     by (Some g) found is1 = plain_here gs i m g found ((length (params_of g.params) == 0) && (length (params_of g.results) == 0)) refl is1
 
-main_some : (t : Syntax) (m : ℕ) → main_number t ≡ Some m → PlainAt (functions_in t.text (declarations_in t)) m
+main_some : (t : Syntax) (m : ℕ) → main_number t ≡ Some m → PlainAt (numbered_functions t) m
 main_some t m is = by (is_main (spelled t.text t.file.package_name)) is
   where
     gs : List TreeFunction
-    gs = functions_in t.text (declarations_in t)
+    gs = numbered_functions t
 
     by : (b : Bool) → cond b (plain_number gs (number_of (declaration (package_scope t) (codes "main")))) None ≡ Some m → PlainAt gs m
     by true is1 = plain_some gs (number_of (declaration (package_scope t) (codes "main"))) m is1
     by false is1 = absurd (none_some is1)
 
 -- without results there are no names for them
-plain_function : (text : List ℕ) (s : Scope) (i : ℕ) (g : TreeFunction) (t : Func) → function text s i g ≡ Some t → length (params_of g.params) ≡ 0 → length (params_of g.results) ≡ 0 → (t.params ≡ []) × ((t.results ≡ []) × (t.named ≡ []))
-plain_function text s i g t is no_params no_results =
-    let p = (function_some text s i g t is).1.1 in
-    let ps : p.3.0 ≡ [] = empty_list p.3.0 (entries_long text Parameter (opened s) (slots_of text g.params) p.3.0 p.3.3 ∙ slots_long text g.params ∙ no_params) in
-    let rs : p.3.1 ≡ [] = empty_list p.3.1 (entries_long text Result (behind_params text s g) (slots_of text g.results) p.3.1 p.3.4 ∙ slots_long text g.results ∙ no_results) in (
+plain_function : (text : List ℕ) (heads s : Scope) (i : ℕ) (g : TreeFunction) (t : Func) → function text heads s i g ≡ Some t → length (params_of g.params) ≡ 0 → length (params_of g.results) ≡ 0 → (t.params ≡ []) × ((t.results ≡ []) × (t.named ≡ []))
+plain_function text heads s i g t is no_params no_results =
+    let p = (function_some text heads s i g t is).1.1 in
+    let ps : p.3.0 ≡ [] = empty_list p.3.0 (entries_long text heads Parameter (opened s) (slots_of text heads g.params) p.3.0 p.3.3 ∙ slots_long text heads g.params ∙ no_params) in
+    let rs : p.3.1 ≡ [] = empty_list p.3.1 (entries_long text heads Result (behind_params text heads s g) (slots_of text heads g.results) p.3.1 p.3.4 ∙ slots_long text heads g.results ∙ no_results) in (
       ap (λ (x : Func). x.params) (sym p.3.6) ∙ ps,
-      (empty_list t.results ((function_counts text s i g t is).1 ∙ no_results), ap (λ (x : Func). x.named) (sym p.3.6) ∙ ap sites_of rs),
+      (empty_list t.results ((function_counts text heads s i g t is).1 ∙ no_results), ap (λ (x : Func). x.named) (sym p.3.6) ∙ ap sites_of rs),
     )
 
 pub in_form : (t : Syntax) (p : Program) → Types t p → IsInForm p
 in_form t p a =
     let ds = declarations_in t in
-    let hs = all_in t.text ds in
-    let gs = numbered t.text hs in
-    let gs_are : functions_in t.text ds ≡ gs = numbered_are t.text ds in
-    let w = allowed_some (are_supported t.text (package_scope t) ds) (functions t.text (package_scope t) 0 (functions_in t.text ds)) a.funcs a.functions in
-    let s = with_functions t.text beginning hs in
-    let scope_is : package_scope t ≡ s = only_functions t.text (package_scope t) beginning ds w.0 in
-    let found : functions t.text s 0 gs ≡ Some a.funcs = ap (λ v. functions t.text v 0 gs) (sym scope_is) ∙ (ap (λ (l : List TreeFunction). functions t.text (package_scope t) 0 l) (sym gs_are) ∙ w.1) in
-    let last1 = behind_functions t.text s gs in
+    let h = heads_of t in
+    let gs = numbered_functions t in
+    let s = package_scope t in
+    let w = allowed_some (are_supported t.text h s ds) (functions t.text h s 0 gs) a.funcs a.functions in
+    let found : functions t.text h s 0 gs ≡ Some a.funcs = w.1 in
+    let last1 = behind_functions t.text h s gs in
     let all = last1.sites in
-    let last_is : behind_functions t.text (package_scope t) (functions_in t.text ds) ≡ last1 = ap (λ (l : List TreeFunction). behind_functions t.text (package_scope t) l) gs_are ∙ ap (λ v. behind_functions t.text v gs) scope_is in
-    let sites_are : sites_in t ≡ all = ap (λ (v : Scope). v.sites) last_is in
-    let strings_are : length (strings_in t) ≡ length last1.strings = ap (λ (v : Scope). length v.strings) last_is in
     let p0 = program_with t a.funcs a.main in
-    let has : HasSites p0 all = ap (map (λ (site : Site). site.type_id.0)) sites_are in
-    let agrees = agree t.text hs a.funcs found in
-    let g = subst (λ (l : List TreeFunction). PlainAt l a.main) gs_are (main_some t a.main a.main_is) in
-    let at = function_at t.text s 0 gs a.funcs found a.main g.0 g.1.0 in
-    let plain = plain_function t.text at.0 at.1.0 g.0 at.1.1.0 at.1.1.1.1 g.1.1.0 g.1.1.1 in
-    let few0 = few_functions t.text s 0 gs a.funcs found (omega arith) in
+    let has : HasSites p0 all = refl in
+    let agrees = agree t.text h s gs a.funcs (package_signatures t.text h s ds w.0) found in
+    let g = main_some t a.main a.main_is in
+    let at = function_at t.text h s 0 gs a.funcs found a.main g.0 g.1.0 in
+    let plain = plain_function t.text h at.0 at.1.0 g.0 at.1.1.0 at.1.1.1.1 g.1.1.0 g.1.1.1 in
+    let few0 = few_functions t.text h s 0 gs a.funcs found (omega arith) in
     let few : length a.funcs ≤ 4096 = omega (arith, few0) in
-    let grown = (keeps_functions t.text s gs).sites in
-    let every : AllByRecursion IsSite all = subst (λ (l : List Site). AllByRecursion IsSite l) (sym (grown.1 ∙ ap (λ (l : List Site). l ++ grown.0) (no_sites t.text beginning hs refl))) grown.2 in
-    let within : Within p0 all last1 = (([], sym (append-nil all), tt), omega (arith, strings_are)) in
+    let grown = (keeps_functions t.text h s gs).sites in
+    let every : AllByRecursion IsSite all = subst (λ (l : List Site). AllByRecursion IsSite l) (sym (grown.1 ∙ ap (λ (l : List Site). l ++ grown.0) (no_sites t.text h s ds w.0))) grown.2 in
+    let within : Within p0 all last1 = (([], sym (append-nil all), tt), omega arith) in
     subst IsInForm (sym a.is)
     (record {
-      fits = λ k f got. all_fit t.text p0 all has s.signatures agrees s 0 gs a.funcs (visible_package t.text beginning hs visible_beginning) refl within found k f got;
+      fits = λ k f got. all_fit t.text h p0 all has s.signatures agrees s 0 gs a.funcs (visible_package t.text h s ds w.0) refl within found k f got;
       few = few;
       main = (at.1.1.0, at.1.1.1.0, plain.0, plain.1.0, plain.1.1);
       plain = λ site. subst (λ (l : List ℕ). IsPlain (get_or l site int_type)) (sym has) (sites_plain all every site);

@@ -22,8 +22,8 @@ use Rattle.typed.specs.Form.{IsArithmetic, IsStep, PlFits, LeftsFit, new_sites, 
 use Rattle.expression_types.specs.declared.scope.ValueType.{ValueType}
 use Rattle.expression_types.specs.declared.scope.ValueType.TheVariants.{Int, Bool as Truth}
 use Rattle.expression_types.specs.declared.scope.Declared.{Declared}
-use Rattle.expression_types.specs.declared.scope.Declared.TheVariants.{Variable, Untyped, Function, External, TypeName}
-use Rattle.expression_types.specs.Profile.{is_blank, is_main, is_predeclared, is_reserved}
+use Rattle.expression_types.specs.declared.scope.Declared.TheVariants.{Variable}
+use Rattle.expression_types.specs.Universe.{is_blank}
 use Rattle.expression_types.specs.Scope.{Scope, type_number, type_numbers, declaration, is_here, with_variable, with_strings}
 use Rattle.expression_types.specs.Typing.{value, Part, said, valued, Gives, one, called, asking, quoted, printed, panicked, exited, arithmetic_of, combined, both, operand_in, Seen, value_types, asked, taken, name_in, gives, seen}
 use Rattle.types_go.specs.declared.slots.Slot.{Slot}
@@ -97,18 +97,13 @@ module _ (p : Program) where
   Known scope d = (site : SiteId) (u : ValueType) → d ≡ Some (Variable site u) → PlFits p scope (type_number u) (local site.0 here)
 
   target_old : (scope : List ℕ) (d : Option Declared) (t : ValueType) (l : Left) → Known scope d → ((u : ValueType) → variable_type d ≡ Some u → u ≡ t) → target d ≡ Some l → IsOld scope t l
-  target_old scope None t l has wants is = absurd (none_some is)
-  target_old scope (Some Untyped) t l has wants is = absurd (none_some is)
-  target_old scope (Some (Function g)) t l has wants is = absurd (none_some is)
-  target_old scope (Some (External e at)) t l has wants is = absurd (none_some is)
-  target_old scope (Some TypeName) t l has wants is = absurd (none_some is)
   target_old scope (Some (Variable site u)) t l has wants is =
       inr (site.0, sym (same_some is), subst (λ (v : ValueType). PlFits p scope (type_number v) (local site.0 here)) (wants u refl) (has site u refl))
+  target_old scope other t l has wants is = absurd (none_some is)
 
-  left_old : (scope : List ℕ) (b r : Bool) (d : Option Declared) (t : ValueType) (l : Left) → Known scope d → ((u : ValueType) → wanted_of b r d ≡ Some u → u ≡ t) → left_of b r d ≡ Some l → IsOld scope t l
-  left_old scope true r d t l has wants is = inl (sym (same_some is))
-  left_old scope false true d t l has wants is = absurd (none_some is)
-  left_old scope false false d t l has wants is = target_old scope d t l has wants is
+  left_old : (scope : List ℕ) (b : Bool) (d : Option Declared) (t : ValueType) (l : Left) → Known scope d → ((u : ValueType) → wanted_of b d ≡ Some u → u ≡ t) → left_of b d ≡ Some l → IsOld scope t l
+  left_old scope true d t l has wants is = inl (sym (same_some is))
+  left_old scope false d t l has wants is = target_old scope d t l has wants is
 
   -- left sides without new variables
   pub record OldFit (scope : List ℕ) (ts : List ValueType) (ls : List Left) : Type 0 where
@@ -127,7 +122,7 @@ module _ (p : Program) where
 
     side_old : (s : Scope) (scope : List ℕ) (known : KnownAll s scope) (o : Option Name) (t : ValueType) (l : Left) → ((u : ValueType) → wanted text s o ≡ Some u → u ≡ t) → left text s o ≡ Some l → IsOld scope t l
     side_old s scope known None t l wants is = absurd (none_some is)
-    side_old s scope known (Some n) t l wants is = left_old scope (is_blank (spelled text n)) (is_reserved (spelled text n)) (declaration s (spelled text n)) t l (known (spelled text n)) wants is
+    side_old s scope known (Some n) t l wants is = left_old scope (is_blank (spelled text n)) (declaration s (spelled text n)) t l (known (spelled text n)) wants is
 
     pub lefts_fit : (s : Scope) (scope : List ℕ) (known : KnownAll s scope) (es : TreeExs) (ts : List ValueType) (ls : List Left) → AreAccepted (all_wanted text s es) ts → lefts text s es ≡ Some ls → OldFit scope ts ls
     lefts_fit s scope known expressions.none [] ls accepted is = subst (λ (l : List Left). OldFit scope [] l) (same_some is) (record { fit = λ m n. tt; sites = refl; behind = λ wide. refl })
@@ -182,7 +177,7 @@ module _ (p : Program) where
           let r = and_then_some (λ l. option_map (λ xs. l ∷ xs) (new_lefts text s0 (cond (declares s0 bytes) (1 + length s.sites) (length s.sites)) ns)) (new_left text s0 (length s.sites) x) ls is in
           let q = map_some (λ xs. r.0 ∷ xs) (new_lefts text s0 (cond (declares s0 bytes) (1 + length s.sites) (length s.sites)) ns) ls r.2 in
           subst (λ (l : List Left). NewFit scope0 s scope (new_slots text s0 (slots_each (Some (t ∷ ts)) (x ∷ ns))) (t ∷ ts) l n) q.2
-          (by (is_blank bytes) (is_main bytes || is_predeclared bytes) (is_here s0 bytes) r.0 q.0 a.0 r.1 q.1 le ext (λ s2 scope2 ls2 v i l e. new_lefts_fit s0 scope0 known0 n ns ts s2 scope2 ls2 v a.1 i l e))
+          (by (is_blank bytes) (is_here s0 bytes) r.0 q.0 a.0 r.1 q.1 le ext (λ s2 scope2 ls2 v i l e. new_lefts_fit s0 scope0 known0 n ns ts s2 scope2 ls2 v a.1 i l e))
         where
           rest_slots : List Slot
           rest_slots = new_slots text s0 (slots_each (Some ts) ns)
@@ -191,17 +186,16 @@ module _ (p : Program) where
           Later = (s2 : Scope) (scope2 : List ℕ) (ls2 : List Left) → Visible s2 scope2 → new_lefts text s0 (length s2.sites) ns ≡ Some ls2 → length (with_variables text s2 rest_slots).sites ≤ n → Extends (with_variables text s2 rest_slots).sites all
               → NewFit scope0 s2 scope2 rest_slots ts ls2 n
 
-          by : (b r h : Bool) (l : Left) (rest : List Left) → ((u : ValueType) → new_wanted_of b (b || r) h (declaration s0 (spelled text x)) ≡ Some u → u ≡ t)
-              → new_left_of b (b || r) h (declaration s0 (spelled text x)) (length s.sites) ≡ Some l
-              → new_lefts text s0 (cond (not (b || r) && not h) (1 + length s.sites) (length s.sites)) ns ≡ Some rest
-              → length (with_variables text s (cond (not (b || r) && not h) (slot_with (Some t) x ∷ rest_slots) rest_slots)).sites ≤ n
-              → Extends (with_variables text s (cond (not (b || r) && not h) (slot_with (Some t) x ∷ rest_slots) rest_slots)).sites all → Later
-              → NewFit scope0 s scope (cond (not (b || r) && not h) (slot_with (Some t) x ∷ rest_slots) rest_slots) (t ∷ ts) (l ∷ rest) n
-          by true r h l rest wants l_is rest_is le1 ext1 later = old_left scope0 s scope rest_slots t ts l rest n (inl (sym (same_some l_is))) (later s scope rest visible rest_is le1 ext1)
-          by false true h l rest wants l_is rest_is le1 ext1 later = absurd (none_some l_is)
-          by false false true l rest wants l_is rest_is le1 ext1 later =
+          by : (b h : Bool) (l : Left) (rest : List Left) → ((u : ValueType) → new_wanted_of b h (declaration s0 (spelled text x)) ≡ Some u → u ≡ t)
+              → new_left_of b h (declaration s0 (spelled text x)) (length s.sites) ≡ Some l
+              → new_lefts text s0 (cond (not b && not h) (1 + length s.sites) (length s.sites)) ns ≡ Some rest
+              → length (with_variables text s (cond (not b && not h) (slot_with (Some t) x ∷ rest_slots) rest_slots)).sites ≤ n
+              → Extends (with_variables text s (cond (not b && not h) (slot_with (Some t) x ∷ rest_slots) rest_slots)).sites all → Later
+              → NewFit scope0 s scope (cond (not b && not h) (slot_with (Some t) x ∷ rest_slots) rest_slots) (t ∷ ts) (l ∷ rest) n
+          by true h l rest wants l_is rest_is le1 ext1 later = old_left scope0 s scope rest_slots t ts l rest n (inl (sym (same_some l_is))) (later s scope rest visible rest_is le1 ext1)
+          by false true l rest wants l_is rest_is le1 ext1 later =
               old_left scope0 s scope rest_slots t ts l rest n (target_old scope0 (declaration s0 (spelled text x)) t l (known0 (spelled text x)) wants l_is) (later s scope rest visible rest_is le1 ext1)
-          by false false false l rest wants l_is rest_is le1 ext1 later =
+          by false false l rest wants l_is rest_is le1 ext1 later =
               let s1 = with_variable (Some t) s (spelled text x) x.pos in
               let one1 : length s1.sites ≡ length s.sites + 1 = length-append s.sites (record { pos = x.pos; type_id = record { 0 = type_number t } } ∷ []) in
               let site : 1 + length s.sites ≡ length s1.sites = omega (arith, one1) in
@@ -267,7 +261,7 @@ module _ (text : List ℕ) (p : Program) (all : List Site) (has : HasSites p all
       assign_still : (ls : TreeExs) (es : TreeExs) (t : St) → Extends s.sites all → assignment (lefts text s ls) (taken (all_wanted text s ls) (seen text s es)) ≡ Some t → Still looped scope t
       assign_still ls es t ext is =
           let a = assignment_some (lefts text s ls) (taken (all_wanted text s ls) (seen text s es)) t is in
-          let values = taken_fits p scope (all_wanted text s ls) (seen text s es) a.1 (seen_fit p scope text s visible.shown agrees es) a.3 in
+          let values = taken_fits p scope (all_wanted text s ls) (seen text s es) a.1 (seen_fit p scope text s visible.shown visible.held agrees es) a.3 in
           let left1 = lefts_fit p text s scope (known_all s scope visible ext) ls values.types a.0 values.accepted a.2 in
           subst (λ (x : St). Still looped scope x) a.4 (left1.sites, λ m n. (type_numbers values.types, left1.fit m n, values.fit), left1.behind scope)
 
@@ -277,7 +271,7 @@ module _ (text : List ℕ) (p : Program) (all : List Site) (has : HasSites p all
           let v = taken (all_new_wanted text s ns) (seen text s es) in
           let w = where_some (may_define text s ns) (assignment (new_lefts text s (length s.sites) ns) v) t is in
           let a = assignment_some (new_lefts text s (length s.sites) ns) v t w.1 in
-          let values = taken_fits p scope (all_new_wanted text s ns) (seen text s es) a.1 (seen_fit p scope text s visible.shown agrees es) a.3 in
+          let values = taken_fits p scope (all_new_wanted text s ns) (seen text s es) a.1 (seen_fit p scope text s visible.shown visible.held agrees es) a.3 in
           let types_are : definition_types text s ns es ≡ Some values.types = ap (option_and_then (λ x. value_types (seen text s es))) a.3 ∙ values.found in
           let vs = new_slots text s (slots_each (Some values.types) ns) in
           let after = with_variables text s vs in
@@ -292,19 +286,15 @@ module _ (text : List ℕ) (p : Program) (all : List Site) (has : HasSites p all
       -- the value of a variable is one of its type
       own_fits : Extends s.sites all → (o : Option Name) (t : ValueType) (q : Pl) → own_value text s o ≡ Some (value t (read q)) → PlFits p scope (type_number t) q
       own_fits ext None t q is = absurd (none_some is)
-      own_fits ext (Some n) t q is = by (is_reserved (spelled text n)) is
+      own_fits ext (Some n) t q is = by (is_blank (spelled text n)) is
         where
           of_variable : (d : Option Declared) → Known p scope d → variable_value d ≡ Some (value t (read q)) → PlFits p scope (type_number t) q
-          of_variable None known is1 = absurd (none_some is1)
-          of_variable (Some Untyped) known is1 = absurd (none_some is1)
-          of_variable (Some (Function g)) known is1 = absurd (none_some is1)
-          of_variable (Some (External e at)) known is1 = absurd (none_some is1)
-          of_variable (Some TypeName) known is1 = absurd (none_some is1)
           of_variable (Some (Variable site u)) known is1 =
               let read_is : value u (read (local site.0 here)) ≡ value t (read q) = same_some is1 in
               let type_is : u ≡ t = cc in
               let place_is : local site.0 here ≡ q = cc in
               subst (λ (v : ValueType). PlFits p scope (type_number v) q) type_is (subst (λ (l : Pl). PlFits p scope (type_number u) l) place_is (known site u refl))
+          of_variable other known is1 = absurd (none_some is1)
 
           by : (b : Bool) → cond b None (variable_value (declaration s (spelled text n))) ≡ Some (value t (read q)) → PlFits p scope (type_number t) q
           by true is1 = absurd (none_some is1)
@@ -318,7 +308,7 @@ module _ (text : List ℕ) (p : Program) (all : List Site) (has : HasSites p all
           let u = update_some (first_place e) tree_op a b q.0 (λ x x_is. own_read text s (name_in e) x x_is) q.1 in
           let form = u.5 in
           let place1 : PlFits p scope int_type u.1 = subst (λ (k : ValueType). PlFits p scope (type_number k) u.1) form.2 (own_fits ext (name_in e) u.0 u.1 u.3) in
-          let right : OperandFits p scope u.2 = operand_fits p scope (gives text s v) u.2 (maybe_fits p scope (gives text s v) (λ g g_is. gives_fit p scope text s visible.shown agrees v g g_is)) u.4 in
+          let right : OperandFits p scope u.2 = operand_fits p scope (gives text s v) u.2 (maybe_fits p scope (gives text s v) (λ g g_is. gives_fit p scope text s visible.shown visible.held agrees v g g_is)) u.4 in
           let right1 : ExFits p scope int_type form.0 = subst (λ (k : ValueType). ExFits p scope (type_number k) form.0) form.1 (value_fits p scope u.2 form.0 right form.3) in
           let whole : update (first_place e) u.1 (arithmetic_of tree_op) form.0 ≡ t = same_some (ap updated (sym form.4) ∙ q.2) in
           subst (λ (x : St). Still looped scope x) whole (refl, λ m n. (arithmetic_is tree_op, place1, right1), refl)
@@ -343,7 +333,7 @@ module _ (text : List ℕ) (p : Program) (all : List Site) (has : HasSites p all
           let q = and_then_some (expressed (length s.strings)) (gives text s e) t is in
           let count1 : length (strings_in (gives text s e)) ≡ length (strings_in_call q.0) = ap (λ (o : Option Gives). length (strings_in o)) q.1 in
           let count2 = length-append s.strings (strings_in (gives text s e)) in
-          express_still looped scope (length s.strings) q.0 t (gives_fit p scope text s visible.shown agrees e q.0 q.1) (omega (arith, within.1, count1, count2)) q.2
+          express_still looped scope (length s.strings) q.0 t (gives_fit p scope text s visible.shown visible.held agrees e q.0 q.1) (omega (arith, within.1, count1, count2)) q.2
 
       pub simple_still : (m : Simple) (t : St) → DeclaresNone m → Within p all (behind_simple text s m) → simple_statement text s m ≡ Some t → Still looped scope t
       simple_still (tree.express e) t none1 within is = call_still e t within is
@@ -370,4 +360,4 @@ module _ (text : List ℕ) (p : Program) (all : List Site) (has : HasSites p all
       simple_formed (tree.decrement e at) t within ext0 is = still_formed looped s scope t visible (simple_still (tree.decrement e at) t tt within is)
 
       pub return_formed : (r : Returns) (goes : ReturnsFit r wanted1 named) (es : TreeExs) (t : St) → returned r (seen text s es) ≡ Some t → StFormed looped s scope s t × Visible s (scope_after scope t)
-      return_formed r goes es t is = still_formed looped s scope t visible (return_still looped scope r goes (seen text s es) t (seen_fit p scope text s visible.shown agrees es) is)
+      return_formed r goes es t is = still_formed looped s scope t visible (return_still looped scope r goes (seen text s es) t (seen_fit p scope text s visible.shown visible.held agrees es) is)

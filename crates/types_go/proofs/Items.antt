@@ -7,6 +7,7 @@ use Rattle.syntax.specs.declared.expression.Expr.{Expr}
 use Rattle.syntax.specs.declared.expression.Name.{Name}
 use Rattle.syntax.specs.Expressions.{Ex as TreeEx, Exs as TreeExs, some, ex_of, exs_of}
 use Rattle.expression_types.specs.declared.scope.ValueType.{ValueType}
+use Rattle.expression_types.specs.Scope.{Scope}
 use Rattle.types_go.specs.declared.slots.Slot.{Slot}
 use Rattle.types_go.specs.Entries.{slot_with, first_type, later_types}
 use Rattle.types_go.specs.Statements.{only, is_bare, spec_slots_of}
@@ -61,9 +62,9 @@ types_with t [] = refl
 types_with t (n ∷ ns) = ap (λ l. t ∷ l) (types_with t ns)
 
 -- with a type that stands there, the types of values don't matter
-pub bare_slots : (text : List ℕ) (o : Option TreeEx) (es : TreeExs) (ts us : Option (List ValueType)) (ns : List Name) → is_bare o es ≡ true → spec_slots_of text o ts ns ≡ spec_slots_of text o us ns
-bare_slots text None es ts us ns is = cc is
-bare_slots text (Some e) es ts us ns is = refl
+pub bare_slots : (text : List ℕ) (s : Scope) (o : Option TreeEx) (es : TreeExs) (ts us : Option (List ValueType)) (ns : List Name) → is_bare o es ≡ true → spec_slots_of text s o ts ns ≡ spec_slots_of text s o us ns
+bare_slots text s None es ts us ns is = cc is
+bare_slots text s (Some e) es ts us ns is = refl
 
 pub only_other : (xs : List Expr) → (length xs == 1) ≡ false → only (exs_of xs) ≡ None
 only_other [] is = refl

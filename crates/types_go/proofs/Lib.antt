@@ -6,9 +6,11 @@ mod InFormHeads
 mod InFormProgram
 mod InFormSimple
 mod InFormStatements
+mod Inside
 mod Items
 mod Lines
 mod Names
+mod Package
 mod Sequences
 mod SettledEntries
 mod SettledFunctions

@@ -62,16 +62,16 @@ module _ (text : List ℕ) (s : Scope) where
       (subst (λ (ps1 : List (Option ValueType)). IsLeast (Whole (lefts text s ns) ps1 os) answer) ps_is (subst (λ (ls1 : Option (List Left)). IsLeast (Whole ls1 ps os) answer) ls_is whole))
 
 -- a function of its parts
-pub parts_of : (text : List ℕ) (s : Scope) (g : TreeFunction) (b : Body) (params results : List Slot) (first behind : ℕ) (ps rs : Option (List (Option ℕ))) (body : Option Sts)
-    → params ≡ slots_of text g.params → results ≡ slots_of text g.results → first ≡ length s.sites → behind ≡ length (behind_body text s g (Some b)).sites → ps ≡ param_entries text s g → rs ≡ result_entries text s g → body ≡ body_of text s g b
-    → assembled params results first behind ps rs body ≡ parts text s g b
-parts_of text s g b params results first behind ps rs body j i a c d e h =
-    let all = slots_of text g.results in
-    let before1 = slots_of text g.params in
-    let last1 = length (behind_body text s g (Some b)).sites in
+pub parts_of : (text : List ℕ) (heads s : Scope) (g : TreeFunction) (b : Body) (params results : List Slot) (first behind : ℕ) (ps rs : Option (List (Option ℕ))) (body : Option Sts)
+    → params ≡ slots_of text heads g.params → results ≡ slots_of text heads g.results → first ≡ length s.sites → behind ≡ length (behind_body text heads s g (Some b)).sites → ps ≡ param_entries text heads s g → rs ≡ result_entries text heads s g → body ≡ body_of text heads s g b
+    → assembled params results first behind ps rs body ≡ parts text heads s g b
+parts_of text heads s g b params results first behind ps rs body j i a c d e h =
+    let all = slots_of text heads g.results in
+    let before1 = slots_of text heads g.params in
+    let last1 = length (behind_body text heads s g (Some b)).sites in
     ap (λ (l : List Slot). assembled l results first behind ps rs body) j ∙ ap (λ (l : List Slot). assembled before1 l first behind ps rs body) i ∙ ap (λ x. assembled before1 all x behind ps rs body) a
-    ∙ ap (λ x. assembled before1 all (length s.sites) x ps rs body) c ∙ ap (λ x. assembled before1 all (length s.sites) last1 x rs body) d ∙ ap (λ x. assembled before1 all (length s.sites) last1 (param_entries text s g) x body) e
-    ∙ ap (λ x. assembled before1 all (length s.sites) last1 (param_entries text s g) (result_entries text s g) x) h
+    ∙ ap (λ x. assembled before1 all (length s.sites) x ps rs body) c ∙ ap (λ x. assembled before1 all (length s.sites) last1 x rs body) d ∙ ap (λ x. assembled before1 all (length s.sites) last1 (param_entries text heads s g) x body) e
+    ∙ ap (λ x. assembled before1 all (length s.sites) last1 (param_entries text heads s g) (result_entries text heads s g) x) h
 
 -- values of a `return` that has some
 pub return_least : (at : Pos) (r : Returns) (items : List Item) (f : Option Fault) → (length items == 0) ≡ false → IsLeast (TakeFails (fault ResultCount at) r.wanted (seens items)) f → IsLeast (ReturnFails at r (seens items)) f

@@ -12,7 +12,7 @@ use Rattle.expression_types.specs.declared.fault.Fault.{Fault}
 use Rattle.expression_types.specs.declared.fault.FaultKind.TheVariants.{Redeclared, OutOfProfile}
 use Rattle.expression_types.specs.declared.scope.ValueType.{ValueType}
 use Rattle.expression_types.specs.declared.scope.Declared.{Declared}
-use Rattle.expression_types.specs.Profile.{is_blank, is_reserved}
+use Rattle.expression_types.specs.Universe.{is_blank}
 use Rattle.expression_types.specs.Scope.{Scope, is_here, with_variable, opened, closed}
 use Rattle.expression_types.specs.Typing.{Seen, Many, type_in_one, fits_with, all_values, types_with, many, allowed, type_of, as_value, operand_in, value_in, values, single_types, value_types, values_agree, types_agree, each, taken}
 use Rattle.expression_types.specs.Faults.{fault, IsFault}
@@ -46,7 +46,7 @@ one_more_declared P [] d all p = (p, tt)
 one_more_declared P (e ∷ ds) d all p = (all.0, one_more_declared P ds d all.1 p)
 
 pub settled_with : (s : Scope) (n : List ℕ) (t : ValueType) (at : Pos) → IsSettled s → IsSettled (with_variable (Some t) s n at)
-settled_with s n t at settled = record { all = one_more_declared (IsTyped s.signatures) s.declared _ settled.all tt }
+settled_with s n t at settled = record { all = one_more_declared (IsTyped s.signatures s.constants) s.declared _ settled.all tt }
 
 pub settled_opened : (s : Scope) → IsSettled s → IsSettled (opened s)
 settled_opened s settled = record { all = settled.all }
@@ -115,14 +115,13 @@ blank_decided : (role : Role) (at : Pos) → Decided (blank_entry role) (IsFault
 blank_decided Parameter at = λ f h. h
 blank_decided Result at = (fault OutOfProfile at, refl)
 
-variable_decided : (reserved is_here : Bool) (site : ℕ) (at : Pos) → Decided (variable_entry reserved is_here site) (IsFault (variable_fault reserved is_here at))
-variable_decided true is_here site at = (fault OutOfProfile at, refl)
-variable_decided false true site at = (fault Redeclared at, refl)
-variable_decided false false site at = λ f h. h
+variable_decided : (is_here : Bool) (site : ℕ) (at : Pos) → Decided (variable_entry is_here site) (IsFault (variable_fault is_here at))
+variable_decided true site at = (fault Redeclared at, refl)
+variable_decided false site at = λ f h. h
 
-named_decided : (role : Role) (is_blank reserved is_here : Bool) (site : ℕ) (at : Pos) → Decided (entry_of role is_blank reserved is_here site) (IsFault (named_fault role is_blank reserved is_here at))
-named_decided role true reserved is_here site at = blank_decided role at
-named_decided role false reserved is_here site at = variable_decided reserved is_here site at
+named_decided : (role : Role) (is_blank is_here : Bool) (site : ℕ) (at : Pos) → Decided (entry_of role is_blank is_here site) (IsFault (named_fault role is_blank is_here at))
+named_decided role true is_here site at = blank_decided role at
+named_decided role false is_here site at = variable_decided is_here site at
 
 module _ (text : List ℕ) where
   new_typed : (s : Scope) (vs : List Slot) → AllTyped vs → AllTyped (new_slots text s vs)
@@ -148,7 +147,7 @@ module _ (text : List ℕ) where
 
   settled_entry : (s : Scope) (t : ValueType) (n : Option Name) → IsSettled s → IsSettled (behind_entry_name text (Some t) s n)
   settled_entry s t None settled = settled
-  settled_entry s t (Some n) settled = by (not (is_reserved (spelled text n)) && not (is_here s (spelled text n)))
+  settled_entry s t (Some n) settled = by (not (is_blank (spelled text n)) && not (is_here s (spelled text n)))
     where
       by : (b : Bool) → IsSettled (cond b (with_variable (Some t) s (spelled text n) n.pos) s)
       by true = settled_with s (spelled text n) t n.pos settled
@@ -161,7 +160,7 @@ module _ (text : List ℕ) where
 
   entry_decided : (role : Role) (s : Scope) (n : Option Name) → Decided (entry_in text role s n) (EntryFails text role s n)
   entry_decided role s None = λ f h. h
-  entry_decided role s (Some n) = named_decided role (is_blank (spelled text n)) (is_reserved (spelled text n)) (is_here s (spelled text n)) (length s.sites) n.pos
+  entry_decided role s (Some n) = named_decided role (is_blank (spelled text n)) (is_here s (spelled text n)) (length s.sites) n.pos
 
   pub entries_decided : (role : Role) (s : Scope) (ps : List Slot) → Decided (entries text role s ps) (EntriesFail text role s ps)
   entries_decided role s [] = λ f h. h

@@ -1,5 +1,5 @@
 -- Where every variable has a type and every function a signature, a header and a `var` have typed forms, or a rule fails in them, and never both.
-use Rattle.std.proofs.Common.{◌≡◌, ℕ, suc, Bool, true, false, cond, List, [], ◌∷◌, ◌⊎◌, inl, inr, length, map, Option, Some, None, refl, sym, ap, ◌∙◌, subst, arith}
+use Rattle.std.proofs.Common.{◌≡◌, ℕ, suc, ◌≤◌, Bool, true, false, cond, List, [], ◌∷◌, ◌⊎◌, inl, inr, length, map, Option, Some, None, refl, sym, ap, ◌∙◌, subst, arith}
 use Rattle.std.specs.Prelude.{option_and_then, is_some, not, nat_le}
 use Rattle.std.specs.Option.{option_map}
 use Rattle.std.proofs.lemmas.List.{length-map}
@@ -7,27 +7,28 @@ use Rattle.std.proofs.lemmas.Bool.{leb-true}
 use Rattle.base.specs.declared.pos.Pos.{Pos}
 use Rattle.syntax.specs.declared.expression.Name.{Name}
 use Rattle.syntax.specs.FirstBytes.{first_place}
-use Rattle.syntax.specs.Expressions.{Ex as TreeEx, Exs as TreeExs, some}
+use Rattle.syntax.specs.Expressions.{Ex as TreeEx, Exs as TreeExs, some, spelled}
 use Rattle.syntax.specs.Expressions as expressions
 use Rattle.syntax.specs.Statements.{Simple, ValueSpec, Guard, Targets, no_targets, targets_assigned, targets_defined, Clause, forever, while_true, counting, ranging}
 use Rattle.syntax.specs.Statements as tree
-use Rattle.typed.specs.Syntax.{Ex, Exs, Left, St, Sts, declare, done, next}
+use Rattle.typed.specs.Syntax.{Ex, Exs, Left, blank, new, to, St, Sts, declare, done, next}
 use Rattle.expression_types.specs.declared.fault.Fault.{Fault}
 use Rattle.expression_types.specs.declared.fault.FaultKind.TheVariants.{NothingNew, Mismatch, ArgCount, BadOperand, OutOfProfile}
 use Rattle.expression_types.specs.declared.scope.ValueType.{ValueType}
 use Rattle.expression_types.specs.declared.scope.ValueType.TheVariants.{Int}
-use Rattle.expression_types.specs.Scope.{Scope, opened}
+use Rattle.expression_types.specs.Universe.{is_blank}
+use Rattle.expression_types.specs.Scope.{Scope, is_here, opened}
 use Rattle.expression_types.specs.Typing.{Operand, allowed, same_type, accepts, type_of, as_value, operand_in, taken, name_in, type_in, gives, seen, condition, test}
 use Rattle.expression_types.specs.Faults.{fault, IsFault, range_fault, Fails, FailsInEach, FailsAsOperand, FailsInCondition, FailsInTest}
 use Rattle.types_go.specs.declared.slots.Slot.{Slot}
 use Rattle.types_go.specs.declared.entries.Role.TheVariants.{Parameter}
-use Rattle.types_go.specs.Entries.{sites_of, entry_left, slot_with, slots_each, entry_in, entries, behind_entry, behind_entries}
+use Rattle.types_go.specs.Entries.{entry_of, sites_of, entry_left, slot_with, slots_each, entry_in, entries, behind_entry, behind_entries}
 use Rattle.types_go.specs.EntryFaults.{EntriesFail}
 use Rattle.types_go.specs.Statements.{Choice, Head, repeated, counted, alone, assignment, choice_head, loop_head, key_of, range_head, as_int, number_type, all_accept, target_slots, is_bare, wanted, lefts, all_wanted, simple_statement, header, init_statement, post_simple, post_statement, behind_post_simple, behind_post, guard_head, over, all_blank, target_lefts, clause_scope, clause_head, spec_type, spec_wanted, spec_slots_of, spec_slots, behind_spec, spec_entries, is_known, spec_declared, spec_assigned, spec_statement, spec_statements, behind_specs, taken_types}
-use Rattle.types_go.specs.StatementFaults.{fault_where, names_place, over_fault, given_fault, keys_fault, LeftsFail, FailsInInit, PostFails, FailsInPost, FailsInOver, GivenFail, TargetsFail, target_count, FailsInRange, FailsInClause, FailsInGuard, SpecTypeFails, SpecTakeFails, SpecValuesFail, FailsInSpec, FailsInSpecs}
+use Rattle.types_go.specs.StatementFaults.{fault_where, names_place, over_fault, given_fault, keys_fault, key_count, name_count, LeftsFail, FailsInInit, PostFails, FailsInPost, FailsInOver, GivenFail, TargetsFail, target_count, FailsInRange, FailsInClause, FailsInGuard, SpecTypeFails, SpecTakeFails, SpecValuesFail, FailsInSpec, FailsInSpecs}
 use Rattle.expression_types.proofs.Decided.{Decided, Tested, further, tested, turned, mapped, after, both_tested}
 use Rattle.expression_types.proofs.DecidedValues.{operand_decided, as_value_decided, take_decided}
-use Rattle.expression_types.proofs.Options.{and_then_some, map_some, same_some}
+use Rattle.expression_types.proofs.Options.{and_then_some, map_some, none_some, same_some}
 use Rattle.expression_types.proofs.Settled.{IsSettled, gives_decided, seen_decided, type_decided, condition_decided, test_decided}
 use Rattle.types_go.proofs.SettledEntries.{where_tested, where_not, some_tested, settled_opened, settled_entries, AllTyped, with_typed, each_typed, allowed_is, taken_types_are, entries_decided}
 use Rattle.types_go.proofs.SettledSimple.{assignment_some, lefts_decided, simple_decided, settled_simple}
@@ -47,23 +48,27 @@ while_decided : (c : Option Ex) (P : Fault → Type 0) → Decided c P → Decid
 while_decided None P p = p
 while_decided (Some x) P p = p
 
-key_decided : (x : Ex) (at : Pos) (l : List Left) → Decided (key_of l) (IsFault (keys_fault at (Some x) (Some (length l))))
-key_decided x at [] = λ f h. h
-key_decided x at (l ∷ []) = λ f h. h
-key_decided x at (l ∷ k ∷ ls) = by (nat_le (length (l ∷ k ∷ ls)) 1) refl
+more_keys : (at : Pos) (n : ℕ) → 2 ≤ n → (f : Fault) × IsFault (fault_where (not (nat_le n 1)) (fault ArgCount at)) f
+more_keys at n two = by (nat_le n 1) refl
   where
-    by : (b : Bool) → nat_le (length (l ∷ k ∷ ls)) 1 ≡ b → (f : Fault) × IsFault (fault_where (not b) (fault ArgCount at)) f
-    by true is = let le = leb-true (length (l ∷ k ∷ ls)) 1 is in absurd (omega (arith, le))
+    by : (b : Bool) → nat_le n 1 ≡ b → (f : Fault) × IsFault (fault_where (not b) (fault ArgCount at)) f
+    by true is = let le = leb-true n 1 is in absurd (omega (arith, le, two))
     by false is = (fault ArgCount at, refl)
 
-range_head_decided : (e : Option Ex) (ls : Option (List Left)) (at : Pos) (n : Option ℕ) (P Q : Fault → Type 0) → Decided e P → ((x : Ex) → e ≡ Some x → Decided ls Q) → ((l : List Left) → ls ≡ Some l → n ≡ Some (length l))
+key_decided : (x : Ex) (at : Pos) (l : List Left) → Decided (key_of l) (IsFault (keys_fault at (Some x) (Some (key_count l))))
+key_decided x at [] = λ f h. h
+key_decided x at (l ∷ []) = λ f h. h
+key_decided x at (l ∷ blank ∷ []) = λ f h. h
+key_decided x at (l ∷ k ∷ ls) = more_keys at (length (l ∷ k ∷ ls)) (omega arith)
+
+range_head_decided : (e : Option Ex) (ls : Option (List Left)) (at : Pos) (n : Option ℕ) (P Q : Fault → Type 0) → Decided e P → ((x : Ex) → e ≡ Some x → Decided ls Q) → ((l : List Left) → ls ≡ Some l → n ≡ Some (key_count l))
     → Decided (range_head e ls) (λ f. (P f ⊎ Q f) ⊎ IsFault (keys_fault at e n) f)
 range_head_decided None ls at n P Q p q long = (p.0, inl (inl p.1))
 range_head_decided (Some x) None at n P Q p q long = let f = q x refl in (f.0, inl (inr f.1))
 range_head_decided (Some x) (Some l) at n P Q p q long =
     subst (λ (m : Option ℕ). Decided (option_map (counted x) (key_of l)) (λ f. (P f ⊎ Q f) ⊎ IsFault (keys_fault at (Some x) m) f)) (sym (long l refl))
-    (further (λ f. P f ⊎ Q f) (IsFault (keys_fault at (Some x) (Some (length l)))) (option_map (counted x) (key_of l)) (λ f k. elim k [ inl u ↦ p f u | inr u ↦ q x refl f u ])
-    (mapped (counted x) (key_of l) (IsFault (keys_fault at (Some x) (Some (length l)))) (key_decided x at l)))
+    (further (λ f. P f ⊎ Q f) (IsFault (keys_fault at (Some x) (Some (key_count l)))) (option_map (counted x) (key_of l)) (λ f k. elim k [ inl u ↦ p f u | inr u ↦ q x refl f u ])
+    (mapped (counted x) (key_of l) (IsFault (keys_fault at (Some x) (Some (key_count l)))) (key_decided x at l)))
 
 int_decided : (at place : Pos) (o : Option Operand) (P : Fault → Type 0) → Decided o P → Decided (option_and_then as_int o) (λ f. P f ⊎ IsFault (over_fault at place o) f)
 int_decided at place None P d = (d.0, inl d.1)
@@ -135,28 +140,64 @@ module _ (text : List ℕ) where
       (where_tested (all_blank text ns) (fault NothingNew at))
       (mapped (map entry_left) (entries text Parameter s (map (slot_with (Some t)) ns)) (EntriesFail text Parameter s (map (slot_with (Some t)) ns)) (entries_decided text Parameter s (map (slot_with (Some t)) ns))))
 
-  -- as many left sides as are counted
-  entries_long : (s : Scope) (ps : List Slot) (es : List (Option ℕ)) → entries text Parameter s ps ≡ Some es → length es ≡ length ps
-  entries_long s [] es is = ap length (sym (same_some is))
-  entries_long s (p ∷ ps) es is =
-      let r = and_then_some (λ e. option_map (λ xs. e ∷ xs) (entries text Parameter (behind_entry text s p) ps)) (entry_in text Parameter s p.name) es is in
-      let q = map_some (λ xs. r.0 ∷ xs) (entries text Parameter (behind_entry text s p) ps) es r.2 in
-      ap length (sym q.2) ∙ ap suc (entries_long (behind_entry text s p) ps q.0 q.1)
+  -- a name by itself, and those behind it
+  entries_first : (s : Scope) (t : Option ValueType) (n : Name) (ns : List Name) (es : List (Option ℕ)) → entries text Parameter s (map (slot_with t) (n ∷ ns)) ≡ Some es
+      → (e : Option ℕ) × (xs : List (Option ℕ)) × (entry_in text Parameter s (Some n) ≡ Some e) × (entries text Parameter (behind_entry text s (slot_with t n)) (map (slot_with t) ns) ≡ Some xs) × (e ∷ xs ≡ es)
+  entries_first s t n ns es is =
+      let r = and_then_some (λ e. option_map (λ xs. e ∷ xs) (entries text Parameter (behind_entry text s (slot_with t n)) (map (slot_with t) ns))) (entry_in text Parameter s (Some n)) es is in
+      let q = map_some (λ xs. r.0 ∷ xs) (entries text Parameter (behind_entry text s (slot_with t n)) (map (slot_with t) ns)) es r.2 in
+      (r.0, q.0, r.1, q.1, q.2)
 
-  targets_long : (s : Scope) (t : Option ValueType) (targets : Targets) (l : List Left) → target_lefts text s t targets ≡ Some l → target_count text s targets ≡ Some (length l)
-  targets_long s t no_targets l is = ap (option_map length) is
-  targets_long s t (targets_assigned ls at) l is = ap (option_map length) (allowed_is (all_accept t (all_wanted text s ls)) (lefts text s ls) l is).1
-  targets_long s t (targets_defined ns at) l is =
+  entries_long : (s : Scope) (t : Option ValueType) (ns : List Name) (es : List (Option ℕ)) → entries text Parameter s (map (slot_with t) ns) ≡ Some es → length ns ≡ length (map entry_left es)
+  entries_long s t [] es is = ap (λ l. length (map entry_left l)) (same_some is)
+  entries_long s t (n ∷ ns) es is =
+      let r = entries_first s t n ns es is in
+      ap suc (entries_long (behind_entry text s (slot_with t n)) t ns r.1 r.3) ∙ ap (λ l. length (map entry_left l)) r.4
+
+  -- as many left sides as are counted
+  last_counted : (b h : Bool) (site : ℕ) (l : Left) (e : Option ℕ) → entry_of Parameter b h site ≡ Some e → cond b 1 2 ≡ key_count (l ∷ entry_left e ∷ [])
+  last_counted true h site l e is = ap (λ x. key_count (l ∷ entry_left x ∷ [])) (same_some is)
+  last_counted false true site l e is = absurd (none_some is)
+  last_counted false false site l e is = ap (λ x. key_count (l ∷ entry_left x ∷ [])) (same_some is)
+
+  long_counted : (l k : Left) (n : ℕ) (ls : List Left) → suc n ≡ length ls → suc (suc (suc n)) ≡ key_count (l ∷ k ∷ ls)
+  long_counted l k n [] long = absurd (omega (arith, long))
+  long_counted l blank n (x ∷ ls) long = ap (λ j. suc (suc j)) long
+  long_counted l (new site) n (x ∷ ls) long = ap (λ j. suc (suc j)) long
+  long_counted l (to q) n (x ∷ ls) long = ap (λ j. suc (suc j)) long
+
+  names_counted : (s : Scope) (t : Option ValueType) (ns : List Name) (es : List (Option ℕ)) → entries text Parameter s (map (slot_with t) ns) ≡ Some es → name_count text ns ≡ key_count (map entry_left es)
+  names_counted s t [] es is = ap (λ l. key_count (map entry_left l)) (same_some is)
+  names_counted s t (n ∷ []) es is =
+      let r = entries_first s t n [] es is in
+      ap (λ l. key_count (entry_left r.0 ∷ map entry_left l)) (same_some r.3) ∙ ap (λ l. key_count (map entry_left l)) r.4
+  names_counted s t (n ∷ m ∷ []) es is =
+      let r = entries_first s t n (m ∷ []) es is in
+      let s1 = behind_entry text s (slot_with t n) in
+      let q = entries_first s1 t m [] r.1 r.3 in
+      last_counted (is_blank (spelled text m)) (is_here s1 (spelled text m)) (length s1.sites) (entry_left r.0) q.0 q.2
+      ∙ ap (λ l. key_count (entry_left r.0 ∷ entry_left q.0 ∷ map entry_left l)) (same_some q.3) ∙ ap (λ l. key_count (entry_left r.0 ∷ map entry_left l)) q.4 ∙ ap (λ l. key_count (map entry_left l)) r.4
+  names_counted s t (n ∷ m ∷ o ∷ ns) es is =
+      let r = entries_first s t n (m ∷ o ∷ ns) es is in
+      let s1 = behind_entry text s (slot_with t n) in
+      let q = entries_first s1 t m (o ∷ ns) r.1 r.3 in
+      long_counted (entry_left r.0) (entry_left q.0) (length ns) (map entry_left q.1) (entries_long (behind_entry text s1 (slot_with t m)) t (o ∷ ns) q.1 q.3)
+      ∙ ap (λ l. key_count (entry_left r.0 ∷ map entry_left l)) q.4 ∙ ap (λ l. key_count (map entry_left l)) r.4
+
+  targets_counted : (s : Scope) (t : Option ValueType) (targets : Targets) (l : List Left) → target_lefts text s t targets ≡ Some l → target_count text s targets ≡ Some (key_count l)
+  targets_counted s t no_targets l is = ap (option_map key_count) is
+  targets_counted s t (targets_assigned ls at) l is = ap (option_map key_count) (allowed_is (all_accept t (all_wanted text s ls)) (lefts text s ls) l is).1
+  targets_counted s t (targets_defined ns at) l is =
       let a = allowed_is (not (all_blank text ns)) (option_map (map entry_left) (entries text Parameter s (map (slot_with t) ns))) l is in
       let q = map_some (map entry_left) (entries text Parameter s (map (slot_with t) ns)) l a.1 in
-      ap Some (sym (length-map ns (slot_with t)) ∙ sym (entries_long s (map (slot_with t) ns) q.0 q.1) ∙ sym (length-map q.0 entry_left) ∙ ap length q.2)
+      ap Some (names_counted s t ns q.0 q.1 ∙ ap key_count q.2)
 
   range_decided : (s : Scope) (at : Pos) (t : Targets) (e : TreeEx) → IsSettled s → Decided (range_head (over text s e) (target_lefts text (opened s) (number_type (over text s e)) t)) (FailsInRange text s at t e)
   range_decided s at t e settled =
       let n = number_type (over text s e) in
       range_head_decided (over text s e) (target_lefts text (opened s) n t) at (target_count text (opened s) t) (FailsInOver text s at e) (TargetsFail text (opened s) n t) (over_decided s at e settled)
       (λ x is. subst (λ (o : Option ValueType). Decided (target_lefts text (opened s) o t) (TargetsFail text (opened s) o t)) (sym (number_is (over text s e) x is)) (targets_decided (opened s) Int t (settled_opened s settled)))
-      (λ l is. targets_long (opened s) n t l is)
+      (λ l is. targets_counted (opened s) n t l is)
 
   pub clause_decided : (s : Scope) (at : Pos) (c : Clause) → IsSettled s → Decided (clause_head text s c) (FailsInClause text s at c)
   clause_decided s at forever settled = λ f h. h
@@ -197,9 +238,9 @@ module _ (text : List ℕ) where
 
   -- ---- variables
 
-  known_tested : (s : Scope) (o : Option TreeEx) → IsSettled s → Tested (is_known text o) (SpecTypeFails text s o)
+  known_tested : (s : Scope) (o : Option TreeEx) → IsSettled s → Tested (is_known text s o) (SpecTypeFails text s o)
   known_tested s None settled = λ f h. h
-  known_tested s (Some e) settled = some_tested (type_in text e) (SpecTypeFails text s (Some e)) (type_decided text s settled e)
+  known_tested s (Some e) settled = some_tested (type_in text s e) (SpecTypeFails text s (Some e)) (type_decided text s settled e)
 
   taking_decided : (es : Option (List Left)) (v : Option Exs) (V E : Fault → Type 0) → Decided v V → Decided es E → Decided (assignment es v) (λ f. V f ⊎ E f)
   taking_decided None None V E p q = (p.0, inl p.1)
@@ -213,33 +254,33 @@ module _ (text : List ℕ) where
       further (λ f. ⊥) (EntriesFail text Parameter s (spec_slots text s v)) (spec_declared text s v) (λ f h. h)
       (mapped (λ es. declare (sites_of es)) (spec_entries text s v) (EntriesFail text Parameter s (spec_slots text s v)) (entries_decided text Parameter s (spec_slots text s v)))
   names_decided s at v settled false =
-      taking_decided (option_map (map entry_left) (spec_entries text s v)) (taken (spec_wanted text v) (seen text s v.values)) (SpecTakeFails text s at v) (EntriesFail text Parameter s (spec_slots text s v))
-      (take_decided (seen text s v.values) (FailsInEach text s v.values) (seen_decided text s settled v.values) (fault ArgCount at) (spec_wanted text v))
+      taking_decided (option_map (map entry_left) (spec_entries text s v)) (taken (spec_wanted text s v) (seen text s v.values)) (SpecTakeFails text s at v) (EntriesFail text Parameter s (spec_slots text s v))
+      (take_decided (seen text s v.values) (FailsInEach text s v.values) (seen_decided text s settled v.values) (fault ArgCount at) (spec_wanted text s v))
       (mapped (map entry_left) (spec_entries text s v) (EntriesFail text Parameter s (spec_slots text s v)) (entries_decided text Parameter s (spec_slots text s v)))
 
   spec_decided : (s : Scope) (at : Pos) (v : ValueSpec) → IsSettled s → Decided (spec_statement text s v) (FailsInSpec text s at v)
   spec_decided s at v settled =
-      tested (SpecTypeFails text s v.type_expr) (λ f. SpecValuesFail text (is_bare v.type_expr v.values) s at v f ⊎ EntriesFail text Parameter s (spec_slots text s v) f) (is_known text v.type_expr)
+      tested (SpecTypeFails text s v.type_expr) (λ f. SpecValuesFail text (is_bare v.type_expr v.values) s at v f ⊎ EntriesFail text Parameter s (spec_slots text s v) f) (is_known text s v.type_expr)
       (cond (is_bare v.type_expr v.values) (spec_declared text s v) (spec_assigned text s v)) (known_tested s v.type_expr settled) (names_decided s at v settled (is_bare v.type_expr v.values))
 
   -- where a declaration is typed, so are its names
-  names_typed : (s : Scope) (v : ValueSpec) (t : St) (o : Option TreeEx) → v.type_expr ≡ o → is_known text o ≡ true → cond (is_bare o v.values) (spec_declared text s v) (spec_assigned text s v) ≡ Some t → AllTyped (spec_slots text s v)
-  names_typed s v t (Some e) o_is known is = by (type_in text e) refl known
+  names_typed : (s : Scope) (v : ValueSpec) (t : St) (o : Option TreeEx) → v.type_expr ≡ o → is_known text s o ≡ true → cond (is_bare o v.values) (spec_declared text s v) (spec_assigned text s v) ≡ Some t → AllTyped (spec_slots text s v)
+  names_typed s v t (Some e) o_is known is = by (type_in text s e) refl known
     where
-      by : (u : Option ValueType) → type_in text e ≡ u → is_some u ≡ true → AllTyped (spec_slots text s v)
+      by : (u : Option ValueType) → type_in text s e ≡ u → is_some u ≡ true → AllTyped (spec_slots text s v)
       by None u_is known1 = cc known1
       by (Some u) u_is known1 =
-          subst (λ (o : Option TreeEx). AllTyped (spec_slots_of text o (taken_types (spec_wanted text v) (seen text s v.values)) v.names)) (sym o_is)
+          subst (λ (o : Option TreeEx). AllTyped (spec_slots_of text s o (taken_types (spec_wanted text s v) (seen text s v.values)) v.names)) (sym o_is)
           (subst (λ (w : Option ValueType). AllTyped (map (slot_with w) v.names)) (sym u_is) (with_typed u v.names))
   names_typed s v t None o_is known is =
-      let a = assignment_some (option_map (map entry_left) (spec_entries text s v)) (taken (spec_wanted text v) (seen text s v.values)) t is in
-      let types = taken_types_are (spec_wanted text v) (seen text s v.values) a.1 a.3 in
-      subst (λ (o : Option TreeEx). AllTyped (spec_slots_of text o (taken_types (spec_wanted text v) (seen text s v.values)) v.names)) (sym o_is)
-      (subst (λ (w : Option (List ValueType)). AllTyped (slots_each w v.names)) (sym types.1) (each_typed types.0 v.names (types.2 ∙ length-map v.names (λ (n : Name). spec_type text v.type_expr))))
+      let a = assignment_some (option_map (map entry_left) (spec_entries text s v)) (taken (spec_wanted text s v) (seen text s v.values)) t is in
+      let types = taken_types_are (spec_wanted text s v) (seen text s v.values) a.1 a.3 in
+      subst (λ (o : Option TreeEx). AllTyped (spec_slots_of text s o (taken_types (spec_wanted text s v) (seen text s v.values)) v.names)) (sym o_is)
+      (subst (λ (w : Option (List ValueType)). AllTyped (slots_each w v.names)) (sym types.1) (each_typed types.0 v.names (types.2 ∙ length-map v.names (λ (n : Name). spec_type text s v.type_expr))))
 
   settled_spec : (s : Scope) (v : ValueSpec) (t : St) → IsSettled s → spec_statement text s v ≡ Some t → IsSettled (behind_spec text s v)
   settled_spec s v t settled is =
-      let a = allowed_is (is_known text v.type_expr) (cond (is_bare v.type_expr v.values) (spec_declared text s v) (spec_assigned text s v)) t is in
+      let a = allowed_is (is_known text s v.type_expr) (cond (is_bare v.type_expr v.values) (spec_declared text s v) (spec_assigned text s v)) t is in
       settled_entries text s (spec_slots text s v) (names_typed s v t v.type_expr refl a.0 a.1) settled
 
   pub specs_decided : (s : Scope) (at : Pos) (vs : List ValueSpec) → IsSettled s → Decided (spec_statements text s vs) (FailsInSpecs text s at vs)

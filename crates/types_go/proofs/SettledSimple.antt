@@ -21,9 +21,9 @@ use Rattle.expression_types.specs.declared.fault.FaultKind.TheVariants.{Unknown,
 use Rattle.expression_types.specs.declared.scope.ValueType.{ValueType}
 use Rattle.expression_types.specs.declared.scope.ValueType.TheVariants.{Int, Bool as Truth}
 use Rattle.expression_types.specs.declared.scope.Declared.{Declared}
-use Rattle.expression_types.specs.declared.scope.Declared.TheVariants.{Variable, Untyped, Function, External, TypeName}
-use Rattle.expression_types.specs.Profile.{is_blank, is_main, is_predeclared, is_reserved}
-use Rattle.expression_types.specs.Scope.{Scope, Signature, declaration, is_here}
+use Rattle.expression_types.specs.declared.scope.Declared.TheVariants as declared
+use Rattle.expression_types.specs.Universe.{is_blank}
+use Rattle.expression_types.specs.Scope.{Scope, declaration, is_here}
 use Rattle.expression_types.specs.Typing.{Operand, value, Gives, one, called, asking, quoted, printed, panicked, exited, type_of, as_value, takes, right_allowed, both_values, arithmetic_of, combined, both, operand_in, Seen, many, count, taken, name_in, gives, seen}
 use Rattle.expression_types.specs.Faults.{fault, IsFault, pair_fault, refused_fault, ValuesFail, CountFails, TakeFails, Fails, FailsInEach, FailsAsOperand}
 use Rattle.types_go.specs.Entries.{slots_each}
@@ -32,39 +32,37 @@ use Rattle.types_go.specs.StatementFaults.{fault_where, left_fault, new_name_fau
 use Rattle.expression_types.proofs.Decided.{Decided, Tested, further, mapped, after, both_tested}
 use Rattle.expression_types.proofs.DecidedValues.{given_all, operand_decided, take_decided, refused}
 use Rattle.expression_types.proofs.Options.{and_then_some, map_some, none_some, same_some}
-use Rattle.expression_types.proofs.Settled.{IsTyped, IsSettled, declared_typed, pair_decided, gives_decided, seen_decided}
+use Rattle.expression_types.proofs.Settled.{IsSettled, declared_typed, pair_decided, gives_decided, seen_decided}
 use Rattle.types_go.proofs.SettledEntries.{where_tested, some_tested, settled_new, allowed_is, taken_types_are}
 
 -- ---- left sides
 
-left_decided : (sigs : List (Option Signature)) (is_blank reserved : Bool) (d : Option Declared) (at whole : Pos) → ((x : Declared) → d ≡ Some x → IsTyped sigs x)
-    → Decided (left_of is_blank reserved d) (IsFault (left_fault is_blank reserved d at whole))
-left_decided sigs true reserved d at whole typed = λ f h. h
-left_decided sigs false true d at whole typed = (fault OutOfProfile at, refl)
-left_decided sigs false false None at whole typed = (fault Unknown at, refl)
-left_decided sigs false false (Some (Variable site t)) at whole typed = λ f h. h
-left_decided sigs false false (Some Untyped) at whole typed = absurd (typed Untyped refl)
-left_decided sigs false false (Some (Function g)) at whole typed = (fault NotAssignable whole, refl)
-left_decided sigs false false (Some (External e place)) at whole typed = (fault NotAssignable whole, refl)
-left_decided sigs false false (Some TypeName) at whole typed = (fault BadOperand at, refl)
+left_decided : (is_blank : Bool) (d : Option Declared) (at whole : Pos) → (d ≡ Some declared.Untyped → ⊥) → Decided (left_of is_blank d) (IsFault (left_fault is_blank d at whole))
+left_decided true d at whole typed = λ f h. h
+left_decided false None at whole typed = (fault Unknown at, refl)
+left_decided false (Some (declared.Variable site t)) at whole typed = λ f h. h
+left_decided false (Some declared.Untyped) at whole typed = absurd (typed refl)
+left_decided false (Some declared.TypeName) at whole typed = (fault BadOperand at, refl)
+left_decided false (Some (declared.«Type» t)) at whole typed = (fault BadOperand at, refl)
+left_decided false (Some declared.LeftOutType) at whole typed = (fault OutOfProfile at, refl)
+left_decided false (Some declared.LeftOutValue) at whole typed = (fault OutOfProfile at, refl)
+left_decided false (Some other) at whole typed = (fault NotAssignable whole, refl)
 
-own_decided : (sigs : List (Option Signature)) (is_blank other : Bool) (d : Option Declared) (at whole : Pos) → ((x : Declared) → d ≡ Some x → IsTyped sigs x)
-    → Decided (cond (is_blank || other) None (variable_value d)) (IsFault (own_fault is_blank (is_blank || other) d at whole))
-own_decided sigs true other d at whole typed = (fault Unknown at, refl)
-own_decided sigs false true d at whole typed = (fault OutOfProfile at, refl)
-own_decided sigs false false None at whole typed = (fault Unknown at, refl)
-own_decided sigs false false (Some (Variable site t)) at whole typed = λ f h. h
-own_decided sigs false false (Some Untyped) at whole typed = absurd (typed Untyped refl)
-own_decided sigs false false (Some (Function g)) at whole typed = (fault NotAssignable whole, refl)
-own_decided sigs false false (Some (External e place)) at whole typed = (fault NotAssignable whole, refl)
-own_decided sigs false false (Some TypeName) at whole typed = (fault BadOperand at, refl)
+own_decided : (is_blank : Bool) (d : Option Declared) (at whole : Pos) → (d ≡ Some declared.Untyped → ⊥) → Decided (cond is_blank None (variable_value d)) (IsFault (own_fault is_blank d at whole))
+own_decided true d at whole typed = (fault Unknown at, refl)
+own_decided false None at whole typed = (fault Unknown at, refl)
+own_decided false (Some (declared.Variable site t)) at whole typed = λ f h. h
+own_decided false (Some declared.Untyped) at whole typed = absurd (typed refl)
+own_decided false (Some declared.TypeName) at whole typed = (fault BadOperand at, refl)
+own_decided false (Some (declared.«Type» t)) at whole typed = (fault BadOperand at, refl)
+own_decided false (Some declared.LeftOutType) at whole typed = (fault OutOfProfile at, refl)
+own_decided false (Some declared.LeftOutValue) at whole typed = (fault OutOfProfile at, refl)
+own_decided false (Some other) at whole typed = (fault NotAssignable whole, refl)
 
-new_left_decided : (sigs : List (Option Signature)) (is_blank reserved is_here : Bool) (d : Option Declared) (site : ℕ) (at : Pos) → ((x : Declared) → d ≡ Some x → IsTyped sigs x)
-    → Decided (new_left_of is_blank reserved is_here d site) (IsFault (new_name_fault is_blank reserved is_here d at))
-new_left_decided sigs true reserved is_here d site at typed = λ f h. h
-new_left_decided sigs false true is_here d site at typed = (fault OutOfProfile at, refl)
-new_left_decided sigs false false true d site at typed = left_decided sigs false false d at at typed
-new_left_decided sigs false false false d site at typed = λ f h. h
+new_left_decided : (is_blank is_here : Bool) (d : Option Declared) (site : ℕ) (at : Pos) → (d ≡ Some declared.Untyped → ⊥) → Decided (new_left_of is_blank is_here d site) (IsFault (new_name_fault is_blank is_here d at))
+new_left_decided true is_here d site at typed = λ f h. h
+new_left_decided false true d site at typed = left_decided false d at at typed
+new_left_decided false false d site at typed = λ f h. h
 
 -- ---- what statements are made of
 
@@ -126,12 +124,8 @@ abbrev pub IsRead : Operand → Type 0
 IsRead x = (t : ValueType) × (q : Pl) × (x ≡ value t (read q))
 
 variable_read : (d : Option Declared) (x : Operand) → variable_value d ≡ Some x → IsRead x
-variable_read None x is = absurd (none_some is)
-variable_read (Some (Variable site t)) x is = (t, local site.0 here, sym (same_some is))
-variable_read (Some Untyped) x is = absurd (none_some is)
-variable_read (Some (Function g)) x is = absurd (none_some is)
-variable_read (Some (External e at)) x is = absurd (none_some is)
-variable_read (Some TypeName) x is = absurd (none_some is)
+variable_read (Some (declared.Variable site t)) x is = (t, local site.0 here, sym (same_some is))
+variable_read other x is = absurd (none_some is)
 
 -- what an operator gives of a variable and an operand has the form of an operator on two
 abbrev pub UpdatedAs : Pos → TypedOp → ValueType → Pl → Operand → Operand → Type 0
@@ -206,17 +200,16 @@ module _ (text : List ℕ) where
   side_decided : (s : Scope) (settled : IsSettled s) (o : Option Name) (e : TreeEx) → Decided (left text s o) (LeftSideFails text s o e)
   side_decided s settled None e = value_decided s e (gives text s e) (gives_decided text s settled e)
   side_decided s settled (Some n) e =
-      left_decided s.signatures (is_blank (spelled text n)) (is_reserved (spelled text n)) (declaration s (spelled text n)) n.pos (first_place e) (λ x is. declared_typed s settled (spelled text n) x is)
+      left_decided (is_blank (spelled text n)) (declaration s (spelled text n)) n.pos (first_place e) (λ is. declared_typed s settled (spelled text n) declared.Untyped is)
 
   own_side_decided : (s : Scope) (settled : IsSettled s) (o : Option Name) (e : TreeEx) → Decided (own_value text s o) (OwnSideFails text s o e)
   own_side_decided s settled None e = value_decided s e (gives text s e) (gives_decided text s settled e)
   own_side_decided s settled (Some n) e =
-      own_decided s.signatures (is_blank (spelled text n)) (is_main (spelled text n) || is_predeclared (spelled text n)) (declaration s (spelled text n)) n.pos (first_place e)
-      (λ x is. declared_typed s settled (spelled text n) x is)
+      own_decided (is_blank (spelled text n)) (declaration s (spelled text n)) n.pos (first_place e) (λ is. declared_typed s settled (spelled text n) declared.Untyped is)
 
   pub own_read : (s : Scope) (o : Option Name) (x : Operand) → own_value text s o ≡ Some x → IsRead x
   own_read s None x is = absurd (none_some is)
-  own_read s (Some n) x is = by (is_reserved (spelled text n)) is
+  own_read s (Some n) x is = by (is_blank (spelled text n)) is
     where
       by : (b : Bool) → cond b None (variable_value (declaration s (spelled text n))) ≡ Some x → IsRead x
       by true is1 = absurd (none_some is1)
@@ -239,8 +232,8 @@ module _ (text : List ℕ) where
   new_lefts_decided s settled site (n ∷ ns) =
       let bytes = spelled text n in
       let behind1 = cond (declares s bytes) (1 + site) site in
-      after (new_left text s site n) (λ l. option_map (λ ls. l ∷ ls) (new_lefts text s behind1 ns)) (IsFault (new_name_fault (is_blank bytes) (is_reserved bytes) (is_here s bytes) (declaration s bytes) n.pos)) (NewNamesFail text s ns)
-      (new_left_decided s.signatures (is_blank bytes) (is_reserved bytes) (is_here s bytes) (declaration s bytes) site n.pos (λ x is. declared_typed s settled bytes x is))
+      after (new_left text s site n) (λ l. option_map (λ ls. l ∷ ls) (new_lefts text s behind1 ns)) (IsFault (new_name_fault (is_blank bytes) (is_here s bytes) (declaration s bytes) n.pos)) (NewNamesFail text s ns)
+      (new_left_decided (is_blank bytes) (is_here s bytes) (declaration s bytes) site n.pos (λ is. declared_typed s settled bytes declared.Untyped is))
       (λ l is. mapped (λ ls. l ∷ ls) (new_lefts text s behind1 ns) (NewNamesFail text s ns) (new_lefts_decided s settled behind1 ns))
 
   pub distinct_tested : (names : Blocks) (ns : List Name) → Tested (are_distinct text names ns) (TwiceFails text names ns)

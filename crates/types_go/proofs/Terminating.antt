@@ -12,18 +12,18 @@ use Rattle.syntax.specs.Statements.{Simple, ValueSpec, Guard, Clause, forever, w
 use Rattle.syntax.specs.Statements as tree
 use Rattle.typed.specs.declared.operators.BinOp.{BinOp as TypedOp}
 use Rattle.typed.specs.declared.operators.BinOp.TheVariants as op
-use Rattle.typed.specs.Syntax.{Exs, Left, St, Sts, constant, unary as unary_of, binary as binary_of, both as both_of, either as either_of, call as call_of, read, declare, block, choose, loop, break_off, go_on, give_back, none, done, next}
+use Rattle.typed.specs.Syntax.{Exs, Left, St, Sts, constant as constant_of, unary as unary_of, binary as binary_of, both as both_of, either as either_of, call as call_of, read, declare, block, choose, loop, break_off, go_on, give_back, none, done, next}
 use Rattle.typed.specs.Form.{ends, ends_all, breaks, breaks_all}
-use Rattle.expression_types.specs.declared.profile.Word.{Word}
-use Rattle.expression_types.specs.declared.profile.Word.TheVariants as word
 use Rattle.expression_types.specs.declared.scope.ValueType.TheVariants.{Int, Bool as Truth}
 use Rattle.expression_types.specs.declared.scope.Declared.{Declared}
-use Rattle.expression_types.specs.Profile.{word_of}
+use Rattle.expression_types.specs.declared.scope.Declared.TheVariants.{Variable, Untyped, Panic}
 use Rattle.expression_types.specs.Scope.{Scope, declaration, opened, closed}
-use Rattle.expression_types.specs.Typing.{Operand, untyped, value, Part, Gives, one, called, asking, quoted, printed, panicked, exited, both, combined, operand_in, Seen, parts, taken, panicked_with, called_with, spread_over, callee_named, callee, name_in, gives, seen, condition, test}
+use Rattle.expression_types.specs.Typing.{Operand, constant, value, Part, Gives, one, called, asking, quoted, printed, panicked, exited, both, combined, operand_in, Seen, parts, taken, panicked_with, called_with, spread_over, callee_declared, callee, name_in, gives, seen, condition, test}
 use Rattle.types_go.specs.Entries.{sites_of, entry_left}
 use Rattle.types_go.specs.Statements.{Returns, Choice, Head, repeated, counted, only, alone, before, expressed, declared_in, assignment, updated, stepped, returned, headed, looped_by, choice_of, loop_of, lefts, all_wanted, new_lefts, all_new_wanted, may_define, own_value, update_statement, simple_statement, header, init_statement, post_statement, guard_head, clause_scope, clause_head, key_of, number_type, over, target_lefts, is_bare, spec_entries, spec_wanted, is_known, spec_declared, spec_assigned, spec_statement, spec_statements, behind_spec, behind, behind_all, statement, alternative, statements, is_endless, leaves, leaves_else, leaves_any, is_panic, names_panic, panics, ends_simple, is_terminating, is_terminating_else, ends_after}
 use Rattle.expression_types.proofs.Options.{and_then_some, map_some, none_some, same_some}
+use Rattle.types_go.proofs.Growth.{keeps_grows, grows, grows_header, grows_all, keeps_block}
+use Rattle.types_go.proofs.Inside.{Inside, inside_opened, inside_grows, MayPanic, panic_inside}
 use Rattle.types_go.proofs.SettledEntries.{allowed_is}
 use Rattle.types_go.proofs.SettledSimple.{where_some, assignment_some}
 use Rattle.types_go.proofs.SettledStatements.{choice_some, loop_some}
@@ -77,15 +77,15 @@ assigned_still : (ls : Option (List Left)) (v : Option Exs) (t : St) → assignm
 assigned_still ls v t is = let a = assignment_some ls v t is in ap breaks (sym a.4)
 
 updated_still : (x : Operand) (t : St) → updated x ≡ Some t → IsStill t
-updated_still (untyped c) t is = absurd (none_some is)
+updated_still (constant c) t is = absurd (none_some is)
 updated_still (value u (binary_of at o (read q) e)) t is = ap breaks (sym (same_some is))
-updated_still (value u (binary_of at o (constant v) e)) t is = absurd (none_some is)
+updated_still (value u (binary_of at o (constant_of v) e)) t is = absurd (none_some is)
 updated_still (value u (binary_of at o (unary_of g a) e)) t is = absurd (none_some is)
 updated_still (value u (binary_of at o (binary_of at1 g a b) e)) t is = absurd (none_some is)
 updated_still (value u (binary_of at o (both_of a b) e)) t is = absurd (none_some is)
 updated_still (value u (binary_of at o (either_of a b) e)) t is = absurd (none_some is)
 updated_still (value u (binary_of at o (call_of f es) e)) t is = absurd (none_some is)
-updated_still (value u (constant v)) t is = absurd (none_some is)
+updated_still (value u (constant_of v)) t is = absurd (none_some is)
 updated_still (value u (read q)) t is = absurd (none_some is)
 updated_still (value u (unary_of g a)) t is = absurd (none_some is)
 updated_still (value u (both_of a b)) t is = absurd (none_some is)
@@ -93,10 +93,10 @@ updated_still (value u (either_of a b)) t is = absurd (none_some is)
 updated_still (value u (call_of f es)) t is = absurd (none_some is)
 
 stepped_still : (o : TypedOp) (x : Operand) (t : St) → stepped o x ≡ Some t → IsStill t
-stepped_still o (untyped c) t is = absurd (none_some is)
+stepped_still o (constant c) t is = absurd (none_some is)
 stepped_still o (value Int (read q)) t is = ap breaks (sym (same_some is))
 stepped_still o (value Truth e) t is = absurd (none_some is)
-stepped_still o (value Int (constant v)) t is = absurd (none_some is)
+stepped_still o (value Int (constant_of v)) t is = absurd (none_some is)
 stepped_still o (value Int (unary_of g a)) t is = absurd (none_some is)
 stepped_still o (value Int (binary_of at g a b)) t is = absurd (none_some is)
 stepped_still o (value Int (both_of a b)) t is = absurd (none_some is)
@@ -130,45 +130,54 @@ module _ (text : List ℕ) where
   panicked_from at (q ∷ []) g is = (at, q, sym (same_some is))
   panicked_from at (q ∷ r ∷ qs) g is = absurd (none_some is)
 
-  panic_gives : (s : Scope) (e : TreeEx) (g : Gives) → panics text e ≡ true → gives text s e ≡ Some g → IsPanicked g
-  panic_gives s (paren at e) g panic1 is = panic_gives s e g panic1 is
-  panic_gives s (call f es spread) g panic1 is = by (name_in f) panic1 is
-    where
-      at_word : (w : Word) (d : Option Declared) (b : Bool) → is_panic w ≡ true → called_with (first_place f) (spread_over b (callee_named s w d)) (seen text s es) ≡ Some g → IsPanicked g
-      at_word (word.Truth t) d b w_is is1 = cc w_is
-      at_word (word.Print line) d b w_is is1 = cc w_is
-      at_word word.Blank d b w_is is1 = cc w_is
-      at_word word.Reserved d b w_is is1 = cc w_is
-      at_word word.Free d b w_is is1 = cc w_is
-      at_word word.Panic d true w_is is1 = absurd (none_some is1)
-      at_word word.Panic d false w_is is1 = let r = and_then_some (panicked_with (first_place f)) (parts (seen text s es)) g is1 in panicked_from (first_place f) r.0 g r.2
+  panic_is : (d : Option Declared) → is_panic d ≡ true → d ≡ Some Panic
+  panic_is None is = cc is
+  panic_is (Some Panic) is = refl
+  panic_is (Some other) is = cc is
 
-      by : (o : Option Name) → names_panic text o ≡ true → called_with (first_place f) (spread_over spread (callee text s o (gives text s f))) (seen text s es) ≡ Some g → IsPanicked g
+  -- with `...` it gives nothing
+  panic_called : (s : Scope) (d : Option Declared) (at : Pos) (spread : Bool) (os : List Seen) (g : Gives) → MayPanic d → called_with at (spread_over spread (callee_declared s d)) os ≡ Some g → IsPanicked g
+  panic_called s None at true os g may is = absurd (none_some is)
+  panic_called s None at false os g may is = absurd (none_some is)
+  panic_called s (Some (Variable site t)) at true os g may is = absurd (none_some is)
+  panic_called s (Some (Variable site t)) at false os g may is = absurd (none_some is)
+  panic_called s (Some Untyped) at true os g may is = absurd (none_some is)
+  panic_called s (Some Untyped) at false os g may is = absurd (none_some is)
+  panic_called s (Some Panic) at true os g may is = absurd (none_some is)
+  panic_called s (Some Panic) at false os g may is = let r = and_then_some (panicked_with at) (parts os) g is in panicked_from at r.0 g r.2
+  panic_called s (Some other) at spread os g may is = absurd may
+
+  panic_gives : (base s : Scope) → Inside base s → (e : TreeEx) (g : Gives) → panics text base e ≡ true → gives text s e ≡ Some g → IsPanicked g
+  panic_gives base s inside (paren at e) g panic1 is = panic_gives base s inside e g panic1 is
+  panic_gives base s inside (call f es spread) g panic1 is = by (name_in f) panic1 is
+    where
+      by : (o : Option Name) → names_panic text base o ≡ true → called_with (first_place f) (spread_over spread (callee text s o (gives text s f))) (seen text s es) ≡ Some g → IsPanicked g
       by None o_is is1 = cc o_is
-      by (Some n) o_is is1 = at_word (word_of (spelled text n)) (declaration s (spelled text n)) spread o_is is1
-  panic_gives s (number at n) g panic1 is = cc panic1
-  panic_gives s (string at behind1) g panic1 is = cc panic1
-  panic_gives s (name n) g panic1 is = cc panic1
-  panic_gives s (unary at o e) g panic1 is = cc panic1
-  panic_gives s (binary at o a b) g panic1 is = cc panic1
-  panic_gives s (selector e at n) g panic1 is = cc panic1
-  panic_gives s (index e at i) g panic1 is = cc panic1
-  panic_gives s (slice e at low high) g panic1 is = cc panic1
-  panic_gives s (array_type at len e) g panic1 is = cc panic1
-  panic_gives s (slice_type at e) g panic1 is = cc panic1
-  panic_gives s (literal e es) g panic1 is = cc panic1
-  panic_gives s (elements at es) g panic1 is = cc panic1
+      by (Some n) o_is is1 =
+          panic_called s (declaration s (spelled text n)) (first_place f) spread (seen text s es) g (panic_inside base s inside (spelled text n) (panic_is (declaration base (spelled text n)) o_is)) is1
+  panic_gives base s inside (number at n) g panic1 is = cc panic1
+  panic_gives base s inside (string at behind1) g panic1 is = cc panic1
+  panic_gives base s inside (name n) g panic1 is = cc panic1
+  panic_gives base s inside (unary at o e) g panic1 is = cc panic1
+  panic_gives base s inside (binary at o a b) g panic1 is = cc panic1
+  panic_gives base s inside (selector e at n) g panic1 is = cc panic1
+  panic_gives base s inside (index e at i) g panic1 is = cc panic1
+  panic_gives base s inside (slice e at low high) g panic1 is = cc panic1
+  panic_gives base s inside (array_type at len e) g panic1 is = cc panic1
+  panic_gives base s inside (slice_type at e) g panic1 is = cc panic1
+  panic_gives base s inside (literal e es) g panic1 is = cc panic1
+  panic_gives base s inside (elements at es) g panic1 is = cc panic1
 
   panicked_ends : (k : ℕ) (g : Gives) (t : St) → IsPanicked g → expressed k g ≡ Some t → ends t ≡ true
   panicked_ends k g t r is = ap ends (sym (same_some (ap (expressed k) (sym r.2) ∙ is)))
 
-  simple_ends : (s : Scope) (m : Simple) (t : St) → ends_simple text m ≡ true → simple_statement text s m ≡ Some t → ends t ≡ true
-  simple_ends s (tree.express e) t ending is = let q = and_then_some (expressed (length s.strings)) (gives text s e) t is in panicked_ends (length s.strings) q.0 t (panic_gives s e q.0 ending q.1) q.2
-  simple_ends s (tree.assign ls at es) t ending is = cc ending
-  simple_ends s (tree.update ls at tree_op es) t ending is = cc ending
-  simple_ends s (tree.define ns at es) t ending is = cc ending
-  simple_ends s (tree.increment e at) t ending is = cc ending
-  simple_ends s (tree.decrement e at) t ending is = cc ending
+  simple_ends : (base s : Scope) → Inside base s → (m : Simple) (t : St) → ends_simple text base m ≡ true → simple_statement text s m ≡ Some t → ends t ≡ true
+  simple_ends base s inside (tree.express e) t ending is = let q = and_then_some (expressed (length s.strings)) (gives text s e) t is in panicked_ends (length s.strings) q.0 t (panic_gives base s inside e q.0 ending q.1) q.2
+  simple_ends base s inside (tree.assign ls at es) t ending is = cc ending
+  simple_ends base s inside (tree.update ls at tree_op es) t ending is = cc ending
+  simple_ends base s inside (tree.define ns at es) t ending is = cc ending
+  simple_ends base s inside (tree.increment e at) t ending is = cc ending
+  simple_ends base s inside (tree.decrement e at) t ending is = cc ending
 
   update_still : (s : Scope) (tree_op : ArithmeticOp) (e v : Option TreeEx) (t : St) → update_statement text s tree_op e v ≡ Some t → IsStill t
   update_still s tree_op None v t is = absurd (none_some is)
@@ -235,12 +244,12 @@ module _ (text : List ℕ) where
 
   spec_still : (s : Scope) (v : ValueSpec) (t : St) → spec_statement text s v ≡ Some t → IsStill t
   spec_still s v t is =
-      let a = allowed_is (is_known text v.type_expr) (cond (is_bare v.type_expr v.values) (spec_declared text s v) (spec_assigned text s v)) t is in
+      let a = allowed_is (is_known text s v.type_expr) (cond (is_bare v.type_expr v.values) (spec_declared text s v) (spec_assigned text s v)) t is in
       by (is_bare v.type_expr v.values) a.1
     where
       by : (b : Bool) → cond b (spec_declared text s v) (spec_assigned text s v) ≡ Some t → IsStill t
       by true is1 = let q = map_some (λ es. declare (sites_of es)) (spec_entries text s v) t is1 in ap breaks (sym q.2)
-      by false is1 = assigned_still (option_map (map entry_left) (spec_entries text s v)) (taken (spec_wanted text v) (seen text s v.values)) t is1
+      by false is1 = assigned_still (option_map (map entry_left) (spec_entries text s v)) (taken (spec_wanted text s v) (seen text s v.values)) t is1
 
   specs_still : (s : Scope) (vs : List ValueSpec) (b : Sts) → spec_statements text s vs ≡ Some b → breaks_all b ≡ false
   specs_still s [] b is = ap breaks_all (sym (same_some is))
@@ -295,53 +304,57 @@ module _ (text : List ℕ) where
           let k = map_some (before q.0) (statements text r looped (behind text s m) ms) b q.2 in
           ap breaks_all (sym k.2) ∙ (breaks_before q.0 k.0 ∙ (ap (λ x. x || breaks_all k.0) (leaves_same looped s m q.0 q.1) ∙ ap (λ x. leaves m || x) (leaves_all looped (behind text s m) ms k.0 k.1)))
 
-    ends_alone : (e : Bool) (t : St) (b : Sts) → alone t ≡ b → ends t ≡ true → ends_last e b ≡ true
-    ends_alone e t b is ending = ap (ends_last e) (sym is) ∙ ending
+  ends_alone : (e : Bool) (t : St) (b : Sts) → alone t ≡ b → ends t ≡ true → ends_last e b ≡ true
+  ends_alone e t b is ending = ap (ends_last e) (sym is) ∙ ending
 
+  -- in a scope inside of the one that tells what `panic` stands for
+  module _ (r : Returns) (base : Scope) where
     mutual
-      ends_statement : (looped : Bool) (s : Scope) (m : Stm) (b : Sts) → statement text r looped s m ≡ Some b → is_terminating text m ≡ true → (e : Bool) → ends_last e b ≡ true
-      ends_statement looped s (tree.declare at specs) b is ending e = cc ending
-      ends_statement looped s (tree.simple m) b is ending e = let q = map_some alone (simple_statement text s m) b is in ends_alone e q.0 b q.2 (simple_ends s m q.0 ending q.1)
-      ends_statement looped s (tree.block ms) b is ending e =
+      ends_statement : (looped : Bool) (s : Scope) → Inside base s → (m : Stm) (b : Sts) → statement text r looped s m ≡ Some b → is_terminating text base m ≡ true → (e : Bool) → ends_last e b ≡ true
+      ends_statement looped s inside (tree.declare at specs) b is ending e = cc ending
+      ends_statement looped s inside (tree.simple m) b is ending e = let q = map_some alone (simple_statement text s m) b is in ends_alone e q.0 b q.2 (simple_ends base s inside m q.0 ending q.1)
+      ends_statement looped s inside (tree.block ms) b is ending e =
           let q = map_some (λ x. alone (block x)) (statements text r looped (opened s) ms) b is in
-          ends_alone e (block q.0) b q.2 (sym (ends_same q.0) ∙ ends_list looped (opened s) ms q.0 q.1 false ending)
-      ends_statement looped s (tree.choice at g body rest) b is ending e =
+          ends_alone e (block q.0) b q.2 (sym (ends_same q.0) ∙ ends_list looped (opened s) (inside_opened base s inside) ms q.0 q.1 false ending)
+      ends_statement looped s inside (tree.choice at g body rest) b is ending e =
           let h = header text s g.init in
           let inner = closed (behind_all text (opened h) body) in
+          let at_head : Inside base h = inside_grows base (opened s) h (inside_opened base s inside) (grows_header text s g.init) in
           let u = map_some alone (choice_of (guard_head text s g) (statements text r looped (opened h) body) (alternative text r looped inner rest)) b is in
           let q = choice_some (guard_head text s g) (statements text r looped (opened h) body) (alternative text r looped inner rest) u.0 u.1 in
-          let both1 = and_true (ends_after text false body) (is_terminating_else text rest) ending in
+          let both1 = and_true (ends_after text base false body) (is_terminating_else text base rest) ending in
           ends_alone e u.0 b u.2 (ap ends (sym q.6) ∙ (headed_ends q.0.init (choose q.0.condition q.1 q.2)
-          ∙ (ap (λ x. x && ends_all q.2) (sym (ends_same q.1) ∙ ends_list looped (opened h) body q.1 q.4 false both1.0) ∙ ends_else looped inner rest q.2 q.5 both1.1)))
-      ends_statement looped s (tree.loop at c body) b is ending e =
+          ∙ (ap (λ x. x && ends_all q.2) (sym (ends_same q.1) ∙ ends_list looped (opened h) (inside_opened base h at_head) body q.1 q.4 false both1.0) ∙ ends_else looped inner (inside_grows base h inner at_head (keeps_grows h inner (keeps_block text h body))) rest q.2 q.5 both1.1)))
+      ends_statement looped s inside (tree.loop at c body) b is ending e =
           let h = clause_scope text s c in
           let u = map_some alone (loop_of (clause_head text s c) (statements text r true (opened h) body)) b is in
           let q = loop_some (clause_head text s c) (statements text r true (opened h) body) u.0 u.1 in
           let both1 = and_true (is_endless c) (not (leaves_any body)) ending in
-          ends_alone e u.0 b u.2 (ap ends (sym q.4) ∙ loop_ends s c q.0 q.1 q.2 both1.0 (leaves_all true (opened h) body q.1 q.3 ∙ not_true (leaves_any body) both1.1))
-      ends_statement looped s (tree.break_at at) b is ending e = cc ending
-      ends_statement looped s (tree.continue_at at) b is ending e = cc ending
-      ends_statement looped s (tree.give_back at es) b is ending e =
+          ends_alone e u.0 b u.2 (ap ends (sym q.4) ∙ loop_ends s c q.0 q.1 q.2 both1.0 (leaves_all r true (opened h) body q.1 q.3 ∙ not_true (leaves_any body) both1.1))
+      ends_statement looped s inside (tree.break_at at) b is ending e = cc ending
+      ends_statement looped s inside (tree.continue_at at) b is ending e = cc ending
+      ends_statement looped s inside (tree.give_back at es) b is ending e =
           let q = map_some alone (returned r (seen text s es)) b is in
           let f = returned_as r (seen text s es) q.0 q.1 in
           ends_alone e q.0 b q.2 (ap ends f.1)
 
-      ends_else : (looped : Bool) (s : Scope) (e : Els) (b : Sts) → alternative text r looped s e ≡ Some b → is_terminating_else text e ≡ true → ends_all b ≡ true
-      ends_else looped s tree.no_else b is ending = cc ending
-      ends_else looped s (tree.else_block ms) b is ending = sym (ends_same b) ∙ ends_list looped (opened s) ms b is false ending
-      ends_else looped s (tree.else_if at g body rest) b is ending =
+      ends_else : (looped : Bool) (s : Scope) → Inside base s → (e : Els) (b : Sts) → alternative text r looped s e ≡ Some b → is_terminating_else text base e ≡ true → ends_all b ≡ true
+      ends_else looped s inside tree.no_else b is ending = cc ending
+      ends_else looped s inside (tree.else_block ms) b is ending = sym (ends_same b) ∙ ends_list looped (opened s) (inside_opened base s inside) ms b is false ending
+      ends_else looped s inside (tree.else_if at g body rest) b is ending =
           let h = header text s g.init in
           let inner = closed (behind_all text (opened h) body) in
+          let at_head : Inside base h = inside_grows base (opened s) h (inside_opened base s inside) (grows_header text s g.init) in
           let u = map_some alone (choice_of (guard_head text s g) (statements text r looped (opened h) body) (alternative text r looped inner rest)) b is in
           let q = choice_some (guard_head text s g) (statements text r looped (opened h) body) (alternative text r looped inner rest) u.0 u.1 in
-          let both1 = and_true (ends_after text false body) (is_terminating_else text rest) ending in
+          let both1 = and_true (ends_after text base false body) (is_terminating_else text base rest) ending in
           ap ends_all (sym u.2) ∙ (ap ends (sym q.6) ∙ (headed_ends q.0.init (choose q.0.condition q.1 q.2)
-          ∙ (ap (λ x. x && ends_all q.2) (sym (ends_same q.1) ∙ ends_list looped (opened h) body q.1 q.4 false both1.0) ∙ ends_else looped inner rest q.2 q.5 both1.1)))
+          ∙ (ap (λ x. x && ends_all q.2) (sym (ends_same q.1) ∙ ends_list looped (opened h) (inside_opened base h at_head) body q.1 q.4 false both1.0) ∙ ends_else looped inner (inside_grows base h inner at_head (keeps_grows h inner (keeps_block text h body))) rest q.2 q.5 both1.1)))
 
-      pub ends_list : (looped : Bool) (s : Scope) (ms : Stms) (b : Sts) → statements text r looped s ms ≡ Some b → (e : Bool) → ends_after text e ms ≡ true → ends_last e b ≡ true
-      ends_list looped s tree.nil b is e ending = ap (ends_last e) (sym (same_some is)) ∙ ending
-      ends_list looped s (tree.cons m ms) b is e ending =
+      pub ends_list : (looped : Bool) (s : Scope) → Inside base s → (ms : Stms) (b : Sts) → statements text r looped s ms ≡ Some b → (e : Bool) → ends_after text base e ms ≡ true → ends_last e b ≡ true
+      ends_list looped s inside tree.nil b is e ending = ap (ends_last e) (sym (same_some is)) ∙ ending
+      ends_list looped s inside (tree.cons m ms) b is e ending =
           let q = and_then_some (λ t. option_map (before t) (statements text r looped (behind text s m) ms)) (statement text r looped s m) b is in
           let k = map_some (before q.0) (statements text r looped (behind text s m) ms) b q.2 in
           ap (ends_last e) (sym k.2) ∙ (ends_before e q.0 k.0
-          ∙ either_way q.0 k.0 e (is_terminating text m) (λ is1. ends_statement looped s m q.0 q.1 is1 e) (ends_list looped (behind text s m) ms k.0 k.1 (is_terminating text m) ending))
+          ∙ either_way q.0 k.0 e (is_terminating text base m) (λ is1. ends_statement looped s inside m q.0 q.1 is1 e) (ends_list looped (behind text s m) (inside_grows base s (behind text s m) inside (grows text s m)) ms k.0 k.1 (is_terminating text base m) ending))

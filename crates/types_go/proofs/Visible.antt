@@ -1,22 +1,30 @@
 -- The names that a scope shows stand for variables that can be named there.
 use Rattle.std.proofs.Common.{◌≡◌, ℕ, zero, suc, ◌+◌, ◌<◌, ◌≤◌, Bool, true, false, cond, List, [], ◌∷◌, ◌++◌, ◌⊎◌, inl, inr, length, Option, Some, None, refl, sym, ap, ◌∙◌, subst, arith, length-append}
-use Rattle.std.specs.Prelude.{option_and_then, slice_get}
+use Rattle.std.specs.Prelude.{slice_get, slice_set}
 use Rattle.std.specs.Str.{bytes_eq}
 use Rattle.base.specs.declared.ids.SiteId.{SiteId}
 use Rattle.base.specs.declared.pos.Pos.{Pos}
 use Rattle.names.specs.Blocks.{Names, Blocks, entry_of, or_else, lookup, with_entry, insert}
 use Rattle.typed.specs.Form.{InScope}
 use Rattle.expression_types.specs.declared.scope.Declared.{Declared}
-use Rattle.expression_types.specs.declared.scope.Declared.TheVariants.{Variable, Function, External}
+use Rattle.expression_types.specs.declared.scope.Declared.TheVariants.{Variable, Constant, Function, External}
+use Rattle.expression_types.specs.declared.constant.Fixed.{Fixed}
+use Rattle.syntax.specs.declared.expression.Name.{Name}
 use Rattle.syntax.specs.Expressions.{spelled}
-use Rattle.syntax.specs.Declarations.{Function as TreeFunction}
+use Rattle.syntax.specs.Declarations.{Function as TreeFunction, Declaration}
 use Rattle.typed.specs.declared.program.Site.{Site}
 use Rattle.expression_types.specs.declared.scope.ValueType.{ValueType}
-use Rattle.expression_types.specs.Scope.{Scope, type_number, declaration, with_declaration, with_variable, with_signature, with_strings, opened, beginning}
-use Rattle.types_go.specs.Functions.{signature_in, external_named, is_external, declares_name, with_function}
-use Rattle.expression_types.proofs.Options.{and_then_some, none_some}
+use Rattle.expression_types.specs.Universe.{predeclared}
+use Rattle.expression_types.specs.Scope.{Scope, type_number, numbered, declaration, with_declaration, with_variable, with_fixed, with_strings, opened, beginning}
+use Rattle.expression_types.specs.Typing.{is_held}
+use Rattle.package_constants.specs.Constants.{Item, items_in, given, settled}
+use Rattle.package_constants.proofs.Giving.{given_held}
+use Rattle.types_go.specs.Functions.{external_named, are_supported, with_items}
+use Rattle.expression_types.proofs.Held.{AreHeld}
+use Rattle.expression_types.proofs.Options.{none_some}
+use Rattle.expression_types.proofs.Settled.{predeclared_is}
 use Rattle.types_go.proofs.Growth.{Extends, extends_none, Keeps}
-use Rattle.types_go.proofs.SettledFunctions.{with_functions}
+use Rattle.types_go.proofs.Package.{constant_one, declared_one, items_kept, settled_kept}
 
 -- the numbers of the names lie below one
 abbrev EntriesBelow : ℕ → Names → Type 0
@@ -139,25 +147,40 @@ site_last : (sites : List Site) (x : Site) → slice_get (sites ++ x ∷ []) (le
 site_last [] x = refl
 site_last (y ∷ sites) x = site_last sites x
 
--- names have numbers of declarations, and those of variables are in scope, with sites of their types
+-- no variable is predeclared
+abbrev IsNoVariable : Declared → Type 0
+IsNoVariable (Variable site t) = ⊥
+IsNoVariable other = Unit {0}
+
+pub no_variable : (name : List ℕ) (site : SiteId) (t : ValueType) → predeclared name ≡ Some (Variable site t) → ⊥
+no_variable name site t is = predeclared_is IsNoVariable (λ u. tt) (λ b. tt) (λ line. tt) tt tt tt name (Variable site t) is
+
+-- the number of a variable
+variable_number : (s : Scope) (name : List ℕ) (o : Option ℕ) (site : SiteId) (t : ValueType) → numbered s name o ≡ Some (Variable site t) → (k : ℕ) × (o ≡ Some k) × (slice_get s.declared k ≡ Some (Variable site t))
+variable_number s name None site t is = absurd (no_variable name site t is)
+variable_number s name (Some k) site t is = (k, refl, is)
+
+-- names have numbers of declarations, those of variables are in scope, with sites of their types, and constants are held by their types
 pub record Visible (s : Scope) (scope : List ℕ) : Type 0 where
   pub bounded : BlocksBelow (length s.declared) s.blocks
   pub shown : (name : List ℕ) (site : SiteId) (t : ValueType) → declaration s name ≡ Some (Variable site t) → InScope site.0 scope × HasSite s.sites site.0 t
+  pub held : AreHeld s.constants
 
 pub visible_beginning : Visible beginning []
-visible_beginning = record { bounded = (tt, tt); shown = λ name site t is. absurd (none_some is) }
+visible_beginning = record { bounded = (tt, tt); shown = λ name site t is. absurd (no_variable name site t is); held = λ k f is. absurd (none_some is) }
 
 pub visible_opened : (s : Scope) (scope : List ℕ) → Visible s scope → Visible (opened s) scope
-visible_opened s scope v = record { bounded = (tt, v.bounded); shown = v.shown }
+visible_opened s scope v = record { bounded = (tt, v.bounded); shown = v.shown; held = v.held }
 
 pub visible_strings : (s : Scope) (scope : List ℕ) (strings : List (List ℕ)) → Visible s scope → Visible (with_strings s strings) scope
-visible_strings s scope strings v = record { bounded = v.bounded; shown = v.shown }
+visible_strings s scope strings v = record { bounded = v.bounded; shown = v.shown; held = v.held }
 
 -- the same blocks, and more declarations
 pub visible_kept : (s r : Scope) (scope : List ℕ) → Visible s scope → Keeps s r → Visible r scope
 visible_kept s r scope v k = record {
   bounded = subst (λ bs. BlocksBelow (length r.declared) bs) (sym k.blocks) (more_blocks (length s.declared) (length r.declared) (omega (arith, longer)) s.blocks v.bounded);
   shown = shown;
+  held = subst AreHeld (sym k.constants) v.held;
 }
   where
     longer : length r.declared ≡ length s.declared + length k.declared.0
@@ -165,11 +188,11 @@ visible_kept s r scope v k = record {
 
     shown : (name : List ℕ) (site : SiteId) (t : ValueType) → declaration r name ≡ Some (Variable site t) → InScope site.0 scope × HasSite r.sites site.0 t
     shown name site t is =
-        let p = and_then_some (λ j. slice_get r.declared j) (lookup r.blocks name) (Variable site t) is in
+        let p = variable_number r name (lookup r.blocks name) site t is in
         let found : lookup s.blocks name ≡ Some p.0 = ap (λ bs. lookup bs name) (sym k.blocks) ∙ p.1 in
         let below = lookup_below (length s.declared) s.blocks name p.0 v.bounded found in
         let old : slice_get s.declared p.0 ≡ Some (Variable site t) = sym (get_left s.declared k.declared.0 p.0 below) ∙ ap (λ ds. slice_get ds p.0) (sym k.declared.1) ∙ p.2 in
-        let known = v.shown name site t (ap (option_and_then (λ j. slice_get s.declared j)) found ∙ old) in
+        let known = v.shown name site t (ap (numbered s name) found ∙ old) in
         (known.0, has_longer s.sites r.sites site.0 t k.sites known.1)
 
 -- one more declaration, and perhaps more sites
@@ -188,11 +211,11 @@ visible_more s sites scope wider name d v more into new1 =
 
     shown : (other : List ℕ) (site : SiteId) (t : ValueType) → declaration (with_declaration s name d) other ≡ Some (Variable site t) → InScope site.0 wider × HasSite sites site.0 t
     shown other site t is =
-        let p = and_then_some (λ k. slice_get (s.declared ++ d ∷ []) k) (lookup (insert s.blocks name (length s.declared)) other) (Variable site t) is in
+        let p = variable_number (with_declaration s name d) other (lookup (insert s.blocks name (length s.declared)) other) site t is in
         elim (lookup_insert s.blocks name other (length s.declared) p.0 p.1) [
           | inl n ↦ new1 site t (newest site t p.0 n p.2)
           | inr o ↦ let below = lookup_below (length s.declared) s.blocks other p.0 v.bounded o in
-              let known = v.shown other site t (ap (option_and_then (λ k. slice_get s.declared k)) o ∙ (sym (get_left s.declared (d ∷ []) p.0 below) ∙ p.2)) in
+              let known = v.shown other site t (ap (numbered s other) o ∙ (sym (get_left s.declared (d ∷ []) p.0 below) ∙ p.2)) in
               (into site.0 known.0, has_longer s.sites sites site.0 t more known.1)
         ]
 
@@ -202,7 +225,7 @@ visible_with s scope name u at v =
     let d : Declared = Variable (record { 0 = length s.sites }) u in
     let x : Site = record { pos = at; type_id = record { 0 = type_number u } } in
     let w = visible_more s (s.sites ++ x ∷ []) scope (length s.sites ∷ scope) name d v (x ∷ [], refl, ((u, refl), tt)) (λ w h. inr h) (λ site t is. (inl (same site t is), newest site t is)) in
-    record { bounded = w.0; shown = w.1 }
+    record { bounded = w.0; shown = w.1; held = v.held }
   where
     same : (site : SiteId) (t : ValueType) → Variable (record { 0 = length s.sites }) u ≡ Variable site t → site.0 ≡ length s.sites
     same site t is = cc
@@ -217,24 +240,55 @@ visible_with s scope name u at v =
       ap type_number (type_is site t is),
     )
 
--- the package block names no variables
-pub visible_package : (text : List ℕ) (s : Scope) (gs : List TreeFunction) → Visible s [] → Visible (with_functions text s gs) []
-visible_package text s [] v = v
-visible_package text s (g ∷ gs) v = visible_package text (with_function text s g) gs (by (is_external text g) (declares_name s (spelled text g.name)))
-  where
-    no_function : (site : SiteId) (t : ValueType) → Function (record { 0 = length s.signatures }) ≡ Variable site t → InScope site.0 [] × HasSite s.sites site.0 t
-    no_function site t is = cc is
+-- a constant whose value isn't known yet
+held_more : (os : List (Option Fixed)) → AreHeld os → AreHeld (os ++ None ∷ [])
+held_more [] held zero f is = absurd (none_some is)
+held_more [] held (suc k) f is = absurd (none_some is)
+held_more (o ∷ os) held zero f is = held zero f is
+held_more (o ∷ os) held (suc k) f is = held_more os (λ j. held (suc j)) k f is
 
-    no_external : (site : SiteId) (t : ValueType) → External (external_named (spelled text g.name)) g.name.pos ≡ Variable site t → InScope site.0 [] × HasSite s.sites site.0 t
-    no_external site t is = cc is
+-- a constant with another value
+held_set : (os : List (Option Fixed)) (k : ℕ) (o : Option Fixed) → ((f : Fixed) → o ≡ Some f → is_held f.value_type f.value ≡ true) → AreHeld os → AreHeld (slice_set os k o)
+held_set [] k o one held j f is = absurd (none_some is)
+held_set (p ∷ os) zero o one held zero f is = one f is
+held_set (p ∷ os) zero o one held (suc j) f is = held (suc j) f is
+held_set (p ∷ os) (suc k) o one held zero f is = held zero f is
+held_set (p ∷ os) (suc k) o one held (suc j) f is = held_set os k o one (λ i. held (suc i)) j f is
 
-    by : (b c : Bool)
-        → Visible (cond b (cond c (with_declaration s (spelled text g.name) (External (external_named (spelled text g.name)) g.name.pos)) s) (with_signature (cond c (with_declaration s (spelled text g.name) (Function (record { 0 = length s.signatures }))) s) (signature_in text g))) []
-    by true false = v
-    by true true =
-        let w = visible_more s s.sites [] [] (spelled text g.name) (External (external_named (spelled text g.name)) g.name.pos) v (extends_none s.sites) (λ u h. h) no_external in
-        record { bounded = w.0; shown = w.1 }
-    by false false = record { bounded = v.bounded; shown = v.shown }
-    by false true =
-        let w = visible_more s s.sites [] [] (spelled text g.name) (Function (record { 0 = length s.signatures })) v (extends_none s.sites) (λ u h. h) no_function in
-        record { bounded = w.0; shown = w.1 }
+-- the package block names no variables, and its constants are held by their types
+module _ (text : List ℕ) where
+  visible_constant : (s : Scope) (n : Name) (declares : Bool) → Visible s [] → Visible (constant_one text s n declares) []
+  visible_constant s n false v = record { bounded = v.bounded; shown = v.shown; held = held_more s.constants v.held }
+  visible_constant s n true v =
+      let w = visible_more s s.sites [] [] (spelled text n) (Constant (record { 0 = length s.constants })) v (extends_none s.sites) (λ u h. h) no_constant in
+      record { bounded = w.0; shown = w.1; held = held_more s.constants v.held }
+    where
+      no_constant : (site : SiteId) (t : ValueType) → Constant (record { 0 = length s.constants }) ≡ Variable site t → InScope site.0 [] × HasSite s.sites site.0 t
+      no_constant site t is = cc is
+
+  visible_fixed : (s : Scope) (k : ℕ) (i : Item) → Visible s [] → Visible (with_fixed s k (given text s i)) []
+  visible_fixed s k i v = record { bounded = v.bounded; shown = v.shown; held = held_set s.constants k (given text s i) (λ f is. given_held text s s.constants v.held i f is) v.held }
+
+module _ (text : List ℕ) (heads : Scope) where
+  visible_function : (s : Scope) (g : TreeFunction) (external declares : Bool) → Visible s [] → Visible (declared_one text heads s g external declares) []
+  visible_function s g external declares v = by external declares
+    where
+      no_function : (site : SiteId) (t : ValueType) → Function (record { 0 = length s.signatures }) ≡ Variable site t → InScope site.0 [] × HasSite s.sites site.0 t
+      no_function site t is = cc is
+
+      no_external : (site : SiteId) (t : ValueType) → External (external_named (spelled text g.name)) g.name.pos ≡ Variable site t → InScope site.0 [] × HasSite s.sites site.0 t
+      no_external site t is = cc is
+
+      by : (b c : Bool) → Visible (declared_one text heads s g b c) []
+      by true false = v
+      by true true =
+          let w = visible_more s s.sites [] [] (spelled text g.name) (External (external_named (spelled text g.name)) g.name.pos) v (extends_none s.sites) (λ u h. h) no_external in
+          record { bounded = w.0; shown = w.1; held = v.held }
+      by false false = record { bounded = v.bounded; shown = v.shown; held = v.held }
+      by false true =
+          let w = visible_more s s.sites [] [] (spelled text g.name) (Function (record { 0 = length s.signatures })) v (extends_none s.sites) (λ u h. h) no_function in
+          record { bounded = w.0; shown = w.1; held = v.held }
+
+  pub visible_package : (r : Scope) (ds : List Declaration) → are_supported text heads r ds ≡ true → Visible (settled text (with_items text heads beginning ds) (items_in ds)) []
+  visible_package r ds is =
+      settled_kept text (λ (s : Scope). Visible s []) (visible_fixed text) (with_items text heads beginning ds) (items_in ds) (items_kept text heads r (λ (s : Scope). Visible s []) (visible_constant text) visible_function beginning ds is visible_beginning)

@@ -28,10 +28,10 @@ places_in gs = map (λ g. g.name.pos) gs
 abbrev pub views : Option (List FuncData) → Option (List Func)
 views o = option_map (λ l. map func_of l) o
 
-pub record FunctionsKept (text : List ℕ) (start : Scope) (all rest : List TreeFunction) (s : Scope) (i : ℕ) (funcs : Option (List FuncData)) (least : Option Fault) : Type 0 where
-  pub given : functions text start 0 all ≡ joined (views funcs) (functions text s i rest)
-  pub kept : Kept (FailsInFunctions text start 0 all) (FailsInFunctions text s i rest) least
-  pub scope : behind_functions text start all ≡ behind_functions text s rest
+pub record FunctionsKept (text : List ℕ) (heads start : Scope) (all rest : List TreeFunction) (s : Scope) (i : ℕ) (funcs : Option (List FuncData)) (least : Option Fault) : Type 0 where
+  pub given : functions text heads start 0 all ≡ joined (views funcs) (functions text heads s i rest)
+  pub kept : Kept (FailsInFunctions text heads start 0 all) (FailsInFunctions text heads s i rest) least
+  pub scope : behind_functions text heads start all ≡ behind_functions text heads s rest
   pub places : PlacesKept (places_in all) funcs (places_in rest)
   pub inside : 0 < length s.blocks
 
@@ -40,23 +40,23 @@ views_more None f = refl
 views_more (Some fs) None = refl
 views_more (Some fs) (Some f) = ap Some (map-append func_of fs (f ∷ []))
 
-pub functions_start : (text : List ℕ) (s : Scope) (all : List TreeFunction) → 0 < length s.blocks → FunctionsKept text s all all s 0 (Some []) None
-functions_start text s all inside = record { given = sym (joined_start (functions text s 0 all)); kept = kept_start _; scope = refl; places = refl; inside = inside }
+pub functions_start : (text : List ℕ) (heads s : Scope) (all : List TreeFunction) → 0 < length s.blocks → FunctionsKept text heads s all all s 0 (Some []) None
+functions_start text heads s all inside = record { given = sym (joined_start (functions text heads s 0 all)); kept = kept_start _; scope = refl; places = refl; inside = inside }
 
-module _ (text : List ℕ) (start : Scope) (all : List TreeFunction) where
+module _ (text : List ℕ) (heads start : Scope) (all : List TreeFunction) where
   pub functions_more : (g : TreeFunction) (gs : List TreeFunction) (s : Scope) (i : ℕ) (funcs : Option (List FuncData)) (f : Option FuncData) (least own : Option Fault)
-      → FunctionsKept text start all (g ∷ gs) s i funcs least → option_map func_of f ≡ function text s i g → IsAt g.name.pos f → IsLeast (FailsInFunction text s i g) own
-      → FunctionsKept text start all gs (behind_function text s g) (i + 1) (with_last funcs f) (lesser least own)
+      → FunctionsKept text heads start all (g ∷ gs) s i funcs least → option_map func_of f ≡ function text heads s i g → IsAt g.name.pos f → IsLeast (FailsInFunction text heads s i g) own
+      → FunctionsKept text heads start all gs (behind_function text heads s g) (i + 1) (with_last funcs f) (lesser least own)
   functions_more g gs s i funcs f least own k found at fails =
-      let s1 = behind_function text s g in
+      let s1 = behind_function text heads s g in
       let next1 : 1 + i ≡ i + 1 = omega arith in
-      let depth : length s1.blocks ≡ length s.blocks = ap length (keeps_function text s g).blocks in
-      let given1 : functions text start 0 all ≡ joined (views (with_last funcs f)) (functions text s1 (1 + i) gs) =
-      k.given ∙ joined_more (views funcs) (function text s i g) (functions text s1 (1 + i) gs) ∙ ap (λ o. joined (with_last (views funcs) o) (functions text s1 (1 + i) gs)) (sym found) ∙ ap (λ o. joined o (functions text s1 (1 + i) gs)) (sym (views_more funcs f)) in
+      let depth : length s1.blocks ≡ length s.blocks = ap length (keeps_function text heads s g).blocks in
+      let given1 : functions text heads start 0 all ≡ joined (views (with_last funcs f)) (functions text heads s1 (1 + i) gs) =
+      k.given ∙ joined_more (views funcs) (function text heads s i g) (functions text heads s1 (1 + i) gs) ∙ ap (λ o. joined (with_last (views funcs) o) (functions text heads s1 (1 + i) gs)) (sym found) ∙ ap (λ o. joined o (functions text heads s1 (1 + i) gs)) (sym (views_more funcs f)) in
       record {
-        given = subst (λ j. functions text start 0 all ≡ joined (views (with_last funcs f)) (functions text s1 j gs)) next1 given1;
-        kept = subst (λ j. Kept (FailsInFunctions text start 0 all) (FailsInFunctions text s1 j gs) (lesser least own)) next1
-            (kept_more (FailsInFunctions text start 0 all) (FailsInFunction text s i g) (FailsInFunctions text s1 (1 + i) gs) least own k.kept fails);
+        given = subst (λ j. functions text heads start 0 all ≡ joined (views (with_last funcs f)) (functions text heads s1 j gs)) next1 given1;
+        kept = subst (λ j. Kept (FailsInFunctions text heads start 0 all) (FailsInFunctions text heads s1 j gs) (lesser least own)) next1
+            (kept_more (FailsInFunctions text heads start 0 all) (FailsInFunction text heads s i g) (FailsInFunctions text heads s1 (1 + i) gs) least own k.kept fails);
         scope = k.scope;
         places = places_more (places_in all) funcs f g.name.pos (places_in gs) k.places at;
         inside = omega (arith, depth, k.inside);
@@ -66,14 +66,14 @@ module _ (text : List ℕ) (start : Scope) (all : List TreeFunction) where
   views_of None = refl
   views_of (Some v) = refl
 
-  pub functions_all : (s : Scope) (i : ℕ) (funcs : Option (Vec FuncData)) (least : Option Fault) → FunctionsKept text start all [] s i (option_map (λ (v : Vec FuncData). v.items) funcs) least
-      → option_map (λ (v : Vec FuncData). map func_of v.items) funcs ≡ functions text start 0 all
+  pub functions_all : (s : Scope) (i : ℕ) (funcs : Option (Vec FuncData)) (least : Option Fault) → FunctionsKept text heads start all [] s i (option_map (λ (v : Vec FuncData). v.items) funcs) least
+      → option_map (λ (v : Vec FuncData). map func_of v.items) funcs ≡ functions text heads start 0 all
   functions_all s i funcs least k = views_of funcs ∙ sym (k.given ∙ joined_none (views (option_map (λ (v : Vec FuncData). v.items) funcs)))
 
-  pub fault_all : (s : Scope) (i : ℕ) (funcs : Option (List FuncData)) (least : Option Fault) → FunctionsKept text start all [] s i funcs least → IsLeast (FailsInFunctions text start 0 all) least
-  fault_all s i funcs least k = kept_end (FailsInFunctions text start 0 all) (FailsInFunctions text s i []) least (λ g h. h) k.kept
+  pub fault_all : (s : Scope) (i : ℕ) (funcs : Option (List FuncData)) (least : Option Fault) → FunctionsKept text heads start all [] s i funcs least → IsLeast (FailsInFunctions text heads start 0 all) least
+  fault_all s i funcs least k = kept_end (FailsInFunctions text heads start 0 all) (FailsInFunctions text heads s i []) least (λ g h. h) k.kept
 
-  pub places_are : (s : Scope) (i : ℕ) (funcs : Option (List FuncData)) (least : Option Fault) → FunctionsKept text start all [] s i funcs least → AreAt (places_in all) funcs
+  pub places_are : (s : Scope) (i : ℕ) (funcs : Option (List FuncData)) (least : Option Fault) → FunctionsKept text heads start all [] s i funcs least → AreAt (places_in all) funcs
   places_are s i funcs least k = places_all (places_in all) funcs k.places
 
 -- ---- one of them by its number

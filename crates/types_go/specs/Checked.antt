@@ -8,24 +8,26 @@ use Rattle.typed.specs.declared.program.Site.{Site}
 use Rattle.typed.specs.declared.program.Program.{Program as ProgramData}
 use Rattle.expression_types.specs.declared.fault.TypeFault.{TypeFault}
 use Rattle.expression_types.specs.declared.fault.TypeFault.TheVariants as type_fault
+use Rattle.expression_types.specs.declared.fault.Fault.{Fault}
 use Rattle.expression_types.specs.Least.{IsLeast}
-use Rattle.types_go.specs.Functions.{functions_in, behind_functions, declarations_in, package_scope, main_number, program_functions}
+use Rattle.package_constants.specs.ConstantFaults.{ConstantsFail}
+use Rattle.types_go.specs.Functions.{behind_functions, declarations_in, heads_of, numbered_functions, package_scope, main_number, program_functions}
 use Rattle.types_go.specs.FunctionFaults.{FailsIn}
 
 -- the variables, in the order of the text, and their places
 abbrev pub sites_in : Syntax → List Site
-sites_in t = (behind_functions t.text (package_scope t) (functions_in t.text (declarations_in t))).sites
+sites_in t = (behind_functions t.text (heads_of t) (package_scope t) (numbered_functions t)).sites
 
 abbrev pub places_of : Syntax → List Pos
 places_of t = map (λ site. site.pos) (sites_in t)
 
 -- the places of the functions' names
 abbrev pub function_places : Syntax → List Pos
-function_places t = map (λ f. f.name.pos) (functions_in t.text (declarations_in t))
+function_places t = map (λ f. f.name.pos) (numbered_functions t)
 
 -- the strings of its statements
 abbrev pub strings_in : Syntax → List (List ℕ)
-strings_in t = (behind_functions t.text (package_scope t) (functions_in t.text (declarations_in t))).strings
+strings_in t = (behind_functions t.text (heads_of t) (package_scope t) (numbered_functions t)).strings
 
 -- two types
 abbrev pub program_with : Syntax → List Func → ℕ → Program
@@ -37,6 +39,8 @@ pub record Types (t : Syntax) (p : Program) : Type 0 where
   pub main : ℕ
   pub functions : program_functions t ≡ Some funcs
   pub main_is : main_number t ≡ Some main
+  -- no rule of the constants fails
+  pub constants : (f : Fault) → ConstantsFail t.text (package_scope t) (declarations_in t) f → ⊥
   pub is : p ≡ program_with t funcs main
 
 -- the fault that is reported: of the rules that fail, the one with the least offset, then with the least number

@@ -6,22 +6,22 @@ use Rattle.syntax.specs.declared.expression.Name.{Name}
 use Rattle.syntax.specs.Expressions.{spelled}
 use Rattle.typed.specs.Syntax.{Left, blank, new}
 use Rattle.expression_types.specs.declared.scope.ValueType.{ValueType}
-use Rattle.expression_types.specs.Profile.{is_blank, is_reserved}
+use Rattle.expression_types.specs.Universe.{is_blank}
 use Rattle.expression_types.specs.Scope.{Scope, is_here, with_variable}
 use Rattle.types_go.specs.declared.slots.Slot.{Slot}
 use Rattle.types_go.specs.declared.entries.Role.{Role}
 use Rattle.types_go.specs.declared.entries.Role.TheVariants.{Parameter as parameter, Result as result}
 
--- the site of a parameter or result with a name, and none for a blank parameter; the one in the middle where the name may not stand there
+-- the site of a parameter or result with a name that the block doesn't have yet, and none for a blank parameter
 abbrev pub blank_entry : Role → Option (Option ℕ)
 blank_entry parameter = Some None
 blank_entry result = None
 
-abbrev pub variable_entry : Bool → Bool → ℕ → Option (Option ℕ)
-variable_entry reserved is_here site = if reserved then None else (if is_here then None else Some (Some site))
+abbrev pub variable_entry : Bool → ℕ → Option (Option ℕ)
+variable_entry is_here site = if is_here then None else Some (Some site)
 
-abbrev pub entry_of : Role → (is_blank reserved is_here : Bool) → ℕ → Option (Option ℕ)
-entry_of role is_blank reserved is_here site = if is_blank then blank_entry role else variable_entry reserved is_here site
+abbrev pub entry_of : Role → (is_blank is_here : Bool) → ℕ → Option (Option ℕ)
+entry_of role is_blank is_here site = if is_blank then blank_entry role else variable_entry is_here site
 
 -- the sites that there are
 abbrev pub sites_of : List (Option ℕ) → List ℕ
@@ -55,7 +55,7 @@ slots_each ts (n ∷ ns) = slot_with (first_type ts) n ∷ slots_each (later_typ
 
 module _ (text : List ℕ) where
   abbrev pub named_entry : Role → Scope → Name → Option (Option ℕ)
-  named_entry role s n = entry_of role (is_blank (spelled text n)) (is_reserved (spelled text n)) (is_here s (spelled text n)) (length s.sites)
+  named_entry role s n = entry_of role (is_blank (spelled text n)) (is_here s (spelled text n)) (length s.sites)
 
   abbrev pub entry_in : Role → Scope → Option Name → Option (Option ℕ)
   entry_in role s None = Some None
@@ -63,7 +63,7 @@ module _ (text : List ℕ) where
 
   abbrev pub behind_entry_name : Option ValueType → Scope → Option Name → Scope
   behind_entry_name t s None = s
-  behind_entry_name t s (Some n) = if not (is_reserved (spelled text n)) && not (is_here s (spelled text n)) then with_variable t s (spelled text n) n.pos else s
+  behind_entry_name t s (Some n) = if not (is_blank (spelled text n)) && not (is_here s (spelled text n)) then with_variable t s (spelled text n) n.pos else s
 
   abbrev pub behind_entry : Scope → Slot → Scope
   behind_entry s p = behind_entry_name p.value_type s p.name

@@ -5,7 +5,7 @@ use Rattle.syntax.specs.declared.expression.Name.{Name}
 use Rattle.syntax.specs.Expressions.{spelled}
 use Rattle.expression_types.specs.declared.fault.Fault.{Fault}
 use Rattle.expression_types.specs.declared.fault.FaultKind.TheVariants.{Redeclared, OutOfProfile}
-use Rattle.expression_types.specs.Profile.{is_blank, is_reserved}
+use Rattle.expression_types.specs.Universe.{is_blank}
 use Rattle.expression_types.specs.Scope.{Scope, is_here}
 use Rattle.expression_types.specs.Faults.{fault, IsFault}
 use Rattle.types_go.specs.declared.slots.Slot.{Slot}
@@ -18,19 +18,18 @@ abbrev pub blank_fault : Role → Pos → Option Fault
 blank_fault parameter at = None
 blank_fault result at = Some (fault OutOfProfile at)
 
-abbrev pub variable_fault : (reserved is_here : Bool) → Pos → Option Fault
-variable_fault true is_here at = Some (fault OutOfProfile at)
-variable_fault false true at = Some (fault Redeclared at)
-variable_fault false false at = None
+abbrev pub variable_fault : (is_here : Bool) → Pos → Option Fault
+variable_fault true at = Some (fault Redeclared at)
+variable_fault false at = None
 
-abbrev pub named_fault : Role → (is_blank reserved is_here : Bool) → Pos → Option Fault
-named_fault role true reserved is_here at = blank_fault role at
-named_fault role false reserved is_here at = variable_fault reserved is_here at
+abbrev pub named_fault : Role → (is_blank is_here : Bool) → Pos → Option Fault
+named_fault role true is_here at = blank_fault role at
+named_fault role false is_here at = variable_fault is_here at
 
 module _ (text : List ℕ) where
   abbrev pub EntryFails : Role → Scope → Option Name → Fault → Type 0
   EntryFails role s None f = ⊥
-  EntryFails role s (Some n) f = IsFault (named_fault role (is_blank (spelled text n)) (is_reserved (spelled text n)) (is_here s (spelled text n)) n.pos) f
+  EntryFails role s (Some n) f = IsFault (named_fault role (is_blank (spelled text n)) (is_here s (spelled text n)) n.pos) f
 
   abbrev pub EntriesFail : Role → Scope → List Slot → Fault → Type 0
   EntriesFail role s [] f = ⊥

@@ -16,10 +16,11 @@ use Rattle.expression_types.specs.declared.scope.ValueType.TheVariants.{Int, Boo
 use Rattle.expression_types.specs.declared.scope.External.{External as ExternalData}
 use Rattle.expression_types.specs.declared.scope.External.TheVariants as external
 use Rattle.expression_types.specs.declared.scope.Declared.{Declared}
-use Rattle.expression_types.specs.declared.scope.Declared.TheVariants.{Variable, Untyped, Function, External, TypeName}
-use Rattle.expression_types.specs.Profile.{is_blank, is_main, is_predeclared}
-use Rattle.expression_types.specs.Scope.{Scope, Signature, type_number, declaration, is_here, with_declaration, with_signature, opened, closed, beginning}
+use Rattle.expression_types.specs.declared.scope.Declared.TheVariants.{Untyped, Constant, Function, External, TypeName}
+use Rattle.expression_types.specs.Universe.{is_blank, is_main}
+use Rattle.expression_types.specs.Scope.{Scope, Signature, type_number, declaration, is_here, with_declaration, with_signature, with_constant, opened, closed, beginning}
 use Rattle.expression_types.specs.Typing.{type_in, allowed}
+use Rattle.package_constants.specs.Constants.{items_in, settled}
 use Rattle.types_go.specs.declared.slots.Slot.{Slot}
 use Rattle.types_go.specs.declared.entries.Role.TheVariants.{Parameter as parameter, Result as result}
 use Rattle.types_go.specs.Entries.{sites_of, entries, behind_entries}
@@ -65,29 +66,26 @@ abbrev pub is_small : Option Signature → Bool
 is_small None = false
 is_small (Some sig) = nat_le (words sig) 65535
 
--- whether the package block declares this name
-abbrev pub declares_name : Scope → List ℕ → Bool
-declares_name s n = not (is_blank n || is_predeclared n) && not (is_here s n)
+-- a package has no name `init`
+abbrev pub is_init : List ℕ → Bool
+is_init name = bytes_eq name (codes "init")
 
--- whether a function's name may stand for it: it is none of the language, and the first of its spelling is this one
+-- whether the package block declares this name: the first declaration of a name stays
+abbrev pub declares_name : Scope → List ℕ → Bool
+declares_name s n = not (is_blank n || is_init n) && not (is_here s n)
+
+-- whether a function's name may stand for it: the first of its spelling is this one
 abbrev pub is_number : ℕ → Option Declared → Bool
 is_number i None = true
 is_number i (Some (Function f)) = f.0 == i
-is_number i (Some (External e at)) = false
-is_number i (Some (Variable site t)) = false
-is_number i (Some Untyped) = false
-is_number i (Some TypeName) = false
+is_number i other = false
 
-abbrev pub may_be_named : ℕ → (is_blank predeclared : Bool) → Option Declared → Bool
-may_be_named i is_blank predeclared d = is_blank || (not predeclared && is_number i d)
+abbrev pub may_be_named : ℕ → (is_blank : Bool) → Option Declared → Bool
+may_be_named i is_blank d = is_blank || is_number i d
 
 abbrev pub number_of : Option Declared → Option ℕ
-number_of None = None
 number_of (Some (Function f)) = Some f.0
-number_of (Some (External e at)) = None
-number_of (Some (Variable site t)) = None
-number_of (Some Untyped) = None
-number_of (Some TypeName) = None
+number_of other = None
 
 -- one parameter, an int, and no results
 abbrev pub takes_one_int : List ValueType → List ValueType → Bool
@@ -113,12 +111,8 @@ external_named name = if bytes_eq name (codes "exit") then external.Exit else ex
 
 -- whether a name stands for the function without a body that is declared at a place
 abbrev pub is_external_at : Pos → Option Declared → Bool
-is_external_at place None = false
 is_external_at place (Some (External e at)) = at.offset == place.offset
-is_external_at place (Some (Function f)) = false
-is_external_at place (Some (Variable site t)) = false
-is_external_at place (Some Untyped) = false
-is_external_at place (Some TypeName) = false
+is_external_at place other = false
 
 abbrev pub is_plain : Option TreeFunction → Bool
 is_plain None = false
@@ -133,9 +127,56 @@ abbrev pub slot_number : Slot → ℕ
 slot_number p = number_or_int p.value_type
 
 module _ (text : List ℕ) where
+  -- ---- the names that the package declares, which tell what the types of its heads stand for
+
+  abbrev pub with_name : Declared → Scope → Name → Scope
+  with_name d s n = if declares_name s (spelled text n) then with_declaration s (spelled text n) d else s
+
+  abbrev pub with_names : Declared → Scope → List Name → Scope
+  with_names d s [] = s
+  with_names d s (n ∷ ns) = with_names d (with_name d s n) ns
+
+  abbrev pub with_values : Scope → List ValueSpec → Scope
+  with_values s [] = s
+  with_values s (v ∷ vs) = with_values (with_names Untyped s v.names) vs
+
+  abbrev pub with_types : Scope → List TypeSpec → Scope
+  with_types s [] = s
+  with_types s (t ∷ ts) = with_types (with_name TypeName s t.name) ts
+
+  abbrev pub with_head : Scope → Declaration → Scope
+  with_head s (constants at specs) = with_values s specs
+  with_head s (variables at specs) = with_values s specs
+  with_head s (types at specs) = with_types s specs
+  with_head s (tree.function f) = with_name Untyped s f.name
+
+  abbrev pub with_heads : Scope → List Declaration → Scope
+  with_heads s [] = s
+  with_heads s (d ∷ ds) = with_heads (with_head s d) ds
+
+  -- ---- what the package block has apart from those names
+
+  -- a constant with the next number, whose value isn't known yet
+  abbrev pub with_constant_name : Scope → Name → Scope
+  with_constant_name s n = with_constant (with_name (Constant (record { 0 = length s.constants })) s n) None
+
+  abbrev pub with_constant_names : Scope → List Name → Scope
+  with_constant_names s [] = s
+  with_constant_names s (n ∷ ns) = with_constant_names (with_constant_name s n) ns
+
+  abbrev pub with_constants : Scope → List ValueSpec → Scope
+  with_constants s [] = s
+  with_constants s (v ∷ vs) = with_constants (with_constant_names s v.names) vs
+
+  -- the name and the number of a function, in the package block
+  abbrev pub function_head : Scope → ℕ → TreeFunction → Bool
+  function_head s i f = may_be_named i (is_blank (spelled text f.name)) (declaration s (spelled text f.name)) && nat_lt i 4096
+
+-- in a text, among the names of its package
+module _ (text : List ℕ) (heads : Scope) where
   -- a parameter or result with its type, where that is known
   abbrev pub slot_of : Param → Slot
-  slot_of p = record { name = p.name; value_type = type_in text p.type_expr }
+  slot_of p = record { name = p.name; value_type = type_in text heads p.type_expr }
 
   abbrev pub slots_of : Parameters → List Slot
   slots_of ps = map slot_of (params_of ps)
@@ -144,8 +185,8 @@ module _ (text : List ℕ) where
   abbrev pub returns_of : TreeFunction → Returns
   returns_of f = record { wanted = map (λ slot. slot.value_type) (slots_of f.results); may_be_bare = (length (params_of f.results) == 0) || is_named f.results }
 
-  abbrev pub may_end : TreeFunction → Body → Bool
-  may_end f b = (length (params_of f.results) == 0) || ends_in_terminating text b.statements
+  abbrev pub may_end : Scope → TreeFunction → Body → Bool
+  may_end s f b = (length (params_of f.results) == 0) || ends_in_terminating text s b.statements
 
   -- where all its types are known, a function has a signature
   abbrev pub signature_in : TreeFunction → Option Signature
@@ -172,12 +213,13 @@ module _ (text : List ℕ) where
   functions_in (types at specs ∷ ds) = functions_in ds
   functions_in (tree.function f ∷ ds) = if is_external f then functions_in ds else f ∷ functions_in ds
 
-  -- in the package block: forms that are not left out; and a function without a body is the first of its name
+  -- in the package block: forms that are not left out; no `init`; and a function without a body is the first of its name. Constants have
+  -- rules of their own
   abbrev pub is_supported : Scope → Declaration → Bool
-  is_supported s (constants at specs) = false
+  is_supported s (constants at specs) = true
   is_supported s (variables at specs) = false
   is_supported s (types at specs) = false
-  is_supported s (tree.function f) = not (is_external f) || is_external_at f.name.pos (declaration s (spelled text f.name))
+  is_supported s (tree.function f) = not (is_init (spelled text f.name)) && (not (is_external f) || is_external_at f.name.pos (declaration s (spelled text f.name)))
 
   abbrev pub are_supported : Scope → List Declaration → Bool
   are_supported s [] = true
@@ -185,30 +227,14 @@ module _ (text : List ℕ) where
 
   -- ---- the package block: the first declaration of a name stays
 
-  abbrev pub with_name : Declared → Scope → Name → Scope
-  with_name d s n = if declares_name s (spelled text n) then with_declaration s (spelled text n) d else s
-
-  abbrev pub with_names : Declared → Scope → List Name → Scope
-  with_names d s [] = s
-  with_names d s (n ∷ ns) = with_names d (with_name d s n) ns
-
-  -- constants and variables have no type
-  abbrev pub with_values : Scope → List ValueSpec → Scope
-  with_values s [] = s
-  with_values s (v ∷ vs) = with_values (with_names Untyped s v.names) vs
-
-  abbrev pub with_types : Scope → List TypeSpec → Scope
-  with_types s [] = s
-  with_types s (t ∷ ts) = with_types (with_name TypeName s t.name) ts
-
   abbrev pub with_function : Scope → TreeFunction → Scope
   with_function s f =
-      if is_external f then with_name (External (external_named (spelled text f.name)) f.name.pos) s f.name else with_signature (with_name (Function (record { 0 = length s.signatures })) s f.name) (signature_in f)
+      if is_external f then with_name text (External (external_named (spelled text f.name)) f.name.pos) s f.name else with_signature (with_name text (Function (record { 0 = length s.signatures })) s f.name) (signature_in f)
 
   abbrev pub with_item : Scope → Declaration → Scope
-  with_item s (constants at specs) = with_values s specs
-  with_item s (variables at specs) = with_values s specs
-  with_item s (types at specs) = with_types s specs
+  with_item s (constants at specs) = with_constants text s specs
+  with_item s (variables at specs) = with_values text s specs
+  with_item s (types at specs) = with_types text s specs
   with_item s (tree.function f) = with_function s f
 
   abbrev pub with_items : Scope → List Declaration → Scope
@@ -255,13 +281,10 @@ module _ (text : List ℕ) where
   abbrev pub parts : Scope → TreeFunction → Body → Option Func
   parts s f b = option_and_then (λ ps. option_and_then (λ rs. option_map (func s f b ps rs) (body_of s f b)) (result_entries s f)) (param_entries s f)
 
-  -- its name, its number, its types and their words, its parts, and the end of its body; without a body it has no typed form
-  abbrev pub function_head : Scope → ℕ → TreeFunction → Bool
-  function_head s i f = may_be_named i (is_blank (spelled text f.name)) (is_predeclared (spelled text f.name)) (declaration s (spelled text f.name)) && nat_lt i 4096
-
+  -- its head, its types and their words, its parts, and the end of its body; without a body it has no typed form
   abbrev pub function_with : Scope → ℕ → TreeFunction → Option Body → Option Func
   function_with s i f None = None
-  function_with s i f (Some b) = allowed (function_head s i f) (allowed (is_small (signature_in f)) (allowed (may_end f b) (parts s f b)))
+  function_with s i f (Some b) = allowed (function_head text s i f) (allowed (is_small (signature_in f)) (allowed (may_end s f b) (parts s f b)))
 
   abbrev pub function : Scope → ℕ → TreeFunction → Option Func
   function s i f = function_with s i f f.body
@@ -279,9 +302,19 @@ module _ (text : List ℕ) where
 abbrev pub declarations_in : Syntax → List Declaration
 declarations_in t = t.file.declarations
 
--- its package block
+-- the names of its package, its functions that have numbers, and its package block
+abbrev pub heads_of : Syntax → Scope
+heads_of t = with_heads t.text beginning (declarations_in t)
+
+abbrev pub numbered_functions : Syntax → List TreeFunction
+numbered_functions t = functions_in t.text (heads_of t) (declarations_in t)
+
+abbrev pub declared_scope : Syntax → Scope
+declared_scope t = with_items t.text (heads_of t) beginning (declarations_in t)
+
+-- where the constants are known that can be
 abbrev pub package_scope : Syntax → Scope
-package_scope t = with_items t.text beginning (declarations_in t)
+package_scope t = settled t.text (declared_scope t) (items_in (declarations_in t))
 
 -- the number of the function without parameters and results that `main` stands for
 abbrev pub plain_number : List TreeFunction → Option ℕ → Option ℕ
@@ -291,9 +324,9 @@ plain_number fs (Some i) = if is_plain (slice_get fs i) then Some i else None
 -- in the package `main`
 abbrev pub main_number : Syntax → Option ℕ
 main_number t =
-    if is_main (spelled t.text t.file.package_name) then plain_number (functions_in t.text (declarations_in t)) (number_of (declaration (package_scope t) (codes "main"))) else None
+    if is_main (spelled t.text t.file.package_name) then plain_number (numbered_functions t) (number_of (declaration (package_scope t) (codes "main"))) else None
 
 -- the functions, where all declarations are of forms that are not left out
 abbrev pub program_functions : Syntax → Option (List Func)
 program_functions t =
-    allowed (are_supported t.text (package_scope t) (declarations_in t)) (functions t.text (package_scope t) 0 (functions_in t.text (declarations_in t)))
+    allowed (are_supported t.text (heads_of t) (package_scope t) (declarations_in t)) (functions t.text (heads_of t) (package_scope t) 0 (numbered_functions t))

@@ -11,14 +11,14 @@ use Rattle.syntax.specs.Expressions.{Ex as TreeEx, Exs as TreeExs, some, spelled
 use Rattle.syntax.specs.Expressions as expressions
 use Rattle.syntax.specs.Statements.{Simple, ValueSpec, Targets, no_targets, targets_assigned, targets_defined, Clause, forever, while_true, counting, ranging, Stm, Stms, Els}
 use Rattle.syntax.specs.Statements as tree
-use Rattle.typed.specs.Syntax.{Ex}
+use Rattle.typed.specs.Syntax.{Ex, Left, blank}
 use Rattle.expression_types.specs.declared.fault.Fault.{Fault}
 use Rattle.expression_types.specs.declared.fault.FaultKind.TheVariants.{Unknown, Redeclared, NothingNew, Mismatch, NotAssignable, ArgCount, ResultCount, NotUsedValue, BadOperand, BreakOutside, OutOfProfile}
 use Rattle.expression_types.specs.declared.scope.ValueType.{ValueType}
 use Rattle.expression_types.specs.declared.scope.ValueType.TheVariants.{Int}
 use Rattle.expression_types.specs.declared.scope.Declared.{Declared}
-use Rattle.expression_types.specs.declared.scope.Declared.TheVariants.{Variable, Untyped, Function, External, TypeName}
-use Rattle.expression_types.specs.Profile.{is_blank, is_reserved}
+use Rattle.expression_types.specs.declared.scope.Declared.TheVariants as declared
+use Rattle.expression_types.specs.Universe.{is_blank}
 use Rattle.expression_types.specs.Scope.{Scope, declaration, is_here, opened, closed}
 use Rattle.expression_types.specs.Typing.{Operand, Gives, one, called, asking, quoted, printed, panicked, exited, same_type, accepts, type_of, operand_in, Seen, many, count, name_in, gives, seen}
 use Rattle.expression_types.specs.Faults.{fault, IsFault, FormFails, range_fault, pair_fault, refused_fault, ValuesFail, PlacedFail, CountFails, TakeFails, FailsAsType, Fails, FailsInEach, FailsAsOperand, FailsInCondition, FailsInTest}
@@ -34,27 +34,27 @@ fault_where b own = if b then Some own else None
 -- ---- left sides
 
 -- A name on the left side of `=` is blank, or a variable. The places are those of the name and of the whole left side.
-abbrev pub left_fault : (is_blank reserved : Bool) → Option Declared → Pos → Pos → Option Fault
-left_fault true reserved d at whole = None
-left_fault false true d at whole = Some (fault OutOfProfile at)
-left_fault false false None at whole = Some (fault Unknown at)
-left_fault false false (Some (Variable site t)) at whole = None
-left_fault false false (Some Untyped) at whole = None
-left_fault false false (Some (Function g)) at whole = Some (fault NotAssignable whole)
-left_fault false false (Some (External e place)) at whole = Some (fault NotAssignable whole)
-left_fault false false (Some TypeName) at whole = Some (fault BadOperand at)
+abbrev pub left_fault : (is_blank : Bool) → Option Declared → Pos → Pos → Option Fault
+left_fault true d at whole = None
+left_fault false None at whole = Some (fault Unknown at)
+left_fault false (Some (declared.Variable site t)) at whole = None
+left_fault false (Some declared.Untyped) at whole = None
+left_fault false (Some declared.TypeName) at whole = Some (fault BadOperand at)
+left_fault false (Some (declared.«Type» t)) at whole = Some (fault BadOperand at)
+left_fault false (Some declared.LeftOutType) at whole = Some (fault OutOfProfile at)
+left_fault false (Some declared.LeftOutValue) at whole = Some (fault OutOfProfile at)
+left_fault false (Some other) at whole = Some (fault NotAssignable whole)
 
--- a name on the left of `:=` is blank, or not the language's own; one that the block has is a variable
-abbrev pub new_name_fault : (is_blank reserved is_here : Bool) → Option Declared → Pos → Option Fault
-new_name_fault true reserved is_here d at = None
-new_name_fault false true is_here d at = Some (fault OutOfProfile at)
-new_name_fault false false true d at = left_fault false false d at at
-new_name_fault false false false d at = None
+-- a name on the left of `:=` is blank, new, or a variable that the block has
+abbrev pub new_name_fault : (is_blank is_here : Bool) → Option Declared → Pos → Option Fault
+new_name_fault true is_here d at = None
+new_name_fault false true d at = left_fault false d at at
+new_name_fault false false d at = None
 
 -- a name on the left of an assignment with an operator, or before `++` or `--`, has a value
-abbrev pub own_fault : (is_blank reserved : Bool) → Option Declared → Pos → Pos → Option Fault
-own_fault true reserved d at whole = Some (fault Unknown at)
-own_fault false reserved d at whole = left_fault false reserved d at whole
+abbrev pub own_fault : (is_blank : Bool) → Option Declared → Pos → Pos → Option Fault
+own_fault true d at whole = Some (fault Unknown at)
+own_fault false d at whole = left_fault false d at whole
 
 -- any other left side that gives something; a string stands nowhere else than among operands
 abbrev pub value_left_fault : Option Gives → Pos → Option Fault
@@ -108,6 +108,11 @@ abbrev pub given_fault : Option ValueType → Option ValueType → Pos → Optio
 given_fault None p at = None
 given_fault (Some t) p at = fault_where (not (accepts p t)) (fault Mismatch at)
 
+-- how many left sides there are; a blank one behind another is as if absent
+abbrev pub key_count : List Left → ℕ
+key_count (l ∷ blank ∷ []) = 1
+key_count ls = length ls
+
 -- more than one left side
 abbrev pub keys_fault : Pos → Option Ex → Option ℕ → Option Fault
 keys_fault at None n = None
@@ -117,7 +122,7 @@ keys_fault at (Some x) (Some n) = fault_where (not (nat_le n 1)) (fault ArgCount
 module _ (text : List ℕ) where
   -- a left side of `=`: a name, in parentheses or not, or an expression with its own rules
   abbrev pub LeftSideFails : Scope → Option Name → TreeEx → Fault → Type 0
-  LeftSideFails s (Some n) e f = IsFault (left_fault (is_blank (spelled text n)) (is_reserved (spelled text n)) (declaration s (spelled text n)) n.pos (first_place e)) f
+  LeftSideFails s (Some n) e f = IsFault (left_fault (is_blank (spelled text n)) (declaration s (spelled text n)) n.pos (first_place e)) f
   LeftSideFails s None e f = Fails text s e f ⊎ IsFault (value_left_fault (gives text s e) (first_place e)) f
 
   abbrev pub LeftsFail : Scope → TreeExs → Fault → Type 0
@@ -126,7 +131,7 @@ module _ (text : List ℕ) where
 
   -- the same where its value is asked for
   abbrev pub OwnSideFails : Scope → Option Name → TreeEx → Fault → Type 0
-  OwnSideFails s (Some n) e f = IsFault (own_fault (is_blank (spelled text n)) (is_reserved (spelled text n)) (declaration s (spelled text n)) n.pos (first_place e)) f
+  OwnSideFails s (Some n) e f = IsFault (own_fault (is_blank (spelled text n)) (declaration s (spelled text n)) n.pos (first_place e)) f
   OwnSideFails s None e f = Fails text s e f ⊎ IsFault (value_left_fault (gives text s e) (first_place e)) f
 
   abbrev pub OwnSidesFail : Scope → TreeExs → Fault → Type 0
@@ -136,7 +141,7 @@ module _ (text : List ℕ) where
   abbrev pub NewNamesFail : Scope → List Name → Fault → Type 0
   NewNamesFail s [] f = ⊥
   NewNamesFail s (n ∷ ns) f =
-      IsFault (new_name_fault (is_blank (spelled text n)) (is_reserved (spelled text n)) (is_here s (spelled text n)) (declaration s (spelled text n)) n.pos) f ⊎ NewNamesFail s ns f
+      IsFault (new_name_fault (is_blank (spelled text n)) (is_here s (spelled text n)) (declaration s (spelled text n)) n.pos) f ⊎ NewNamesFail s ns f
 
   -- a name stands twice
   abbrev pub TwiceFails : Blocks → List Name → Fault → Type 0
@@ -212,11 +217,15 @@ module _ (text : List ℕ) where
   TargetsFail s t (targets_assigned ls at) f = LeftsFail s ls f ⊎ GivenFail s t ls f
   TargetsFail s t (targets_defined ns at) f = EntriesFail text Parameter s (map (slot_with t) ns) f ⊎ IsFault (fault_where (all_blank text ns) (fault NothingNew at)) f
 
+  abbrev pub name_count : List Name → ℕ
+  name_count (n ∷ m ∷ []) = if is_blank (spelled text m) then 1 else 2
+  name_count ns = length ns
+
   -- how many left sides there are, where each has a type
   abbrev pub target_count : Scope → Targets → Option ℕ
   target_count s no_targets = Some 0
-  target_count s (targets_assigned ls at) = option_map length (lefts text s ls)
-  target_count s (targets_defined ns at) = Some (length ns)
+  target_count s (targets_assigned ls at) = option_map key_count (lefts text s ls)
+  target_count s (targets_defined ns at) = Some (name_count ns)
 
   abbrev pub FailsInRange : Scope → Pos → Targets → TreeEx → Fault → Type 0
   FailsInRange s at t e f =
@@ -238,7 +247,7 @@ module _ (text : List ℕ) where
   SpecTypeFails s (Some e) f = FailsAsType text s e f
 
   abbrev pub SpecTakeFails : Scope → Pos → ValueSpec → Fault → Type 0
-  SpecTakeFails s at v f = FailsInEach text s v.values f ⊎ TakeFails (fault ArgCount at) (spec_wanted text v) (seen text s v.values) f
+  SpecTakeFails s at v f = FailsInEach text s v.values f ⊎ TakeFails (fault ArgCount at) (spec_wanted text s v) (seen text s v.values) f
 
   abbrev pub SpecValuesFail : Bool → Scope → Pos → ValueSpec → Fault → Type 0
   SpecValuesFail true s at v f = ⊥

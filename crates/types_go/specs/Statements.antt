@@ -15,13 +15,11 @@ use Rattle.syntax.specs.Statements as tree
 use Rattle.typed.specs.declared.operators.BinOp.{BinOp as TypedOp}
 use Rattle.typed.specs.declared.operators.BinOp.TheVariants as op
 use Rattle.typed.specs.Syntax.{Ex, Exs, Left, Piece, St, Sts, text as string_number, shown, binary, read, local, here, none, results, asked, blank, new, to, over_int, declare, assign, update, bump, discard, block, choose, loop, range, break_off, go_on, give_back, print, raise, quit, done, next}
-use Rattle.expression_types.specs.declared.profile.Word.{Word}
-use Rattle.expression_types.specs.declared.profile.Word.TheVariants as word
 use Rattle.expression_types.specs.declared.scope.ValueType.{ValueType}
 use Rattle.expression_types.specs.declared.scope.ValueType.TheVariants.{Int}
 use Rattle.expression_types.specs.declared.scope.Declared.{Declared}
-use Rattle.expression_types.specs.declared.scope.Declared.TheVariants.{Variable, Untyped, Function, External, TypeName}
-use Rattle.expression_types.specs.Profile.{is_blank, is_reserved, word_of}
+use Rattle.expression_types.specs.declared.scope.Declared.TheVariants.{Variable, Panic}
+use Rattle.expression_types.specs.Universe.{is_blank}
 use Rattle.expression_types.specs.Scope.{Scope, declaration, is_here, with_variable, with_strings, opened, closed}
 use Rattle.expression_types.specs.Typing.{Operand, value, Part, said, valued, Gives, one, called, asking, quoted, printed, panicked, exited, allowed, same_type, accepts, type_of, as_value, both, combined, operand_in, Seen, value_types, taken, name_in, type_in, gives, seen, condition, test}
 use Rattle.types_go.specs.declared.slots.Slot.{Slot}
@@ -47,48 +45,36 @@ only (some e (some g es)) = None
 
 -- a variable with a type as a left side
 abbrev pub target : Option Declared → Option Left
-target None = None
 target (Some (Variable site t)) = Some (to (local site.0 here))
-target (Some Untyped) = None
-target (Some (Function f)) = None
-target (Some (External e at)) = None
-target (Some TypeName) = None
+target other = None
 
 -- the type that it asks for
 abbrev pub variable_type : Option Declared → Option ValueType
-variable_type None = None
 variable_type (Some (Variable site t)) = Some t
-variable_type (Some Untyped) = None
-variable_type (Some (Function f)) = None
-variable_type (Some (External e at)) = None
-variable_type (Some TypeName) = None
+variable_type other = None
 
 -- its value
 abbrev pub variable_value : Option Declared → Option Operand
-variable_value None = None
 variable_value (Some (Variable site t)) = Some (value t (read (local site.0 here)))
-variable_value (Some Untyped) = None
-variable_value (Some (Function f)) = None
-variable_value (Some (External e at)) = None
-variable_value (Some TypeName) = None
+variable_value other = None
 
 -- a left side of `=`, and the type that it asks for
-abbrev pub left_of : (is_blank reserved : Bool) → Option Declared → Option Left
-left_of is_blank reserved d = if is_blank then Some blank else (if reserved then None else target d)
+abbrev pub left_of : (is_blank : Bool) → Option Declared → Option Left
+left_of is_blank d = if is_blank then Some blank else target d
 
-abbrev pub wanted_of : (is_blank reserved : Bool) → Option Declared → Option ValueType
-wanted_of is_blank reserved d = if is_blank then None else (if reserved then None else variable_type d)
+abbrev pub wanted_of : (is_blank : Bool) → Option Declared → Option ValueType
+wanted_of is_blank d = if is_blank then None else variable_type d
 
 -- a left side of `:=`: a variable that the block has, or a new one with the next site
-abbrev pub new_left_of : (is_blank reserved is_here : Bool) → Option Declared → ℕ → Option Left
-new_left_of is_blank reserved is_here d site = if is_blank then Some blank else (if reserved then None else (if is_here then target d else Some (new site)))
+abbrev pub new_left_of : (is_blank is_here : Bool) → Option Declared → ℕ → Option Left
+new_left_of is_blank is_here d site = if is_blank then Some blank else (if is_here then target d else Some (new site))
 
-abbrev pub new_wanted_of : (is_blank reserved is_here : Bool) → Option Declared → Option ValueType
-new_wanted_of is_blank reserved is_here d = if is_here then wanted_of is_blank reserved d else None
+abbrev pub new_wanted_of : (is_blank is_here : Bool) → Option Declared → Option ValueType
+new_wanted_of is_blank is_here d = if is_here then wanted_of is_blank d else None
 
 -- whether a `:=` declares the name
 abbrev pub declares : Scope → List ℕ → Bool
-declares s n = not (is_reserved n) && not (is_here s n)
+declares s n = not (is_blank n) && not (is_here s n)
 
 -- the names so far as one block, apart from blank ones
 abbrev pub noted : Blocks → List ℕ → Blocks
@@ -210,10 +196,11 @@ choice_head i c = option_and_then (λ h. option_map (λ x. record { init = h; co
 abbrev pub loop_head : Option (Option St) → Option (Option Ex) → Option Sts → Option Head
 loop_head i c post = option_and_then (λ h. option_and_then (λ x. option_map (repeated h x) post) c) i
 
--- what gets the number of a `range`: one left side at most
+-- what gets the number of a `range`: one left side at most, and a blank one behind it is as if absent
 abbrev pub key_of : List Left → Option Left
 key_of [] = Some blank
 key_of (l ∷ []) = Some l
+key_of (l ∷ blank ∷ []) = Some l
 key_of (l ∷ k ∷ ls) = None
 
 abbrev pub range_head : Option Ex → Option (List Left) → Option Head
@@ -263,11 +250,11 @@ module _ (text : List ℕ) where
   -- a left side of `=`: a name, in parentheses or not; any other expression is none
   abbrev pub left : Scope → Option Name → Option Left
   left s None = None
-  left s (Some n) = left_of (is_blank (spelled text n)) (is_reserved (spelled text n)) (declaration s (spelled text n))
+  left s (Some n) = left_of (is_blank (spelled text n)) (declaration s (spelled text n))
 
   abbrev pub wanted : Scope → Option Name → Option ValueType
   wanted s None = None
-  wanted s (Some n) = wanted_of (is_blank (spelled text n)) (is_reserved (spelled text n)) (declaration s (spelled text n))
+  wanted s (Some n) = wanted_of (is_blank (spelled text n)) (declaration s (spelled text n))
 
   -- the left sides of `=`, where each is a variable with a type or blank, and the types that they ask for
   abbrev pub lefts : Scope → TreeExs → Option (List Left)
@@ -288,10 +275,10 @@ module _ (text : List ℕ) where
   new_slots s (v ∷ vs) = if slot_declares s v.name then v ∷ new_slots s vs else new_slots s vs
 
   abbrev pub new_left : Scope → ℕ → Name → Option Left
-  new_left s site n = new_left_of (is_blank (spelled text n)) (is_reserved (spelled text n)) (is_here s (spelled text n)) (declaration s (spelled text n)) site
+  new_left s site n = new_left_of (is_blank (spelled text n)) (is_here s (spelled text n)) (declaration s (spelled text n)) site
 
   abbrev pub new_wanted : Scope → Name → Option ValueType
-  new_wanted s n = new_wanted_of (is_blank (spelled text n)) (is_reserved (spelled text n)) (is_here s (spelled text n)) (declaration s (spelled text n))
+  new_wanted s n = new_wanted_of (is_blank (spelled text n)) (is_here s (spelled text n)) (declaration s (spelled text n))
 
   -- its left sides, the new ones of which have sites from one on, and the types that they ask for
   abbrev pub new_lefts : Scope → ℕ → List Name → Option (List Left)
@@ -326,7 +313,7 @@ module _ (text : List ℕ) where
   -- the value of a variable that is given another one of its own
   abbrev pub own_value : Scope → Option Name → Option Operand
   own_value s None = None
-  own_value s (Some n) = if is_reserved (spelled text n) then None else variable_value (declaration s (spelled text n))
+  own_value s (Some n) = if is_blank (spelled text n) then None else variable_value (declaration s (spelled text n))
 
   -- ---- simple statements
 
@@ -418,20 +405,20 @@ module _ (text : List ℕ) where
 
   -- ---- a `var` among statements: the values are worked out before the names are declared
 
-  abbrev pub spec_type : Option TreeEx → Option ValueType
-  spec_type None = None
-  spec_type (Some e) = type_in text e
+  abbrev pub spec_type : Scope → Option TreeEx → Option ValueType
+  spec_type s None = None
+  spec_type s (Some e) = type_in text s e
 
-  abbrev pub spec_wanted : ValueSpec → List (Option ValueType)
-  spec_wanted v = map (λ n. spec_type v.type_expr) v.names
+  abbrev pub spec_wanted : Scope → ValueSpec → List (Option ValueType)
+  spec_wanted s v = map (λ n. spec_type s v.type_expr) v.names
 
   -- a type that stands there holds for all names
-  abbrev pub spec_slots_of : Option TreeEx → Option (List ValueType) → List Name → List Slot
-  spec_slots_of None ts ns = slots_each ts ns
-  spec_slots_of (Some e) ts ns = map (slot_with (type_in text e)) ns
+  abbrev pub spec_slots_of : Scope → Option TreeEx → Option (List ValueType) → List Name → List Slot
+  spec_slots_of s None ts ns = slots_each ts ns
+  spec_slots_of s (Some e) ts ns = map (slot_with (type_in text s e)) ns
 
   abbrev pub spec_slots : Scope → ValueSpec → List Slot
-  spec_slots s v = spec_slots_of v.type_expr (taken_types (spec_wanted v) (seen text s v.values)) v.names
+  spec_slots s v = spec_slots_of s v.type_expr (taken_types (spec_wanted s v) (seen text s v.values)) v.names
 
   abbrev pub behind_spec : Scope → ValueSpec → Scope
   behind_spec s v = behind_entries text s (spec_slots s v)
@@ -439,18 +426,18 @@ module _ (text : List ℕ) where
   abbrev pub spec_entries : Scope → ValueSpec → Option (List (Option ℕ))
   spec_entries s v = entries text Parameter s (spec_slots s v)
 
-  abbrev pub is_known : Option TreeEx → Bool
-  is_known None = true
-  is_known (Some e) = is_some (type_in text e)
+  abbrev pub is_known : Scope → Option TreeEx → Bool
+  is_known s None = true
+  is_known s (Some e) = is_some (type_in text s e)
 
   abbrev pub spec_declared : Scope → ValueSpec → Option St
   spec_declared s v = option_map (λ es. declare (sites_of es)) (spec_entries s v)
 
   abbrev pub spec_assigned : Scope → ValueSpec → Option St
-  spec_assigned s v = assignment (option_map (map entry_left) (spec_entries s v)) (taken (spec_wanted v) (seen text s v.values))
+  spec_assigned s v = assignment (option_map (map entry_left) (spec_entries s v)) (taken (spec_wanted s v) (seen text s v.values))
 
   abbrev pub spec_statement : Scope → ValueSpec → Option St
-  spec_statement s v = allowed (is_known v.type_expr) (if is_bare v.type_expr v.values then spec_declared s v else spec_assigned s v)
+  spec_statement s v = allowed (is_known s v.type_expr) (if is_bare v.type_expr v.values then spec_declared s v else spec_assigned s v)
 
   abbrev pub spec_statements : Scope → List ValueSpec → Option Sts
   spec_statements s [] = Some done
@@ -540,15 +527,16 @@ abbrev mutual
   leaves_any tree.nil = false
   leaves_any (tree.cons m ms) = leaves m || leaves_any ms
 
-abbrev pub is_panic : Word → Bool
-is_panic word.Panic = true
+abbrev pub is_panic : Option Declared → Bool
+is_panic (Some Panic) = true
 is_panic other = false
 
-module _ (text : List ℕ) where
+-- in the scope around a function: a variable of the function that has the name of `panic` can't be called at all
+module _ (text : List ℕ) (s : Scope) where
   -- a call of `panic`
   abbrev pub names_panic : Option Name → Bool
   names_panic None = false
-  names_panic (Some n) = is_panic (word_of (spelled text n))
+  names_panic (Some n) = is_panic (declaration s (spelled text n))
 
   abbrev pub panics : TreeEx → Bool
   panics (expressions.call g es spread) = names_panic (name_in g)

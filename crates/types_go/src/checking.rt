@@ -1,31 +1,34 @@
 //! A tree's typed program.
 
-ghost use Rattle.std.specs.Prelude.{◌≡◌, Option, Some, None, IfOk, IfErr, map, length, not, slice_get, if◌then◌else◌, codes, ◌&&◌};
+ghost use Rattle.std.specs.Prelude.{◌≡◌, ◌⊎◌, Option, Some, None, IfOk, IfErr, map, length, not, slice_get, if◌then◌else◌, codes, ◌&&◌};
 ghost use Rattle.std.specs.Option.{option_map};
 ghost use Rattle.syntax.specs.Expressions.{spelled};
-ghost use Rattle.syntax.specs.Declarations.{function_of, declaration_of, declarations_of, syntax_of};
+ghost use Rattle.syntax.specs.Declarations.{function as function_item, function_of, declaration_of, declarations_of, syntax_of};
 ghost use Rattle.typed.specs.View.{func_of, program_of};
 ghost use Rattle.typed.specs.Form.{IsInForm};
 ghost use Rattle.typed.specs.Syntax.{Program as ProgramOf};
-ghost use Rattle.expression_types.specs.Profile.{is_main};
-ghost use Rattle.expression_types.specs.Scope.{scope_of, declaration};
+ghost use Rattle.expression_types.specs.Universe.{is_main};
+ghost use Rattle.expression_types.specs.Scope.{scope_of, declaration, beginning};
 ghost use Rattle.expression_types.specs.Least.{IsLeast};
 ghost use Rattle.expression_types.specs.Faults.{fault as fault_at, IsFault, FormFails};
 ghost use Rattle.expression_types.specs.declared.fault.FaultKind.TheVariants.{NoMain};
-ghost use Rattle.types_go.specs.Functions.{number_of, is_plain, plain_number, is_external, functions_in, functions, declarations_in, package_scope, main_number};
+ghost use Rattle.package_constants.specs.Constants.{items_in, settled};
+ghost use Rattle.package_constants.specs.ConstantFaults.{ConstantsFail};
+ghost use Rattle.types_go.specs.Functions.{number_of, is_init, is_plain, plain_number, is_external, with_items, functions_in, functions, heads_of, numbered_functions, package_scope, main_number};
 ghost use Rattle.types_go.specs.StatementFaults.{fault_where};
-ghost use Rattle.types_go.specs.FunctionFaults.{external_name_fault, DeclarationFails, DeclarationsFail, FailsIn, first_byte};
+ghost use Rattle.types_go.specs.FunctionFaults.{init_fault, external_name_fault, DeclarationFails, DeclarationsFail, FailsIn, first_byte};
 ghost use Rattle.types_go.specs.Passing.{AreAt};
 ghost use Rattle.types_go.specs.Checked.{Types, Reports, OnlyProgram, sites_in, strings_in, function_places};
 
 use crate::declaring::fault_where;
 use crate::functions::check_functions;
-use crate::signatures::{add_items, is_external, is_external_at};
+use crate::signatures::{add_heads, add_items, is_external, is_external_at, is_init};
 use crate::slots::has_some;
 use base::{FuncId, NoMemory, Pos};
 use expression_types::{
     Declared, Fault, FaultKind, Scope, TypeFault, beginning, declaration, is_main, lesser, spelled,
 };
+use package_constants::{constants_fault, settle};
 use std::alloc::Global;
 use syntax::{Decl, Func, Name, Tree};
 use typed::{Program, Site};
@@ -47,8 +50,14 @@ fn is_plain(f: &Func) -> bool
 }
 
 /// Whether there is a function of a number, and has no parameters and results.
-fn is_plain_at(alloc: Global, text: &[u8], decls: &[Decl], number: usize) -> Result<bool, NoMemory>
-    ensures { IfOk result (λ b. b ≡ is_plain (slice_get (functions_in text.now (declarations_of decls.now)) number)) }
+fn is_plain_at(
+    alloc: Global,
+    text: &[u8],
+    heads: &Scope,
+    decls: &[Decl],
+    number: usize,
+) -> Result<bool, NoMemory>
+    ensures { IfOk result (λ b. b ≡ is_plain (slice_get (functions_in text.now (scope_of heads.now) (declarations_of decls.now)) number)) }
 {
     let mut before = number;
     for decl in decls {
@@ -57,7 +66,7 @@ fn is_plain_at(alloc: Global, text: &[u8], decls: &[Decl], number: usize) -> Res
             Decl::Var(_, _) => {}
             Decl::Type(_, _) => {}
             Decl::Func(f) => {
-                if !is_external(alloc, text, f)? {
+                if !is_external(alloc, text, heads, f)? {
                     if before == 0 {
                         return Ok(is_plain(f));
                     }
@@ -73,15 +82,16 @@ fn is_plain_at(alloc: Global, text: &[u8], decls: &[Decl], number: usize) -> Res
 fn plain_number(
     alloc: Global,
     text: &[u8],
+    heads: &Scope,
     decls: &[Decl],
     function: Option<FuncId>,
 ) -> Result<Option<FuncId>, NoMemory>
-    ensures { IfOk result (λ r. option_map (λ f. f.0) r ≡ plain_number (functions_in text.now (declarations_of decls.now)) (option_map (λ f. f.0) function)) }
+    ensures { IfOk result (λ r. option_map (λ f. f.0) r ≡ plain_number (functions_in text.now (scope_of heads.now) (declarations_of decls.now)) (option_map (λ f. f.0) function)) }
 {
     let Some(function) = function else {
         return Ok(None);
     };
-    if is_plain_at(alloc, text, decls, function.0 as usize)? {
+    if is_plain_at(alloc, text, heads, decls, function.0 as usize)? {
         Ok(Some(function))
     } else {
         Ok(None)
@@ -92,15 +102,16 @@ fn plain_number(
 fn main_number(
     alloc: Global,
     text: &[u8],
+    heads: &Scope,
     scope: &Scope,
     package_name: Name,
     decls: &[Decl],
 ) -> Result<Option<FuncId>, NoMemory>
-    ensures { IfOk result (λ r. option_map (λ f. f.0) r ≡ (if is_main (spelled text.now package_name) then plain_number (functions_in text.now (declarations_of decls.now)) (number_of (declaration (scope_of scope.now) (codes "main"))) else None)) }
+    ensures { IfOk result (λ r. option_map (λ f. f.0) r ≡ (if is_main (spelled text.now package_name) then plain_number (functions_in text.now (scope_of heads.now) (declarations_of decls.now)) (number_of (declaration (scope_of scope.now) (codes "main"))) else None)) }
 {
     if is_main(spelled(text, package_name)) {
         let function = number_of(declaration(scope, "main".as_bytes()));
-        plain_number(alloc, text, decls, function)
+        plain_number(alloc, text, heads, decls, function)
     } else {
         Ok(None)
     }
@@ -128,34 +139,63 @@ fn external_name_fault(is_external: bool, declared: Option<Declared>, pos: Pos) 
     fault_where(is_external && !is_external_at(pos, declared), own)
 }
 
+/// The fault of a function of the name `init`, at its word.
+#[tactic(auto, using(expression_types::proofs::Leasts::leaf))]
+fn init_fault(text: &[u8], f: &Func) -> Option<Fault>
+    ensures { IsLeast (IsFault (init_fault (is_init (spelled text.now f.now.name)) f.now.pos)) result }
+{
+    let own = Fault {
+        kind: FaultKind::OutOfProfile,
+        pos: f.pos,
+    };
+    fault_where(is_init(spelled(text, f.name)), own)
+}
+
 /// The fault of a function without a body, behind another declaration of its name.
+#[tactic(auto, using(expression_types::proofs::Leasts::leaf))]
 fn external_fault(
     alloc: Global,
     text: &[u8],
+    heads: &Scope,
     scope: &Scope,
     f: &Func,
 ) -> Result<Option<Fault>, NoMemory>
-    ensures { IfOk result (λ r. r ≡ external_name_fault (is_external text.now (function_of f.now)) (declaration (scope_of scope.now) (spelled text.now f.now.name)) f.now.name.pos) }
+    ensures { IfOk result (λ r. IsLeast (IsFault (external_name_fault (is_external text.now (scope_of heads.now) (function_of f.now)) (declaration (scope_of scope.now) (spelled text.now f.now.name)) f.now.name.pos)) r) }
 {
-    let is_external = is_external(alloc, text, f)?;
+    let is_external = is_external(alloc, text, heads, f)?;
     let declared = declaration(scope, spelled(text, f.name));
     Ok(external_name_fault(is_external, declared, f.name.pos))
+}
+
+/// The fault of a function as a declaration.
+fn function_fault(
+    alloc: Global,
+    text: &[u8],
+    heads: &Scope,
+    scope: &Scope,
+    f: &Func,
+) -> Result<Option<Fault>, NoMemory>
+    ensures { IfOk result (λ r. IsLeast (DeclarationFails text.now (scope_of heads.now) (scope_of scope.now) (function_item (function_of f.now))) r) }
+{
+    let external = external_fault(alloc, text, heads, scope, f)?;
+    Ok(lesser(init_fault(text, f), external))
 }
 
 /// The fault of a declaration at the level of the package.
 fn declaration_fault(
     alloc: Global,
     text: &[u8],
+    heads: &Scope,
     scope: &Scope,
     decl: &Decl,
 ) -> Result<Option<Fault>, NoMemory>
-    ensures { IfOk result (λ r. IsLeast (DeclarationFails text.now (scope_of scope.now) (declaration_of decl.now)) r) }
+    ensures { IfOk result (λ r. IsLeast (DeclarationFails text.now (scope_of heads.now) (scope_of scope.now) (declaration_of decl.now)) r) }
 {
     match decl {
-        Decl::Const(pos, _) => Ok(left_out(*pos)),
+        Decl::Const(_, _) => Ok(None),
         Decl::Var(pos, _) => Ok(left_out(*pos)),
         Decl::Type(pos, _) => Ok(left_out(*pos)),
-        Decl::Func(f) => external_fault(alloc, text, scope, f),
+        Decl::Func(f) => function_fault(alloc, text, heads, scope, f),
     }
 }
 
@@ -163,17 +203,33 @@ fn declaration_fault(
 fn declaration_faults(
     alloc: Global,
     text: &[u8],
+    heads: &Scope,
     scope: &Scope,
     decls: &[Decl],
 ) -> Result<Option<Fault>, NoMemory>
-    ensures { IfOk result (λ r. IsLeast (DeclarationsFail text.now (scope_of scope.now) (declarations_of decls.now)) r) }
+    ensures { IfOk result (λ r. IsLeast (DeclarationsFail text.now (scope_of heads.now) (scope_of scope.now) (declarations_of decls.now)) r) }
 {
     let mut fault = None;
     for decl in decls {
-        let own = declaration_fault(alloc, text, scope, decl)?;
+        let own = declaration_fault(alloc, text, heads, scope, decl)?;
         fault = lesser(fault, own);
     }
     Ok(fault)
+}
+
+/// The fault of the package block: of the forms of its declarations, or of its constants.
+fn package_fault(
+    alloc: Global,
+    text: &[u8],
+    heads: &Scope,
+    scope: &Scope,
+    decls: &[Decl],
+) -> Result<Option<Fault>, NoMemory>
+    ensures { IfOk result (λ r. IsLeast (λ f. DeclarationsFail text.now (scope_of heads.now) (scope_of scope.now) (declarations_of decls.now) f ⊎ ConstantsFail text.now (scope_of scope.now) (declarations_of decls.now) f) r) }
+{
+    let forms = declaration_faults(alloc, text, heads, scope, decls)?;
+    let constants = constants_fault(alloc, text, scope, decls)?;
+    Ok(lesser(forms, constants))
 }
 
 /// The fault of a package without a function `main`.
@@ -192,6 +248,21 @@ fn no_main_fault(is_absent: bool) -> Option<Fault>
     fault_where(is_absent, own)
 }
 
+/// The package block, where the constants are known that can be.
+fn package_block(
+    alloc: Global,
+    text: &[u8],
+    heads: &Scope,
+    decls: &[Decl],
+) -> Result<Scope, NoMemory>
+    ensures { IfOk result (λ s. scope_of s ≡ settled text.now (with_items text.now (scope_of heads.now) beginning (declarations_of decls.now)) (items_in (declarations_of decls.now))) }
+{
+    let mut scope = beginning(alloc);
+    add_items(alloc, text, heads, &mut scope, decls)?;
+    settle(alloc, text, &mut scope, decls)?;
+    Ok(scope)
+}
+
 /// What the pass over a tree finds: the number of `main`, the typed functions, where all have a typed form, the sites, the strings,
 /// and the fault.
 #[derive(Drop)]
@@ -206,7 +277,7 @@ struct Passed {
 /// The pass over a tree.
 fn pass(alloc: Global, tree: &Tree) -> Result<Passed, NoMemory>
     ensures main { IfOk result (λ r. option_map (λ f. f.0) r.main ≡ main_number (syntax_of tree.now)) }
-    ensures funcs { IfOk result (λ r. option_map (λ v. map func_of v.items) r.funcs ≡ functions (syntax_of tree.now).text (package_scope (syntax_of tree.now)) 0 (functions_in (syntax_of tree.now).text (declarations_in (syntax_of tree.now)))) }
+    ensures funcs { IfOk result (λ r. option_map (λ v. map func_of v.items) r.funcs ≡ functions (syntax_of tree.now).text (heads_of (syntax_of tree.now)) (package_scope (syntax_of tree.now)) 0 (numbered_functions (syntax_of tree.now))) }
     ensures sites { IfOk result (λ r. r.sites.items ≡ sites_in (syntax_of tree.now)) }
     ensures strings { IfOk result (λ r. map (λ string. string.items) r.strings.items ≡ strings_in (syntax_of tree.now)) }
     ensures places { IfOk result (λ r. AreAt (function_places (syntax_of tree.now)) (option_map (λ v. v.items) r.funcs)) }
@@ -214,11 +285,12 @@ fn pass(alloc: Global, tree: &Tree) -> Result<Passed, NoMemory>
 {
     let text: &[u8] = &tree.text;
     let decls: &[Decl] = &tree.decls;
-    let mut scope = beginning(alloc);
-    add_items(alloc, text, &mut scope, decls)?;
-    let main = main_number(alloc, text, &scope, tree.package, decls)?;
-    let declared = declaration_faults(alloc, text, &scope, decls)?;
-    let checked = check_functions(alloc, text, &mut scope, decls)?;
+    let mut heads = beginning(alloc);
+    add_heads(text, &mut heads, decls)?;
+    let mut scope = package_block(alloc, text, &heads, decls)?;
+    let main = main_number(alloc, text, &heads, &scope, tree.package, decls)?;
+    let declared = package_fault(alloc, text, &heads, &scope, decls)?;
+    let checked = check_functions(alloc, text, &heads, &mut scope, decls)?;
     let main_fault = no_main_fault(main.is_none());
     let others = lesser(declared, checked.fault);
     Ok(Passed {

@@ -6,7 +6,7 @@ ghost use Rattle.syntax.specs.Expressions.{spelled, ex_of as tree_of, exs_of as 
 ghost use Rattle.syntax.specs.FirstBytes.{first_place};
 ghost use Rattle.typed.specs.View.{left_of as left_view};
 ghost use Rattle.expression_types.specs.Least.{IsLeast};
-ghost use Rattle.expression_types.specs.Profile.{is_blank, is_reserved};
+ghost use Rattle.expression_types.specs.Universe.{is_blank};
 ghost use Rattle.expression_types.specs.Scope.{scope_of, declaration, is_here};
 ghost use Rattle.expression_types.specs.Typing.{name_in, gives};
 ghost use Rattle.expression_types.specs.Faults.{fault as fault_at, IsFault};
@@ -19,7 +19,7 @@ use crate::slots::Slot;
 use base::{NoMemory, Pos, SiteId};
 use expression_types::{
     Declared, Fault, FaultKind, Gives, Scope, ValueType, check_expr, declaration, declare_variable,
-    is_blank, is_here, is_reserved, lesser, name_in, site_behind, spelled,
+    is_blank, is_here, lesser, name_in, site_behind, spelled,
 };
 use names::Block;
 use std::alloc::Global;
@@ -60,41 +60,27 @@ fn variable_type(declared: Option<Declared>) -> Option<ValueType>
     }
 }
 
-fn left_of(blank: bool, reserved: bool, declared: Option<Declared>) -> Option<Left>
-    ensures { option_map left_view result ≡ left_of blank reserved declared }
+fn left_of(blank: bool, declared: Option<Declared>) -> Option<Left>
+    ensures { option_map left_view result ≡ left_of blank declared }
 {
     if blank {
         Some(Left::Blank)
-    } else if reserved {
-        None
     } else {
         target(declared)
     }
 }
 
-fn wanted_of(blank: bool, reserved: bool, declared: Option<Declared>) -> Option<ValueType>
-    ensures { result ≡ wanted_of blank reserved declared }
+fn wanted_of(blank: bool, declared: Option<Declared>) -> Option<ValueType>
+    ensures { result ≡ wanted_of blank declared }
 {
-    if blank || reserved {
-        None
-    } else {
-        variable_type(declared)
-    }
+    if blank { None } else { variable_type(declared) }
 }
 
-fn new_left_of(
-    blank: bool,
-    reserved: bool,
-    here: bool,
-    declared: Option<Declared>,
-    site: SiteId,
-) -> Option<Left>
-    ensures { option_map left_view result ≡ new_left_of blank reserved here declared site.0 }
+fn new_left_of(blank: bool, here: bool, declared: Option<Declared>, site: SiteId) -> Option<Left>
+    ensures { option_map left_view result ≡ new_left_of blank here declared site.0 }
 {
     if blank {
         Some(Left::Blank)
-    } else if reserved {
-        None
     } else if here {
         target(declared)
     } else {
@@ -102,16 +88,11 @@ fn new_left_of(
     }
 }
 
-fn new_wanted_of(
-    blank: bool,
-    reserved: bool,
-    here: bool,
-    declared: Option<Declared>,
-) -> Option<ValueType>
-    ensures { result ≡ new_wanted_of blank reserved here declared }
+fn new_wanted_of(blank: bool, here: bool, declared: Option<Declared>) -> Option<ValueType>
+    ensures { result ≡ new_wanted_of blank here declared }
 {
     if here {
-        wanted_of(blank, reserved, declared)
+        wanted_of(blank, declared)
     } else {
         None
     }
@@ -129,50 +110,29 @@ fn with_left(lefts: Option<Vec<Left>>, left: Option<Left>) -> Result<Option<Vec<
     }
 }
 
-pub fn left_fault_of(
-    blank: bool,
-    reserved: bool,
-    declared: Option<Declared>,
-    pos: Pos,
-    whole: Pos,
-) -> Option<Fault>
-    ensures { result ≡ left_fault blank reserved declared pos whole }
+pub fn left_fault_of(blank: bool, declared: Option<Declared>, pos: Pos, whole: Pos) -> Option<Fault>
+    ensures { result ≡ left_fault blank declared pos whole }
 {
     if blank {
         return None;
     }
-    let (kind, pos) = if reserved {
-        (FaultKind::OutOfProfile, pos)
-    } else {
-        match declared {
-            None => (FaultKind::Unknown, pos),
-            Some(Declared::Function(_)) => (FaultKind::NotAssignable, whole),
-            Some(Declared::External(_, _)) => (FaultKind::NotAssignable, whole),
-            Some(Declared::TypeName) => (FaultKind::BadOperand, pos),
-            Some(_) => return None,
-        }
+    let (kind, pos) = match declared {
+        None => (FaultKind::Unknown, pos),
+        Some(Declared::Variable(_, _) | Declared::Untyped) => return None,
+        Some(Declared::TypeName | Declared::Type(_)) => (FaultKind::BadOperand, pos),
+        Some(Declared::LeftOutType | Declared::LeftOutValue) => (FaultKind::OutOfProfile, pos),
+        Some(_) => (FaultKind::NotAssignable, whole),
     };
     Some(Fault { kind, pos })
 }
 
-fn new_name_fault_of(
-    blank: bool,
-    reserved: bool,
-    here: bool,
-    declared: Option<Declared>,
-    pos: Pos,
-) -> Option<Fault>
-    ensures { result ≡ new_name_fault blank reserved here declared pos }
+fn new_name_fault_of(blank: bool, here: bool, declared: Option<Declared>, pos: Pos) -> Option<Fault>
+    ensures { result ≡ new_name_fault blank here declared pos }
 {
     if blank {
         None
-    } else if reserved {
-        Some(Fault {
-            kind: FaultKind::OutOfProfile,
-            pos,
-        })
     } else if here {
-        left_fault_of(false, false, declared, pos, pos)
+        left_fault_of(false, declared, pos, pos)
     } else {
         None
     }
@@ -189,11 +149,7 @@ fn name_left(text: &[u8], scope: &Scope, name: Name) -> Option<Left>
     ensures { option_map left_view result ≡ left text.now (scope_of scope.now) (Some name) }
 {
     let bytes = spelled(text, name);
-    left_of(
-        is_blank(bytes),
-        is_reserved(bytes),
-        declaration(scope, bytes),
-    )
+    left_of(is_blank(bytes), declaration(scope, bytes))
 }
 
 /// A left side of a `=`.
@@ -210,11 +166,7 @@ fn name_wanted(text: &[u8], scope: &Scope, name: Name) -> Option<ValueType>
     ensures { result ≡ wanted text.now (scope_of scope.now) (Some name) }
 {
     let bytes = spelled(text, name);
-    wanted_of(
-        is_blank(bytes),
-        is_reserved(bytes),
-        declaration(scope, bytes),
-    )
+    wanted_of(is_blank(bytes), declaration(scope, bytes))
 }
 
 /// The type that a left side of a `=` asks for.
@@ -246,16 +198,10 @@ pub fn all_wanted(
 /// The fault of a name as a left side, which begins at a place.
 #[tactic(auto, using(expression_types::proofs::Leasts::leaf))]
 fn name_left_fault(text: &[u8], scope: &Scope, name: Name, whole: Pos) -> Option<Fault>
-    ensures { IsLeast (IsFault (left_fault (is_blank (spelled text.now name)) (is_reserved (spelled text.now name)) (declaration (scope_of scope.now) (spelled text.now name)) name.pos whole)) result }
+    ensures { IsLeast (IsFault (left_fault (is_blank (spelled text.now name)) (declaration (scope_of scope.now) (spelled text.now name)) name.pos whole)) result }
 {
     let bytes = spelled(text, name);
-    left_fault_of(
-        is_blank(bytes),
-        is_reserved(bytes),
-        declaration(scope, bytes),
-        name.pos,
-        whole,
-    )
+    left_fault_of(is_blank(bytes), declaration(scope, bytes), name.pos, whole)
 }
 
 /// The fault of a left side that is no name and gives something.
@@ -327,7 +273,6 @@ fn new_left(text: &[u8], scope: &Scope, before: usize, name: Name) -> Result<Opt
     let site = site_behind(scope, before)?;
     Ok(new_left_of(
         is_blank(bytes),
-        is_reserved(bytes),
         is_here(scope, bytes),
         declaration(scope, bytes),
         site,
@@ -340,7 +285,6 @@ fn new_wanted(text: &[u8], scope: &Scope, name: Name) -> Option<ValueType>
     let bytes = spelled(text, name);
     new_wanted_of(
         is_blank(bytes),
-        is_reserved(bytes),
         is_here(scope, bytes),
         declaration(scope, bytes),
     )
@@ -367,7 +311,7 @@ fn declares(text: &[u8], scope: &Scope, name: Name) -> bool
     ensures { result ≡ declares (scope_of scope.now) (spelled text.now name) }
 {
     let bytes = spelled(text, name);
-    !is_reserved(bytes) && !is_here(scope, bytes)
+    !is_blank(bytes) && !is_here(scope, bytes)
 }
 
 /// The number of new sites so far, and that of one more, where there is one.
@@ -385,12 +329,11 @@ fn next_count(declared: bool, count: usize) -> Result<usize, NoMemory>
 
 #[tactic(auto, using(expression_types::proofs::Leasts::leaf))]
 fn new_name_fault(text: &[u8], scope: &Scope, name: Name) -> Option<Fault>
-    ensures { IsLeast (IsFault (new_name_fault (is_blank (spelled text.now name)) (is_reserved (spelled text.now name)) (is_here (scope_of scope.now) (spelled text.now name)) (declaration (scope_of scope.now) (spelled text.now name)) name.pos)) result }
+    ensures { IsLeast (IsFault (new_name_fault (is_blank (spelled text.now name)) (is_here (scope_of scope.now) (spelled text.now name)) (declaration (scope_of scope.now) (spelled text.now name)) name.pos)) result }
 {
     let bytes = spelled(text, name);
     new_name_fault_of(
         is_blank(bytes),
-        is_reserved(bytes),
         is_here(scope, bytes),
         declaration(scope, bytes),
         name.pos,

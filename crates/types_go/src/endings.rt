@@ -3,10 +3,11 @@
 ghost use Rattle.std.specs.Prelude.{◌≡◌, false};
 ghost use Rattle.syntax.specs.Expressions.{ex_of as tree_of};
 ghost use Rattle.syntax.specs.Statements.{simple_of, clause_of, stm_of, stms_of, els_of};
+ghost use Rattle.expression_types.specs.Scope.{scope_of};
 ghost use Rattle.expression_types.specs.Typing.{name_in};
 ghost use Rattle.types_go.specs.Statements.{is_endless, is_panic, leaves, leaves_else, leaves_any, names_panic, panics, ends_simple, is_terminating, is_terminating_else, ends_after};
 
-use expression_types::{Word, name_in, spelled, word_of};
+use expression_types::{Declared, Scope, declaration, name_in, spelled};
 use syntax::{Clause, Else, Expr, Name, Simple, Stmt};
 
 /// Whether a loop has no condition.
@@ -62,44 +63,44 @@ fn leaves_any(ms: &[Stmt]) -> bool
     any
 }
 
-fn is_panic(word: Word) -> bool
-    ensures { result ≡ is_panic word }
+fn is_panic(declared: Option<Declared>) -> bool
+    ensures { result ≡ is_panic declared }
 {
-    match word {
-        Word::Panic => true,
+    match declared {
+        Some(Declared::Panic) => true,
         _ => false,
     }
 }
 
-fn names_panic(text: &[u8], name: Option<Name>) -> bool
-    ensures { result ≡ names_panic text.now name }
+fn names_panic(text: &[u8], scope: &Scope, name: Option<Name>) -> bool
+    ensures { result ≡ names_panic text.now (scope_of scope.now) name }
 {
     match name {
-        Some(name) => is_panic(word_of(spelled(text, name))),
+        Some(name) => is_panic(declaration(scope, spelled(text, name))),
         None => false,
     }
 }
 
-/// Whether an expression is a call of `panic`, in parentheses or not.
+/// Whether an expression is a call of the built-in `panic`, in parentheses or not.
 #[tactic(auto, using(syntax::proofs::Views::expr_rows))]
-fn panics(text: &[u8], e: &Expr) -> bool
-    ensures { result ≡ panics text.now (tree_of e.now) }
+fn panics(text: &[u8], scope: &Scope, e: &Expr) -> bool
+    ensures { result ≡ panics text.now (scope_of scope.now) (tree_of e.now) }
 {
     match e {
-        Expr::Call(function, _, _) => names_panic(text, name_in(function)),
+        Expr::Call(function, _, _) => names_panic(text, scope, name_in(function)),
         Expr::Paren(_, inner) => {
             let inner: &Expr = inner;
-            panics(text, inner)
+            panics(text, scope, inner)
         }
         _ => false,
     }
 }
 
-fn ends_simple(text: &[u8], simple: &Simple) -> bool
-    ensures { result ≡ ends_simple text.now (simple_of simple.now) }
+fn ends_simple(text: &[u8], scope: &Scope, simple: &Simple) -> bool
+    ensures { result ≡ ends_simple text.now (scope_of scope.now) (simple_of simple.now) }
 {
     match simple {
-        Simple::Express(e) => panics(text, e),
+        Simple::Express(e) => panics(text, scope, e),
         _ => false,
     }
 }
@@ -107,44 +108,44 @@ fn ends_simple(text: &[u8], simple: &Simple) -> bool
 /// Whether a statement is terminating (Go specification, "Terminating statements").
 #[cycle(endings)]
 #[tactic(auto, using(syntax::proofs::Views::stmt_rows))]
-fn is_terminating(text: &[u8], s: &Stmt) -> bool
-    ensures { result ≡ is_terminating text.now (stm_of s.now) }
+fn is_terminating(text: &[u8], scope: &Scope, s: &Stmt) -> bool
+    ensures { result ≡ is_terminating text.now (scope_of scope.now) (stm_of s.now) }
 {
     match s {
         Stmt::Return(_, _) => true,
-        Stmt::Simple(simple) => ends_simple(text, simple),
+        Stmt::Simple(simple) => ends_simple(text, scope, simple),
         Stmt::If(_, _, body, rest) => {
-            ends_in_terminating(text, body) && is_terminating_else(text, rest)
+            ends_in_terminating(text, scope, body) && is_terminating_else(text, scope, rest)
         }
         Stmt::For(_, clause, body) => is_endless(clause) && !leaves_any(body),
-        Stmt::Block(body) => ends_in_terminating(text, body),
+        Stmt::Block(body) => ends_in_terminating(text, scope, body),
         _ => false,
     }
 }
 
 #[cycle(endings)]
 #[tactic(auto, using(syntax::proofs::Views::stmt_rows))]
-fn is_terminating_else(text: &[u8], e: &Else) -> bool
-    ensures { result ≡ is_terminating_else text.now (els_of e.now) }
+fn is_terminating_else(text: &[u8], scope: &Scope, e: &Else) -> bool
+    ensures { result ≡ is_terminating_else text.now (scope_of scope.now) (els_of e.now) }
 {
     match e {
         Else::Absent => false,
-        Else::Block(body) => ends_in_terminating(text, body),
+        Else::Block(body) => ends_in_terminating(text, scope, body),
         Else::If(_, _, body, rest) => {
             let rest: &Else = rest;
-            ends_in_terminating(text, body) && is_terminating_else(text, rest)
+            ends_in_terminating(text, scope, body) && is_terminating_else(text, scope, rest)
         }
     }
 }
 
-/// Whether statements end in a terminating one.
+/// Whether statements end in a terminating one, in the scope around their function.
 #[cycle(endings)]
-pub fn ends_in_terminating(text: &[u8], ms: &[Stmt]) -> bool
-    ensures { result ≡ ends_after text.now false (stms_of ms.now) }
+pub fn ends_in_terminating(text: &[u8], scope: &Scope, ms: &[Stmt]) -> bool
+    ensures { result ≡ ends_after text.now (scope_of scope.now) false (stms_of ms.now) }
 {
     let mut ends = false;
     for s in ms {
-        ends = is_terminating(text, s);
+        ends = is_terminating(text, scope, s);
     }
     ends
 }

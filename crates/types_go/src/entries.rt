@@ -5,7 +5,7 @@ ghost use Rattle.std.specs.Option.{option_map};
 ghost use Rattle.syntax.specs.Expressions.{spelled};
 ghost use Rattle.typed.specs.View.{site_in, left_of as left_view};
 ghost use Rattle.expression_types.specs.Least.{IsLeast};
-ghost use Rattle.expression_types.specs.Profile.{is_blank, is_reserved};
+ghost use Rattle.expression_types.specs.Universe.{is_blank};
 ghost use Rattle.expression_types.specs.Scope.{scope_of, is_here};
 ghost use Rattle.expression_types.specs.Passing.{with_last};
 ghost use Rattle.types_go.specs.Entries.{entry_of, entry_left, sites_of, named_entry, entry_in, behind_entry_name, behind_entry, entries, behind_entries};
@@ -15,8 +15,8 @@ ghost use Rattle.expression_types.specs.Faults.{IsFault};
 use crate::slots::Slot;
 use base::{NoMemory, Pos, SiteId};
 use expression_types::{
-    Fault, FaultKind, Scope, ValueType, declare_variable, is_blank, is_here, is_reserved, lesser,
-    next_site, spelled,
+    Fault, FaultKind, Scope, ValueType, declare_variable, is_blank, is_here, lesser, next_site,
+    spelled,
 };
 use std::alloc::Global;
 use syntax::Name;
@@ -36,19 +36,13 @@ pub struct Entries {
     pub fault: Option<Fault>,
 }
 
-fn entry_of(
-    role: Role,
-    blank: bool,
-    reserved: bool,
-    here: bool,
-    site: SiteId,
-) -> Option<Option<SiteId>>
-    ensures { option_map site_in result ≡ entry_of role blank reserved here site.0 }
+fn entry_of(role: Role, blank: bool, here: bool, site: SiteId) -> Option<Option<SiteId>>
+    ensures { option_map site_in result ≡ entry_of role blank here site.0 }
 {
     match role {
         Role::Parameter if blank => Some(None),
         _ => {
-            if blank || reserved || here {
+            if blank || here {
                 None
             } else {
                 Some(Some(site))
@@ -57,13 +51,13 @@ fn entry_of(
     }
 }
 
-fn named_fault_of(role: Role, blank: bool, reserved: bool, here: bool, pos: Pos) -> Option<Fault>
-    ensures { result ≡ named_fault role blank reserved here pos }
+fn named_fault_of(role: Role, blank: bool, here: bool, pos: Pos) -> Option<Fault>
+    ensures { result ≡ named_fault role blank here pos }
 {
     let kind = match role {
         Role::Parameter if blank => return None,
         _ => {
-            if blank || reserved {
+            if blank {
                 FaultKind::OutOfProfile
             } else if here {
                 FaultKind::Redeclared
@@ -85,13 +79,7 @@ fn named_entry(
 {
     let bytes = spelled(text, name);
     let site = next_site(scope)?;
-    Ok(entry_of(
-        role,
-        is_blank(bytes),
-        is_reserved(bytes),
-        is_here(scope, bytes),
-        site,
-    ))
+    Ok(entry_of(role, is_blank(bytes), is_here(scope, bytes), site))
 }
 
 fn entry_in(
@@ -110,16 +98,10 @@ fn entry_in(
 
 #[tactic(auto, using(expression_types::proofs::Leasts::leaf))]
 fn named_fault(text: &[u8], scope: &Scope, role: Role, name: Name) -> Option<Fault>
-    ensures { IsLeast (IsFault (named_fault role (is_blank (spelled text.now name)) (is_reserved (spelled text.now name)) (is_here (scope_of scope.now) (spelled text.now name)) name.pos)) result }
+    ensures { IsLeast (IsFault (named_fault role (is_blank (spelled text.now name)) (is_here (scope_of scope.now) (spelled text.now name)) name.pos)) result }
 {
     let bytes = spelled(text, name);
-    named_fault_of(
-        role,
-        is_blank(bytes),
-        is_reserved(bytes),
-        is_here(scope, bytes),
-        name.pos,
-    )
+    named_fault_of(role, is_blank(bytes), is_here(scope, bytes), name.pos)
 }
 
 fn entry_fault(text: &[u8], scope: &Scope, role: Role, name: Option<Name>) -> Option<Fault>
@@ -143,7 +125,7 @@ fn declare_entry_name(
         return Ok(());
     };
     let bytes = spelled(text, name);
-    if !is_reserved(bytes) && !is_here(scope, bytes) {
+    if !is_blank(bytes) && !is_here(scope, bytes) {
         declare_variable(scope, bytes, name.pos, value_type)
     } else {
         Ok(())

@@ -8,7 +8,7 @@ ghost use Rattle.syntax.specs.Expressions.{spelled};
 ghost use Rattle.syntax.specs.Declarations.{parameters_of, body_of, function_of, declarations_of};
 ghost use Rattle.typed.specs.View.{site_in, func_of, sts_of};
 ghost use Rattle.expression_types.specs.Least.{IsLeast};
-ghost use Rattle.expression_types.specs.Profile.{is_blank, is_predeclared};
+ghost use Rattle.expression_types.specs.Universe.{is_blank};
 ghost use Rattle.expression_types.specs.Scope.{scope_of, declaration, is_here};
 ghost use Rattle.expression_types.specs.Typing.{allowed};
 ghost use Rattle.expression_types.specs.Faults.{fault as fault_at, IsFault};
@@ -31,8 +31,8 @@ use crate::slots::{Slot, has_some, is_named, slot_types, slots_of, types_fault};
 use crate::statements::Returns;
 use base::{NoMemory, Pos, SiteId, TypeId};
 use expression_types::{
-    Fault, FaultKind, Scope, ValueType, close, declaration, is_blank, is_predeclared, lesser, open,
-    site_count, spelled,
+    Fault, FaultKind, Scope, ValueType, close, declaration, is_blank, lesser, open, site_count,
+    spelled,
 };
 use std::alloc::Global;
 use syntax::{Body, Decl, Func, Name, Params};
@@ -70,25 +70,19 @@ fn returns_of(alloc: Global, results: &Params, slots: &[Slot]) -> Result<Returns
     })
 }
 
-fn may_end(text: &[u8], f: &Func, body: &Body) -> bool
-    ensures { result ≡ may_end text.now (function_of f.now) (body_of body.now) }
+fn may_end(text: &[u8], heads: &Scope, scope: &Scope, f: &Func, body: &Body) -> bool
+    ensures { result ≡ may_end text.now (scope_of heads.now) (scope_of scope.now) (function_of f.now) (body_of body.now) }
 {
-    !has_some(&f.results) || ends_in_terminating(text, &body.statements)
+    !has_some(&f.results) || ends_in_terminating(text, scope, &body.statements)
 }
 
 /// The fault of the name of a function of a number.
 #[tactic(auto, using(expression_types::proofs::Leasts::leaf))]
 fn name_fault(text: &[u8], scope: &Scope, number: usize, name: Name) -> Option<Fault>
-    ensures { IsLeast (IsFault (function_name_fault number (is_blank (spelled text.now name)) (is_predeclared (spelled text.now name)) (declaration (scope_of scope.now) (spelled text.now name)) name.pos)) result }
+    ensures { IsLeast (IsFault (function_name_fault number (is_blank (spelled text.now name)) (declaration (scope_of scope.now) (spelled text.now name)) name.pos)) result }
 {
     let bytes = spelled(text, name);
-    function_name_fault(
-        number,
-        is_blank(bytes),
-        is_predeclared(bytes),
-        declaration(scope, bytes),
-        name.pos,
-    )
+    function_name_fault(number, is_blank(bytes), declaration(scope, bytes), name.pos)
 }
 
 /// The fault of a function behind too many others.
@@ -104,15 +98,10 @@ fn number_fault(number: usize, pos: Pos) -> Option<Fault>
 }
 
 fn has_head(text: &[u8], scope: &Scope, number: usize, name: Name) -> bool
-    ensures { result ≡ (may_be_named number (is_blank (spelled text.now name)) (is_predeclared (spelled text.now name)) (declaration (scope_of scope.now) (spelled text.now name)) && nat_lt number 4096) }
+    ensures { result ≡ (may_be_named number (is_blank (spelled text.now name)) (declaration (scope_of scope.now) (spelled text.now name)) && nat_lt number 4096) }
 {
     let bytes = spelled(text, name);
-    may_be_named(
-        number,
-        is_blank(bytes),
-        is_predeclared(bytes),
-        declaration(scope, bytes),
-    ) && number < 4096
+    may_be_named(number, is_blank(bytes), declaration(scope, bytes)) && number < 4096
 }
 
 /// The name and the number of a function.
@@ -130,13 +119,13 @@ fn check_head(text: &[u8], scope: &Scope, number: usize, f: &Func) -> Part
 }
 
 /// The types of a function's parameters and results, and their words.
-fn check_types(alloc: Global, text: &[u8], scope: &Scope, f: &Func) -> Result<Part, NoMemory>
-    ensures is_allowed { IfOk result (λ p. p.is_allowed ≡ is_small (signature_in text.now (function_of f.now))) }
-    ensures fault { IfOk result (λ p. IsLeast (FailsInTypes text.now (scope_of scope.now) (function_of f.now)) p.fault) }
+fn check_types(alloc: Global, text: &[u8], heads: &Scope, f: &Func) -> Result<Part, NoMemory>
+    ensures is_allowed { IfOk result (λ p. p.is_allowed ≡ is_small (signature_in text.now (scope_of heads.now) (function_of f.now))) }
+    ensures fault { IfOk result (λ p. IsLeast (FailsInTypes text.now (scope_of heads.now) (function_of f.now)) p.fault) }
 {
-    let params_fault = types_fault(text, scope, &f.params);
-    let results_fault = types_fault(text, scope, &f.results);
-    let signature = signature_in(alloc, text, f)?;
+    let params_fault = types_fault(text, heads, &f.params);
+    let results_fault = types_fault(text, heads, &f.results);
+    let signature = signature_in(alloc, text, heads, f)?;
     let own = size_fault(&signature, f.name.pos);
     Ok(Part {
         is_allowed: is_small(&signature),
@@ -215,19 +204,20 @@ fn assemble(
 fn check_parts(
     alloc: Global,
     text: &[u8],
+    heads: &Scope,
     scope: &mut Scope,
     f: &Func,
     body: &Body,
 ) -> Result<Function, NoMemory>
     requires { 0 < length scope.old.names }
-    ensures func { IfOk result (λ r. option_map func_of r.func ≡ parts text.now (scope_of scope.old) (function_of f.now) (body_of body.now)) }
+    ensures func { IfOk result (λ r. option_map func_of r.func ≡ parts text.now (scope_of heads.now) (scope_of scope.old) (function_of f.now) (body_of body.now)) }
     ensures pos { IfOk result (λ r. IsAt f.now.name.pos r.func) }
-    ensures fault { IfOk result (λ r. IsLeast (FailsInParts text.now (scope_of scope.old) (function_of f.now) (body_of body.now)) r.fault) }
-    ensures scope { OnOk result (scope_of scope.new ≡ behind_body text.now (scope_of scope.old) (function_of f.now) (Some (body_of body.now))) }
+    ensures fault { IfOk result (λ r. IsLeast (FailsInParts text.now (scope_of heads.now) (scope_of scope.old) (function_of f.now) (body_of body.now)) r.fault) }
+    ensures scope { OnOk result (scope_of scope.new ≡ behind_body text.now (scope_of heads.now) (scope_of scope.old) (function_of f.now) (Some (body_of body.now))) }
 {
     let first = site_count(scope);
-    let param_slots = slots_of(alloc, text, &f.params)?;
-    let result_slots = slots_of(alloc, text, &f.results)?;
+    let param_slots = slots_of(alloc, text, heads, &f.params)?;
+    let result_slots = slots_of(alloc, text, heads, &f.results)?;
     let returns = returns_of(alloc, &f.results, &result_slots)?;
     open(scope)?;
     let params = check_entries(alloc, text, scope, Role::Parameter, &param_slots)?;
@@ -260,21 +250,22 @@ fn func_where(head: bool, types: bool, end: bool, func: Option<typed::Func>) -> 
 fn check_with_body(
     alloc: Global,
     text: &[u8],
+    heads: &Scope,
     scope: &mut Scope,
     number: usize,
     f: &Func,
     body: &Body,
 ) -> Result<Function, NoMemory>
     requires { 0 < length scope.old.names }
-    ensures func { IfOk result (λ r. option_map func_of r.func ≡ function_with text.now (scope_of scope.old) number (function_of f.now) (Some (body_of body.now))) }
+    ensures func { IfOk result (λ r. option_map func_of r.func ≡ function_with text.now (scope_of heads.now) (scope_of scope.old) number (function_of f.now) (Some (body_of body.now))) }
     ensures pos { IfOk result (λ r. IsAt f.now.name.pos r.func) }
-    ensures fault { IfOk result (λ r. IsLeast (FailsWith text.now (scope_of scope.old) number (function_of f.now) (Some (body_of body.now))) r.fault) }
-    ensures scope { OnOk result (scope_of scope.new ≡ behind_body text.now (scope_of scope.old) (function_of f.now) (Some (body_of body.now))) }
+    ensures fault { IfOk result (λ r. IsLeast (FailsWith text.now (scope_of heads.now) (scope_of scope.old) number (function_of f.now) (Some (body_of body.now))) r.fault) }
+    ensures scope { OnOk result (scope_of scope.new ≡ behind_body text.now (scope_of heads.now) (scope_of scope.old) (function_of f.now) (Some (body_of body.now))) }
 {
     let head = check_head(text, scope, number, f);
-    let types = check_types(alloc, text, scope, f)?;
-    let parts = check_parts(alloc, text, scope, f, body)?;
-    let ends = may_end(text, f, body);
+    let types = check_types(alloc, text, heads, f)?;
+    let ends = may_end(text, heads, scope, f, body);
+    let parts = check_parts(alloc, text, heads, scope, f, body)?;
     let own = Fault {
         kind: FaultKind::MissingReturn,
         pos: body.end,
@@ -301,7 +292,7 @@ fn external_fault(f: &Func) -> Fault
 fn check_external(text: &[u8], scope: &Scope, number: usize, f: &Func) -> Function
     ensures func { option_map func_of result.func ≡ None }
     ensures pos { (p : Place) → IsAt p result.func }
-    ensures fault { IsLeast (FailsWith text.now (scope_of scope.now) number (function_of f.now) None) result.fault }
+    ensures fault { IsLeast (λ g. FailsInHead text.now (scope_of scope.now) number (function_of f.now) g ⊎ (g ≡ external_fault (function_of f.now))) result.fault }
 {
     let head = check_head(text, scope, number, f);
     Function {
@@ -314,18 +305,19 @@ fn check_external(text: &[u8], scope: &Scope, number: usize, f: &Func) -> Functi
 fn check_function(
     alloc: Global,
     text: &[u8],
+    heads: &Scope,
     scope: &mut Scope,
     number: usize,
     f: &Func,
 ) -> Result<Function, NoMemory>
     requires { 0 < length scope.old.names }
-    ensures func { IfOk result (λ r. option_map func_of r.func ≡ function text.now (scope_of scope.old) number (function_of f.now)) }
+    ensures func { IfOk result (λ r. option_map func_of r.func ≡ function text.now (scope_of heads.now) (scope_of scope.old) number (function_of f.now)) }
     ensures pos { IfOk result (λ r. IsAt f.now.name.pos r.func) }
-    ensures fault { IfOk result (λ r. IsLeast (FailsInFunction text.now (scope_of scope.old) number (function_of f.now)) r.fault) }
-    ensures scope { OnOk result (scope_of scope.new ≡ behind_function text.now (scope_of scope.old) (function_of f.now)) }
+    ensures fault { IfOk result (λ r. IsLeast (FailsInFunction text.now (scope_of heads.now) (scope_of scope.old) number (function_of f.now)) r.fault) }
+    ensures scope { OnOk result (scope_of scope.new ≡ behind_function text.now (scope_of heads.now) (scope_of scope.old) (function_of f.now)) }
 {
     match &f.body {
-        Some(body) => check_with_body(alloc, text, scope, number, f, body),
+        Some(body) => check_with_body(alloc, text, heads, scope, number, f, body),
         None => Ok(check_external(text, scope, number, f)),
     }
 }
@@ -349,14 +341,15 @@ fn with_func(
 pub fn check_functions(
     alloc: Global,
     text: &[u8],
+    heads: &Scope,
     scope: &mut Scope,
     decls: &[Decl],
 ) -> Result<Functions, NoMemory>
     requires { 0 < length scope.old.names }
-    ensures funcs { IfOk result (λ r. option_map (λ v. map func_of v.items) r.funcs ≡ functions text.now (scope_of scope.old) 0 (functions_in text.now (declarations_of decls.now))) }
-    ensures places { IfOk result (λ r. AreAt (map (λ f. f.name.pos) (functions_in text.now (declarations_of decls.now))) (option_map (λ v. v.items) r.funcs)) }
-    ensures fault { IfOk result (λ r. IsLeast (FailsInFunctions text.now (scope_of scope.old) 0 (functions_in text.now (declarations_of decls.now))) r.fault) }
-    ensures scope { OnOk result (scope_of scope.new ≡ behind_functions text.now (scope_of scope.old) (functions_in text.now (declarations_of decls.now))) }
+    ensures funcs { IfOk result (λ r. option_map (λ v. map func_of v.items) r.funcs ≡ functions text.now (scope_of heads.now) (scope_of scope.old) 0 (functions_in text.now (scope_of heads.now) (declarations_of decls.now))) }
+    ensures places { IfOk result (λ r. AreAt (map (λ f. f.name.pos) (functions_in text.now (scope_of heads.now) (declarations_of decls.now))) (option_map (λ v. v.items) r.funcs)) }
+    ensures fault { IfOk result (λ r. IsLeast (FailsInFunctions text.now (scope_of heads.now) (scope_of scope.old) 0 (functions_in text.now (scope_of heads.now) (declarations_of decls.now))) r.fault) }
+    ensures scope { OnOk result (scope_of scope.new ≡ behind_functions text.now (scope_of heads.now) (scope_of scope.old) (functions_in text.now (scope_of heads.now) (declarations_of decls.now))) }
 {
     let mut funcs = Some(Vec::new(alloc));
     let mut fault = None;
@@ -367,8 +360,8 @@ pub fn check_functions(
             Decl::Var(_, _) => {}
             Decl::Type(_, _) => {}
             Decl::Func(f) => {
-                if !is_external(alloc, text, f)? {
-                    let checked = check_function(alloc, text, scope, number, f)?;
+                if !is_external(alloc, text, heads, f)? {
+                    let checked = check_function(alloc, text, heads, scope, number, f)?;
                     funcs = with_func(funcs, checked.func)?;
                     fault = lesser(fault, checked.fault);
                     number += 1;

@@ -8,14 +8,14 @@ ghost use Rattle.syntax.specs.Statements.{simple_of, simple_in, guard_of, target
 ghost use Rattle.syntax.specs.Expressions.{spelled};
 ghost use Rattle.typed.specs.View.{ex_of, left_of as left_view, test_of, st_of, sts_of};
 ghost use Rattle.expression_types.specs.Least.{IsLeast};
-ghost use Rattle.expression_types.specs.Profile.{is_blank};
+ghost use Rattle.expression_types.specs.Universe.{is_blank};
 ghost use Rattle.expression_types.specs.Scope.{scope_of, opened};
 ghost use Rattle.expression_types.specs.Typing.{allowed, test, condition_in};
 ghost use Rattle.expression_types.specs.Faults.{fault as fault_at, IsFault, range_fault, FailsInTest};
 ghost use Rattle.expression_types.specs.Passing.{operand_of};
 ghost use Rattle.types_go.specs.Entries.{slot_with, behind_entries};
 ghost use Rattle.types_go.specs.Statements.{alone, key_of, range_head, as_int, number_type, over, all_accept, all_wanted, wanted, all_blank, target_slots, target_lefts, header, init_statement, post_simple, post_statement, behind_post_simple, behind_post, guard_head, choice_head, loop_head, clause_scope, clause_head};
-ghost use Rattle.types_go.specs.StatementFaults.{over_fault, given_fault, keys_fault, target_count, FailsInInit, PostFails, FailsInPost, FailsInOver, GivenFail, TargetsFail, FailsInRange, FailsInClause, FailsInGuard};
+ghost use Rattle.types_go.specs.StatementFaults.{over_fault, given_fault, keys_fault, key_count, name_count, target_count, FailsInInit, PostFails, FailsInPost, FailsInOver, GivenFail, TargetsFail, FailsInRange, FailsInClause, FailsInGuard};
 ghost use Rattle.types_go.specs.Passing.{choice_view, head_view};
 
 use crate::declaring::{all_wanted, check_lefts, fault_where, names_pos, wanted};
@@ -269,7 +269,7 @@ fn range_fault(operand: &Operand, pos: Pos) -> Option<Fault>
     ensures { result ≡ range_fault pos (Some (operand_of operand.now)) }
 {
     match operand {
-        Operand::Untyped(constant) => constant_range_fault(pos, *constant),
+        Operand::Constant(fixed) => constant_range_fault(pos, fixed.value),
         Operand::Value(_, _) => None,
     }
 }
@@ -373,11 +373,21 @@ fn lefts_where(is_allowed: bool, lefts: Option<Vec<Left>>) -> Option<Vec<Left>>
     if is_allowed { lefts } else { None }
 }
 
-fn left_count(lefts: &Option<Vec<Left>>) -> Option<usize>
-    ensures { result ≡ option_map length (option_map (λ v. map left_view v.items) lefts.now) }
+/// How many left sides there are; a blank one behind another is as if absent.
+fn key_count(lefts: &[Left]) -> usize
+    ensures { result ≡ key_count (map left_view lefts.now) }
 {
     match lefts {
-        Some(lefts) => Some(lefts.len()),
+        [_, Left::Blank] => 1,
+        _ => lefts.len(),
+    }
+}
+
+fn left_count(lefts: &Option<Vec<Left>>) -> Option<usize>
+    ensures { result ≡ option_map key_count (option_map (λ v. map left_view v.items) lefts.now) }
+{
+    match lefts {
+        Some(lefts) => Some(key_count(lefts)),
         None => None,
     }
 }
@@ -416,6 +426,16 @@ fn all_blank(text: &[u8], names: &[Name]) -> bool
     all
 }
 
+/// How many names there are; a blank one behind another is as if absent.
+fn name_count(text: &[u8], names: &[Name]) -> usize
+    ensures { result ≡ name_count text.now names.now }
+{
+    match names {
+        [_, name] if is_blank(spelled(text, *name)) => 1,
+        _ => names.len(),
+    }
+}
+
 /// New variables that get the numbers of a `range`.
 fn check_defined(
     alloc: Global,
@@ -426,7 +446,7 @@ fn check_defined(
     pos: Pos,
 ) -> Result<Keys, NoMemory>
     ensures lefts { IfOk result (λ k. option_map (λ v. map left_view v.items) k.lefts ≡ target_lefts text.now (scope_of scope.old) given (targets_defined names.now pos)) }
-    ensures count { IfOk result (λ k. k.count ≡ Some (length names.now)) }
+    ensures count { IfOk result (λ k. k.count ≡ Some (name_count text.now names.now)) }
     ensures fault { IfOk result (λ k. IsLeast (TargetsFail text.now (scope_of scope.old) given (targets_defined names.now pos)) k.fault) }
     ensures scope { OnOk result (scope_of scope.new ≡ behind_entries text.now (scope_of scope.old) (map (slot_with given) names.now)) }
 {
@@ -440,7 +460,7 @@ fn check_defined(
     };
     Ok(Keys {
         lefts: lefts_where(!blank, lefts),
-        count: Some(names.len()),
+        count: Some(name_count(text, names)),
         fault: lesser(entries.fault, fault_where(blank, own)),
     })
 }
@@ -483,13 +503,13 @@ fn keys_fault(pos: Pos, over: &Option<typed::Expr>, count: Option<usize>) -> Opt
     }
 }
 
-/// What gets the number: one left side at most.
+/// What gets the number: one left side at most, and a blank one behind it is as if absent.
 fn key_of(lefts: &[Left]) -> Option<Left>
     ensures { option_map left_view result ≡ key_of (map left_view lefts.now) }
 {
     match lefts {
         [] => Some(Left::Blank),
-        [left] => Some(*left),
+        [left] | [left, Left::Blank] => Some(*left),
         _ => None,
     }
 }

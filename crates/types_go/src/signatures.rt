@@ -7,17 +7,17 @@ ghost use Rattle.syntax.specs.Expressions.{spelled};
 ghost use Rattle.syntax.specs.Statements.{value_specs_of};
 ghost use Rattle.syntax.specs.Declarations.{parameters_of, type_specs_of, function_of, declaration_of, declarations_of};
 ghost use Rattle.expression_types.specs.declared.scope.Declared.TheVariants.{Untyped as NoType};
-ghost use Rattle.expression_types.specs.Profile.{is_blank, is_predeclared};
+ghost use Rattle.expression_types.specs.Universe.{is_blank};
 ghost use Rattle.expression_types.specs.Scope.{scope_of, signature_of, declaration, is_here};
-ghost use Rattle.types_go.specs.Functions.{signature_in, declares_name, with_name, with_names, with_values, with_types, with_function, with_item, with_items, is_number, may_be_named, is_small, is_named, words, takes_one_int, is_of_exit, gives_int_and_bool, is_of_read_int, external_named, is_external, is_external_at};
+ghost use Rattle.types_go.specs.Functions.{signature_in, is_init, declares_name, with_name, with_names, with_values, with_types, with_head, with_heads, with_constant_name, with_constant_names, with_constants, with_function, with_item, with_items, is_number, may_be_named, is_small, is_named, words, takes_one_int, is_of_exit, gives_int_and_bool, is_of_read_int, external_named, is_external, is_external_at};
 ghost use Rattle.types_go.specs.FunctionFaults.{function_name_fault, size_fault};
 
 use crate::declaring::fault_where;
 use crate::slots::{is_named, slots_of, types_of};
 use base::{FuncId, NoMemory, Pos};
 use expression_types::{
-    Declared, External, Fault, FaultKind, Scope, Signature, ValueType, add_signature, declare,
-    is_blank, is_here, is_predeclared, spelled,
+    ConstId, Declared, External, Fault, FaultKind, Scope, Signature, ValueType, add_constant,
+    add_signature, constant_count, declare, is_blank, is_here, spelled,
 };
 use std::alloc::Global;
 use syntax::{Decl, Func, Name, TypeSpec, ValueSpec};
@@ -32,11 +32,16 @@ fn joined(params: Option<Vec<ValueType>>, results: Option<Vec<ValueType>>) -> Op
 }
 
 /// The signature of a function, where all its types are known.
-pub fn signature_in(alloc: Global, text: &[u8], f: &Func) -> Result<Option<Signature>, NoMemory>
-    ensures { IfOk result (λ r. option_map signature_of r ≡ signature_in text.now (function_of f.now)) }
+pub fn signature_in(
+    alloc: Global,
+    text: &[u8],
+    heads: &Scope,
+    f: &Func,
+) -> Result<Option<Signature>, NoMemory>
+    ensures { IfOk result (λ r. option_map signature_of r ≡ signature_in text.now (scope_of heads.now) (function_of f.now)) }
 {
-    let params = slots_of(alloc, text, &f.params)?;
-    let results = slots_of(alloc, text, &f.results)?;
+    let params = slots_of(alloc, text, heads, &f.params)?;
+    let results = slots_of(alloc, text, heads, &f.results)?;
     let params = types_of(alloc, &params)?;
     let results = types_of(alloc, &results)?;
     Ok(joined(params, results))
@@ -107,20 +112,27 @@ fn has_read_int_head(text: &[u8], f: &Func, signature: &Option<Signature>) -> bo
 }
 
 /// Whether a function is `readInt` or `exit`, which have no body.
-pub fn is_external(alloc: Global, text: &[u8], f: &Func) -> Result<bool, NoMemory>
-    ensures { IfOk result (λ b. b ≡ is_external text.now (function_of f.now)) }
+pub fn is_external(alloc: Global, text: &[u8], heads: &Scope, f: &Func) -> Result<bool, NoMemory>
+    ensures { IfOk result (λ b. b ≡ is_external text.now (scope_of heads.now) (function_of f.now)) }
 {
     if f.body.is_some() {
         return Ok(false);
     }
-    let signature = signature_in(alloc, text, f)?;
+    let signature = signature_in(alloc, text, heads, f)?;
     Ok(has_exit_head(text, f, &signature) || has_read_int_head(text, f, &signature))
+}
+
+/// Whether a name is `init`, which no package has.
+pub fn is_init(name: &[u8]) -> bool
+    ensures { result ≡ is_init name.now }
+{
+    name == "init".as_bytes()
 }
 
 fn declares_name(scope: &Scope, name: &[u8]) -> bool
     ensures { result ≡ declares_name (scope_of scope.now) name.now }
 {
-    !(is_blank(name) || is_predeclared(name)) && !is_here(scope, name)
+    !(is_blank(name) || is_init(name)) && !is_here(scope, name)
 }
 
 /// Declares a name, if it is the first one.
@@ -145,7 +157,7 @@ fn add_names(text: &[u8], scope: &mut Scope, names: &[Name]) -> Result<(), NoMem
     Ok(())
 }
 
-/// Declares constants or variables.
+/// Declares variables, or constants as names of heads.
 fn add_values(text: &[u8], scope: &mut Scope, specs: &[ValueSpec]) -> Result<(), NoMemory>
     ensures { OnOk result (scope_of scope.new ≡ with_values text.now (scope_of scope.old) (value_specs_of specs.now)) }
 {
@@ -165,11 +177,69 @@ fn add_types(text: &[u8], scope: &mut Scope, specs: &[TypeSpec]) -> Result<(), N
     Ok(())
 }
 
-/// Declares a function with the next number, or one without a body, which has none.
-fn add_function(alloc: Global, text: &[u8], scope: &mut Scope, f: &Func) -> Result<(), NoMemory>
-    ensures { OnOk result (scope_of scope.new ≡ with_function text.now (scope_of scope.old) (function_of f.now)) }
+/// Declares the names of a declaration among those that tell what the types of heads stand for.
+fn add_head(text: &[u8], heads: &mut Scope, decl: &Decl) -> Result<(), NoMemory>
+    ensures { OnOk result (scope_of heads.new ≡ with_head text.now (scope_of heads.old) (declaration_of decl.now)) }
 {
-    if is_external(alloc, text, f)? {
+    match decl {
+        Decl::Const(_, specs) => add_values(text, heads, specs),
+        Decl::Var(_, specs) => add_values(text, heads, specs),
+        Decl::Type(_, specs) => add_types(text, heads, specs),
+        Decl::Func(f) => add_name(text, heads, f.name, Declared::Untyped),
+    }
+}
+
+/// Declares the names of a package, which tell what the types of its heads stand for.
+pub fn add_heads(text: &[u8], heads: &mut Scope, decls: &[Decl]) -> Result<(), NoMemory>
+    ensures { OnOk result (scope_of heads.new ≡ with_heads text.now (scope_of heads.old) (declarations_of decls.now)) }
+{
+    for decl in decls {
+        add_head(text, heads, decl)?;
+    }
+    Ok(())
+}
+
+/// Declares a constant with the next number, whose value isn't known yet.
+fn add_constant_name(text: &[u8], scope: &mut Scope, name: Name) -> Result<(), NoMemory>
+    ensures { OnOk result (scope_of scope.new ≡ with_constant_name text.now (scope_of scope.old) name) }
+{
+    let Ok(number) = u32::try_from(constant_count(scope)) else {
+        return Err(NoMemory);
+    };
+    add_name(text, scope, name, Declared::Constant(ConstId(number)))?;
+    add_constant(scope, None)
+}
+
+fn add_constant_names(text: &[u8], scope: &mut Scope, names: &[Name]) -> Result<(), NoMemory>
+    ensures { OnOk result (scope_of scope.new ≡ with_constant_names text.now (scope_of scope.old) names.now) }
+{
+    for name in names {
+        add_constant_name(text, scope, *name)?;
+    }
+    Ok(())
+}
+
+/// Declares constants.
+fn add_constants(text: &[u8], scope: &mut Scope, specs: &[ValueSpec]) -> Result<(), NoMemory>
+    ensures { OnOk result (scope_of scope.new ≡ with_constants text.now (scope_of scope.old) (value_specs_of specs.now)) }
+{
+    for spec in specs {
+        add_constant_names(text, scope, &spec.names)?;
+    }
+    Ok(())
+}
+
+/// Declares a function with the next number, or one without a body, which has none.
+fn add_function(
+    alloc: Global,
+    text: &[u8],
+    heads: &Scope,
+    scope: &mut Scope,
+    f: &Func,
+) -> Result<(), NoMemory>
+    ensures { OnOk result (scope_of scope.new ≡ with_function text.now (scope_of heads.now) (scope_of scope.old) (function_of f.now)) }
+{
+    if is_external(alloc, text, heads, f)? {
         return add_name(
             text,
             scope,
@@ -177,7 +247,7 @@ fn add_function(alloc: Global, text: &[u8], scope: &mut Scope, f: &Func) -> Resu
             Declared::External(external_named(spelled(text, f.name)), f.name.pos),
         );
     }
-    let signature = signature_in(alloc, text, f)?;
+    let signature = signature_in(alloc, text, heads, f)?;
     let Ok(number) = u32::try_from(scope.signatures.len()) else {
         return Err(NoMemory);
     };
@@ -185,14 +255,20 @@ fn add_function(alloc: Global, text: &[u8], scope: &mut Scope, f: &Func) -> Resu
     add_signature(scope, signature)
 }
 
-fn add_item(alloc: Global, text: &[u8], scope: &mut Scope, decl: &Decl) -> Result<(), NoMemory>
-    ensures { OnOk result (scope_of scope.new ≡ with_item text.now (scope_of scope.old) (declaration_of decl.now)) }
+fn add_item(
+    alloc: Global,
+    text: &[u8],
+    heads: &Scope,
+    scope: &mut Scope,
+    decl: &Decl,
+) -> Result<(), NoMemory>
+    ensures { OnOk result (scope_of scope.new ≡ with_item text.now (scope_of heads.now) (scope_of scope.old) (declaration_of decl.now)) }
 {
     match decl {
-        Decl::Const(_, specs) => add_values(text, scope, specs),
+        Decl::Const(_, specs) => add_constants(text, scope, specs),
         Decl::Var(_, specs) => add_values(text, scope, specs),
         Decl::Type(_, specs) => add_types(text, scope, specs),
-        Decl::Func(f) => add_function(alloc, text, scope, f),
+        Decl::Func(f) => add_function(alloc, text, heads, scope, f),
     }
 }
 
@@ -200,13 +276,14 @@ fn add_item(alloc: Global, text: &[u8], scope: &mut Scope, decl: &Decl) -> Resul
 pub fn add_items(
     alloc: Global,
     text: &[u8],
+    heads: &Scope,
     scope: &mut Scope,
     decls: &[Decl],
 ) -> Result<(), NoMemory>
-    ensures { OnOk result (scope_of scope.new ≡ with_items text.now (scope_of scope.old) (declarations_of decls.now)) }
+    ensures { OnOk result (scope_of scope.new ≡ with_items text.now (scope_of heads.now) (scope_of scope.old) (declarations_of decls.now)) }
 {
     for decl in decls {
-        add_item(alloc, text, scope, decl)?;
+        add_item(alloc, text, heads, scope, decl)?;
     }
     Ok(())
 }
@@ -222,41 +299,29 @@ fn is_number(number: usize, declared: Option<Declared>) -> bool
 }
 
 /// Whether a function's name may stand for it.
-pub fn may_be_named(
-    number: usize,
-    blank: bool,
-    predeclared: bool,
-    declared: Option<Declared>,
-) -> bool
-    ensures { result ≡ may_be_named number blank predeclared declared }
+pub fn may_be_named(number: usize, blank: bool, declared: Option<Declared>) -> bool
+    ensures { result ≡ may_be_named number blank declared }
 {
-    blank || (!predeclared && is_number(number, declared))
+    blank || is_number(number, declared)
 }
 
 /// The fault of a function's name.
 pub fn function_name_fault(
     number: usize,
     blank: bool,
-    predeclared: bool,
     declared: Option<Declared>,
     pos: Pos,
 ) -> Option<Fault>
-    ensures { result ≡ function_name_fault number blank predeclared declared pos }
+    ensures { result ≡ function_name_fault number blank declared pos }
 {
+    let own = Fault {
+        kind: FaultKind::Redeclared,
+        pos,
+    };
     if blank {
         None
-    } else if predeclared {
-        Some(Fault {
-            kind: FaultKind::OutOfProfile,
-            pos,
-        })
-    } else if is_number(number, declared) {
-        None
     } else {
-        Some(Fault {
-            kind: FaultKind::Redeclared,
-            pos,
-        })
+        fault_where(!is_number(number, declared), own)
     }
 }
 

@@ -91,12 +91,17 @@ pub fn slot_types(alloc: Global, slots: &[Slot]) -> Result<Vec<Option<ValueType>
 }
 
 /// Those without names.
-fn unnamed_slots(alloc: Global, text: &[u8], types: &[Expr]) -> Result<Vec<Slot>, NoMemory>
-    ensures { IfOk result (λ v. v.items ≡ map (slot_of text.now) (unnamed_params (trees_of types.now))) }
+fn unnamed_slots(
+    alloc: Global,
+    text: &[u8],
+    heads: &Scope,
+    types: &[Expr],
+) -> Result<Vec<Slot>, NoMemory>
+    ensures { IfOk result (λ v. v.items ≡ map (slot_of text.now (scope_of heads.now)) (unnamed_params (trees_of types.now))) }
 {
     let mut slots = Vec::new(alloc);
     for type_expr in types {
-        let value_type = type_in(text, type_expr);
+        let value_type = type_in(text, heads, type_expr);
         slots.push(Slot {
             name: None,
             value_type,
@@ -106,10 +111,15 @@ fn unnamed_slots(alloc: Global, text: &[u8], types: &[Expr]) -> Result<Vec<Slot>
 }
 
 /// One for each name of a field behind others. Its type is looked up once.
-fn with_field(slots: Vec<Slot>, text: &[u8], field: &Field) -> Result<Vec<Slot>, NoMemory>
-    ensures { IfOk result (λ v. v.items ≡ slots.items ++ map (slot_of text.now) (field_params (field_of field.now))) }
+fn with_field(
+    slots: Vec<Slot>,
+    text: &[u8],
+    heads: &Scope,
+    field: &Field,
+) -> Result<Vec<Slot>, NoMemory>
+    ensures { IfOk result (λ v. v.items ≡ slots.items ++ map (slot_of text.now (scope_of heads.now)) (field_params (field_of field.now))) }
 {
-    let value_type = type_in(text, &field.type_expr);
+    let value_type = type_in(text, heads, &field.type_expr);
     let mut slots = slots;
     for name in &field.names {
         slots.push(Slot {
@@ -121,23 +131,33 @@ fn with_field(slots: Vec<Slot>, text: &[u8], field: &Field) -> Result<Vec<Slot>,
 }
 
 /// Those with names.
-fn named_slots(alloc: Global, text: &[u8], fields: &[Field]) -> Result<Vec<Slot>, NoMemory>
-    ensures { IfOk result (λ v. v.items ≡ map (slot_of text.now) (named_params (fields_of fields.now))) }
+fn named_slots(
+    alloc: Global,
+    text: &[u8],
+    heads: &Scope,
+    fields: &[Field],
+) -> Result<Vec<Slot>, NoMemory>
+    ensures { IfOk result (λ v. v.items ≡ map (slot_of text.now (scope_of heads.now)) (named_params (fields_of fields.now))) }
 {
     let mut slots = Vec::new(alloc);
     for field in fields {
-        slots = with_field(slots, text, field)?;
+        slots = with_field(slots, text, heads, field)?;
     }
     Ok(slots)
 }
 
-/// Parameters or results one by one.
-pub fn slots_of(alloc: Global, text: &[u8], params: &Params) -> Result<Vec<Slot>, NoMemory>
-    ensures { IfOk result (λ v. v.items ≡ slots_of text.now (parameters_of params.now)) }
+/// Parameters or results one by one, with what their types stand for among the names of the package.
+pub fn slots_of(
+    alloc: Global,
+    text: &[u8],
+    heads: &Scope,
+    params: &Params,
+) -> Result<Vec<Slot>, NoMemory>
+    ensures { IfOk result (λ v. v.items ≡ slots_of text.now (scope_of heads.now) (parameters_of params.now)) }
 {
     match params {
-        Params::Unnamed(types) => unnamed_slots(alloc, text, types),
-        Params::Named(fields) => named_slots(alloc, text, fields),
+        Params::Unnamed(types) => unnamed_slots(alloc, text, heads, types),
+        Params::Named(fields) => named_slots(alloc, text, heads, fields),
     }
 }
 
@@ -198,44 +218,44 @@ pub fn types_of(alloc: Global, slots: &[Slot]) -> Result<Option<Vec<ValueType>>,
     Ok(types)
 }
 
-fn unnamed_fault(text: &[u8], scope: &Scope, types: &[Expr]) -> Option<Fault>
-    ensures { IsLeast (TypesFail text.now (scope_of scope.now) (unnamed_params (trees_of types.now))) result }
+fn unnamed_fault(text: &[u8], heads: &Scope, types: &[Expr]) -> Option<Fault>
+    ensures { IsLeast (TypesFail text.now (scope_of heads.now) (unnamed_params (trees_of types.now))) result }
 {
     let mut fault = None;
     for type_expr in types {
-        fault = lesser(fault, type_fault(text, scope, type_expr));
+        fault = lesser(fault, type_fault(text, heads, type_expr));
     }
     fault
 }
 
 /// The fault of the type that names share, looked at once.
-fn field_fault(text: &[u8], scope: &Scope, names: &[Name], type_expr: &Expr) -> Option<Fault>
-    ensures { IsLeast (TypesFail text.now (scope_of scope.now) (map (param_with (tree_of type_expr.now)) names.now)) result }
+fn field_fault(text: &[u8], heads: &Scope, names: &[Name], type_expr: &Expr) -> Option<Fault>
+    ensures { IsLeast (TypesFail text.now (scope_of heads.now) (map (param_with (tree_of type_expr.now)) names.now)) result }
 {
     if names.is_empty() {
         None
     } else {
-        type_fault(text, scope, type_expr)
+        type_fault(text, heads, type_expr)
     }
 }
 
-fn named_fault(text: &[u8], scope: &Scope, fields: &[Field]) -> Option<Fault>
-    ensures { IsLeast (TypesFail text.now (scope_of scope.now) (named_params (fields_of fields.now))) result }
+fn named_fault(text: &[u8], heads: &Scope, fields: &[Field]) -> Option<Fault>
+    ensures { IsLeast (TypesFail text.now (scope_of heads.now) (named_params (fields_of fields.now))) result }
 {
     let mut fault = None;
     for field in fields {
-        let own = field_fault(text, scope, &field.names, &field.type_expr);
+        let own = field_fault(text, heads, &field.names, &field.type_expr);
         fault = lesser(fault, own);
     }
     fault
 }
 
 /// The fault of their types.
-pub fn types_fault(text: &[u8], scope: &Scope, params: &Params) -> Option<Fault>
-    ensures { IsLeast (TypesFail text.now (scope_of scope.now) (params_of (parameters_of params.now))) result }
+pub fn types_fault(text: &[u8], heads: &Scope, params: &Params) -> Option<Fault>
+    ensures { IsLeast (TypesFail text.now (scope_of heads.now) (params_of (parameters_of params.now))) result }
 {
     match params {
-        Params::Unnamed(types) => unnamed_fault(text, scope, types),
-        Params::Named(fields) => named_fault(text, scope, fields),
+        Params::Unnamed(types) => unnamed_fault(text, heads, types),
+        Params::Named(fields) => named_fault(text, heads, fields),
     }
 }

@@ -14,7 +14,7 @@ use typed::{Piece, Values};
 
 /// Names of a program, of functions without a body, of parameters, of a type and of the language, and strings.
 const TEXT: &[u8] =
-    b"main f readInt a b T int u bool exit exit println panic \"hi\" \"\\n\" readInt";
+    b"main f readInt a b T int u bool exit exit println panic \"hi\" \"\\n\" readInt len init";
 
 const MAIN: (u32, u32) = (0, 4);
 
@@ -47,6 +47,10 @@ const HI: (u32, u32) = (56, 60);
 const LINE_END: (u32, u32) = (61, 65);
 
 const READ_INT_AGAIN: (u32, u32) = (66, 73);
+
+const LENGTH: (u32, u32) = (74, 77);
+
+const INIT: (u32, u32) = (78, 82);
 
 fn at(offset: u32) -> Pos {
     Pos {
@@ -148,6 +152,74 @@ fn functions(rt: HostRuntime) -> Result<(), Fail> {
     Ok(())
 }
 
+/// `(int)`
+fn int_result(alloc: Global) -> Result<Params, Fail> {
+    Ok(Params::Unnamed(Vec::from_array(alloc, [word(INT)])?))
+}
+
+#[test]
+fn functions_named_as_in_the_language(rt: HostRuntime) -> Result<(), Fail> {
+    let alloc = rt.alloc();
+
+    // `func len(a int) int { return a }`, which `main` calls.
+    let values = Vec::from_array(alloc, [word(A)])?;
+    let body = block(alloc, Stmt::Return(at(84), values))?;
+    let len = exit_with(alloc, LENGTH, int_result(alloc)?, body)?;
+    let one = Vec::from_array(alloc, [Expr::Int(at(85), 1)])?;
+    let printed = Vec::from_array(alloc, [call(alloc, LENGTH, one)?])?;
+    let main = main_with(alloc, calling(alloc, PRINTLN, printed)?)?;
+    let good = tree(alloc, len, main)?;
+    let program = check(alloc, &good);
+    assert!(rt; program.is_ok());
+
+    // `func int() {}`, beside `int` as a type.
+    let body = block(alloc, Stmt::Block(Vec::new(alloc)))?;
+    let int = function(INT, nothing(alloc), nothing(alloc), body);
+    let tree = between(alloc, int, second_of_two(alloc)?)?;
+    assert!(rt; fails(alloc, &tree, FaultKind::BadOperand, 21));
+
+    // `func panic(a int) {}` and `func f() int { panic(1) }`.
+    let body = block(alloc, Stmt::Block(Vec::new(alloc)))?;
+    let panic = exit_with(alloc, PANIC, nothing(alloc), body)?;
+    let one = Vec::from_array(alloc, [Expr::Int(at(85), 1)])?;
+    let body = block(alloc, calling(alloc, PANIC, one)?)?;
+    let last = function(F, nothing(alloc), int_result(alloc)?, body);
+    let tree = between(alloc, panic, last)?;
+    assert!(rt; fails(alloc, &tree, FaultKind::MissingReturn, 90));
+    Ok(())
+}
+
+#[test]
+fn main_and_init(rt: HostRuntime) -> Result<(), Fail> {
+    let alloc = rt.alloc();
+
+    // `func f() { main() }`
+    let body = block(alloc, calling(alloc, MAIN, Vec::new(alloc))?)?;
+    let first = function(F, nothing(alloc), nothing(alloc), body);
+    let main = main_with(alloc, Stmt::Block(Vec::new(alloc)))?;
+    let good = tree(alloc, first, main)?;
+    let program = check(alloc, &good);
+    assert!(rt; program.is_ok());
+
+    // `func init() {}`
+    let body = block(alloc, Stmt::Block(Vec::new(alloc)))?;
+    let init = function(INIT, nothing(alloc), nothing(alloc), body);
+    let main = main_with(alloc, Stmt::Block(Vec::new(alloc)))?;
+    let tree_of_init = tree(alloc, init, main)?;
+    assert!(rt; fails(alloc, &tree_of_init, FaultKind::OutOfProfile, 50));
+
+    // `const main = 1`
+    let spec = ValueSpec {
+        names: Vec::from_array(alloc, [name(MAIN)])?,
+        type_expr: None,
+        values: Vec::from_array(alloc, [Expr::Int(at(85), 1)])?,
+    };
+    let constant = Decl::Const(at(80), Vec::from_array(alloc, [spec])?);
+    let tree = tree(alloc, constant, second_of_two(alloc)?)?;
+    assert!(rt; fails(alloc, &tree, FaultKind::NoMain, 0));
+    Ok(())
+}
+
 #[test]
 fn declarations_that_are_left_out(rt: HostRuntime) -> Result<(), Fail> {
     let alloc = rt.alloc();
@@ -157,7 +229,7 @@ fn declarations_that_are_left_out(rt: HostRuntime) -> Result<(), Fail> {
     };
     let table: [(Decl, FaultKind, u32); 4] = [
         (
-            Decl::Const(at(40), Vec::new(alloc)),
+            Decl::Var(at(40), Vec::new(alloc)),
             FaultKind::OutOfProfile,
             40,
         ),
@@ -631,5 +703,254 @@ fn declarations_of_read_int(rt: HostRuntime) -> Result<(), Fail> {
         Ok(program) => assert!(rt; program.funcs.len() == 3 && program.main.0 == 1),
         Err(_) => assert!(rt; false),
     }
+    Ok(())
+}
+
+/// Names of the language, which a program may declare anew, and others.
+const NAMES: &[u8] = b"main int len true false println float64 _ a b f";
+
+const ITS_INT: (u32, u32) = (5, 8);
+
+const LEN: (u32, u32) = (9, 12);
+
+const TRUE: (u32, u32) = (13, 17);
+
+const FALSE: (u32, u32) = (18, 23);
+
+const ITS_PRINTLN: (u32, u32) = (24, 31);
+
+const FLOAT: (u32, u32) = (32, 39);
+
+const BLANK: (u32, u32) = (40, 41);
+
+const ITS_A: (u32, u32) = (42, 43);
+
+const ITS_B: (u32, u32) = (44, 45);
+
+const ITS_F: (u32, u32) = (46, 47);
+
+/// A tree of `func f(len int) (int) { return len }` and of `main` with one statement.
+fn with_names(alloc: Global, statement: Stmt) -> Result<Tree, Fail> {
+    let field = Field {
+        names: Vec::from_array(alloc, [name(LEN)])?,
+        type_expr: word(ITS_INT),
+    };
+    let params = Params::Named(Vec::from_array(alloc, [field])?);
+    let results = Params::Unnamed(Vec::from_array(alloc, [word(ITS_INT)])?);
+    let values = Vec::from_array(alloc, [word(LEN)])?;
+    let body = block(alloc, Stmt::Return(at(80), values))?;
+    let first = function(ITS_F, params, results, body);
+    let main = main_with(alloc, statement)?;
+    Ok(Tree {
+        text: NAMES.to_vec(alloc)?,
+        package: name(MAIN),
+        decls: Vec::from_array(alloc, [first, main])?,
+    })
+}
+
+/// A name that a `:=` at 50 gives a value.
+fn define(alloc: Global, span: (u32, u32), value: Expr) -> Result<Stmt, Fail> {
+    let names = Vec::from_array(alloc, [name(span)])?;
+    let values = Vec::from_array(alloc, [value])?;
+    Ok(Stmt::Simple(Simple::Define(names, at(50), values)))
+}
+
+/// A name that a `=` at 50 gives a value.
+fn assign(alloc: Global, span: (u32, u32), value: Expr) -> Result<Stmt, Fail> {
+    let lefts = Vec::from_array(alloc, [word(span)])?;
+    let values = Vec::from_array(alloc, [value])?;
+    Ok(Stmt::Simple(Simple::Assign(lefts, at(50), values)))
+}
+
+/// A `for` over the numbers below 3 whose word stands at 60.
+fn ranging(alloc: Global, targets: Targets) -> Stmt {
+    let clause = Clause::Range(targets, at(64), Expr::Int(at(70), 3));
+    Stmt::For(at(60), clause, Vec::new(alloc))
+}
+
+/// Two names that get the numbers of a `range`.
+fn defined(alloc: Global, first: (u32, u32), second: (u32, u32)) -> Result<Stmt, Fail> {
+    let names = Vec::from_array(alloc, [name(first), name(second)])?;
+    Ok(ranging(alloc, Targets::Define(names, at(61))))
+}
+
+#[test]
+fn names_of_the_language_declared_anew(rt: HostRuntime) -> Result<(), Fail> {
+    let alloc = rt.alloc();
+    let blanks = Vec::from_array(alloc, [word(BLANK), word(BLANK)])?;
+    let statements: [Stmt; 4] = [
+        define(alloc, ITS_INT, Expr::Int(at(52), 3))?,
+        define(alloc, TRUE, word(FALSE))?,
+        defined(alloc, ITS_A, BLANK)?,
+        ranging(alloc, Targets::Assign(blanks, at(61))),
+    ];
+    for statement in statements {
+        let tree = with_names(alloc, statement)?;
+        let program = check(alloc, &tree);
+        assert!(rt; program.is_ok());
+    }
+
+    // It is no type any more.
+    let spec = ValueSpec {
+        names: Vec::from_array(alloc, [name(ITS_A)])?,
+        type_expr: Some(word(ITS_INT)),
+        values: Vec::new(alloc),
+    };
+    let var = Stmt::Var(at(60), Vec::from_array(alloc, [spec])?);
+    let number = define(alloc, ITS_INT, Expr::Int(at(52), 3))?;
+    let body = Vec::from_array(alloc, [number, var])?;
+    let tree = with_names(alloc, Stmt::Block(body))?;
+    assert!(rt; fails(alloc, &tree, FaultKind::BadOperand, 5));
+    Ok(())
+}
+
+#[test]
+fn names_of_the_language_refused(rt: HostRuntime) -> Result<(), Fail> {
+    let alloc = rt.alloc();
+    let out = FaultKind::OutOfProfile;
+    let no_variable = FaultKind::NotAssignable;
+    let number = Expr::Int(at(52), 3);
+    let one = Expr::Int(at(52), 1);
+    let table: [(Stmt, FaultKind, u32); 5] = [
+        (
+            define(alloc, ITS_A, word(ITS_PRINTLN))?,
+            FaultKind::BadOperand,
+            24,
+        ),
+        (assign(alloc, ITS_PRINTLN, number)?, no_variable, 24),
+        (assign(alloc, TRUE, word(FALSE))?, no_variable, 13),
+        (assign(alloc, FLOAT, one)?, out, 32),
+        (defined(alloc, ITS_A, ITS_B)?, FaultKind::ArgCount, 60),
+    ];
+    for (statement, kind, offset) in table {
+        let tree = with_names(alloc, statement)?;
+        assert!(rt; fails(alloc, &tree, kind, offset));
+    }
+    Ok(())
+}
+
+/// Names of constants, of a type and of functions.
+const CONSTANTS: &[u8] = b"main a b a int _ init u";
+
+const CONSTANT_A: (u32, u32) = (5, 6);
+
+const CONSTANT_B: (u32, u32) = (7, 8);
+
+const CONSTANT_A_AGAIN: (u32, u32) = (9, 10);
+
+const ITS_TYPE: (u32, u32) = (11, 14);
+
+const NO_NAME: (u32, u32) = (15, 16);
+
+const NAMED_INIT: (u32, u32) = (17, 21);
+
+const UNKNOWN: (u32, u32) = (22, 23);
+
+/// The least number that no int is.
+const BEYOND: u128 = 0x8000000000000000;
+
+/// A `const` whose word stands at 30.
+fn constant(
+    alloc: Global,
+    span: (u32, u32),
+    type_expr: Option<Expr>,
+    value: Expr,
+) -> Result<Decl, Fail> {
+    let spec = ValueSpec {
+        names: Vec::from_array(alloc, [name(span)])?,
+        type_expr,
+        values: Vec::from_array(alloc, [value])?,
+    };
+    Ok(Decl::Const(at(30), Vec::from_array(alloc, [spec])?))
+}
+
+/// A tree of two declarations around `main`, which does nothing with a value.
+fn around(alloc: Global, first: Decl, value: Expr, last: Decl) -> Result<Tree, Fail> {
+    let main = main_with(alloc, assign(alloc, NO_NAME, value)?)?;
+    Ok(Tree {
+        text: CONSTANTS.to_vec(alloc)?,
+        package: name(MAIN),
+        decls: Vec::from_array(alloc, [first, main, last])?,
+    })
+}
+
+#[test]
+fn constants(rt: HostRuntime) -> Result<(), Fail> {
+    let alloc = rt.alloc();
+    let int = Some(word(ITS_TYPE));
+    let beyond = Expr::Int(at(42), BEYOND);
+    let table: [(Decl, Expr, Decl); 3] = [
+        (
+            constant(alloc, CONSTANT_A, None, word(CONSTANT_B))?,
+            word(CONSTANT_A),
+            constant(alloc, CONSTANT_B, int, Expr::Int(at(42), 1))?,
+        ),
+        (
+            constant(alloc, CONSTANT_A, None, beyond)?,
+            word(CONSTANT_B),
+            constant(alloc, CONSTANT_B, None, Expr::Int(at(42), 1))?,
+        ),
+        (
+            constant(alloc, NO_NAME, None, Expr::Int(at(42), 1))?,
+            Expr::Int(at(52), 1),
+            constant(alloc, NO_NAME, None, Expr::Int(at(42), 1))?,
+        ),
+    ];
+    for (first, value, last) in table {
+        let tree = around(alloc, first, value, last)?;
+        let program = check(alloc, &tree);
+        assert!(rt; program.is_ok());
+    }
+    Ok(())
+}
+
+#[test]
+fn constants_that_are_refused(rt: HostRuntime) -> Result<(), Fail> {
+    let alloc = rt.alloc();
+    let int = Some(word(ITS_TYPE));
+    let body = block(alloc, Stmt::Block(Vec::new(alloc)))?;
+    let function_a = function(CONSTANT_A_AGAIN, nothing(alloc), nothing(alloc), body);
+    let table: [(Decl, Decl, FaultKind, u32); 5] = [
+        (
+            constant(alloc, CONSTANT_A, None, word(CONSTANT_B))?,
+            constant(alloc, CONSTANT_B, None, word(CONSTANT_A))?,
+            FaultKind::RecursiveType,
+            5,
+        ),
+        (
+            constant(alloc, CONSTANT_A, int, Expr::Int(at(42), BEYOND))?,
+            constant(alloc, CONSTANT_B, None, Expr::Int(at(42), 1))?,
+            FaultKind::ConstRange,
+            42,
+        ),
+        (
+            constant(alloc, CONSTANT_A, None, Expr::Int(at(42), 1))?,
+            function_a,
+            FaultKind::Redeclared,
+            9,
+        ),
+        (
+            constant(alloc, CONSTANT_A, None, Expr::Int(at(42), 1))?,
+            constant(alloc, NAMED_INIT, None, Expr::Int(at(42), 1))?,
+            FaultKind::OutOfProfile,
+            17,
+        ),
+        (
+            constant(alloc, CONSTANT_A, None, Expr::Int(at(42), 1))?,
+            constant(alloc, NO_NAME, None, word(UNKNOWN))?,
+            FaultKind::Unknown,
+            22,
+        ),
+    ];
+    for (first, last, kind, offset) in table {
+        let tree = around(alloc, first, Expr::Int(at(52), 1), last)?;
+        assert!(rt; fails(alloc, &tree, kind, offset));
+    }
+
+    // It is beyond int where a value is wanted.
+    let first = constant(alloc, CONSTANT_A, None, Expr::Int(at(42), BEYOND))?;
+    let last = constant(alloc, CONSTANT_B, None, Expr::Int(at(42), 1))?;
+    let tree = around(alloc, first, word(CONSTANT_A), last)?;
+    assert!(rt; fails(alloc, &tree, FaultKind::ConstRange, 5));
     Ok(())
 }

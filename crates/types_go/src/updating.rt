@@ -7,7 +7,7 @@ ghost use Rattle.syntax.specs.Expressions.{spelled, ex_of as tree_of, exs_of as 
 ghost use Rattle.syntax.specs.FirstBytes.{first_place};
 ghost use Rattle.typed.specs.View.{st_of};
 ghost use Rattle.expression_types.specs.Least.{IsLeast};
-ghost use Rattle.expression_types.specs.Profile.{is_blank, is_reserved};
+ghost use Rattle.expression_types.specs.Universe.{is_blank};
 ghost use Rattle.expression_types.specs.Scope.{scope_of, declaration};
 ghost use Rattle.expression_types.specs.Typing.{many, count, name_in, gives, seen, operand_in, combined, both};
 ghost use Rattle.expression_types.specs.Faults.{fault as fault_at, IsFault, pair_fault, refused_fault, ValuesFail, FailsInEach, FailsAsOperand};
@@ -21,8 +21,8 @@ use crate::statements::Line;
 use base::{NoMemory, Pos};
 use expression_types::{
     Declared, Fault, FaultKind, Item, Operand, Scope, ValueType, check_list, check_single, count,
-    declaration, is_blank, is_reserved, lesser, name_in, pair_fault, paired, same_type, spelled,
-    type_of, values_fault,
+    declaration, is_blank, lesser, name_in, pair_fault, paired, same_type, spelled, type_of,
+    values_fault,
 };
 use std::alloc::Global;
 use syntax::{ArithmeticOp, Expr, Name};
@@ -50,7 +50,7 @@ fn name_value(text: &[u8], scope: &Scope, name: Name) -> Option<Operand>
     ensures { option_map operand_of result ≡ own_value text.now (scope_of scope.now) (Some name) }
 {
     let bytes = spelled(text, name);
-    if is_reserved(bytes) {
+    if is_blank(bytes) {
         None
     } else {
         variable_value(declaration(scope, bytes))
@@ -67,14 +67,8 @@ fn own_value(text: &[u8], scope: &Scope, e: &Expr) -> Option<Operand>
     }
 }
 
-fn own_fault_of(
-    blank: bool,
-    reserved: bool,
-    declared: Option<Declared>,
-    pos: Pos,
-    whole: Pos,
-) -> Option<Fault>
-    ensures { result ≡ own_fault blank reserved declared pos whole }
+fn own_fault_of(blank: bool, declared: Option<Declared>, pos: Pos, whole: Pos) -> Option<Fault>
+    ensures { result ≡ own_fault blank declared pos whole }
 {
     if blank {
         Some(Fault {
@@ -82,23 +76,17 @@ fn own_fault_of(
             pos,
         })
     } else {
-        left_fault_of(false, reserved, declared, pos, whole)
+        left_fault_of(false, declared, pos, whole)
     }
 }
 
 /// The fault of a name whose value is asked for, as a left side that begins at a place.
 #[tactic(auto, using(expression_types::proofs::Leasts::leaf))]
 fn name_fault(text: &[u8], scope: &Scope, name: Name, whole: Pos) -> Option<Fault>
-    ensures { IsLeast (IsFault (own_fault (is_blank (spelled text.now name)) (is_reserved (spelled text.now name)) (declaration (scope_of scope.now) (spelled text.now name)) name.pos whole)) result }
+    ensures { IsLeast (IsFault (own_fault (is_blank (spelled text.now name)) (declaration (scope_of scope.now) (spelled text.now name)) name.pos whole)) result }
 {
     let bytes = spelled(text, name);
-    own_fault_of(
-        is_blank(bytes),
-        is_reserved(bytes),
-        declaration(scope, bytes),
-        name.pos,
-        whole,
-    )
+    own_fault_of(is_blank(bytes), declaration(scope, bytes), name.pos, whole)
 }
 
 /// The fault of a left side whose value is asked for.

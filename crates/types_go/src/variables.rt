@@ -37,11 +37,11 @@ struct Given {
 }
 
 /// The type that stands in a declaration.
-fn spec_type(text: &[u8], type_expr: &Option<Expr>) -> Option<ValueType>
-    ensures { result ≡ spec_type text.now (ex_in type_expr.now) }
+fn spec_type(text: &[u8], scope: &Scope, type_expr: &Option<Expr>) -> Option<ValueType>
+    ensures { result ≡ spec_type text.now (scope_of scope.now) (ex_in type_expr.now) }
 {
     match type_expr {
-        Some(e) => type_in(text, e),
+        Some(e) => type_in(text, scope, e),
         None => None,
     }
 }
@@ -59,11 +59,13 @@ fn spec_type_fault(text: &[u8], scope: &Scope, type_expr: &Option<Expr>) -> Opti
 fn spec_wanted(
     alloc: Global,
     text: &[u8],
+    scope: &Scope,
     spec: &ValueSpec,
 ) -> Result<Vec<Option<ValueType>>, NoMemory>
-    ensures { IfOk result (λ v. v.items ≡ spec_wanted text.now (value_spec_of spec.now)) }
+    ensures { IfOk result (λ v. v.items ≡ spec_wanted text.now (scope_of scope.now) (value_spec_of spec.now)) }
 {
-    let slots = slots_with(alloc, &spec.names, spec_type(text, &spec.type_expr))?;
+    let value_type = spec_type(text, scope, &spec.type_expr);
+    let slots = slots_with(alloc, &spec.names, value_type)?;
     slot_types(alloc, &slots)
 }
 
@@ -75,12 +77,12 @@ fn check_values(
     pos: Pos,
     spec: &ValueSpec,
 ) -> Result<Given, NoMemory>
-    ensures values { IfOk result (λ g. option_map exs_of_values g.values ≡ taken (spec_wanted text.now (value_spec_of spec.now)) (seen text.now (scope_of scope.now) (trees_of spec.now.values.items))) }
-    ensures types { IfOk result (λ g. option_map (λ v. v.items) g.types ≡ taken_types (spec_wanted text.now (value_spec_of spec.now)) (seen text.now (scope_of scope.now) (trees_of spec.now.values.items))) }
+    ensures values { IfOk result (λ g. option_map exs_of_values g.values ≡ taken (spec_wanted text.now (scope_of scope.now) (value_spec_of spec.now)) (seen text.now (scope_of scope.now) (trees_of spec.now.values.items))) }
+    ensures types { IfOk result (λ g. option_map (λ v. v.items) g.types ≡ taken_types (spec_wanted text.now (scope_of scope.now) (value_spec_of spec.now)) (seen text.now (scope_of scope.now) (trees_of spec.now.values.items))) }
     ensures fault { IfOk result (λ g. IsLeast (SpecTakeFails text.now (scope_of scope.now) pos (value_spec_of spec.now)) g.fault) }
 {
     let listed = check_list(alloc, text, scope, &spec.values)?;
-    let wanted = spec_wanted(alloc, text, spec)?;
+    let wanted = spec_wanted(alloc, text, scope, spec)?;
     let own = Fault {
         kind: FaultKind::ArgCount,
         pos,
@@ -100,13 +102,14 @@ fn check_values(
 fn spec_slots(
     alloc: Global,
     text: &[u8],
+    scope: &Scope,
     spec: &ValueSpec,
     types: &Option<Vec<ValueType>>,
 ) -> Result<Vec<Slot>, NoMemory>
-    ensures { IfOk result (λ v. v.items ≡ spec_slots_of text.now (ex_in spec.now.type_expr) (option_map (λ t. t.items) types.now) spec.now.names.items) }
+    ensures { IfOk result (λ v. v.items ≡ spec_slots_of text.now (scope_of scope.now) (ex_in spec.now.type_expr) (option_map (λ t. t.items) types.now) spec.now.names.items) }
 {
     match &spec.type_expr {
-        Some(e) => slots_with(alloc, &spec.names, type_in(text, e)),
+        Some(e) => slots_with(alloc, &spec.names, type_in(text, scope, e)),
         None => slots_each(alloc, &spec.names, types),
     }
 }
@@ -125,11 +128,11 @@ fn declared(
 }
 
 /// Whether the type of a declaration is known, where it stands there.
-fn is_known(text: &[u8], type_expr: &Option<Expr>) -> bool
-    ensures { result ≡ is_known text.now (ex_in type_expr.now) }
+fn is_known(text: &[u8], scope: &Scope, type_expr: &Option<Expr>) -> bool
+    ensures { result ≡ is_known text.now (scope_of scope.now) (ex_in type_expr.now) }
 {
     match type_expr {
-        Some(e) => type_in(text, e).is_some(),
+        Some(e) => type_in(text, scope, e).is_some(),
         None => true,
     }
 }
@@ -168,7 +171,7 @@ fn check_bare(
     ensures fault { IfOk result (λ c. IsLeast (EntriesFail text.now Parameter (scope_of scope.old) (spec_slots text.now (scope_of scope.old) (value_spec_of spec.now))) c.fault) }
     ensures scope { OnOk result (scope_of scope.new ≡ behind_spec text.now (scope_of scope.old) (value_spec_of spec.now)) }
 {
-    let slots = spec_slots(alloc, text, spec, &None)?;
+    let slots = spec_slots(alloc, text, scope, spec, &None)?;
     let entries = check_entries(alloc, text, scope, Role::Parameter, &slots)?;
     Ok(Line {
         statement: declared(alloc, &entries.entries)?,
@@ -189,7 +192,7 @@ fn check_given(
     ensures scope { OnOk result (scope_of scope.new ≡ behind_spec text.now (scope_of scope.old) (value_spec_of spec.now)) }
 {
     let given = check_values(alloc, text, scope, pos, spec)?;
-    let slots = spec_slots(alloc, text, spec, &given.types)?;
+    let slots = spec_slots(alloc, text, scope, spec, &given.types)?;
     let entries = check_entries(alloc, text, scope, Role::Parameter, &slots)?;
     let lefts = entry_lefts(alloc, &entries.entries)?;
     Ok(Line {
@@ -229,10 +232,11 @@ fn check_spec(
     ensures fault { IfOk result (λ c. IsLeast (FailsInSpec text.now (scope_of scope.old) pos (value_spec_of spec.now)) c.fault) }
     ensures scope { OnOk result (scope_of scope.new ≡ behind_spec text.now (scope_of scope.old) (value_spec_of spec.now)) }
 {
+    let known = is_known(text, scope, &spec.type_expr);
     let type_fault = spec_type_fault(text, scope, &spec.type_expr);
     let line = check_names(alloc, text, scope, pos, spec)?;
     Ok(Line {
-        statement: statement_where(is_known(text, &spec.type_expr), line.statement),
+        statement: statement_where(known, line.statement),
         fault: lesser(type_fault, line.fault),
     })
 }

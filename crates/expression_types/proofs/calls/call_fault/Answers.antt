@@ -24,6 +24,9 @@ returns-in-Function c =
     let os = seens c.args.arguments.now in
     rw (c.in-Function.is) (subst (λ (ps : List (Option ValueType)). IsLeast (TakeFails own ps os) c.places_fault-in-Function.result) c.deref.ensures.value c.places_fault-in-Function.ensures)
 
+pub returns-in-Conversion : goal.returns-in-Conversion
+returns-in-Conversion c = rw (c.in-Conversion.is) c.conversion_fault.ensures
+
 pub returns-in-NoFunction : goal.returns-in-NoFunction
 returns-in-NoFunction c = rw (c.in-NoFunction.is) c.refused.ensures
 

@@ -9,7 +9,7 @@ use Rattle.expression_types.specs.Least.{IsLeast}
 use Rattle.types_go.specs.Functions.{main_number, program_functions}
 use Rattle.types_go.specs.FunctionFaults.{FailsIn}
 use Rattle.types_go.specs.Checked.{Types}
-use Rattle.types_go.proofs.Answering.{typed, one_program, typed_or_fails, given_main, given_functions, functions_given}
+use Rattle.types_go.proofs.Answering.{sound, typed, one_program, typed_or_fails, given_main, given_functions, functions_given}
 use Rattle.types_go.proofs.InFormProgram.{in_form}
 use Rattle.types_go.proofs.checking.check.Goals as goal
 
@@ -45,7 +45,7 @@ returns-in-Some-funcs-clause-typed c =
     let all : option_map (λ v. map func_of v.items) passed.funcs ≡ program_functions t = given_functions t least (option_map (λ v. map func_of v.items) passed.funcs) c.in_ok-main.ensures.funcs in
     let found : program_functions t ≡ Some (map func_of c.in-Some-funcs.funcs.items) = sym all ∙ ap (option_map (λ v. map func_of v.items)) c.in-Some-funcs.is in
     let main_some : main_number t ≡ Some c.in-Some-main.main.0 = sym c.in_ok-main.ensures.main ∙ ap (option_map (λ (f : FuncId). f.0)) c.in-Some-main.is in
-    let whole : Types t (program_of p) = typed t p found main_some c.in_ok-main.ensures.sites c.in_ok-main.ensures.strings in
+    let whole : Types t (program_of p) = typed t p (sound t least) found main_some c.in_ok-main.ensures.sites c.in_ok-main.ensures.strings in
     whole
 
 pub returns-in-Some-funcs-clause-in_form : goal.returns-in-Some-funcs-clause-in_form
@@ -57,7 +57,7 @@ returns-in-Some-funcs-clause-in_form c =
     let all : option_map (λ v. map func_of v.items) passed.funcs ≡ program_functions t = given_functions t least (option_map (λ v. map func_of v.items) passed.funcs) c.in_ok-main.ensures.funcs in
     let found : program_functions t ≡ Some (map func_of c.in-Some-funcs.funcs.items) = sym all ∙ ap (option_map (λ v. map func_of v.items)) c.in-Some-funcs.is in
     let main_some : main_number t ≡ Some c.in-Some-main.main.0 = sym c.in_ok-main.ensures.main ∙ ap (option_map (λ (f : FuncId). f.0)) c.in-Some-main.is in
-    let whole : Types t (program_of p) = typed t p found main_some c.in_ok-main.ensures.sites c.in_ok-main.ensures.strings in
+    let whole : Types t (program_of p) = typed t p (sound t least) found main_some c.in_ok-main.ensures.sites c.in_ok-main.ensures.strings in
     in_form t (program_of p) whole
 
 pub returns-in-Some-funcs-clause-only : goal.returns-in-Some-funcs-clause-only
@@ -69,5 +69,5 @@ returns-in-Some-funcs-clause-only c =
     let all : option_map (λ v. map func_of v.items) passed.funcs ≡ program_functions t = given_functions t least (option_map (λ v. map func_of v.items) passed.funcs) c.in_ok-main.ensures.funcs in
     let found : program_functions t ≡ Some (map func_of c.in-Some-funcs.funcs.items) = sym all ∙ ap (option_map (λ v. map func_of v.items)) c.in-Some-funcs.is in
     let main_some : main_number t ≡ Some c.in-Some-main.main.0 = sym c.in_ok-main.ensures.main ∙ ap (option_map (λ (f : FuncId). f.0)) c.in-Some-main.is in
-    let whole : Types t (program_of p) = typed t p found main_some c.in_ok-main.ensures.sites c.in_ok-main.ensures.strings in
+    let whole : Types t (program_of p) = typed t p (sound t least) found main_some c.in_ok-main.ensures.sites c.in_ok-main.ensures.strings in
     λ q a. one_program t (program_of p) q whole a

@@ -6,4 +6,4 @@ use Rattle.expression_types.proofs.Leasts.{Kept}
 use Rattle.types_go.proofs.checking.declaration_faults.Given as goal
 
 abbrev pub invariant-loop-decl : goal.invariant-loop-decl
-invariant-loop-decl l = Kept (DeclarationsFail l.text (scope_of l.scope) (declarations_of l.decls)) (DeclarationsFail l.text (scope_of l.scope) (declarations_of (drop l.decl-index l.decls))) l.fault
+invariant-loop-decl l = Kept (DeclarationsFail l.text (scope_of l.heads) (scope_of l.scope) (declarations_of l.decls)) (DeclarationsFail l.text (scope_of l.heads) (scope_of l.scope) (declarations_of (drop l.decl-index l.decls))) l.fault

@@ -3,7 +3,7 @@ use Rattle.std.specs.Option.{option_map}
 use Rattle.syntax.specs.declared.expression.Name.{Name}
 use Rattle.syntax.specs.Expressions.{spelled}
 use Rattle.typed.specs.View.{left_of as left_view}
-use Rattle.expression_types.specs.Profile.{is_blank, is_reserved}
+use Rattle.expression_types.specs.Universe.{is_blank}
 use Rattle.expression_types.specs.Scope.{scope_of, declaration, is_here}
 use Rattle.expression_types.specs.Faults.{IsFault}
 use Rattle.expression_types.specs.Passing.{with_last}
@@ -41,7 +41,7 @@ loop-name-preserved c =
     let site_is : cond b (1 + site) site ≡ length s.sites + c.in_ok-count.count = next_site b (length s.sites) c.loop-name.count c.in_ok-count.count counted in (
       rw (c.in_ok-lefts.ensures, c.in_ok-left.ensures) (front ∙ joined_more so_far (new_left text s site n) (new_lefts text s (cond b (1 + site) site) rest) ∙ ap (λ j. joined (with_last so_far (new_left text s site n)) (new_lefts text s j rest)) site_is),
       rw (c.lesser-fault.ensures)
-          (kept_more (NewNamesFail text s xs) (IsFault (new_name_fault (is_blank bytes) (is_reserved bytes) (is_here s bytes) (declaration s bytes) n.pos)) (NewNamesFail text s rest) c.loop-name.fault c.new_name_fault.result kept c.new_name_fault.ensures),
+          (kept_more (NewNamesFail text s xs) (IsFault (new_name_fault (is_blank bytes) (is_here s bytes) (declaration s bytes) n.pos)) (NewNamesFail text s rest) c.loop-name.fault c.new_name_fault.result kept c.new_name_fault.ensures),
     )
 
 pub returns-clause-lefts : goal.returns-clause-lefts

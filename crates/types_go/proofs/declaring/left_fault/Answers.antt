@@ -2,7 +2,7 @@ use Rattle.std.proofs.Common.{◌≡◌, Some, None, sym, ◌∙◌, subst}
 use Rattle.base.specs.declared.pos.Pos.{Pos}
 use Rattle.syntax.specs.Expressions.{ex_of, spelled}
 use Rattle.expression_types.specs.Least.{IsLeast}
-use Rattle.expression_types.specs.Profile.{is_blank, is_reserved}
+use Rattle.expression_types.specs.Universe.{is_blank}
 use Rattle.expression_types.specs.Scope.{scope_of, declaration}
 use Rattle.expression_types.specs.Faults.{IsFault}
 use Rattle.types_go.specs.StatementFaults.{left_fault}
@@ -16,7 +16,7 @@ returns-in-Some c =
     let n = c.in-Some.name in
     let bytes = spelled text n in
     rw (found)
-    (subst (λ (p : Pos). IsLeast (IsFault (left_fault (is_blank bytes) (is_reserved bytes) (declaration (scope_of c.args.scope.now) bytes) n.pos p)) c.name_left_fault.result) c.pos.ensures c.name_left_fault.ensures)
+    (subst (λ (p : Pos). IsLeast (IsFault (left_fault (is_blank bytes) (declaration (scope_of c.args.scope.now) bytes) n.pos p)) c.name_left_fault.result) c.pos.ensures c.name_left_fault.ensures)
 
 pub returns-in-None : goal.returns-in-None
 returns-in-None c =

@@ -8,5 +8,5 @@ use Rattle.types_go.proofs.functions.check_functions.Given as goal
 
 abbrev pub invariant-loop-decl : goal.invariant-loop-decl
 invariant-loop-decl l =
-    FunctionsKept l.text (scope_of l.fn.scope) (functions_in l.text (declarations_of l.decls)) (functions_in l.text (declarations_of (drop l.decl-index l.decls))) (scope_of l.scope) l.number (option_map (λ v. v.items) l.funcs) l.fault
+    FunctionsKept l.text (scope_of l.heads) (scope_of l.fn.scope) (functions_in l.text (scope_of l.heads) (declarations_of l.decls)) (functions_in l.text (scope_of l.heads) (declarations_of (drop l.decl-index l.decls))) (scope_of l.scope) l.number (option_map (λ v. v.items) l.funcs) l.fault
     × (l.number ≤ l.decl-index)

@@ -21,14 +21,15 @@ use Rattle.types_go.proofs.Lines.{parts_of}
 use Rattle.types_go.proofs.functions.check_parts.Goals as goal
 
 -- results that were looked at
-returns_is : (text : List ℕ) (g : TreeFunction) (r : Returns) (slots : List Slot) → r ≡ record { wanted = map (λ (slot : Slot). slot.value_type) slots; may_be_bare = (length slots == 0) || is_named g.results } → slots ≡ slots_of text g.results → r ≡ returns_of text g
-returns_is text g r slots is slots_are =
+returns_is : (text : List ℕ) (heads : Scope) (g : TreeFunction) (r : Returns) (slots : List Slot) → r ≡ record { wanted = map (λ (slot : Slot). slot.value_type) slots; may_be_bare = (length slots == 0) || is_named g.results } → slots ≡ slots_of text heads g.results → r ≡ returns_of text heads g
+returns_is text heads g r slots is slots_are =
     is ∙ ap (λ (l : List Slot). record { wanted = map (λ (slot : Slot). slot.value_type) l; may_be_bare = (length l == 0) || is_named g.results }) slots_are
-    ∙ ap (λ n. record { wanted = map (λ (slot : Slot). slot.value_type) (slots_of text g.results); may_be_bare = (n == 0) || is_named g.results }) (length-map (params_of g.results) (slot_of text))
+    ∙ ap (λ n. record { wanted = map (λ (slot : Slot). slot.value_type) (slots_of text heads g.results); may_be_bare = (n == 0) || is_named g.results }) (length-map (params_of g.results) (slot_of text heads))
 
 pub check_stmts-requires : goal.check_stmts-requires
 check_stmts-requires c =
     let text = c.args.text.now in
+    let heads = scope_of c.args.heads.now in
     omega (
       arith,
       c.requires,
@@ -42,6 +43,7 @@ check_stmts-requires c =
 pub close-requires : goal.close-requires
 close-requires c =
     let text = c.args.text.now in
+    let heads = scope_of c.args.heads.now in
     omega (
       arith,
       c.requires,
@@ -57,65 +59,67 @@ close-requires c =
 pub returns-clause-func : goal.returns-clause-func
 returns-clause-func c =
     let text = c.args.text.now in
+    let heads = scope_of c.args.heads.now in
     let s = scope_of c.args.scope.now in
     let g = function_of c.args.f.now in
     let b = body_view c.args.body.now in
     let params = option_map (λ v. map site_in v.items) c.in_ok-params.params.entries in
     let results = option_map (λ v. map site_in v.items) c.in_ok-results.results.entries in
     let body = option_map (λ v. sts_of v.items) c.in_ok-lines.lines.statements in
-    let ps_are : c.deref-2.result.now ≡ slots_of text g.params = c.deref-2.ensures.value ∙ c.in_ok-param_slots.ensures in
-    let rs_are : c.deref-3.result.now ≡ slots_of text g.results = c.deref-3.ensures.value ∙ c.in_ok-result_slots.ensures in
+    let ps_are : c.deref-2.result.now ≡ slots_of text heads g.params = c.deref-2.ensures.value ∙ c.in_ok-param_slots.ensures in
+    let rs_are : c.deref-3.result.now ≡ slots_of text heads g.results = c.deref-3.ensures.value ∙ c.in_ok-result_slots.ensures in
     let open1 : scope_of c.open.new.scope ≡ opened s = c.in_ok-open.ensures in
-    let behind1 : scope_of c.check_entries.new.scope ≡ behind_params text s g =
+    let behind1 : scope_of c.check_entries.new.scope ≡ behind_params text heads s g =
     c.in_ok-params.ensures.scope ∙ ap (λ v. behind_entries text v c.deref-2.result.now) open1 ∙ ap (λ (l : List Slot). behind_entries text (opened s) l) ps_are in
-    let behind2 : scope_of c.check_entries-2.new.scope ≡ body_scope text s g =
-    c.in_ok-results.ensures.scope ∙ ap (λ v. behind_entries text v c.deref-3.result.now) behind1 ∙ ap (λ (l : List Slot). behind_entries text (behind_params text s g) l) rs_are in
-    let ps : params ≡ param_entries text s g =
+    let behind2 : scope_of c.check_entries-2.new.scope ≡ body_scope text heads s g =
+    c.in_ok-results.ensures.scope ∙ ap (λ v. behind_entries text v c.deref-3.result.now) behind1 ∙ ap (λ (l : List Slot). behind_entries text (behind_params text heads s g) l) rs_are in
+    let ps : params ≡ param_entries text heads s g =
     c.in_ok-params.ensures.entries ∙ ap (λ v. entries text Parameter v c.deref-2.result.now) open1 ∙ ap (λ (l : List Slot). entries text Parameter (opened s) l) ps_are in
-    let rs : results ≡ result_entries text s g =
-    c.in_ok-results.ensures.entries ∙ ap (λ v. entries text Result v c.deref-3.result.now) behind1 ∙ ap (λ (l : List Slot). entries text Result (behind_params text s g) l) rs_are in
-    let counted : c.deref.result.now ≡ slots_of text g.results = c.deref.ensures.value ∙ c.in_ok-result_slots.ensures in
+    let rs : results ≡ result_entries text heads s g =
+    c.in_ok-results.ensures.entries ∙ ap (λ v. entries text Result v c.deref-3.result.now) behind1 ∙ ap (λ (l : List Slot). entries text Result (behind_params text heads s g) l) rs_are in
+    let counted : c.deref.result.now ≡ slots_of text heads g.results = c.deref.ensures.value ∙ c.in_ok-result_slots.ensures in
     let given = returns_view c.in_ok-returns.returns in
-    let returns : given ≡ returns_of text g = returns_is text g given c.deref.result.now c.in_ok-returns.ensures counted in
-    let typed : body ≡ body_of text s g b =
+    let returns : given ≡ returns_of text heads g = returns_is text heads g given c.deref.result.now c.in_ok-returns.ensures counted in
+    let typed : body ≡ body_of text heads s g b =
     c.in_ok-lines.ensures.statements ∙ ap (λ x. statements text x false (scope_of c.check_entries-2.new.scope) (stms_of c.deref-4.result.now)) returns
-    ∙ ap (λ v. statements text (returns_of text g) false v (stms_of c.deref-4.result.now)) behind2 ∙ ap (λ (l : List Stmt). statements text (returns_of text g) false (body_scope text s g) (stms_of l)) c.deref-4.ensures.value in
-    let whole : scope_of c.close.new.scope ≡ behind_body text s g (Some b) =
-    c.close.ensures ∙ ap closed (c.in_ok-lines.ensures.scope ∙ ap (λ v. behind_all text v (stms_of c.deref-4.result.now)) behind2 ∙ ap (λ (l : List Stmt). behind_all text (body_scope text s g) (stms_of l)) c.deref-4.ensures.value) in
+    ∙ ap (λ v. statements text (returns_of text heads g) false v (stms_of c.deref-4.result.now)) behind2 ∙ ap (λ (l : List Stmt). statements text (returns_of text heads g) false (body_scope text heads s g) (stms_of l)) c.deref-4.ensures.value in
+    let whole : scope_of c.close.new.scope ≡ behind_body text heads s g (Some b) =
+    c.close.ensures ∙ ap closed (c.in_ok-lines.ensures.scope ∙ ap (λ v. behind_all text v (stms_of c.deref-4.result.now)) behind2 ∙ ap (λ (l : List Stmt). behind_all text (body_scope text heads s g) (stms_of l)) c.deref-4.ensures.value) in
     let first : c.site_count-first.result ≡ length s.sites = c.site_count-first.ensures in
     let last0 : c.site_count.result ≡ length (scope_of c.close.new.scope).sites = c.site_count.ensures in
-    let last : c.site_count.result ≡ length (behind_body text s g (Some b)).sites = last0 ∙ ap (λ (v : Scope). length v.sites) whole in
-    let param_slots : c.deref-5.result.now ≡ slots_of text g.params = c.deref-5.ensures.value ∙ c.in_ok-param_slots.ensures in
-    let slots : c.deref-6.result.now ≡ slots_of text g.results = c.deref-6.ensures.value ∙ c.in_ok-result_slots.ensures in
-    c.in_ok-func.ensures.func ∙ parts_of text s g b c.deref-5.result.now c.deref-6.result.now c.site_count-first.result c.site_count.result params results body param_slots slots first last ps rs typed
+    let last : c.site_count.result ≡ length (behind_body text heads s g (Some b)).sites = last0 ∙ ap (λ (v : Scope). length v.sites) whole in
+    let param_slots : c.deref-5.result.now ≡ slots_of text heads g.params = c.deref-5.ensures.value ∙ c.in_ok-param_slots.ensures in
+    let slots : c.deref-6.result.now ≡ slots_of text heads g.results = c.deref-6.ensures.value ∙ c.in_ok-result_slots.ensures in
+    c.in_ok-func.ensures.func ∙ parts_of text heads s g b c.deref-5.result.now c.deref-6.result.now c.site_count-first.result c.site_count.result params results body param_slots slots first last ps rs typed
 
 pub returns-clause-fault : goal.returns-clause-fault
 returns-clause-fault c =
     let text = c.args.text.now in
+    let heads = scope_of c.args.heads.now in
     let s = scope_of c.args.scope.now in
     let g = function_of c.args.f.now in
     let b = body_view c.args.body.now in
     let params = c.in_ok-params.params.fault in
     let results = c.in_ok-results.results.fault in
     let lines = c.in_ok-lines.lines.fault in
-    let ps_are : c.deref-2.result.now ≡ slots_of text g.params = c.deref-2.ensures.value ∙ c.in_ok-param_slots.ensures in
-    let rs_are : c.deref-3.result.now ≡ slots_of text g.results = c.deref-3.ensures.value ∙ c.in_ok-result_slots.ensures in
+    let ps_are : c.deref-2.result.now ≡ slots_of text heads g.params = c.deref-2.ensures.value ∙ c.in_ok-param_slots.ensures in
+    let rs_are : c.deref-3.result.now ≡ slots_of text heads g.results = c.deref-3.ensures.value ∙ c.in_ok-result_slots.ensures in
     let open1 : scope_of c.open.new.scope ≡ opened s = c.in_ok-open.ensures in
-    let behind1 : scope_of c.check_entries.new.scope ≡ behind_params text s g =
+    let behind1 : scope_of c.check_entries.new.scope ≡ behind_params text heads s g =
     c.in_ok-params.ensures.scope ∙ ap (λ v. behind_entries text v c.deref-2.result.now) open1 ∙ ap (λ (l : List Slot). behind_entries text (opened s) l) ps_are in
-    let behind2 : scope_of c.check_entries-2.new.scope ≡ body_scope text s g =
-    c.in_ok-results.ensures.scope ∙ ap (λ v. behind_entries text v c.deref-3.result.now) behind1 ∙ ap (λ (l : List Slot). behind_entries text (behind_params text s g) l) rs_are in
-    let counted : c.deref.result.now ≡ slots_of text g.results = c.deref.ensures.value ∙ c.in_ok-result_slots.ensures in
+    let behind2 : scope_of c.check_entries-2.new.scope ≡ body_scope text heads s g =
+    c.in_ok-results.ensures.scope ∙ ap (λ v. behind_entries text v c.deref-3.result.now) behind1 ∙ ap (λ (l : List Slot). behind_entries text (behind_params text heads s g) l) rs_are in
+    let counted : c.deref.result.now ≡ slots_of text heads g.results = c.deref.ensures.value ∙ c.in_ok-result_slots.ensures in
     let given = returns_view c.in_ok-returns.returns in
-    let returns : given ≡ returns_of text g = returns_is text g given c.deref.result.now c.in_ok-returns.ensures counted in
-    let x : IsLeast (EntriesFail text Parameter (opened s) (slots_of text g.params)) params =
-    subst (λ v. IsLeast (EntriesFail text Parameter v (slots_of text g.params)) params) open1 (subst (λ (l : List Slot). IsLeast (EntriesFail text Parameter (scope_of c.open.new.scope) l) params) ps_are c.in_ok-params.ensures.fault) in
-    let y : IsLeast (EntriesFail text Result (behind_params text s g) (slots_of text g.results)) results =
-    subst (λ v. IsLeast (EntriesFail text Result v (slots_of text g.results)) results) behind1 (subst (λ (l : List Slot). IsLeast (EntriesFail text Result (scope_of c.check_entries.new.scope) l) results) rs_are c.in_ok-results.ensures.fault) in
-    let z : IsLeast (FailsInStatements text (returns_of text g) false (body_scope text s g) b.statements) lines =
-    subst (λ q. IsLeast (FailsInStatements text q false (body_scope text s g) b.statements) lines) returns
+    let returns : given ≡ returns_of text heads g = returns_is text heads g given c.deref.result.now c.in_ok-returns.ensures counted in
+    let x : IsLeast (EntriesFail text Parameter (opened s) (slots_of text heads g.params)) params =
+    subst (λ v. IsLeast (EntriesFail text Parameter v (slots_of text heads g.params)) params) open1 (subst (λ (l : List Slot). IsLeast (EntriesFail text Parameter (scope_of c.open.new.scope) l) params) ps_are c.in_ok-params.ensures.fault) in
+    let y : IsLeast (EntriesFail text Result (behind_params text heads s g) (slots_of text heads g.results)) results =
+    subst (λ v. IsLeast (EntriesFail text Result v (slots_of text heads g.results)) results) behind1 (subst (λ (l : List Slot). IsLeast (EntriesFail text Result (scope_of c.check_entries.new.scope) l) results) rs_are c.in_ok-results.ensures.fault) in
+    let z : IsLeast (FailsInStatements text (returns_of text heads g) false (body_scope text heads s g) b.statements) lines =
+    subst (λ q. IsLeast (FailsInStatements text q false (body_scope text heads s g) b.statements) lines) returns
     (subst (λ v. IsLeast (FailsInStatements text given false v b.statements) lines) behind2
     (subst (λ (l : List Stmt). IsLeast (FailsInStatements text given false (scope_of c.check_entries-2.new.scope) (stms_of l)) lines) c.deref-4.ensures.value c.in_ok-lines.ensures.fault)) in
     rw (c.lesser-fault.ensures, c.lesser.ensures)
-    (least_join _ (FailsInStatements text (returns_of text g) false (body_scope text s g) b.statements) (lesser params results) lines
-    (least_join (EntriesFail text Parameter (opened s) (slots_of text g.params)) (EntriesFail text Result (behind_params text s g) (slots_of text g.results)) params results x y) z)
+    (least_join _ (FailsInStatements text (returns_of text heads g) false (body_scope text heads s g) b.statements) (lesser params results) lines
+    (least_join (EntriesFail text Parameter (opened s) (slots_of text heads g.params)) (EntriesFail text Result (behind_params text heads s g) (slots_of text heads g.results)) params results x y) z)

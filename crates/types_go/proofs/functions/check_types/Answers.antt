@@ -11,10 +11,10 @@ use Rattle.types_go.proofs.functions.check_types.Goals as goal
 pub returns-clause-fault : goal.returns-clause-fault
 returns-clause-fault c =
     let text = c.args.text.now in
-    let s = scope_of c.args.scope.now in
+    let heads = scope_of c.args.heads.now in
     let g = function_of c.args.f.now in
-    let sig : option_map signature_of c.in_ok-signature.signature ≡ signature_in text g = c.in_ok-signature.ensures in
+    let sig : option_map signature_of c.in_ok-signature.signature ≡ signature_in text heads g = c.in_ok-signature.ensures in
     rw (c.lesser-2.ensures, c.lesser.ensures, c.size_fault-own.ensures, sig)
-    (least_join _ (IsFault (size_fault (signature_in text g) g.name.pos)) _ _
-    (least_join (TypesFail text s (params_of g.params)) (TypesFail text s (params_of g.results)) c.types_fault-params_fault.result c.types_fault-results_fault.result c.types_fault-params_fault.ensures c.types_fault-results_fault.ensures)
-    (leaf (size_fault (signature_in text g) g.name.pos)))
+    (least_join _ (IsFault (size_fault (signature_in text heads g) g.name.pos)) _ _
+    (least_join (TypesFail text heads (params_of g.params)) (TypesFail text heads (params_of g.results)) c.types_fault-params_fault.result c.types_fault-results_fault.result c.types_fault-params_fault.ensures c.types_fault-results_fault.ensures)
+    (leaf (size_fault (signature_in text heads g) g.name.pos)))

@@ -9,16 +9,18 @@ use Rattle.types_go.proofs.signatures.add_items.Goals as goal
 pub loop-decl-preserved : goal.loop-decl-preserved
 loop-decl-preserved c =
     let text = c.args.text.now in
+    let heads = scope_of c.args.heads.now in
     let xs = c.args.decls.now in
     let k = c.loop-decl.decl-index in
     let x : Decl = c.decl-item.result in
     let here : drop k xs ≡ x ∷ drop (k + 1) xs = from_one xs k x c.loop-decl-test.true c.decl-item.is in
-    rw (c.in_ok-add_item.ensures) (c.loop-decl.invariant ∙ ap (λ (l : List Decl). with_items text (scope_of c.loop-decl.scope) (declarations_of l)) here)
+    rw (c.in_ok-add_item.ensures) (c.loop-decl.invariant ∙ ap (λ (l : List Decl). with_items text heads (scope_of c.loop-decl.scope) (declarations_of l)) here)
 
 pub returns : goal.returns
 returns c =
     let text = c.args.text.now in
+    let heads = scope_of c.args.heads.now in
     let xs = c.args.decls.now in
     let k = c.loop-decl.decl-index in
     let none : drop k xs ≡ [] = nothing_left xs k (λ l. absurd (omega (arith, l, c.loop-decl-test.false))) in
-    sym (c.loop-decl.invariant ∙ ap (λ (l : List Decl). with_items text (scope_of c.loop-decl.scope) (declarations_of l)) none)
+    sym (c.loop-decl.invariant ∙ ap (λ (l : List Decl). with_items text heads (scope_of c.loop-decl.scope) (declarations_of l)) none)

@@ -18,7 +18,7 @@ loop-field-init c = kept_start _
 pub loop-field-preserved : goal.loop-field-preserved
 loop-field-preserved c =
     let text = c.args.text.now in
-    let s = scope_of c.args.scope.now in
+    let s = scope_of c.args.heads.now in
     let xs = c.args.fields.now in
     let k = c.loop-field.field-index in
     let x : Field = c.field-item.result in
@@ -36,7 +36,7 @@ loop-field-preserved c =
 pub returns : goal.returns
 returns c =
     let text = c.args.text.now in
-    let s = scope_of c.args.scope.now in
+    let s = scope_of c.args.heads.now in
     let xs = c.args.fields.now in
     let k = c.loop-field.field-index in
     let none : drop k xs ≡ [] = nothing_left xs k (λ l. absurd (omega (arith, l, c.loop-field-test.false))) in

@@ -12,9 +12,9 @@ use Rattle.types_go.proofs.slots.types_fault.Goals as goal
 pub returns-in-Unnamed : goal.returns-in-Unnamed
 returns-in-Unnamed c =
     rw (c.in-Unnamed.is)
-    (subst (λ (l : List Expr). IsLeast (TypesFail c.args.text.now (scope_of c.args.scope.now) (unnamed_params (exs_of l))) c.unnamed_fault.result) c.deref.ensures.value c.unnamed_fault.ensures)
+    (subst (λ (l : List Expr). IsLeast (TypesFail c.args.text.now (scope_of c.args.heads.now) (unnamed_params (exs_of l))) c.unnamed_fault.result) c.deref.ensures.value c.unnamed_fault.ensures)
 
 pub returns-in-Named : goal.returns-in-Named
 returns-in-Named c =
     rw (c.in-Named.is)
-    (subst (λ (l : List Field). IsLeast (TypesFail c.args.text.now (scope_of c.args.scope.now) (named_params (fields_of l))) c.named_fault.result) c.deref-in-Named.ensures.value c.named_fault.ensures)
+    (subst (λ (l : List Field). IsLeast (TypesFail c.args.text.now (scope_of c.args.heads.now) (named_params (fields_of l))) c.named_fault.result) c.deref-in-Named.ensures.value c.named_fault.ensures)

@@ -15,7 +15,7 @@ loop-type_expr-init c = kept_start _
 pub loop-type_expr-preserved : goal.loop-type_expr-preserved
 loop-type_expr-preserved c =
     let text = c.args.text.now in
-    let s = scope_of c.args.scope.now in
+    let s = scope_of c.args.heads.now in
     let xs = c.args.types.now in
     let k = c.loop-type_expr.type_expr-index in
     let e : Expr = c.type_expr-item.result in
@@ -28,7 +28,7 @@ loop-type_expr-preserved c =
 pub returns : goal.returns
 returns c =
     let text = c.args.text.now in
-    let s = scope_of c.args.scope.now in
+    let s = scope_of c.args.heads.now in
     let xs = c.args.types.now in
     let k = c.loop-type_expr.type_expr-index in
     let none : drop k xs ≡ [] = nothing_left xs k (λ l. absurd (omega (arith, l, c.loop-type_expr-test.false))) in

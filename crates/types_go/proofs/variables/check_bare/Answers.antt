@@ -17,5 +17,5 @@ returns-clause-fault c =
     let s = scope_of c.args.scope.now in
     let v = value_spec_of c.args.spec.now in
     let slots : c.deref.result.now ≡ spec_slots text s v =
-    c.deref.ensures.value ∙ c.in_ok-slots.ensures ∙ bare_slots text (ex_in c.args.spec.now.type_expr) (exs_of c.args.spec.now.values.items) None (taken_types (spec_wanted text v) (seen text s v.values)) c.args.spec.now.names.items c.requires in
+    c.deref.ensures.value ∙ c.in_ok-slots.ensures ∙ bare_slots text s (ex_in c.args.spec.now.type_expr) (exs_of c.args.spec.now.values.items) None (taken_types (spec_wanted text s v) (seen text s v.values)) c.args.spec.now.names.items c.requires in
     subst (λ (l : List Slot). IsLeast (EntriesFail text Parameter s l) c.in_ok-entries.entries.fault) slots c.in_ok-entries.ensures.fault

@@ -17,7 +17,7 @@ returns-clause-fault c =
     let s = scope_of c.args.scope.now in
     let v = value_spec_of c.args.spec.now in
     let slots : c.deref.result.now ≡ spec_slots text s v =
-    c.deref.ensures.value ∙ c.in_ok-slots.ensures ∙ ap (λ (ts : Option (List ValueType)). spec_slots_of text (ex_in c.args.spec.now.type_expr) ts c.args.spec.now.names.items) c.in_ok-given.ensures.types in
+    c.deref.ensures.value ∙ c.in_ok-slots.ensures ∙ ap (λ (ts : Option (List ValueType)). spec_slots_of text s (ex_in c.args.spec.now.type_expr) ts c.args.spec.now.names.items) c.in_ok-given.ensures.types in
     let names : IsLeast (EntriesFail text Parameter s (spec_slots text s v)) c.in_ok-entries.entries.fault =
     subst (λ (l : List Slot). IsLeast (EntriesFail text Parameter s l) c.in_ok-entries.entries.fault) slots c.in_ok-entries.ensures.fault in
     rw (c.lesser.ensures) (least_join _ _ c.in_ok-given.given.fault c.in_ok-entries.entries.fault c.in_ok-given.ensures.fault names)

@@ -22,9 +22,9 @@ returns-clause-fault c =
     let own = fault ArgCount c.args.pos in
     let es : c.deref.result.now ≡ c.args.spec.now.values.items = c.deref.ensures.value in
     let each : IsLeast (FailsInEach text s v.values) listed.fault = subst (λ (l : List Expr). IsLeast (FailsInEach text s (exs_of l)) listed.fault) es c.in_ok-listed.ensures.fault in
-    let ps : c.deref-2.result.now ≡ spec_wanted text v = c.deref-2.ensures.value ∙ c.in_ok-wanted.ensures in
+    let ps : c.deref-2.result.now ≡ spec_wanted text s v = c.deref-2.ensures.value ∙ c.in_ok-wanted.ensures in
     let os : seens c.deref-3.result.now ≡ seen text s v.values = ap seens c.deref-3.ensures.value ∙ c.in_ok-listed.ensures.seen ∙ ap (λ (l : List Expr). seen text s (exs_of l)) es in
-    let taken : IsLeast (TakeFails own (spec_wanted text v) (seen text s v.values)) c.take_fault-values_fault.result =
-    subst (λ (l : List Seen). IsLeast (TakeFails own (spec_wanted text v) l) c.take_fault-values_fault.result) os
+    let taken : IsLeast (TakeFails own (spec_wanted text s v) (seen text s v.values)) c.take_fault-values_fault.result =
+    subst (λ (l : List Seen). IsLeast (TakeFails own (spec_wanted text s v) l) c.take_fault-values_fault.result) os
     (subst (λ (l : List (Option ValueType)). IsLeast (TakeFails own l (seens c.deref-3.result.now)) c.take_fault-values_fault.result) ps c.take_fault-values_fault.ensures) in
     rw (c.lesser.ensures) (least_join _ _ listed.fault c.take_fault-values_fault.result each taken)

@@ -1,0 +1,4 @@
+pub mod Constants
+pub mod Needs
+pub mod ConstantFaults
+pub mod Passing

@@ -1,0 +1,7 @@
+package main
+
+func f() int { return 1 }
+
+const c = 1 + f()
+
+func main() { println(c) }

@@ -1,0 +1,7 @@
+package main
+
+func main() {
+	for i, j := range 3 {
+		println(i, j)
+	}
+}
