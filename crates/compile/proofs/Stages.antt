@@ -15,8 +15,8 @@ use Rattle.parse_go.specs.declared.fault.ParseFault.TheVariants as parse
 use Rattle.syntax.specs.Declarations.{Syntax}
 use Rattle.parse_go.specs.Grammar.{IsText}
 use Rattle.parse_go.specs.Faults.{GivesTree}
-use Rattle.expression_types.specs.declared.fault.TypeFault.{TypeFault}
-use Rattle.expression_types.specs.declared.fault.TypeFault.TheVariants as typing
+use Rattle.value_types.specs.declared.fault.TypeFault.{TypeFault}
+use Rattle.value_types.specs.declared.fault.TypeFault.TheVariants as typing
 use Rattle.types_go.specs.Checked.{Types, Reports, OnlyProgram}
 use Rattle.typed.specs.Syntax.{Func, Program}
 use Rattle.typed.specs.View.{func_of, program_of}

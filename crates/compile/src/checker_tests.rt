@@ -3,7 +3,7 @@
 use crate::{CompileFault, compile};
 use std::alloc::Global;
 use std::test::Fail;
-use types_go::{FaultKind, TypeFault};
+use value_types::{FaultKind, TypeFault};
 
 /// The kind of the type fault of a text, with its line and column; nothing where the text has none.
 fn fault_of(alloc: Global, text: &[u8]) -> Option<(FaultKind, u32, u32)> {

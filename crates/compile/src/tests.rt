@@ -7,7 +7,7 @@ use parse_go::ParseFault;
 use scan_go::{FaultKind as ScanKind, ScanFault};
 use std::alloc::Global;
 use std::test::Fail;
-use types_go::{Fault, FaultKind, TypeFault};
+use value_types::{Fault, FaultKind, TypeFault};
 
 fn pos(offset: u32, line: u32, col: u32) -> Pos {
     Pos { offset, line, col }

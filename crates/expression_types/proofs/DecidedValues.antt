@@ -7,19 +7,23 @@ use Rattle.base.specs.declared.pos.Pos.{Pos}
 use Rattle.typed.specs.Value.{int}
 use Rattle.typed.specs.Syntax.{Ex, Exs}
 use Rattle.typed.specs.Syntax as typed
-use Rattle.expression_types.specs.declared.fault.Fault.{Fault}
-use Rattle.expression_types.specs.declared.fault.FaultKind.TheVariants.{ConstRange, Mismatch}
-use Rattle.expression_types.specs.declared.constant.Constant.{Constant}
-use Rattle.expression_types.specs.declared.constant.Constant.TheVariants.{Number, Truth}
-use Rattle.expression_types.specs.declared.scope.ValueType.{ValueType}
-use Rattle.expression_types.specs.Least.{IsLeast}
-use Rattle.expression_types.specs.Scope.{type_number}
-use Rattle.expression_types.specs.Typing.{Operand, constant, value, Part, valued, Gives, one, called, asking, quoted, printed, panicked, exited, Seen, Many, allowed, type_of, single, operand_in, value_in, constant_value, as_value, as_part, part_in, is_part, is_int, listed, values, parts, are_single, are_parts, part_count, many_in, many, count_of, count, each, types_agree, values_agree, fits_with, fits, all_values, taken, types_with, value_types, single_types, taken_types, panicked_with, exit_places, exited_with}
-use Rattle.expression_types.specs.Faults.{fault, IsFault, single_fault, part_fault, constant_range_fault, SinglesFail, PartsFail, ValuesFail, range_fault, RangeFails, TypesFail, results_fault, MismatchFails, CountFails, TakeFails, refused_fault}
-use Rattle.expression_types.proofs.Decided.{Decided, Tested, further, mapped, after, both_tested, same, turned}
-use Rattle.expression_types.proofs.Items.{and_true}
+use Rattle.value_types.specs.declared.fault.Fault.{Fault}
+use Rattle.value_types.specs.declared.fault.FaultKind.TheVariants.{ConstRange, Mismatch}
+use Rattle.value_types.specs.declared.constant.Constant.{Constant}
+use Rattle.value_types.specs.declared.constant.Constant.TheVariants.{Number, Truth}
+use Rattle.value_types.specs.declared.value_type.ValueType.{ValueType}
+use Rattle.value_types.specs.Least.{IsLeast}
+use Rattle.value_types.specs.Given.{allowed}
+use Rattle.value_types.specs.Constants.{is_int}
+use Rattle.value_types.specs.Faults.{fault, IsFault, constant_range_fault}
+use Rattle.value_types.proofs.Decided.{Decided, Tested, further, mapped, after, both_tested, same, turned}
+use Rattle.value_types.proofs.Options.{and_then_some, map_some, none_some, same_some}
+use Rattle.operators.specs.Operands.{Operand, constant, value, type_of, constant_value, as_value}
+use Rattle.names.specs.Scope.{type_number}
+use Rattle.expression_types.specs.Typing.{Part, valued, Gives, one, called, asking, quoted, printed, panicked, exited, Seen, Many, single, operand_in, value_in, as_part, part_in, is_part, listed, values, parts, are_single, are_parts, part_count, many_in, many, count_of, count, each, types_agree, values_agree, fits_with, fits, all_values, taken, types_with, value_types, single_types, taken_types, panicked_with, exit_places, exited_with}
+use Rattle.expression_types.specs.Faults.{single_fault, part_fault, SinglesFail, PartsFail, ValuesFail, range_fault, RangeFails, TypesFail, results_fault, MismatchFails, CountFails, TakeFails, refused_fault}
+use Rattle.value_types.proofs.Lists.{and_true}
 use Rattle.expression_types.proofs.Places.{agree_tested}
-use Rattle.expression_types.proofs.Options.{and_then_some, map_some, none_some, same_some}
 
 -- one value of what is given
 pub single_decided : (g : Gives) → Decided (single g) (IsFault (single_fault (Some g)))

@@ -1,91 +1,24 @@
 -- Constants that an expression gives are held by their types, where those of the scope are.
-use Rattle.std.proofs.Common.{◌≡◌, ℕ, ◌^◌, pos, Bool, true, false, cond, List, [], ◌∷◌, Option, Some, None, Result, Ok, Err, refl, subst}
-use Rattle.std.specs.Prelude.{option_and_then, nat_lt, slice_get, ◌&&◌}
+use Rattle.std.proofs.Common.{◌≡◌, ℕ, ◌^◌, pos, Bool, true, false, cond, List, [], ◌∷◌, Option, Some, None, refl, subst}
+use Rattle.std.specs.Prelude.{option_and_then, nat_lt}
 use Rattle.std.specs.Option.{option_map}
 use Rattle.base.specs.declared.pos.Pos.{Pos}
 use Rattle.syntax.specs.declared.operator.BinOp.{BinOp}
 use Rattle.syntax.specs.declared.operator.UnOp.{UnOp}
 use Rattle.syntax.specs.FirstBytes.{first_place}
 use Rattle.syntax.specs.Expressions.{Ex as TreeEx, number, string, name, unary, binary, paren, call, selector, index, slice, array_type, slice_type, literal, elements, spelled}
-use Rattle.typed.specs.declared.operators.UnOp.{UnOp as TypedPrefix}
 use Rattle.typed.specs.Syntax.{Ex, Exs}
-use Rattle.typed.specs.Syntax as typed
-use Rattle.names.specs.declared.constants.Const.{Const}
-use Rattle.names.specs.declared.constants.Const.TheVariants as const
-use Rattle.names.specs.declared.constants.ConstFault.{ConstFault}
-use Rattle.names.specs.Constants.{folded_one}
-use Rattle.expression_types.specs.declared.constant.Constant.{Constant}
-use Rattle.expression_types.specs.declared.constant.Constant.TheVariants.{Number, Truth}
-use Rattle.expression_types.specs.declared.constant.Fixed.{Fixed}
-use Rattle.expression_types.specs.declared.scope.ValueType.{ValueType}
-use Rattle.expression_types.specs.declared.scope.ValueType.TheVariants.{Int, Bool as Boolean}
-use Rattle.expression_types.specs.Scope.{Scope, declaration}
-use Rattle.expression_types.specs.Typing.{Operand, constant, untyped, value, Part, one, called, asking, printed, allowed, constant_type, is_held, const_of, of_type, constant_of, name_operand, has_rules, takes_one, prefix_of, prefixed, prefix_gives, takes, both_values, value_pair, right_allowed, type_of, as_value, joint_type, converts, worked_out, combined, both, pair_gives, operand_in, Seen, parts, values, fits, taken, Callee, printer, panicker, reader, exiter, function, conversion, no_function, no_spread, no_text_spread, nothing, exit_places, panicked_with, exited_with, called_with, spread_over, name_in, callee, gives, seen}
-use Rattle.expression_types.proofs.Options.{and_then_some, none_some, same_some}
-
-abbrev pub IsHeld : Operand → Type 0
-IsHeld (constant f) = is_held f.value_type f.value ≡ true
-IsHeld (value t x) = Unit {0}
-
--- the constants of a scope whose values are known
-abbrev pub AreHeld : List (Option Fixed) → Type 0
-AreHeld constants = (k : ℕ) (f : Fixed) → option_and_then (λ o. o) (slice_get constants k) ≡ Some f → is_held f.value_type f.value ≡ true
-
--- a type that holds a constant is the one that the constant has by itself
-pub held_type : (t : Option ValueType) (c : Constant) → is_held t c ≡ true → constant_type t c ≡ constant_type None c
-held_type None c is = refl
-held_type (Some Int) (Number z) is = refl
-held_type (Some Boolean) (Truth b) is = refl
-held_type (Some Int) (Truth b) is = cc is
-held_type (Some Boolean) (Number z) is = cc is
-
-module _ (P : Operand → Type 0) (known : (f : Fixed) → is_held f.value_type f.value ≡ true → P (constant f)) where
-  of_type_is : (t : Option ValueType) (c : Constant) (x : Operand) → of_type t c ≡ Some x → P x
-  of_type_is t c x = by (is_held t c) refl
-    where
-      by : (b : Bool) → is_held t c ≡ b → allowed b (Some (constant (record { value_type = t; value = c }))) ≡ Some x → P x
-      by true h is = subst P (same_some is) (known (record { value_type = t; value = c }) h)
-      by false h is = absurd (none_some is)
-
-  -- what a constant expression gives is held by its type
-  pub constant_is : (t : Option ValueType) (r : Result Const ConstFault) (x : Operand) → constant_of t r ≡ Some x → P x
-  constant_is t (Ok (const.Int z)) x is = of_type_is t (Number z) x is
-  constant_is t (Ok (const.Bool b)) x is = of_type_is t (Truth b) x is
-  constant_is t (Ok const.NoConst) x is = absurd (none_some is)
-  constant_is t (Err e) x is = absurd (none_some is)
-
-constant_held : (t : Option ValueType) (r : Result Const ConstFault) (x : Operand) → constant_of t r ≡ Some x → IsHeld x
-constant_held t r x is = constant_is IsHeld (λ f h. h) t r x is
-
-allowed_held : (b : Bool) (o : Option Operand) (x : Operand) → ((y : Operand) → o ≡ Some y → IsHeld y) → allowed b o ≡ Some x → IsHeld x
-allowed_held true o x held is = held x is
-allowed_held false o x held is = absurd (none_some is)
-
-pub prefixed_held : (op : UnOp) (x y : Operand) → prefixed op x ≡ Some y → IsHeld y
-prefixed_held op (constant f) y is =
-    allowed_held (takes_one op (constant_type f.value_type f.value)) (constant_of f.value_type (folded_one op (const_of f.value))) y (λ z e. constant_held f.value_type (folded_one op (const_of f.value)) z e) is
-prefixed_held op (value t x) y is = allowed_held (takes_one op t) (option_map (λ g. value t (typed.unary g x)) (prefix_of op)) y (λ z e. by (prefix_of op) z e) is
-  where
-    by : (o : Option TypedPrefix) (z : Operand) → option_map (λ g. value t (typed.unary g x)) o ≡ Some z → IsHeld z
-    by None z e = absurd (none_some e)
-    by (Some g) z e = subst IsHeld (same_some e) tt
-
-both_held : (at : Pos) (op : BinOp) (a b : Option Ex) (z : Operand) → both_values at op a b ≡ Some z → IsHeld z
-both_held at op None b z is = absurd (none_some is)
-both_held at op (Some x) None z is = absurd (none_some is)
-both_held at op (Some x) (Some y) z is = subst IsHeld (same_some is) tt
-
-value_pair_held : (at : Pos) (op : BinOp) (x y z : Operand) → value_pair at op x y ≡ Some z → IsHeld z
-value_pair_held at op x y z is =
-    allowed_held (takes op (type_of x) (type_of y) && right_allowed op y) (both_values at op (as_value x) (as_value y)) z (λ w e. both_held at op (as_value x) (as_value y) w e) is
-
-pub pair_held : (at : Pos) (op : BinOp) (x y z : Operand) → combined at op x y ≡ Some z → IsHeld z
-pair_held at op (constant a) (constant b) z is =
-    let j = joint_type op a.value_type b.value_type in
-    allowed_held (takes op (constant_type a.value_type a.value) (constant_type b.value_type b.value) && converts op a b) (constant_of j (worked_out op a b)) z (λ w e. constant_held j (worked_out op a b) w e) is
-pair_held at op (constant a) (value t y) z is = value_pair_held at op (constant a) (value t y) z is
-pair_held at op (value s x) (constant b) z is = value_pair_held at op (value s x) (constant b) z is
-pair_held at op (value s x) (value t y) z is = value_pair_held at op (value s x) (value t y) z is
+use Rattle.value_types.specs.declared.constant.Constant.TheVariants.{Number}
+use Rattle.value_types.specs.declared.value_type.ValueType.{ValueType}
+use Rattle.value_types.specs.Constants.{untyped}
+use Rattle.value_types.specs.Given.{allowed, both}
+use Rattle.value_types.proofs.Options.{and_then_some, none_some, same_some}
+use Rattle.operators.specs.Operands.{Operand, constant}
+use Rattle.operators.specs.Operators.{has_rules, prefixed, combined}
+use Rattle.operators.proofs.Held.{IsHeld, prefixed_held, pair_held}
+use Rattle.names.specs.Scope.{Scope, declaration}
+use Rattle.names.specs.Naming.{name_in}
+use Rattle.expression_types.specs.Typing.{Part, one, called, asking, printed, name_operand, prefix_gives, pair_gives, operand_in, Seen, parts, values, fits, taken, Callee, printer, panicker, reader, exiter, function, conversion, no_function, no_spread, no_text_spread, nothing, exit_places, panicked_with, exited_with, called_with, spread_over, callee, gives, seen}
 
 single_one : (o : Option Operand) (P : Operand → Type 0) (x : Operand) → ((y : Operand) → o ≡ Some y → P y) → operand_in (option_map one o) ≡ Some x → P x
 single_one None P x held is = absurd (none_some is)

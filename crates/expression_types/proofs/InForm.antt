@@ -25,22 +25,27 @@ use Rattle.typed.specs.Value.{int}
 use Rattle.typed.specs.Syntax.{Ex, Exs, Func, Program, more, none, int_type, bool_type}
 use Rattle.typed.specs.Syntax as typed
 use Rattle.typed.specs.Form.{InScope, IsWord, TakesOne, site_type, ExFits, ExsFit}
-use Rattle.names.specs.declared.constants.Const.{Const}
-use Rattle.names.specs.declared.constants.ConstFault.{ConstFault}
-use Rattle.names.specs.Constants.{folded_one}
-use Rattle.expression_types.specs.declared.constant.Constant.{Constant}
-use Rattle.expression_types.specs.declared.constant.Constant.TheVariants.{Number, Truth}
-use Rattle.expression_types.specs.declared.constant.Fixed.{Fixed}
-use Rattle.expression_types.specs.declared.scope.ValueType.{ValueType}
-use Rattle.expression_types.specs.declared.scope.ValueType.TheVariants.{Int, Bool as Boolean}
-use Rattle.expression_types.specs.declared.scope.Declared.{Declared}
-use Rattle.expression_types.specs.declared.scope.Declared.TheVariants as declared
-use Rattle.expression_types.specs.declared.scope.External.TheVariants.{ReadInt, Exit}
-use Rattle.expression_types.specs.Scope.{Scope, Signature, type_number, type_numbers, declaration, signature, fixed}
-use Rattle.expression_types.specs.Typing.{Operand, constant, untyped, value, Part, said, valued, Gives, one, called, asking, quoted, printed, panicked, exited, allowed, same_type, type_of, is_int, is_held, constant_type, constant_value, const_of, as_value, constant_of, joint_type, converts, worked_out, name_operand, has_rules, takes_one, prefix_of, prefixed, prefix_gives, takes, result_type, right_allowed, arithmetic_of, compare_of, typed_pair, both, both_values, value_pair, combined, pair_gives, single, operand_in, value_in, as_part, part_in, Seen, values, parts, type_in_one, single_types, Many, many_in, many, types_with, value_types, accepts, types_agree, operand_agrees, values_agree, each, fits_with, fits, all_values, taken, asked, Callee, printer, panicker, reader, exiter, function, conversion, no_function, no_spread, no_text_spread, nothing, function_with, callee_declared, callee_value, spread_over, panicked_with, exit_places, exited_with, called_with, name_in, as_condition, callee, gives, seen, condition, test}
+use Rattle.value_types.specs.declared.constant.Constant.{Constant}
+use Rattle.value_types.specs.declared.constant.Constant.TheVariants.{Number, Truth}
+use Rattle.value_types.specs.declared.constant.Fixed.{Fixed}
+use Rattle.value_types.specs.declared.value_type.ValueType.{ValueType}
+use Rattle.value_types.specs.declared.value_type.ValueType.TheVariants.{Int, Bool as Boolean}
+use Rattle.value_types.specs.Constants.{untyped, same_type, is_int, is_held, constant_type}
+use Rattle.value_types.specs.Given.{allowed, both}
+use Rattle.value_types.proofs.Options.{and_then_some, map_some, none_some, same_some}
+use Rattle.operators.specs.declared.folding.Const.{Const}
+use Rattle.operators.specs.declared.folding.ConstFault.{ConstFault}
+use Rattle.operators.specs.Folding.{folded_one}
+use Rattle.operators.specs.Operands.{Operand, constant, value, type_of, constant_value, const_of, as_value, constant_of}
+use Rattle.operators.specs.Operators.{joint_type, converts, worked_out, has_rules, takes_one, prefix_of, prefixed, takes, result_type, right_allowed, arithmetic_of, compare_of, typed_pair, both_values, value_pair, combined}
+use Rattle.operators.proofs.Held.{AreHeld, held_type, constant_is}
+use Rattle.names.specs.declared.scope.Declared.{Declared}
+use Rattle.names.specs.declared.scope.Declared.TheVariants as declared
+use Rattle.names.specs.declared.scope.External.TheVariants.{ReadInt, Exit}
+use Rattle.names.specs.Scope.{Scope, Signature, type_number, type_numbers, declaration, signature, fixed}
+use Rattle.names.specs.Naming.{name_in}
+use Rattle.expression_types.specs.Typing.{Part, said, valued, Gives, one, called, asking, quoted, printed, panicked, exited, name_operand, prefix_gives, pair_gives, single, operand_in, value_in, as_part, part_in, Seen, values, parts, type_in_one, single_types, Many, many_in, many, types_with, value_types, accepts, types_agree, operand_agrees, values_agree, each, fits_with, fits, all_values, taken, asked, Callee, printer, panicker, reader, exiter, function, conversion, no_function, no_spread, no_text_spread, nothing, function_with, callee_declared, callee_value, spread_over, panicked_with, exit_places, exited_with, called_with, as_condition, callee, gives, seen, condition, test}
 use Rattle.expression_types.proofs.DecidedValues.{many_single}
-use Rattle.expression_types.proofs.Held.{AreHeld, held_type, constant_is}
-use Rattle.expression_types.proofs.Options.{and_then_some, map_some, none_some, same_some}
 
 is_word : (z : ℤ) → is_int z ≡ true → IsWord (int z)
 is_word z h = grind (arith, int_lemmas)

@@ -1,10 +1,7 @@
-pub mod Decided
 pub mod DecidedValues
 pub mod Held
 pub mod InForm
 pub mod Items
-pub mod Leasts
 pub mod Nodes
-pub mod Options
 pub mod Settled
 pub mod Places

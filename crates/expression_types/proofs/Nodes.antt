@@ -6,12 +6,17 @@ use Rattle.syntax.specs.declared.operator.UnOp.{UnOp}
 use Rattle.syntax.specs.declared.operator.BinOp.{BinOp}
 use Rattle.syntax.specs.Expressions.{Ex as TreeEx, Exs as TreeExs, unary, binary, call}
 use Rattle.base.specs.declared.pos.Pos.{Pos}
-use Rattle.expression_types.specs.declared.fault.Fault.{Fault}
-use Rattle.expression_types.specs.Least.{IsLeast, IsLesserWith, lesser}
-use Rattle.expression_types.specs.Scope.{Scope}
-use Rattle.expression_types.specs.Typing.{Operand, Seen, Callee, has_rules, operand_in, name_in, callee, spread_over, gives, seen}
-use Rattle.expression_types.specs.Faults.{IsFault, FormFails, WhereTaken, prefix_fault, pair_fault, condition_fault, CallFails, CalleeFails, Fails, FailsInEach, FailsAsOperand, FailsInCondition}
-use Rattle.expression_types.proofs.Leasts.{least_join, leaf}
+use Rattle.value_types.specs.declared.fault.Fault.{Fault}
+use Rattle.value_types.specs.Least.{IsLeast, IsLesserWith, lesser}
+use Rattle.value_types.specs.Faults.{IsFault, FormFails}
+use Rattle.value_types.proofs.Leasts.{least_join, leaf}
+use Rattle.operators.specs.Operands.{Operand}
+use Rattle.operators.specs.Operators.{has_rules}
+use Rattle.operators.specs.Faults.{prefix_fault, pair_fault}
+use Rattle.names.specs.Scope.{Scope}
+use Rattle.names.specs.Naming.{name_in}
+use Rattle.expression_types.specs.Typing.{Seen, Callee, operand_in, callee, spread_over, gives, seen}
+use Rattle.expression_types.specs.Faults.{WhereTaken, condition_fault, CallFails, CalleeFails, Fails, FailsInEach, FailsAsOperand, FailsInCondition}
 
 taken_least : (b : Bool) (P Q : Fault → Type 0) (f : Option Fault) → b ≡ true → IsLeast P f → IsLeast (WhereTaken b P Q) f
 taken_least true P Q f is least = least

@@ -4,43 +4,27 @@
 -- A form that is left out of the profile fails at its first byte, and has no other rule of its own. The part that begins at the same byte
 -- keeps its rules, so that the fault with the least number stands there. What stands further right isn't looked at: the fault that is
 -- reported has the least offset.
-use Rattle.std.specs.Prelude.{◌≡◌, ℕ, length, ◌^◌, ◌==◌, nat_lt, ◌⊎◌, Bool, true, false, ◌&&◌, ◌||◌, take, List, [], ◌∷◌, Option, Some, None, Result, Ok, Err, if◌then◌else◌}
+use Rattle.std.specs.Prelude.{ℕ, length, ◌^◌, ◌==◌, nat_lt, ◌⊎◌, Bool, true, false, take, List, [], ◌∷◌, Option, Some, None, if◌then◌else◌}
 use Rattle.base.specs.declared.pos.Pos.{Pos}
-use Rattle.syntax.specs.declared.operator.BinOp.{BinOp}
-use Rattle.syntax.specs.declared.operator.UnOp.{UnOp}
 use Rattle.syntax.specs.declared.expression.Name.{Name}
 use Rattle.syntax.specs.FirstBytes.{first_place}
 use Rattle.syntax.specs.Expressions.{Ex as TreeEx, Exs as TreeExs, number, string, name, unary, binary, paren, call, selector, index, slice, array_type, slice_type, literal, elements, some, spelled}
 use Rattle.syntax.specs.Expressions as tree
-use Rattle.names.specs.declared.constants.Const.{Const}
-use Rattle.names.specs.declared.constants.Const.TheVariants as const
-use Rattle.names.specs.declared.constants.ConstFault.{ConstFault}
-use Rattle.names.specs.declared.constants.ConstFault.TheVariants.{Overflow, ZeroDivisor, NegativeShift, NotConstant}
-use Rattle.names.specs.Constants.{folded_one}
-use Rattle.expression_types.specs.declared.fault.Fault.{Fault}
-use Rattle.expression_types.specs.declared.fault.FaultKind.{FaultKind}
-use Rattle.expression_types.specs.declared.fault.FaultKind.TheVariants.{Unknown, Mismatch, NotCallable, ArgCount, ResultCount, ConstRange, BadOperand, OutOfProfile, ConstZeroDivisor}
-use Rattle.expression_types.specs.declared.constant.Constant.{Constant}
-use Rattle.expression_types.specs.declared.constant.Constant.TheVariants.{Number, Truth}
-use Rattle.expression_types.specs.declared.constant.Fixed.{Fixed}
-use Rattle.expression_types.specs.declared.scope.Declared.{Declared}
-use Rattle.expression_types.specs.declared.scope.Declared.TheVariants as declared
-use Rattle.expression_types.specs.declared.scope.ValueType.{ValueType}
-use Rattle.expression_types.specs.declared.scope.ValueType.TheVariants.{Bool as Boolean}
-use Rattle.expression_types.specs.Scope.{Scope, declaration}
-use Rattle.expression_types.specs.Typing.{Operand, constant, value, Gives, one, called, asking, quoted, printed, panicked, exited, same_type, type_of, is_int, const_of, is_held, joint_type, converts, worked_out, has_rules, takes_one, takes, is_division, is_shift, is_zero, is_negative, operand_in, Seen, Many, many, count, part_count, types_agree, operand_agrees, Callee, printer, panicker, reader, exiter, function, conversion, no_function, no_spread, no_text_spread, nothing, exit_places, spread_over, name_in, callee, gives, seen}
-
-abbrev pub fault : FaultKind → Pos → Fault
-fault kind at = record { kind = kind; pos = at }
-
--- a rule that has this fault, or none
-abbrev pub IsFault : Option Fault → Fault → Type 0
-IsFault None f = ⊥
-IsFault (Some g) f = f ≡ g
-
--- a form that is left out of the profile
-abbrev pub FormFails : Pos → Fault → Type 0
-FormFails at f = f ≡ fault OutOfProfile at
+use Rattle.value_types.specs.declared.fault.Fault.{Fault}
+use Rattle.value_types.specs.declared.fault.FaultKind.TheVariants.{Unknown, Mismatch, NotCallable, ArgCount, ResultCount, ConstRange, BadOperand, OutOfProfile}
+use Rattle.value_types.specs.declared.value_type.ValueType.{ValueType}
+use Rattle.value_types.specs.declared.value_type.ValueType.TheVariants.{Bool as Boolean}
+use Rattle.value_types.specs.Constants.{same_type}
+use Rattle.value_types.specs.Faults.{fault, IsFault, FormFails, constant_range_fault}
+use Rattle.operators.specs.Operands.{Operand, constant, value, type_of}
+use Rattle.operators.specs.Operators.{has_rules}
+use Rattle.operators.specs.Faults.{prefix_fault, pair_fault}
+use Rattle.names.specs.declared.scope.Declared.{Declared}
+use Rattle.names.specs.declared.scope.Declared.TheVariants as declared
+use Rattle.names.specs.Scope.{Scope, declaration}
+use Rattle.names.specs.Naming.{name_in}
+use Rattle.names.specs.Faults.{FailsAsType}
+use Rattle.expression_types.specs.Typing.{Gives, one, called, asking, quoted, printed, panicked, exited, operand_in, Seen, Many, many, count, part_count, types_agree, operand_agrees, Callee, printer, panicker, reader, exiter, function, conversion, no_function, no_spread, no_text_spread, nothing, exit_places, spread_over, callee, gives, seen, taken}
 
 -- where a form is taken, and where it is left out
 abbrev pub WhereTaken : Bool → (taken left_out : Fault → Type 0) → Fault → Type 0
@@ -72,14 +56,6 @@ callee_name_fault (Some declared.LeftOutType) at = Some (fault OutOfProfile at)
 callee_name_fault (Some declared.LeftOutValue) at = Some (fault OutOfProfile at)
 callee_name_fault (Some other) at = None
 
--- the name of a type: another type of the language, or what is no type
-abbrev pub type_name_fault : Option Declared → Pos → Option Fault
-type_name_fault None at = Some (fault Unknown at)
-type_name_fault (Some declared.TypeName) at = None
-type_name_fault (Some (declared.«Type» t)) at = None
-type_name_fault (Some declared.LeftOutType) at = Some (fault OutOfProfile at)
-type_name_fault (Some other) at = Some (fault BadOperand at)
-
 -- ---- one value
 
 -- a call where one value is wanted has another number of them, and a string is none at all
@@ -103,11 +79,6 @@ abbrev pub part_fault : Option Gives → Option Fault
 part_fault (Some (quoted at bytes)) = None
 part_fault o = single_fault o
 
--- an int can't hold a constant
-abbrev pub constant_range_fault : Pos → Constant → Option Fault
-constant_range_fault at (Number z) = if is_int z then None else Some (fault ConstRange at)
-constant_range_fault at (Truth b) = None
-
 abbrev pub range_fault : Pos → Option Operand → Option Fault
 range_fault at None = None
 range_fault at (Some (constant f)) = constant_range_fault at f.value
@@ -121,68 +92,6 @@ literal_fault at n = if nat_lt n (2 ^ 127) then None else Some (fault ConstRange
 abbrev pub condition_fault : Pos → Option Operand → Option Fault
 condition_fault at None = None
 condition_fault at (Some x) = if same_type Boolean (type_of x) then None else Some (fault BadOperand at)
-
--- ---- operators
-
--- a type doesn't hold a constant
-abbrev pub held_fault : Option ValueType → Pos → Constant → Option Fault
-held_fault t at c = if is_held t c then None else Some (fault ConstRange at)
-
--- a constant expression has no value, or none of its type: the divisor is the operand on the right
-abbrev pub constant_fault : Option ValueType → Pos → Pos → Result Const ConstFault → Option Fault
-constant_fault t at right (Ok (const.Int z)) = held_fault t at (Number z)
-constant_fault t at right (Ok (const.Bool b)) = held_fault t at (Truth b)
-constant_fault t at right (Ok const.NoConst) = None
-constant_fault t at right (Err Overflow) = Some (fault ConstRange at)
-constant_fault t at right (Err ZeroDivisor) = Some (fault ConstZeroDivisor right)
-constant_fault t at right (Err NegativeShift) = Some (fault BadOperand at)
-constant_fault t at right (Err NotConstant) = Some (fault BadOperand at)
-
--- a prefix on an operand of a type that it takes
-abbrev pub fitting_prefix_fault : Pos → UnOp → Operand → Option Fault
-fitting_prefix_fault at op (constant f) = constant_fault f.value_type at at (folded_one op (const_of f.value))
-fitting_prefix_fault at op (value t x) = None
-
-abbrev pub prefix_fault : Pos → UnOp → Option Operand → Option Fault
-prefix_fault at op None = None
-prefix_fault at op (Some x) = if takes_one op (type_of x) then fitting_prefix_fault at op x else Some (fault BadOperand at)
-
--- operands that an operator doesn't take: of two types, where the operator is no shift; or of a type on which it isn't defined
-abbrev pub unfit_kind : BinOp → ValueType → ValueType → FaultKind
-unfit_kind op s t = if is_shift op || same_type s t then BadOperand else Mismatch
-
--- a constant on the right of what is none: a divisor 0, a negative count, or what no int can hold
-abbrev pub right_fault : Pos → Pos → BinOp → Constant → Option Fault
-right_fault at right op c =
-    if is_division op && is_zero c then Some (fault ConstZeroDivisor right)
-    else (if is_shift op && is_negative c then Some (fault BadOperand at) else constant_range_fault right c)
-
--- the one of two constants that the type of the other doesn't hold
-abbrev pub conversion_fault : Pos → Pos → Fixed → Fixed → Option Fault
-conversion_fault at right a b = if is_held b.value_type a.value then Some (fault ConstRange right) else Some (fault ConstRange at)
-
-abbrev pub constants_fault : Pos → Pos → BinOp → Fixed → Fixed → Option Fault
-constants_fault at right op a b =
-    if converts op a b then constant_fault (joint_type op a.value_type b.value_type) at right (worked_out op a b) else conversion_fault at right a b
-
--- two operands of types that an operator takes
-abbrev pub fitting_fault : Pos → Pos → BinOp → Operand → Operand → Option Fault
-fitting_fault at right op (constant a) (constant b) = constants_fault at right op a b
-fitting_fault at right op (constant a) (value t x) = constant_range_fault at a.value
-fitting_fault at right op (value t x) (constant b) = right_fault at right op b.value
-fitting_fault at right op (value s x) (value t y) = None
-
-abbrev pub two_fault : Pos → Pos → BinOp → Operand → Operand → Option Fault
-two_fault at right op x y = if takes op (type_of x) (type_of y) then fitting_fault at right op x y else Some (fault (unfit_kind op (type_of x) (type_of y)) at)
-
--- a rule of an operator on two operands that give something
-abbrev pub PairFails : Pos → Pos → BinOp → Operand → Operand → Fault → Type 0
-PairFails at right op x y f = IsFault (two_fault at right op x y) f
-
--- an operator on what its operands give
-abbrev pub pair_fault : Pos → Pos → BinOp → Option Operand → Option Operand → Option Fault
-pair_fault at right op (Some x) (Some y) = two_fault at right op x y
-pair_fault at right op x y = None
 
 -- ---- expressions side by side
 
@@ -262,12 +171,6 @@ module _ (text : List ℕ) where
   CalleeFails s (Some n) P o f = IsFault (callee_name_fault (declaration s (spelled text n)) n.pos) f
   CalleeFails s None P o f = P f ⊎ IsFault (single_fault o) f
 
-  -- a rule of a type: the name of one, in parentheses or not; all others are left out
-  abbrev pub FailsAsType : Scope → TreeEx → Fault → Type 0
-  FailsAsType s (name n) f = IsFault (type_name_fault (declaration s (spelled text n)) n.pos) f
-  FailsAsType s (paren at e) f = FailsAsType s e f
-  FailsAsType s other f = FormFails (first_place other) f
-
   -- a rule fails in an expression, and in one of some
   abbrev mutual
     pub Fails : Scope → TreeEx → Fault → Type 0
@@ -288,7 +191,7 @@ module _ (text : List ℕ) where
     Fails s (slice e at low high) f = Fails s e f ⊎ FormFails (first_place e) f
     Fails s (array_type at len e) f = FormFails at f
     Fails s (slice_type at e) f = FormFails at f
-    Fails s (literal e es) f = FailsAsType s e f ⊎ FormFails (first_place e) f
+    Fails s (literal e es) f = FailsAsType text s e f ⊎ FormFails (first_place e) f
     Fails s (elements at es) f = FormFails at f
 
     pub FailsInEach : Scope → TreeExs → Fault → Type 0

@@ -3,21 +3,18 @@ use Rattle.std.specs.Prelude.{ℕ, ◌^◌, pos, List, [], ◌∷◌, ◌++◌, 
 use Rattle.std.specs.Option.{option_map}
 use Rattle.typed.specs.Syntax.{Exs}
 use Rattle.typed.specs.View.{ex_of, exs_of_values}
-use Rattle.expression_types.specs.declared.constant.Constant.TheVariants.{Number}
-use Rattle.expression_types.specs.declared.operand.Operand.{Operand as OperandData}
-use Rattle.expression_types.specs.declared.operand.Operand.TheVariants.{Constant, Value}
-use Rattle.expression_types.specs.declared.operand.Gives.{Gives as GivesData}
-use Rattle.expression_types.specs.declared.operand.Part.{Part as PartData}
-use Rattle.expression_types.specs.declared.operand.Part.TheVariants.{Said, Valued}
-use Rattle.expression_types.specs.declared.operand.Gives.TheVariants.{One, Called, Asking, Quoted, Printed, Panicked, Exited}
-use Rattle.expression_types.specs.declared.operand.Item.{Item}
-use Rattle.expression_types.specs.declared.operand.Callee.{Callee as CalleeData}
-use Rattle.expression_types.specs.declared.operand.Callee.TheVariants.{Printer, Panicker, Reader, Exiter, Function, Conversion, NoFunction, NoSpread, NoTextSpread, Nothing}
-use Rattle.expression_types.specs.Typing.{Operand, constant, untyped, value, Part, said, valued, Gives, one, called, asking, quoted, printed, panicked, exited, Seen, Many, Callee, printer, panicker, reader, exiter, function, conversion, no_function, no_spread, no_text_spread, nothing}
-
-abbrev pub operand_of : OperandData → Operand
-operand_of (Constant f) = constant f
-operand_of (Value t e) = value t (ex_of e)
+use Rattle.value_types.specs.declared.constant.Constant.TheVariants.{Number}
+use Rattle.value_types.specs.Constants.{untyped}
+use Rattle.operators.specs.Operands.{constant}
+use Rattle.operators.specs.Passing.{operand_of}
+use Rattle.expression_types.specs.declared.gives.Gives.{Gives as GivesData}
+use Rattle.expression_types.specs.declared.gives.Part.{Part as PartData}
+use Rattle.expression_types.specs.declared.gives.Part.TheVariants.{Said, Valued}
+use Rattle.expression_types.specs.declared.gives.Gives.TheVariants.{One, Called, Asking, Quoted, Printed, Panicked, Exited}
+use Rattle.expression_types.specs.declared.gives.Item.{Item}
+use Rattle.expression_types.specs.declared.gives.Callee.{Callee as CalleeData}
+use Rattle.expression_types.specs.declared.gives.Callee.TheVariants.{Printer, Panicker, Reader, Exiter, Function, Conversion, NoFunction, NoSpread, NoTextSpread, Nothing}
+use Rattle.expression_types.specs.Typing.{Part, said, valued, Gives, one, called, asking, quoted, printed, panicked, exited, Seen, Many, Callee, printer, panicker, reader, exiter, function, conversion, no_function, no_spread, no_text_spread, nothing, values, gives}
 
 abbrev pub part_view : PartData → Part
 part_view (Said bytes) = said bytes.items
@@ -56,9 +53,3 @@ results_of m = m.values
 
 abbrev pub literal_operand : ℕ → Option Gives
 literal_operand n = if nat_lt n (2 ^ 127) then Some (one (constant (untyped (Number (pos n))))) else None
-
--- one more, where all are some
-abbrev pub with_last : {A : Type 0} → Option (List A) → Option A → Option (List A)
-with_last (Some xs) (Some x) = Some (xs ++ x ∷ [])
-with_last (Some xs) None = None
-with_last None x = None

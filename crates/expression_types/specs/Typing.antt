@@ -1,48 +1,30 @@
--- What the rules of the language give expressions (Go specification, "Constant expressions", "Operators", "Calls", "Bootstrapping").
-use Rattle.std.specs.Prelude.{ℕ, length, ◌-◌, ◌^◌, ◌==◌, ℤ, pos, negsuc, Bool, true, false, not, ◌&&◌, ◌||◌, List, [], ◌∷◌, map, Option, Some, None, Result, Ok, Err, is_some, option_and_then, take, drop, nat_lt, nat_le, int_le, int_lt, if◌then◌else◌}
+-- What the rules of the language give expressions (Go specification, "Expressions", "Calls", "Bootstrapping").
+use Rattle.std.specs.Prelude.{ℕ, length, ◌^◌, ◌==◌, pos, Bool, true, false, ◌&&◌, List, [], ◌∷◌, map, Option, Some, None, is_some, option_and_then, nat_lt, nat_le, if◌then◌else◌}
 use Rattle.std.specs.Option.{option_map}
 use Rattle.base.specs.declared.pos.Pos.{Pos}
-use Rattle.syntax.specs.declared.operator.ArithmeticOp.{ArithmeticOp}
-use Rattle.syntax.specs.declared.operator.ArithmeticOp.TheVariants as arithmetic
 use Rattle.syntax.specs.declared.operator.BinOp.{BinOp}
-use Rattle.syntax.specs.declared.operator.BinOp.TheVariants.{Arithmetic, Compare, Both, Either}
 use Rattle.syntax.specs.declared.operator.UnOp.{UnOp}
-use Rattle.syntax.specs.declared.operator.UnOp.TheVariants.{Plus, Negate, Complement, Not}
-use Rattle.syntax.specs.declared.operator.CompareOp.{CompareOp}
-use Rattle.syntax.specs.declared.operator.CompareOp.TheVariants as compare
 use Rattle.syntax.specs.declared.expression.Name.{Name}
 use Rattle.syntax.specs.FirstBytes.{first_place}
 use Rattle.syntax.specs.Expressions.{Ex as TreeEx, Exs as TreeExs, number, string, name, unary, binary, paren, call, selector, index, slice, array_type, slice_type, literal, elements, some, spelled}
 use Rattle.syntax.specs.Expressions as tree
 use Rattle.syntax.specs.Statements.{Clause, forever, while_true, counting, ranging}
-use Rattle.typed.specs.declared.operators.BinOp.{BinOp as TypedOp}
-use Rattle.typed.specs.declared.operators.BinOp.TheVariants as op
-use Rattle.typed.specs.declared.operators.UnOp.{UnOp as TypedPrefix}
-use Rattle.typed.specs.declared.operators.UnOp.TheVariants as prefix
-use Rattle.typed.specs.Value.{int, bool}
 use Rattle.typed.specs.Syntax.{Ex, Exs, read, local, here, none, more, results, asked as items}
 use Rattle.typed.specs.Syntax as typed
-use Rattle.names.specs.declared.constants.Const.{Const}
-use Rattle.names.specs.declared.constants.Const.TheVariants as const
-use Rattle.names.specs.declared.constants.ConstFault.{ConstFault}
-use Rattle.names.specs.Constants.{folded, folded_one}
+use Rattle.value_types.specs.declared.constant.Constant.TheVariants.{Number, Truth}
+use Rattle.value_types.specs.declared.value_type.ValueType.{ValueType}
 use Rattle.string_value.specs.StringValue.{string_value}
-use Rattle.expression_types.specs.declared.constant.Constant.{Constant}
-use Rattle.expression_types.specs.declared.constant.Constant.TheVariants.{Number, Truth}
-use Rattle.expression_types.specs.declared.constant.Fixed.{Fixed}
-use Rattle.expression_types.specs.declared.scope.Declared.{Declared}
-use Rattle.expression_types.specs.declared.scope.Declared.TheVariants as declared
-use Rattle.expression_types.specs.declared.scope.External.{External as ExternalFunction}
-use Rattle.expression_types.specs.declared.scope.External.TheVariants as external
-use Rattle.expression_types.specs.declared.scope.ValueType.{ValueType}
-use Rattle.expression_types.specs.declared.scope.ValueType.TheVariants.{Int, Bool as Boolean}
-pub use Rattle.expression_types.specs.Scope.{type_number}
-use Rattle.expression_types.specs.Scope.{Scope, Signature, declaration, signature, fixed}
-
--- what an expression gives as one value: a constant with its exact value, or a value of a type that is worked out when the program runs
-pub data Operand : Type 0 where
-  constant : Fixed → Operand
-  value : ValueType → Ex → Operand
+use Rattle.value_types.specs.declared.value_type.ValueType.TheVariants.{Int, Bool as Boolean}
+use Rattle.value_types.specs.Given.{allowed, both}
+use Rattle.value_types.specs.Constants.{same_type, untyped}
+use Rattle.operators.specs.Operands.{Operand, constant, value, type_of, as_value}
+use Rattle.operators.specs.Operators.{has_rules, prefixed, combined}
+use Rattle.names.specs.declared.scope.Declared.{Declared}
+use Rattle.names.specs.declared.scope.Declared.TheVariants as declared
+use Rattle.names.specs.declared.scope.External.{External as ExternalFunction}
+use Rattle.names.specs.declared.scope.External.TheVariants as external
+use Rattle.names.specs.Scope.{type_number, Scope, Signature, declaration, signature, fixed}
+use Rattle.names.specs.Naming.{name_in, between}
 
 -- an operand of `print`, `println` or `panic`: the bytes of a string, or a value and its type
 pub data Part : Type 0 where
@@ -65,72 +47,6 @@ pub data Gives : Type 0 where
   -- nothing: an `exit` at a place, with a status
   exited : Pos → Ex → Gives
 
--- where a rule holds, and else nothing
-abbrev pub allowed : {A : Type 0} → Bool → Option A → Option A
-allowed b o = if b then o else None
-
--- ---- types
-
-abbrev pub same_type : ValueType → ValueType → Bool
-same_type Int Int = true
-same_type Boolean Boolean = true
-same_type s t = false
-
--- the type of a constant: its own, or else that of numbers or of truth values
-abbrev pub constant_type : Option ValueType → Constant → ValueType
-constant_type (Some t) c = t
-constant_type None (Number z) = Int
-constant_type None (Truth b) = Boolean
-
-abbrev pub type_of : Operand → ValueType
-type_of (constant f) = constant_type f.value_type f.value
-type_of (value t x) = t
-
--- from -2^63 to 2^63 - 1
-abbrev pub is_int : ℤ → Bool
-is_int z = int_le (negsuc (2 ^ 63 - 1)) z && int_le z (pos (2 ^ 63 - 1))
-
--- a constant as a value of its type, where the type has one
-abbrev pub constant_value : Constant → Option Ex
-constant_value (Number z) = if is_int z then Some (typed.constant (int z)) else None
-constant_value (Truth b) = Some (typed.constant (bool b))
-
-abbrev pub as_value : Operand → Option Ex
-as_value (constant f) = constant_value f.value
-as_value (value t x) = Some x
-
--- ---- constants
-
-abbrev pub const_of : Constant → Const
-const_of (Number z) = const.Int z
-const_of (Truth b) = const.Bool b
-
--- a constant that has no type
-abbrev pub untyped : Constant → Fixed
-untyped c = record { value_type = None; value = c }
-
--- whether a type holds a constant (Go specification, "Representability")
-abbrev pub holds : ValueType → Constant → Bool
-holds Int (Number z) = is_int z
-holds Boolean (Truth b) = true
-holds t c = false
-
--- the same, where there is a type
-abbrev pub is_held : Option ValueType → Constant → Bool
-is_held None c = true
-is_held (Some t) c = holds t c
-
--- a constant of a type or of none
-abbrev pub of_type : Option ValueType → Constant → Option Operand
-of_type t c = allowed (is_held t c) (Some (constant (record { value_type = t; value = c })))
-
--- a constant expression's value, where it has one
-abbrev pub constant_of : Option ValueType → Result Const ConstFault → Option Operand
-constant_of t (Ok (const.Int z)) = of_type t (Number z)
-constant_of t (Ok (const.Bool b)) = of_type t (Truth b)
-constant_of t (Ok const.NoConst) = None
-constant_of t (Err e) = None
-
 -- ---- names
 
 -- a constant whose value is known, or a variable's read
@@ -149,150 +65,11 @@ name_operand s (Some declared.Panic) = None
 name_operand s (Some declared.LeftOutType) = None
 name_operand s (Some declared.LeftOutValue) = None
 
--- the type that a name stands for
-abbrev pub declared_type : Option Declared → Option ValueType
-declared_type (Some (declared.«Type» t)) = Some t
-declared_type other = None
-
 -- ---- operators
-
--- the prefixes that have rules; a use of any other is left out of the profile
-abbrev pub has_rules : UnOp → Bool
-has_rules Plus = true
-has_rules Negate = true
-has_rules Complement = true
-has_rules Not = true
-has_rules other = false
-
--- the types of operand that a prefix takes
-abbrev pub takes_one : UnOp → ValueType → Bool
-takes_one Plus Int = true
-takes_one Negate Int = true
-takes_one Complement Int = true
-takes_one Not Boolean = true
-takes_one op t = false
-
-abbrev pub prefix_of : UnOp → Option TypedPrefix
-prefix_of Plus = Some prefix.Plus
-prefix_of Negate = Some prefix.Negate
-prefix_of Complement = Some prefix.Complement
-prefix_of Not = Some prefix.Not
-prefix_of other = None
-
--- the types of operands that an operator takes
-abbrev pub takes : BinOp → ValueType → ValueType → Bool
-takes (Arithmetic op) Int Int = true
-takes (Compare op) Int Int = true
-takes (Compare compare.Equal) Boolean Boolean = true
-takes (Compare compare.NotEqual) Boolean Boolean = true
-takes Both Boolean Boolean = true
-takes Either Boolean Boolean = true
-takes op s t = false
-
--- the type of what it gives
-abbrev pub result_type : BinOp → ValueType
-result_type (Arithmetic op) = Int
-result_type other = Boolean
-
-abbrev pub is_division : BinOp → Bool
-is_division (Arithmetic arithmetic.Div) = true
-is_division (Arithmetic arithmetic.Rem) = true
-is_division other = false
-
-abbrev pub is_shift : BinOp → Bool
-is_shift (Arithmetic arithmetic.ShiftLeft) = true
-is_shift (Arithmetic arithmetic.ShiftRight) = true
-is_shift other = false
-
-abbrev pub is_zero : Constant → Bool
-is_zero (Number z) = int_le z (pos 0) && int_le (pos 0) z
-is_zero (Truth b) = false
-
-abbrev pub is_negative : Constant → Bool
-is_negative (Number z) = int_lt z (pos 0)
-is_negative (Truth b) = false
-
--- no constant divisor is 0, and no constant count of a shift is negative
-abbrev pub stands_right : BinOp → Constant → Bool
-stands_right op c = not (is_division op && is_zero c) && not (is_shift op && is_negative c)
-
-abbrev pub right_allowed : BinOp → Operand → Bool
-right_allowed op (constant f) = stands_right op f.value
-right_allowed op (value t x) = true
-
-abbrev pub arithmetic_of : ArithmeticOp → TypedOp
-arithmetic_of arithmetic.Add = op.Add
-arithmetic_of arithmetic.Sub = op.Sub
-arithmetic_of arithmetic.Mul = op.Mul
-arithmetic_of arithmetic.Div = op.Div
-arithmetic_of arithmetic.Rem = op.Rem
-arithmetic_of arithmetic.And = op.And
-arithmetic_of arithmetic.Or = op.Or
-arithmetic_of arithmetic.Xor = op.Xor
-arithmetic_of arithmetic.AndNot = op.AndNot
-arithmetic_of arithmetic.ShiftLeft = op.ShiftLeft
-arithmetic_of arithmetic.ShiftRight = op.ShiftRight
-
-abbrev pub compare_of : CompareOp → TypedOp
-compare_of compare.Equal = op.Equal
-compare_of compare.NotEqual = op.NotEqual
-compare_of compare.Less = op.Less
-compare_of compare.LessEqual = op.LessEqual
-compare_of compare.Greater = op.Greater
-compare_of compare.GreaterEqual = op.GreaterEqual
-
--- an operator on two values, when the program runs
-abbrev pub typed_pair : Pos → BinOp → Ex → Ex → Ex
-typed_pair at (Arithmetic op) x y = typed.binary at (arithmetic_of op) x y
-typed_pair at (Compare op) x y = typed.binary at (compare_of op) x y
-typed_pair at Both x y = typed.both x y
-typed_pair at Either x y = typed.either x y
-
--- constants are worked out exactly, all else is worked out when the program runs
-abbrev pub prefixed : UnOp → Operand → Option Operand
-prefixed op (constant f) = allowed (takes_one op (constant_type f.value_type f.value)) (constant_of f.value_type (folded_one op (const_of f.value)))
-prefixed op (value t x) = allowed (takes_one op t) (option_map (λ typed_op. value t (typed.unary typed_op x)) (prefix_of op))
 
 abbrev pub prefix_gives : UnOp → Bool → Option Operand → Option Gives
 prefix_gives op false a = None
 prefix_gives op true a = option_map one (option_and_then (prefixed op) a)
-
-abbrev pub both_values : Pos → BinOp → Option Ex → Option Ex → Option Operand
-both_values at op (Some x) (Some y) = Some (value (result_type op) (typed_pair at op x y))
-both_values at op x y = None
-
--- two operands, one of which at least is no constant
-abbrev pub value_pair : Pos → BinOp → Operand → Operand → Option Operand
-value_pair at op a b = allowed (takes op (type_of a) (type_of b) && right_allowed op b) (both_values at op (as_value a) (as_value b))
-
--- the type of what two constants give: a comparison gives an untyped truth value, a shift has the type of its left operand, and all else the
--- type of an operand that has one
-abbrev pub either_type : Option ValueType → Option ValueType → Option ValueType
-either_type None t = t
-either_type (Some s) t = Some s
-
-abbrev pub joint_type : BinOp → Option ValueType → Option ValueType → Option ValueType
-joint_type (Compare op) s t = None
-joint_type op s t = if is_shift op then s else either_type s t
-
--- an untyped operand takes the type of the other one, but for the count of a shift
-abbrev pub converts : BinOp → Fixed → Fixed → Bool
-converts op a b = is_shift op || (is_held b.value_type a.value && is_held a.value_type b.value)
-
-abbrev pub worked_out : BinOp → Fixed → Fixed → Result Const ConstFault
-worked_out op a b = folded op (const_of a.value) (const_of b.value)
-
-abbrev pub constant_pair : BinOp → Fixed → Fixed → Option Operand
-constant_pair op a b =
-    allowed (takes op (constant_type a.value_type a.value) (constant_type b.value_type b.value) && converts op a b) (constant_of (joint_type op a.value_type b.value_type) (worked_out op a b))
-
-abbrev pub combined : Pos → BinOp → Operand → Operand → Option Operand
-combined at op (constant a) (constant b) = constant_pair op a b
-combined at op a b = value_pair at op a b
-
--- what two operands give together, where both give something
-abbrev pub both : {A B C : Type 0} → (A → B → Option C) → Option A → Option B → Option C
-both k a b = option_and_then (λ x. option_and_then (k x) b) a
 
 abbrev pub pair_gives : Pos → BinOp → Option Operand → Option Operand → Option Gives
 pair_gives at op a b = option_map one (both (combined at op) a b)
@@ -541,12 +318,6 @@ called_with at no_spread os = None
 called_with at no_text_spread os = None
 called_with at nothing os = None
 
--- the name that an expression is, in parentheses or not
-abbrev pub name_in : TreeEx → Option Name
-name_in (name n) = Some n
-name_in (paren at e) = name_in e
-name_in other = None
-
 -- ---- conditions
 
 -- a truth value
@@ -560,17 +331,7 @@ condition_in (while_true e) = Some e
 condition_in (counting before e behind) = e
 condition_in (ranging _ at e) = None
 
--- the bytes of a text from one offset up to another
-abbrev pub between : List ℕ → ℕ → ℕ → List ℕ
-between text from behind = take (behind - from) (drop from text)
-
 module _ (text : List ℕ) where
-  -- the type that an expression is, in parentheses or not
-  abbrev pub type_in : Scope → TreeEx → Option ValueType
-  type_in s (name n) = declared_type (declaration s (spelled text n))
-  type_in s (paren at e) = type_in s e
-  type_in s other = None
-
   -- what a name stands for where it is called, or else an expression that gives this
   abbrev pub callee : Scope → Option Name → Option Gives → Callee
   callee s None o = callee_value (operand_in o)

@@ -3,41 +3,30 @@
 ghost use Rattle.std.specs.Prelude.{◌≡◌, ◌⊎◌, Option, Some, None, IfOk, map};
 ghost use Rattle.std.specs.Option.{option_map};
 ghost use Rattle.syntax.specs.Expressions.{ex_of as tree_of, spelled};
-ghost use Rattle.expression_types.specs.declared.fault.FaultKind.TheVariants.{ArgCount};
-ghost use Rattle.expression_types.specs.Least.{IsLeast};
-ghost use Rattle.expression_types.specs.Scope.{scope_of, declaration, signature};
-ghost use Rattle.expression_types.specs.Typing.{constant, operand_in, name_in, function_with, callee_declared, callee_value, spread_over, many, count, part_count, exit_places, panicked_with, exited_with, called_with};
-ghost use Rattle.expression_types.specs.Faults.{fault as fault_at, IsFault, FormFails, PartsFail, ValuesFail, RangeFails, TakeFails, CallFails, callee_name_fault, refused_fault};
-ghost use Rattle.expression_types.specs.Passing.{part_view, gives_of, operand_of, seens, callee_of};
+ghost use Rattle.value_types.specs.declared.fault.FaultKind.TheVariants.{ArgCount};
+ghost use Rattle.value_types.specs.Least.{IsLeast};
+ghost use Rattle.value_types.specs.Faults.{fault as fault_at, IsFault, FormFails};
+ghost use Rattle.operators.specs.Operands.{constant};
+ghost use Rattle.operators.specs.Passing.{operand_of};
+ghost use Rattle.names.specs.Scope.{scope_of, declaration, signature};
+ghost use Rattle.names.specs.Naming.{name_in};
+ghost use Rattle.expression_types.specs.Typing.{operand_in, function_with, callee_declared, callee_value, spread_over, many, count, part_count, exit_places, panicked_with, exited_with, called_with};
+ghost use Rattle.expression_types.specs.Faults.{PartsFail, ValuesFail, RangeFails, TakeFails, CallFails, callee_name_fault, refused_fault};
+ghost use Rattle.expression_types.specs.Passing.{part_view, gives_of, seens, callee_of};
 ghost use Rattle.typed.specs.View.{ex_of};
 
-use crate::constant::Fixed;
-use crate::fault::{Fault, FaultKind, lesser};
-use crate::naming::spelled;
-use crate::operand::{Callee, Gives, Item, Operand, Part};
-use crate::scope::{Declared, External, Scope, ValueType, declaration, fixed};
+use crate::gives::{Callee, Gives, Item, Part};
 use crate::values::{
     asked, count, count_fault, fits, part_count, parts, parts_fault, range_faults, take_fault,
     taken, values, values_fault,
 };
 use base::{FuncId, NoMemory, Pos};
+use names::{Declared, External, Scope, declaration, fixed, spelled};
+use operators::Operand;
 use std::alloc::Global;
-use syntax::{Expr, Name};
+use syntax::Name;
 use typed::Expr as Value;
-
-/// The name that an expression is, in parentheses or not.
-pub fn name_in(e: &Expr) -> Option<Name>
-    ensures { result ≡ name_in (tree_of e.now) }
-{
-    match e {
-        Expr::Name(name) => Some(*name),
-        Expr::Paren(_, inner) => {
-            let inner: &Expr = inner;
-            name_in(inner)
-        }
-        _ => None,
-    }
-}
+use value_types::{Fault, FaultKind, Fixed, ValueType, lesser};
 
 /// A function as what is called, where it has a signature.
 fn callee_function(alloc: Global, scope: &Scope, function: FuncId) -> Result<Callee, NoMemory>
@@ -107,7 +96,7 @@ fn declared_fault(declared: Option<Declared>, pos: Pos) -> Option<Fault>
 }
 
 /// The fault of a name that is called.
-#[tactic(auto, using(crate::proofs::Leasts::leaf))]
+#[tactic(auto, using(value_types::proofs::Leasts::leaf))]
 pub fn callee_name_fault(text: &[u8], scope: &Scope, name: Name) -> Option<Fault>
     ensures { IsLeast (IsFault (callee_name_fault (declaration (scope_of scope.now) (spelled text.now name)) name.pos)) result }
 {

@@ -5,21 +5,20 @@ ghost use Rattle.std.specs.Option.{option_map};
 ghost use Rattle.syntax.specs.Expressions.{ex_of as tree_of};
 ghost use Rattle.syntax.specs.Statements.{clause_of};
 ghost use Rattle.typed.specs.View.{ex_of, test_of};
-ghost use Rattle.expression_types.specs.Least.{IsLeast};
-ghost use Rattle.expression_types.specs.Scope.{scope_of};
+ghost use Rattle.value_types.specs.Least.{IsLeast};
+ghost use Rattle.operators.specs.Passing.{operand_of};
+ghost use Rattle.names.specs.Scope.{scope_of};
 ghost use Rattle.expression_types.specs.Typing.{as_condition, condition_in, condition, test};
 ghost use Rattle.expression_types.specs.Faults.{condition_fault, FailsInCondition, FailsInTest};
-ghost use Rattle.expression_types.specs.Passing.{operand_of};
 
 use crate::expressions::check_single;
-use crate::fault::{Fault, FaultKind, lesser};
-use crate::operand::{Operand, as_value, type_of};
-use crate::operators::same_type;
-use crate::scope::{Scope, ValueType};
 use base::{NoMemory, Pos};
+use names::Scope;
+use operators::{Operand, as_value, type_of};
 use std::alloc::Global;
 use syntax::{Clause, Expr as TreeExpr};
 use typed::Expr;
+use value_types::{Fault, FaultKind, ValueType, lesser, same_type};
 
 /// What is known of a condition: its typed form, and the fault that is reported.
 #[derive(Drop)]

@@ -5,26 +5,29 @@ ghost use Rattle.std.specs.Option.{option_map};
 ghost use Rattle.string_value.specs.StringValue.{string_value};
 ghost use Rattle.syntax.specs.FirstBytes.{first_place};
 ghost use Rattle.syntax.specs.Expressions.{ex_of as tree_of, exs_of as trees_of, name as name_of, unary};
-ghost use Rattle.expression_types.specs.Least.{IsLeast, IsLesserWith, lesser as least};
-ghost use Rattle.expression_types.specs.Scope.{scope_of};
-ghost use Rattle.expression_types.specs.Typing.{one as one_gives, quoted as quoted_gives, between, pair_gives, spread_over, called_with, operand_in, name_in, callee, gives, seen};
-ghost use Rattle.expression_types.specs.Faults.{FormFails, CallFails, FailsAsType, Fails, FailsInEach, FailsAsOperand, CalleeFails, pair_fault, literal_fault, single_fault};
-ghost use Rattle.expression_types.specs.Passing.{operand_of, gives_of, seens, callee_of, literal_operand};
+ghost use Rattle.value_types.specs.Least.{IsLeast, IsLesserWith, lesser as least};
+ghost use Rattle.value_types.specs.Faults.{FormFails};
+ghost use Rattle.operators.specs.Faults.{pair_fault};
+ghost use Rattle.operators.specs.Passing.{operand_of};
+ghost use Rattle.names.specs.Scope.{scope_of};
+ghost use Rattle.names.specs.Naming.{between, name_in};
+ghost use Rattle.names.specs.Faults.{FailsAsType};
+ghost use Rattle.expression_types.specs.Typing.{one as one_gives, quoted as quoted_gives, pair_gives, spread_over, called_with, operand_in, callee, gives, seen};
+ghost use Rattle.expression_types.specs.Faults.{CallFails, Fails, FailsInEach, FailsAsOperand, CalleeFails, literal_fault, single_fault};
+ghost use Rattle.expression_types.specs.Passing.{gives_of, seens, callee_of, literal_operand};
 
 use crate::calls::{
-    call_fault, call_value, callee_name_fault, callee_named, callee_value, name_in, spread_over,
+    call_fault, call_value, callee_name_fault, callee_named, callee_value, spread_over,
 };
-use crate::constant::{Constant, untyped};
-use crate::fault::{Fault, FaultKind, lesser};
-use crate::naming::{between, name_fault, name_value};
-use crate::operand::{Callee, Gives, Item, Operand, one_operand, single_fault};
-use crate::operators::{has_rules, pair_fault, paired, prefix_fault, prefixed};
-use crate::scope::Scope;
-use crate::type_names::type_fault;
+use crate::gives::{Callee, Gives, Item, one_operand, single_fault};
+use crate::naming::{name_fault, name_value};
 use base::{NoMemory, Pos};
+use names::{Scope, between, name_in, type_fault};
+use operators::{Operand, has_rules, pair_fault, paired, prefix_fault, prefixed};
 use std::alloc::Global;
 use string_value::string_value;
 use syntax::{BinOp, Expr, Name, UnOp};
+use value_types::{Constant, Fault, FaultKind, lesser, untyped};
 
 /// What is known of an expression: its first byte, what it gives, and the fault that is reported of it.
 #[derive(Drop)]

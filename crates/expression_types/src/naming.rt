@@ -1,38 +1,21 @@
 //! Names as values.
 
-ghost use Rattle.std.specs.Prelude.{◌≡◌, Option, Some, None};
+ghost use Rattle.std.specs.Prelude.{◌≡◌};
 ghost use Rattle.std.specs.Option.{option_map};
-ghost use Rattle.syntax.specs.Expressions.{name as name_of, spelled};
-ghost use Rattle.expression_types.specs.Least.{IsLeast};
-ghost use Rattle.expression_types.specs.Scope.{scope_of};
-ghost use Rattle.expression_types.specs.Typing.{one, name_operand, between, gives};
+ghost use Rattle.syntax.specs.Expressions.{name as name_of};
+ghost use Rattle.value_types.specs.Least.{IsLeast};
+ghost use Rattle.names.specs.Scope.{scope_of};
+ghost use Rattle.expression_types.specs.Typing.{one, name_operand, gives};
 ghost use Rattle.expression_types.specs.Faults.{name_fault, Fails};
 ghost use Rattle.expression_types.specs.Passing.{gives_of};
 
-use crate::constant::{Constant, untyped};
-use crate::fault::{Fault, FaultKind};
-use crate::operand::{Gives, Operand};
-use crate::scope::{Declared, Scope, declaration, fixed};
+use crate::gives::Gives;
 use base::Pos;
+use names::{Declared, Scope, declaration, fixed, spelled};
+use operators::Operand;
 use syntax::Name;
 use typed::Expr;
-
-/// The bytes of a text from one offset up to another.
-pub fn between(text: &[u8], from: u32, behind: u32) -> &[u8]
-    ensures { result.now ≡ between text.now from behind }
-{
-    let start = text.len().min(from as usize);
-    let rest = &text[start..];
-    let long = rest.len().min(behind.saturating_sub(from) as usize);
-    &rest[..long]
-}
-
-/// The bytes of a name.
-pub fn spelled(text: &[u8], name: Name) -> &[u8]
-    ensures { result.now ≡ spelled text.now name }
-{
-    between(text, name.pos.offset, name.end)
-}
+use value_types::{Constant, Fault, FaultKind, untyped};
 
 fn value_of(scope: &Scope, declared: Option<Declared>) -> Option<Gives>
     ensures { option_map gives_of result ≡ option_map one (name_operand (scope_of scope.now) declared) }
@@ -77,7 +60,7 @@ fn declared_fault(declared: Option<Declared>, pos: Pos) -> Option<Fault>
 }
 
 /// The fault of a name as a value.
-#[tactic(auto, using(crate::proofs::Leasts::leaf))]
+#[tactic(auto, using(value_types::proofs::Leasts::leaf))]
 pub fn name_fault(text: &[u8], scope: &Scope, name: Name) -> Option<Fault>
     ensures { IsLeast (Fails text.now (scope_of scope.now) (name_of name)) result }
 {

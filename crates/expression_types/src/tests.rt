@@ -1,17 +1,19 @@
 //! Trees built by hand over one text, and what the checker says of them.
 
 use crate::{
-    ConstId, Constant, Declared, External, Fault, FaultKind, Fixed, Gives, Operand, Part, Scope,
-    Signature, ValueType, add_constant, add_signature, add_strings, asked, beginning,
-    check_condition, check_expr, check_list, constant_count, declaration, declare,
-    declare_variable, fixed, open, set_fixed, string_count, take_fault, taken, type_fault, type_in,
-    untyped, value_types,
+    Gives, Part, asked, check_condition, check_expr, check_list, take_fault, taken, value_types,
 };
 use base::{FuncId, Pos};
+use names::{
+    ConstId, Declared, External, Scope, Signature, add_constant, add_signature, beginning, declare,
+    declare_variable, fixed, open,
+};
+use operators::Operand;
 use std::alloc::Global;
 use std::test::Fail;
 use syntax::{ArithmeticOp, BinOp, CompareOp, Expr, Name, UnOp};
 use typed::Values;
+use value_types::{Constant, Fault, FaultKind, Fixed, ValueType, untyped};
 
 /// A variable, a variable without a type, a function, a type, what is not declared, names of the language, a truth variable, truth
 /// values, a function of a truth value, one with two results, more names of the language, `exit`, the blank name, strings, `readInt`,
@@ -322,47 +324,6 @@ fn calls_declared_anew(rt: HostRuntime) -> Result<(), Fail> {
         let e = call(alloc, function, truth(), false)?;
         assert_eq!(rt; fault_anew(alloc, e)?, wanted(want));
     }
-    Ok(())
-}
-
-/// Outside of all blocks the language declares its names.
-#[test]
-fn the_universe(rt: HostRuntime) -> Result<(), Fail> {
-    let scope = beginning(rt.alloc());
-    let table: [(&[u8], Option<Declared>); 12] = [
-        (b"int", Some(Declared::Type(ValueType::Int))),
-        (b"bool", Some(Declared::Type(ValueType::Bool))),
-        (b"true", Some(Declared::Truth(true))),
-        (b"false", Some(Declared::Truth(false))),
-        (b"print", Some(Declared::Print(false))),
-        (b"println", Some(Declared::Print(true))),
-        (b"panic", Some(Declared::Panic)),
-        (b"uint8", Some(Declared::LeftOutType)),
-        (b"iota", Some(Declared::LeftOutValue)),
-        (b"main", None),
-        (b"_", None),
-        (b"Int", None),
-    ];
-    for (name, want) in table {
-        assert_eq!(rt; declaration(&scope, name), want);
-    }
-    Ok(())
-}
-
-/// The constants of a scope, by their numbers.
-#[test]
-fn constants_of_a_scope(rt: HostRuntime) -> Result<(), Fail> {
-    let mut scope = beginning(rt.alloc());
-    let five = untyped(Constant::Number(5));
-    add_constant(&mut scope, None)?;
-    add_constant(&mut scope, None)?;
-    assert_eq!(rt; constant_count(&scope), 2);
-    set_fixed(&mut scope, ConstId(1), Some(five));
-    set_fixed(&mut scope, ConstId(2), Some(five));
-    assert_eq!(rt; constant_count(&scope), 2);
-    assert_eq!(rt; fixed(&scope, ConstId(0)), None);
-    assert_eq!(rt; fixed(&scope, ConstId(1)), Some(five));
-    assert_eq!(rt; fixed(&scope, ConstId(2)), None);
     Ok(())
 }
 
@@ -921,18 +882,6 @@ fn readings_at_places(rt: HostRuntime) -> Result<(), Fail> {
     Ok(())
 }
 
-#[test]
-fn strings_of_a_scope(rt: HostRuntime) -> Result<(), Fail> {
-    let alloc = rt.alloc();
-    let mut scope = beginning(alloc);
-    let first = Vec::from_slice(alloc, b"hi")?;
-    let second = Vec::from_slice(alloc, b"")?;
-    add_strings(&mut scope, Vec::from_array(alloc, [first])?)?;
-    add_strings(&mut scope, Vec::from_array(alloc, [second])?)?;
-    assert_eq!(rt; string_count(&scope), 2);
-    Ok(())
-}
-
 /// Values at places: the results of one call have the types that are asked for, or the fault stands at the call.
 #[test]
 fn places(rt: HostRuntime) -> Result<(), Fail> {
@@ -975,29 +924,5 @@ fn conditions(rt: HostRuntime) -> Result<(), Fail> {
         pos: at(62),
     };
     assert_eq!(rt; found.fault, Some(own));
-    Ok(())
-}
-
-#[test]
-fn types(rt: HostRuntime) -> Result<(), Fail> {
-    let alloc = rt.alloc();
-    let scope = scope(alloc)?;
-    let table: [(u32, u32, Option<FaultKind>); 8] = [
-        (10, 13, None),
-        (26, 30, None),
-        (T, 7, None),
-        (22, 25, Some(FaultKind::BadOperand)),
-        (F, 5, Some(FaultKind::BadOperand)),
-        (U, 9, Some(FaultKind::Unknown)),
-        (K, 102, Some(FaultKind::BadOperand)),
-        (STRING, 115, Some(FaultKind::OutOfProfile)),
-    ];
-    for (start, end, kind) in table {
-        let fault = type_fault(TEXT, &scope, &word(start, end));
-        assert_eq!(rt; fault.map(|fault| fault.kind), kind);
-    }
-    let inner = in_parentheses(alloc, word(26, 30))?;
-    assert_eq!(rt; type_in(TEXT, &scope, &inner), Some(ValueType::Bool));
-    assert_eq!(rt; type_in(TEXT, &scope, &letter(T)), None);
     Ok(())
 }

@@ -3,21 +3,22 @@
 ghost use Rattle.std.specs.Prelude.{◌≡◌, ◌⊎◌, Option, Some, None, IfOk, map, take};
 ghost use Rattle.std.specs.Option.{option_map};
 ghost use Rattle.typed.specs.View.{ex_of, exs_of_values};
-ghost use Rattle.expression_types.specs.Least.{IsLeast};
+ghost use Rattle.value_types.specs.Least.{IsLeast};
+ghost use Rattle.value_types.specs.Faults.{fault as fault_at};
 ghost use Rattle.expression_types.specs.Typing.{values, parts, are_single, are_parts, part_count, single_types, many_in, many, count, value_types, accepts, types_agree, operand_agrees, each, asked, fits, all_values, taken, taken_types};
-ghost use Rattle.expression_types.specs.Faults.{fault as fault_at, type_fault, SinglesFail, PartsFail, ValuesFail, RangeFails, TypesFail, MismatchFails, PlacedFail, TakeFails, count_fault};
-ghost use Rattle.expression_types.specs.Passing.{part_view, gives_of, seens, with_last, results_of};
+ghost use Rattle.expression_types.specs.Faults.{type_fault, SinglesFail, PartsFail, ValuesFail, RangeFails, TypesFail, MismatchFails, PlacedFail, TakeFails, count_fault};
+ghost use Rattle.value_types.specs.Given.{with_last};
+ghost use Rattle.expression_types.specs.Passing.{part_view, gives_of, seens, results_of};
 
-use crate::fault::{Fault, FaultKind, lesser};
-use crate::operand::{
+use crate::gives::{
     Gives, Item, Part, is_part, is_single, one_operand, one_type, part_fault, part_in, range_fault,
-    single_fault, value_of,
+    single_fault,
 };
-use crate::operators::same_type;
-use crate::scope::ValueType;
 use base::{NoMemory, Pos};
+use operators::value_of;
 use std::alloc::Global;
 use typed::{Expr, Values};
+use value_types::{Fault, FaultKind, ValueType, lesser, same_type};
 
 /// The fault of expressions each of which is to have one value.
 pub fn singles_fault(items: &[Item]) -> Option<Fault>
@@ -242,7 +243,7 @@ fn mismatch_fault(places: &[Option<ValueType>], items: &[Item]) -> Option<Fault>
 }
 
 /// The first so many expressions.
-#[tactic(auto, using(crate::proofs::Items::take_all))]
+#[tactic(auto, using(value_types::proofs::Lists::take_all))]
 fn first(items: &[Item], wanted: usize) -> &[Item]
     ensures { result.now ≡ take wanted items.now }
 {

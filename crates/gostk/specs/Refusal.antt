@@ -3,8 +3,8 @@ use Rattle.std.specs.Prelude.{ℕ, List, [], ◌++◌, Option, Some, None, decim
 use Rattle.base.specs.declared.pos.Pos.{Pos}
 use Rattle.scan_go.specs.Faults as scanning
 use Rattle.parse_go.specs.FaultNumbers as parsing
-use Rattle.expression_types.specs.Least as checking
-use Rattle.expression_types.specs.declared.fault.TypeFault.TheVariants as typing
+use Rattle.value_types.specs.Least as checking
+use Rattle.value_types.specs.declared.fault.TypeFault.TheVariants as typing
 use Rattle.frame_layout.specs.declared.fault.LayoutFault.TheVariants as layout
 use Rattle.compile.specs.declared.fault.CompileFault.{CompileFault}
 use Rattle.compile.specs.declared.fault.CompileFault.TheVariants as compile

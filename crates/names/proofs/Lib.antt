@@ -1,3 +1,4 @@
 pub mod Tables
 pub mod LastInsert
-pub mod Shifts
+pub mod Settled
+pub mod Places

@@ -1,2 +1,6 @@
 pub mod Blocks
-pub mod Constants
+pub mod Universe
+pub mod Scope
+pub mod Naming
+pub mod Types
+pub mod Faults

@@ -1,19 +1,28 @@
-//! Names and constants, as the checker of types needs them: nested blocks of names, and exact arithmetic on untyped
-//! constants.
+//! What the names of a program stand for: nested blocks of names, the names that the language declares, and those that are types.
 //!
 //! A declaration is entered under its name into the innermost block, and a name that is used is looked up from there
-//! outwards, so that the innermost block that has it decides. Blocks close in the order opposite to that in which they
-//! were opened. Each keeps its names in the order in which they were declared, with a number of the caller's for each.
+//! outwards, so that the innermost block that has it decides; what no block declares is looked up among the names of the language. Blocks
+//! close in the order opposite to that in which they were opened. Each keeps its names in the order in which they were declared, with a
+//! number of the caller's for each.
 //!
-//! Constant expressions are computed on whole numbers from -2^127 to 2^127 - 1. A result outside is refused; none
-//! wraps.
+//! A scope is the open blocks, what their numbers stand for, and what is known of the variables, functions, constants and strings of a program.
 #![tactic(auto)]
 
 mod block;
-mod constants;
+mod naming;
+mod scope;
+mod type_names;
+mod universe;
 
 pub use block::Block;
-pub use constants::{Const, ConstFault, compare, fold, fold_one};
+pub use naming::{between, name_in, spelled};
+pub use scope::{
+    ConstId, Declared, External, Scope, Signature, add_constant, add_signature, add_strings,
+    beginning, close, constant_count, declaration, declare, declare_variable, fixed, is_here,
+    next_site, open, set_fixed, site_behind, site_count, string_count, type_id,
+};
+pub use type_names::{type_fault, type_in};
+pub use universe::{is_blank, is_main};
 
 #[cfg(test)]
 mod tests;

@@ -1,6 +1,11 @@
-use crate::{Block, Const, ConstFault, fold, fold_one};
+use crate::{
+    Block, ConstId, Declared, add_constant, add_strings, beginning, constant_count, declaration,
+    declare, fixed, set_fixed, string_count, type_fault, type_in,
+};
+use base::{FuncId, Pos};
 use std::test::Fail;
-use syntax::{ArithmeticOp, BinOp, CompareOp, UnOp};
+use syntax::{Expr, Name};
+use value_types::{Constant, FaultKind, ValueType, untyped};
 
 /// Shadowing and the ends of scopes (Go specification, "Declarations and scope").
 #[test]
@@ -34,174 +39,101 @@ fn inner_names_hide_outer_ones(rt: HostRuntime) -> Result<(), Fail> {
     Ok(())
 }
 
-const LEAST: i128 = -170141183460469231731687303715884105728;
-
-const MOST: i128 = 170141183460469231731687303715884105727;
-
-const OVERFLOW: Result<i128, ConstFault> = Err(ConstFault::Overflow);
-
-const ZERO: Result<i128, ConstFault> = Err(ConstFault::ZeroDivisor);
-
-const NEGATIVE: Result<i128, ConstFault> = Err(ConstFault::NegativeShift);
-
-/// Sums, products and quotients at the edges of 128 bits. -2^64 squared is 2^128.
+/// Outside of all blocks the language declares its names.
 #[test]
-fn results_are_exact(rt: HostRuntime) -> Result<(), Fail> {
-    use ArithmeticOp::{Add, Div, Mul, Rem, Sub};
-    let rows = [
-        (Add, 9223372036854775807, 1, Ok(9223372036854775808)),
-        (Sub, 2, 5, Ok(-3)),
-        (Mul, -18446744073709551616, 9223372036854775808, Ok(LEAST)),
-        (Mul, -18446744073709551616, -18446744073709551616, OVERFLOW),
-        (Add, MOST, 1, OVERFLOW),
-        (Sub, LEAST, 1, OVERFLOW),
-        (Sub, -1, LEAST, Ok(MOST)),
-        (Div, 7, 2, Ok(3)),
-        (Div, -7, 2, Ok(-3)),
-        (Div, LEAST, -1, OVERFLOW),
-        (Div, LEAST, 1, Ok(LEAST)),
-        (Div, 0, 0, ZERO),
-        (Rem, 7, -2, Ok(1)),
-        (Rem, -7, 2, Ok(-1)),
-        (Rem, LEAST, -1, Ok(0)),
-        (Rem, 1, 0, ZERO),
+fn the_universe(rt: HostRuntime) -> Result<(), Fail> {
+    let scope = beginning(rt.alloc());
+    let table: [(&[u8], Option<Declared>); 12] = [
+        (b"int", Some(Declared::Type(ValueType::Int))),
+        (b"bool", Some(Declared::Type(ValueType::Bool))),
+        (b"true", Some(Declared::Truth(true))),
+        (b"false", Some(Declared::Truth(false))),
+        (b"print", Some(Declared::Print(false))),
+        (b"println", Some(Declared::Print(true))),
+        (b"panic", Some(Declared::Panic)),
+        (b"uint8", Some(Declared::LeftOutType)),
+        (b"iota", Some(Declared::LeftOutValue)),
+        (b"main", None),
+        (b"_", None),
+        (b"Int", None),
     ];
-    for (op, a, b, want) in rows {
-        assert_eq!(rt;
-            fold(BinOp::Arithmetic(op), Const::Int(a), Const::Int(b)),
-            want.map(Const::Int)
-        );
+    for (name, want) in table {
+        assert_eq!(rt; declaration(&scope, name), want);
     }
     Ok(())
 }
 
-/// Bits are those of two's complement, and a count may be of any size.
+/// The constants of a scope, by their numbers.
 #[test]
-fn bits_and_shifts(rt: HostRuntime) -> Result<(), Fail> {
-    use ArithmeticOp::{And, AndNot, Or, ShiftLeft, ShiftRight, Xor};
-    let rows = [
-        (And, -4, 7, Ok(4)),
-        (And, LEAST, -1, Ok(LEAST)),
-        (Or, -8, 3, Ok(-5)),
-        (Xor, -1, 5, Ok(-6)),
-        (AndNot, 7, 2, Ok(5)),
-        (AndNot, -1, MOST, Ok(LEAST)),
-        (
-            ShiftLeft,
-            1,
-            126,
-            Ok(85070591730234615865843651857942052864),
-        ),
-        (ShiftLeft, 1, 127, OVERFLOW),
-        (ShiftLeft, -1, 127, Ok(LEAST)),
-        (ShiftLeft, -1, 128, OVERFLOW),
-        (ShiftLeft, 1, 200, OVERFLOW),
-        (ShiftLeft, 0, MOST, Ok(0)),
-        (ShiftLeft, 0, -1, NEGATIVE),
-        (ShiftRight, -5, 1, Ok(-3)),
-        (ShiftRight, -1, 500, Ok(-1)),
-        (ShiftRight, MOST, 126, Ok(1)),
-        (ShiftRight, MOST, 128, Ok(0)),
-        (ShiftRight, 1, LEAST, NEGATIVE),
-    ];
-    for (op, a, b, want) in rows {
-        assert_eq!(rt;
-            fold(BinOp::Arithmetic(op), Const::Int(a), Const::Int(b)),
-            want.map(Const::Int)
-        );
-    }
+fn constants_of_a_scope(rt: HostRuntime) -> Result<(), Fail> {
+    let mut scope = beginning(rt.alloc());
+    let five = untyped(Constant::Number(5));
+    add_constant(&mut scope, None)?;
+    add_constant(&mut scope, None)?;
+    assert_eq!(rt; constant_count(&scope), 2);
+    set_fixed(&mut scope, ConstId(1), Some(five));
+    set_fixed(&mut scope, ConstId(2), Some(five));
+    assert_eq!(rt; constant_count(&scope), 2);
+    assert_eq!(rt; fixed(&scope, ConstId(0)), None);
+    assert_eq!(rt; fixed(&scope, ConstId(1)), Some(five));
+    assert_eq!(rt; fixed(&scope, ConstId(2)), None);
     Ok(())
 }
 
 #[test]
-fn prefixes(rt: HostRuntime) -> Result<(), Fail> {
-    let rows = [
-        (UnOp::Plus, LEAST, Ok(LEAST)),
-        (UnOp::Negate, 7, Ok(-7)),
-        (UnOp::Negate, MOST, Ok(-MOST)),
-        (UnOp::Negate, LEAST, OVERFLOW),
-        (UnOp::Complement, 0, Ok(-1)),
-        (UnOp::Complement, MOST, Ok(LEAST)),
-        (UnOp::Not, 1, Err(ConstFault::NotConstant)),
-        (UnOp::Address, 1, Err(ConstFault::NotConstant)),
-    ];
-    for (op, a, want) in rows {
-        assert_eq!(rt; fold_one(op, Const::Int(a)), want.map(Const::Int));
-    }
-    assert_eq!(rt;
-        fold_one(UnOp::Not, Const::Bool(true)),
-        Ok(Const::Bool(false))
-    );
+fn strings_of_a_scope(rt: HostRuntime) -> Result<(), Fail> {
+    let alloc = rt.alloc();
+    let mut scope = beginning(alloc);
+    let first = Vec::from_slice(alloc, b"hi")?;
+    let second = Vec::from_slice(alloc, b"")?;
+    add_strings(&mut scope, Vec::from_array(alloc, [first])?)?;
+    add_strings(&mut scope, Vec::from_array(alloc, [second])?)?;
+    assert_eq!(rt; string_count(&scope), 2);
     Ok(())
 }
 
-/// Comparisons of numbers and of bools, and the operators on bools.
-#[test]
-fn bools(rt: HostRuntime) -> Result<(), Fail> {
-    let (yes, no) = (Const::Bool(true), Const::Bool(false));
-    let rows = [
-        (
-            BinOp::Compare(CompareOp::Less),
-            Const::Int(LEAST),
-            Const::Int(MOST),
-            Ok(true),
-        ),
-        (
-            BinOp::Compare(CompareOp::GreaterEqual),
-            Const::Int(1),
-            Const::Int(2),
-            Ok(false),
-        ),
-        (BinOp::Compare(CompareOp::Equal), no, no, Ok(true)),
-        (BinOp::Compare(CompareOp::NotEqual), no, no, Ok(false)),
-        (
-            BinOp::Compare(CompareOp::Less),
-            no,
-            yes,
-            Err(ConstFault::NotConstant),
-        ),
-        (
-            BinOp::Compare(CompareOp::Equal),
-            no,
-            Const::Int(0),
-            Err(ConstFault::NotConstant),
-        ),
-        (BinOp::Both, yes, no, Ok(false)),
-        (BinOp::Either, yes, no, Ok(true)),
-        (
-            BinOp::Both,
-            Const::Int(1),
-            yes,
-            Err(ConstFault::NotConstant),
-        ),
-    ];
-    for (op, a, b, want) in rows {
-        assert_eq!(rt; fold(op, a, b), want.map(Const::Bool));
+/// What is declared and of which names, with what the language declares, `int`, `bool`, `println` and `string`.
+const TEXT: &[u8] = b"f T u k int println bool string";
+
+fn at(offset: u32) -> Pos {
+    Pos {
+        offset,
+        line: 1,
+        col: 1,
     }
-    Ok(())
 }
 
-/// That both operands are constants is tested before anything else.
+fn word(start: u32, end: u32) -> Expr {
+    Expr::Name(Name {
+        pos: at(start),
+        end,
+    })
+}
+
+/// A name as a type, in parentheses or not, where the program declares a function, a type and a constant.
 #[test]
-fn operands_are_constants(rt: HostRuntime) -> Result<(), Fail> {
-    let refused = Err(ConstFault::NotConstant);
-    let rows = [
-        (ArithmeticOp::Add, Const::NoConst, Const::Int(MOST)),
-        (ArithmeticOp::Div, Const::NoConst, Const::Int(0)),
-        (ArithmeticOp::ShiftLeft, Const::Bool(true), Const::Int(-1)),
+fn types(rt: HostRuntime) -> Result<(), Fail> {
+    let alloc = rt.alloc();
+    let mut scope = beginning(alloc);
+    declare(&mut scope, b"f", Declared::Function(FuncId(0)))?;
+    declare(&mut scope, b"T", Declared::TypeName)?;
+    declare(&mut scope, b"k", Declared::Constant(ConstId(0)))?;
+    let table: [(u32, u32, Option<FaultKind>); 8] = [
+        (8, 11, None),
+        (20, 24, None),
+        (2, 3, None),
+        (12, 19, Some(FaultKind::BadOperand)),
+        (0, 1, Some(FaultKind::BadOperand)),
+        (4, 5, Some(FaultKind::Unknown)),
+        (6, 7, Some(FaultKind::BadOperand)),
+        (25, 31, Some(FaultKind::OutOfProfile)),
     ];
-    for (op, a, b) in rows {
-        assert_eq!(rt; fold(BinOp::Arithmetic(op), a, b), refused);
+    for (start, end, kind) in table {
+        let fault = type_fault(TEXT, &scope, &word(start, end));
+        assert_eq!(rt; fault.map(|fault| fault.kind), kind);
     }
-    assert_eq!(rt; fold_one(UnOp::Negate, Const::NoConst), refused);
-    let faults = [
-        (ConstFault::Overflow, 1),
-        (ConstFault::ZeroDivisor, 2),
-        (ConstFault::NegativeShift, 3),
-        (ConstFault::NotConstant, 4),
-    ];
-    for (fault, number) in faults {
-        assert_eq!(rt; fault.number(), number);
-    }
+    let inner = Expr::Paren(at(60), Box::new(alloc, word(20, 24))?);
+    assert_eq!(rt; type_in(TEXT, &scope, &inner), Some(ValueType::Bool));
+    assert_eq!(rt; type_in(TEXT, &scope, &word(2, 3)), None);
     Ok(())
 }

@@ -11,21 +11,28 @@ use Rattle.syntax.specs.FirstBytes.{first_place}
 use Rattle.syntax.specs.Expressions.{Ex as TreeEx, Exs as TreeExs, none, some, spelled}
 use Rattle.syntax.specs.Statements.{ValueSpec}
 use Rattle.syntax.specs.Declarations.{Declaration, constants, variables, types, function}
+use Rattle.value_types.specs.declared.constant.Constant.TheVariants.{Truth}
+use Rattle.value_types.specs.declared.constant.Fixed.{Fixed}
+use Rattle.value_types.specs.declared.fault.Fault.{Fault}
+use Rattle.value_types.specs.declared.fault.FaultKind.TheVariants.{Mismatch, ArgCount, ConstRange, BadOperand, RecursiveType}
+use Rattle.value_types.specs.declared.value_type.ValueType.{ValueType}
+use Rattle.value_types.specs.Constants.{untyped, same_type, constant_type, is_held, holds}
+use Rattle.value_types.specs.Given.{allowed}
+use Rattle.value_types.specs.Faults.{fault, IsFault}
+use Rattle.value_types.proofs.Decided.{Decided}
+use Rattle.value_types.proofs.Options.{map_some, none_some, same_some}
+use Rattle.operators.specs.Operands.{Operand, constant, value}
 use Rattle.names.specs.Blocks.{lookup}
-use Rattle.expression_types.specs.declared.constant.Constant.TheVariants.{Truth}
-use Rattle.expression_types.specs.declared.constant.Fixed.{Fixed}
-use Rattle.expression_types.specs.declared.fault.Fault.{Fault}
-use Rattle.expression_types.specs.declared.fault.FaultKind.TheVariants.{Mismatch, ArgCount, ConstRange, BadOperand, RecursiveType}
-use Rattle.expression_types.specs.declared.scope.Declared.{Declared}
-use Rattle.expression_types.specs.declared.scope.Declared.TheVariants as declared
-use Rattle.expression_types.specs.declared.scope.ValueType.{ValueType}
-use Rattle.expression_types.specs.Scope.{Scope, Signature, numbered, declaration, fixed}
-use Rattle.expression_types.specs.Typing.{are_single, Operand, constant, value, untyped, Gives, allowed, same_type, constant_type, is_held, holds, accepts, single, operand_in, type_in, gives, seen}
-use Rattle.expression_types.specs.Faults.{fault, IsFault, single_fault, CountFails, SinglesFail, FailsAsType, Fails, FailsInEach}
-use Rattle.expression_types.proofs.Decided.{Decided}
+use Rattle.names.specs.declared.scope.Declared.{Declared}
+use Rattle.names.specs.declared.scope.Declared.TheVariants as declared
+use Rattle.names.specs.Scope.{Scope, Signature, numbered, declaration, fixed}
+use Rattle.names.specs.Types.{type_in}
+use Rattle.names.specs.Faults.{FailsAsType}
+use Rattle.names.proofs.Settled.{HasValue, IsTyped, IsSettled, predeclared_is, type_decided}
+use Rattle.expression_types.specs.Typing.{are_single, Gives, accepts, single, operand_in, gives, seen}
+use Rattle.expression_types.specs.Faults.{single_fault, CountFails, SinglesFail, Fails, FailsInEach}
 use Rattle.expression_types.proofs.DecidedValues.{single_decided}
-use Rattle.expression_types.proofs.Options.{map_some, none_some, same_some}
-use Rattle.expression_types.proofs.Settled.{HasValue, IsTyped, IsSettled, predeclared_is, gives_decided, type_decided}
+use Rattle.expression_types.proofs.Settled.{gives_decided}
 use Rattle.package_constants.specs.Constants.{Item, as_constant, unvalued, paired, or_unvalued, items_of, items_in_specs, items_in, with_type, accepted, given_by, given, settled}
 use Rattle.package_constants.specs.Needs.{names_in, names_in_each, names_in_some, names_waited, constant_number, also, Among, numbers_of, needed, needed_in, Needs, Reaches, at_once, through}
 use Rattle.package_constants.specs.ConstantFaults.{single_count, value_fault, ValuesFail, type_asked, TypeFails, SpecFails, SpecsFail, DeclarationsFail, ConstantsFail}

@@ -10,8 +10,8 @@ use Rattle.syntax.specs.declared.statement.ValueSpec.{ValueSpec as CodeValueSpec
 use Rattle.syntax.specs.Expressions.{Ex as TreeEx, Exs as TreeExs, ex_of, exs_of, ex_in, elements_of}
 use Rattle.syntax.specs.Statements.{value_spec_of}
 use Rattle.syntax.specs.Declarations.{Declaration, constants, variables, types, function}
-use Rattle.expression_types.specs.declared.constant.Fixed.{Fixed}
-use Rattle.expression_types.specs.Scope.{Scope, fixed, with_fixed}
+use Rattle.value_types.specs.declared.constant.Fixed.{Fixed}
+use Rattle.names.specs.Scope.{Scope, fixed, with_fixed}
 use Rattle.package_constants.specs.Constants.{Item, unvalued, paired, or_unvalued, items_of, items_in, settled, given, look, looks}
 use Rattle.std.proofs.lemmas.List.{map-append}
 use Rattle.package_constants.specs.declared.items.Item.{Item as ItemData}

@@ -10,14 +10,21 @@ use Rattle.syntax.specs.Expressions.{Ex as TreeEx, number, string, name, unary, 
 use Rattle.typed.specs.declared.operators.UnOp.{UnOp as TypedPrefix}
 use Rattle.typed.specs.Syntax.{Ex, Exs}
 use Rattle.typed.specs.Syntax as typed
-use Rattle.expression_types.specs.declared.constant.Fixed.{Fixed}
-use Rattle.expression_types.specs.declared.scope.Declared.{Declared}
-use Rattle.expression_types.specs.declared.scope.Declared.TheVariants as declared
-use Rattle.expression_types.specs.declared.scope.ValueType.{ValueType}
-use Rattle.expression_types.specs.Scope.{Scope, declaration}
-use Rattle.expression_types.specs.Typing.{Operand, constant, value, Part, one, called, asking, printed, allowed, same_type, constant_type, is_held, holds, name_operand, has_rules, takes_one, prefix_of, prefixed, prefix_gives, takes, both_values, value_pair, right_allowed, type_of, as_value, pair_gives, operand_in, Seen, parts, values, fits, taken, Callee, printer, panicker, reader, exiter, function, conversion, no_function, no_spread, no_text_spread, nothing, exit_places, panicked_with, exited_with, called_with, spread_over, name_in, callee, type_in, gives, seen}
-use Rattle.expression_types.proofs.Options.{and_then_some, map_some, none_some, same_some}
-use Rattle.expression_types.proofs.Held.{IsHeld, operand_held}
+use Rattle.value_types.specs.declared.constant.Fixed.{Fixed}
+use Rattle.value_types.specs.declared.value_type.ValueType.{ValueType}
+use Rattle.value_types.specs.Given.{allowed}
+use Rattle.value_types.specs.Constants.{same_type, constant_type, is_held, holds}
+use Rattle.value_types.proofs.Options.{and_then_some, map_some, none_some, same_some}
+use Rattle.operators.specs.Operands.{Operand, constant, value, type_of, as_value}
+use Rattle.operators.specs.Operators.{has_rules, takes_one, prefix_of, prefixed, takes, both_values, value_pair, right_allowed}
+use Rattle.operators.proofs.Held.{IsHeld}
+use Rattle.names.specs.declared.scope.Declared.{Declared}
+use Rattle.names.specs.declared.scope.Declared.TheVariants as declared
+use Rattle.names.specs.Scope.{Scope, declaration}
+use Rattle.names.specs.Naming.{name_in}
+use Rattle.names.specs.Types.{type_in}
+use Rattle.expression_types.specs.Typing.{Part, one, called, asking, printed, name_operand, prefix_gives, pair_gives, operand_in, Seen, parts, values, fits, taken, Callee, printer, panicker, reader, exiter, function, conversion, no_function, no_spread, no_text_spread, nothing, exit_places, panicked_with, exited_with, called_with, spread_over, callee, gives, seen}
+use Rattle.expression_types.proofs.Held.{operand_held}
 use Rattle.package_constants.specs.Constants.{Item, as_constant, constant_in, with_type, accepted, given_by, given, look, looks}
 use Rattle.package_constants.proofs.Growth.{known, Within, renewed, rounds}
 

@@ -1,7 +1,7 @@
 -- What the looks at the constants leave as it is.
 use Rattle.std.proofs.Common.{◌≡◌, ℕ, List, length, Option, ap, ◌∙◌}
-use Rattle.expression_types.specs.declared.constant.Fixed.{Fixed}
-use Rattle.expression_types.specs.Scope.{Scope}
+use Rattle.value_types.specs.declared.constant.Fixed.{Fixed}
+use Rattle.names.specs.Scope.{Scope}
 use Rattle.package_constants.specs.Constants.{Item, settled}
 use Rattle.package_constants.proofs.Growth.{rounds, rounds_many}
 use Rattle.package_constants.proofs.Giving.{holding, give, monotone, looks_are}

@@ -3,11 +3,11 @@ use Rattle.std.proofs.Common.{◌≡◌, ℕ, zero, suc, ◌+◌, ◌<◌, ◌�
 use Rattle.std.specs.Prelude.{slice_get}
 use Rattle.std.proofs.lemmas.Bool.{cases_Bool, eqb-true, eqb-false}
 use Rattle.syntax.specs.Declarations.{Declaration, constants, variables, types, function}
-use Rattle.expression_types.specs.declared.fault.Fault.{Fault}
-use Rattle.expression_types.specs.declared.fault.FaultKind.TheVariants.{RecursiveType}
-use Rattle.expression_types.specs.Scope.{Scope}
-use Rattle.expression_types.specs.Faults.{fault}
-use Rattle.expression_types.proofs.Leasts.{Covers, Kept}
+use Rattle.value_types.specs.declared.fault.Fault.{Fault}
+use Rattle.value_types.specs.declared.fault.FaultKind.TheVariants.{RecursiveType}
+use Rattle.value_types.specs.Faults.{fault}
+use Rattle.value_types.proofs.Leasts.{Covers, Kept}
+use Rattle.names.specs.Scope.{Scope}
 use Rattle.package_constants.specs.declared.items.Item.{Item as ItemData}
 use Rattle.package_constants.specs.Constants.{Item}
 use Rattle.package_constants.specs.Needs.{Among, needed, needed_in, Reaches, at_once, through}

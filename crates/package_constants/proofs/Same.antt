@@ -8,14 +8,20 @@ use Rattle.syntax.specs.declared.expression.Name.{Name}
 use Rattle.syntax.specs.FirstBytes.{first_place}
 use Rattle.syntax.specs.Expressions.{Ex as TreeEx, Exs as TreeExs, number, string, name, unary, binary, paren, call, selector, index, slice, array_type, slice_type, literal, elements, some, spelled}
 use Rattle.syntax.specs.Expressions as tree
-use Rattle.expression_types.specs.declared.fault.Fault.{Fault}
-use Rattle.expression_types.specs.declared.constant.Fixed.{Fixed}
-use Rattle.expression_types.specs.declared.scope.Declared.{Declared}
-use Rattle.expression_types.specs.declared.scope.Declared.TheVariants as declared
-use Rattle.expression_types.specs.Scope.{Scope, declaration}
-use Rattle.expression_types.specs.Typing.{constant, Gives, one, name_operand, has_rules, prefix_gives, pair_gives, operand_in, Seen, Callee, callee_value, callee_declared, called_with, spread_over, name_in, callee, gives, seen}
-use Rattle.expression_types.specs.Faults.{IsFault, FormFails, WhereTaken, single_fault, prefix_fault, pair_fault, CallFails, CalleeFails, FailsAsType, Fails, FailsInEach}
-use Rattle.expression_types.proofs.Options.{none_some, same_some}
+use Rattle.value_types.specs.declared.fault.Fault.{Fault}
+use Rattle.value_types.specs.declared.constant.Fixed.{Fixed}
+use Rattle.value_types.specs.Faults.{IsFault, FormFails}
+use Rattle.value_types.proofs.Options.{none_some, same_some}
+use Rattle.operators.specs.Operands.{constant}
+use Rattle.operators.specs.Operators.{has_rules}
+use Rattle.operators.specs.Faults.{prefix_fault, pair_fault}
+use Rattle.names.specs.declared.scope.Declared.{Declared}
+use Rattle.names.specs.declared.scope.Declared.TheVariants as declared
+use Rattle.names.specs.Scope.{Scope, declaration}
+use Rattle.names.specs.Naming.{name_in}
+use Rattle.names.specs.Faults.{FailsAsType}
+use Rattle.expression_types.specs.Typing.{Gives, one, name_operand, prefix_gives, pair_gives, operand_in, Seen, Callee, callee_value, callee_declared, called_with, spread_over, callee, gives, seen}
+use Rattle.expression_types.specs.Faults.{WhereTaken, single_fault, CallFails, CalleeFails, Fails, FailsInEach}
 use Rattle.package_constants.specs.Needs.{names_in, names_in_each, names_in_bound}
 use Rattle.package_constants.proofs.Growth.{known}
 use Rattle.package_constants.proofs.Giving.{holding}

@@ -6,15 +6,20 @@ use Rattle.base.specs.declared.pos.Pos.{Pos}
 use Rattle.syntax.specs.Expressions.{Ex as TreeEx, spelled}
 use Rattle.syntax.specs.Statements.{ValueSpec}
 use Rattle.syntax.specs.Declarations.{Declaration, constants, variables, types, function}
-use Rattle.expression_types.specs.declared.fault.Fault.{Fault}
-use Rattle.expression_types.specs.declared.fault.FaultKind.TheVariants.{Redeclared, Mismatch, ArgCount, ConstRange, BadOperand, RecursiveType, OutOfProfile}
-use Rattle.expression_types.specs.declared.scope.Declared.{Declared}
-use Rattle.expression_types.specs.declared.scope.Declared.TheVariants.{Constant}
-use Rattle.expression_types.specs.declared.scope.ValueType.{ValueType}
-use Rattle.expression_types.specs.Universe.{is_blank}
-use Rattle.expression_types.specs.Scope.{Scope, declaration}
-use Rattle.expression_types.specs.Typing.{Operand, constant, value, accepts, type_of, is_held, operand_in, Seen, are_single, type_in, seen}
-use Rattle.expression_types.specs.Faults.{fault, IsFault, SinglesFail, CountFails, FailsAsType, FailsInEach}
+use Rattle.value_types.specs.declared.fault.Fault.{Fault}
+use Rattle.value_types.specs.declared.fault.FaultKind.TheVariants.{Redeclared, Mismatch, ArgCount, ConstRange, BadOperand, RecursiveType, OutOfProfile}
+use Rattle.value_types.specs.declared.value_type.ValueType.{ValueType}
+use Rattle.value_types.specs.Constants.{is_held}
+use Rattle.value_types.specs.Faults.{fault, IsFault}
+use Rattle.operators.specs.Operands.{Operand, constant, value, type_of}
+use Rattle.names.specs.declared.scope.Declared.{Declared}
+use Rattle.names.specs.declared.scope.Declared.TheVariants.{Constant}
+use Rattle.names.specs.Universe.{is_blank}
+use Rattle.names.specs.Scope.{Scope, declaration}
+use Rattle.names.specs.Types.{type_in}
+use Rattle.names.specs.Faults.{FailsAsType}
+use Rattle.expression_types.specs.Typing.{accepts, operand_in, Seen, are_single, seen}
+use Rattle.expression_types.specs.Faults.{SinglesFail, CountFails, FailsInEach}
 use Rattle.package_constants.specs.Constants.{Item, items_in}
 use Rattle.package_constants.specs.Needs.{Reaches}
 

@@ -6,10 +6,14 @@ use Rattle.syntax.specs.declared.expression.Name.{Name}
 use Rattle.syntax.specs.Expressions.{Ex as TreeEx, Exs as TreeExs, none, some}
 use Rattle.syntax.specs.Statements.{ValueSpec}
 use Rattle.syntax.specs.Declarations.{Declaration, constants, variables, types, function}
-use Rattle.expression_types.specs.declared.constant.Fixed.{Fixed}
-use Rattle.expression_types.specs.declared.scope.ValueType.{ValueType}
-use Rattle.expression_types.specs.Scope.{Scope, with_fixed}
-use Rattle.expression_types.specs.Typing.{Operand, constant, value, Gives, allowed, same_type, constant_type, holds, operand_in, type_in, gives}
+use Rattle.value_types.specs.declared.constant.Fixed.{Fixed}
+use Rattle.value_types.specs.declared.value_type.ValueType.{ValueType}
+use Rattle.value_types.specs.Given.{allowed}
+use Rattle.value_types.specs.Constants.{same_type, constant_type, holds}
+use Rattle.operators.specs.Operands.{Operand, constant, value}
+use Rattle.names.specs.Scope.{Scope, with_fixed}
+use Rattle.names.specs.Types.{type_in}
+use Rattle.expression_types.specs.Typing.{Gives, operand_in, gives}
 
 -- one constant: its name, the type that stands there, its own value, where there are as many values as names, and all values of its
 -- declaration

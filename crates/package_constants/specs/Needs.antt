@@ -4,9 +4,9 @@
 use Rattle.std.specs.Prelude.{◌≡◌, ◌⊎◌, ℕ, List, [], ◌∷◌, ◌++◌, slice_get, Option, Some, None}
 use Rattle.syntax.specs.declared.expression.Name.{Name}
 use Rattle.syntax.specs.Expressions.{Ex as TreeEx, Exs as TreeExs, Bound as TreeBound, Elements as TreeElements, number, string, name, unary, binary, paren, call, selector, index, slice, array_type, slice_type, literal, elements, none, some, no_bound, bound_at, no_elements, element, spelled}
-use Rattle.expression_types.specs.declared.scope.Declared.{Declared}
-use Rattle.expression_types.specs.declared.scope.Declared.TheVariants.{Constant}
-use Rattle.expression_types.specs.Scope.{Scope, declaration}
+use Rattle.names.specs.declared.scope.Declared.{Declared}
+use Rattle.names.specs.declared.scope.Declared.TheVariants.{Constant}
+use Rattle.names.specs.Scope.{Scope, declaration}
 use Rattle.package_constants.specs.Constants.{Item}
 
 -- the names in an expression or a type, in the order of the text; those of fields stand for nothing else

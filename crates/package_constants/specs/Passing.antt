@@ -8,10 +8,10 @@ use Rattle.syntax.specs.declared.expression.Element.{Element}
 use Rattle.syntax.specs.declared.expression.Element.TheVariants as element
 use Rattle.syntax.specs.Expressions.{Ex as TreeEx, Exs as TreeExs, ex_of, exs_of, ex_in}
 use Rattle.syntax.specs.Declarations.{Declaration, constants, variables, types, function}
-use Rattle.expression_types.specs.declared.fault.Fault.{Fault}
-use Rattle.expression_types.specs.declared.fault.FaultKind.TheVariants.{RecursiveType}
-use Rattle.expression_types.specs.Scope.{Scope}
-use Rattle.expression_types.specs.Faults.{fault}
+use Rattle.value_types.specs.declared.fault.Fault.{Fault}
+use Rattle.value_types.specs.declared.fault.FaultKind.TheVariants.{RecursiveType}
+use Rattle.value_types.specs.Faults.{fault}
+use Rattle.names.specs.Scope.{Scope}
 use Rattle.package_constants.specs.declared.items.Item.{Item as ItemData}
 use Rattle.package_constants.specs.declared.reaching.Search.{Search as SearchData}
 use Rattle.package_constants.specs.Constants.{Item, items_in_specs}

@@ -6,11 +6,12 @@ ghost use Rattle.std.specs.Str.{bytes_eq};
 ghost use Rattle.syntax.specs.Expressions.{exs_of, ex_in, spelled};
 ghost use Rattle.syntax.specs.Statements.{value_spec_of, value_specs_of};
 ghost use Rattle.syntax.specs.Declarations.{declaration_of, declarations_of};
-ghost use Rattle.expression_types.specs.Least.{IsLeast};
-ghost use Rattle.expression_types.specs.Universe.{is_blank};
-ghost use Rattle.expression_types.specs.Scope.{scope_of, declaration};
+ghost use Rattle.value_types.specs.Least.{IsLeast};
+ghost use Rattle.value_types.specs.Faults.{IsFault};
+ghost use Rattle.names.specs.Universe.{is_blank};
+ghost use Rattle.names.specs.Scope.{scope_of, declaration};
 ghost use Rattle.expression_types.specs.Typing.{operand_in, seen};
-ghost use Rattle.expression_types.specs.Faults.{IsFault, SinglesFail, CountFails, FailsInEach};
+ghost use Rattle.expression_types.specs.Faults.{SinglesFail, CountFails, FailsInEach};
 ghost use Rattle.expression_types.specs.Passing.{gives_of, seens};
 ghost use Rattle.package_constants.specs.ConstantFaults.{single_count, fitting_value_fault, value_fault, ValuesFail, is_this_constant, constant_name_fault, type_asked, TypeFails, SpecFails, SpecsFail, DeclarationsFail, NamesFail, Recurs, ConstantsFail};
 ghost use Rattle.package_constants.specs.Passing.{item_views, table_of, DeclarationFails, RecursAt};
@@ -20,13 +21,11 @@ use crate::needs::needs;
 use crate::reaching::reaches_itself;
 use crate::values::constant_in;
 use base::{NoMemory, Pos};
-use expression_types::{
-    Declared, Fault, FaultKind, Scope, ValueType, accepts, are_single, check_list, count_fault,
-    declaration, held_fault, is_blank, lesser, one_type, singles_fault, spelled, type_fault,
-    type_in,
-};
+use expression_types::{accepts, are_single, check_list, count_fault, one_type, singles_fault};
+use names::{Declared, Scope, declaration, is_blank, spelled, type_fault, type_in};
 use std::alloc::Global;
 use syntax::{Decl, Expr, Name, ValueSpec};
+use value_types::{Fault, FaultKind, ValueType, held_fault, lesser};
 
 /// The type that a declaration has, where it is known.
 fn type_asked(text: &[u8], scope: &Scope, type_expr: &Option<Expr>) -> Option<ValueType>

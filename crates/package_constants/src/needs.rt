@@ -3,13 +3,13 @@
 ghost use Rattle.std.specs.Prelude.{◌≡◌, ◌++◌, IfOk, OnOk, map, Option};
 ghost use Rattle.std.specs.Option.{option_map};
 ghost use Rattle.syntax.specs.Expressions.{ex_of, exs_of, ex_in, bound_of, elements_of, spelled};
-ghost use Rattle.expression_types.specs.Scope.{scope_of, declaration};
+ghost use Rattle.names.specs.Scope.{scope_of, declaration};
 ghost use Rattle.package_constants.specs.Needs.{names_in, names_in_each, names_in_bound, names_in_elements, names_in_some, names_waited, constant_number, numbers_of, needed};
 ghost use Rattle.package_constants.specs.Passing.{item_of, item_views, names_in_element, table_of};
 
 use crate::items::Item;
 use base::NoMemory;
-use expression_types::{Declared, Scope, declaration, spelled};
+use names::{Declared, Scope, declaration, spelled};
 use std::alloc::Global;
 use syntax::{Bound, Element, Expr, Name};
 

@@ -3,13 +3,14 @@
 use crate::items::items_in;
 use crate::{constants_fault, settle};
 use base::Pos;
-use expression_types::{
-    ConstId, Constant, Declared, FaultKind, Fixed, Scope, ValueType, add_constant, beginning,
-    constant_count, declare, declare_variable, fixed, is_blank, is_here, spelled,
+use names::{
+    ConstId, Declared, Scope, add_constant, beginning, constant_count, declare, declare_variable,
+    fixed, is_blank, is_here, spelled,
 };
 use std::alloc::Global;
 use std::test::Fail;
 use syntax::{ArithmeticOp, BinOp, Bound, Decl, Element, Expr, Name, UnOp, ValueSpec};
+use value_types::{Constant, FaultKind, Fixed, ValueType};
 
 /// Where the name of the first constant stands.
 const FIRST: u32 = 6;

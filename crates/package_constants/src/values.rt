@@ -4,19 +4,19 @@ ghost use Rattle.std.specs.Prelude.{◌≡◌, IfOk, OnOk, true, false};
 ghost use Rattle.std.specs.Option.{option_map};
 ghost use Rattle.syntax.specs.Expressions.{ex_in};
 ghost use Rattle.syntax.specs.Declarations.{declarations_of};
-ghost use Rattle.expression_types.specs.Scope.{scope_of, with_fixed};
+ghost use Rattle.names.specs.Scope.{scope_of, with_fixed};
 ghost use Rattle.expression_types.specs.Passing.{gives_of};
 ghost use Rattle.package_constants.specs.Constants.{constant_in, with_type, accepted, given, look, settled, items_in};
 ghost use Rattle.package_constants.specs.Passing.{item_of, item_views};
 
 use crate::items::{Item, items_in};
 use base::NoMemory;
-use expression_types::{
-    ConstId, Constant, Fixed, Gives, Operand, Scope, ValueType, check_expr, constant_type, fixed,
-    is_held, same_type, set_fixed, type_in,
-};
+use expression_types::{Gives, check_expr};
+use names::{ConstId, Scope, fixed, set_fixed, type_in};
+use operators::Operand;
 use std::alloc::Global;
 use syntax::{Decl, Expr};
+use value_types::{Constant, Fixed, ValueType, constant_type, is_held, same_type};
 
 /// The constant that an expression gives.
 pub fn constant_in(gives: &Option<Gives>) -> Option<Fixed>

@@ -3,7 +3,7 @@ use Rattle.std.proofs.Common.{◌≡◌, ℕ, Bool, true, false, cond, List, [],
 use Rattle.std.specs.Prelude.{is_some, not, codes}
 use Rattle.std.specs.Option.{option_map}
 use Rattle.base.specs.declared.ids.FuncId.{FuncId}
-use Rattle.names.specs.Blocks.{Blocks, insert}
+use Rattle.value_types.specs.declared.fault.Fault.{Fault}
 use Rattle.syntax.specs.declared.expression.Name.{Name}
 use Rattle.syntax.specs.declared.declaration.Decl.{Decl}
 use Rattle.syntax.specs.declared.declaration.Tree.{Tree}
@@ -16,24 +16,25 @@ use Rattle.typed.specs.View.{zero_values, func_of, program_of}
 use Rattle.typed.specs.declared.program.Program.{Program as ProgramData}
 use Rattle.typed.specs.declared.program.Site.{Site}
 use Rattle.std.specs.Global.{Vec}
-use Rattle.expression_types.specs.declared.fault.Fault.{Fault}
-use Rattle.expression_types.specs.declared.fault.FaultKind.TheVariants.{NoMain}
-use Rattle.expression_types.specs.declared.scope.Declared.{Declared}
-use Rattle.expression_types.specs.declared.scope.Declared.TheVariants.{Untyped, Constant, Function, External, TypeName}
-use Rattle.expression_types.specs.Universe.{is_main}
-use Rattle.expression_types.specs.Least.{IsLeast, lesser}
-use Rattle.expression_types.specs.Scope.{Scope, declaration, with_declaration, with_signature, beginning}
-use Rattle.expression_types.specs.Typing.{allowed}
-use Rattle.expression_types.specs.Faults.{fault, IsFault}
+use Rattle.value_types.specs.declared.fault.FaultKind.TheVariants.{NoMain}
+use Rattle.value_types.specs.Least.{IsLeast, lesser}
+use Rattle.value_types.specs.Given.{allowed}
+use Rattle.value_types.specs.Faults.{fault, IsFault}
+use Rattle.value_types.proofs.Decided.{Decided}
+use Rattle.value_types.proofs.Leasts.{least_join}
+use Rattle.value_types.proofs.Options.{none_some, same_some}
+use Rattle.names.specs.Blocks.{Blocks, insert}
+use Rattle.names.specs.declared.scope.Declared.{Declared}
+use Rattle.names.specs.declared.scope.Declared.TheVariants.{Untyped, Constant, Function, External, TypeName}
+use Rattle.names.specs.Universe.{is_main}
+use Rattle.names.specs.Scope.{Scope, declaration, with_declaration, with_signature, beginning}
 use Rattle.package_constants.specs.Constants.{Item, items_in, settled}
 use Rattle.package_constants.specs.ConstantFaults.{ConstantsFail}
-use Rattle.types_go.specs.Functions.{number_of, plain_number, declares_name, external_named, is_external, signature_in, with_name, with_names, with_values, with_types, with_heads, with_constant_name, with_constant_names, with_constants, with_item, with_items, functions_in, are_supported, functions, behind_functions, declarations_in, heads_of, numbered_functions, package_scope, main_number, program_functions}
-use Rattle.types_go.specs.StatementFaults.{fault_where}
+use Rattle.signatures.specs.Signatures.{declares_name, external_named, is_external, signature_in, with_name, with_names, with_values, with_types, with_heads, with_constant_name, with_constant_names, with_constants, with_item, with_items}
+use Rattle.signatures.specs.Failing.{fault_where}
+use Rattle.types_go.specs.Functions.{number_of, plain_number, functions_in, are_supported, functions, behind_functions, declarations_in, heads_of, numbered_functions, package_scope, main_number, program_functions}
 use Rattle.types_go.specs.FunctionFaults.{DeclarationsFail, FailsInFunctions, FailsIn, first_byte}
 use Rattle.types_go.specs.Checked.{Types, sites_in, strings_in, program_with}
-use Rattle.expression_types.proofs.Decided.{Decided}
-use Rattle.expression_types.proofs.Leasts.{least_join}
-use Rattle.expression_types.proofs.Options.{none_some, same_some}
 use Rattle.types_go.proofs.Package.{settled_kept}
 use Rattle.types_go.proofs.SettledFunctions.{all_decided}
 

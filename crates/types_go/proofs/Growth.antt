@@ -1,197 +1,21 @@
--- What a statement keeps of a scope: the blocks outside the innermost one, the declarations before it, the signatures and the constants. There
--- are at least as many strings behind it.
-use Rattle.std.proofs.Common.{◌≡◌, ℕ, ◌≤◌, Bool, true, false, cond, List, [], ◌∷◌, ◌++◌, length, Option, Some, None, refl, sym, ap, ◌∙◌, subst, arith, append-nil, append_assoc, length-append}
-use Rattle.std.specs.Prelude.{⊤, not, ◌&&◌}
-use Rattle.std.specs.List.{AllByRecursion}
-use Rattle.base.specs.declared.pos.Pos.{Pos}
-use Rattle.std.specs.Str.{bytes_eq}
-use Rattle.names.specs.Blocks.{Names, Blocks, with_entry, insert}
-use Rattle.syntax.specs.declared.expression.Name.{Name}
-use Rattle.syntax.specs.Expressions.{spelled}
-use Rattle.syntax.specs.Statements.{Simple, ValueSpec, Guard, Clause, forever, while_true, counting, ranging, Stm, Stms, Els}
+-- What a statement and a function keep of a scope.
+use Rattle.std.proofs.Common.{ℕ, List, [], ◌∷◌, Option, Some, None}
+use Rattle.syntax.specs.Statements.{Simple, Guard, Clause, forever, while_true, counting, ranging, Stm, Stms, Els}
 use Rattle.syntax.specs.Statements as tree
 use Rattle.syntax.specs.Declarations.{Body, Function as TreeFunction}
-use Rattle.typed.specs.declared.program.Site.{Site}
-use Rattle.expression_types.specs.declared.scope.ValueType.{ValueType}
-use Rattle.expression_types.specs.declared.scope.Declared.{Declared}
-use Rattle.expression_types.specs.declared.scope.Declared.TheVariants.{Variable, Untyped}
-use Rattle.expression_types.specs.Universe.{is_blank}
-use Rattle.expression_types.specs.Scope.{Scope, type_number, is_here, with_variable, with_strings, outer, opened, closed}
+use Rattle.names.specs.Scope.{Scope, opened, closed}
 use Rattle.expression_types.specs.Typing.{gives}
-use Rattle.types_go.specs.declared.slots.Slot.{Slot}
-use Rattle.types_go.specs.Entries.{slots_each, behind_entry_name, behind_entry, behind_entries}
-use Rattle.types_go.specs.Statements.{new_slots, definition_types, with_slot, with_variables, strings_in, number_type, over, target_slots, header, behind_post_simple, behind_post, clause_scope, spec_slots, behind_spec, behind_specs, behind_simple, behind, behind_else, behind_all}
-use Rattle.types_go.specs.Functions.{slots_of, behind_params, body_scope, behind_body, behind_function, behind_functions}
-
--- what statements and parameters declare
-abbrev pub IsLocal : Declared → Type 0
-IsLocal (Variable site t) = ⊤
-IsLocal Untyped = ⊤
-IsLocal other = ⊥
-
--- some declarations, and more of statements behind them
-abbrev pub Longer : List Declared → List Declared → Type 0
-Longer ds es = (more : List Declared) × (es ≡ ds ++ more) × AllByRecursion IsLocal more
-
--- a site of a type
-abbrev pub IsSite : Site → Type 0
-IsSite site = (t : ValueType) × (site.type_id.0 ≡ type_number t)
-
--- some sites, and more behind them
-abbrev pub Extends : List Site → List Site → Type 0
-Extends a b = (more : List Site) × (b ≡ a ++ more) × AllByRecursion IsSite more
-
--- the numbers of the names in a block, and in the innermost one, are not below one
-abbrev pub EntriesAbove : ℕ → Names → Type 0
-EntriesAbove n [] = Unit {0}
-EntriesAbove n (e ∷ es) = (n ≤ e.1) × EntriesAbove n es
-
-abbrev pub InnerAbove : ℕ → Blocks → Type 0
-InnerAbove n [] = Unit {0}
-InnerAbove n (b ∷ bs) = EntriesAbove n b
-
--- the names of the innermost block that are new have numbers behind those of the declarations so far
-pub record Grows (s r : Scope) : Type 0 where
-  pub around : outer r.blocks ≡ outer s.blocks
-  pub depth : length r.blocks ≡ length s.blocks
-  pub newer : (n : ℕ) → n ≤ length s.declared → InnerAbove n s.blocks → InnerAbove n r.blocks
-  pub declared : Longer s.declared r.declared
-  pub sites : Extends s.sites r.sites
-  pub signatures : r.signatures ≡ s.signatures
-  pub constants : r.constants ≡ s.constants
-  pub strings : length s.strings ≤ length r.strings
-
--- the same blocks, and more declarations
-pub record Keeps (s r : Scope) : Type 0 where
-  pub blocks : r.blocks ≡ s.blocks
-  pub declared : Longer s.declared r.declared
-  pub sites : Extends s.sites r.sites
-  pub signatures : r.signatures ≡ s.signatures
-  pub constants : r.constants ≡ s.constants
-  pub strings : length s.strings ≤ length r.strings
-
-pub extends_none : (a : List Site) → Extends a a
-extends_none a = ([], sym (append-nil a), tt)
-
-pub extends_twice : (a b c : List Site) → Extends a b → Extends b c → Extends a c
-extends_twice a b c p q = (p.0 ++ q.0, q.1 ∙ ap (λ l. l ++ q.0) p.1 ∙ append_assoc a p.0 q.0, all_both p.0 p.2)
-  where
-    all_both : (sites : List Site) → AllByRecursion IsSite sites → AllByRecursion IsSite (sites ++ q.0)
-    all_both [] all = q.2
-    all_both (site ∷ sites) all = (all.0, all_both sites all.1)
-
-pub longer_twice : (a b c : List Declared) → Longer a b → Longer b c → Longer a c
-longer_twice a b c p q = (p.0 ++ q.0, q.1 ∙ ap (λ l. l ++ q.0) p.1 ∙ append_assoc a p.0 q.0, all_both p.0 p.2)
-  where
-    all_both : (ds : List Declared) → AllByRecursion IsLocal ds → AllByRecursion IsLocal (ds ++ q.0)
-    all_both [] all = q.2
-    all_both (d ∷ ds) all = (all.0, all_both ds all.1)
-
-pub longer_length : (a b : List Declared) → Longer a b → length a ≤ length b
-longer_length a b p = let whole = ap length p.1 ∙ length-append a p.0 in omega (arith, whole)
-
-pub grows_none : (s : Scope) → Grows s s
-grows_none s = record { around = refl; depth = refl; newer = λ n le above. above; declared = ([], sym (append-nil s.declared), tt); sites = extends_none s.sites; signatures = refl; constants = refl; strings = omega arith }
-
-pub grows_twice : (a b c : Scope) → Grows a b → Grows b c → Grows a c
-grows_twice a b c p q = record {
-  around = q.around ∙ p.around;
-  depth = q.depth ∙ p.depth;
-  newer = λ n le above. q.newer n (omega (arith, le, longer_length a.declared b.declared p.declared)) (p.newer n le above);
-  declared = longer_twice a.declared b.declared c.declared p.declared q.declared;
-  sites = extends_twice a.sites b.sites c.sites p.sites q.sites;
-  signatures = q.signatures ∙ p.signatures;
-  constants = q.constants ∙ p.constants;
-  strings = omega (arith, p.strings, q.strings);
-}
-
-pub keeps_twice : (a b c : Scope) → Keeps a b → Keeps b c → Keeps a c
-keeps_twice a b c p q = record {
-  blocks = q.blocks ∙ p.blocks;
-  declared = longer_twice a.declared b.declared c.declared p.declared q.declared;
-  sites = extends_twice a.sites b.sites c.sites p.sites q.sites;
-  signatures = q.signatures ∙ p.signatures;
-  constants = q.constants ∙ p.constants;
-  strings = omega (arith, p.strings, q.strings);
-}
-
-pub keeps_none : (s : Scope) → Keeps s s
-keeps_none s = record { blocks = refl; declared = ([], sym (append-nil s.declared), tt); sites = extends_none s.sites; signatures = refl; constants = refl; strings = omega arith }
-
-pub keeps_grows : (s r : Scope) → Keeps s r → Grows s r
-keeps_grows s r k = record { around = ap outer k.blocks; depth = ap length k.blocks; newer = λ n le above. subst (InnerAbove n) (sym k.blocks) above; declared = k.declared; sites = k.sites; signatures = k.signatures; constants = k.constants; strings = k.strings }
-
--- more strings
-pub keeps_strings : (s : Scope) (strings : List (List ℕ)) → Keeps s (with_strings s strings)
-keeps_strings s strings =
-    let long = length-append s.strings strings in
-    record { blocks = refl; declared = ([], sym (append-nil s.declared), tt); sites = extends_none s.sites; signatures = refl; constants = refl; strings = omega (arith, long) }
-
-pub grows_strings : (s : Scope) (strings : List (List ℕ)) → Grows s (with_strings s strings)
-grows_strings s strings = keeps_grows s (with_strings s strings) (keeps_strings s strings)
-
--- behind a block
-pub keeps_inner : (s r : Scope) → Grows (opened s) r → Keeps s (closed r)
-keeps_inner s r g = record { blocks = g.around; declared = g.declared; sites = g.sites; signatures = g.signatures; constants = g.constants; strings = g.strings }
-
-insert_outer : (bs : Blocks) (name : List ℕ) (k : ℕ) → outer (insert bs name k) ≡ outer bs
-insert_outer [] name k = refl
-insert_outer (b ∷ bs) name k = refl
-
-insert_length : (bs : Blocks) (name : List ℕ) (k : ℕ) → length (insert bs name k) ≡ length bs
-insert_length [] name k = refl
-insert_length (b ∷ bs) name k = refl
-
-with_entry_above : (n k : ℕ) → n ≤ k → (es : Names) (name : List ℕ) → EntriesAbove n es → EntriesAbove n (with_entry es name k)
-with_entry_above n k le [] name above = (le, tt)
-with_entry_above n k le (e ∷ es) name above = by (with_entry_above n k le es name above.1) (bytes_eq name e.0)
-  where
-    by : EntriesAbove n (with_entry es name k) → (b : Bool) → EntriesAbove n (cond b ((e.0, k) ∷ es) (e ∷ with_entry es name k))
-    by later true = (le, above.1)
-    by later false = (above.0, later)
-
-insert_above : (n k : ℕ) → n ≤ k → (bs : Blocks) (name : List ℕ) → InnerAbove n bs → InnerAbove n (insert bs name k)
-insert_above n k le [] name above = tt
-insert_above n k le (b ∷ bs) name above = with_entry_above n k le b name above
-
-pub grows_variable : (t : Option ValueType) (s : Scope) (name : List ℕ) (at : Pos) → Grows s (with_variable t s name at)
-grows_variable (Some t) s name at = record { around = insert_outer s.blocks name _; depth = insert_length s.blocks name _; newer = λ n le above. insert_above n (length s.declared) le s.blocks name above; declared = (_, refl, (tt, tt)); sites = (_, refl, ((t, refl), tt)); signatures = refl; constants = refl; strings = omega arith }
-grows_variable None s name at = record { around = insert_outer s.blocks name _; depth = insert_length s.blocks name _; newer = λ n le above. insert_above n (length s.declared) le s.blocks name above; declared = (_, refl, (tt, tt)); sites = extends_none s.sites; signatures = refl; constants = refl; strings = omega arith }
-
-grows_where : (b : Bool) (t : Option ValueType) (s : Scope) (name : List ℕ) (at : Pos) → Grows s (cond b (with_variable t s name at) s)
-grows_where true t s name at = grows_variable t s name at
-grows_where false t s name at = grows_none s
+use Rattle.signatures.specs.Signatures.{slots_of}
+use Rattle.signatures.proofs.Growth.{Grows, Keeps, grows_none, grows_twice, keeps_twice, keeps_none, keeps_grows, keeps_strings, keeps_inner, grows_entries}
+use Rattle.simple_statements.specs.SimpleStatements.{strings_in}
+use Rattle.simple_statements.proofs.Growth.{grows_simple, grows_specs}
+use Rattle.types_go.specs.Statements.{number_type, over, target_slots, header, behind_post_simple, behind_post, clause_scope, behind, behind_else, behind_all}
+use Rattle.types_go.specs.Functions.{behind_params, body_scope, behind_body, behind_function, behind_functions}
 
 module _ (text : List ℕ) where
-  grows_slot : (t : Option ValueType) (s : Scope) (n : Option Name) → Grows s (with_slot text t s n)
-  grows_slot t s None = grows_none s
-  grows_slot t s (Some n) = grows_variable t s (spelled text n) n.pos
-
-  pub grows_variables : (s : Scope) (vs : List Slot) → Grows s (with_variables text s vs)
-  grows_variables s [] = grows_none s
-  grows_variables s (v ∷ vs) =
-      let s1 = with_slot text v.value_type s v.name in
-      grows_twice s s1 (with_variables text s1 vs) (grows_slot v.value_type s v.name) (grows_variables s1 vs)
-
-  grows_entry : (t : Option ValueType) (s : Scope) (n : Option Name) → Grows s (behind_entry_name text t s n)
-  grows_entry t s None = grows_none s
-  grows_entry t s (Some n) = grows_where (not (is_blank (spelled text n)) && not (is_here s (spelled text n))) t s (spelled text n) n.pos
-
-  pub grows_entries : (s : Scope) (ps : List Slot) → Grows s (behind_entries text s ps)
-  grows_entries s [] = grows_none s
-  grows_entries s (p ∷ ps) = grows_twice s (behind_entry text s p) (behind_entries text (behind_entry text s p) ps) (grows_entry p.value_type s p.name) (grows_entries (behind_entry text s p) ps)
-
-  pub grows_simple : (s : Scope) (m : Simple) → Grows s (behind_simple text s m)
-  grows_simple s (tree.express e) = grows_strings s (strings_in (gives text s e))
-  grows_simple s (tree.assign ls at es) = grows_none s
-  grows_simple s (tree.update ls at op es) = grows_none s
-  grows_simple s (tree.define ns at es) = grows_variables s (new_slots text s (slots_each (definition_types text s ns es) ns))
-  grows_simple s (tree.increment e at) = grows_none s
-  grows_simple s (tree.decrement e at) = grows_none s
-
   pub grows_header : (s : Scope) (init : Option Simple) → Grows (opened s) (header text s init)
   grows_header s None = grows_none (opened s)
-  grows_header s (Some m) = grows_simple (opened s) m
+  grows_header s (Some m) = grows_simple text (opened s) m
 
   -- a post statement declares nothing
   keeps_post_simple : (s : Scope) (m : Simple) → Keeps s (behind_post_simple text s m)
@@ -212,11 +36,7 @@ module _ (text : List ℕ) where
   grows_clause s (counting init test post) =
       let h = header text s init in
       grows_twice (opened s) h (behind_post text h post) (grows_header s init) (keeps_grows h (behind_post text h post) (keeps_post h post))
-  grows_clause s (ranging t at e) = grows_entries (opened s) (target_slots (number_type (over text s e)) t)
-
-  pub grows_specs : (s : Scope) (vs : List ValueSpec) → Grows s (behind_specs text s vs)
-  grows_specs s [] = grows_none s
-  grows_specs s (v ∷ vs) = grows_twice s (behind_spec text s v) (behind_specs text (behind_spec text s v) vs) (grows_entries s (spec_slots text s v)) (grows_specs (behind_spec text s v) vs)
+  grows_clause s (ranging t at e) = grows_entries text (opened s) (target_slots (number_type (over text s e)) t)
 
   -- what is behind the header keeps the header's block
   keeps_headed : (s h r : Scope) → Grows (opened s) h → Keeps h r → Keeps s (closed r)
@@ -224,8 +44,8 @@ module _ (text : List ℕ) where
 
   mutual
     pub grows : (s : Scope) (m : Stm) → Grows s (behind text s m)
-    grows s (tree.declare at specs) = grows_specs s specs
-    grows s (tree.simple m) = grows_simple s m
+    grows s (tree.declare at specs) = grows_specs text s specs
+    grows s (tree.simple m) = grows_simple text s m
     grows s (tree.block ms) = keeps_grows s (closed (behind_all text (opened s) ms)) (keeps_inner s (behind_all text (opened s) ms) (grows_all (opened s) ms))
     grows s (tree.choice at g body rest) =
         let h = header text s g.init in

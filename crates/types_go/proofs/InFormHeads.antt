@@ -1,32 +1,37 @@
 -- Typed headers and declarations are in form.
-use Rattle.std.proofs.Common.{◌≡◌, ℕ, suc, ◌+◌, ◌≤◌, Bool, true, false, cond, List, [], ◌∷◌, ◌⊎◌, inl, inr, map, Option, Some, None, refl, sym, ap, ◌∙◌, subst, arith, length}
+use Rattle.std.proofs.Common.{◌≡◌, ℕ, ◌+◌, ◌≤◌, Bool, true, false, cond, List, [], ◌∷◌, inl, inr, map, Option, Some, None, refl, sym, ap, ◌∙◌, subst, arith, length}
 use Rattle.std.specs.Prelude.{option_and_then, is_some, not, ◌&&◌}
 use Rattle.std.specs.Option.{option_map}
 use Rattle.std.proofs.lemmas.List.{length-map}
 use Rattle.syntax.specs.declared.expression.Name.{Name}
-use Rattle.syntax.specs.Expressions.{Ex as TreeEx, Exs as TreeExs, some}
-use Rattle.syntax.specs.Expressions as expressions
+use Rattle.syntax.specs.Expressions.{Ex as TreeEx, Exs as TreeExs}
 use Rattle.syntax.specs.Statements.{Simple, ValueSpec, Guard, Targets, no_targets, targets_assigned, targets_defined, Clause, forever, while_true, counting, ranging}
 use Rattle.syntax.specs.Statements as tree
 use Rattle.typed.specs.declared.program.Site.{Site}
 use Rattle.typed.specs.Syntax.{Ex, Left, St, Sts, Program, blank, new, to, declare, assign, update, bump, discard, block, choose, loop, range, break_off, go_on, give_back, print, raise, quit, done, int_type, bool_type}
 use Rattle.typed.specs.Form.{InScope, AllInScope, LeftsFit, new_sites, births, births_all, scope_behind, scope_after, TestFits, ExFits, StFits, StsFit, named_params as with_sites}
-use Rattle.expression_types.specs.declared.scope.ValueType.{ValueType}
-use Rattle.expression_types.specs.declared.scope.ValueType.TheVariants.{Int}
-use Rattle.expression_types.specs.Scope.{Scope, type_number, type_numbers, opened}
-use Rattle.expression_types.specs.Typing.{same_type, type_of, as_value, operand_in, taken, value_types, name_in, type_in, gives, seen, condition, test}
-use Rattle.types_go.specs.declared.slots.Slot.{Slot}
-use Rattle.types_go.specs.declared.entries.Role.TheVariants.{Parameter}
-use Rattle.types_go.specs.Entries.{sites_of, entry_left, slot_with, slots_each, entries, behind_entries}
-use Rattle.types_go.specs.Statements.{Choice, Head, repeated, counted, alone, new_in, declared_in, headed, chosen, looped_by, key_of, as_int, number_type, all_accept, target_slots, is_bare, left, lefts, all_wanted, simple_statement, header, init_statement, post_simple, post_statement, behind_post_simple, behind_post, guard_head, over, all_blank, target_lefts, clause_scope, clause_head, spec_type, spec_wanted, spec_slots_of, spec_slots, behind_spec, spec_entries, is_known, spec_declared, spec_assigned, spec_statement, taken_types}
-use Rattle.expression_types.proofs.Options.{and_then_some, map_some, none_some, same_some}
+use Rattle.value_types.specs.declared.value_type.ValueType.{ValueType}
+use Rattle.value_types.specs.declared.value_type.ValueType.TheVariants.{Int}
+use Rattle.value_types.specs.Constants.{same_type}
+use Rattle.value_types.proofs.Options.{and_then_some, map_some, none_some, same_some}
+use Rattle.operators.specs.Operands.{type_of, as_value}
+use Rattle.names.specs.Scope.{Scope, type_number, type_numbers, opened}
+use Rattle.names.specs.Types.{type_in}
+use Rattle.expression_types.specs.Typing.{operand_in, taken, value_types, gives, seen, condition, test}
 use Rattle.expression_types.proofs.InForm.{Agrees, AreAccepted, OptionalFits, same_type_same, value_fits, operand_fits, maybe_fits, taken_fits, gives_fit, seen_fit, condition_fits, test_fits}
-use Rattle.types_go.proofs.SettledEntries.{allowed_is}
-use Rattle.types_go.proofs.SettledSimple.{assignment_some}
-use Rattle.types_go.proofs.Growth.{Extends, extends_twice, keeps_grows, grows_simple, grows_header, keeps_post, grows_entries}
-use Rattle.types_go.proofs.Visible.{Visible, visible_opened, visible_kept}
-use Rattle.types_go.proofs.InFormEntries.{HasSites, Within, within_before, SlotsHave, each_have, with_have, sites_long, left_sites, left_scope, named_scope_of, lefts_of_params, next_of_params, EntriesFit, entries_fit}
-use Rattle.types_go.proofs.InFormSimple.{Formed, StFormed, Still, OldFit, accepted_long, known_all, lefts_fit, simple_still, simple_formed}
+use Rattle.signatures.specs.declared.slots.Slot.{Slot}
+use Rattle.signatures.specs.declared.entries.Role.TheVariants.{Parameter}
+use Rattle.signatures.specs.Entries.{sites_of, entry_left, slot_with, slots_each, entries, behind_entries}
+use Rattle.signatures.proofs.Growth.{Extends, extends_twice, keeps_grows, grows_entries}
+use Rattle.signatures.proofs.Visible.{Visible, visible_opened, visible_kept}
+use Rattle.signatures.proofs.InFormEntries.{HasSites, Within, within_before, SlotsHave, each_have, with_have, sites_long, left_sites, left_scope, named_scope_of, lefts_of_params, next_of_params, entries_fit}
+use Rattle.simple_statements.specs.SimpleStatements.{is_bare, lefts, all_wanted, simple_statement, spec_type, spec_wanted, spec_slots_of, spec_slots, behind_spec, spec_entries, is_known, spec_declared, spec_assigned, spec_statement, taken_types}
+use Rattle.simple_statements.proofs.SettledValues.{allowed_is}
+use Rattle.simple_statements.proofs.SettledSimple.{assignment_some}
+use Rattle.simple_statements.proofs.Growth.{grows_simple}
+use Rattle.simple_statements.proofs.InFormSimple.{Formed, StFormed, Still, accepted_long, known_all, lefts_fit, simple_still, simple_formed}
+use Rattle.types_go.specs.Statements.{Choice, Head, repeated, counted, alone, new_in, declared_in, headed, chosen, looped_by, key_of, as_int, number_type, all_accept, target_slots, header, init_statement, post_simple, post_statement, behind_post_simple, behind_post, guard_head, over, all_blank, target_lefts, clause_scope, clause_head}
+use Rattle.types_go.proofs.Growth.{grows_header, keeps_post}
 
 -- ---- init statements
 

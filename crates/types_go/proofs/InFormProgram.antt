@@ -1,5 +1,5 @@
 -- A typed program is in form.
-use Rattle.std.proofs.Common.{◌≡◌, ℕ, zero, suc, ◌+◌, ◌≤◌, Bool, true, false, cond, List, [], ◌∷◌, ◌++◌, ◌⊎◌, inl, inr, map, get_or, Option, Some, None, refl, sym, ap, ◌∙◌, subst, arith, length, append-nil, append_assoc}
+use Rattle.std.proofs.Common.{◌≡◌, ℕ, zero, suc, ◌+◌, ◌≤◌, Bool, true, false, cond, List, [], ◌∷◌, ◌++◌, ◌⊎◌, inl, inr, map, get_or, Option, Some, None, refl, sym, ap, ◌∙◌, subst, arith, length, append-nil}
 use Rattle.std.specs.Prelude.{option_and_then, ◌&&◌, ◌||◌, ◌==◌, nat_lt, slice_get, codes}
 use Rattle.std.specs.Option.{option_map}
 use Rattle.std.specs.List.{AllByRecursion}
@@ -12,26 +12,30 @@ use Rattle.syntax.specs.Declarations.{Field, Parameters, unnamed, named, Body, F
 use Rattle.typed.specs.declared.program.Site.{Site}
 use Rattle.typed.specs.Syntax.{Sts, Func, Program, argument_words, result_words, int_type}
 use Rattle.typed.specs.Form.{IsPlain, site_type, ends_all, ParamsFit, NamedFit, named_params as with_sites, params_scope, scope_in, body_first, StsFit, FuncFits, IsInForm}
-use Rattle.expression_types.specs.declared.scope.ValueType.{ValueType}
-use Rattle.expression_types.specs.declared.scope.ValueType.TheVariants.{Int, Bool as Truth}
-use Rattle.expression_types.specs.Universe.{is_blank, is_main}
-use Rattle.expression_types.specs.Scope.{Scope, Signature, type_number, type_numbers, declaration, is_here, opened, beginning}
+use Rattle.value_types.specs.declared.value_type.ValueType.{ValueType}
+use Rattle.value_types.specs.declared.value_type.ValueType.TheVariants.{Int, Bool as Truth}
+use Rattle.value_types.proofs.Options.{and_then_some, map_some, none_some, same_some}
+use Rattle.names.specs.Universe.{is_blank, is_main}
+use Rattle.names.specs.Scope.{Scope, Signature, type_number, type_numbers, declaration, is_here, opened, beginning}
 use Rattle.expression_types.specs.Typing.{asked}
-use Rattle.types_go.specs.declared.slots.Slot.{Slot}
-use Rattle.types_go.specs.declared.entries.Role.{Role}
-use Rattle.types_go.specs.declared.entries.Role.TheVariants.{Parameter, Result}
-use Rattle.types_go.specs.Entries.{entry_of, sites_of, entry_in, behind_entry, entries}
-use Rattle.types_go.specs.Statements.{behind_all, ends_after}
-use Rattle.types_go.specs.Functions.{Param, param_with, unnamed_params, named_params, params_of, is_named, slot_of, slots_of, words, is_small, is_plain, number_of, plain_number, types_of, number_or_int, slot_number, signature_in, with_items, functions_in, are_supported, behind_params, body_scope, behind_body, behind_function, behind_functions, returns_of, may_be_named, func, function, functions, declarations_in, heads_of, numbered_functions, package_scope, main_number}
-use Rattle.types_go.specs.Checked.{Types, program_with}
 use Rattle.package_constants.specs.Constants.{items_in, settled}
-use Rattle.expression_types.proofs.Options.{and_then_some, map_some, none_some, same_some}
+use Rattle.signatures.specs.declared.slots.Slot.{Slot}
+use Rattle.signatures.specs.declared.entries.Role.{Role}
+use Rattle.signatures.specs.declared.entries.Role.TheVariants.{Parameter, Result}
+use Rattle.signatures.specs.Entries.{entry_of, sites_of, entry_in, behind_entry, entries}
+use Rattle.signatures.specs.Signatures.{Param, param_with, unnamed_params, named_params, params_of, is_named, slot_of, slots_of, words, is_small, types_of, signature_in, with_items, may_be_named}
+use Rattle.signatures.proofs.Growth.{IsSite, extends_twice, keeps_grows, grows_entries}
+use Rattle.signatures.proofs.Visible.{Visible, visible_opened, visible_kept}
+use Rattle.signatures.proofs.InFormEntries.{HasSites, Within, within_before, SlotsHave, sites_long, named_of_params, named_scope_of, variable_is, entries_fit}
+use Rattle.simple_statements.proofs.InFormSimple.{ReturnsFit}
+use Rattle.terminating.specs.Terminating.{ends_after}
+use Rattle.types_go.specs.Statements.{behind_all}
+use Rattle.types_go.specs.Functions.{is_plain, number_of, plain_number, number_or_int, slot_number, functions_in, are_supported, behind_params, body_scope, behind_body, behind_function, behind_functions, returns_of, func, function, functions, declarations_in, heads_of, numbered_functions, package_scope, main_number}
+use Rattle.types_go.specs.Checked.{Types, program_with}
 use Rattle.types_go.proofs.SettledFunctions.{allowed_some, signature_parts, small_signed, function_some}
 use Rattle.types_go.proofs.Package.{constant_one, declared_one, signatures_are, items_kept, settled_kept}
-use Rattle.types_go.proofs.Growth.{IsSite, extends_twice, keeps_grows, keeps_function, keeps_functions, grows_entries, grows_body, grows_all}
-use Rattle.types_go.proofs.Visible.{Visible, visible_beginning, visible_opened, visible_kept, visible_package}
-use Rattle.types_go.proofs.InFormEntries.{HasSites, Within, within_before, SlotsHave, sites_long, named_of_params, named_scope_of, variable_is, entries_fit}
-use Rattle.types_go.proofs.InFormSimple.{ReturnsFit}
+use Rattle.types_go.proofs.Growth.{keeps_function, keeps_functions, grows_body, grows_all}
+use Rattle.types_go.proofs.Visible.{visible_package}
 use Rattle.types_go.proofs.InFormStatements.{AreSigned, formed_all}
 use Rattle.types_go.proofs.Inside.{inside_start, inside_grows}
 use Rattle.types_go.proofs.Terminating.{ends_same, ends_list}

@@ -7,17 +7,21 @@ use Rattle.syntax.specs.Statements as tree
 use Rattle.typed.specs.declared.program.Site.{Site}
 use Rattle.typed.specs.Syntax.{St, Sts, Func, Program, int_type, block, choose, break_off, go_on, done, next}
 use Rattle.typed.specs.Form.{births, births_all, scope_after, StFits, StsFit}
-use Rattle.expression_types.specs.Scope.{Scope, Signature, type_numbers, opened, closed}
-use Rattle.expression_types.specs.Typing.{allowed, seen}
-use Rattle.types_go.specs.Statements.{Returns, Choice, chosen, spec_slots, alone, before, returned, simple_statement, header, guard_head, clause_scope, clause_head, choice_of, loop_of, spec_statement, spec_statements, behind_spec, behind_specs, behind, behind_else, behind_all, statement, alternative, statements}
-use Rattle.expression_types.proofs.Options.{and_then_some, map_some, same_some}
+use Rattle.value_types.specs.Given.{allowed}
+use Rattle.value_types.proofs.Options.{and_then_some, map_some, same_some}
+use Rattle.names.specs.Scope.{Scope, Signature, type_numbers, opened, closed}
+use Rattle.expression_types.specs.Typing.{seen}
 use Rattle.expression_types.proofs.InForm.{Agrees}
-use Rattle.types_go.proofs.SettledEntries.{allowed_is}
+use Rattle.signatures.proofs.Growth.{Extends, extends_twice, Keeps, keeps_grows, grows_entries}
+use Rattle.signatures.proofs.Visible.{Visible, visible_opened, visible_kept, got_longer}
+use Rattle.signatures.proofs.InFormEntries.{HasSites, Within, within_before, get_mapped}
+use Rattle.simple_statements.specs.SimpleStatements.{Returns, spec_slots, before, returned, simple_statement, spec_statement, spec_statements, behind_spec, behind_specs}
+use Rattle.simple_statements.proofs.SettledValues.{allowed_is}
+use Rattle.simple_statements.proofs.Growth.{grows_specs}
+use Rattle.simple_statements.proofs.InFormSimple.{ReturnsFit, simple_formed, return_formed}
+use Rattle.types_go.specs.Statements.{Choice, chosen, alone, header, guard_head, clause_scope, clause_head, choice_of, loop_of, behind, behind_else, behind_all, statement, alternative, statements}
 use Rattle.types_go.proofs.SettledStatements.{choice_some, loop_some}
-use Rattle.types_go.proofs.Growth.{Extends, extends_twice, Keeps, keeps_grows, grows_specs, grows_entries, grows_header, grows_clause, keeps_block, keeps_else, keeps_choice, keeps_loop, grows, grows_all}
-use Rattle.types_go.proofs.Visible.{Visible, visible_opened, visible_kept, got_longer}
-use Rattle.types_go.proofs.InFormEntries.{HasSites, Within, within_before, get_mapped}
-use Rattle.types_go.proofs.InFormSimple.{ReturnsFit, simple_formed, return_formed}
+use Rattle.types_go.proofs.Growth.{grows_header, grows_clause, keeps_block, keeps_else, keeps_choice, keeps_loop, grows, grows_all}
 use Rattle.types_go.proofs.InFormHeads.{Formed1, StsFormed, init_scope, head_scope, head_visible, guard_fits, choice_formed, clause_fits, loop_formed, loop_keeps, spec_formed}
 
 -- the functions of a program have the parameters and results that these signatures say

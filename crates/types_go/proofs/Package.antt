@@ -1,19 +1,17 @@
 -- The package block, where only functions and constants are declared.
 use Rattle.std.proofs.Common.{◌≡◌, ℕ, zero, suc, ◌+◌, Bool, true, false, cond, List, [], ◌∷◌, ◌++◌, length, map, Option, Some, None, refl, sym, ap, ◌∙◌, arith, append-nil, append_assoc, length-append}
 use Rattle.std.specs.Prelude.{◌&&◌}
-use Rattle.std.specs.Option.{option_map}
 use Rattle.syntax.specs.declared.expression.Name.{Name}
 use Rattle.syntax.specs.Expressions.{Ex as TreeEx, Exs as TreeExs, none, some, spelled}
 use Rattle.syntax.specs.Statements.{ValueSpec}
 use Rattle.syntax.specs.Declarations.{Function as TreeFunction, Declaration, constants, variables, types}
 use Rattle.syntax.specs.Declarations as tree
-use Rattle.expression_types.specs.declared.constant.Fixed.{Fixed}
-use Rattle.expression_types.specs.declared.scope.Declared.{Declared}
-use Rattle.expression_types.specs.declared.scope.Declared.TheVariants.{Constant, Function, External}
-use Rattle.expression_types.specs.Scope.{Scope, Signature, with_declaration, with_signature, with_constant, with_fixed}
-use Rattle.expression_types.proofs.Options.{map_some, none_some, same_some}
+use Rattle.value_types.proofs.Options.{map_some, none_some, same_some}
+use Rattle.names.specs.declared.scope.Declared.TheVariants.{Constant, Function, External}
+use Rattle.names.specs.Scope.{Scope, Signature, with_declaration, with_signature, with_constant, with_fixed}
 use Rattle.package_constants.specs.Constants.{Item, unvalued, paired, or_unvalued, items_of, items_in_specs, items_in, given, look, looks, settled}
-use Rattle.types_go.specs.Functions.{declares_name, external_named, is_external, signature_in, functions_in, is_supported, are_supported, with_name, with_constant_name, with_constant_names, with_constants, with_function, with_items}
+use Rattle.signatures.specs.Signatures.{declares_name, external_named, is_external, signature_in, with_constant_name, with_constant_names, with_constants, with_function, with_items}
+use Rattle.types_go.specs.Functions.{functions_in, is_supported, are_supported}
 
 pub both_second : (a b : Bool) → (a && b) ≡ true → b ≡ true
 both_second true b is = is

@@ -4,21 +4,22 @@ use Rattle.std.specs.Prelude.{option_and_then}
 use Rattle.std.specs.Option.{option_map}
 use Rattle.std.specs.Global.{Vec}
 use Rattle.typed.specs.declared.stmt.Stmt.{Stmt}
-use Rattle.typed.specs.View.{st_of, sts_of}
-use Rattle.typed.specs.Syntax.{St, Sts, done, next}
+use Rattle.typed.specs.View.{sts_of}
+use Rattle.typed.specs.Syntax.{Sts, done}
 use Rattle.std.proofs.Math.Seq.{drop-cons}
 use Rattle.syntax.specs.declared.statement.Stmt.{Stmt as Tree}
 use Rattle.base.specs.declared.pos.Pos.{Pos}
 use Rattle.syntax.specs.Statements.{Guard, Clause, Stm, Stms, Els, choice, loop, nil, cons, stm_of, stms_of}
-use Rattle.expression_types.specs.declared.fault.Fault.{Fault}
-use Rattle.expression_types.specs.Least.{IsLeast, lesser}
-use Rattle.expression_types.specs.Scope.{Scope, opened, closed}
-use Rattle.types_go.specs.Statements.{Returns, before, header, clause_scope, statement, statements, behind, behind_all}
+use Rattle.value_types.specs.declared.fault.Fault.{Fault}
+use Rattle.value_types.specs.Least.{IsLeast, lesser}
+use Rattle.value_types.proofs.Leasts.{least_join, Covers, covers_left, covers_right, least_covers, Sound, sound_lesser, least_sound, is_least}
+use Rattle.names.specs.Scope.{Scope, opened, closed}
+use Rattle.simple_statements.specs.SimpleStatements.{Returns, before}
+use Rattle.simple_statements.proofs.Sequences.{before_done, before_more, joined}
+use Rattle.types_go.specs.Statements.{header, clause_scope, statement, statements, behind, behind_all}
 use Rattle.types_go.specs.StatementFaults.{FailsInGuard, FailsInClause, FailsInStatement, FailsInStatements, FailsInElse}
-use Rattle.expression_types.specs.Passing.{with_last}
 use Rattle.types_go.specs.Passing.{with_more}
 use Rattle.types_go.proofs.Growth.{grows}
-use Rattle.expression_types.proofs.Leasts.{least_join, Covers, covers_left, covers_right, least_covers, Sound, sound_lesser, least_sound, is_least}
 
 -- the statements from one on
 pub split : (ss : List Tree) (i : ℕ) (s : Tree) → i < length ss → s ≡ get_or ss i s → stms_of (drop i ss) ≡ cons (stm_of s) (stms_of (drop (i + 1) ss))
@@ -31,18 +32,6 @@ nothing_left [] zero h = refl
 nothing_left [] (suc i) h = refl
 nothing_left (s ∷ ss) zero h = absurd (h (omega arith))
 nothing_left (s ∷ ss) (suc i) h = nothing_left ss i (λ l. h (omega (arith, l)))
-
-before_done : (b : Sts) → before b done ≡ b
-before_done done = refl
-before_done (next t b) = ap (next t) (before_done b)
-
-before_more : (xs ys : List Stmt) (r : Sts) → before (sts_of xs) (before (sts_of ys) r) ≡ before (sts_of (xs ++ ys)) r
-before_more [] ys r = refl
-before_more (x ∷ xs) ys r = ap (next (st_of x)) (before_more xs ys r)
-
--- typed statements, and more behind them
-abbrev pub joined : Option (List Stmt) → Option Sts → Option Sts
-joined values later = option_and_then (λ v. option_map (before (sts_of v)) later) values
 
 -- What is kept is a fault of the whole; each fault of the whole is covered or still to come. The typed statements so far stand before
 -- those to come, and what is behind the whole is behind the rest.
@@ -97,24 +86,6 @@ further (Some v) (Some m) t later e = ap (λ i. option_map (before (sts_of v)) (
 items_of : (o : Option (Vec Stmt)) → option_map sts_of (option_map (λ (v : Vec Stmt). v.items) o) ≡ option_map (λ (v : Vec Stmt). sts_of v.items) o
 items_of None = refl
 items_of (Some v) = refl
-
--- one by one
-pub joined_start : (b : Option Sts) → joined (Some []) b ≡ b
-joined_start None = refl
-joined_start (Some r) = refl
-
-pub joined_end : (o : Option (Vec Stmt)) → option_map (λ (v : Vec Stmt). sts_of v.items) o ≡ joined (option_map (λ (v : Vec Stmt). v.items) o) (Some done)
-joined_end None = refl
-joined_end (Some v) = ap Some (sym (before_done (sts_of v.items)))
-
-pub joined_one : (values : Option (List Stmt)) (line : Option Stmt) (t : Option St) (later : Option Sts) → option_map st_of line ≡ t → joined values (option_and_then (λ x. option_map (next x) later) t) ≡ joined (with_last values line) later
-joined_one None line t later e = refl
-joined_one (Some v) None t later e = ap (λ i. option_map (before (sts_of v)) (option_and_then (λ x. option_map (next x) later) i)) (sym e)
-joined_one (Some v) (Some m) t later e = ap (λ i. option_map (before (sts_of v)) (option_and_then (λ y. option_map (next y) later) i)) (sym e) ∙ by later
-  where
-    by : (o : Option Sts) → option_map (before (sts_of v)) (option_map (next (st_of m)) o) ≡ option_map (before (sts_of (v ++ m ∷ []))) o
-    by None = refl
-    by (Some r) = ap Some (before_more v (m ∷ []) r)
 
 pub one_more : (text : List ℕ) (r1 : Returns) (looped : Bool) (start : Scope) (all : Stms) (m : Stm) (others : Stms) (s : Scope) (values : Option (List Stmt)) (lines : Option (Vec Stmt)) (least fault : Option Fault)
     → KeptStatements text r1 looped start all (cons m others) s values least → IsLeast (FailsInStatement text r1 looped s m) fault → option_map (λ v. sts_of v.items) lines ≡ statement text r1 looped s m

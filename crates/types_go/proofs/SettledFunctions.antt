@@ -4,7 +4,7 @@ use Rattle.std.specs.Prelude.{⊤, option_and_then, not, ◌||◌, slice_get, na
 use Rattle.std.specs.List.{AllByRecursion}
 use Rattle.std.specs.Option.{option_map}
 use Rattle.base.specs.declared.pos.Pos.{Pos}
-use Rattle.names.specs.Blocks.{lookup}
+use Rattle.value_types.specs.declared.fault.Fault.{Fault}
 use Rattle.syntax.specs.FirstBytes.{first_place}
 use Rattle.syntax.specs.declared.expression.Name.{Name}
 use Rattle.syntax.specs.Expressions.{Ex as TreeEx, name, paren, spelled}
@@ -12,32 +12,37 @@ use Rattle.syntax.specs.Statements.{ValueSpec}
 use Rattle.syntax.specs.Declarations.{Body, Function as TreeFunction, Declaration, constants, variables, types, Syntax}
 use Rattle.syntax.specs.Declarations as tree
 use Rattle.typed.specs.Syntax.{Sts, Func}
-use Rattle.expression_types.specs.declared.fault.Fault.{Fault}
-use Rattle.expression_types.specs.declared.fault.FaultKind.TheVariants.{Unknown, Redeclared, MissingReturn, BadOperand, OutOfProfile, TooLarge}
-use Rattle.expression_types.specs.declared.scope.ValueType.{ValueType}
-use Rattle.expression_types.specs.declared.constant.Fixed.{Fixed}
-use Rattle.expression_types.specs.declared.scope.Declared.{Declared}
-use Rattle.expression_types.specs.declared.scope.Declared.TheVariants.{Untyped, Constant, Function, External, TypeName}
-use Rattle.expression_types.specs.declared.scope.Declared.TheVariants as declared
-use Rattle.expression_types.specs.Universe.{is_blank}
-use Rattle.expression_types.specs.Scope.{Scope, Signature, numbered as numbered_name, declaration, with_declaration, opened, beginning}
-use Rattle.expression_types.specs.Typing.{declared_type, type_in, allowed}
-use Rattle.expression_types.specs.Faults.{fault, IsFault, type_name_fault, FailsAsType}
+use Rattle.value_types.specs.declared.fault.FaultKind.TheVariants.{Unknown, Redeclared, MissingReturn, BadOperand, OutOfProfile, TooLarge}
+use Rattle.value_types.specs.declared.value_type.ValueType.{ValueType}
+use Rattle.value_types.specs.declared.constant.Fixed.{Fixed}
+use Rattle.value_types.specs.Given.{allowed}
+use Rattle.value_types.specs.Faults.{fault, IsFault}
+use Rattle.value_types.proofs.Decided.{Decided, Tested, further, same, mapped, after, both_decided, both_tested}
+use Rattle.value_types.proofs.Options.{and_then_some, map_some, same_some}
+use Rattle.names.specs.Blocks.{lookup}
+use Rattle.names.specs.declared.scope.Declared.{Declared}
+use Rattle.names.specs.declared.scope.Declared.TheVariants.{Untyped, Constant, Function, External, TypeName}
+use Rattle.names.specs.declared.scope.Declared.TheVariants as declared
+use Rattle.names.specs.Universe.{is_blank}
+use Rattle.names.specs.Scope.{Scope, Signature, numbered as numbered_name, declaration, with_declaration, opened, beginning}
+use Rattle.names.specs.Types.{declared_type, type_in}
+use Rattle.names.specs.Faults.{type_name_fault, FailsAsType}
+use Rattle.names.proofs.Settled.{HasSignature, IsSettled, predeclared_is}
 use Rattle.package_constants.specs.Constants.{items_in, settled}
 use Rattle.package_constants.specs.ConstantFaults.{ConstantsFail}
-use Rattle.types_go.specs.declared.slots.Slot.{Slot}
-use Rattle.types_go.specs.declared.entries.Role.TheVariants.{Parameter, Result}
-use Rattle.types_go.specs.EntryFaults.{EntriesFail}
-use Rattle.types_go.specs.Statements.{behind_all}
-use Rattle.types_go.specs.Functions.{Param, params_of, slot_of, slots_of, types_of, words, is_number, may_be_named, is_small, is_init, declares_name, external_named, is_external_at, signature_in, is_external, with_name, with_names, with_values, with_heads, with_items, functions_in, is_supported, are_supported, behind_params, body_scope, behind_body, behind_function, returns_of, may_end, func, param_entries, result_entries, body_of, parts, function_head, function_with, function, functions, declarations_in, heads_of, numbered_functions, package_scope, program_functions}
-use Rattle.types_go.specs.StatementFaults.{fault_where, FailsInStatements}
-use Rattle.types_go.specs.FunctionFaults.{function_name_fault, size_fault, TypesFail, FailsInHead, FailsInTypes, FailsInParts, external_fault, FailsWith, FailsInFunction, FailsInFunctions, init_fault, external_name_fault, DeclarationFails, DeclarationsFail}
-use Rattle.expression_types.proofs.Decided.{Decided, Tested, further, same, mapped, after, both_decided, both_tested}
-use Rattle.expression_types.proofs.Options.{and_then_some, map_some, same_some}
-use Rattle.expression_types.proofs.Settled.{HasSignature, IsSettled, predeclared_is}
 use Rattle.package_constants.proofs.AllKnown.{IsTypedOnceKnown, is_settled}
+use Rattle.signatures.specs.declared.slots.Slot.{Slot}
+use Rattle.signatures.specs.declared.entries.Role.TheVariants.{Parameter, Result}
+use Rattle.signatures.specs.EntryFaults.{EntriesFail}
+use Rattle.signatures.specs.Signatures.{Param, params_of, slot_of, slots_of, types_of, words, is_number, may_be_named, is_small, is_init, declares_name, external_named, is_external_at, signature_in, is_external, with_name, with_names, with_values, with_heads, with_items}
+use Rattle.signatures.specs.Failing.{fault_where}
+use Rattle.signatures.specs.SignatureFaults.{function_name_fault, size_fault, TypesFail}
+use Rattle.signatures.proofs.SettledEntries.{where_not, one_more_declared, settled_opened, settled_closed, AllTyped, settled_entries, entries_decided}
+use Rattle.types_go.specs.Statements.{behind_all}
+use Rattle.types_go.specs.Functions.{functions_in, is_supported, are_supported, behind_params, body_scope, behind_body, behind_function, returns_of, may_end, func, param_entries, result_entries, body_of, parts, function_head, function_with, function, functions, declarations_in, heads_of, numbered_functions, package_scope, program_functions}
+use Rattle.types_go.specs.StatementFaults.{FailsInStatements}
+use Rattle.types_go.specs.FunctionFaults.{FailsInHead, FailsInTypes, FailsInParts, external_fault, FailsWith, FailsInFunction, FailsInFunctions, init_fault, external_name_fault, DeclarationFails, DeclarationsFail}
 use Rattle.types_go.proofs.Package.{both_second, constant_one, declared_one, constants_long, signatures_are, items_kept}
-use Rattle.types_go.proofs.SettledEntries.{where_not, one_more_declared, settled_opened, settled_closed, AllTyped, settled_entries, entries_decided}
 use Rattle.types_go.proofs.SettledStatements.{settled_all, statements_decided}
 
 -- ---- the head and the types of a function

@@ -1,37 +1,45 @@
--- Where every variable has a type and every function a signature, a header and a `var` have typed forms, or a rule fails in them, and never both.
+-- Where every variable has a type and every function a signature, a header has a typed form, or a rule fails in it, and never both.
 use Rattle.std.proofs.Common.{◌≡◌, ℕ, suc, ◌≤◌, Bool, true, false, cond, List, [], ◌∷◌, ◌⊎◌, inl, inr, length, map, Option, Some, None, refl, sym, ap, ◌∙◌, subst, arith}
-use Rattle.std.specs.Prelude.{option_and_then, is_some, not, nat_le}
+use Rattle.std.specs.Prelude.{option_and_then, not, nat_le}
 use Rattle.std.specs.Option.{option_map}
-use Rattle.std.proofs.lemmas.List.{length-map}
 use Rattle.std.proofs.lemmas.Bool.{leb-true}
 use Rattle.base.specs.declared.pos.Pos.{Pos}
 use Rattle.syntax.specs.declared.expression.Name.{Name}
 use Rattle.syntax.specs.FirstBytes.{first_place}
 use Rattle.syntax.specs.Expressions.{Ex as TreeEx, Exs as TreeExs, some, spelled}
 use Rattle.syntax.specs.Expressions as expressions
-use Rattle.syntax.specs.Statements.{Simple, ValueSpec, Guard, Targets, no_targets, targets_assigned, targets_defined, Clause, forever, while_true, counting, ranging}
+use Rattle.syntax.specs.Statements.{Simple, Guard, Targets, no_targets, targets_assigned, targets_defined, Clause, forever, while_true, counting, ranging}
 use Rattle.syntax.specs.Statements as tree
-use Rattle.typed.specs.Syntax.{Ex, Exs, Left, blank, new, to, St, Sts, declare, done, next}
-use Rattle.expression_types.specs.declared.fault.Fault.{Fault}
-use Rattle.expression_types.specs.declared.fault.FaultKind.TheVariants.{NothingNew, Mismatch, ArgCount, BadOperand, OutOfProfile}
-use Rattle.expression_types.specs.declared.scope.ValueType.{ValueType}
-use Rattle.expression_types.specs.declared.scope.ValueType.TheVariants.{Int}
-use Rattle.expression_types.specs.Universe.{is_blank}
-use Rattle.expression_types.specs.Scope.{Scope, is_here, opened}
-use Rattle.expression_types.specs.Typing.{Operand, allowed, same_type, accepts, type_of, as_value, operand_in, taken, name_in, type_in, gives, seen, condition, test}
-use Rattle.expression_types.specs.Faults.{fault, IsFault, range_fault, Fails, FailsInEach, FailsAsOperand, FailsInCondition, FailsInTest}
-use Rattle.types_go.specs.declared.slots.Slot.{Slot}
-use Rattle.types_go.specs.declared.entries.Role.TheVariants.{Parameter}
-use Rattle.types_go.specs.Entries.{entry_of, sites_of, entry_left, slot_with, slots_each, entry_in, entries, behind_entry, behind_entries}
-use Rattle.types_go.specs.EntryFaults.{EntriesFail}
-use Rattle.types_go.specs.Statements.{Choice, Head, repeated, counted, alone, assignment, choice_head, loop_head, key_of, range_head, as_int, number_type, all_accept, target_slots, is_bare, wanted, lefts, all_wanted, simple_statement, header, init_statement, post_simple, post_statement, behind_post_simple, behind_post, guard_head, over, all_blank, target_lefts, clause_scope, clause_head, spec_type, spec_wanted, spec_slots_of, spec_slots, behind_spec, spec_entries, is_known, spec_declared, spec_assigned, spec_statement, spec_statements, behind_specs, taken_types}
-use Rattle.types_go.specs.StatementFaults.{fault_where, names_place, over_fault, given_fault, keys_fault, key_count, name_count, LeftsFail, FailsInInit, PostFails, FailsInPost, FailsInOver, GivenFail, TargetsFail, target_count, FailsInRange, FailsInClause, FailsInGuard, SpecTypeFails, SpecTakeFails, SpecValuesFail, FailsInSpec, FailsInSpecs}
-use Rattle.expression_types.proofs.Decided.{Decided, Tested, further, tested, turned, mapped, after, both_tested}
-use Rattle.expression_types.proofs.DecidedValues.{operand_decided, as_value_decided, take_decided}
-use Rattle.expression_types.proofs.Options.{and_then_some, map_some, none_some, same_some}
-use Rattle.expression_types.proofs.Settled.{IsSettled, gives_decided, seen_decided, type_decided, condition_decided, test_decided}
-use Rattle.types_go.proofs.SettledEntries.{where_tested, where_not, some_tested, settled_opened, settled_entries, AllTyped, with_typed, each_typed, allowed_is, taken_types_are, entries_decided}
-use Rattle.types_go.proofs.SettledSimple.{assignment_some, lefts_decided, simple_decided, settled_simple}
+use Rattle.typed.specs.Syntax.{Ex, Left, blank, new, to, St, Sts, done}
+use Rattle.value_types.specs.declared.fault.Fault.{Fault}
+use Rattle.value_types.specs.declared.fault.FaultKind.TheVariants.{NothingNew, Mismatch, ArgCount, BadOperand, OutOfProfile}
+use Rattle.value_types.specs.declared.value_type.ValueType.{ValueType}
+use Rattle.value_types.specs.declared.value_type.ValueType.TheVariants.{Int}
+use Rattle.value_types.specs.Given.{allowed}
+use Rattle.value_types.specs.Constants.{same_type}
+use Rattle.value_types.specs.Faults.{fault, IsFault}
+use Rattle.value_types.proofs.Decided.{Decided, Tested, further, tested, turned, mapped, after, both_tested}
+use Rattle.value_types.proofs.Options.{and_then_some, map_some, none_some, same_some}
+use Rattle.operators.specs.Operands.{Operand, type_of, as_value}
+use Rattle.names.specs.Universe.{is_blank}
+use Rattle.names.specs.Scope.{Scope, is_here, opened}
+use Rattle.names.specs.Naming.{name_in}
+use Rattle.names.proofs.Settled.{IsSettled}
+use Rattle.expression_types.specs.Typing.{accepts, operand_in, gives, condition, test}
+use Rattle.expression_types.specs.Faults.{range_fault, Fails, FailsAsOperand, FailsInCondition, FailsInTest}
+use Rattle.expression_types.proofs.DecidedValues.{operand_decided, as_value_decided}
+use Rattle.expression_types.proofs.Settled.{gives_decided, condition_decided, test_decided}
+use Rattle.signatures.specs.declared.entries.Role.TheVariants.{Parameter}
+use Rattle.signatures.specs.Entries.{entry_of, entry_left, slot_with, entry_in, entries, behind_entry, behind_entries}
+use Rattle.signatures.specs.EntryFaults.{EntriesFail}
+use Rattle.signatures.specs.Failing.{fault_where}
+use Rattle.signatures.proofs.SettledEntries.{where_tested, where_not, settled_opened, settled_entries, AllTyped, with_typed, entries_decided}
+use Rattle.simple_statements.specs.SimpleStatements.{wanted, lefts, all_wanted, simple_statement}
+use Rattle.simple_statements.specs.SimpleFaults.{names_place, LeftsFail}
+use Rattle.simple_statements.proofs.SettledValues.{allowed_is}
+use Rattle.simple_statements.proofs.SettledSimple.{lefts_decided, simple_decided, settled_simple}
+use Rattle.types_go.specs.Statements.{Choice, Head, repeated, counted, alone, choice_head, loop_head, key_of, range_head, as_int, number_type, all_accept, target_slots, header, init_statement, post_simple, post_statement, behind_post_simple, behind_post, guard_head, over, all_blank, target_lefts, clause_scope, clause_head}
+use Rattle.types_go.specs.StatementFaults.{over_fault, given_fault, keys_fault, key_count, name_count, FailsInInit, PostFails, FailsInPost, FailsInOver, GivenFail, TargetsFail, target_count, FailsInRange, FailsInClause, FailsInGuard}
 
 -- ---- of their parts
 
@@ -235,63 +243,3 @@ module _ (text : List ℕ) where
       let r = and_then_some (λ x. option_map (counted x) (option_and_then key_of (target_lefts text (opened s) (number_type (over text s e)) t))) (over text s e) h is in
       subst (λ (o : Option ValueType). IsSettled (behind_entries text (opened s) (target_slots o t))) (sym (number_is (over text s e) r.0 r.1))
       (settled_entries text (opened s) (target_slots (Some Int) t) (slots_typed Int t) (settled_opened s settled))
-
-  -- ---- variables
-
-  known_tested : (s : Scope) (o : Option TreeEx) → IsSettled s → Tested (is_known text s o) (SpecTypeFails text s o)
-  known_tested s None settled = λ f h. h
-  known_tested s (Some e) settled = some_tested (type_in text s e) (SpecTypeFails text s (Some e)) (type_decided text s settled e)
-
-  taking_decided : (es : Option (List Left)) (v : Option Exs) (V E : Fault → Type 0) → Decided v V → Decided es E → Decided (assignment es v) (λ f. V f ⊎ E f)
-  taking_decided None None V E p q = (p.0, inl p.1)
-  taking_decided None (Some v) V E p q = (q.0, inr q.1)
-  taking_decided (Some l) None V E p q = (p.0, inl p.1)
-  taking_decided (Some l) (Some v) V E p q = λ f h. elim h [ inl k ↦ p f k | inr k ↦ q f k ]
-
-  names_decided : (s : Scope) (at : Pos) (v : ValueSpec) → IsSettled s → (b : Bool)
-      → Decided (cond b (spec_declared text s v) (spec_assigned text s v)) (λ f. SpecValuesFail text b s at v f ⊎ EntriesFail text Parameter s (spec_slots text s v) f)
-  names_decided s at v settled true =
-      further (λ f. ⊥) (EntriesFail text Parameter s (spec_slots text s v)) (spec_declared text s v) (λ f h. h)
-      (mapped (λ es. declare (sites_of es)) (spec_entries text s v) (EntriesFail text Parameter s (spec_slots text s v)) (entries_decided text Parameter s (spec_slots text s v)))
-  names_decided s at v settled false =
-      taking_decided (option_map (map entry_left) (spec_entries text s v)) (taken (spec_wanted text s v) (seen text s v.values)) (SpecTakeFails text s at v) (EntriesFail text Parameter s (spec_slots text s v))
-      (take_decided (seen text s v.values) (FailsInEach text s v.values) (seen_decided text s settled v.values) (fault ArgCount at) (spec_wanted text s v))
-      (mapped (map entry_left) (spec_entries text s v) (EntriesFail text Parameter s (spec_slots text s v)) (entries_decided text Parameter s (spec_slots text s v)))
-
-  spec_decided : (s : Scope) (at : Pos) (v : ValueSpec) → IsSettled s → Decided (spec_statement text s v) (FailsInSpec text s at v)
-  spec_decided s at v settled =
-      tested (SpecTypeFails text s v.type_expr) (λ f. SpecValuesFail text (is_bare v.type_expr v.values) s at v f ⊎ EntriesFail text Parameter s (spec_slots text s v) f) (is_known text s v.type_expr)
-      (cond (is_bare v.type_expr v.values) (spec_declared text s v) (spec_assigned text s v)) (known_tested s v.type_expr settled) (names_decided s at v settled (is_bare v.type_expr v.values))
-
-  -- where a declaration is typed, so are its names
-  names_typed : (s : Scope) (v : ValueSpec) (t : St) (o : Option TreeEx) → v.type_expr ≡ o → is_known text s o ≡ true → cond (is_bare o v.values) (spec_declared text s v) (spec_assigned text s v) ≡ Some t → AllTyped (spec_slots text s v)
-  names_typed s v t (Some e) o_is known is = by (type_in text s e) refl known
-    where
-      by : (u : Option ValueType) → type_in text s e ≡ u → is_some u ≡ true → AllTyped (spec_slots text s v)
-      by None u_is known1 = cc known1
-      by (Some u) u_is known1 =
-          subst (λ (o : Option TreeEx). AllTyped (spec_slots_of text s o (taken_types (spec_wanted text s v) (seen text s v.values)) v.names)) (sym o_is)
-          (subst (λ (w : Option ValueType). AllTyped (map (slot_with w) v.names)) (sym u_is) (with_typed u v.names))
-  names_typed s v t None o_is known is =
-      let a = assignment_some (option_map (map entry_left) (spec_entries text s v)) (taken (spec_wanted text s v) (seen text s v.values)) t is in
-      let types = taken_types_are (spec_wanted text s v) (seen text s v.values) a.1 a.3 in
-      subst (λ (o : Option TreeEx). AllTyped (spec_slots_of text s o (taken_types (spec_wanted text s v) (seen text s v.values)) v.names)) (sym o_is)
-      (subst (λ (w : Option (List ValueType)). AllTyped (slots_each w v.names)) (sym types.1) (each_typed types.0 v.names (types.2 ∙ length-map v.names (λ (n : Name). spec_type text s v.type_expr))))
-
-  settled_spec : (s : Scope) (v : ValueSpec) (t : St) → IsSettled s → spec_statement text s v ≡ Some t → IsSettled (behind_spec text s v)
-  settled_spec s v t settled is =
-      let a = allowed_is (is_known text s v.type_expr) (cond (is_bare v.type_expr v.values) (spec_declared text s v) (spec_assigned text s v)) t is in
-      settled_entries text s (spec_slots text s v) (names_typed s v t v.type_expr refl a.0 a.1) settled
-
-  pub specs_decided : (s : Scope) (at : Pos) (vs : List ValueSpec) → IsSettled s → Decided (spec_statements text s vs) (FailsInSpecs text s at vs)
-  specs_decided s at [] settled = λ f h. h
-  specs_decided s at (v ∷ vs) settled =
-      after (spec_statement text s v) (λ t. option_map (next t) (spec_statements text (behind_spec text s v) vs)) (FailsInSpec text s at v) (FailsInSpecs text (behind_spec text s v) at vs) (spec_decided s at v settled)
-      (λ t is. mapped (next t) (spec_statements text (behind_spec text s v) vs) (FailsInSpecs text (behind_spec text s v) at vs) (specs_decided (behind_spec text s v) at vs (settled_spec s v t settled is)))
-
-  pub settled_specs : (s : Scope) (vs : List ValueSpec) (b : Sts) → IsSettled s → spec_statements text s vs ≡ Some b → IsSettled (behind_specs text s vs)
-  settled_specs s [] b settled is = settled
-  settled_specs s (v ∷ vs) b settled is =
-      let q = and_then_some (λ t. option_map (next t) (spec_statements text (behind_spec text s v) vs)) (spec_statement text s v) b is in
-      let p = map_some (next q.0) (spec_statements text (behind_spec text s v) vs) b q.2 in
-      settled_specs (behind_spec text s v) vs p.0 (settled_spec s v q.0 settled q.1) p.1

@@ -5,19 +5,26 @@ use Rattle.std.specs.Option.{option_map}
 use Rattle.syntax.specs.Statements.{Stm, Stms, Els}
 use Rattle.syntax.specs.Statements as tree
 use Rattle.typed.specs.Syntax.{St, Sts, block, break_off, go_on}
-use Rattle.expression_types.specs.declared.fault.Fault.{Fault}
-use Rattle.expression_types.specs.declared.fault.FaultKind.TheVariants.{BreakOutside}
-use Rattle.expression_types.specs.Scope.{Scope, opened, closed}
-use Rattle.expression_types.specs.Typing.{allowed, seen}
-use Rattle.expression_types.specs.Faults.{fault, IsFault, FailsInEach}
-use Rattle.types_go.specs.Statements.{Returns, Choice, Head, alone, before, chosen, looped_by, choice_of, loop_of, returned, simple_statement, header, guard_head, clause_scope, clause_head, behind, behind_else, behind_all, statement, alternative, statements}
-use Rattle.types_go.specs.StatementFaults.{fault_where, ReturnFails, FailsInSimple, FailsInClause, FailsInGuard, FailsInStatement, FailsInElse, FailsInStatements}
-use Rattle.expression_types.proofs.Decided.{Decided, further, mapped, after}
-use Rattle.expression_types.proofs.Options.{and_then_some, map_some}
-use Rattle.expression_types.proofs.Settled.{IsSettled, seen_decided}
-use Rattle.types_go.proofs.SettledEntries.{settled_opened, settled_closed}
-use Rattle.types_go.proofs.SettledSimple.{return_decided, simple_decided, settled_simple}
-use Rattle.types_go.proofs.SettledHeads.{guard_decided, settled_guard, clause_decided, settled_clause, specs_decided, settled_specs}
+use Rattle.value_types.specs.declared.fault.Fault.{Fault}
+use Rattle.value_types.specs.declared.fault.FaultKind.TheVariants.{BreakOutside}
+use Rattle.value_types.specs.Given.{allowed}
+use Rattle.value_types.specs.Faults.{fault, IsFault}
+use Rattle.value_types.proofs.Decided.{Decided, further, mapped, after}
+use Rattle.value_types.proofs.Options.{and_then_some, map_some}
+use Rattle.names.specs.Scope.{Scope, opened, closed}
+use Rattle.names.proofs.Settled.{IsSettled}
+use Rattle.expression_types.specs.Typing.{seen}
+use Rattle.expression_types.specs.Faults.{FailsInEach}
+use Rattle.expression_types.proofs.Settled.{seen_decided}
+use Rattle.signatures.specs.Failing.{fault_where}
+use Rattle.signatures.proofs.SettledEntries.{settled_opened, settled_closed}
+use Rattle.simple_statements.specs.SimpleStatements.{Returns, before, returned, simple_statement}
+use Rattle.simple_statements.specs.SimpleFaults.{ReturnFails, FailsInSimple}
+use Rattle.simple_statements.proofs.SettledSimple.{return_decided, simple_decided, settled_simple}
+use Rattle.simple_statements.proofs.SettledVariables.{specs_decided, settled_specs}
+use Rattle.types_go.specs.Statements.{Choice, Head, alone, chosen, looped_by, choice_of, loop_of, header, guard_head, clause_scope, clause_head, behind, behind_else, behind_all, statement, alternative, statements}
+use Rattle.types_go.specs.StatementFaults.{FailsInClause, FailsInGuard, FailsInStatement, FailsInElse, FailsInStatements}
+use Rattle.types_go.proofs.SettledHeads.{guard_decided, settled_guard, clause_decided, settled_clause}
 
 choice_decided : (h : Option Choice) (a b : Option Sts) (P Q R : Fault → Type 0) → Decided h P → ((c : Choice) → h ≡ Some c → Decided a Q) → ((c : Choice) (y : Sts) → h ≡ Some c → a ≡ Some y → Decided b R)
     → Decided (choice_of h a b) (λ f. (P f ⊎ Q f) ⊎ R f)

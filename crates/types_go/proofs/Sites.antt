@@ -1,4 +1,4 @@
--- The sites of entries, one after the other, and the places of functions.
+-- The new sites of an init statement, one after the other, and the places and the numbers of functions.
 use Rattle.std.proofs.Common.{◌≡◌, ℕ, List, [], ◌∷◌, ◌++◌, map, Option, Some, None, sym, ap, ◌∙◌, append-nil, append_assoc}
 use Rattle.std.specs.Prelude.{⊤}
 use Rattle.std.proofs.lemmas.List.{map-append}
@@ -6,14 +6,9 @@ use Rattle.base.specs.declared.pos.Pos.{Pos}
 use Rattle.base.specs.declared.ids.TypeId.{TypeId}
 use Rattle.typed.specs.declared.program.Func.{Func as FuncData}
 use Rattle.typed.specs.Syntax.{Left, blank, new, to}
-use Rattle.types_go.specs.Entries.{sites_of}
+use Rattle.value_types.specs.Given.{with_last}
 use Rattle.types_go.specs.Statements.{new_in}
-use Rattle.expression_types.specs.Passing.{with_last}
 use Rattle.types_go.specs.Passing.{IsAt, AreAt}
-
-pub sites_more : (so_far : List ℕ) (e : Option ℕ) (es : List (Option ℕ)) → so_far ++ sites_of (e ∷ es) ≡ (so_far ++ sites_of (e ∷ [])) ++ sites_of es
-sites_more so_far None es = ap (λ l. l ++ sites_of es) (sym (append-nil so_far))
-sites_more so_far (Some site) es = sym (append_assoc so_far (site ∷ []) (sites_of es))
 
 pub new_more : (so_far : List ℕ) (l : Left) (ls : List Left) → so_far ++ new_in (l ∷ ls) ≡ (so_far ++ new_in (l ∷ [])) ++ new_in ls
 new_more so_far blank ls = ap (λ k. k ++ new_in ls) (sym (append-nil so_far))

@@ -14,18 +14,25 @@ use Rattle.typed.specs.declared.operators.BinOp.{BinOp as TypedOp}
 use Rattle.typed.specs.declared.operators.BinOp.TheVariants as op
 use Rattle.typed.specs.Syntax.{Exs, Left, St, Sts, constant as constant_of, unary as unary_of, binary as binary_of, both as both_of, either as either_of, call as call_of, read, declare, block, choose, loop, break_off, go_on, give_back, none, done, next}
 use Rattle.typed.specs.Form.{ends, ends_all, breaks, breaks_all}
-use Rattle.expression_types.specs.declared.scope.ValueType.TheVariants.{Int, Bool as Truth}
-use Rattle.expression_types.specs.declared.scope.Declared.{Declared}
-use Rattle.expression_types.specs.declared.scope.Declared.TheVariants.{Variable, Untyped, Panic}
-use Rattle.expression_types.specs.Scope.{Scope, declaration, opened, closed}
-use Rattle.expression_types.specs.Typing.{Operand, constant, value, Part, Gives, one, called, asking, quoted, printed, panicked, exited, both, combined, operand_in, Seen, parts, taken, panicked_with, called_with, spread_over, callee_declared, callee, name_in, gives, seen, condition, test}
-use Rattle.types_go.specs.Entries.{sites_of, entry_left}
-use Rattle.types_go.specs.Statements.{Returns, Choice, Head, repeated, counted, only, alone, before, expressed, declared_in, assignment, updated, stepped, returned, headed, looped_by, choice_of, loop_of, lefts, all_wanted, new_lefts, all_new_wanted, may_define, own_value, update_statement, simple_statement, header, init_statement, post_statement, guard_head, clause_scope, clause_head, key_of, number_type, over, target_lefts, is_bare, spec_entries, spec_wanted, is_known, spec_declared, spec_assigned, spec_statement, spec_statements, behind_spec, behind, behind_all, statement, alternative, statements, is_endless, leaves, leaves_else, leaves_any, is_panic, names_panic, panics, ends_simple, is_terminating, is_terminating_else, ends_after}
-use Rattle.expression_types.proofs.Options.{and_then_some, map_some, none_some, same_some}
-use Rattle.types_go.proofs.Growth.{keeps_grows, grows, grows_header, grows_all, keeps_block}
+use Rattle.value_types.specs.declared.value_type.ValueType.TheVariants.{Int, Bool as Truth}
+use Rattle.value_types.specs.Given.{both}
+use Rattle.value_types.proofs.Options.{and_then_some, map_some, none_some, same_some}
+use Rattle.operators.specs.Operands.{Operand, constant, value}
+use Rattle.operators.specs.Operators.{combined}
+use Rattle.names.specs.declared.scope.Declared.{Declared}
+use Rattle.names.specs.declared.scope.Declared.TheVariants.{Variable, Untyped, Panic}
+use Rattle.names.specs.Scope.{Scope, declaration, opened, closed}
+use Rattle.names.specs.Naming.{name_in}
+use Rattle.expression_types.specs.Typing.{Part, Gives, one, called, asking, quoted, printed, panicked, exited, operand_in, Seen, parts, taken, panicked_with, called_with, spread_over, callee_declared, callee, gives, seen, condition, test}
+use Rattle.signatures.specs.Entries.{sites_of, entry_left}
+use Rattle.signatures.proofs.Growth.{keeps_grows}
+use Rattle.simple_statements.specs.SimpleStatements.{Returns, only, before, expressed, assignment, updated, stepped, returned, lefts, all_wanted, new_lefts, all_new_wanted, may_define, own_value, update_statement, simple_statement, is_bare, spec_entries, spec_wanted, is_known, spec_declared, spec_assigned, spec_statement, spec_statements, behind_spec}
+use Rattle.simple_statements.proofs.SettledValues.{allowed_is}
+use Rattle.simple_statements.proofs.SettledSimple.{where_some, assignment_some}
+use Rattle.terminating.specs.Terminating.{is_endless, leaves, leaves_else, leaves_any, is_panic, names_panic, panics, ends_simple, is_terminating, is_terminating_else, ends_after}
+use Rattle.types_go.specs.Statements.{Choice, Head, repeated, counted, alone, declared_in, headed, looped_by, choice_of, loop_of, header, init_statement, post_statement, guard_head, clause_scope, clause_head, key_of, number_type, over, target_lefts, behind, behind_all, statement, alternative, statements}
+use Rattle.types_go.proofs.Growth.{grows, grows_header, keeps_block}
 use Rattle.types_go.proofs.Inside.{Inside, inside_opened, inside_grows, MayPanic, panic_inside}
-use Rattle.types_go.proofs.SettledEntries.{allowed_is}
-use Rattle.types_go.proofs.SettledSimple.{where_some, assignment_some}
 use Rattle.types_go.proofs.SettledStatements.{choice_some, loop_some}
 
 abbrev pub ends_last : Bool → Sts → Bool

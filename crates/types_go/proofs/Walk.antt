@@ -10,15 +10,15 @@ use Rattle.syntax.specs.Declarations.{Function as TreeFunction}
 use Rattle.typed.specs.Syntax.{Func}
 use Rattle.typed.specs.View.{func_of}
 use Rattle.typed.specs.declared.program.Func.{Func as FuncData}
-use Rattle.expression_types.specs.declared.fault.Fault.{Fault}
-use Rattle.expression_types.specs.Least.{IsLeast, lesser}
-use Rattle.expression_types.specs.Scope.{Scope}
-use Rattle.expression_types.specs.Passing.{with_last}
+use Rattle.value_types.specs.declared.fault.Fault.{Fault}
+use Rattle.value_types.specs.Least.{IsLeast, lesser}
+use Rattle.value_types.proofs.Leasts.{Kept, kept_start, kept_more, kept_end}
+use Rattle.names.specs.Scope.{Scope}
+use Rattle.value_types.specs.Given.{with_last}
+use Rattle.value_types.proofs.Lists.{joined, joined_start, joined_more, joined_none}
 use Rattle.types_go.specs.Functions.{function, functions, behind_function, behind_functions}
 use Rattle.types_go.specs.FunctionFaults.{FailsInFunction, FailsInFunctions}
 use Rattle.types_go.specs.Passing.{IsAt, AreAt}
-use Rattle.expression_types.proofs.Items.{joined, joined_start, joined_more, joined_none}
-use Rattle.expression_types.proofs.Leasts.{Kept, kept_start, kept_more, kept_end}
 use Rattle.types_go.proofs.Growth.{keeps_function}
 use Rattle.types_go.proofs.Sites.{PlacesKept, places_more, places_all}
 

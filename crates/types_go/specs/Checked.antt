@@ -6,10 +6,10 @@ use Rattle.typed.specs.Syntax.{Func, Program}
 use Rattle.typed.specs.View.{zero_values, program_of}
 use Rattle.typed.specs.declared.program.Site.{Site}
 use Rattle.typed.specs.declared.program.Program.{Program as ProgramData}
-use Rattle.expression_types.specs.declared.fault.TypeFault.{TypeFault}
-use Rattle.expression_types.specs.declared.fault.TypeFault.TheVariants as type_fault
-use Rattle.expression_types.specs.declared.fault.Fault.{Fault}
-use Rattle.expression_types.specs.Least.{IsLeast}
+use Rattle.value_types.specs.declared.fault.TypeFault.{TypeFault}
+use Rattle.value_types.specs.declared.fault.TypeFault.TheVariants as type_fault
+use Rattle.value_types.specs.declared.fault.Fault.{Fault}
+use Rattle.value_types.specs.Least.{IsLeast}
 use Rattle.package_constants.specs.ConstantFaults.{ConstantsFail}
 use Rattle.types_go.specs.Functions.{behind_functions, declarations_in, heads_of, numbered_functions, package_scope, main_number, program_functions}
 use Rattle.types_go.specs.FunctionFaults.{FailsIn}

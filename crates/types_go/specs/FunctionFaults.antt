@@ -1,31 +1,24 @@
 -- Which rules fail in a declaration and in a tree, and where each is reported. A form that is left out fails at its first byte, and nothing
 -- behind that is looked at: whatever fails further right is never reported.
-use Rattle.std.specs.Prelude.{◌≡◌, ℕ, ◌+◌, ◌⊎◌, Bool, true, false, not, List, [], ◌∷◌, Option, Some, None, is_some, nat_lt, nat_le}
+use Rattle.std.specs.Prelude.{◌≡◌, ℕ, ◌+◌, ◌⊎◌, Bool, true, false, not, List, [], ◌∷◌, Option, Some, None, is_some, nat_lt}
 use Rattle.base.specs.declared.pos.Pos.{Pos}
 use Rattle.syntax.specs.Expressions.{spelled}
 use Rattle.syntax.specs.Declarations.{Body, Function as TreeFunction, Declaration, constants, variables, types, Syntax}
 use Rattle.syntax.specs.Declarations as tree
-use Rattle.expression_types.specs.declared.fault.Fault.{Fault}
-use Rattle.expression_types.specs.declared.fault.FaultKind.TheVariants.{Redeclared, MissingReturn, NoMain, BadExternal, OutOfProfile, TooLarge}
-use Rattle.expression_types.specs.declared.scope.Declared.{Declared}
-use Rattle.expression_types.specs.Universe.{is_blank}
-use Rattle.expression_types.specs.Scope.{Scope, Signature, declaration, opened}
-use Rattle.expression_types.specs.Faults.{fault, IsFault, FormFails, FailsAsType}
-use Rattle.types_go.specs.declared.entries.Role.TheVariants.{Parameter as parameter, Result as result}
+use Rattle.value_types.specs.declared.fault.Fault.{Fault}
+use Rattle.value_types.specs.declared.fault.FaultKind.TheVariants.{Redeclared, MissingReturn, NoMain, BadExternal, OutOfProfile, TooLarge}
+use Rattle.value_types.specs.Faults.{fault, IsFault, FormFails}
+use Rattle.names.specs.declared.scope.Declared.{Declared}
+use Rattle.names.specs.Universe.{is_blank}
+use Rattle.names.specs.Scope.{Scope, declaration, opened}
 use Rattle.package_constants.specs.ConstantFaults.{ConstantsFail}
-use Rattle.types_go.specs.EntryFaults.{EntriesFail}
-use Rattle.types_go.specs.Functions.{Param, is_number, params_of, slots_of, words, is_external, is_external_at, is_init, signature_in, behind_params, body_scope, behind_function, returns_of, may_end, declarations_in, heads_of, numbered_functions, package_scope, main_number}
-use Rattle.types_go.specs.StatementFaults.{fault_where, FailsInStatements}
-
--- the name of the function of a number: the first declaration of a name stays
-abbrev pub function_name_fault : ℕ → (is_blank : Bool) → Option Declared → Pos → Option Fault
-function_name_fault i true d at = None
-function_name_fault i false d at = fault_where (not (is_number i d)) (fault Redeclared at)
-
--- arguments and results are at most so many words
-abbrev pub size_fault : Option Signature → Pos → Option Fault
-size_fault None at = None
-size_fault (Some sig) at = fault_where (not (nat_le (words sig) 65535)) (fault TooLarge at)
+use Rattle.signatures.specs.declared.entries.Role.TheVariants.{Parameter as parameter, Result as result}
+use Rattle.signatures.specs.EntryFaults.{EntriesFail}
+use Rattle.signatures.specs.Signatures.{params_of, slots_of, is_external, is_external_at, is_init, signature_in}
+use Rattle.signatures.specs.Failing.{fault_where}
+use Rattle.signatures.specs.SignatureFaults.{function_name_fault, size_fault, TypesFail}
+use Rattle.types_go.specs.Functions.{behind_params, body_scope, behind_function, returns_of, may_end, declarations_in, heads_of, numbered_functions, package_scope, main_number}
+use Rattle.types_go.specs.StatementFaults.{FailsInStatements}
 
 -- no other function than `readInt` and `exit` has no body
 abbrev pub external_fault : TreeFunction → Fault
@@ -39,12 +32,8 @@ module _ (text : List ℕ) where
       ⊎ IsFault (fault_where (not (nat_lt i 4096)) (fault TooLarge g.name.pos)) f
 
 module _ (text : List ℕ) (heads : Scope) where
-  abbrev pub TypesFail : List Param → Fault → Type 0
-  TypesFail [] f = ⊥
-  TypesFail (p ∷ ps) f = FailsAsType text heads p.type_expr f ⊎ TypesFail ps f
-
   abbrev pub FailsInTypes : TreeFunction → Fault → Type 0
-  FailsInTypes g f = (TypesFail (params_of g.params) f ⊎ TypesFail (params_of g.results) f) ⊎ IsFault (size_fault (signature_in text heads g) g.name.pos) f
+  FailsInTypes g f = (TypesFail text heads (params_of g.params) f ⊎ TypesFail text heads (params_of g.results) f) ⊎ IsFault (size_fault (signature_in text heads g) g.name.pos) f
 
   abbrev pub FailsInParts : Scope → TreeFunction → Body → Fault → Type 0
   FailsInParts s g b f =

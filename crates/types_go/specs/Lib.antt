@@ -1,6 +1,4 @@
 pub mod Checked
-pub mod Entries
-pub mod EntryFaults
 pub mod FunctionFaults
 pub mod Functions
 pub mod Passing

@@ -5,11 +5,11 @@ use Rattle.base.specs.declared.pos.Pos.{Pos}
 use Rattle.typed.specs.Syntax.{Sts, Func}
 use Rattle.typed.specs.View.{ex_of, left_of, test_of, st_of, sts_of}
 use Rattle.typed.specs.declared.program.Func.{Func as FuncData}
+use Rattle.signatures.specs.declared.slots.Slot.{Slot}
+use Rattle.signatures.specs.Entries.{sites_of}
 use Rattle.types_go.specs.declared.heads.Choice.{Choice as ChoiceData}
 use Rattle.types_go.specs.declared.heads.Head.{Head as HeadData}
 use Rattle.types_go.specs.declared.heads.Head.TheVariants.{Repeated, Counted}
-use Rattle.types_go.specs.declared.slots.Slot.{Slot}
-use Rattle.types_go.specs.Entries.{sites_of}
 use Rattle.types_go.specs.Statements.{Choice, Head, repeated, counted}
 use Rattle.types_go.specs.Functions.{slot_number}
 

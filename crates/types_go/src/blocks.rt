@@ -5,48 +5,26 @@ ghost use Rattle.std.specs.Option.{option_map};
 ghost use Rattle.syntax.specs.Statements.{guard_of, clause_of, stm_of, stms_of, els_of};
 ghost use Rattle.typed.specs.Syntax.{block, break_off, go_on};
 ghost use Rattle.typed.specs.View.{ex_of, st_of, sts_of, site_numbers, left_of as left_view};
-ghost use Rattle.expression_types.specs.Least.{IsLeast, lesser};
-ghost use Rattle.expression_types.specs.Scope.{scope_of, opened, closed};
-ghost use Rattle.expression_types.specs.Typing.{allowed};
-ghost use Rattle.expression_types.specs.Passing.{with_last};
-ghost use Rattle.expression_types.specs.Faults.{fault as fault_at, IsFault};
-ghost use Rattle.expression_types.specs.declared.fault.FaultKind.TheVariants.{BreakOutside as Outside};
-ghost use Rattle.types_go.specs.Statements.{returns_view, alone, before, headed, new_in, declared_in, chosen, looped_by, choice_of, loop_of, statement, alternative, statements, behind, behind_else, behind_all};
-ghost use Rattle.types_go.specs.StatementFaults.{fault_where, FailsInStatement, FailsInElse, FailsInStatements};
+ghost use Rattle.value_types.specs.Least.{IsLeast, lesser};
+ghost use Rattle.value_types.specs.Given.{allowed};
+ghost use Rattle.value_types.specs.Faults.{fault as fault_at, IsFault};
+ghost use Rattle.value_types.specs.declared.fault.FaultKind.TheVariants.{BreakOutside as Outside};
+ghost use Rattle.names.specs.Scope.{scope_of, opened, closed};
+ghost use Rattle.simple_statements.specs.SimpleStatements.{returns_view, before};
+ghost use Rattle.types_go.specs.Statements.{alone, headed, new_in, declared_in, chosen, looped_by, choice_of, loop_of, statement, alternative, statements, behind, behind_else, behind_all};
+ghost use Rattle.signatures.specs.Failing.{fault_where};
+ghost use Rattle.types_go.specs.StatementFaults.{FailsInStatement, FailsInElse, FailsInStatements};
 ghost use Rattle.types_go.specs.Passing.{choice_view, head_view, with_more};
 
-use crate::declaring::fault_where;
 use crate::heads::{Choice, Guarded, Head, Headed, alone, check_clause, check_guard};
-use crate::statements::{Line, Returns, check_return, check_simple};
-use crate::variables::check_var;
 use base::{NoMemory, Pos, SiteId};
-use expression_types::{Fault, FaultKind, Scope, close, lesser, open};
+use names::{Scope, close, open};
+use signatures::fault_where;
+use simple_statements::{Line, Lines, Returns, check_return, check_simple, check_var};
 use std::alloc::Global;
 use syntax::{Clause, Else, Guard, Stmt};
 use typed::Left;
-
-/// What is known of statements: their typed forms, where all have one, and the fault that is reported of them.
-#[derive(Drop)]
-pub struct Lines {
-    pub statements: Option<Vec<typed::Stmt>>,
-    pub fault: Option<Fault>,
-}
-
-/// One more statement behind those that have typed forms.
-pub fn with_statement(
-    statements: Option<Vec<typed::Stmt>>,
-    statement: Option<typed::Stmt>,
-) -> Result<Option<Vec<typed::Stmt>>, NoMemory>
-    ensures { IfOk result (λ r. option_map (λ v. v.items) r ≡ with_last (option_map (λ v. v.items) statements) statement) }
-{
-    match (statements, statement) {
-        (Some(mut statements), Some(statement)) => {
-            statements.push(statement)?;
-            Ok(Some(statements))
-        }
-        _ => Ok(None),
-    }
-}
+use value_types::{Fault, FaultKind, lesser};
 
 /// More statements behind those that have typed forms.
 fn with_statements(

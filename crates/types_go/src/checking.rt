@@ -7,31 +7,31 @@ ghost use Rattle.syntax.specs.Declarations.{function as function_item, function_
 ghost use Rattle.typed.specs.View.{func_of, program_of};
 ghost use Rattle.typed.specs.Form.{IsInForm};
 ghost use Rattle.typed.specs.Syntax.{Program as ProgramOf};
-ghost use Rattle.expression_types.specs.Universe.{is_main};
-ghost use Rattle.expression_types.specs.Scope.{scope_of, declaration, beginning};
-ghost use Rattle.expression_types.specs.Least.{IsLeast};
-ghost use Rattle.expression_types.specs.Faults.{fault as fault_at, IsFault, FormFails};
-ghost use Rattle.expression_types.specs.declared.fault.FaultKind.TheVariants.{NoMain};
+ghost use Rattle.value_types.specs.Least.{IsLeast};
+ghost use Rattle.value_types.specs.Faults.{fault as fault_at, IsFault, FormFails};
+ghost use Rattle.value_types.specs.declared.fault.FaultKind.TheVariants.{NoMain};
+ghost use Rattle.names.specs.Universe.{is_main};
+ghost use Rattle.names.specs.Scope.{scope_of, declaration, beginning};
 ghost use Rattle.package_constants.specs.Constants.{items_in, settled};
 ghost use Rattle.package_constants.specs.ConstantFaults.{ConstantsFail};
-ghost use Rattle.types_go.specs.Functions.{number_of, is_init, is_plain, plain_number, is_external, with_items, functions_in, functions, heads_of, numbered_functions, package_scope, main_number};
-ghost use Rattle.types_go.specs.StatementFaults.{fault_where};
+ghost use Rattle.signatures.specs.Signatures.{is_init, is_external, with_items};
+ghost use Rattle.types_go.specs.Functions.{number_of, is_plain, plain_number, functions_in, functions, heads_of, numbered_functions, package_scope, main_number};
+ghost use Rattle.signatures.specs.Failing.{fault_where};
 ghost use Rattle.types_go.specs.FunctionFaults.{init_fault, external_name_fault, DeclarationFails, DeclarationsFail, FailsIn, first_byte};
 ghost use Rattle.types_go.specs.Passing.{AreAt};
 ghost use Rattle.types_go.specs.Checked.{Types, Reports, OnlyProgram, sites_in, strings_in, function_places};
 
-use crate::declaring::fault_where;
 use crate::functions::check_functions;
-use crate::signatures::{add_heads, add_items, is_external, is_external_at, is_init};
-use crate::slots::has_some;
 use base::{FuncId, NoMemory, Pos};
-use expression_types::{
-    Declared, Fault, FaultKind, Scope, TypeFault, beginning, declaration, is_main, lesser, spelled,
-};
+use names::{Declared, Scope, beginning, declaration, is_main, spelled};
 use package_constants::{constants_fault, settle};
+use signatures::{
+    add_heads, add_items, fault_where, has_some, is_external, is_external_at, is_init,
+};
 use std::alloc::Global;
 use syntax::{Decl, Func, Name, Tree};
 use typed::{Program, Site};
+use value_types::{Fault, FaultKind, TypeFault, lesser};
 
 fn number_of(declared: Option<Declared>) -> Option<FuncId>
     ensures { option_map (λ f. f.0) result ≡ number_of declared }
@@ -118,7 +118,7 @@ fn main_number(
 }
 
 /// The fault of a declaration of a form that is left out.
-#[tactic(auto, using(expression_types::proofs::Leasts::leaf))]
+#[tactic(auto, using(value_types::proofs::Leasts::leaf))]
 fn left_out(pos: Pos) -> Option<Fault>
     ensures { IsLeast (FormFails pos) result }
 {
@@ -140,7 +140,7 @@ fn external_name_fault(is_external: bool, declared: Option<Declared>, pos: Pos) 
 }
 
 /// The fault of a function of the name `init`, at its word.
-#[tactic(auto, using(expression_types::proofs::Leasts::leaf))]
+#[tactic(auto, using(value_types::proofs::Leasts::leaf))]
 fn init_fault(text: &[u8], f: &Func) -> Option<Fault>
     ensures { IsLeast (IsFault (init_fault (is_init (spelled text.now f.now.name)) f.now.pos)) result }
 {
@@ -152,7 +152,7 @@ fn init_fault(text: &[u8], f: &Func) -> Option<Fault>
 }
 
 /// The fault of a function without a body, behind another declaration of its name.
-#[tactic(auto, using(expression_types::proofs::Leasts::leaf))]
+#[tactic(auto, using(value_types::proofs::Leasts::leaf))]
 fn external_fault(
     alloc: Global,
     text: &[u8],
@@ -233,7 +233,7 @@ fn package_fault(
 }
 
 /// The fault of a package without a function `main`.
-#[tactic(auto, using(expression_types::proofs::Leasts::leaf))]
+#[tactic(auto, using(value_types::proofs::Leasts::leaf))]
 fn no_main_fault(is_absent: bool) -> Option<Fault>
     ensures { IsLeast (IsFault (fault_where is_absent (fault_at NoMain first_byte))) result }
 {

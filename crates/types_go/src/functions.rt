@@ -7,36 +7,34 @@ ghost use Rattle.base.specs.declared.pos.Pos.{Pos as Place};
 ghost use Rattle.syntax.specs.Expressions.{spelled};
 ghost use Rattle.syntax.specs.Declarations.{parameters_of, body_of, function_of, declarations_of};
 ghost use Rattle.typed.specs.View.{site_in, func_of, sts_of};
-ghost use Rattle.expression_types.specs.Least.{IsLeast};
-ghost use Rattle.expression_types.specs.Universe.{is_blank};
-ghost use Rattle.expression_types.specs.Scope.{scope_of, declaration, is_here};
-ghost use Rattle.expression_types.specs.Typing.{allowed};
-ghost use Rattle.expression_types.specs.Faults.{fault as fault_at, IsFault};
-ghost use Rattle.expression_types.specs.Passing.{with_last};
-ghost use Rattle.expression_types.specs.declared.fault.FaultKind.TheVariants.{TooLarge};
+ghost use Rattle.value_types.specs.Least.{IsLeast};
+ghost use Rattle.value_types.specs.Given.{allowed};
+ghost use Rattle.value_types.specs.Faults.{fault as fault_at, IsFault};
+ghost use Rattle.value_types.specs.declared.fault.FaultKind.TheVariants.{TooLarge};
+ghost use Rattle.names.specs.Universe.{is_blank};
+ghost use Rattle.names.specs.Scope.{scope_of, declaration, is_here};
+ghost use Rattle.value_types.specs.Given.{with_last};
 ghost use Rattle.types_go.specs.Passing.{assembled, IsAt, AreAt};
-ghost use Rattle.types_go.specs.StatementFaults.{fault_where};
-ghost use Rattle.types_go.specs.Statements.{returns_view};
-ghost use Rattle.types_go.specs.Functions.{may_be_named, is_named, is_external, number_or_int, slot_number, returns_of, may_end, params_of, function_head, signature_in, is_small, functions_in, parts, function_with, function, functions, behind_body, behind_function, behind_functions};
-ghost use Rattle.types_go.specs.FunctionFaults.{function_name_fault, FailsInHead, FailsInTypes, FailsInParts, FailsWith, FailsInFunction, FailsInFunctions, external_fault};
+ghost use Rattle.signatures.specs.Failing.{fault_where};
+ghost use Rattle.simple_statements.specs.SimpleStatements.{returns_view};
+ghost use Rattle.signatures.specs.Signatures.{may_be_named, is_named, is_external, params_of, signature_in, is_small};
+ghost use Rattle.types_go.specs.Functions.{number_or_int, slot_number, returns_of, may_end, function_head, functions_in, parts, function_with, function, functions, behind_body, behind_function, behind_functions};
+ghost use Rattle.signatures.specs.SignatureFaults.{function_name_fault};
+ghost use Rattle.types_go.specs.FunctionFaults.{FailsInHead, FailsInTypes, FailsInParts, FailsWith, FailsInFunction, FailsInFunctions, external_fault};
 
 use crate::blocks::check_stmts;
-use crate::declaring::fault_where;
-use crate::endings::ends_in_terminating;
-use crate::entries::{Role, check_entries, sites_of};
-use crate::signatures::{
-    function_name_fault, is_external, is_small, may_be_named, signature_in, size_fault,
-};
-use crate::slots::{Slot, has_some, is_named, slot_types, slots_of, types_fault};
-use crate::statements::Returns;
 use base::{NoMemory, Pos, SiteId, TypeId};
-use expression_types::{
-    Fault, FaultKind, Scope, ValueType, close, declaration, is_blank, lesser, open, site_count,
-    spelled,
+use names::{Scope, close, declaration, is_blank, open, site_count, spelled, type_id};
+use signatures::{
+    Role, Slot, check_entries, fault_where, function_name_fault, has_some, is_external, is_named,
+    is_small, may_be_named, signature_in, sites_of, size_fault, slot_types, slots_of, types_fault,
 };
+use simple_statements::Returns;
 use std::alloc::Global;
 use syntax::{Body, Decl, Func, Name, Params};
+use terminating::ends_in_terminating;
 use typed::INT;
+use value_types::{Fault, FaultKind, ValueType, lesser};
 
 /// What is known of a part of a function: whether it is as it must be, and the fault.
 #[derive(Clone, Copy, Debug, PartialEq, Eq)]
@@ -77,7 +75,7 @@ fn may_end(text: &[u8], heads: &Scope, scope: &Scope, f: &Func, body: &Body) -> 
 }
 
 /// The fault of the name of a function of a number.
-#[tactic(auto, using(expression_types::proofs::Leasts::leaf))]
+#[tactic(auto, using(value_types::proofs::Leasts::leaf))]
 fn name_fault(text: &[u8], scope: &Scope, number: usize, name: Name) -> Option<Fault>
     ensures { IsLeast (IsFault (function_name_fault number (is_blank (spelled text.now name)) (declaration (scope_of scope.now) (spelled text.now name)) name.pos)) result }
 {
@@ -86,7 +84,7 @@ fn name_fault(text: &[u8], scope: &Scope, number: usize, name: Name) -> Option<F
 }
 
 /// The fault of a function behind too many others.
-#[tactic(auto, using(expression_types::proofs::Leasts::leaf))]
+#[tactic(auto, using(value_types::proofs::Leasts::leaf))]
 fn number_fault(number: usize, pos: Pos) -> Option<Fault>
     ensures { IsLeast (IsFault (fault_where (not (nat_lt number 4096)) (fault_at TooLarge pos))) result }
 {
@@ -138,7 +136,7 @@ fn number_or_int(value_type: Option<ValueType>) -> TypeId
     ensures { result.0 ≡ number_or_int value_type }
 {
     match value_type {
-        Some(value_type) => value_type.id(),
+        Some(value_type) => type_id(value_type),
         None => INT,
     }
 }

@@ -2,35 +2,34 @@
 
 ghost use Rattle.std.specs.Prelude.{◌≡◌, ◌⊎◌, Option, Some, None, IfOk, OnOk, List, map, length, not, ◌&&◌, option_and_then, if◌then◌else◌};
 ghost use Rattle.std.specs.Option.{option_map};
-ghost use Rattle.syntax.specs.Expressions.{ex_of as tree_of, exs_of as trees_of};
+ghost use Rattle.syntax.specs.Expressions.{ex_of as tree_of, exs_of as trees_of, spelled};
 ghost use Rattle.syntax.specs.FirstBytes.{first_place};
 ghost use Rattle.syntax.specs.Statements.{simple_of, simple_in, guard_of, targets_of, targets_assigned, targets_defined, while_true, clause_of};
-ghost use Rattle.syntax.specs.Expressions.{spelled};
 ghost use Rattle.typed.specs.View.{ex_of, left_of as left_view, test_of, st_of, sts_of};
-ghost use Rattle.expression_types.specs.Least.{IsLeast};
-ghost use Rattle.expression_types.specs.Universe.{is_blank};
-ghost use Rattle.expression_types.specs.Scope.{scope_of, opened};
-ghost use Rattle.expression_types.specs.Typing.{allowed, test, condition_in};
-ghost use Rattle.expression_types.specs.Faults.{fault as fault_at, IsFault, range_fault, FailsInTest};
-ghost use Rattle.expression_types.specs.Passing.{operand_of};
-ghost use Rattle.types_go.specs.Entries.{slot_with, behind_entries};
-ghost use Rattle.types_go.specs.Statements.{alone, key_of, range_head, as_int, number_type, over, all_accept, all_wanted, wanted, all_blank, target_slots, target_lefts, header, init_statement, post_simple, post_statement, behind_post_simple, behind_post, guard_head, choice_head, loop_head, clause_scope, clause_head};
+ghost use Rattle.value_types.specs.Least.{IsLeast};
+ghost use Rattle.value_types.specs.Given.{allowed};
+ghost use Rattle.value_types.specs.Faults.{fault as fault_at, IsFault};
+ghost use Rattle.operators.specs.Passing.{operand_of};
+ghost use Rattle.names.specs.Universe.{is_blank};
+ghost use Rattle.names.specs.Scope.{scope_of, opened};
+ghost use Rattle.expression_types.specs.Typing.{test, condition_in};
+ghost use Rattle.expression_types.specs.Faults.{range_fault, FailsInTest};
+ghost use Rattle.signatures.specs.Entries.{slot_with, behind_entries};
+ghost use Rattle.simple_statements.specs.SimpleStatements.{all_wanted, wanted};
+ghost use Rattle.types_go.specs.Statements.{alone, key_of, range_head, as_int, number_type, over, all_accept, all_blank, target_slots, target_lefts, header, init_statement, post_simple, post_statement, behind_post_simple, behind_post, guard_head, choice_head, loop_head, clause_scope, clause_head};
 ghost use Rattle.types_go.specs.StatementFaults.{over_fault, given_fault, keys_fault, key_count, name_count, target_count, FailsInInit, PostFails, FailsInPost, FailsInOver, GivenFail, TargetsFail, FailsInRange, FailsInClause, FailsInGuard};
 ghost use Rattle.types_go.specs.Passing.{choice_view, head_view};
 
-use crate::declaring::{all_wanted, check_lefts, fault_where, names_pos, wanted};
-use crate::entries::{Role, check_entries, entry_lefts};
-use crate::slots::slots_with;
-use crate::statements::{Line, check_simple, left_out};
 use base::{NoMemory, Pos};
-use expression_types::{
-    Condition, Fault, FaultKind, Operand, Scope, Test, ValueType, accepts, as_value,
-    check_condition, check_single, check_test, constant_range_fault, is_blank, lesser, name_in,
-    open, same_type, spelled, type_of,
-};
+use expression_types::{Condition, Test, accepts, check_condition, check_single, check_test};
+use names::{Scope, is_blank, name_in, open, spelled};
+use operators::{Operand, as_value, type_of};
+use signatures::{Role, check_entries, entry_lefts, fault_where, slots_with};
+use simple_statements::{Line, all_wanted, check_lefts, check_simple, left_out, names_pos, wanted};
 use std::alloc::Global;
 use syntax::{Clause, Expr, Guard, Name, Simple, Targets};
 use typed::Left;
+use value_types::{Fault, FaultKind, ValueType, constant_range_fault, lesser, same_type};
 
 /// The header of an `if`: its init statement, where it has one, and its condition.
 #[derive(Drop)]

@@ -1,9 +1,9 @@
 //! Trees built by hand over one text, and what the checker says of them.
 
-use crate::statements::check_simple;
 use crate::{FaultKind, TypeFault, check};
 use base::Pos;
-use expression_types::beginning;
+use names::beginning;
+use simple_statements::check_simple;
 use std::alloc::Global;
 use std::test::Fail;
 use syntax::{

@@ -1,8 +1,9 @@
 use Rattle.std.proofs.Common.{List, Option, subst}
-use Rattle.expression_types.specs.declared.fault.FaultKind.TheVariants.{ArgCount}
-use Rattle.expression_types.specs.declared.scope.ValueType.{ValueType}
-use Rattle.expression_types.specs.Least.{IsLeast}
-use Rattle.expression_types.specs.Faults.{fault, TakeFails}
+use Rattle.value_types.specs.declared.fault.FaultKind.TheVariants.{ArgCount}
+use Rattle.value_types.specs.declared.value_type.ValueType.{ValueType}
+use Rattle.value_types.specs.Least.{IsLeast}
+use Rattle.value_types.specs.Faults.{fault}
+use Rattle.expression_types.specs.Faults.{TakeFails}
 use Rattle.expression_types.specs.Passing.{seens}
 use Rattle.expression_types.proofs.calls.call_fault.Goals as goal
 

@@ -1,8 +1,9 @@
-use Rattle.expression_types.specs.declared.fault.FaultKind.TheVariants.{ArgCount}
+use Rattle.value_types.specs.declared.fault.FaultKind.TheVariants.{ArgCount}
+use Rattle.value_types.specs.Faults.{fault}
+use Rattle.value_types.proofs.Leasts.{least_join, leaf}
 use Rattle.expression_types.specs.Typing.{part_count}
-use Rattle.expression_types.specs.Faults.{fault, count_fault}
+use Rattle.expression_types.specs.Faults.{count_fault}
 use Rattle.expression_types.specs.Passing.{seens}
-use Rattle.expression_types.proofs.Leasts.{least_join, leaf}
 use Rattle.expression_types.proofs.calls.panic_fault.Goals as goal
 
 pub returns : goal.returns

@@ -1,7 +1,7 @@
+use Rattle.value_types.proofs.Leasts.{least_join, leaf}
 use Rattle.expression_types.specs.Typing.{count}
 use Rattle.expression_types.specs.Faults.{refused_fault}
 use Rattle.expression_types.specs.Passing.{seens}
-use Rattle.expression_types.proofs.Leasts.{least_join, leaf}
 use Rattle.expression_types.proofs.calls.refused.Goals as goal
 
 pub returns : goal.returns

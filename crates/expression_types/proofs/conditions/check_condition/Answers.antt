@@ -1,7 +1,7 @@
 use Rattle.std.specs.Option.{option_map}
 use Rattle.syntax.specs.Expressions.{ex_of}
-use Rattle.expression_types.specs.Scope.{scope_of}
-use Rattle.expression_types.specs.Passing.{operand_of}
+use Rattle.operators.specs.Passing.{operand_of}
+use Rattle.names.specs.Scope.{scope_of}
 use Rattle.expression_types.proofs.Nodes.{condition_least}
 use Rattle.expression_types.proofs.conditions.check_condition.Goals as goal
 

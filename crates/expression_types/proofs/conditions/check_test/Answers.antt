@@ -1,8 +1,8 @@
 use Rattle.std.proofs.Common.{◌≡◌, IfOk, Option, Some, rules, sym, subst}
 use Rattle.syntax.specs.Expressions.{Ex, ex_of}
 use Rattle.syntax.specs.Statements.{clause_of}
-use Rattle.expression_types.specs.Least.{IsLeast}
-use Rattle.expression_types.specs.Scope.{scope_of}
+use Rattle.value_types.specs.Least.{IsLeast}
+use Rattle.names.specs.Scope.{scope_of}
 use Rattle.expression_types.specs.Typing.{condition_in}
 use Rattle.expression_types.specs.Faults.{FailsInTest}
 use Rattle.expression_types.proofs.conditions.check_test.Goals as goal

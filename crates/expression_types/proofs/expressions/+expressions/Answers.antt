@@ -5,15 +5,22 @@ use Rattle.syntax.specs.declared.expression.Expr.{Expr}
 use Rattle.syntax.specs.FirstBytes.{first_place}
 use Rattle.syntax.specs.Expressions.{ex_of, exs_of, binary, call}
 use Rattle.syntax.proofs.Views.{expr_rows}
-use Rattle.expression_types.specs.declared.operand.Item.{Item}
+use Rattle.value_types.specs.Least.{IsLeast, IsLesserWith, lesser}
+use Rattle.value_types.specs.Faults.{IsFault, FormFails}
+use Rattle.value_types.proofs.Leasts.{Kept, kept_start, kept_more, kept_end, least_join, if_ok, leaf}
+use Rattle.operators.specs.Operators.{has_rules}
+use Rattle.operators.specs.Faults.{pair_fault}
+use Rattle.operators.specs.Passing.{operand_of}
+use Rattle.names.specs.Scope.{scope_of}
+use Rattle.names.specs.Naming.{name_in}
+use Rattle.names.specs.Faults.{FailsAsType}
+use Rattle.expression_types.specs.declared.gives.Item.{Item}
 use Rattle.expression_types.specs.declared.expressions.Checked.{Checked}
-use Rattle.expression_types.specs.Least.{IsLeast, IsLesserWith, lesser}
-use Rattle.expression_types.specs.Scope.{scope_of}
-use Rattle.expression_types.specs.Typing.{has_rules, operand_in, name_in, callee, spread_over, gives, seen}
-use Rattle.expression_types.specs.Faults.{IsFault, FormFails, CallFails, FailsAsType, Fails, FailsInEach, FailsAsOperand, CalleeFails, pair_fault, single_fault}
-use Rattle.expression_types.specs.Passing.{operand_of, gives_of, callee_of, seen_of, seens}
-use Rattle.expression_types.proofs.Items.{from_one, nothing_left, pushed}
-use Rattle.expression_types.proofs.Leasts.{Kept, kept_start, kept_more, kept_end, least_join, if_ok, leaf}
+use Rattle.expression_types.specs.Typing.{operand_in, callee, spread_over, gives, seen}
+use Rattle.expression_types.specs.Faults.{CallFails, Fails, FailsInEach, FailsAsOperand, CalleeFails, single_fault}
+use Rattle.expression_types.specs.Passing.{gives_of, callee_of, seen_of, seens}
+use Rattle.value_types.proofs.Lists.{from_one, nothing_left}
+use Rattle.expression_types.proofs.Items.{pushed}
 use Rattle.expression_types.proofs.Nodes.{unary_least, binary_least, call_least}
 use Rattle.expression_types.proofs.expressions.+expressions.Goals as goal
 

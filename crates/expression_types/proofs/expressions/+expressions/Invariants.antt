@@ -1,10 +1,10 @@
 use Rattle.std.proofs.Common.{◌≡◌, ◌++◌, drop}
 use Rattle.syntax.specs.Expressions.{exs_of}
-use Rattle.expression_types.specs.Scope.{scope_of}
+use Rattle.value_types.proofs.Leasts.{Kept}
+use Rattle.names.specs.Scope.{scope_of}
 use Rattle.expression_types.specs.Typing.{seen}
 use Rattle.expression_types.specs.Faults.{FailsInEach}
 use Rattle.expression_types.specs.Passing.{seens}
-use Rattle.expression_types.proofs.Leasts.{Kept}
 use Rattle.expression_types.proofs.expressions.+expressions.Given as goal
 
 abbrev pub invariant-check_list-loop-e : goal.invariant-check_list-loop-e

@@ -1,6 +1,6 @@
 use Rattle.std.proofs.Common.{subst, List, ap, ◌∙◌}
-use Rattle.expression_types.specs.declared.operand.Item.{Item}
-use Rattle.expression_types.specs.Least.{IsLeast, lesser}
+use Rattle.value_types.specs.Least.{IsLeast, lesser}
+use Rattle.expression_types.specs.declared.gives.Item.{Item}
 use Rattle.expression_types.specs.Faults.{CallFails}
 use Rattle.expression_types.specs.Passing.{callee_of, seens}
 use Rattle.expression_types.proofs.expressions.call_of.Goals as goal

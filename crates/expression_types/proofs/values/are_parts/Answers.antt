@@ -1,9 +1,9 @@
 use Rattle.std.proofs.Common.{◌≡◌, [], ◌∷◌, ◌+◌, List, drop, arith, sym, ap, ◌∙◌, refl}
 use Rattle.std.specs.Prelude.{◌&&◌}
-use Rattle.expression_types.specs.declared.operand.Item.{Item}
+use Rattle.expression_types.specs.declared.gives.Item.{Item}
 use Rattle.expression_types.specs.Typing.{are_parts}
 use Rattle.expression_types.specs.Passing.{seens}
-use Rattle.expression_types.proofs.Items.{from_one, nothing_left, and_true}
+use Rattle.value_types.proofs.Lists.{from_one, nothing_left, and_true}
 use Rattle.expression_types.proofs.values.are_parts.Goals as goal
 
 pub loop-item-init : goal.loop-item-init

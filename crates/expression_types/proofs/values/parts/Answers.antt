@@ -1,11 +1,12 @@
 use Rattle.std.proofs.Common.{◌≡◌, [], ◌∷◌, List, Option, rules, sym, ap, ◌∙◌, map, length, arith}
 use Rattle.std.specs.Option.{option_map}
 use Rattle.std.specs.Vec.Iter.{into_iter_items}
-use Rattle.expression_types.specs.declared.operand.Part.{Part as PartData}
-use Rattle.expression_types.specs.declared.operand.Item.{Item}
+use Rattle.expression_types.specs.declared.gives.Part.{Part as PartData}
+use Rattle.expression_types.specs.declared.gives.Item.{Item}
 use Rattle.expression_types.specs.Typing.{Part, parts, part_in}
-use Rattle.expression_types.specs.Passing.{part_view, gives_of, seens, with_last}
-use Rattle.expression_types.proofs.Items.{joined, joined_start, joined_more, joined_none, with_last_map, no_items}
+use Rattle.value_types.specs.Given.{with_last}
+use Rattle.expression_types.specs.Passing.{part_view, gives_of, seens}
+use Rattle.value_types.proofs.Lists.{joined, joined_start, joined_more, joined_none, with_last_map, no_items}
 use Rattle.expression_types.proofs.values.parts.Goals as goal
 
 pub loop-item-init : goal.loop-item-init

@@ -1,10 +1,12 @@
 use Rattle.std.proofs.Common.{◌≡◌, [], ◌∷◌, ◌+◌, List, Option, drop, arith, sym, ap, ◌∙◌}
 use Rattle.std.specs.Option.{option_map}
-use Rattle.expression_types.specs.declared.operand.Item.{Item}
-use Rattle.expression_types.specs.declared.scope.ValueType.{ValueType}
-use Rattle.expression_types.specs.Typing.{single_types, type_of, operand_in}
-use Rattle.expression_types.specs.Passing.{gives_of, seens, with_last}
-use Rattle.expression_types.proofs.Items.{from_one, nothing_left, joined, joined_start, joined_more, joined_none}
+use Rattle.value_types.specs.declared.value_type.ValueType.{ValueType}
+use Rattle.operators.specs.Operands.{type_of}
+use Rattle.expression_types.specs.declared.gives.Item.{Item}
+use Rattle.expression_types.specs.Typing.{single_types, operand_in}
+use Rattle.value_types.specs.Given.{with_last}
+use Rattle.expression_types.specs.Passing.{gives_of, seens}
+use Rattle.value_types.proofs.Lists.{from_one, nothing_left, joined, joined_start, joined_more, joined_none}
 use Rattle.expression_types.proofs.values.single_types.Goals as goal
 
 pub loop-item-init : goal.loop-item-init

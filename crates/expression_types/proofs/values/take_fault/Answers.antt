@@ -1,8 +1,8 @@
 use Rattle.std.proofs.Common.{length}
+use Rattle.value_types.proofs.Leasts.{least_join, leaf}
 use Rattle.expression_types.specs.Typing.{count}
 use Rattle.expression_types.specs.Faults.{count_fault}
 use Rattle.expression_types.specs.Passing.{seens}
-use Rattle.expression_types.proofs.Leasts.{least_join, leaf}
 use Rattle.expression_types.proofs.values.take_fault.Goals as goal
 
 pub returns : goal.returns

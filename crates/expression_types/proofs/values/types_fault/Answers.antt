@@ -1,8 +1,8 @@
 use Rattle.std.proofs.Common.{◌≤◌, ◌<◌, min, length, arith}
-use Rattle.expression_types.specs.declared.operand.Item.{Item}
+use Rattle.value_types.proofs.Leasts.{kept_end}
+use Rattle.expression_types.specs.declared.gives.Item.{Item}
 use Rattle.expression_types.specs.Faults.{TypesFail}
 use Rattle.expression_types.specs.Passing.{seens}
-use Rattle.expression_types.proofs.Leasts.{kept_end}
 use Rattle.expression_types.proofs.Places.{types_kept, types_fail_end}
 use Rattle.expression_types.proofs.values.types_fault.Goals as goal
 

@@ -1,7 +1,7 @@
 use Rattle.std.proofs.Common.{drop}
+use Rattle.value_types.proofs.Leasts.{Kept}
 use Rattle.expression_types.specs.Faults.{TypesFail}
 use Rattle.expression_types.specs.Passing.{seens}
-use Rattle.expression_types.proofs.Leasts.{Kept}
 use Rattle.expression_types.proofs.values.types_fault.Given as goal
 
 abbrev pub invariant-loop-index : goal.invariant-loop-index

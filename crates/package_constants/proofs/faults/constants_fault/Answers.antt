@@ -1,8 +1,8 @@
 use Rattle.std.proofs.Common.{◌≡◌, ◌⊎◌, List, ap, ◌∙◌, subst}
 use Rattle.syntax.specs.Declarations.{declarations_of}
-use Rattle.expression_types.specs.Least.{IsLeast}
-use Rattle.expression_types.specs.Scope.{scope_of}
-use Rattle.expression_types.proofs.Leasts.{least_join}
+use Rattle.value_types.specs.Least.{IsLeast}
+use Rattle.value_types.proofs.Leasts.{least_join}
+use Rattle.names.specs.Scope.{scope_of}
 use Rattle.package_constants.specs.Constants.{Item, items_in}
 use Rattle.package_constants.specs.ConstantFaults.{DeclarationsFail, NamesFail, Recurs}
 use Rattle.package_constants.specs.Passing.{item_views}

@@ -1,8 +1,8 @@
 use Rattle.std.proofs.Common.{List, IfOk, subst}
 use Rattle.syntax.specs.declared.statement.ValueSpec.{ValueSpec}
 use Rattle.syntax.specs.Statements.{value_specs_of}
-use Rattle.expression_types.specs.Least.{IsLeast}
-use Rattle.expression_types.specs.Scope.{scope_of}
+use Rattle.value_types.specs.Least.{IsLeast}
+use Rattle.names.specs.Scope.{scope_of}
 use Rattle.package_constants.specs.ConstantFaults.{SpecsFail}
 use Rattle.package_constants.proofs.faults.declaration_fault.Goals as goal
 

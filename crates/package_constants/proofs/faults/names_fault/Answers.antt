@@ -2,13 +2,13 @@ use Rattle.std.proofs.Common.{◌≡◌, ℕ, suc, [], ◌∷◌, ◌+◌, List,
 use Rattle.std.specs.Prelude.{codes}
 use Rattle.std.specs.Str.{bytes_eq}
 use Rattle.syntax.specs.Expressions.{spelled}
-use Rattle.expression_types.specs.declared.fault.Fault.{Fault}
-use Rattle.expression_types.specs.Least.{lesser}
-use Rattle.expression_types.specs.Universe.{is_blank}
-use Rattle.expression_types.specs.Scope.{scope_of, declaration}
-use Rattle.expression_types.specs.Faults.{IsFault}
-use Rattle.expression_types.proofs.Items.{from_one, nothing_left}
-use Rattle.expression_types.proofs.Leasts.{Kept, kept_start, kept_more, kept_end, leaf}
+use Rattle.value_types.specs.declared.fault.Fault.{Fault}
+use Rattle.value_types.specs.Least.{lesser}
+use Rattle.value_types.specs.Faults.{IsFault}
+use Rattle.value_types.proofs.Leasts.{Kept, kept_start, kept_more, kept_end, leaf}
+use Rattle.names.specs.Universe.{is_blank}
+use Rattle.names.specs.Scope.{scope_of, declaration}
+use Rattle.value_types.proofs.Lists.{from_one, nothing_left}
 use Rattle.package_constants.specs.declared.items.Item.{Item as ItemData}
 use Rattle.package_constants.specs.ConstantFaults.{constant_name_fault, NamesFail}
 use Rattle.package_constants.specs.Passing.{item_views}

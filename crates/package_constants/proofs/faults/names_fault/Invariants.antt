@@ -1,6 +1,6 @@
 use Rattle.std.proofs.Common.{drop}
-use Rattle.expression_types.specs.Scope.{scope_of}
-use Rattle.expression_types.proofs.Leasts.{Kept}
+use Rattle.value_types.proofs.Leasts.{Kept}
+use Rattle.names.specs.Scope.{scope_of}
 use Rattle.package_constants.specs.ConstantFaults.{NamesFail}
 use Rattle.package_constants.specs.Passing.{item_views}
 use Rattle.package_constants.proofs.faults.names_fault.Given as goal

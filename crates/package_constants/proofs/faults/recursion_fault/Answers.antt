@@ -1,8 +1,8 @@
 use Rattle.std.proofs.Common.{◌≡◌, ◌⊎◌, ◌+◌, ◌≤◌, Some, length, map, ap, ◌∙◌, subst, sym, arith}
 use Rattle.std.specs.Prelude.{slice_get}
-use Rattle.expression_types.specs.Scope.{scope_of}
-use Rattle.expression_types.specs.Least.{IsLeast}
-use Rattle.expression_types.proofs.Leasts.{kept_start, kept_more, kept_end}
+use Rattle.value_types.specs.Least.{IsLeast}
+use Rattle.value_types.proofs.Leasts.{kept_start, kept_more, kept_end}
+use Rattle.names.specs.Scope.{scope_of}
 use Rattle.package_constants.specs.declared.items.Item.{Item as ItemData}
 use Rattle.package_constants.specs.Needs.{needed}
 use Rattle.package_constants.specs.ConstantFaults.{Recurs}

@@ -1,5 +1,5 @@
-use Rattle.expression_types.specs.Scope.{scope_of}
-use Rattle.expression_types.proofs.Leasts.{Kept}
+use Rattle.value_types.proofs.Leasts.{Kept}
+use Rattle.names.specs.Scope.{scope_of}
 use Rattle.package_constants.specs.ConstantFaults.{Recurs}
 use Rattle.package_constants.specs.Passing.{item_views}
 use Rattle.package_constants.proofs.Rules.{RecursFrom}

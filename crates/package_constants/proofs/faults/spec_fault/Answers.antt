@@ -2,14 +2,15 @@ use Rattle.std.proofs.Common.{◌≡◌, ◌⊎◌, ℕ, List, Option, length, a
 use Rattle.syntax.specs.declared.expression.Expr.{Expr}
 use Rattle.syntax.specs.Expressions.{exs_of}
 use Rattle.syntax.specs.Statements.{value_spec_of}
-use Rattle.expression_types.specs.declared.fault.FaultKind.TheVariants.{ArgCount}
-use Rattle.expression_types.specs.declared.scope.ValueType.{ValueType}
-use Rattle.expression_types.specs.Least.{IsLeast}
-use Rattle.expression_types.specs.Scope.{scope_of}
+use Rattle.value_types.specs.declared.fault.FaultKind.TheVariants.{ArgCount}
+use Rattle.value_types.specs.declared.value_type.ValueType.{ValueType}
+use Rattle.value_types.specs.Least.{IsLeast}
+use Rattle.value_types.specs.Faults.{fault}
+use Rattle.value_types.proofs.Leasts.{least_join, leaf}
+use Rattle.names.specs.Scope.{scope_of}
 use Rattle.expression_types.specs.Typing.{Seen, seen}
-use Rattle.expression_types.specs.Faults.{fault, SinglesFail, FailsInEach, CountFails, count_fault}
+use Rattle.expression_types.specs.Faults.{SinglesFail, FailsInEach, CountFails, count_fault}
 use Rattle.expression_types.specs.Passing.{seens}
-use Rattle.expression_types.proofs.Leasts.{least_join, leaf}
 use Rattle.package_constants.specs.ConstantFaults.{single_count, ValuesFail, type_asked, TypeFails}
 use Rattle.package_constants.proofs.faults.spec_fault.Goals as goal
 

@@ -1,7 +1,7 @@
 use Rattle.std.proofs.Common.{drop}
 use Rattle.syntax.specs.Statements.{value_specs_of}
-use Rattle.expression_types.specs.Scope.{scope_of}
-use Rattle.expression_types.proofs.Leasts.{Kept}
+use Rattle.value_types.proofs.Leasts.{Kept}
+use Rattle.names.specs.Scope.{scope_of}
 use Rattle.package_constants.specs.ConstantFaults.{SpecsFail}
 use Rattle.package_constants.proofs.faults.specs_fault.Given as goal
 

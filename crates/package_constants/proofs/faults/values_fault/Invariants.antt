@@ -1,6 +1,6 @@
 use Rattle.std.proofs.Common.{drop}
+use Rattle.value_types.proofs.Leasts.{Kept}
 use Rattle.expression_types.specs.Passing.{seens}
-use Rattle.expression_types.proofs.Leasts.{Kept}
 use Rattle.package_constants.specs.ConstantFaults.{ValuesFail}
 use Rattle.package_constants.proofs.faults.values_fault.Given as goal
 

@@ -1,7 +1,7 @@
 use Rattle.std.proofs.Common.{◌≡◌, [], ◌∷◌, ◌+◌, ◌++◌, List, drop, sym, ap, ◌∙◌, append-nil, arith}
 use Rattle.syntax.specs.declared.statement.ValueSpec.{ValueSpec}
 use Rattle.syntax.specs.Statements.{value_spec_of, value_specs_of}
-use Rattle.expression_types.proofs.Items.{from_one, nothing_left}
+use Rattle.value_types.proofs.Lists.{from_one, nothing_left}
 use Rattle.package_constants.specs.Constants.{items_of, items_in_specs}
 use Rattle.package_constants.specs.Passing.{item_views}
 use Rattle.package_constants.proofs.Constants.{joined}

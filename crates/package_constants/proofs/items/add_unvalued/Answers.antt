@@ -1,7 +1,8 @@
 use Rattle.std.proofs.Common.{◌≡◌, [], ◌∷◌, ◌+◌, ◌++◌, List, None, drop, get_or, refl, sym, ap, ◌∙◌, append-nil, arith}
 use Rattle.syntax.specs.declared.expression.Name.{Name}
 use Rattle.syntax.specs.Expressions.{exs_of, ex_in}
-use Rattle.expression_types.proofs.Items.{no_name, from_there, nothing_left}
+use Rattle.value_types.proofs.Lists.{from_there, nothing_left}
+use Rattle.names.proofs.Places.{no_name}
 use Rattle.package_constants.specs.Constants.{unvalued}
 use Rattle.package_constants.specs.Passing.{item_views}
 use Rattle.package_constants.proofs.Constants.{pushed}

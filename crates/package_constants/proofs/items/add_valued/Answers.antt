@@ -2,7 +2,8 @@ use Rattle.std.proofs.Common.{◌≡◌, ◌<◌, ◌≤◌, ◌∷◌, ◌+◌,
 use Rattle.syntax.specs.declared.expression.Name.{Name}
 use Rattle.syntax.specs.declared.expression.Expr.{Expr}
 use Rattle.syntax.specs.Expressions.{exs_of, ex_of, ex_in}
-use Rattle.expression_types.proofs.Items.{no_name, from_there, from_one}
+use Rattle.value_types.proofs.Lists.{from_there, from_one}
+use Rattle.names.proofs.Places.{no_name}
 use Rattle.package_constants.specs.Passing.{item_views, pairs}
 use Rattle.package_constants.proofs.Constants.{pushed, no_pairs}
 use Rattle.package_constants.proofs.items.add_valued.Goals as goal

@@ -4,8 +4,8 @@ use Rattle.syntax.specs.declared.expression.Expr.{Expr}
 use Rattle.syntax.specs.declared.expression.Element.{Element}
 use Rattle.syntax.specs.Expressions.{ex_of, exs_of, elements_of, call, literal}
 use Rattle.syntax.proofs.Views.{expr_rows}
-use Rattle.expression_types.proofs.Items.{from_one, nothing_left}
-use Rattle.expression_types.proofs.Leasts.{if_ok}
+use Rattle.value_types.proofs.Leasts.{if_ok}
+use Rattle.value_types.proofs.Lists.{from_one, nothing_left}
 use Rattle.package_constants.specs.Needs.{names_in, names_in_each, names_in_elements}
 use Rattle.package_constants.specs.Passing.{names_in_element}
 use Rattle.package_constants.proofs.Constants.{names_in_one}

@@ -1,7 +1,7 @@
 use Rattle.std.proofs.Common.{◌≡◌, ℕ, [], ◌∷◌, ◌+◌, ◌++◌, List, drop, map, sym, ap, ◌∙◌, append-nil, arith}
 use Rattle.std.specs.Global.{Vec}
-use Rattle.expression_types.specs.Scope.{scope_of}
-use Rattle.expression_types.proofs.Items.{from_one, nothing_left}
+use Rattle.names.specs.Scope.{scope_of}
+use Rattle.value_types.proofs.Lists.{from_one, nothing_left}
 use Rattle.package_constants.specs.declared.items.Item.{Item as ItemData}
 use Rattle.package_constants.specs.Needs.{needed}
 use Rattle.package_constants.specs.Passing.{item_of, item_views, table_of}

@@ -1,5 +1,5 @@
 use Rattle.std.proofs.Common.{◌≡◌, ◌++◌, drop, map}
-use Rattle.expression_types.specs.Scope.{scope_of}
+use Rattle.names.specs.Scope.{scope_of}
 use Rattle.package_constants.specs.Needs.{needed}
 use Rattle.package_constants.specs.Passing.{item_views, table_of}
 use Rattle.package_constants.proofs.needs.needs.Given as goal

@@ -1,9 +1,10 @@
 use Rattle.std.proofs.Common.{◌≡◌, ℕ, [], ◌∷◌, ◌+◌, ◌++◌, List, Option, drop, get_or, sym, ap, ◌∙◌, append_assoc, append-nil, arith}
 use Rattle.syntax.specs.declared.expression.Name.{Name}
 use Rattle.syntax.specs.Expressions.{spelled}
-use Rattle.expression_types.specs.Scope.{scope_of, declaration}
+use Rattle.names.specs.Scope.{scope_of, declaration}
+use Rattle.value_types.proofs.Lists.{from_there, nothing_left}
+use Rattle.names.proofs.Places.{no_name}
 use Rattle.package_constants.specs.Needs.{constant_number, also, numbers_of}
-use Rattle.expression_types.proofs.Items.{no_name, from_there, nothing_left}
 use Rattle.package_constants.proofs.needs.numbers_of.Goals as goal
 use Rattle.package_constants.proofs.needs.numbers_of.Goals.{in-Some+in_ok-push-in-Some, in-None}
 

@@ -1,5 +1,5 @@
 use Rattle.std.proofs.Common.{◌≡◌, ◌++◌, drop}
-use Rattle.expression_types.specs.Scope.{scope_of}
+use Rattle.names.specs.Scope.{scope_of}
 use Rattle.package_constants.specs.Needs.{numbers_of}
 use Rattle.package_constants.proofs.needs.numbers_of.Given as goal
 

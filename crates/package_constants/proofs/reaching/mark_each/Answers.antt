@@ -1,5 +1,5 @@
 use Rattle.std.proofs.Common.{◌≡◌, ℕ, [], ◌∷◌, ◌+◌, List, drop, get_or, sym, ap, ◌∙◌, arith}
-use Rattle.expression_types.proofs.Items.{from_there, nothing_left}
+use Rattle.value_types.proofs.Lists.{from_there, nothing_left}
 use Rattle.package_constants.specs.Passing.{Search, search_of, mark_each}
 use Rattle.package_constants.proofs.reaching.mark_each.Goals as goal
 

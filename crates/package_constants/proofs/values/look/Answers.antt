@@ -1,9 +1,9 @@
 use Rattle.std.proofs.Common.{rules, ◌≡◌, [], ◌∷◌, ◌+◌, List, drop, true, false, sym, ap, ◌∙◌, arith}
-use Rattle.expression_types.specs.Scope.{scope_of}
+use Rattle.names.specs.Scope.{scope_of}
+use Rattle.value_types.proofs.Lists.{from_one, nothing_left}
 use Rattle.package_constants.specs.declared.items.Item.{Item as ItemData}
 use Rattle.package_constants.specs.Constants.{look}
 use Rattle.package_constants.specs.Passing.{item_of, item_views}
-use Rattle.expression_types.proofs.Items.{from_one, nothing_left}
 use Rattle.package_constants.proofs.Constants.{look_one}
 use Rattle.package_constants.proofs.values.look.Goals as goal
 use Rattle.package_constants.proofs.values.look.Goals.{then-is_new, else-is_new}

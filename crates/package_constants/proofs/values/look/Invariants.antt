@@ -1,5 +1,5 @@
 use Rattle.std.proofs.Common.{◌≡◌, drop, false}
-use Rattle.expression_types.specs.Scope.{scope_of}
+use Rattle.names.specs.Scope.{scope_of}
 use Rattle.package_constants.specs.Constants.{look}
 use Rattle.package_constants.specs.Passing.{item_views}
 use Rattle.package_constants.proofs.values.look.Given as goal

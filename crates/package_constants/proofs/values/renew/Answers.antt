@@ -1,5 +1,5 @@
 use Rattle.std.proofs.Common.{sym, ◌∙◌}
-use Rattle.expression_types.specs.Scope.{scope_of}
+use Rattle.names.specs.Scope.{scope_of}
 use Rattle.package_constants.proofs.Constants.{with_fixed_same}
 use Rattle.package_constants.proofs.values.renew.Goals as goal
 

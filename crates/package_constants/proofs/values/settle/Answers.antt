@@ -1,5 +1,5 @@
 use Rattle.std.proofs.Common.{◌≡◌, ℕ, suc, ◌<◌, List, length, sym, ap, ◌∙◌, subst, arith}
-use Rattle.expression_types.specs.Scope.{Scope, scope_of}
+use Rattle.names.specs.Scope.{Scope, scope_of}
 use Rattle.package_constants.specs.declared.items.Item.{Item as ItemData}
 use Rattle.package_constants.specs.Constants.{Item, look, looks, settled}
 use Rattle.package_constants.specs.Passing.{item_of, item_views}

@@ -1,5 +1,5 @@
 use Rattle.std.proofs.Common.{◌≡◌, ℕ, ◌+◌, length}
-use Rattle.expression_types.specs.Scope.{scope_of}
+use Rattle.names.specs.Scope.{scope_of}
 use Rattle.package_constants.specs.Constants.{looks}
 use Rattle.package_constants.specs.Passing.{item_views}
 use Rattle.package_constants.proofs.values.settle.Given as goal

@@ -6,15 +6,16 @@ use Rattle.syntax.specs.declared.statement.ValueSpec.{ValueSpec}
 use Rattle.syntax.specs.Statements.{Stm, Stms, Els, stm_of, stms_of, els_of, guard_of, clause_of, simple_of, value_specs_of, declare, simple, choice, loop, block, give_back, else_block, else_if}
 use Rattle.syntax.specs.Expressions.{exs_of}
 use Rattle.syntax.proofs.Views.{stmt_rows}
-use Rattle.expression_types.specs.Least.{IsLeast, lesser}
-use Rattle.expression_types.specs.Scope.{Scope, scope_of, opened, closed}
-use Rattle.types_go.specs.Statements.{returns_view, header, clause_scope, behind_all}
-use Rattle.types_go.specs.StatementFaults.{FailsInSpecs, FailsInStatement, FailsInStatements, FailsInElse}
-use Rattle.types_go.proofs.Growth.{grows_header, grows_clause, grows_all, keeps_block, keeps_else}
-use Rattle.expression_types.proofs.Leasts.{if_ok}
-use Rattle.types_go.proofs.Sequences.{choice_least, loop_least}
-use Rattle.types_go.proofs.Sequences.{KeptStatements, split, nothing_left, one_more, given_all, at_end}
+use Rattle.value_types.specs.Least.{IsLeast, lesser}
+use Rattle.value_types.proofs.Leasts.{if_ok}
+use Rattle.names.specs.Scope.{Scope, scope_of, opened, closed}
 use Rattle.types_go.proofs.blocks.+statements.Goals as goal
+use Rattle.simple_statements.specs.SimpleStatements.{returns_view}
+use Rattle.simple_statements.specs.SimpleFaults.{FailsInSpecs}
+use Rattle.types_go.specs.Statements.{header, clause_scope, behind_all}
+use Rattle.types_go.specs.StatementFaults.{FailsInStatement, FailsInStatements, FailsInElse}
+use Rattle.types_go.proofs.Growth.{grows_header, grows_clause, grows_all, keeps_block, keeps_else}
+use Rattle.types_go.proofs.Sequences.{choice_least, loop_least, KeptStatements, split, nothing_left, one_more, given_all, at_end}
 
 -- as many blocks are open behind a header as in it, and behind a body as before it
 pub check_else-check_inner-requires-in-If : goal.check_else-check_inner-requires-in-If

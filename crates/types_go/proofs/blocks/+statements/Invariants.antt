@@ -1,10 +1,10 @@
 use Rattle.std.proofs.Common.{drop}
 use Rattle.std.specs.Option.{option_map}
 use Rattle.syntax.specs.Statements.{stms_of}
-use Rattle.expression_types.specs.Scope.{scope_of}
-use Rattle.types_go.specs.Statements.{returns_view}
-use Rattle.types_go.proofs.Sequences.{KeptStatements}
+use Rattle.names.specs.Scope.{scope_of}
 use Rattle.types_go.proofs.blocks.+statements.Given as goal
+use Rattle.simple_statements.specs.SimpleStatements.{returns_view}
+use Rattle.types_go.proofs.Sequences.{KeptStatements}
 
 abbrev pub invariant-check_stmts-loop-s : goal.invariant-check_stmts-loop-s
 invariant-check_stmts-loop-s l =

@@ -2,10 +2,10 @@ use Rattle.std.proofs.Common.{◌≡◌, [], ◌∷◌, ◌++◌, ◌+◌, List,
 use Rattle.typed.specs.declared.stmt.Left.{Left}
 use Rattle.typed.specs.declared.stmt.Left.TheVariants.{Blank}
 use Rattle.typed.specs.View.{left_of, site_numbers}
-use Rattle.types_go.specs.Statements.{new_in}
-use Rattle.expression_types.proofs.Items.{from_there, nothing_left}
-use Rattle.types_go.proofs.Sites.{new_more}
+use Rattle.value_types.proofs.Lists.{from_there, nothing_left}
 use Rattle.types_go.proofs.blocks.new_in.Goals as goal
+use Rattle.types_go.specs.Statements.{new_in}
+use Rattle.types_go.proofs.Sites.{new_more}
 
 pub loop-left-init : goal.loop-left-init
 loop-left-init c = rw (c.new-sites.ensures.items) refl

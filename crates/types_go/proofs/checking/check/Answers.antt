@@ -4,14 +4,14 @@ use Rattle.base.specs.declared.ids.FuncId.{FuncId}
 use Rattle.syntax.specs.Declarations.{syntax_of}
 use Rattle.typed.specs.View.{func_of, program_of}
 use Rattle.typed.specs.declared.program.Program.{Program as ProgramData}
-use Rattle.expression_types.specs.declared.fault.Fault.{Fault}
-use Rattle.expression_types.specs.Least.{IsLeast}
+use Rattle.value_types.specs.declared.fault.Fault.{Fault}
+use Rattle.value_types.specs.Least.{IsLeast}
+use Rattle.types_go.proofs.checking.check.Goals as goal
 use Rattle.types_go.specs.Functions.{main_number, program_functions}
 use Rattle.types_go.specs.FunctionFaults.{FailsIn}
 use Rattle.types_go.specs.Checked.{Types}
 use Rattle.types_go.proofs.Answering.{sound, typed, one_program, typed_or_fails, given_main, given_functions, functions_given}
 use Rattle.types_go.proofs.InFormProgram.{in_form}
-use Rattle.types_go.proofs.checking.check.Goals as goal
 
 pub unreachable-requires : goal.unreachable-requires
 unreachable-requires c =

@@ -1,11 +1,11 @@
 use Rattle.std.proofs.Common.{◌≡◌, [], ◌∷◌, ◌+◌, List, drop, subst, arith}
 use Rattle.syntax.specs.declared.declaration.Decl.{Decl}
 use Rattle.syntax.specs.Declarations.{declaration_of, declarations_of}
-use Rattle.expression_types.specs.Scope.{scope_of}
-use Rattle.types_go.specs.FunctionFaults.{DeclarationFails, DeclarationsFail}
-use Rattle.expression_types.proofs.Items.{from_one, nothing_left}
-use Rattle.expression_types.proofs.Leasts.{Kept, kept_start, kept_more, kept_end}
+use Rattle.value_types.proofs.Leasts.{Kept, kept_start, kept_more, kept_end}
+use Rattle.names.specs.Scope.{scope_of}
+use Rattle.value_types.proofs.Lists.{from_one, nothing_left}
 use Rattle.types_go.proofs.checking.declaration_faults.Goals as goal
+use Rattle.types_go.specs.FunctionFaults.{DeclarationFails, DeclarationsFail}
 
 pub loop-decl-init : goal.loop-decl-init
 loop-decl-init c = kept_start _

@@ -4,12 +4,13 @@ use Rattle.base.specs.declared.ids.FuncId.{FuncId}
 use Rattle.syntax.specs.declared.declaration.Decl.{Decl}
 use Rattle.syntax.specs.Declarations.{declarations_of, syntax_of}
 use Rattle.typed.specs.View.{func_of}
-use Rattle.expression_types.specs.Scope.{Scope, scope_of, beginning}
+use Rattle.names.specs.Scope.{Scope, scope_of, beginning}
 use Rattle.package_constants.specs.Constants.{items_in}
-use Rattle.types_go.specs.Functions.{with_items, functions_in, heads_of, package_scope, main_number}
+use Rattle.types_go.proofs.checking.pass.Goals as goal
+use Rattle.signatures.specs.Signatures.{with_items}
+use Rattle.types_go.specs.Functions.{functions_in, heads_of, package_scope, main_number}
 use Rattle.types_go.specs.Passing.{AreAt}
 use Rattle.types_go.proofs.Answering.{items_depth, settled_depth, heads_is, package_is, main_number_is, functions_are, behind_is, least_is}
-use Rattle.types_go.proofs.checking.pass.Goals as goal
 
 pub check_functions-requires : goal.check_functions-requires
 check_functions-requires c =

@@ -2,12 +2,13 @@ use Rattle.std.proofs.Common.{◌≡◌, Bool, true, false, cond, [], ◌∷◌,
 use Rattle.std.specs.Option.{option_map}
 use Rattle.syntax.specs.declared.declaration.Decl.{Decl}
 use Rattle.syntax.specs.Declarations.{function_of, declaration_of, declarations_of}
-use Rattle.expression_types.specs.Scope.{scope_of}
-use Rattle.types_go.specs.Functions.{is_external, functions_in, behind_functions}
-use Rattle.expression_types.proofs.Items.{from_one, nothing_left}
+use Rattle.names.specs.Scope.{scope_of}
+use Rattle.value_types.proofs.Lists.{from_one, nothing_left}
+use Rattle.types_go.proofs.functions.check_functions.Goals as goal
+use Rattle.signatures.specs.Signatures.{is_external}
+use Rattle.types_go.specs.Functions.{functions_in, behind_functions}
 use Rattle.types_go.proofs.Walk.{FunctionsKept, functions_start, functions_more, functions_all, fault_all, places_are}
 use Rattle.types_go.proofs.functions.check_functions.Goals.{in-Const, in-Var, in-Type, in-Func+in_ok-is_external-in-Func+then-not-branch+in_ok-checked-in-Func+in_ok-funcs-in-Func, in-Func+in_ok-is_external-in-Func+else-not-branch}
-use Rattle.types_go.proofs.functions.check_functions.Goals as goal
 
 pub check_function-requires : goal.check_function-requires
 check_function-requires c = c.loop-decl.invariant.0.inside

@@ -1,10 +1,10 @@
 use Rattle.std.proofs.Common.{◌≤◌, drop}
 use Rattle.std.specs.Option.{option_map}
 use Rattle.syntax.specs.Declarations.{declarations_of}
-use Rattle.expression_types.specs.Scope.{scope_of}
+use Rattle.names.specs.Scope.{scope_of}
+use Rattle.types_go.proofs.functions.check_functions.Given as goal
 use Rattle.types_go.specs.Functions.{functions_in}
 use Rattle.types_go.proofs.Walk.{FunctionsKept}
-use Rattle.types_go.proofs.functions.check_functions.Given as goal
 
 abbrev pub invariant-loop-decl : goal.invariant-loop-decl
 invariant-loop-decl l =

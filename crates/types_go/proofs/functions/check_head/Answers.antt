@@ -1,4 +1,4 @@
-use Rattle.expression_types.proofs.Leasts.{least_join}
+use Rattle.value_types.proofs.Leasts.{least_join}
 use Rattle.types_go.proofs.functions.check_head.Goals as goal
 
 pub returns-clause-fault : goal.returns-clause-fault

@@ -6,19 +6,22 @@ use Rattle.syntax.specs.Statements.{stms_of}
 use Rattle.syntax.specs.Declarations.{body_of as body_view, Function as TreeFunction, function_of}
 use Rattle.syntax.specs.declared.statement.Stmt.{Stmt}
 use Rattle.typed.specs.View.{site_in, sts_of}
-use Rattle.expression_types.specs.Least.{IsLeast, lesser}
-use Rattle.expression_types.specs.Scope.{Scope, scope_of, opened, closed}
-use Rattle.types_go.specs.declared.slots.Slot.{Slot}
-use Rattle.types_go.specs.declared.entries.Role.TheVariants.{Parameter, Result}
-use Rattle.types_go.specs.Entries.{entries, behind_entries}
-use Rattle.types_go.specs.EntryFaults.{EntriesFail}
-use Rattle.types_go.specs.Statements.{Returns, returns_view, statements, behind_all}
-use Rattle.types_go.specs.StatementFaults.{FailsInStatements}
-use Rattle.types_go.specs.Functions.{params_of, is_named, slot_of, slots_of, param_entries, result_entries, behind_params, body_scope, behind_body, returns_of, body_of}
-use Rattle.types_go.proofs.Growth.{grows_entries, grows_all}
-use Rattle.expression_types.proofs.Leasts.{least_join}
-use Rattle.types_go.proofs.Lines.{parts_of}
+use Rattle.value_types.specs.Least.{IsLeast, lesser}
+use Rattle.value_types.proofs.Leasts.{least_join}
+use Rattle.names.specs.Scope.{Scope, scope_of, opened, closed}
 use Rattle.types_go.proofs.functions.check_parts.Goals as goal
+use Rattle.signatures.specs.declared.slots.Slot.{Slot}
+use Rattle.signatures.specs.declared.entries.Role.TheVariants.{Parameter, Result}
+use Rattle.signatures.specs.Entries.{entries, behind_entries}
+use Rattle.signatures.specs.EntryFaults.{EntriesFail}
+use Rattle.signatures.specs.Signatures.{params_of, is_named, slot_of, slots_of}
+use Rattle.signatures.proofs.Growth.{grows_entries}
+use Rattle.simple_statements.specs.SimpleStatements.{Returns, returns_view}
+use Rattle.types_go.specs.Statements.{statements, behind_all}
+use Rattle.types_go.specs.StatementFaults.{FailsInStatements}
+use Rattle.types_go.specs.Functions.{param_entries, result_entries, behind_params, body_scope, behind_body, returns_of, body_of}
+use Rattle.types_go.proofs.Growth.{grows_all}
+use Rattle.types_go.proofs.Lines.{parts_of}
 
 -- results that were looked at
 returns_is : (text : List ℕ) (heads : Scope) (g : TreeFunction) (r : Returns) (slots : List Slot) → r ≡ record { wanted = map (λ (slot : Slot). slot.value_type) slots; may_be_bare = (length slots == 0) || is_named g.results } → slots ≡ slots_of text heads g.results → r ≡ returns_of text heads g

@@ -1,12 +1,12 @@
 use Rattle.std.proofs.Common.{◌≡◌}
 use Rattle.std.specs.Option.{option_map}
 use Rattle.syntax.specs.Declarations.{function_of}
-use Rattle.expression_types.specs.Scope.{scope_of, signature_of}
-use Rattle.expression_types.specs.Faults.{IsFault}
-use Rattle.types_go.specs.Functions.{params_of, signature_in}
-use Rattle.types_go.specs.FunctionFaults.{size_fault, TypesFail}
-use Rattle.expression_types.proofs.Leasts.{least_join, leaf}
+use Rattle.value_types.specs.Faults.{IsFault}
+use Rattle.value_types.proofs.Leasts.{least_join, leaf}
+use Rattle.names.specs.Scope.{scope_of, signature_of}
 use Rattle.types_go.proofs.functions.check_types.Goals as goal
+use Rattle.signatures.specs.Signatures.{params_of, signature_in}
+use Rattle.signatures.specs.SignatureFaults.{size_fault, TypesFail}
 
 pub returns-clause-fault : goal.returns-clause-fault
 returns-clause-fault c =

@@ -1,11 +1,11 @@
 use Rattle.std.proofs.Common.{◌≡◌, [], ◌∷◌, ◌++◌, ◌+◌, List, drop, map, get_or, sym, ap, ◌∙◌, refl, arith, append-nil}
 use Rattle.base.specs.declared.ids.TypeId.{TypeId}
-use Rattle.types_go.specs.declared.slots.Slot.{Slot}
-use Rattle.types_go.specs.Functions.{slot_number}
-use Rattle.expression_types.proofs.Items.{from_there, nothing_left}
-use Rattle.types_go.proofs.Items.{no_slot}
-use Rattle.types_go.proofs.Sites.{number_more}
+use Rattle.value_types.proofs.Lists.{from_there, nothing_left}
 use Rattle.types_go.proofs.functions.type_numbers.Goals as goal
+use Rattle.signatures.specs.declared.slots.Slot.{Slot}
+use Rattle.signatures.proofs.Items.{no_slot}
+use Rattle.types_go.specs.Functions.{slot_number}
+use Rattle.types_go.proofs.Sites.{number_more}
 
 pub loop-slot-init : goal.loop-slot-init
 loop-slot-init c = rw (c.new-types.ensures.items) refl

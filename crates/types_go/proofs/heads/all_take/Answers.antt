@@ -1,9 +1,9 @@
 use Rattle.std.proofs.Common.{◌≡◌, [], ◌∷◌, ◌+◌, List, Option, Some, None, drop, get_or, sym, ap, ◌∙◌, refl, arith}
 use Rattle.std.specs.Prelude.{◌&&◌}
-use Rattle.expression_types.specs.declared.scope.ValueType.{ValueType}
-use Rattle.types_go.specs.Statements.{all_accept}
-use Rattle.expression_types.proofs.Items.{from_there, nothing_left, and_true}
+use Rattle.value_types.specs.declared.value_type.ValueType.{ValueType}
+use Rattle.value_types.proofs.Lists.{from_there, nothing_left, and_true}
 use Rattle.types_go.proofs.heads.all_take.Goals as goal
+use Rattle.types_go.specs.Statements.{all_accept}
 
 pub loop-place-init : goal.loop-place-init
 loop-place-init c = refl

@@ -1,13 +1,13 @@
 use Rattle.std.proofs.Common.{◌⊎◌, IfOk, subst}
 use Rattle.syntax.specs.declared.statement.Clause.{Clause}
 use Rattle.syntax.specs.Statements.{simple_in, clause_of}
-use Rattle.expression_types.specs.Least.{IsLeast}
-use Rattle.expression_types.specs.Scope.{scope_of}
+use Rattle.value_types.specs.Least.{IsLeast}
+use Rattle.names.specs.Scope.{scope_of}
 use Rattle.expression_types.specs.Typing.{condition_in}
 use Rattle.expression_types.specs.Faults.{FailsInTest}
+use Rattle.types_go.proofs.heads.check_clause.Goals as goal
 use Rattle.types_go.specs.Statements.{header}
 use Rattle.types_go.specs.StatementFaults.{FailsInInit, FailsInPost}
-use Rattle.types_go.proofs.heads.check_clause.Goals as goal
 
 pub returns-in-While-clause-fault : goal.returns-in-While-clause-fault
 returns-in-While-clause-fault c = rw (c.in-While.is) c.check_while.ensures.fault

@@ -1,13 +1,13 @@
 use Rattle.std.proofs.Common.{◌≡◌, subst}
 use Rattle.syntax.specs.Statements.{simple_in, clause_of}
-use Rattle.expression_types.specs.Least.{IsLeast}
-use Rattle.expression_types.specs.Scope.{Scope, scope_of}
+use Rattle.value_types.specs.Least.{IsLeast}
+use Rattle.value_types.proofs.Leasts.{least_join}
+use Rattle.names.specs.Scope.{Scope, scope_of}
 use Rattle.expression_types.specs.Typing.{condition_in}
 use Rattle.expression_types.specs.Faults.{FailsInTest}
+use Rattle.types_go.proofs.heads.check_counting.Goals as goal
 use Rattle.types_go.specs.Statements.{header}
 use Rattle.types_go.specs.StatementFaults.{FailsInPost}
-use Rattle.expression_types.proofs.Leasts.{least_join}
-use Rattle.types_go.proofs.heads.check_counting.Goals as goal
 
 pub returns-clause-fault : goal.returns-clause-fault
 returns-clause-fault c =

@@ -1,12 +1,12 @@
 use Rattle.std.proofs.Common.{◌≡◌, List, map, ◌∙◌, subst}
-use Rattle.expression_types.specs.Least.{IsLeast}
-use Rattle.expression_types.specs.Scope.{scope_of}
-use Rattle.types_go.specs.declared.slots.Slot.{Slot}
-use Rattle.types_go.specs.declared.entries.Role.TheVariants.{Parameter}
-use Rattle.types_go.specs.Entries.{slot_with}
-use Rattle.types_go.specs.EntryFaults.{EntriesFail}
-use Rattle.expression_types.proofs.Leasts.{least_join, leaf}
+use Rattle.value_types.specs.Least.{IsLeast}
+use Rattle.value_types.proofs.Leasts.{least_join, leaf}
+use Rattle.names.specs.Scope.{scope_of}
 use Rattle.types_go.proofs.heads.check_defined.Goals as goal
+use Rattle.signatures.specs.declared.slots.Slot.{Slot}
+use Rattle.signatures.specs.declared.entries.Role.TheVariants.{Parameter}
+use Rattle.signatures.specs.Entries.{slot_with}
+use Rattle.signatures.specs.EntryFaults.{EntriesFail}
 
 pub returns-clause-fault : goal.returns-clause-fault
 returns-clause-fault c =

@@ -1,9 +1,9 @@
 use Rattle.std.proofs.Common.{subst}
 use Rattle.syntax.specs.Expressions.{ex_of}
-use Rattle.expression_types.specs.Least.{IsLeast}
-use Rattle.expression_types.specs.Scope.{Scope}
+use Rattle.value_types.specs.Least.{IsLeast}
+use Rattle.value_types.proofs.Leasts.{least_join}
+use Rattle.names.specs.Scope.{Scope}
 use Rattle.expression_types.specs.Faults.{FailsInCondition}
-use Rattle.expression_types.proofs.Leasts.{least_join}
 use Rattle.types_go.proofs.heads.check_guard.Goals as goal
 
 pub returns-clause-fault : goal.returns-clause-fault

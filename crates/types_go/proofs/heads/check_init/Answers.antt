@@ -1,9 +1,9 @@
 use Rattle.std.proofs.Common.{subst}
 use Rattle.syntax.specs.Statements.{simple_of}
-use Rattle.expression_types.specs.Least.{IsLeast}
-use Rattle.expression_types.specs.Scope.{Scope}
-use Rattle.types_go.specs.StatementFaults.{FailsInSimple}
+use Rattle.value_types.specs.Least.{IsLeast}
+use Rattle.names.specs.Scope.{Scope}
 use Rattle.types_go.proofs.heads.check_init.Goals as goal
+use Rattle.simple_statements.specs.SimpleFaults.{FailsInSimple}
 
 pub returns-in_ok-line-in-Some-clause-fault : goal.returns-in_ok-line-in-Some-clause-fault
 returns-in_ok-line-in-Some-clause-fault c =

@@ -1,11 +1,11 @@
 use Rattle.std.proofs.Common.{sym, subst}
 use Rattle.syntax.specs.declared.statement.Simple.{Simple}
 use Rattle.syntax.specs.Statements.{simple_of}
-use Rattle.expression_types.specs.Scope.{scope_of}
-use Rattle.expression_types.proofs.Leasts.{if_ok}
-use Rattle.types_go.proofs.InFormSimple.{DeclaresNone}
-use Rattle.types_go.proofs.Lines.{post_least}
+use Rattle.value_types.proofs.Leasts.{if_ok}
+use Rattle.names.specs.Scope.{scope_of}
 use Rattle.types_go.proofs.heads.check_post_simple.Goals as goal
+use Rattle.simple_statements.proofs.InFormSimple.{DeclaresNone}
+use Rattle.types_go.proofs.Lines.{post_least}
 
 pub returns-in-Express-clause-fault : goal.returns-in-Express-clause-fault
 returns-in-Express-clause-fault c =

@@ -3,13 +3,13 @@ use Rattle.std.specs.Option.{option_map}
 use Rattle.syntax.specs.Expressions.{ex_of as tree_of}
 use Rattle.syntax.specs.Statements.{targets_of}
 use Rattle.typed.specs.View.{ex_of}
-use Rattle.expression_types.specs.declared.scope.ValueType.{ValueType}
-use Rattle.expression_types.specs.Least.{IsLeast}
-use Rattle.expression_types.specs.Scope.{Scope, scope_of, opened}
+use Rattle.value_types.specs.declared.value_type.ValueType.{ValueType}
+use Rattle.value_types.specs.Least.{IsLeast}
+use Rattle.value_types.proofs.Leasts.{least_join, leaf}
+use Rattle.names.specs.Scope.{Scope, scope_of, opened}
+use Rattle.types_go.proofs.heads.check_range.Goals as goal
 use Rattle.types_go.specs.Statements.{number_type, over}
 use Rattle.types_go.specs.StatementFaults.{TargetsFail, target_count}
-use Rattle.expression_types.proofs.Leasts.{least_join, leaf}
-use Rattle.types_go.proofs.heads.check_range.Goals as goal
 
 pub returns-clause-fault : goal.returns-clause-fault
 returns-clause-fault c =

@@ -2,14 +2,14 @@ use Rattle.std.proofs.Common.{◌≡◌, [], ◌∷◌, ◌+◌, List, drop, sub
 use Rattle.syntax.specs.declared.expression.Expr.{Expr}
 use Rattle.syntax.specs.FirstBytes.{first_place}
 use Rattle.syntax.specs.Expressions.{ex_of, exs_of}
-use Rattle.expression_types.specs.Scope.{scope_of}
-use Rattle.expression_types.specs.Typing.{name_in}
-use Rattle.expression_types.specs.Faults.{IsFault}
-use Rattle.types_go.specs.Statements.{wanted}
-use Rattle.types_go.specs.StatementFaults.{given_fault, GivenFail}
-use Rattle.expression_types.proofs.Items.{from_one, nothing_left}
-use Rattle.expression_types.proofs.Leasts.{Kept, kept_start, kept_more, kept_end, leaf}
+use Rattle.value_types.specs.Faults.{IsFault}
+use Rattle.value_types.proofs.Leasts.{Kept, kept_start, kept_more, kept_end, leaf}
+use Rattle.names.specs.Scope.{scope_of}
+use Rattle.names.specs.Naming.{name_in}
+use Rattle.value_types.proofs.Lists.{from_one, nothing_left}
 use Rattle.types_go.proofs.heads.given_faults.Goals as goal
+use Rattle.simple_statements.specs.SimpleStatements.{wanted}
+use Rattle.types_go.specs.StatementFaults.{given_fault, GivenFail}
 
 pub loop-e-init : goal.loop-e-init
 loop-e-init c = kept_start _

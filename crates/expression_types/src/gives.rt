@@ -1,0 +1,182 @@
+//! What expressions give.
+
+ghost use Rattle.std.specs.Prelude.{◌≡◌, is_some};
+ghost use Rattle.std.specs.Option.{option_map};
+ghost use Rattle.operators.specs.Operands.{type_of};
+ghost use Rattle.operators.specs.Passing.{operand_of};
+ghost use Rattle.expression_types.specs.Typing.{as_part, operand_in, part_in, is_part};
+ghost use Rattle.expression_types.specs.Faults.{range_fault, single_fault, part_fault};
+ghost use Rattle.expression_types.specs.Passing.{part_view, gives_of};
+
+use base::{FuncId, Pos, TypeId};
+use names::type_id;
+use operators::{Operand, as_value, type_of};
+use typed::{Expr, Values};
+use value_types::{Fault, FaultKind, ValueType, constant_range_fault};
+
+/// An operand of `print`, `println` or `panic`.
+#[derive(Drop)]
+pub enum Part {
+    /// A string, by its bytes.
+    Said(Vec<u8>),
+    /// A value, with its type.
+    Valued(TypeId, Expr),
+}
+
+/// What an expression gives.
+#[derive(Drop)]
+pub enum Gives {
+    One(Operand),
+    /// The results of a call: its place, their types, the function and the arguments.
+    Called(Pos, Vec<ValueType>, FuncId, Box<Values>),
+    /// The two results of `readInt`, at a place: a number, and whether it is good.
+    Asking(Pos),
+    /// A string literal at a place, and its bytes.
+    Quoted(Pos, Vec<u8>),
+    /// Nothing: a `print` at a place, or a `println` where true is said, and its operands.
+    Printed(Pos, bool, Vec<Part>),
+    /// Nothing: a `panic` at a place, and its operand.
+    Panicked(Pos, Part),
+    /// Nothing: an `exit` at a place, and its status.
+    Exited(Pos, Expr),
+}
+
+/// One of some expressions: its first byte, and what it gives.
+#[derive(Drop)]
+pub struct Item {
+    pub pos: Pos,
+    pub gives: Option<Gives>,
+}
+
+/// What is called.
+#[derive(Drop)]
+pub enum Callee {
+    /// `print`, or `println` where true is said.
+    Printer(bool),
+    /// `panic`.
+    Panicker,
+    /// `readInt`.
+    Reader,
+    /// `exit`.
+    Exiter,
+    /// A function, the places for its arguments, and the types of its results.
+    Function(FuncId, Vec<Option<ValueType>>, Vec<ValueType>),
+    /// A type: a conversion.
+    Conversion,
+    /// A value that is no function.
+    NoFunction,
+    /// What takes no `...`, which stands behind the arguments.
+    NoSpread,
+    /// The same, where the arguments may be strings.
+    NoTextSpread,
+    /// What has no type.
+    Nothing,
+}
+
+/// An operand as one of `print`, `println` or `panic`.
+fn as_part(operand: Operand) -> Option<Part>
+    ensures { option_map part_view result ≡ as_part (operand_of operand) }
+{
+    let operand_type = type_id(type_of(&operand));
+    match as_value(operand) {
+        Some(value) => Some(Part::Valued(operand_type, value)),
+        None => None,
+    }
+}
+
+/// The one value of an expression.
+pub fn one_operand(gives: Option<Gives>) -> Option<Operand>
+    ensures { option_map operand_of result ≡ operand_in (option_map gives_of gives) }
+{
+    match gives {
+        Some(Gives::One(operand)) => Some(operand),
+        Some(Gives::Called(_, types, function, arguments)) => match types.as_slice() {
+            [value_type] => Some(Operand::Value(*value_type, Expr::Call(function, arguments))),
+            _ => None,
+        },
+        _ => None,
+    }
+}
+
+/// The type of the one value of an expression.
+pub fn one_type(gives: &Option<Gives>) -> Option<ValueType>
+    ensures { result ≡ option_map type_of (operand_in (option_map gives_of gives.now)) }
+{
+    match gives {
+        Some(Gives::One(operand)) => Some(type_of(operand)),
+        Some(Gives::Called(_, types, _, _)) => match types.as_slice() {
+            [value_type] => Some(*value_type),
+            _ => None,
+        },
+        _ => None,
+    }
+}
+
+/// Whether an expression has one value.
+pub fn is_single(gives: &Option<Gives>) -> bool
+    ensures { result ≡ is_some (operand_in (option_map gives_of gives.now)) }
+{
+    one_type(gives).is_some()
+}
+
+/// What an expression is as an operand of `print`, `println` or `panic`: a string, or its one value.
+pub fn part_in(gives: Option<Gives>) -> Option<Part>
+    ensures { option_map part_view result ≡ part_in (option_map gives_of gives) }
+{
+    match gives {
+        Some(Gives::Quoted(_, bytes)) => Some(Part::Said(bytes)),
+        gives => match one_operand(gives) {
+            Some(operand) => as_part(operand),
+            None => None,
+        },
+    }
+}
+
+/// Whether an expression may be such an operand.
+pub fn is_part(gives: &Option<Gives>) -> bool
+    ensures { result ≡ is_part (option_map gives_of gives.now) }
+{
+    match gives {
+        Some(Gives::Quoted(_, _)) => true,
+        gives => is_single(gives),
+    }
+}
+
+/// The fault of an expression where one value is wanted: a string, or a call that has another number of them.
+pub fn single_fault(gives: &Option<Gives>) -> Option<Fault>
+    ensures { result ≡ single_fault (option_map gives_of gives.now) }
+{
+    let (kind, pos) = match gives {
+        Some(Gives::Called(pos, types, _, _)) => match types.as_slice() {
+            [_] => return None,
+            _ => (FaultKind::ResultCount, *pos),
+        },
+        Some(Gives::Asking(pos)) => (FaultKind::ResultCount, *pos),
+        Some(Gives::Quoted(pos, _)) => (FaultKind::OutOfProfile, *pos),
+        Some(Gives::Printed(pos, _, _)) => (FaultKind::ResultCount, *pos),
+        Some(Gives::Panicked(pos, _)) => (FaultKind::ResultCount, *pos),
+        Some(Gives::Exited(pos, _)) => (FaultKind::ResultCount, *pos),
+        _ => return None,
+    };
+    Some(Fault { kind, pos })
+}
+
+/// The fault of an expression as an operand of `print`, `println` or `panic`.
+pub fn part_fault(gives: &Option<Gives>) -> Option<Fault>
+    ensures { result ≡ part_fault (option_map gives_of gives.now) }
+{
+    match gives {
+        Some(Gives::Quoted(_, _)) => None,
+        gives => single_fault(gives),
+    }
+}
+
+/// The fault of an expression as a value: a constant that no int can hold.
+pub fn range_fault(pos: Pos, gives: &Option<Gives>) -> Option<Fault>
+    ensures { result ≡ range_fault pos (operand_in (option_map gives_of gives.now)) }
+{
+    match gives {
+        Some(Gives::One(Operand::Constant(fixed))) => constant_range_fault(pos, fixed.value),
+        _ => None,
+    }
+}

@@ -1,0 +1,112 @@
+-- Where every variable has a type, every constant a value and every function a signature, a name stands for something typed, and an expression
+-- is a type, or a rule of types fails in it, and never both.
+use Rattle.std.proofs.Common.{◌≡◌, ℕ, zero, suc, Bool, true, false, cond, List, [], ◌∷◌, Option, Some, None, refl, subst}
+use Rattle.std.specs.Prelude.{⊤, option_and_then, slice_get, codes}
+use Rattle.std.specs.List.{AllByRecursion}
+use Rattle.std.specs.Str.{bytes_eq}
+use Rattle.base.specs.declared.pos.Pos.{Pos}
+use Rattle.syntax.specs.FirstBytes.{first_place}
+use Rattle.syntax.specs.Expressions.{Ex as TreeEx, name, paren, spelled}
+use Rattle.value_types.specs.declared.fault.FaultKind.TheVariants.{OutOfProfile}
+use Rattle.value_types.specs.declared.constant.Fixed.{Fixed}
+use Rattle.value_types.specs.declared.value_type.ValueType.{ValueType}
+use Rattle.value_types.specs.declared.value_type.ValueType.TheVariants.{Int, Bool as Boolean}
+use Rattle.value_types.specs.Constants.{is_held}
+use Rattle.value_types.specs.Faults.{fault, IsFault}
+use Rattle.value_types.proofs.Decided.{Decided}
+use Rattle.value_types.proofs.Options.{none_some, same_some}
+use Rattle.names.specs.Blocks.{lookup}
+use Rattle.names.specs.declared.scope.Declared.{Declared}
+use Rattle.names.specs.declared.scope.Declared.TheVariants as declared
+use Rattle.names.specs.Universe.{is_type_name, is_value_name, left_out, predeclared_function, predeclared}
+use Rattle.names.specs.Scope.{Scope, Signature, numbered, declaration}
+use Rattle.names.specs.Types.{declared_type, type_in}
+use Rattle.names.specs.Faults.{type_name_fault, FailsAsType}
+
+abbrev pub HasSignature : Option Signature → Type 0
+HasSignature None = ⊥
+HasSignature (Some sig) = ⊤
+
+-- a value that is known, and held by its type
+abbrev pub HasValue : Option Fixed → Type 0
+HasValue None = ⊥
+HasValue (Some f) = is_held f.value_type f.value ≡ true
+
+-- a variable with a type, a constant with a value, a function with a signature, or what needs none; types of a program are left out
+abbrev pub IsTyped : List (Option Signature) → List (Option Fixed) → Declared → Type 0
+IsTyped sigs constants (declared.Variable site t) = ⊤
+IsTyped sigs constants declared.Untyped = ⊥
+IsTyped sigs constants (declared.Constant k) = HasValue (option_and_then (λ o. o) (slice_get constants k.0))
+IsTyped sigs constants (declared.Function f) = HasSignature (option_and_then (λ o. o) (slice_get sigs f.0))
+IsTyped sigs constants (declared.External e at) = ⊤
+IsTyped sigs constants declared.TypeName = ⊥
+IsTyped sigs constants (declared.«Type» t) = ⊤
+IsTyped sigs constants (declared.Truth b) = ⊤
+IsTyped sigs constants (declared.Print line) = ⊤
+IsTyped sigs constants declared.Panic = ⊤
+IsTyped sigs constants declared.LeftOutType = ⊤
+IsTyped sigs constants declared.LeftOutValue = ⊤
+
+pub record IsSettled (s : Scope) : Type 0 where
+  pub all : AllByRecursion (IsTyped s.signatures s.constants) s.declared
+
+element : (P : Declared → Type 0) (ds : List Declared) (k : ℕ) (d : Declared) → AllByRecursion P ds → slice_get ds k ≡ Some d → P d
+element P [] k d all is = cc is
+element P (e ∷ es) zero d all is = let same1 : e ≡ d = cc is in subst P same1 all.0
+element P (e ∷ es) (suc k) d all is = element P es k d all.1 is
+
+-- ---- the universe
+
+-- one that is there by a test, or another one
+by_test : (P : Declared → Type 0) (b : Bool) (e : Declared) (o : Option Declared) → P e → ((d : Declared) → o ≡ Some d → P d) → (d : Declared) → cond b (Some e) o ≡ Some d → P d
+by_test P true e o here further1 d is = subst P (same_some is) here
+by_test P false e o here further1 d is = further1 d is
+
+module _ (P : Declared → Type 0) (type_is : (t : ValueType) → P (declared.«Type» t)) (truth_is : (b : Bool) → P (declared.Truth b)) (print_is : (line : Bool) → P (declared.Print line)) (panic_is : P declared.Panic) (left_type_is : P declared.LeftOutType) (left_value_is : P declared.LeftOutValue) where
+  left_out_is : (n : List ℕ) (d : Declared) → left_out n ≡ Some d → P d
+  left_out_is n = by_test P (is_type_name n) declared.LeftOutType _ left_type_is (by_test P (is_value_name n) declared.LeftOutValue None left_value_is (λ d is. absurd (none_some is)))
+
+  function_is : (n : List ℕ) (d : Declared) → predeclared_function n ≡ Some d → P d
+  function_is n =
+      by_test P (bytes_eq n (codes "println")) (declared.Print true) _ (print_is true)
+      (by_test P (bytes_eq n (codes "print")) (declared.Print false) _ (print_is false) (by_test P (bytes_eq n (codes "panic")) declared.Panic _ panic_is (left_out_is n)))
+
+  -- what the language declares is a type, a truth value, `print`, `println`, `panic`, or left out
+  pub predeclared_is : (n : List ℕ) (d : Declared) → predeclared n ≡ Some d → P d
+  unfolding predeclared
+  predeclared_is n =
+      by_test P (bytes_eq n (codes "int")) (declared.«Type» Int) _ (type_is Int)
+      (by_test P (bytes_eq n (codes "bool")) (declared.«Type» Boolean) _ (type_is Boolean)
+      (by_test P (bytes_eq n (codes "true")) (declared.Truth true) _ (truth_is true) (by_test P (bytes_eq n (codes "false")) (declared.Truth false) _ (truth_is false) (function_is n))))
+
+predeclared_typed : (sigs : List (Option Signature)) (constants : List (Option Fixed)) (n : List ℕ) (d : Declared) → predeclared n ≡ Some d → IsTyped sigs constants d
+predeclared_typed sigs constants n d is = predeclared_is (IsTyped sigs constants) (λ t. tt) (λ b. tt) (λ line. tt) tt tt tt n d is
+
+numbered_typed : (s : Scope) → IsSettled s → (n : List ℕ) (o : Option ℕ) (d : Declared) → numbered s n o ≡ Some d → IsTyped s.signatures s.constants d
+numbered_typed s settled n None d is = predeclared_typed s.signatures s.constants n d is
+numbered_typed s settled n (Some k) d is = element (IsTyped s.signatures s.constants) s.declared k d settled.all is
+
+pub declared_typed : (s : Scope) → IsSettled s → (n : List ℕ) (d : Declared) → declaration s n ≡ Some d → IsTyped s.signatures s.constants d
+declared_typed s settled n d is = numbered_typed s settled n (lookup s.blocks n) d is
+
+type_name_decided : (s : Scope) (d : Option Declared) (at : Pos) → ((x : Declared) → d ≡ Some x → IsTyped s.signatures s.constants x) → Decided (declared_type d) (IsFault (type_name_fault d at))
+type_name_decided s None at typed = (_, refl)
+type_name_decided s (Some (declared.Variable site t)) at typed = (_, refl)
+type_name_decided s (Some declared.Untyped) at typed = (_, refl)
+type_name_decided s (Some (declared.Constant k)) at typed = (_, refl)
+type_name_decided s (Some (declared.Function g)) at typed = (_, refl)
+type_name_decided s (Some (declared.External e place)) at typed = (_, refl)
+type_name_decided s (Some declared.TypeName) at typed = absurd (typed declared.TypeName refl)
+type_name_decided s (Some (declared.«Type» t)) at typed = λ f h. h
+type_name_decided s (Some (declared.Truth b)) at typed = (_, refl)
+type_name_decided s (Some (declared.Print line)) at typed = (_, refl)
+type_name_decided s (Some declared.Panic) at typed = (_, refl)
+type_name_decided s (Some declared.LeftOutType) at typed = (_, refl)
+type_name_decided s (Some declared.LeftOutValue) at typed = (_, refl)
+
+module _ (text : List ℕ) (s : Scope) (settled : IsSettled s) where
+  -- an expression is a type, or a rule of types fails in it
+  pub type_decided : (e : TreeEx) → Decided (type_in text s e) (FailsAsType text s e)
+  type_decided (name n) = type_name_decided s (declaration s (spelled text n)) n.pos (λ x is. declared_typed s settled (spelled text n) x is)
+  type_decided (paren at e) = type_decided e
+  type_decided e = (fault OutOfProfile (first_place e), refl)

@@ -1,0 +1,111 @@
+-- What the names of a program stand for, at a place of it (Go specification, "Declarations and scope").
+use Rattle.std.specs.Prelude.{ℕ, Bool, List, map, [], ◌∷◌, ◌++◌, length, slice_get, slice_set, Option, Some, None, option_and_then, is_some}
+use Rattle.std.specs.Option.{option_map}
+use Rattle.base.specs.declared.pos.Pos.{Pos}
+use Rattle.typed.specs.declared.program.Site.{Site}
+use Rattle.typed.specs.Syntax.{int_type, bool_type}
+use Rattle.value_types.specs.declared.value_type.ValueType.{ValueType}
+use Rattle.value_types.specs.declared.value_type.ValueType.TheVariants.{Int, Bool as Truth}
+use Rattle.value_types.specs.declared.constant.Fixed.{Fixed}
+use Rattle.names.specs.Blocks.{Blocks, lookup, innermost, insert}
+use Rattle.names.specs.declared.scope.Signature.{Signature as SignatureData}
+use Rattle.names.specs.declared.scope.Declared.{Declared}
+use Rattle.names.specs.declared.scope.Declared.TheVariants.{Variable, Untyped}
+use Rattle.names.specs.declared.scope.Scope.{Scope as ScopeData}
+use Rattle.names.specs.Universe.{predeclared}
+
+-- the number of a type in a typed program
+abbrev pub type_number : ValueType → ℕ
+type_number Int = int_type
+type_number Truth = bool_type
+
+abbrev pub type_numbers : List ValueType → List ℕ
+type_numbers ts = map type_number ts
+
+-- the types of a function's parameters and of its results
+pub record Signature : Type 0 where
+  pub params : List ValueType
+  pub results : List ValueType
+
+abbrev pub signature_of : SignatureData → Signature
+signature_of s = record { params = s.params.items; results = s.results.items }
+
+-- the blocks that are open, which number the declarations; the declarations; the sites of the variables with a type; the signatures of the
+-- functions, where they have one; the values of the constants, where they are known; and the bytes of the strings that stand in statements
+-- so far
+pub record Scope : Type 0 where
+  pub blocks : Blocks
+  pub declared : List Declared
+  pub sites : List Site
+  pub signatures : List (Option Signature)
+  pub constants : List (Option Fixed)
+  pub strings : List (List ℕ)
+
+abbrev pub scope_of : ScopeData → Scope
+scope_of s = record { blocks = s.names; declared = s.declared.items; sites = s.sites.items; signatures = map (option_map signature_of) s.signatures.items; constants = s.constants.items; strings = map (λ string. string.items) s.strings.items }
+
+-- what the number of a declaration stands for, or else what the language says of the name
+abbrev pub numbered : Scope → List ℕ → Option ℕ → Option Declared
+numbered s name (Some k) = slice_get s.declared k
+numbered s name None = predeclared name
+
+-- what a name stands for: the innermost block that declares it says so, and outside of them all the language
+abbrev pub declaration : Scope → List ℕ → Option Declared
+declaration s name = numbered s name (lookup s.blocks name)
+
+-- whether the innermost block declares a name
+abbrev pub is_here : Scope → List ℕ → Bool
+is_here s name = is_some (innermost s.blocks name)
+
+-- the signature of a function, by its number
+abbrev pub signature : Scope → ℕ → Option Signature
+signature s f = option_and_then (λ o. o) (slice_get s.signatures f)
+
+-- the value of a constant, by its number, where it is known
+abbrev pub fixed : Scope → ℕ → Option Fixed
+fixed s k = option_and_then (λ o. o) (slice_get s.constants k)
+
+-- one more declaration, of a name of the innermost block
+abbrev pub with_declaration : Scope → List ℕ → Declared → Scope
+with_declaration s name d = record { blocks = insert s.blocks name (length s.declared); declared = s.declared ++ d ∷ []; sites = s.sites; signatures = s.signatures; constants = s.constants; strings = s.strings }
+
+-- one more site, of a type, at a place
+abbrev pub with_site : Scope → ValueType → Pos → Scope
+with_site s t at = record { blocks = s.blocks; declared = s.declared; sites = s.sites ++ record { pos = at; type_id = record { 0 = type_number t } } ∷ []; signatures = s.signatures; constants = s.constants; strings = s.strings }
+
+-- one more variable: with a type it has a site of its own
+abbrev pub with_variable : Option ValueType → Scope → List ℕ → Pos → Scope
+with_variable (Some t) s name at = with_site (with_declaration s name (Variable (record { 0 = length s.sites }) t)) t at
+with_variable None s name at = with_declaration s name Untyped
+
+-- one more function, which has a signature or none
+abbrev pub with_signature : Scope → Option Signature → Scope
+with_signature s o = record { blocks = s.blocks; declared = s.declared; sites = s.sites; signatures = s.signatures ++ o ∷ []; constants = s.constants; strings = s.strings }
+
+-- one more constant, whose value is known or not
+abbrev pub with_constant : Scope → Option Fixed → Scope
+with_constant s o = record { blocks = s.blocks; declared = s.declared; sites = s.sites; signatures = s.signatures; constants = s.constants ++ o ∷ []; strings = s.strings }
+
+-- what is known of the constant of a number
+abbrev pub with_fixed : Scope → ℕ → Option Fixed → Scope
+with_fixed s k o = record { blocks = s.blocks; declared = s.declared; sites = s.sites; signatures = s.signatures; constants = slice_set s.constants k o; strings = s.strings }
+
+-- more strings
+abbrev pub with_strings : Scope → List (List ℕ) → Scope
+with_strings s strings = record { blocks = s.blocks; declared = s.declared; sites = s.sites; signatures = s.signatures; constants = s.constants; strings = s.strings ++ strings }
+
+-- where a block begins
+abbrev pub opened : Scope → Scope
+opened s = record { blocks = [] ∷ s.blocks; declared = s.declared; sites = s.sites; signatures = s.signatures; constants = s.constants; strings = s.strings }
+
+abbrev pub outer : Blocks → Blocks
+outer [] = []
+outer (b ∷ bs) = bs
+
+-- behind a block
+abbrev pub closed : Scope → Scope
+closed s = record { blocks = outer s.blocks; declared = s.declared; sites = s.sites; signatures = s.signatures; constants = s.constants; strings = s.strings }
+
+-- where no name is declared
+abbrev pub beginning : Scope
+beginning = record { blocks = [] ∷ []; declared = []; sites = []; signatures = []; constants = []; strings = [] }

@@ -1,0 +1,253 @@
+//! What names stand for.
+
+ghost use Rattle.std.specs.Prelude.{◌≡◌, ◌<◌, length, map, OnOk, IfOk, Option, None, Some, ◌+◌};
+ghost use Rattle.std.specs.Option.{option_map};
+ghost use Rattle.names.specs.Scope.{type_number, scope_of, signature_of, declaration, is_here, signature, fixed, beginning, with_declaration, with_variable, with_signature, with_constant, with_fixed, with_strings, opened, closed};
+
+use crate::block::Block;
+use crate::universe::predeclared;
+use base::{FuncId, NoMemory, Pos, SiteId, TypeId};
+use std::alloc::Global;
+use typed::{BOOL, INT, Site};
+use value_types::{Fixed, ValueType};
+
+/// The number of a type in a typed program.
+pub fn type_id(value_type: ValueType) -> TypeId
+    ensures { result.0 ≡ type_number value_type }
+{
+    match value_type {
+        ValueType::Int => INT,
+        ValueType::Bool => BOOL,
+    }
+}
+
+/// The types of a function's parameters and of its results.
+#[derive(Drop)]
+pub struct Signature {
+    pub params: Vec<ValueType>,
+    pub results: Vec<ValueType>,
+}
+
+/// The functions that a program declares without a body.
+#[derive(Clone, Copy, Debug, PartialEq, Eq)]
+pub enum External {
+    ReadInt,
+    Exit,
+}
+
+/// The number of a constant of the program, in the order of the text.
+#[derive(Clone, Copy, Debug, PartialEq, Eq)]
+pub struct ConstId(pub u32);
+
+/// What a name stands for.
+#[derive(Clone, Copy, Debug, PartialEq, Eq)]
+pub enum Declared {
+    /// A variable of a type.
+    Variable(SiteId, ValueType),
+    /// A variable whose value or type has no type.
+    Untyped,
+    /// A constant of the program.
+    Constant(ConstId),
+    /// A function of the program.
+    Function(FuncId),
+    /// A function that has no body, and the place of its name.
+    External(External, Pos),
+    /// A type of the program.
+    TypeName,
+    /// A predeclared type.
+    Type(ValueType),
+    /// `true` or `false`.
+    Truth(bool),
+    /// `print`, or `println` where true is said.
+    Print(bool),
+    /// `panic`.
+    Panic,
+    /// A predeclared type that is left out of the profile.
+    LeftOutType,
+    /// Any other predeclared name that is left out of it.
+    LeftOutValue,
+}
+
+/// The declarations that are in scope: the open blocks number them. And the sites of the variables that have a type, the
+/// signature of each function, where it has one, the value of each constant, where it is known, and the bytes of the
+/// strings that stand in statements so far.
+#[derive(Drop)]
+pub struct Scope {
+    pub names: Block,
+    pub declared: Vec<Declared>,
+    pub sites: Vec<Site>,
+    pub signatures: Vec<Option<Signature>>,
+    pub constants: Vec<Option<Fixed>>,
+    pub strings: Vec<Vec<u8>>,
+}
+
+/// Where no name is declared.
+pub fn beginning(alloc: Global) -> Scope
+    ensures { scope_of result ≡ beginning }
+{
+    Scope {
+        names: Block::new(alloc),
+        declared: Vec::new(alloc),
+        sites: Vec::new(alloc),
+        signatures: Vec::new(alloc),
+        constants: Vec::new(alloc),
+        strings: Vec::new(alloc),
+    }
+}
+
+/// What a name stands for: the innermost block that declares it says so, and outside of them all the language.
+pub fn declaration(scope: &Scope, name: &[u8]) -> Option<Declared>
+    ensures { result ≡ declaration (scope_of scope.now) name.now }
+{
+    match scope.names.lookup(name) {
+        Some(number) => scope.declared.get(number as usize).copied(),
+        None => predeclared(name),
+    }
+}
+
+/// Whether the innermost block declares a name.
+pub fn is_here(scope: &Scope, name: &[u8]) -> bool
+    ensures { result ≡ is_here (scope_of scope.now) name.now }
+{
+    scope.names.innermost(name).is_some()
+}
+
+/// Declares a name in the innermost block.
+pub fn declare(scope: &mut Scope, name: &[u8], declared: Declared) -> Result<(), NoMemory>
+    ensures { OnOk result (scope_of scope.new ≡ with_declaration (scope_of scope.old) name.now declared) }
+{
+    let Ok(number) = u32::try_from(scope.declared.len()) else {
+        return Err(NoMemory);
+    };
+    scope.names.insert(name, number)?;
+    scope.declared.push(declared)?;
+    Ok(())
+}
+
+/// Declares a function with the next number, by its signature if it has one.
+pub fn add_signature(scope: &mut Scope, signature: Option<Signature>) -> Result<(), NoMemory>
+    ensures { OnOk result (scope_of scope.new ≡ with_signature (scope_of scope.old) (option_map signature_of signature)) }
+{
+    scope.signatures.push(signature)?;
+    Ok(())
+}
+
+/// How many constants there are.
+pub fn constant_count(scope: &Scope) -> usize
+    ensures { result ≡ length (scope_of scope.now).constants }
+{
+    scope.constants.len()
+}
+
+/// The value of a constant, where it is known.
+pub fn fixed(scope: &Scope, constant: ConstId) -> Option<Fixed>
+    ensures { result ≡ fixed (scope_of scope.now) constant.0 }
+{
+    match scope.constants.get(constant.0 as usize) {
+        Some(value) => *value,
+        None => None,
+    }
+}
+
+/// Adds a constant with the next number, by its value if that is known.
+pub fn add_constant(scope: &mut Scope, value: Option<Fixed>) -> Result<(), NoMemory>
+    ensures { OnOk result (scope_of scope.new ≡ with_constant (scope_of scope.old) value) }
+{
+    scope.constants.push(value)?;
+    Ok(())
+}
+
+/// Says what is known of a constant.
+pub fn set_fixed(scope: &mut Scope, constant: ConstId, value: Option<Fixed>)
+    ensures { scope_of scope.new ≡ with_fixed (scope_of scope.old) constant.0 value }
+{
+    let index = constant.0 as usize;
+    if index < scope.constants.len() {
+        scope.constants[index] = value;
+    }
+}
+
+/// How many strings stand in the statements so far.
+pub fn string_count(scope: &Scope) -> usize
+    ensures { result ≡ length (scope_of scope.now).strings }
+{
+    scope.strings.len()
+}
+
+/// Puts these strings behind those of the statements so far.
+pub fn add_strings(scope: &mut Scope, strings: Vec<Vec<u8>>) -> Result<(), NoMemory>
+    ensures { OnOk result (scope_of scope.new ≡ with_strings (scope_of scope.old) (map (λ string. string.items) strings.items)) }
+{
+    let mut strings = strings;
+    scope.strings.append(&mut strings)?;
+    Ok(())
+}
+
+/// Opens a block.
+pub fn open(scope: &mut Scope) -> Result<(), NoMemory>
+    ensures { OnOk result (scope_of scope.new ≡ opened (scope_of scope.old)) }
+{
+    scope.names.open()
+}
+
+/// Closes the innermost block, outside of which another one is open.
+pub fn close(scope: &mut Scope)
+    requires { 1 < length scope.old.names }
+    ensures { scope_of scope.new ≡ closed (scope_of scope.old) }
+{
+    scope.names.close();
+}
+
+/// How many sites there are.
+pub fn site_count(scope: &Scope) -> usize
+    ensures { result ≡ length (scope_of scope.now).sites }
+{
+    scope.sites.len()
+}
+
+/// The number of the next site.
+pub fn next_site(scope: &Scope) -> Result<SiteId, NoMemory>
+    ensures { IfOk result (λ site. site.0 ≡ length (scope_of scope.now).sites) }
+{
+    match u32::try_from(scope.sites.len()) {
+        Ok(number) => Ok(SiteId(number)),
+        Err(_) => Err(NoMemory),
+    }
+}
+
+/// The number of the site behind the next so many.
+pub fn site_behind(scope: &Scope, before: usize) -> Result<SiteId, NoMemory>
+    ensures { IfOk result (λ site. site.0 ≡ length (scope_of scope.now).sites + before) }
+{
+    let Some(place) = scope.sites.len().checked_add(before) else {
+        return Err(NoMemory);
+    };
+    match u32::try_from(place) {
+        Ok(number) => Ok(SiteId(number)),
+        Err(_) => Err(NoMemory),
+    }
+}
+
+/// Declares a variable in the innermost block; with a type it has a site of its own.
+pub fn declare_variable(
+    scope: &mut Scope,
+    name: &[u8],
+    pos: Pos,
+    value_type: Option<ValueType>,
+) -> Result<(), NoMemory>
+    ensures { OnOk result (scope_of scope.new ≡ with_variable value_type (scope_of scope.old) name.now pos) }
+{
+    match value_type {
+        Some(value_type) => {
+            let site = next_site(scope)?;
+            declare(scope, name, Declared::Variable(site, value_type))?;
+            let site_type = type_id(value_type);
+            scope.sites.push(Site {
+                pos,
+                type_id: site_type,
+            })?;
+            Ok(())
+        }
+        None => declare(scope, name, Declared::Untyped),
+    }
+}

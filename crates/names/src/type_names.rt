@@ -1,0 +1,76 @@
+//! Types.
+
+ghost use Rattle.std.specs.Prelude.{◌≡◌, Option, Some, None};
+ghost use Rattle.syntax.specs.Expressions.{ex_of as tree_of, spelled};
+ghost use Rattle.value_types.specs.Least.{IsLeast};
+ghost use Rattle.value_types.specs.Faults.{IsFault};
+ghost use Rattle.names.specs.Scope.{scope_of, declaration};
+ghost use Rattle.names.specs.Types.{declared_type, type_in};
+ghost use Rattle.names.specs.Faults.{type_name_fault, FailsAsType};
+
+use crate::naming::spelled;
+use crate::scope::{Declared, Scope, declaration};
+use base::Pos;
+use syntax::{Expr, Name};
+use value_types::{Fault, FaultKind, ValueType};
+
+/// The type that a name stands for.
+fn declared_type(declared: Option<Declared>) -> Option<ValueType>
+    ensures { result ≡ declared_type declared }
+{
+    match declared {
+        Some(Declared::Type(value_type)) => Some(value_type),
+        _ => None,
+    }
+}
+
+/// The type that an expression is, where it is one of this part.
+pub fn type_in(text: &[u8], scope: &Scope, e: &Expr) -> Option<ValueType>
+    ensures { result ≡ type_in text.now (scope_of scope.now) (tree_of e.now) }
+{
+    match e {
+        Expr::Name(name) => declared_type(declaration(scope, spelled(text, *name))),
+        Expr::Paren(_, inner) => {
+            let inner: &Expr = inner;
+            type_in(text, scope, inner)
+        }
+        _ => None,
+    }
+}
+
+fn declared_fault(declared: Option<Declared>, pos: Pos) -> Option<Fault>
+    ensures { result ≡ type_name_fault declared pos }
+{
+    let kind = match declared {
+        None => FaultKind::Unknown,
+        Some(Declared::TypeName | Declared::Type(_)) => return None,
+        Some(Declared::LeftOutType) => FaultKind::OutOfProfile,
+        Some(_) => FaultKind::BadOperand,
+    };
+    Some(Fault { kind, pos })
+}
+
+/// The fault of a name as a type.
+#[tactic(auto, using(value_types::proofs::Leasts::leaf))]
+fn name_fault(text: &[u8], scope: &Scope, name: Name) -> Option<Fault>
+    ensures { IsLeast (IsFault (type_name_fault (declaration (scope_of scope.now) (spelled text.now name)) name.pos)) result }
+{
+    declared_fault(declaration(scope, spelled(text, name)), name.pos)
+}
+
+/// The fault of an expression as a type.
+pub fn type_fault(text: &[u8], scope: &Scope, e: &Expr) -> Option<Fault>
+    ensures { IsLeast (FailsAsType text.now (scope_of scope.now) (tree_of e.now)) result }
+{
+    match e {
+        Expr::Name(name) => name_fault(text, scope, *name),
+        Expr::Paren(_, inner) => {
+            let inner: &Expr = inner;
+            type_fault(text, scope, inner)
+        }
+        _ => Some(Fault {
+            kind: FaultKind::OutOfProfile,
+            pos: e.pos(),
+        }),
+    }
+}

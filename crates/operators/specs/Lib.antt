@@ -1,0 +1,5 @@
+pub mod Folding
+pub mod Operands
+pub mod Operators
+pub mod Faults
+pub mod Passing

@@ -1,0 +1,47 @@
+-- What an expression gives as one value, and constants as operands (Go specification, "Constant expressions").
+use Rattle.std.specs.Prelude.{Option, Some, None, Result, Ok, Err, if◌then◌else◌}
+use Rattle.typed.specs.Value.{int, bool}
+use Rattle.typed.specs.Syntax.{Ex}
+use Rattle.typed.specs.Syntax as typed
+use Rattle.value_types.specs.declared.constant.Constant.{Constant}
+use Rattle.value_types.specs.declared.constant.Constant.TheVariants.{Number, Truth}
+use Rattle.value_types.specs.declared.constant.Fixed.{Fixed}
+use Rattle.value_types.specs.declared.value_type.ValueType.{ValueType}
+use Rattle.value_types.specs.Given.{allowed}
+use Rattle.value_types.specs.Constants.{constant_type, is_int, is_held}
+use Rattle.operators.specs.declared.folding.Const.{Const}
+use Rattle.operators.specs.declared.folding.Const.TheVariants as const
+use Rattle.operators.specs.declared.folding.ConstFault.{ConstFault}
+
+-- what an expression gives as one value: a constant with its exact value, or a value of a type that is worked out when the program runs
+pub data Operand : Type 0 where
+  constant : Fixed → Operand
+  value : ValueType → Ex → Operand
+
+abbrev pub type_of : Operand → ValueType
+type_of (constant f) = constant_type f.value_type f.value
+type_of (value t x) = t
+
+-- a constant as a value of its type, where the type has one
+abbrev pub constant_value : Constant → Option Ex
+constant_value (Number z) = if is_int z then Some (typed.constant (int z)) else None
+constant_value (Truth b) = Some (typed.constant (bool b))
+
+abbrev pub as_value : Operand → Option Ex
+as_value (constant f) = constant_value f.value
+as_value (value t x) = Some x
+
+abbrev pub const_of : Constant → Const
+const_of (Number z) = const.Int z
+const_of (Truth b) = const.Bool b
+
+-- a constant of a type or of none
+abbrev pub of_type : Option ValueType → Constant → Option Operand
+of_type t c = allowed (is_held t c) (Some (constant (record { value_type = t; value = c })))
+
+-- a constant expression's value, where it has one
+abbrev pub constant_of : Option ValueType → Result Const ConstFault → Option Operand
+constant_of t (Ok (const.Int z)) = of_type t (Number z)
+constant_of t (Ok (const.Bool b)) = of_type t (Truth b)
+constant_of t (Ok const.NoConst) = None
+constant_of t (Err e) = None

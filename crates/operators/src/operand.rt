@@ -1,0 +1,117 @@
+//! Operands: what expressions give as one value, and constants among them.
+
+ghost use Rattle.std.specs.Prelude.{◌≡◌, option_and_then};
+ghost use Rattle.std.specs.Option.{option_map};
+ghost use Rattle.typed.specs.View.{ex_of};
+ghost use Rattle.operators.specs.Operands.{type_of, as_value, constant_value, const_of, of_type, constant_of};
+ghost use Rattle.operators.specs.Passing.{operand_of};
+ghost use Rattle.operators.specs.Faults.{constant_fault};
+
+use crate::folding::{Const, ConstFault};
+use base::Pos;
+use typed::{Const as TypedConst, Expr};
+use value_types::{
+    Constant, Fault, FaultKind, Fixed, ValueType, constant_type, held_fault, int_constant, is_held,
+};
+
+/// What an expression gives as one value: a constant, or a value of a type that is worked out when the program runs.
+#[derive(Drop)]
+pub enum Operand {
+    Constant(Fixed),
+    Value(ValueType, Expr),
+}
+
+/// The type of an operand.
+pub fn type_of(operand: &Operand) -> ValueType
+    ensures { result ≡ type_of (operand_of operand.now) }
+{
+    match operand {
+        Operand::Constant(fixed) => constant_type(*fixed),
+        Operand::Value(value_type, _) => *value_type,
+    }
+}
+
+/// A constant as a value of its type, where the type has one.
+pub fn constant_value(constant: Constant) -> Option<Expr>
+    ensures { option_map ex_of result ≡ constant_value constant }
+{
+    match constant {
+        Constant::Number(value) => match int_constant(value) {
+            Some(number) => Some(Expr::Constant(TypedConst::Int(number))),
+            None => None,
+        },
+        Constant::Truth(truth) => Some(Expr::Constant(TypedConst::Bool(truth))),
+    }
+}
+
+/// The value that an operand gives when the program runs.
+pub fn as_value(operand: Operand) -> Option<Expr>
+    ensures { option_map ex_of result ≡ as_value (operand_of operand) }
+{
+    match operand {
+        Operand::Constant(fixed) => constant_value(fixed.value),
+        Operand::Value(_, e) => Some(e),
+    }
+}
+
+/// The value of an operand that may have failed.
+pub fn value_of(operand: Option<Operand>) -> Option<Expr>
+    ensures { option_map ex_of result ≡ option_and_then as_value (option_map operand_of operand) }
+{
+    match operand {
+        Some(operand) => as_value(operand),
+        None => None,
+    }
+}
+
+/// A constant as one of the rules of constant expressions.
+pub fn const_of(constant: Constant) -> Const
+    ensures { result ≡ const_of constant }
+{
+    match constant {
+        Constant::Number(value) => Const::Int(value),
+        Constant::Truth(truth) => Const::Bool(truth),
+    }
+}
+
+/// A constant of a type or of none.
+pub fn of_type(value_type: Option<ValueType>, value: Constant) -> Option<Operand>
+    ensures { option_map operand_of result ≡ of_type value_type value }
+{
+    if is_held(value_type, value) {
+        Some(Operand::Constant(Fixed { value_type, value }))
+    } else {
+        None
+    }
+}
+
+/// What a constant expression of a type or of none gives that was worked out.
+pub fn constant(value_type: Option<ValueType>, value: Result<Const, ConstFault>) -> Option<Operand>
+    ensures { option_map operand_of result ≡ constant_of value_type value }
+{
+    match value {
+        Ok(Const::Int(number)) => of_type(value_type, Constant::Number(number)),
+        Ok(Const::Bool(truth)) => of_type(value_type, Constant::Truth(truth)),
+        _ => None,
+    }
+}
+
+/// The fault of a constant expression: at its first byte, or at the operand on the right where that is a zero divisor.
+pub fn constant_fault(
+    value_type: Option<ValueType>,
+    pos: Pos,
+    right_pos: Pos,
+    value: Result<Const, ConstFault>,
+) -> Option<Fault>
+    ensures { result ≡ constant_fault value_type pos right_pos value }
+{
+    let (kind, pos) = match value {
+        Ok(Const::Int(number)) => return held_fault(value_type, pos, Constant::Number(number)),
+        Ok(Const::Bool(truth)) => return held_fault(value_type, pos, Constant::Truth(truth)),
+        Ok(Const::NoConst) => return None,
+        Err(ConstFault::Overflow) => (FaultKind::ConstRange, pos),
+        Err(ConstFault::ZeroDivisor) => (FaultKind::ConstZeroDivisor, right_pos),
+        Err(ConstFault::NegativeShift | ConstFault::NotConstant) => (FaultKind::BadOperand, pos),
+    };
+    Some(Fault { kind, pos })
+}

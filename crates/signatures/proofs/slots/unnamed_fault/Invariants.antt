@@ -1,0 +1,10 @@
+use Rattle.std.proofs.Common.{drop}
+use Rattle.syntax.specs.Expressions.{exs_of}
+use Rattle.value_types.proofs.Leasts.{Kept}
+use Rattle.names.specs.Scope.{scope_of}
+use Rattle.signatures.proofs.slots.unnamed_fault.Given as goal
+use Rattle.signatures.specs.Signatures.{unnamed_params}
+use Rattle.signatures.specs.SignatureFaults.{TypesFail}
+
+abbrev pub invariant-loop-type_expr : goal.invariant-loop-type_expr
+invariant-loop-type_expr l = Kept (TypesFail l.text (scope_of l.heads) (unnamed_params (exs_of l.types))) (TypesFail l.text (scope_of l.heads) (unnamed_params (exs_of (drop l.type_expr-index l.types)))) l.fault

@@ -1,0 +1,5 @@
+pub mod Entries
+pub mod EntryFaults
+pub mod Failing
+pub mod SignatureFaults
+pub mod Signatures

@@ -1,0 +1,190 @@
+-- Parameters, results and signatures, and the names that a package declares (Go specification, "Function declarations", "Function types",
+-- "Blocks").
+use Rattle.std.specs.Prelude.{ℕ, length, ◌+◌, ◌==◌, Bool, true, false, not, ◌&&◌, ◌||◌, List, [], ◌∷◌, ◌++◌, codes, map, Option, Some, None, is_some, option_and_then, nat_le, if◌then◌else◌}
+use Rattle.std.specs.Option.{option_map}
+use Rattle.std.specs.Str.{bytes_eq}
+use Rattle.syntax.specs.declared.expression.Name.{Name}
+use Rattle.syntax.specs.Expressions.{Ex as TreeEx, Exs as TreeExs, some, spelled}
+use Rattle.syntax.specs.Expressions as expressions
+use Rattle.syntax.specs.Statements.{ValueSpec}
+use Rattle.syntax.specs.Declarations.{Field, Parameters, unnamed, named, TypeSpec, Function as TreeFunction, Declaration, constants, variables, types}
+use Rattle.syntax.specs.Declarations as tree
+use Rattle.base.specs.declared.pos.Pos.{Pos}
+use Rattle.value_types.specs.declared.value_type.ValueType.{ValueType}
+use Rattle.value_types.specs.declared.value_type.ValueType.TheVariants.{Int, Bool as Boolean}
+use Rattle.names.specs.declared.scope.External.{External as ExternalData}
+use Rattle.names.specs.declared.scope.External.TheVariants as external
+use Rattle.names.specs.declared.scope.Declared.{Declared}
+use Rattle.names.specs.declared.scope.Declared.TheVariants.{Untyped, Constant, Function, External, TypeName}
+use Rattle.names.specs.Universe.{is_blank}
+use Rattle.names.specs.Scope.{Scope, Signature, is_here, with_declaration, with_signature, with_constant}
+use Rattle.names.specs.Types.{type_in}
+use Rattle.signatures.specs.declared.slots.Slot.{Slot}
+
+-- ---- parameters and results one by one: names that share a type each have it
+
+pub record Param : Type 0 where
+  pub name : Option Name
+  pub type_expr : TreeEx
+
+abbrev pub unnamed_params : TreeExs → List Param
+unnamed_params expressions.none = []
+unnamed_params (some t ts) = record { name = None; type_expr = t } ∷ unnamed_params ts
+
+abbrev pub param_with : TreeEx → Name → Param
+param_with t n = record { name = Some n; type_expr = t }
+
+abbrev pub field_params : Field → List Param
+field_params f = map (param_with f.type_expr) f.names
+
+abbrev pub named_params : List Field → List Param
+named_params [] = []
+named_params (f ∷ fs) = field_params f ++ named_params fs
+
+abbrev pub params_of : Parameters → List Param
+params_of (unnamed ts) = unnamed_params ts
+params_of (named fs) = named_params fs
+
+abbrev pub is_named : Parameters → Bool
+is_named (unnamed ts) = false
+is_named (named fs) = true
+
+-- the types, where all are known
+abbrev pub types_of : List Slot → Option (List ValueType)
+types_of [] = Some []
+types_of (p ∷ ps) = option_and_then (λ t. option_map (λ ts. t ∷ ts) (types_of ps)) p.value_type
+
+abbrev pub words : Signature → ℕ
+words sig = length sig.params + length sig.results
+
+abbrev pub is_small : Option Signature → Bool
+is_small None = false
+is_small (Some sig) = nat_le (words sig) 65535
+
+-- a package has no name `init`
+abbrev pub is_init : List ℕ → Bool
+is_init name = bytes_eq name (codes "init")
+
+-- whether the package block declares this name: the first declaration of a name stays
+abbrev pub declares_name : Scope → List ℕ → Bool
+declares_name s n = not (is_blank n || is_init n) && not (is_here s n)
+
+-- whether a function's name may stand for it: the first of its spelling is this one
+abbrev pub is_number : ℕ → Option Declared → Bool
+is_number i None = true
+is_number i (Some (Function f)) = f.0 == i
+is_number i other = false
+
+abbrev pub may_be_named : ℕ → (is_blank : Bool) → Option Declared → Bool
+may_be_named i is_blank d = is_blank || is_number i d
+
+-- one parameter, an int, and no results
+abbrev pub takes_one_int : List ValueType → List ValueType → Bool
+takes_one_int (Int ∷ []) [] = true
+takes_one_int params results = false
+
+abbrev pub is_of_exit : Option Signature → Bool
+is_of_exit None = false
+is_of_exit (Some sig) = takes_one_int sig.params sig.results
+
+-- no parameters, and an int and a bool as results
+abbrev pub gives_int_and_bool : List ValueType → List ValueType → Bool
+gives_int_and_bool [] (Int ∷ Boolean ∷ []) = true
+gives_int_and_bool params results = false
+
+abbrev pub is_of_read_int : Option Signature → Bool
+is_of_read_int None = false
+is_of_read_int (Some sig) = gives_int_and_bool sig.params sig.results
+
+-- which of the two functions without a body has a name that one of them has
+abbrev pub external_named : List ℕ → ExternalData
+external_named name = if bytes_eq name (codes "exit") then external.Exit else external.ReadInt
+
+-- whether a name stands for the function without a body that is declared at a place
+abbrev pub is_external_at : Pos → Option Declared → Bool
+is_external_at place (Some (External e at)) = at.offset == place.offset
+is_external_at place other = false
+
+module _ (text : List ℕ) where
+  -- ---- the names that the package declares, which tell what the types of its heads stand for
+
+  abbrev pub with_name : Declared → Scope → Name → Scope
+  with_name d s n = if declares_name s (spelled text n) then with_declaration s (spelled text n) d else s
+
+  abbrev pub with_names : Declared → Scope → List Name → Scope
+  with_names d s [] = s
+  with_names d s (n ∷ ns) = with_names d (with_name d s n) ns
+
+  abbrev pub with_values : Scope → List ValueSpec → Scope
+  with_values s [] = s
+  with_values s (v ∷ vs) = with_values (with_names Untyped s v.names) vs
+
+  abbrev pub with_types : Scope → List TypeSpec → Scope
+  with_types s [] = s
+  with_types s (t ∷ ts) = with_types (with_name TypeName s t.name) ts
+
+  abbrev pub with_head : Scope → Declaration → Scope
+  with_head s (constants at specs) = with_values s specs
+  with_head s (variables at specs) = with_values s specs
+  with_head s (types at specs) = with_types s specs
+  with_head s (tree.function f) = with_name Untyped s f.name
+
+  abbrev pub with_heads : Scope → List Declaration → Scope
+  with_heads s [] = s
+  with_heads s (d ∷ ds) = with_heads (with_head s d) ds
+
+  -- ---- what the package block has apart from those names
+
+  -- a constant with the next number, whose value isn't known yet
+  abbrev pub with_constant_name : Scope → Name → Scope
+  with_constant_name s n = with_constant (with_name (Constant (record { 0 = length s.constants })) s n) None
+
+  abbrev pub with_constant_names : Scope → List Name → Scope
+  with_constant_names s [] = s
+  with_constant_names s (n ∷ ns) = with_constant_names (with_constant_name s n) ns
+
+  abbrev pub with_constants : Scope → List ValueSpec → Scope
+  with_constants s [] = s
+  with_constants s (v ∷ vs) = with_constants (with_constant_names s v.names) vs
+
+-- in a text, among the names of its package
+module _ (text : List ℕ) (heads : Scope) where
+  -- a parameter or result with its type, where that is known
+  abbrev pub slot_of : Param → Slot
+  slot_of p = record { name = p.name; value_type = type_in text heads p.type_expr }
+
+  abbrev pub slots_of : Parameters → List Slot
+  slots_of ps = map slot_of (params_of ps)
+
+  -- where all its types are known, a function has a signature
+  abbrev pub signature_in : TreeFunction → Option Signature
+  signature_in f = option_and_then (λ ps. option_map (λ rs. record { params = ps; results = rs }) (types_of (slots_of f.results))) (types_of (slots_of f.params))
+
+  -- ---- declarations at the level of the package
+
+  -- `exit` takes an int; `readInt` gives an int and a bool, which have no names
+  abbrev pub has_exit_head : TreeFunction → Bool
+  has_exit_head f = bytes_eq (spelled text f.name) (codes "exit") && is_of_exit (signature_in f)
+
+  abbrev pub has_read_int_head : TreeFunction → Bool
+  has_read_int_head f = bytes_eq (spelled text f.name) (codes "readInt") && (is_of_read_int (signature_in f) && not (is_named f.results))
+
+  -- whether a function is one of the two, which have no body
+  abbrev pub is_external : TreeFunction → Bool
+  is_external f = not (is_some f.body) && (has_exit_head f || has_read_int_head f)
+
+  -- ---- the package block: the first declaration of a name stays
+
+  abbrev pub with_function : Scope → TreeFunction → Scope
+  with_function s f =
+      if is_external f then with_name text (External (external_named (spelled text f.name)) f.name.pos) s f.name else with_signature (with_name text (Function (record { 0 = length s.signatures })) s f.name) (signature_in f)
+
+  abbrev pub with_item : Scope → Declaration → Scope
+  with_item s (constants at specs) = with_constants text s specs
+  with_item s (variables at specs) = with_values text s specs
+  with_item s (types at specs) = with_types text s specs
+  with_item s (tree.function f) = with_function s f
+
+  abbrev pub with_items : Scope → List Declaration → Scope
+  with_items s [] = s
+  with_items s (d ∷ ds) = with_items (with_item s d) ds

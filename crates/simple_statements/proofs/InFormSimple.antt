@@ -1,0 +1,368 @@
+-- Typed simple statements are in form: sites are born in the order of the text, what is named is in scope, and each value has the type of
+-- its place.
+use Rattle.std.proofs.Common.{◌≡◌, ℕ, suc, ◌+◌, ◌≤◌, Bool, true, false, cond, List, [], ◌∷◌, ◌++◌, ◌⊎◌, inl, inr, Option, Some, None, refl, sym, ap, ◌∙◌, subst, arith, length, length-append}
+use Rattle.std.specs.Prelude.{option_and_then, slice_get, not, ◌&&◌}
+use Rattle.std.specs.Option.{option_map}
+use Rattle.base.specs.declared.pos.Pos.{Pos}
+use Rattle.base.specs.declared.ids.SiteId.{SiteId}
+use Rattle.syntax.specs.declared.expression.Name.{Name}
+use Rattle.syntax.specs.declared.operator.ArithmeticOp.{ArithmeticOp}
+use Rattle.syntax.specs.declared.operator.ArithmeticOp.TheVariants as arithmetic
+use Rattle.syntax.specs.declared.operator.BinOp.TheVariants.{Arithmetic}
+use Rattle.syntax.specs.FirstBytes.{first_place}
+use Rattle.syntax.specs.Expressions.{Ex as TreeEx, Exs as TreeExs, some, spelled}
+use Rattle.syntax.specs.Expressions as expressions
+use Rattle.syntax.specs.Statements.{Simple}
+use Rattle.syntax.specs.Statements as tree
+use Rattle.typed.specs.declared.operators.BinOp.{BinOp as TypedOp}
+use Rattle.typed.specs.declared.operators.BinOp.TheVariants as op
+use Rattle.typed.specs.declared.program.Site.{Site}
+use Rattle.typed.specs.Syntax.{Exs, Left, Pl, St, Program, read, local, here, none, more, results, asked as asked_two, blank, new, to, update, give_back, int_type, bool_type}
+use Rattle.typed.specs.Form.{IsArithmetic, IsStep, PlFits, LeftsFit, new_sites, births, scope_behind, scope_after, ExFits, ExsFit, PieceFits, PiecesFit, ReturnFits, StFits}
+use Rattle.value_types.specs.declared.value_type.ValueType.{ValueType}
+use Rattle.value_types.specs.declared.value_type.ValueType.TheVariants.{Int, Bool as Truth}
+use Rattle.value_types.specs.Given.{both}
+use Rattle.value_types.proofs.Options.{and_then_some, map_some, none_some, same_some}
+use Rattle.operators.specs.Operands.{value}
+use Rattle.operators.specs.Operators.{arithmetic_of, combined}
+use Rattle.names.specs.declared.scope.Declared.{Declared}
+use Rattle.names.specs.declared.scope.Declared.TheVariants.{Variable}
+use Rattle.names.specs.Universe.{is_blank}
+use Rattle.names.specs.Scope.{Scope, type_number, type_numbers, declaration, is_here, with_variable, with_strings}
+use Rattle.names.specs.Naming.{name_in}
+use Rattle.expression_types.specs.Typing.{Part, said, valued, Gives, one, called, asking, quoted, printed, panicked, exited, operand_in, Seen, value_types, asked, taken, gives, seen}
+use Rattle.expression_types.proofs.InForm.{Agrees, AreAccepted, PartFits, PartsFit, GivesFit, AllFit, OperandFits, CallFits, value_fits, operand_fits, taken_fits, asked_types, gives_fit, seen_fit, maybe_fits}
+use Rattle.signatures.specs.declared.slots.Slot.{Slot}
+use Rattle.signatures.specs.Entries.{slot_with, slots_each}
+use Rattle.signatures.proofs.Growth.{Extends, extends_twice}
+use Rattle.signatures.proofs.Visible.{has_longer, Visible, visible_with, visible_strings}
+use Rattle.signatures.proofs.InFormEntries.{HasSites, site_is, Within}
+use Rattle.simple_statements.specs.SimpleStatements.{Returns, only, target, variable_type, variable_value, left_of, wanted_of, new_left_of, new_wanted_of, declares, strings_of, piece_from, pieces_from, strings_in_call, strings_in, expressed, updated, stepped, returned, assignment, left, wanted, lefts, all_wanted, new_left, new_wanted, new_lefts, all_new_wanted, new_slots, with_variables, may_define, own_value, definition_types, behind_simple, update_one, update_statement, step_statement, simple_statement}
+use Rattle.simple_statements.proofs.SettledSimple.{assignment_some, where_some, own_read, update_some}
+use Rattle.simple_statements.proofs.Growth.{grows_variables}
+
+-- what a `return` may give goes together with the results of a function, and the names for them
+pub record ReturnsFit (r : Returns) (results1 : List ℕ) (named : ℕ) : Type 0 where
+  pub types : List ValueType
+  pub wanted : r.wanted ≡ asked types
+  pub numbers : type_numbers types ≡ results1
+  pub bare : r.may_be_bare ≡ true → length results1 ≡ named
+  pub no_values : results1 ≡ [] → named ≡ 0
+
+-- a typed form that is in form between two scopes
+pub record Formed (s r : Scope) (born : ℕ) (Fits : ℕ → ℕ → Type 0) : Type 0 where
+  pub count : length s.sites + born ≡ length r.sites
+  pub fit : (n : ℕ) → length r.sites ≤ n → Fits (length s.sites) n
+
+-- no new variables
+abbrev pub DeclaresNone : Simple → Type 0
+DeclaresNone (tree.define ns at es) = ⊥
+DeclaresNone other = Unit {0}
+
+-- ---- places that accept values
+
+accepted_head : (w : Option ValueType) (ps : List (Option ValueType)) (t : ValueType) (ts : List ValueType) → AreAccepted (w ∷ ps) (t ∷ ts) → ((u : ValueType) → w ≡ Some u → u ≡ t) × AreAccepted ps ts
+accepted_head None ps t ts all = (λ u is. absurd (none_some is), all)
+accepted_head (Some s) ps t ts all = (λ u is. sym (same_some is) ∙ all.0, all.1)
+
+pub accepted_long : (ps : List (Option ValueType)) (ts : List ValueType) → AreAccepted ps ts → length ts ≡ length ps
+accepted_long [] [] all = refl
+accepted_long (None ∷ ps) (t ∷ ts) all = ap suc (accepted_long ps ts all)
+accepted_long (Some s ∷ ps) (t ∷ ts) all = ap suc (accepted_long ps ts all.1)
+accepted_long [] (t ∷ ts) all = absurd all
+accepted_long (None ∷ ps) [] all = absurd all
+accepted_long (Some s ∷ ps) [] all = absurd all
+
+arithmetic_is : (tree_op : ArithmeticOp) → IsArithmetic (arithmetic_of tree_op)
+arithmetic_is arithmetic.Add = tt
+arithmetic_is arithmetic.Sub = tt
+arithmetic_is arithmetic.Mul = tt
+arithmetic_is arithmetic.Div = tt
+arithmetic_is arithmetic.Rem = tt
+arithmetic_is arithmetic.And = tt
+arithmetic_is arithmetic.Or = tt
+arithmetic_is arithmetic.Xor = tt
+arithmetic_is arithmetic.AndNot = tt
+arithmetic_is arithmetic.ShiftLeft = tt
+arithmetic_is arithmetic.ShiftRight = tt
+
+module _ (p : Program) where
+  -- all results of a call as values
+  results_fit : (scope : List ℕ) (ts : List ValueType) (f : ℕ) (es : Exs) → CallFits p scope ts f es → ExsFit p scope (type_numbers ts) (results f es)
+  results_fit scope [] f es fits = fits
+  results_fit scope (t ∷ ts) f es fits = fits
+
+  -- ---- left sides
+
+  -- a left side that is no new variable: blank, or a variable of the type that the value has
+  abbrev IsOld : List ℕ → ValueType → Left → Type 0
+  IsOld scope t l = (l ≡ blank) ⊎ ((v : ℕ) × (l ≡ to (local v here)) × PlFits p scope (type_number t) (local v here))
+
+  abbrev Known : List ℕ → Option Declared → Type 0
+  Known scope d = (site : SiteId) (u : ValueType) → d ≡ Some (Variable site u) → PlFits p scope (type_number u) (local site.0 here)
+
+  target_old : (scope : List ℕ) (d : Option Declared) (t : ValueType) (l : Left) → Known scope d → ((u : ValueType) → variable_type d ≡ Some u → u ≡ t) → target d ≡ Some l → IsOld scope t l
+  target_old scope (Some (Variable site u)) t l has wants is =
+      inr (site.0, sym (same_some is), subst (λ (v : ValueType). PlFits p scope (type_number v) (local site.0 here)) (wants u refl) (has site u refl))
+  target_old scope other t l has wants is = absurd (none_some is)
+
+  left_old : (scope : List ℕ) (b : Bool) (d : Option Declared) (t : ValueType) (l : Left) → Known scope d → ((u : ValueType) → wanted_of b d ≡ Some u → u ≡ t) → left_of b d ≡ Some l → IsOld scope t l
+  left_old scope true d t l has wants is = inl (sym (same_some is))
+  left_old scope false d t l has wants is = target_old scope d t l has wants is
+
+  -- left sides without new variables
+  pub record OldFit (scope : List ℕ) (ts : List ValueType) (ls : List Left) : Type 0 where
+    pub fit : (m n : ℕ) → LeftsFit p scope m n (type_numbers ts) ls
+    pub sites : new_sites ls ≡ 0
+    pub behind : (wide : List ℕ) → scope_behind wide ls ≡ wide
+
+  old_more : (scope : List ℕ) (t : ValueType) (ts : List ValueType) (l : Left) (ls : List Left) → IsOld scope t l → OldFit scope ts ls → OldFit scope (t ∷ ts) (l ∷ ls)
+  old_more scope t ts l ls (inl is) k = subst (λ (x : Left). OldFit scope (t ∷ ts) (x ∷ ls)) (sym is) (record { fit = k.fit; sites = k.sites; behind = k.behind })
+  old_more scope t ts l ls (inr o) k = subst (λ (x : Left). OldFit scope (t ∷ ts) (x ∷ ls)) (sym o.1) (record { fit = λ m n. (o.2, k.fit m n); sites = k.sites; behind = k.behind })
+
+  module _ (text : List ℕ) where
+    -- the variables that names stand for have sites of their types
+    abbrev KnownAll : Scope → List ℕ → Type 0
+    KnownAll s scope = (n : List ℕ) → Known scope (declaration s n)
+
+    side_old : (s : Scope) (scope : List ℕ) (known : KnownAll s scope) (o : Option Name) (t : ValueType) (l : Left) → ((u : ValueType) → wanted text s o ≡ Some u → u ≡ t) → left text s o ≡ Some l → IsOld scope t l
+    side_old s scope known None t l wants is = absurd (none_some is)
+    side_old s scope known (Some n) t l wants is = left_old scope (is_blank (spelled text n)) (declaration s (spelled text n)) t l (known (spelled text n)) wants is
+
+    pub lefts_fit : (s : Scope) (scope : List ℕ) (known : KnownAll s scope) (es : TreeExs) (ts : List ValueType) (ls : List Left) → AreAccepted (all_wanted text s es) ts → lefts text s es ≡ Some ls → OldFit scope ts ls
+    lefts_fit s scope known expressions.none [] ls accepted is = subst (λ (l : List Left). OldFit scope [] l) (same_some is) (record { fit = λ m n. tt; sites = refl; behind = λ wide. refl })
+    lefts_fit s scope known expressions.none (t ∷ ts) ls accepted is = absurd accepted
+    lefts_fit s scope known (some e es) [] ls accepted is = absurd (omega (arith, accepted_long (wanted text s (name_in e) ∷ all_wanted text s es) [] accepted))
+    lefts_fit s scope known (some e es) (t ∷ ts) ls accepted is =
+        let a = accepted_head (wanted text s (name_in e)) (all_wanted text s es) t ts accepted in
+        let r = and_then_some (λ l. option_map (λ xs. l ∷ xs) (lefts text s es)) (left text s (name_in e)) ls is in
+        let q = map_some (λ xs. r.0 ∷ xs) (lefts text s es) ls r.2 in
+        subst (λ (l : List Left). OldFit scope (t ∷ ts) l) q.2 (old_more scope t ts r.0 q.0 (side_old s scope known (name_in e) t r.0 a.0 r.1) (lefts_fit s scope known es ts q.0 a.1 q.1))
+
+    -- left sides in a scope, some of which are new variables, behind others
+    record NewFit (scope0 : List ℕ) (s : Scope) (scope : List ℕ) (vs : List Slot) (ts : List ValueType) (ls : List Left) (n : ℕ) : Type 0 where
+      fit : LeftsFit p scope0 (length s.sites) n (type_numbers ts) ls
+      visible : Visible (with_variables text s vs) (scope_behind scope ls)
+      count : length s.sites + new_sites ls ≡ length (with_variables text s vs).sites
+
+    old_left : (scope0 : List ℕ) (s : Scope) (scope : List ℕ) (vs : List Slot) (t : ValueType) (ts : List ValueType) (l : Left) (ls : List Left) (n : ℕ) → IsOld scope0 t l → NewFit scope0 s scope vs ts ls n → NewFit scope0 s scope vs (t ∷ ts) (l ∷ ls) n
+    old_left scope0 s scope vs t ts l ls n (inl is) k = subst (λ (x : Left). NewFit scope0 s scope vs (t ∷ ts) (x ∷ ls) n) (sym is) (record { fit = k.fit; visible = k.visible; count = k.count })
+    old_left scope0 s scope vs t ts l ls n (inr o) k = subst (λ (x : Left). NewFit scope0 s scope vs (t ∷ ts) (x ∷ ls) n) (sym o.1) (record { fit = (o.2, k.fit); visible = k.visible; count = k.count })
+
+    module _ (all : List Site) (has : HasSites p all) where
+      new_left_one : (scope0 : List ℕ) (s : Scope) (scope : List ℕ) (x : Name) (t : ValueType) (vs : List Slot) (ts : List ValueType) (ls : List Left) (n : ℕ) → length (with_variables text (with_variable (Some t) s (spelled text x) x.pos) vs).sites ≤ n
+          → Extends (with_variables text (with_variable (Some t) s (spelled text x) x.pos) vs).sites all
+          → NewFit scope0 (with_variable (Some t) s (spelled text x) x.pos) (length s.sites ∷ scope) vs ts ls n → NewFit scope0 s scope (slot_with (Some t) x ∷ vs) (t ∷ ts) (new (length s.sites) ∷ ls) n
+      new_left_one scope0 s scope x t vs ts ls n le ext k =
+          let s1 = with_variable (Some t) s (spelled text x) x.pos in
+          let site : Site = record { pos = x.pos; type_id = record { 0 = type_number t } } in
+          let one1 : length s1.sites ≡ length s.sites + 1 = length-append s.sites (site ∷ []) in
+          let next1 : length s1.sites ≡ suc (length s.sites) = omega (arith, one1) in
+          let type_is = site_is p all has (length s.sites) t (has_longer s1.sites all (length s.sites) t (extends_twice s1.sites (with_variables text s1 vs).sites all (grows_variables text s1 vs).sites ext) (site, last_site s.sites site, refl)) in
+          record {
+            fit = (refl, omega (arith, le, k.count, one1), type_is, subst (λ j. LeftsFit p scope0 j n (type_numbers ts) ls) next1 k.fit);
+            visible = k.visible;
+            count = omega (arith, k.count, one1);
+          }
+        where
+          last_site : (sites : List Site) (y : Site) → slice_get (sites ++ y ∷ []) (length sites) ≡ Some y
+          last_site [] y = refl
+          last_site (z ∷ sites) y = last_site sites y
+
+      new_lefts_fit : (s0 : Scope) (scope0 : List ℕ) (known0 : KnownAll s0 scope0) (n : ℕ) (ns : List Name) (ts : List ValueType) (s : Scope) (scope : List ℕ) (ls : List Left) → Visible s scope → AreAccepted (all_new_wanted text s0 ns) ts
+          → new_lefts text s0 (length s.sites) ns ≡ Some ls → length (with_variables text s (new_slots text s0 (slots_each (Some ts) ns))).sites ≤ n → Extends (with_variables text s (new_slots text s0 (slots_each (Some ts) ns))).sites all
+          → NewFit scope0 s scope (new_slots text s0 (slots_each (Some ts) ns)) ts ls n
+      new_lefts_fit s0 scope0 known0 n [] [] s scope ls visible accepted is le ext =
+          subst (λ (l : List Left). NewFit scope0 s scope [] [] l n) (same_some is) (record { fit = tt; visible = visible; count = omega arith })
+      new_lefts_fit s0 scope0 known0 n [] (t ∷ ts) s scope ls visible accepted is le ext = absurd accepted
+      new_lefts_fit s0 scope0 known0 n (x ∷ ns) [] s scope ls visible accepted is le ext = absurd (omega (arith, accepted_long (new_wanted text s0 x ∷ all_new_wanted text s0 ns) [] accepted))
+      new_lefts_fit s0 scope0 known0 n (x ∷ ns) (t ∷ ts) s scope ls visible accepted is le ext =
+          let bytes = spelled text x in
+          let a = accepted_head (new_wanted text s0 x) (all_new_wanted text s0 ns) t ts accepted in
+          let r = and_then_some (λ l. option_map (λ xs. l ∷ xs) (new_lefts text s0 (cond (declares s0 bytes) (1 + length s.sites) (length s.sites)) ns)) (new_left text s0 (length s.sites) x) ls is in
+          let q = map_some (λ xs. r.0 ∷ xs) (new_lefts text s0 (cond (declares s0 bytes) (1 + length s.sites) (length s.sites)) ns) ls r.2 in
+          subst (λ (l : List Left). NewFit scope0 s scope (new_slots text s0 (slots_each (Some (t ∷ ts)) (x ∷ ns))) (t ∷ ts) l n) q.2
+          (by (is_blank bytes) (is_here s0 bytes) r.0 q.0 a.0 r.1 q.1 le ext (λ s2 scope2 ls2 v i l e. new_lefts_fit s0 scope0 known0 n ns ts s2 scope2 ls2 v a.1 i l e))
+        where
+          rest_slots : List Slot
+          rest_slots = new_slots text s0 (slots_each (Some ts) ns)
+
+          Later : Type 0
+          Later = (s2 : Scope) (scope2 : List ℕ) (ls2 : List Left) → Visible s2 scope2 → new_lefts text s0 (length s2.sites) ns ≡ Some ls2 → length (with_variables text s2 rest_slots).sites ≤ n → Extends (with_variables text s2 rest_slots).sites all
+              → NewFit scope0 s2 scope2 rest_slots ts ls2 n
+
+          by : (b h : Bool) (l : Left) (rest : List Left) → ((u : ValueType) → new_wanted_of b h (declaration s0 (spelled text x)) ≡ Some u → u ≡ t)
+              → new_left_of b h (declaration s0 (spelled text x)) (length s.sites) ≡ Some l
+              → new_lefts text s0 (cond (not b && not h) (1 + length s.sites) (length s.sites)) ns ≡ Some rest
+              → length (with_variables text s (cond (not b && not h) (slot_with (Some t) x ∷ rest_slots) rest_slots)).sites ≤ n
+              → Extends (with_variables text s (cond (not b && not h) (slot_with (Some t) x ∷ rest_slots) rest_slots)).sites all → Later
+              → NewFit scope0 s scope (cond (not b && not h) (slot_with (Some t) x ∷ rest_slots) rest_slots) (t ∷ ts) (l ∷ rest) n
+          by true h l rest wants l_is rest_is le1 ext1 later = old_left scope0 s scope rest_slots t ts l rest n (inl (sym (same_some l_is))) (later s scope rest visible rest_is le1 ext1)
+          by false true l rest wants l_is rest_is le1 ext1 later =
+              old_left scope0 s scope rest_slots t ts l rest n (target_old scope0 (declaration s0 (spelled text x)) t l (known0 (spelled text x)) wants l_is) (later s scope rest visible rest_is le1 ext1)
+          by false false l rest wants l_is rest_is le1 ext1 later =
+              let s1 = with_variable (Some t) s (spelled text x) x.pos in
+              let one1 : length s1.sites ≡ length s.sites + 1 = length-append s.sites (record { pos = x.pos; type_id = record { 0 = type_number t } } ∷ []) in
+              let site : 1 + length s.sites ≡ length s1.sites = omega (arith, one1) in
+              let found : new_lefts text s0 (length s1.sites) ns ≡ Some rest = ap (λ j. new_lefts text s0 j ns) (sym site) ∙ rest_is in
+              subst (λ (y : Left). NewFit scope0 s scope (slot_with (Some t) x ∷ rest_slots) (t ∷ ts) (y ∷ rest) n) (same_some l_is)
+              (new_left_one scope0 s scope x t rest_slots ts rest n le1 ext1 (later s1 (length s.sites ∷ scope) rest (visible_with s scope (spelled text x) t x.pos visible) found le1 ext1))
+
+-- ---- statements
+
+module _ (text : List ℕ) (p : Program) (all : List Site) (has : HasSites p all) where
+  -- what a scope shows has a site of its type in the program
+  pub known_all : (s : Scope) (scope : List ℕ) → Visible s scope → Extends s.sites all → (n : List ℕ) (site : SiteId) (u : ValueType) → declaration s n ≡ Some (Variable site u) → PlFits p scope (type_number u) (local site.0 here)
+  known_all s scope visible ext n site u is = let k = visible.shown n site u is in (k.0, site_is p all has site.0 u (has_longer s.sites all site.0 u ext k.1))
+
+  module _ (wanted1 : List ℕ) (named : ℕ) where
+    abbrev pub StFormed : (looped : Bool) → Scope → List ℕ → Scope → St → Type 0
+    StFormed looped s scope after t = Formed s after (births t) (λ m n. StFits p wanted1 named looped scope m n t)
+
+    -- what is in form wherever it stands, bears no site, and keeps the scope
+    abbrev pub Still : (looped : Bool) → List ℕ → St → Type 0
+    Still looped scope t = (births t ≡ 0) × ((m n : ℕ) → StFits p wanted1 named looped scope m n t) × (scope_after scope t ≡ scope)
+
+    pub still_formed : (looped : Bool) (s : Scope) (scope : List ℕ) (t : St) → Visible s scope → Still looped scope t → StFormed looped s scope s t × Visible s (scope_after scope t)
+    still_formed looped s scope t v f = (record { count = omega (arith, f.0); fit = λ n le. f.1 (length s.sites) n }, subst (λ w. Visible s w) (sym f.2) v)
+
+    return_still : (looped : Bool) (scope : List ℕ) (r : Returns) (goes : ReturnsFit r wanted1 named) (os : List Seen) (t : St) → AllFit p scope os → returned r os ≡ Some t → Still looped scope t
+    return_still looped scope r goes [] t fits is =
+        let w = where_some r.may_be_bare (Some (give_back none)) t is in subst (λ (x : St). Still looped scope x) (same_some w.1) (refl, λ m n. goes.bare w.0, refl)
+    return_still looped scope r goes (o ∷ os) t fits is =
+        let q = map_some give_back (taken r.wanted (o ∷ os)) t is in
+        let f = taken_fits p scope r.wanted (o ∷ os) q.0 fits q.1 in
+        let same1 = asked_types p scope goes.types f.types (subst (λ (l : List (Option ValueType)). AreAccepted l f.types) goes.wanted f.accepted) in
+        let whole : ExsFit p scope wanted1 q.0 = subst (λ (l : List ℕ). ExsFit p scope l q.0) (ap type_numbers (sym same1) ∙ goes.numbers) f.fit in
+        subst (λ (x : St). Still looped scope x) q.2 (refl, λ m n. by wanted1 goes.no_values q.0 whole, refl)
+      where
+        by : (l : List ℕ) → (l ≡ [] → named ≡ 0) → (es : Exs) → ExsFit p scope l es → ReturnFits p scope l named es
+        by [] no_values none fit = sym (no_values refl)
+        by (t1 ∷ ts) no_values none fit = absurd fit
+        by l no_values (more e es) fit = fit
+        by l no_values (results f es) fit = fit
+        by l no_values asked_two fit = fit
+
+    -- operands whose strings the program has
+    piece_fits : (scope : List ℕ) (n : ℕ) (q : Part) → PartFits p scope q → n + length (strings_of (q ∷ [])) ≤ length p.strings → PieceFits p scope (piece_from n q)
+    piece_fits scope n (said bytes) fits le = omega (arith, le)
+    piece_fits scope n (valued t e) fits le = fits
+
+    pieces_fit : (scope : List ℕ) (n : ℕ) (ps : List Part) → PartsFit p scope ps → n + length (strings_of ps) ≤ length p.strings → PiecesFit p scope (pieces_from n ps)
+    pieces_fit scope n [] fits le = tt
+    pieces_fit scope n (said bytes ∷ ps) fits le = (omega (arith, le), pieces_fit scope (1 + n) ps fits.1 (omega (arith, le)))
+    pieces_fit scope n (valued t e ∷ ps) fits le = (fits.0, pieces_fit scope n ps fits.1 le)
+
+    express_still : (looped : Bool) (scope : List ℕ) (k : ℕ) (g : Gives) (t : St) → GivesFit p scope g → k + length (strings_in_call g) ≤ length p.strings → expressed k g ≡ Some t → Still looped scope t
+    express_still looped scope k (one x) t fits le is = absurd (none_some is)
+    express_still looped scope k (called at ts f es) t fits le is = subst (λ (x : St). Still looped scope x) (same_some is) (refl, λ m n. (type_numbers ts, results_fit p scope ts f es fits), refl)
+    express_still looped scope k (asking at) t fits le is = subst (λ (x : St). Still looped scope x) (same_some is) (refl, λ m n. (int_type ∷ bool_type ∷ [], refl), refl)
+    express_still looped scope k (quoted at bytes) t fits le is = absurd (none_some is)
+    express_still looped scope k (printed at line ps) t fits le is = subst (λ (x : St). Still looped scope x) (same_some is) (refl, λ m n. pieces_fit scope k ps fits le, refl)
+    express_still looped scope k (panicked at q) t fits le is = subst (λ (x : St). Still looped scope x) (same_some is) (refl, λ m n. piece_fits scope k q fits le, refl)
+    express_still looped scope k (exited at e) t fits le is = subst (λ (x : St). Still looped scope x) (same_some is) (refl, λ m n. fits, refl)
+
+    module _ (looped : Bool) (s : Scope) (scope : List ℕ) (visible : Visible s scope) (agrees : Agrees s p) where
+      assign_still : (ls : TreeExs) (es : TreeExs) (t : St) → Extends s.sites all → assignment (lefts text s ls) (taken (all_wanted text s ls) (seen text s es)) ≡ Some t → Still looped scope t
+      assign_still ls es t ext is =
+          let a = assignment_some (lefts text s ls) (taken (all_wanted text s ls) (seen text s es)) t is in
+          let values = taken_fits p scope (all_wanted text s ls) (seen text s es) a.1 (seen_fit p scope text s visible.shown visible.held agrees es) a.3 in
+          let left1 = lefts_fit p text s scope (known_all s scope visible ext) ls values.types a.0 values.accepted a.2 in
+          subst (λ (x : St). Still looped scope x) a.4 (left1.sites, λ m n. (type_numbers values.types, left1.fit m n, values.fit), left1.behind scope)
+
+      define_formed : (ns : List Name) (at : Pos) (es : TreeExs) (t : St) → Extends (behind_simple text s (tree.define ns at es)).sites all → Extends s.sites all → simple_statement text s (tree.define ns at es) ≡ Some t
+          → StFormed looped s scope (behind_simple text s (tree.define ns at es)) t × Visible (behind_simple text s (tree.define ns at es)) (scope_after scope t)
+      define_formed ns at es t ext ext0 is =
+          let v = taken (all_new_wanted text s ns) (seen text s es) in
+          let w = where_some (may_define text s ns) (assignment (new_lefts text s (length s.sites) ns) v) t is in
+          let a = assignment_some (new_lefts text s (length s.sites) ns) v t w.1 in
+          let values = taken_fits p scope (all_new_wanted text s ns) (seen text s es) a.1 (seen_fit p scope text s visible.shown visible.held agrees es) a.3 in
+          let types_are : definition_types text s ns es ≡ Some values.types = ap (option_and_then (λ x. value_types (seen text s es))) a.3 ∙ values.found in
+          let vs = new_slots text s (slots_each (Some values.types) ns) in
+          let after = with_variables text s vs in
+          let ext1 : Extends after.sites all = subst (λ (o : Option (List ValueType)). Extends (with_variables text s (new_slots text s (slots_each o ns))).sites all) types_are ext in
+          let fits : (n : ℕ) → length after.sites ≤ n → NewFit p text scope s scope vs values.types a.0 n =
+          λ n le. new_lefts_fit p text all has s scope (known_all s scope visible ext0) n ns values.types s scope a.0 visible values.accepted a.2 le ext1 in
+          let whole = fits (length after.sites) (omega arith) in
+          subst (λ (o : Option (List ValueType)). StFormed looped s scope (with_variables text s (new_slots text s (slots_each o ns))) t × Visible (with_variables text s (new_slots text s (slots_each o ns))) (scope_after scope t)) (sym types_are)
+          (subst (λ (x : St). StFormed looped s scope after x × Visible after (scope_after scope x)) a.4
+          (record { count = whole.count; fit = λ n le. (type_numbers values.types, (fits n le).fit, values.fit) }, whole.visible))
+
+      -- the value of a variable is one of its type
+      own_fits : Extends s.sites all → (o : Option Name) (t : ValueType) (q : Pl) → own_value text s o ≡ Some (value t (read q)) → PlFits p scope (type_number t) q
+      own_fits ext None t q is = absurd (none_some is)
+      own_fits ext (Some n) t q is = by (is_blank (spelled text n)) is
+        where
+          of_variable : (d : Option Declared) → Known p scope d → variable_value d ≡ Some (value t (read q)) → PlFits p scope (type_number t) q
+          of_variable (Some (Variable site u)) known is1 =
+              let read_is : value u (read (local site.0 here)) ≡ value t (read q) = same_some is1 in
+              let type_is : u ≡ t = cc in
+              let place_is : local site.0 here ≡ q = cc in
+              subst (λ (v : ValueType). PlFits p scope (type_number v) q) type_is (subst (λ (l : Pl). PlFits p scope (type_number u) l) place_is (known site u refl))
+          of_variable other known is1 = absurd (none_some is1)
+
+          by : (b : Bool) → cond b None (variable_value (declaration s (spelled text n))) ≡ Some (value t (read q)) → PlFits p scope (type_number t) q
+          by true is1 = absurd (none_some is1)
+          by false is1 = of_variable (declaration s (spelled text n)) (known_all s scope visible ext (spelled text n)) is1
+
+      update_one_still : Extends s.sites all → (tree_op : ArithmeticOp) (e v : TreeEx) (t : St) → update_one text s tree_op e v ≡ Some t → Still looped scope t
+      update_one_still ext tree_op e v t is =
+          let a = own_value text s (name_in e) in
+          let b = operand_in (gives text s v) in
+          let q = and_then_some updated (both (combined (first_place e) (Arithmetic tree_op)) a b) t is in
+          let u = update_some (first_place e) tree_op a b q.0 (λ x x_is. own_read text s (name_in e) x x_is) q.1 in
+          let form = u.5 in
+          let place1 : PlFits p scope int_type u.1 = subst (λ (k : ValueType). PlFits p scope (type_number k) u.1) form.2 (own_fits ext (name_in e) u.0 u.1 u.3) in
+          let right : OperandFits p scope u.2 = operand_fits p scope (gives text s v) u.2 (maybe_fits p scope (gives text s v) (λ g g_is. gives_fit p scope text s visible.shown visible.held agrees v g g_is)) u.4 in
+          let right1 : ExFits p scope int_type form.0 = subst (λ (k : ValueType). ExFits p scope (type_number k) form.0) form.1 (value_fits p scope u.2 form.0 right form.3) in
+          let whole : update (first_place e) u.1 (arithmetic_of tree_op) form.0 ≡ t = same_some (ap updated (sym form.4) ∙ q.2) in
+          subst (λ (x : St). Still looped scope x) whole (refl, λ m n. (arithmetic_is tree_op, place1, right1), refl)
+
+      update_still : Extends s.sites all → (tree_op : ArithmeticOp) (e v : Option TreeEx) (t : St) → update_statement text s tree_op e v ≡ Some t → Still looped scope t
+      update_still ext tree_op None v t is = absurd (none_some is)
+      update_still ext tree_op (Some e) None t is = absurd (none_some is)
+      update_still ext tree_op (Some e) (Some v) t is = update_one_still ext tree_op e v t is
+
+      step_still : Extends s.sites all → (typed_op : TypedOp) → IsStep typed_op → (e : TreeEx) (t : St) → step_statement text s typed_op e ≡ Some t → Still looped scope t
+      step_still ext typed_op steps e t is =
+          let q = and_then_some (stepped typed_op) (own_value text s (name_in e)) t is in
+          let x = own_read text s (name_in e) q.0 q.1 in
+          by x.0 x.1 (q.1 ∙ ap Some x.2) (ap (stepped typed_op) (sym x.2) ∙ q.2)
+        where
+          by : (u : ValueType) (l : Pl) → own_value text s (name_in e) ≡ Some (value u (read l)) → stepped typed_op (value u (read l)) ≡ Some t → Still looped scope t
+          by Truth l found is1 = absurd (none_some is1)
+          by Int l found is1 = subst (λ (y : St). Still looped scope y) (same_some is1) (refl, λ m n. (steps, own_fits ext (name_in e) Int l found), refl)
+
+      call_still : (e : TreeEx) (t : St) → Within p all (with_strings s (strings_in (gives text s e))) → option_and_then (expressed (length s.strings)) (gives text s e) ≡ Some t → Still looped scope t
+      call_still e t within is =
+          let q = and_then_some (expressed (length s.strings)) (gives text s e) t is in
+          let count1 : length (strings_in (gives text s e)) ≡ length (strings_in_call q.0) = ap (λ (o : Option Gives). length (strings_in o)) q.1 in
+          let count2 = length-append s.strings (strings_in (gives text s e)) in
+          express_still looped scope (length s.strings) q.0 t (gives_fit p scope text s visible.shown visible.held agrees e q.0 q.1) (omega (arith, within.1, count1, count2)) q.2
+
+      pub simple_still : (m : Simple) (t : St) → DeclaresNone m → Within p all (behind_simple text s m) → simple_statement text s m ≡ Some t → Still looped scope t
+      simple_still (tree.express e) t none1 within is = call_still e t within is
+      simple_still (tree.assign ls at es) t none1 within is = assign_still ls es t within.0 is
+      simple_still (tree.update ls at tree_op es) t none1 within is = update_still within.0 tree_op (only ls) (only es) t is
+      simple_still (tree.define ns at es) t none1 within is = absurd none1
+      simple_still (tree.increment e at) t none1 within is = step_still within.0 op.Add (inl refl) e t is
+      simple_still (tree.decrement e at) t none1 within is = step_still within.0 op.Sub (inr refl) e t is
+
+      call_formed : (e : TreeEx) (t : St) → Still looped scope t → StFormed looped s scope (behind_simple text s (tree.express e)) t × Visible (behind_simple text s (tree.express e)) (scope_after scope t)
+      call_formed e t f =
+          let strings1 = strings_in (gives text s e) in (
+            record { count = omega (arith, f.0); fit = λ n le. f.1 (length s.sites) n },
+            subst (λ (w : List ℕ). Visible (with_strings s strings1) w) (sym f.2) (visible_strings s scope strings1 visible),
+          )
+
+      pub simple_formed : (m : Simple) (t : St) → Within p all (behind_simple text s m) → Extends s.sites all → simple_statement text s m ≡ Some t
+          → StFormed looped s scope (behind_simple text s m) t × Visible (behind_simple text s m) (scope_after scope t)
+      simple_formed (tree.express e) t within ext0 is = call_formed e t (call_still e t within is)
+      simple_formed (tree.assign ls at es) t within ext0 is = still_formed looped s scope t visible (simple_still (tree.assign ls at es) t tt within is)
+      simple_formed (tree.update ls at tree_op es) t within ext0 is = still_formed looped s scope t visible (simple_still (tree.update ls at tree_op es) t tt within is)
+      simple_formed (tree.define ns at es) t within ext0 is = define_formed ns at es t within.0 ext0 is
+      simple_formed (tree.increment e at) t within ext0 is = still_formed looped s scope t visible (simple_still (tree.increment e at) t tt within is)
+      simple_formed (tree.decrement e at) t within ext0 is = still_formed looped s scope t visible (simple_still (tree.decrement e at) t tt within is)
+
+      pub return_formed : (r : Returns) (goes : ReturnsFit r wanted1 named) (es : TreeExs) (t : St) → returned r (seen text s es) ≡ Some t → StFormed looped s scope s t × Visible s (scope_after scope t)
+      return_formed r goes es t is = still_formed looped s scope t visible (return_still looped scope r goes (seen text s es) t (seen_fit p scope text s visible.shown visible.held agrees es) is)

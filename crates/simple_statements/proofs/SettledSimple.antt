@@ -1,0 +1,323 @@
+-- Where every variable has a type and every function a signature, a simple statement has a typed form, or a rule fails in it, and never both.
+use Rattle.std.proofs.Common.{◌≡◌, ℕ, ◌+◌, Bool, true, false, cond, List, [], ◌∷◌, ◌⊎◌, inl, inr, length, Option, Some, None, refl, sym, ap, ◌∙◌, subst}
+use Rattle.std.specs.Prelude.{option_and_then, is_some, not, ◌&&◌}
+use Rattle.std.specs.Option.{option_map}
+use Rattle.std.proofs.lemmas.List.{length-map}
+use Rattle.base.specs.declared.pos.Pos.{Pos}
+use Rattle.value_types.specs.declared.fault.Fault.{Fault}
+use Rattle.syntax.specs.declared.expression.Name.{Name}
+use Rattle.syntax.specs.declared.operator.ArithmeticOp.{ArithmeticOp}
+use Rattle.syntax.specs.declared.operator.BinOp.TheVariants.{Arithmetic}
+use Rattle.syntax.specs.FirstBytes.{first_place}
+use Rattle.syntax.specs.Expressions.{Ex as TreeEx, Exs as TreeExs, some, spelled}
+use Rattle.syntax.specs.Expressions as expressions
+use Rattle.syntax.specs.Statements.{Simple}
+use Rattle.syntax.specs.Statements as tree
+use Rattle.typed.specs.declared.operators.BinOp.{BinOp as TypedOp}
+use Rattle.typed.specs.declared.operators.BinOp.TheVariants as op
+use Rattle.typed.specs.Syntax.{Ex, Exs, Left, Pl, St, binary, read, local, here, none, assign, update, give_back}
+use Rattle.value_types.specs.declared.fault.FaultKind.TheVariants.{Unknown, Redeclared, NothingNew, NotAssignable, NotUsedValue, ArgCount, ResultCount, BadOperand, OutOfProfile}
+use Rattle.value_types.specs.declared.value_type.ValueType.{ValueType}
+use Rattle.value_types.specs.declared.value_type.ValueType.TheVariants.{Int, Bool as Truth}
+use Rattle.value_types.specs.Given.{both}
+use Rattle.value_types.specs.Faults.{fault, IsFault}
+use Rattle.value_types.proofs.Decided.{Decided, Tested, further, mapped, after, both_tested}
+use Rattle.value_types.proofs.Options.{and_then_some, map_some, none_some, same_some}
+use Rattle.operators.specs.Operands.{Operand, value, type_of, as_value}
+use Rattle.operators.specs.Operators.{takes, right_allowed, both_values, arithmetic_of, combined}
+use Rattle.operators.specs.Faults.{pair_fault}
+use Rattle.operators.proofs.DecidedOperators.{pair_decided}
+use Rattle.names.specs.Blocks.{Blocks}
+use Rattle.names.specs.declared.scope.Declared.{Declared}
+use Rattle.names.specs.declared.scope.Declared.TheVariants as declared
+use Rattle.names.specs.Universe.{is_blank}
+use Rattle.names.specs.Scope.{Scope, declaration, is_here}
+use Rattle.names.specs.Naming.{name_in}
+use Rattle.names.proofs.Settled.{IsSettled, declared_typed}
+use Rattle.expression_types.specs.Typing.{Gives, one, called, asking, quoted, printed, panicked, exited, operand_in, Seen, many, count, taken, gives, seen}
+use Rattle.expression_types.specs.Faults.{refused_fault, ValuesFail, CountFails, TakeFails, Fails, FailsInEach, FailsAsOperand}
+use Rattle.expression_types.proofs.DecidedValues.{given_all, operand_decided, take_decided, refused}
+use Rattle.expression_types.proofs.Settled.{gives_decided, seen_decided}
+use Rattle.signatures.specs.Entries.{slots_each}
+use Rattle.signatures.specs.Failing.{fault_where}
+use Rattle.signatures.proofs.SettledEntries.{where_tested, some_tested}
+use Rattle.simple_statements.specs.SimpleStatements.{Returns, only, variable_value, left_of, new_left_of, declares, noted, is_noted, expressed, assignment, updated, stepped, returned, left, lefts, all_wanted, new_left, new_lefts, all_new_wanted, new_slots, with_variables, are_distinct, has_all, may_define, own_value, behind_simple, update_one, update_statement, step_statement, simple_statement}
+use Rattle.simple_statements.specs.SimpleFaults.{left_fault, new_name_fault, own_fault, value_left_fault, names_place, lefts_place, use_fault, step_fault, ReturnFails, LeftSideFails, LeftsFail, OwnSideFails, OwnSidesFail, NewNamesFail, TwiceFails, FailsInAssignment, FailsInDefinition, have_values, given_count, UpdateFails, FailsInStep, FailsInSimple}
+use Rattle.simple_statements.proofs.SettledValues.{settled_new, allowed_is, taken_types_are}
+
+-- ---- left sides
+
+left_decided : (is_blank : Bool) (d : Option Declared) (at whole : Pos) → (d ≡ Some declared.Untyped → ⊥) → Decided (left_of is_blank d) (IsFault (left_fault is_blank d at whole))
+left_decided true d at whole typed = λ f h. h
+left_decided false None at whole typed = (fault Unknown at, refl)
+left_decided false (Some (declared.Variable site t)) at whole typed = λ f h. h
+left_decided false (Some declared.Untyped) at whole typed = absurd (typed refl)
+left_decided false (Some declared.TypeName) at whole typed = (fault BadOperand at, refl)
+left_decided false (Some (declared.«Type» t)) at whole typed = (fault BadOperand at, refl)
+left_decided false (Some declared.LeftOutType) at whole typed = (fault OutOfProfile at, refl)
+left_decided false (Some declared.LeftOutValue) at whole typed = (fault OutOfProfile at, refl)
+left_decided false (Some other) at whole typed = (fault NotAssignable whole, refl)
+
+own_decided : (is_blank : Bool) (d : Option Declared) (at whole : Pos) → (d ≡ Some declared.Untyped → ⊥) → Decided (cond is_blank None (variable_value d)) (IsFault (own_fault is_blank d at whole))
+own_decided true d at whole typed = (fault Unknown at, refl)
+own_decided false None at whole typed = (fault Unknown at, refl)
+own_decided false (Some (declared.Variable site t)) at whole typed = λ f h. h
+own_decided false (Some declared.Untyped) at whole typed = absurd (typed refl)
+own_decided false (Some declared.TypeName) at whole typed = (fault BadOperand at, refl)
+own_decided false (Some (declared.«Type» t)) at whole typed = (fault BadOperand at, refl)
+own_decided false (Some declared.LeftOutType) at whole typed = (fault OutOfProfile at, refl)
+own_decided false (Some declared.LeftOutValue) at whole typed = (fault OutOfProfile at, refl)
+own_decided false (Some other) at whole typed = (fault NotAssignable whole, refl)
+
+new_left_decided : (is_blank is_here : Bool) (d : Option Declared) (site : ℕ) (at : Pos) → (d ≡ Some declared.Untyped → ⊥) → Decided (new_left_of is_blank is_here d site) (IsFault (new_name_fault is_blank is_here d at))
+new_left_decided true is_here d site at typed = λ f h. h
+new_left_decided false true d site at typed = left_decided false d at at typed
+new_left_decided false false d site at typed = λ f h. h
+
+-- ---- what statements are made of
+
+pub assignment_some : (ls : Option (List Left)) (v : Option Exs) (t : St) → assignment ls v ≡ Some t → (l : List Left) × (x : Exs) × (ls ≡ Some l) × (v ≡ Some x) × (assign l x ≡ t)
+assignment_some ls v t is =
+    let r = and_then_some (λ l. option_map (assign l) v) ls t is in
+    let q = map_some (assign r.0) v t r.2 in
+    (r.0, q.0, r.1, q.1, q.2)
+
+pub where_some : {A : Type 0} (b : Bool) (o : Option A) (x : A) → cond b o None ≡ Some x → (b ≡ true) × (o ≡ Some x)
+where_some true o x is = (refl, is)
+where_some false o x is = cc is
+
+assign_decided : (ls : Option (List Left)) (v : Option Exs) (c : Option ℕ) (n : ℕ) (own : Fault) (L E VR : Fault → Type 0) → Decided ls L → Decided v (λ f. E f ⊎ (VR f ⊎ CountFails c n own f))
+    → Decided (assignment ls v) (λ f. (L f ⊎ E f) ⊎ (VR f ⊎ CountFails (option_and_then (λ l. c) ls) n own f))
+assign_decided None v c n own L E VR d e = (d.0, inl (inl d.1))
+assign_decided (Some l) None c n own L E VR d e = (e.0, elim e.1 [ inl h ↦ inl (inr h) | inr h ↦ inr h ])
+assign_decided (Some l) (Some v) c n own L E VR d e = λ f h. elim h [
+  | inl k ↦ elim k [ inl u ↦ d f u | inr u ↦ e f (inl u) ]
+  | inr k ↦ e f (inr k)
+]
+
+define_decided : (may : Bool) (ls : Option (List Left)) (v : Option Exs) (V N T : Fault → Type 0) → Tested may T → (is_some v ≡ true → Decided ls N) → Decided v V
+    → Decided (cond may (assignment ls v) None) (λ f. (V f ⊎ N f) ⊎ T f)
+define_decided false ls v V N T t n d = (t.0, inr t.1)
+define_decided true ls None V N T t n d = by ls
+  where
+    by : (l : Option (List Left)) → Decided (assignment l None) (λ f. (V f ⊎ N f) ⊎ T f)
+    by None = (d.0, inl (inl d.1))
+    by (Some l) = (d.0, inl (inl d.1))
+define_decided true ls (Some v) V N T t n d = by ls (n refl)
+  where
+    by : (l : Option (List Left)) → Decided l N → Decided (assignment l (Some v)) (λ f. (V f ⊎ N f) ⊎ T f)
+    by None e = (e.0, inl (inr e.1))
+    by (Some l) e = λ f h. elim h [ inl k ↦ elim k [ inl u ↦ d f u | inr u ↦ e f u ] | inr k ↦ t f k ]
+
+use_decided : (n : ℕ) (o : Option Gives) (at : Pos) (P : Fault → Type 0) → Decided o P → Decided (option_and_then (expressed n) o) (λ f. P f ⊎ IsFault (use_fault o at) f)
+use_decided n None at P d = (d.0, inl d.1)
+use_decided n (Some (one x)) at P d = (fault NotUsedValue at, inr refl)
+use_decided n (Some (called place ts g es)) at P d = λ f h. elim h [ inl k ↦ d f k | inr k ↦ k ]
+use_decided n (Some (asking place)) at P d = λ f h. elim h [ inl k ↦ d f k | inr k ↦ k ]
+use_decided n (Some (quoted place bytes)) at P d = (fault OutOfProfile place, inr refl)
+use_decided n (Some (printed place line ps)) at P d = λ f h. elim h [ inl k ↦ d f k | inr k ↦ k ]
+use_decided n (Some (panicked place p)) at P d = λ f h. elim h [ inl k ↦ d f k | inr k ↦ k ]
+use_decided n (Some (exited place e)) at P d = λ f h. elim h [ inl k ↦ d f k | inr k ↦ k ]
+
+pub return_decided : (at : Pos) (r : Returns) (os : List Seen) (P : Fault → Type 0) → Decided (given_all os) P → Decided (returned r os) (λ f. P f ⊎ ReturnFails at r os f)
+return_decided at r [] P d = further P (ReturnFails at r []) (cond r.may_be_bare (Some (give_back none)) None) d (by r.may_be_bare)
+  where
+    by : (b : Bool) → Decided (cond b (Some (give_back none)) None) (IsFault (fault_where (not b) (fault ResultCount at)))
+    by true = λ f h. h
+    by false = (fault ResultCount at, refl)
+return_decided at r (o ∷ os) P d = mapped give_back (taken r.wanted (o ∷ os)) _ (take_decided (o ∷ os) P d (fault ResultCount at) r.wanted)
+
+-- ---- variables that are given values of their own
+
+-- the read of a variable
+abbrev pub IsRead : Operand → Type 0
+IsRead x = (t : ValueType) × (q : Pl) × (x ≡ value t (read q))
+
+variable_read : (d : Option Declared) (x : Operand) → variable_value d ≡ Some x → IsRead x
+variable_read (Some (declared.Variable site t)) x is = (t, local site.0 here, sym (same_some is))
+variable_read other x is = absurd (none_some is)
+
+-- what an operator gives of a variable and an operand has the form of an operator on two
+abbrev pub UpdatedAs : Pos → TypedOp → ValueType → Pl → Operand → Operand → Type 0
+UpdatedAs at typed_op t q y z = (e : Ex) × (type_of y ≡ Int) × (t ≡ Int) × (as_value y ≡ Some e) × (z ≡ value Int (binary at typed_op (read q) e))
+
+takes_ints : (tree_op : ArithmeticOp) (s t : ValueType) → takes (Arithmetic tree_op) s t ≡ true → (s ≡ Int) × (t ≡ Int)
+takes_ints tree_op Int Int is = (refl, refl)
+takes_ints tree_op Int Truth is = cc is
+takes_ints tree_op Truth Int is = cc is
+takes_ints tree_op Truth Truth is = cc is
+
+pub combined_as : (at : Pos) (tree_op : ArithmeticOp) (t : ValueType) (q : Pl) (y z : Operand) → combined at (Arithmetic tree_op) (value t (read q)) y ≡ Some z → UpdatedAs at (arithmetic_of tree_op) t q y z
+combined_as at tree_op t q y z is =
+    let a = allowed_is (takes (Arithmetic tree_op) t (type_of y) && right_allowed (Arithmetic tree_op) y) (both_values at (Arithmetic tree_op) (Some (read q)) (as_value y)) z is in
+    let ints = takes_ints tree_op t (type_of y) (first_true (takes (Arithmetic tree_op) t (type_of y)) (right_allowed (Arithmetic tree_op) y) a.0) in
+    by (as_value y) refl ints.0 ints.1 a.1
+  where
+    first_true : (a b : Bool) → (a && b) ≡ true → a ≡ true
+    first_true true b is1 = refl
+    first_true false b is1 = cc is1
+
+    by : (o : Option Ex) → as_value y ≡ o → t ≡ Int → type_of y ≡ Int → both_values at (Arithmetic tree_op) (Some (read q)) o ≡ Some z → UpdatedAs at (arithmetic_of tree_op) t q y z
+    by None o_is t_is y_is is1 = absurd (none_some is1)
+    by (Some e) o_is t_is y_is is1 = (e, y_is, t_is, o_is, sym (same_some is1))
+
+-- what always goes on
+passed : {A B : Type 0} (o : Option A) (k : A → Option B) (P : Fault → Type 0) → Decided o P → ((x : A) → o ≡ Some x → (y : B) × (k x ≡ Some y)) → Decided (option_and_then k o) P
+passed None k P d goes = d
+passed (Some x) k P d goes = let g = goes x refl in subst (λ (o : Option _). Decided o P) (sym g.1) d
+
+both_some : {A B C : Type 0} (k : A → B → Option C) (a : Option A) (b : Option B) (z : C) → both k a b ≡ Some z → (x : A) × (y : B) × (a ≡ Some x) × (b ≡ Some y) × (k x y ≡ Some z)
+both_some k a b z is =
+    let r = and_then_some (λ x. option_and_then (k x) b) a z is in
+    let q = and_then_some (k r.0) b z r.2 in
+    (r.0, q.0, r.1, q.1, q.2)
+
+pub update_some : (at : Pos) (tree_op : ArithmeticOp) (a b : Option Operand) (z : Operand) → ((x : Operand) → a ≡ Some x → IsRead x) → both (combined at (Arithmetic tree_op)) a b ≡ Some z
+    → (t : ValueType) × (q : Pl) × (y : Operand) × (a ≡ Some (value t (read q))) × (b ≡ Some y) × UpdatedAs at (arithmetic_of tree_op) t q y z
+update_some at tree_op a b z reads is =
+    let r = both_some (combined at (Arithmetic tree_op)) a b z is in
+    let x = reads r.0 r.2 in
+    (x.0, x.1, r.1, r.2 ∙ ap Some x.2, r.3, combined_as at tree_op x.0 x.1 r.1 z (ap (λ w. combined at (Arithmetic tree_op) w r.1) (sym x.2) ∙ r.4))
+
+update_passes : (at : Pos) (tree_op : ArithmeticOp) (a b : Option Operand) (z : Operand) → ((x : Operand) → a ≡ Some x → IsRead x) → both (combined at (Arithmetic tree_op)) a b ≡ Some z → (u : St) × (updated z ≡ Some u)
+update_passes at tree_op a b z reads is =
+    let r = update_some at tree_op a b z reads is in
+    let form = r.5 in
+    (update at r.1 (arithmetic_of tree_op) form.0, ap updated form.4)
+
+step_decided : (typed_op : TypedOp) (o : Option Operand) (at : Pos) (P : Fault → Type 0) → ((x : Operand) → o ≡ Some x → IsRead x) → Decided o P
+    → Decided (option_and_then (stepped typed_op) o) (λ f. P f ⊎ IsFault (step_fault o at) f)
+step_decided typed_op None at P reads d = (d.0, inl d.1)
+step_decided typed_op (Some x) at P reads d =
+    let r = reads x refl in
+    subst (λ (y : Operand). Decided (stepped typed_op y) (λ f. P f ⊎ IsFault (step_fault (Some y) at) f)) (sym r.2) (by r.0 r.1)
+  where
+    by : (t : ValueType) (q : Pl) → Decided (stepped typed_op (value t (read q))) (λ f. P f ⊎ IsFault (step_fault (Some (value t (read q))) at) f)
+    by Int q = λ f h. elim h [ inl k ↦ d f k | inr k ↦ k ]
+    by Truth q = (fault BadOperand at, inr refl)
+
+module _ (text : List ℕ) where
+  value_decided : (s : Scope) (e : TreeEx) (o : Option Gives) → Decided o (Fails text s e) → (f : Fault) × (Fails text s e f ⊎ IsFault (value_left_fault o (first_place e)) f)
+  value_decided s e None d = (d.0, inl d.1)
+  value_decided s e (Some (one x)) d = (fault NotAssignable (first_place e), inr refl)
+  value_decided s e (Some (called at ts g es)) d = (fault NotAssignable (first_place e), inr refl)
+  value_decided s e (Some (asking at)) d = (fault NotAssignable (first_place e), inr refl)
+  value_decided s e (Some (quoted at bytes)) d = (fault OutOfProfile at, inr refl)
+  value_decided s e (Some (printed at line ps)) d = (fault NotAssignable (first_place e), inr refl)
+  value_decided s e (Some (panicked at p)) d = (fault NotAssignable (first_place e), inr refl)
+  value_decided s e (Some (exited at x)) d = (fault NotAssignable (first_place e), inr refl)
+
+  side_decided : (s : Scope) (settled : IsSettled s) (o : Option Name) (e : TreeEx) → Decided (left text s o) (LeftSideFails text s o e)
+  side_decided s settled None e = value_decided s e (gives text s e) (gives_decided text s settled e)
+  side_decided s settled (Some n) e =
+      left_decided (is_blank (spelled text n)) (declaration s (spelled text n)) n.pos (first_place e) (λ is. declared_typed s settled (spelled text n) declared.Untyped is)
+
+  own_side_decided : (s : Scope) (settled : IsSettled s) (o : Option Name) (e : TreeEx) → Decided (own_value text s o) (OwnSideFails text s o e)
+  own_side_decided s settled None e = value_decided s e (gives text s e) (gives_decided text s settled e)
+  own_side_decided s settled (Some n) e =
+      own_decided (is_blank (spelled text n)) (declaration s (spelled text n)) n.pos (first_place e) (λ is. declared_typed s settled (spelled text n) declared.Untyped is)
+
+  pub own_read : (s : Scope) (o : Option Name) (x : Operand) → own_value text s o ≡ Some x → IsRead x
+  own_read s None x is = absurd (none_some is)
+  own_read s (Some n) x is = by (is_blank (spelled text n)) is
+    where
+      by : (b : Bool) → cond b None (variable_value (declaration s (spelled text n))) ≡ Some x → IsRead x
+      by true is1 = absurd (none_some is1)
+      by false is1 = variable_read (declaration s (spelled text n)) x is1
+
+  own_sides_tested : (s : Scope) (settled : IsSettled s) (ls : TreeExs) → Tested (have_values text s ls) (OwnSidesFail text s ls)
+  own_sides_tested s settled expressions.none = λ f h. h
+  own_sides_tested s settled (some e es) =
+      both_tested (OwnSideFails text s (name_in e) e) (OwnSidesFail text s es) (is_some (own_value text s (name_in e))) (have_values text s es)
+      (some_tested (own_value text s (name_in e)) (OwnSideFails text s (name_in e) e) (own_side_decided s settled (name_in e) e)) (own_sides_tested s settled es)
+
+  pub lefts_decided : (s : Scope) (settled : IsSettled s) (ls : TreeExs) → Decided (lefts text s ls) (LeftsFail text s ls)
+  lefts_decided s settled expressions.none = λ f h. h
+  lefts_decided s settled (some e es) =
+      after (left text s (name_in e)) (λ l. option_map (λ ls. l ∷ ls) (lefts text s es)) (LeftSideFails text s (name_in e) e) (LeftsFail text s es) (side_decided s settled (name_in e) e)
+      (λ l is. mapped (λ ls. l ∷ ls) (lefts text s es) (LeftsFail text s es) (lefts_decided s settled es))
+
+  new_lefts_decided : (s : Scope) (settled : IsSettled s) (site : ℕ) (ns : List Name) → Decided (new_lefts text s site ns) (NewNamesFail text s ns)
+  new_lefts_decided s settled site [] = λ f h. h
+  new_lefts_decided s settled site (n ∷ ns) =
+      let bytes = spelled text n in
+      let behind1 = cond (declares s bytes) (1 + site) site in
+      after (new_left text s site n) (λ l. option_map (λ ls. l ∷ ls) (new_lefts text s behind1 ns)) (IsFault (new_name_fault (is_blank bytes) (is_here s bytes) (declaration s bytes) n.pos)) (NewNamesFail text s ns)
+      (new_left_decided (is_blank bytes) (is_here s bytes) (declaration s bytes) site n.pos (λ is. declared_typed s settled bytes declared.Untyped is))
+      (λ l is. mapped (λ ls. l ∷ ls) (new_lefts text s behind1 ns) (NewNamesFail text s ns) (new_lefts_decided s settled behind1 ns))
+
+  pub distinct_tested : (names : Blocks) (ns : List Name) → Tested (are_distinct text names ns) (TwiceFails text names ns)
+  distinct_tested names [] = λ f h. h
+  distinct_tested names (n ∷ ns) =
+      both_tested (IsFault (fault_where (is_noted names (spelled text n)) (fault Redeclared n.pos))) (TwiceFails text (noted names (spelled text n)) ns) (not (is_noted names (spelled text n))) (are_distinct text (noted names (spelled text n)) ns)
+      (where_tested (is_noted names (spelled text n)) (fault Redeclared n.pos)) (distinct_tested (noted names (spelled text n)) ns)
+
+  define_statement : (s : Scope) (ns : List Name) (at : Pos) (es : TreeExs) → IsSettled s
+      → Decided (cond (may_define text s ns) (assignment (new_lefts text s (length s.sites) ns) (taken (all_new_wanted text s ns) (seen text s es))) None) (FailsInDefinition text s ns at es)
+  define_statement s ns at es settled =
+      let v = taken (all_new_wanted text s ns) (seen text s es) in
+      define_decided (may_define text s ns) (new_lefts text s (length s.sites) ns) v (λ f. FailsInEach text s es f ⊎ TakeFails (fault ArgCount (names_place ns at)) (all_new_wanted text s ns) (seen text s es) f)
+      (NewNamesFail text s ns) (λ f. TwiceFails text ([] ∷ []) ns f ⊎ IsFault (fault_where (has_all text s ns) (fault NothingNew at)) f)
+      (both_tested (TwiceFails text ([] ∷ []) ns) (IsFault (fault_where (has_all text s ns) _)) (are_distinct text ([] ∷ []) ns) (not (has_all text s ns)) (distinct_tested ([] ∷ []) ns) (where_tested (has_all text s ns) _))
+      (λ is. new_lefts_decided s settled (length s.sites) ns)
+      (take_decided (seen text s es) (FailsInEach text s es) (seen_decided text s settled es) (fault ArgCount (names_place ns at)) (all_new_wanted text s ns))
+
+  assign_statement : (s : Scope) (ls : TreeExs) (at : Pos) (es : TreeExs) → IsSettled s → Decided (assignment (lefts text s ls) (taken (all_wanted text s ls) (seen text s es))) (FailsInAssignment text s ls at es)
+  assign_statement s ls at es settled =
+      assign_decided (lefts text s ls) (taken (all_wanted text s ls) (seen text s es)) (count (seen text s es)) (length (all_wanted text s ls)) (fault ArgCount (lefts_place ls at)) (LeftsFail text s ls) (FailsInEach text s es) _
+      (lefts_decided s settled ls) (take_decided (seen text s es) (FailsInEach text s es) (seen_decided text s settled es) (fault ArgCount (lefts_place ls at)) (all_wanted text s ls))
+
+  update_one_decided : (s : Scope) (tree_op : ArithmeticOp) (e v : TreeEx) → IsSettled s
+      → Decided (update_one text s tree_op e v)
+      (λ f. (OwnSideFails text s (name_in e) e f ⊎ FailsAsOperand text s v f) ⊎ IsFault (pair_fault (first_place e) (first_place v) (Arithmetic tree_op) (own_value text s (name_in e)) (operand_in (gives text s v))) f)
+  update_one_decided s tree_op e v settled =
+      let a = own_value text s (name_in e) in
+      let b = operand_in (gives text s v) in
+      let k = combined (first_place e) (Arithmetic tree_op) in
+      passed (both k a b) updated _
+      (pair_decided (first_place e) (first_place v) (Arithmetic tree_op) a b (OwnSideFails text s (name_in e) e) (FailsAsOperand text s v) (own_side_decided s settled (name_in e) e)
+      (operand_decided (gives text s v) (Fails text s v) (gives_decided text s settled v)))
+      (λ z is. update_passes (first_place e) tree_op a b z (λ x x_is. own_read s (name_in e) x x_is) is)
+
+  refused_update : (s : Scope) (ls : TreeExs) (own : Fault) (es : TreeExs) → IsSettled s
+      → (f : Fault) × (((OwnSidesFail text s ls f ⊎ FailsInEach text s es f) ⊎ ValuesFail (many (seen text s es)) (seen text s es) f) ⊎ IsFault (refused_fault (given_count (have_values text s ls) (seen text s es)) own) f)
+  refused_update s ls own es settled = by (have_values text s ls) (own_sides_tested s settled ls)
+    where
+      by : (b : Bool) → Tested b (OwnSidesFail text s ls)
+          → (f : Fault) × (((OwnSidesFail text s ls f ⊎ FailsInEach text s es f) ⊎ ValuesFail (many (seen text s es)) (seen text s es) f) ⊎ IsFault (refused_fault (given_count b (seen text s es)) own) f)
+      by false t = (t.0, inl (inl (inl t.1)))
+      by true t =
+          let r = refused (seen text s es) (FailsInEach text s es) (seen_decided text s settled es) own in
+          (r.0, elim r.1 [ inl h ↦ inl (inl (inr h)) | inr h ↦ elim h [ inl k ↦ inl (inr k) | inr k ↦ inr k ] ])
+
+  update_decided : (s : Scope) (ls : TreeExs) (at : Pos) (tree_op : ArithmeticOp) (es : TreeExs) → IsSettled s → (e v : Option TreeEx) → Decided (update_statement text s tree_op e v) (UpdateFails text s ls at tree_op es e v)
+  update_decided s ls at tree_op es settled (Some e) (Some v) = update_one_decided s tree_op e v settled
+  update_decided s ls at tree_op es settled (Some e) None = refused_update s ls (fault ArgCount (lefts_place ls at)) es settled
+  update_decided s ls at tree_op es settled None (Some v) = refused_update s ls (fault ArgCount (lefts_place ls at)) es settled
+  update_decided s ls at tree_op es settled None None = refused_update s ls (fault ArgCount (lefts_place ls at)) es settled
+
+  step_statement_decided : (s : Scope) (typed_op : TypedOp) (e : TreeEx) → IsSettled s → Decided (step_statement text s typed_op e) (FailsInStep text s e)
+  step_statement_decided s typed_op e settled =
+      step_decided typed_op (own_value text s (name_in e)) (first_place e) (OwnSideFails text s (name_in e) e) (λ x is. own_read s (name_in e) x is) (own_side_decided s settled (name_in e) e)
+
+  pub simple_decided : (s : Scope) (m : Simple) → IsSettled s → Decided (simple_statement text s m) (FailsInSimple text s m)
+  simple_decided s (tree.express e) settled = use_decided (length s.strings) (gives text s e) (first_place e) (Fails text s e) (gives_decided text s settled e)
+  simple_decided s (tree.assign ls at es) settled = assign_statement s ls at es settled
+  simple_decided s (tree.update ls at tree_op es) settled = update_decided s ls at tree_op es settled (only ls) (only es)
+  simple_decided s (tree.define ns at es) settled = define_statement s ns at es settled
+  simple_decided s (tree.increment e at) settled = step_statement_decided s op.Add e settled
+  simple_decided s (tree.decrement e at) settled = step_statement_decided s op.Sub e settled
+
+  pub settled_simple : (s : Scope) (m : Simple) (t : St) → IsSettled s → simple_statement text s m ≡ Some t → IsSettled (behind_simple text s m)
+  settled_simple s (tree.express e) t settled is = record { all = settled.all }
+  settled_simple s (tree.assign ls at es) t settled is = settled
+  settled_simple s (tree.update ls at tree_op es) t settled is = settled
+  settled_simple s (tree.define ns at es) t settled is =
+      let v = taken (all_new_wanted text s ns) (seen text s es) in
+      let w = where_some (may_define text s ns) (assignment (new_lefts text s (length s.sites) ns) v) t is in
+      let a = assignment_some (new_lefts text s (length s.sites) ns) v t w.1 in
+      let types = taken_types_are (all_new_wanted text s ns) (seen text s es) a.1 a.3 in
+      subst (λ (o : Option (List ValueType)). IsSettled (with_variables text s (new_slots text s (slots_each o ns)))) (sym types.1)
+      (settled_new text s types.0 ns (types.2 ∙ length-map ns (Rattle.simple_statements.specs.SimpleStatements.new_wanted text s)) settled)
+  settled_simple s (tree.increment e at) t settled is = settled
+  settled_simple s (tree.decrement e at) t settled is = settled

@@ -1,0 +1,31 @@
+use Rattle.std.proofs.Common.{◌≡◌, [], ◌∷◌, ◌+◌, List, drop, get_or, sym, ap, ◌∙◌, refl, arith}
+use Rattle.std.specs.Prelude.{◌&&◌}
+use Rattle.syntax.specs.declared.expression.Name.{Name}
+use Rattle.names.specs.Scope.{scope_of}
+use Rattle.value_types.proofs.Lists.{from_there, nothing_left, and_true}
+use Rattle.names.proofs.Places.{no_name}
+use Rattle.simple_statements.proofs.declaring.has_all.Goals as goal
+use Rattle.simple_statements.specs.SimpleStatements.{has_all}
+
+pub loop-name-init : goal.loop-name-init
+loop-name-init c = refl
+
+pub loop-name-preserved : goal.loop-name-preserved
+loop-name-preserved c =
+    let text = c.args.text.now in
+    let s = scope_of c.args.scope.now in
+    let xs = c.args.names.now in
+    let n : Name = get_or xs c.loop-name.name-index no_name in
+    let k = c.loop-name.name-index in
+    let here : drop k xs ≡ n ∷ drop (k + 1) xs = from_there xs k no_name c.loop-name-test.true in
+    let kept : has_all text s xs ≡ (c.loop-name.all && has_all text s (n ∷ drop (k + 1) xs)) = c.loop-name.invariant ∙ ap (λ (l : List Name). c.loop-name.all && has_all text s l) here in
+    grind (arith, kept)
+
+pub returns : goal.returns
+returns c =
+    let text = c.args.text.now in
+    let s = scope_of c.args.scope.now in
+    let xs = c.args.names.now in
+    let k = c.loop-name.name-index in
+    let none : drop k xs ≡ [] = nothing_left xs k (λ l. absurd (omega (arith, l, c.loop-name-test.false))) in
+    sym (c.loop-name.invariant ∙ ap (λ (l : List Name). c.loop-name.all && has_all text s l) none ∙ and_true c.loop-name.all)

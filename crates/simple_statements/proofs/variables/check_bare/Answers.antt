@@ -1,0 +1,21 @@
+use Rattle.std.proofs.Common.{◌≡◌, List, None, ◌∙◌, subst}
+use Rattle.syntax.specs.Expressions.{exs_of, ex_in}
+use Rattle.syntax.specs.Statements.{value_spec_of}
+use Rattle.value_types.specs.Least.{IsLeast}
+use Rattle.names.specs.Scope.{scope_of}
+use Rattle.expression_types.specs.Typing.{seen}
+use Rattle.simple_statements.proofs.variables.check_bare.Goals as goal
+use Rattle.signatures.specs.declared.slots.Slot.{Slot}
+use Rattle.signatures.specs.declared.entries.Role.TheVariants.{Parameter}
+use Rattle.signatures.specs.EntryFaults.{EntriesFail}
+use Rattle.simple_statements.specs.SimpleStatements.{taken_types, spec_wanted, spec_slots}
+use Rattle.simple_statements.proofs.Items.{bare_slots}
+
+pub returns-clause-fault : goal.returns-clause-fault
+returns-clause-fault c =
+    let text = c.args.text.now in
+    let s = scope_of c.args.scope.now in
+    let v = value_spec_of c.args.spec.now in
+    let slots : c.deref.result.now ≡ spec_slots text s v =
+    c.deref.ensures.value ∙ c.in_ok-slots.ensures ∙ bare_slots text s (ex_in c.args.spec.now.type_expr) (exs_of c.args.spec.now.values.items) None (taken_types (spec_wanted text s v) (seen text s v.values)) c.args.spec.now.names.items c.requires in
+    subst (λ (l : List Slot). IsLeast (EntriesFail text Parameter s l) c.in_ok-entries.entries.fault) slots c.in_ok-entries.ensures.fault

@@ -1,0 +1,31 @@
+use Rattle.std.proofs.Common.{◌≡◌, List, Option, ap, ◌∙◌, subst}
+use Rattle.syntax.specs.Expressions.{exs_of}
+use Rattle.syntax.specs.Statements.{value_spec_of}
+use Rattle.value_types.specs.declared.fault.FaultKind.TheVariants.{ArgCount}
+use Rattle.value_types.specs.declared.value_type.ValueType.{ValueType}
+use Rattle.value_types.specs.Least.{IsLeast}
+use Rattle.value_types.specs.Faults.{fault}
+use Rattle.value_types.proofs.Leasts.{least_join}
+use Rattle.names.specs.Scope.{scope_of}
+use Rattle.expression_types.specs.Typing.{Seen, seen}
+use Rattle.expression_types.specs.Faults.{TakeFails, FailsInEach}
+use Rattle.syntax.specs.declared.expression.Expr.{Expr}
+use Rattle.expression_types.specs.Passing.{seens}
+use Rattle.simple_statements.proofs.variables.check_values.Goals as goal
+use Rattle.simple_statements.specs.SimpleStatements.{spec_wanted}
+
+pub returns-clause-fault : goal.returns-clause-fault
+returns-clause-fault c =
+    let text = c.args.text.now in
+    let s = scope_of c.args.scope.now in
+    let v = value_spec_of c.args.spec.now in
+    let listed = c.in_ok-listed.listed in
+    let own = fault ArgCount c.args.pos in
+    let es : c.deref.result.now ≡ c.args.spec.now.values.items = c.deref.ensures.value in
+    let each : IsLeast (FailsInEach text s v.values) listed.fault = subst (λ (l : List Expr). IsLeast (FailsInEach text s (exs_of l)) listed.fault) es c.in_ok-listed.ensures.fault in
+    let ps : c.deref-2.result.now ≡ spec_wanted text s v = c.deref-2.ensures.value ∙ c.in_ok-wanted.ensures in
+    let os : seens c.deref-3.result.now ≡ seen text s v.values = ap seens c.deref-3.ensures.value ∙ c.in_ok-listed.ensures.seen ∙ ap (λ (l : List Expr). seen text s (exs_of l)) es in
+    let taken : IsLeast (TakeFails own (spec_wanted text s v) (seen text s v.values)) c.take_fault-values_fault.result =
+    subst (λ (l : List Seen). IsLeast (TakeFails own (spec_wanted text s v) l) c.take_fault-values_fault.result) os
+    (subst (λ (l : List (Option ValueType)). IsLeast (TakeFails own l (seens c.deref-3.result.now)) c.take_fault-values_fault.result) ps c.take_fault-values_fault.ensures) in
+    rw (c.lesser.ensures) (least_join _ _ listed.fault c.take_fault-values_fault.result each taken)

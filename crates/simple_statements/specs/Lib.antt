@@ -1,0 +1,2 @@
+pub mod SimpleFaults
+pub mod SimpleStatements

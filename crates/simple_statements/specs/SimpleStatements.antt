@@ -1,0 +1,302 @@
+-- The typed forms that the rules of the language give statements without statements in them (Go specification, "Short variable
+-- declarations", "Variable declarations", "Assignment statements", "IncDec statements", "Expression statements", "Return statements").
+use Rattle.std.specs.Prelude.{ℕ, ◌+◌, length, Bool, true, false, not, ◌&&◌, ◌||◌, List, [], ◌∷◌, map, Option, Some, None, is_some, option_and_then, if◌then◌else◌}
+use Rattle.std.specs.Option.{option_map}
+use Rattle.value_types.specs.declared.value_type.ValueType.{ValueType}
+use Rattle.syntax.specs.declared.expression.Name.{Name}
+use Rattle.syntax.specs.declared.operator.ArithmeticOp.{ArithmeticOp}
+use Rattle.syntax.specs.declared.operator.BinOp.TheVariants.{Arithmetic}
+use Rattle.syntax.specs.FirstBytes.{first_place}
+use Rattle.syntax.specs.Expressions.{Ex as TreeEx, Exs as TreeExs, some, spelled}
+use Rattle.syntax.specs.Expressions as expressions
+use Rattle.syntax.specs.Statements.{Simple, ValueSpec}
+use Rattle.syntax.specs.Statements as tree
+use Rattle.typed.specs.declared.operators.BinOp.{BinOp as TypedOp}
+use Rattle.typed.specs.declared.operators.BinOp.TheVariants as op
+use Rattle.typed.specs.Syntax.{Exs, Left, Piece, St, Sts, text as string_number, shown, binary, read, local, here, none, results, asked, blank, new, to, declare, assign, update, bump, discard, give_back, print, raise, quit, done, next}
+use Rattle.value_types.specs.declared.value_type.ValueType.TheVariants.{Int}
+use Rattle.value_types.specs.Given.{allowed, both}
+use Rattle.operators.specs.Operands.{Operand, value}
+use Rattle.operators.specs.Operators.{combined}
+use Rattle.names.specs.Blocks.{Blocks, innermost, insert}
+use Rattle.names.specs.declared.scope.Declared.{Declared}
+use Rattle.names.specs.declared.scope.Declared.TheVariants.{Variable}
+use Rattle.names.specs.Universe.{is_blank}
+use Rattle.names.specs.Scope.{Scope, declaration, is_here, with_variable, with_strings}
+use Rattle.names.specs.Naming.{name_in}
+use Rattle.names.specs.Types.{type_in}
+use Rattle.expression_types.specs.Typing.{Part, said, valued, Gives, one, called, asking, quoted, printed, panicked, exited, operand_in, Seen, value_types, taken, gives, seen}
+use Rattle.signatures.specs.declared.slots.Slot.{Slot}
+use Rattle.signatures.specs.declared.entries.Role.TheVariants.{Parameter}
+use Rattle.signatures.specs.Entries.{sites_of, entry_left, slot_with, slots_each, entries, behind_entries}
+use Rattle.simple_statements.specs.declared.statements.Returns.{Returns as ReturnsData}
+
+-- what a function gives back: the types of its values, where they are known, and whether a `return` may have none
+pub record Returns : Type 0 where
+  pub wanted : List (Option ValueType)
+  pub may_be_bare : Bool
+
+abbrev pub returns_view : ReturnsData → Returns
+returns_view r = record { wanted = r.wanted.items; may_be_bare = r.may_be_bare }
+
+-- the expression that stands alone
+abbrev pub only : TreeExs → Option TreeEx
+only expressions.none = None
+only (some e expressions.none) = Some e
+only (some e (some g es)) = None
+
+-- ---- left sides
+
+-- a variable with a type as a left side
+abbrev pub target : Option Declared → Option Left
+target (Some (Variable site t)) = Some (to (local site.0 here))
+target other = None
+
+-- the type that it asks for
+abbrev pub variable_type : Option Declared → Option ValueType
+variable_type (Some (Variable site t)) = Some t
+variable_type other = None
+
+-- its value
+abbrev pub variable_value : Option Declared → Option Operand
+variable_value (Some (Variable site t)) = Some (value t (read (local site.0 here)))
+variable_value other = None
+
+-- a left side of `=`, and the type that it asks for
+abbrev pub left_of : (is_blank : Bool) → Option Declared → Option Left
+left_of is_blank d = if is_blank then Some blank else target d
+
+abbrev pub wanted_of : (is_blank : Bool) → Option Declared → Option ValueType
+wanted_of is_blank d = if is_blank then None else variable_type d
+
+-- a left side of `:=`: a variable that the block has, or a new one with the next site
+abbrev pub new_left_of : (is_blank is_here : Bool) → Option Declared → ℕ → Option Left
+new_left_of is_blank is_here d site = if is_blank then Some blank else (if is_here then target d else Some (new site))
+
+abbrev pub new_wanted_of : (is_blank is_here : Bool) → Option Declared → Option ValueType
+new_wanted_of is_blank is_here d = if is_here then wanted_of is_blank d else None
+
+-- whether a `:=` declares the name
+abbrev pub declares : Scope → List ℕ → Bool
+declares s n = not (is_blank n) && not (is_here s n)
+
+-- the names so far as one block, apart from blank ones
+abbrev pub noted : Blocks → List ℕ → Blocks
+noted names n = if is_blank n then names else insert names n 0
+
+abbrev pub is_noted : Blocks → List ℕ → Bool
+is_noted names n = not (is_blank n) && is_some (innermost names n)
+
+-- the types of the values at these places
+abbrev pub taken_types : List (Option ValueType) → List Seen → Option (List ValueType)
+taken_types places os = option_and_then (λ v. value_types os) (taken places os)
+
+-- ---- statements of their parts
+
+-- statements before others
+abbrev pub before : Sts → Sts → Sts
+before done r = r
+before (next t ts) r = next t (before ts r)
+
+-- the strings among operands, and the operands where the strings are numbered from one on
+abbrev pub strings_of : List Part → List (List ℕ)
+strings_of [] = []
+strings_of (said bytes ∷ ps) = bytes ∷ strings_of ps
+strings_of (valued t e ∷ ps) = strings_of ps
+
+abbrev pub piece_from : ℕ → Part → Piece
+piece_from n (said bytes) = string_number n
+piece_from n (valued t e) = shown t e
+
+abbrev pub pieces_from : ℕ → List Part → List Piece
+pieces_from n [] = []
+pieces_from n (said bytes ∷ ps) = string_number n ∷ pieces_from (1 + n) ps
+pieces_from n (valued t e ∷ ps) = shown t e ∷ pieces_from n ps
+
+-- those of a call
+abbrev pub strings_in_call : Gives → List (List ℕ)
+strings_in_call (printed at line ps) = strings_of ps
+strings_in_call (panicked at p) = strings_of (p ∷ [])
+strings_in_call other = []
+
+abbrev pub strings_in : Option Gives → List (List ℕ)
+strings_in None = []
+strings_in (Some g) = strings_in_call g
+
+-- a call as a statement, where its strings are numbered from one on
+abbrev pub expressed : ℕ → Gives → Option St
+expressed n (one x) = None
+expressed n (called at ts f es) = Some (discard (results f es))
+expressed n (asking at) = Some (discard asked)
+expressed n (quoted at bytes) = None
+expressed n (printed at line ps) = Some (print line (pieces_from n ps))
+expressed n (panicked at p) = Some (raise at (piece_from n p))
+expressed n (exited at e) = Some (quit at e)
+
+-- a declaration or an assignment with these left sides and values
+abbrev pub assignment : Option (List Left) → Option Exs → Option St
+assignment ls v = option_and_then (λ l. option_map (assign l) v) ls
+
+-- an assignment with an operator, of what the operator gives of the variable and the operand
+abbrev pub updated : Operand → Option St
+updated (value t (binary at typed_op (read q) e)) = Some (update at q typed_op e)
+updated other = None
+
+-- `++` or `--` on a variable, which is an int
+abbrev pub stepped : TypedOp → Operand → Option St
+stepped typed_op (value Int (read q)) = Some (bump q typed_op)
+stepped typed_op other = None
+
+-- the values of a `return`
+abbrev pub returned : Returns → List Seen → Option St
+returned r [] = if r.may_be_bare then Some (give_back none) else None
+returned r (o ∷ os) = option_map give_back (taken r.wanted (o ∷ os))
+
+-- a declaration with a type and no values
+abbrev pub is_bare : Option TreeEx → TreeExs → Bool
+is_bare None es = false
+is_bare (Some e) expressions.none = true
+is_bare (Some e) (some x xs) = false
+
+module _ (text : List ℕ) where
+  -- a left side of `=`: a name, in parentheses or not; any other expression is none
+  abbrev pub left : Scope → Option Name → Option Left
+  left s None = None
+  left s (Some n) = left_of (is_blank (spelled text n)) (declaration s (spelled text n))
+
+  abbrev pub wanted : Scope → Option Name → Option ValueType
+  wanted s None = None
+  wanted s (Some n) = wanted_of (is_blank (spelled text n)) (declaration s (spelled text n))
+
+  -- the left sides of `=`, where each is a variable with a type or blank, and the types that they ask for
+  abbrev pub lefts : Scope → TreeExs → Option (List Left)
+  lefts s expressions.none = Some []
+  lefts s (some e es) = option_and_then (λ l. option_map (λ ls. l ∷ ls) (lefts s es)) (left s (name_in e))
+
+  abbrev pub all_wanted : Scope → TreeExs → List (Option ValueType)
+  all_wanted s expressions.none = []
+  all_wanted s (some e es) = wanted s (name_in e) ∷ all_wanted s es
+
+  -- the names that a `:=` declares, where it begins
+  abbrev pub slot_declares : Scope → Option Name → Bool
+  slot_declares s None = false
+  slot_declares s (Some n) = declares s (spelled text n)
+
+  abbrev pub new_slots : Scope → List Slot → List Slot
+  new_slots s [] = []
+  new_slots s (v ∷ vs) = if slot_declares s v.name then v ∷ new_slots s vs else new_slots s vs
+
+  abbrev pub new_left : Scope → ℕ → Name → Option Left
+  new_left s site n = new_left_of (is_blank (spelled text n)) (is_here s (spelled text n)) (declaration s (spelled text n)) site
+
+  abbrev pub new_wanted : Scope → Name → Option ValueType
+  new_wanted s n = new_wanted_of (is_blank (spelled text n)) (is_here s (spelled text n)) (declaration s (spelled text n))
+
+  -- its left sides, the new ones of which have sites from one on, and the types that they ask for
+  abbrev pub new_lefts : Scope → ℕ → List Name → Option (List Left)
+  new_lefts s site [] = Some []
+  new_lefts s site (n ∷ ns) = option_and_then (λ l. option_map (λ ls. l ∷ ls) (new_lefts s (if declares s (spelled text n) then 1 + site else site) ns)) (new_left s site n)
+
+  abbrev pub all_new_wanted : Scope → List Name → List (Option ValueType)
+  all_new_wanted s ns = map (new_wanted s) ns
+
+  -- the scope behind new variables, with types or without
+  abbrev pub with_slot : Option ValueType → Scope → Option Name → Scope
+  with_slot t s None = s
+  with_slot t s (Some n) = with_variable t s (spelled text n) n.pos
+
+  abbrev pub with_variables : Scope → List Slot → Scope
+  with_variables s [] = s
+  with_variables s (v ∷ vs) = with_variables (with_slot v.value_type s v.name) vs
+
+  -- no name but the blank one stands twice
+  abbrev pub are_distinct : Blocks → List Name → Bool
+  are_distinct names [] = true
+  are_distinct names (n ∷ ns) = not (is_noted names (spelled text n)) && are_distinct (noted names (spelled text n)) ns
+
+  -- each name is blank, or the block has it
+  abbrev pub has_all : Scope → List Name → Bool
+  has_all s [] = true
+  has_all s (n ∷ ns) = (is_blank (spelled text n) || is_here s (spelled text n)) && has_all s ns
+
+  abbrev pub may_define : Scope → List Name → Bool
+  may_define s ns = are_distinct ([] ∷ []) ns && not (has_all s ns)
+
+  -- the value of a variable that is given another one of its own
+  abbrev pub own_value : Scope → Option Name → Option Operand
+  own_value s None = None
+  own_value s (Some n) = if is_blank (spelled text n) then None else variable_value (declaration s (spelled text n))
+
+  -- ---- simple statements
+
+  abbrev pub definition_types : Scope → List Name → TreeExs → Option (List ValueType)
+  definition_types s ns es = taken_types (all_new_wanted s ns) (seen text s es)
+
+  abbrev pub behind_simple : Scope → Simple → Scope
+  behind_simple s (tree.express e) = with_strings s (strings_in (gives text s e))
+  behind_simple s (tree.assign ls at es) = s
+  behind_simple s (tree.update ls at tree_op es) = s
+  behind_simple s (tree.define ns at es) = with_variables s (new_slots s (slots_each (definition_types s ns es) ns))
+  behind_simple s (tree.increment e at) = s
+  behind_simple s (tree.decrement e at) = s
+
+  abbrev pub update_one : Scope → ArithmeticOp → TreeEx → TreeEx → Option St
+  update_one s tree_op e v = option_and_then updated (both (combined (first_place e) (Arithmetic tree_op)) (own_value s (name_in e)) (operand_in (gives text s v)))
+
+  abbrev pub update_statement : Scope → ArithmeticOp → Option TreeEx → Option TreeEx → Option St
+  update_statement s tree_op e v = option_and_then (λ x. option_and_then (update_one s tree_op x) v) e
+
+  abbrev pub step_statement : Scope → TypedOp → TreeEx → Option St
+  step_statement s typed_op e = option_and_then (stepped typed_op) (own_value s (name_in e))
+
+  abbrev pub simple_statement : Scope → Simple → Option St
+  simple_statement s (tree.express e) = option_and_then (expressed (length s.strings)) (gives text s e)
+  simple_statement s (tree.assign ls at es) = assignment (lefts s ls) (taken (all_wanted s ls) (seen text s es))
+  simple_statement s (tree.update ls at tree_op es) = update_statement s tree_op (only ls) (only es)
+  simple_statement s (tree.define ns at es) = if may_define s ns then assignment (new_lefts s (length s.sites) ns) (taken (all_new_wanted s ns) (seen text s es)) else None
+  simple_statement s (tree.increment e at) = step_statement s op.Add e
+  simple_statement s (tree.decrement e at) = step_statement s op.Sub e
+
+  -- ---- a `var` among statements: the values are worked out before the names are declared
+
+  abbrev pub spec_type : Scope → Option TreeEx → Option ValueType
+  spec_type s None = None
+  spec_type s (Some e) = type_in text s e
+
+  abbrev pub spec_wanted : Scope → ValueSpec → List (Option ValueType)
+  spec_wanted s v = map (λ n. spec_type s v.type_expr) v.names
+
+  -- a type that stands there holds for all names
+  abbrev pub spec_slots_of : Scope → Option TreeEx → Option (List ValueType) → List Name → List Slot
+  spec_slots_of s None ts ns = slots_each ts ns
+  spec_slots_of s (Some e) ts ns = map (slot_with (type_in text s e)) ns
+
+  abbrev pub spec_slots : Scope → ValueSpec → List Slot
+  spec_slots s v = spec_slots_of s v.type_expr (taken_types (spec_wanted s v) (seen text s v.values)) v.names
+
+  abbrev pub behind_spec : Scope → ValueSpec → Scope
+  behind_spec s v = behind_entries text s (spec_slots s v)
+
+  abbrev pub spec_entries : Scope → ValueSpec → Option (List (Option ℕ))
+  spec_entries s v = entries text Parameter s (spec_slots s v)
+
+  abbrev pub is_known : Scope → Option TreeEx → Bool
+  is_known s None = true
+  is_known s (Some e) = is_some (type_in text s e)
+
+  abbrev pub spec_declared : Scope → ValueSpec → Option St
+  spec_declared s v = option_map (λ es. declare (sites_of es)) (spec_entries s v)
+
+  abbrev pub spec_assigned : Scope → ValueSpec → Option St
+  spec_assigned s v = assignment (option_map (map entry_left) (spec_entries s v)) (taken (spec_wanted s v) (seen text s v.values))
+
+  abbrev pub spec_statement : Scope → ValueSpec → Option St
+  spec_statement s v = allowed (is_known s v.type_expr) (if is_bare v.type_expr v.values then spec_declared s v else spec_assigned s v)
+
+  abbrev pub spec_statements : Scope → List ValueSpec → Option Sts
+  spec_statements s [] = Some done
+  spec_statements s (v ∷ vs) = option_and_then (λ t. option_map (next t) (spec_statements (behind_spec s v) vs)) (spec_statement s v)
+
+  abbrev pub behind_specs : Scope → List ValueSpec → Scope
+  behind_specs s [] = s
+  behind_specs s (v ∷ vs) = behind_specs (behind_spec s v) vs

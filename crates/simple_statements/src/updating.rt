@@ -1,0 +1,307 @@
+//! Assignments with an operator, `++` and `--`: a variable gets a value that is made of its own.
+
+ghost use Rattle.std.specs.Prelude.{◌≡◌, ◌⊎◌, Option, Some, None, IfOk, is_some, not, ◌&&◌, option_and_then, if◌then◌else◌};
+ghost use Rattle.std.specs.Option.{option_map};
+ghost use Rattle.syntax.specs.declared.operator.BinOp.TheVariants.{Arithmetic as ArithmeticOf};
+ghost use Rattle.syntax.specs.Expressions.{spelled, ex_of as tree_of, exs_of as trees_of};
+ghost use Rattle.syntax.specs.FirstBytes.{first_place};
+ghost use Rattle.typed.specs.View.{st_of};
+ghost use Rattle.value_types.specs.Least.{IsLeast};
+ghost use Rattle.value_types.specs.Given.{both};
+ghost use Rattle.value_types.specs.Faults.{fault as fault_at, IsFault};
+ghost use Rattle.value_types.specs.declared.fault.FaultKind.TheVariants.{ArgCount as WrongNumber};
+ghost use Rattle.operators.specs.Operators.{combined};
+ghost use Rattle.operators.specs.Faults.{pair_fault};
+ghost use Rattle.operators.specs.Passing.{operand_of};
+ghost use Rattle.names.specs.Universe.{is_blank};
+ghost use Rattle.names.specs.Scope.{scope_of, declaration};
+ghost use Rattle.names.specs.Naming.{name_in};
+ghost use Rattle.expression_types.specs.Typing.{many, count, gives, seen, operand_in};
+ghost use Rattle.expression_types.specs.Faults.{refused_fault, ValuesFail, FailsInEach, FailsAsOperand};
+ghost use Rattle.expression_types.specs.Passing.{seens};
+ghost use Rattle.simple_statements.specs.SimpleStatements.{only, variable_value, own_value, updated, stepped, update_one, update_statement, step_statement};
+ghost use Rattle.simple_statements.specs.SimpleFaults.{own_fault, step_fault, given_count, have_values, lefts_place, OwnSideFails, OwnSidesFail, FailsInUpdate, FailsInStep};
+
+use crate::declaring::{left_fault_of, lefts_pos, value_fault};
+use crate::statements::Line;
+use base::{NoMemory, Pos};
+use expression_types::{Item, check_list, check_single, count, values_fault};
+use names::{Declared, Scope, declaration, is_blank, name_in, spelled};
+use operators::{Operand, pair_fault, paired, type_of};
+use signatures::fault_where;
+use std::alloc::Global;
+use syntax::{ArithmeticOp, Expr, Name};
+use typed::BinOp;
+use value_types::{Fault, FaultKind, ValueType, lesser, same_type};
+
+/// What is known of left sides that have values of their own: whether each has one, and the fault.
+#[derive(Clone, Copy, Debug, PartialEq, Eq)]
+struct Sides {
+    known: bool,
+    fault: Option<Fault>,
+}
+
+fn variable_value(declared: Option<Declared>) -> Option<Operand>
+    ensures { option_map operand_of result ≡ variable_value declared }
+{
+    match declared {
+        Some(Declared::Variable(site, value_type)) => {
+            Some(Operand::Value(value_type, typed::Expr::Local(site)))
+        }
+        _ => None,
+    }
+}
+
+fn name_value(text: &[u8], scope: &Scope, name: Name) -> Option<Operand>
+    ensures { option_map operand_of result ≡ own_value text.now (scope_of scope.now) (Some name) }
+{
+    let bytes = spelled(text, name);
+    if is_blank(bytes) {
+        None
+    } else {
+        variable_value(declaration(scope, bytes))
+    }
+}
+
+/// The value of a variable that is given another one of its own.
+fn own_value(text: &[u8], scope: &Scope, e: &Expr) -> Option<Operand>
+    ensures { option_map operand_of result ≡ own_value text.now (scope_of scope.now) (name_in (tree_of e.now)) }
+{
+    match name_in(e) {
+        Some(name) => name_value(text, scope, name),
+        None => None,
+    }
+}
+
+fn own_fault_of(blank: bool, declared: Option<Declared>, pos: Pos, whole: Pos) -> Option<Fault>
+    ensures { result ≡ own_fault blank declared pos whole }
+{
+    if blank {
+        Some(Fault {
+            kind: FaultKind::Unknown,
+            pos,
+        })
+    } else {
+        left_fault_of(false, declared, pos, whole)
+    }
+}
+
+/// The fault of a name whose value is asked for, as a left side that begins at a place.
+#[tactic(auto, using(value_types::proofs::Leasts::leaf))]
+fn name_fault(text: &[u8], scope: &Scope, name: Name, whole: Pos) -> Option<Fault>
+    ensures { IsLeast (IsFault (own_fault (is_blank (spelled text.now name)) (declaration (scope_of scope.now) (spelled text.now name)) name.pos whole)) result }
+{
+    let bytes = spelled(text, name);
+    own_fault_of(is_blank(bytes), declaration(scope, bytes), name.pos, whole)
+}
+
+/// The fault of a left side whose value is asked for.
+fn side_fault(
+    alloc: Global,
+    text: &[u8],
+    scope: &Scope,
+    e: &Expr,
+) -> Result<Option<Fault>, NoMemory>
+    ensures { IfOk result (λ f. IsLeast (OwnSideFails text.now (scope_of scope.now) (name_in (tree_of e.now)) (tree_of e.now)) f) }
+{
+    match name_in(e) {
+        Some(name) => Ok(name_fault(text, scope, name, e.pos())),
+        None => value_fault(alloc, text, scope, e),
+    }
+}
+
+/// Whether values are known, and that of one more left side.
+fn with_known(text: &[u8], scope: &Scope, known: bool, e: &Expr) -> bool
+    ensures { result ≡ (known && is_some (own_value text.now (scope_of scope.now) (name_in (tree_of e.now)))) }
+{
+    known && own_value(text, scope, e).is_some()
+}
+
+/// Left sides whose values are asked for.
+fn check_sides(alloc: Global, text: &[u8], scope: &Scope, es: &[Expr]) -> Result<Sides, NoMemory>
+    ensures known { IfOk result (λ s. s.known ≡ have_values text.now (scope_of scope.now) (trees_of es.now)) }
+    ensures fault { IfOk result (λ s. IsLeast (OwnSidesFail text.now (scope_of scope.now) (trees_of es.now)) s.fault) }
+{
+    let mut known = true;
+    let mut fault = None;
+    for e in es {
+        known = with_known(text, scope, known, e);
+        let own = side_fault(alloc, text, scope, e)?;
+        fault = lesser(fault, own);
+    }
+    Ok(Sides { known, fault })
+}
+
+/// An assignment with an operator, of what the operator gives of the variable and the operand.
+fn updated(operand: Operand) -> Option<typed::Stmt>
+    ensures { option_map st_of result ≡ updated (operand_of operand) }
+{
+    let Operand::Value(_, e) = operand else {
+        return None;
+    };
+    let typed::Expr::Binary(pos, op, left, right) = e else {
+        return None;
+    };
+    match Box::into_inner(left) {
+        typed::Expr::Local(site) => Some(typed::Stmt::Update(
+            pos,
+            site,
+            op,
+            Box::into_inner(right),
+        )),
+        _ => None,
+    }
+}
+
+fn updated_of(operand: Option<Operand>) -> Option<typed::Stmt>
+    ensures { option_map st_of result ≡ option_and_then updated (option_map operand_of operand) }
+{
+    match operand {
+        Some(operand) => updated(operand),
+        None => None,
+    }
+}
+
+/// An assignment with an operator of one value to one variable.
+fn check_one(
+    alloc: Global,
+    text: &[u8],
+    scope: &Scope,
+    e: &Expr,
+    op: ArithmeticOp,
+    value: &Expr,
+) -> Result<Line, NoMemory>
+    ensures statement { IfOk result (λ c. option_map st_of c.statement ≡ update_one text.now (scope_of scope.now) op (tree_of e.now) (tree_of value.now)) }
+    ensures fault { IfOk result (λ c. IsLeast (λ f. (OwnSideFails text.now (scope_of scope.now) (name_in (tree_of e.now)) (tree_of e.now) f ⊎ FailsAsOperand text.now (scope_of scope.now) (tree_of value.now) f) ⊎ IsFault (pair_fault (first_place (tree_of e.now)) (first_place (tree_of value.now)) (ArithmeticOf op) (own_value text.now (scope_of scope.now) (name_in (tree_of e.now))) (operand_in (gives text.now (scope_of scope.now) (tree_of value.now)))) f) c.fault) }
+{
+    let side = side_fault(alloc, text, scope, e)?;
+    let right = check_single(alloc, text, scope, value)?;
+    let left = own_value(text, scope, e);
+    let tree_op = syntax::BinOp::Arithmetic(op);
+    let own = pair_fault(tree_op, e.pos(), right.pos, &left, &right.operand);
+    let operand = paired(alloc, tree_op, e.pos(), left, right.operand)?;
+    Ok(Line {
+        statement: updated_of(operand),
+        fault: lesser(lesser(side, right.fault), own),
+    })
+}
+
+fn given_count(known: bool, items: &[Item]) -> Option<usize>
+    ensures { result ≡ given_count known (seens items.now) }
+{
+    if known { count(items) } else { None }
+}
+
+fn refused_fault(count: Option<usize>, own: Fault) -> Option<Fault>
+    ensures { result ≡ refused_fault count own }
+{
+    match count {
+        Some(_) => Some(own),
+        None => None,
+    }
+}
+
+/// An assignment with an operator of another number of values, or to another number of left sides.
+fn check_refused(
+    alloc: Global,
+    text: &[u8],
+    scope: &Scope,
+    lefts: &[Expr],
+    pos: Pos,
+    es: &[Expr],
+) -> Result<Line, NoMemory>
+    ensures statement { IfOk result (λ c. option_map st_of c.statement ≡ None) }
+    ensures fault { IfOk result (λ c. IsLeast (λ f. ((OwnSidesFail text.now (scope_of scope.now) (trees_of lefts.now) f ⊎ FailsInEach text.now (scope_of scope.now) (trees_of es.now) f) ⊎ ValuesFail (many (seen text.now (scope_of scope.now) (trees_of es.now))) (seen text.now (scope_of scope.now) (trees_of es.now)) f) ⊎ IsFault (refused_fault (given_count (have_values text.now (scope_of scope.now) (trees_of lefts.now)) (seen text.now (scope_of scope.now) (trees_of es.now))) (fault_at WrongNumber (lefts_place (trees_of lefts.now) pos))) f) c.fault) }
+{
+    let sides = check_sides(alloc, text, scope, lefts)?;
+    let listed = check_list(alloc, text, scope, es)?;
+    let own = Fault {
+        kind: FaultKind::ArgCount,
+        pos: lefts_pos(lefts, pos),
+    };
+    let before = lesser(
+        lesser(sides.fault, listed.fault),
+        values_fault(&listed.items),
+    );
+    let counted = given_count(sides.known, &listed.items);
+    Ok(Line {
+        statement: None,
+        fault: lesser(before, refused_fault(counted, own)),
+    })
+}
+
+/// The expression that stands alone.
+#[tactic(auto, using(crate::proofs::Items::only_first, crate::proofs::Items::only_other))]
+fn only(es: &[Expr]) -> Option<&Expr>
+    ensures { option_map (λ e. tree_of e.now) result ≡ only (trees_of es.now) }
+{
+    if es.len() == 1 { es.first() } else { None }
+}
+
+/// An assignment with an operator.
+pub fn check_update(
+    alloc: Global,
+    text: &[u8],
+    scope: &Scope,
+    lefts: &[Expr],
+    pos: Pos,
+    op: ArithmeticOp,
+    es: &[Expr],
+) -> Result<Line, NoMemory>
+    ensures statement { IfOk result (λ c. option_map st_of c.statement ≡ update_statement text.now (scope_of scope.now) op (only (trees_of lefts.now)) (only (trees_of es.now))) }
+    ensures fault { IfOk result (λ c. IsLeast (FailsInUpdate text.now (scope_of scope.now) (trees_of lefts.now) pos op (trees_of es.now)) c.fault) }
+{
+    match only(lefts) {
+        Some(left) => match only(es) {
+            Some(value) => check_one(alloc, text, scope, left, op, value),
+            None => check_refused(alloc, text, scope, lefts, pos, es),
+        },
+        None => check_refused(alloc, text, scope, lefts, pos, es),
+    }
+}
+
+/// `++` or `--` on a variable, which is an int.
+fn stepped(op: BinOp, operand: Option<Operand>) -> Option<typed::Stmt>
+    ensures { option_map st_of result ≡ option_and_then (stepped op) (option_map operand_of operand) }
+{
+    match operand {
+        Some(Operand::Value(ValueType::Int, typed::Expr::Local(site))) => {
+            Some(typed::Stmt::Bump(site, op))
+        }
+        _ => None,
+    }
+}
+
+/// The fault of `++` or `--` on what is no int.
+fn step_fault(operand: &Option<Operand>, pos: Pos) -> Option<Fault>
+    ensures { result ≡ step_fault (option_map operand_of operand.now) pos }
+{
+    let own = Fault {
+        kind: FaultKind::BadOperand,
+        pos,
+    };
+    match operand {
+        Some(operand) => fault_where(!same_type(ValueType::Int, type_of(operand)), own),
+        None => None,
+    }
+}
+
+/// `++` or `--`, which stand for the operators.
+pub fn check_step(
+    alloc: Global,
+    text: &[u8],
+    scope: &Scope,
+    op: BinOp,
+    e: &Expr,
+) -> Result<Line, NoMemory>
+    ensures statement { IfOk result (λ c. option_map st_of c.statement ≡ step_statement text.now (scope_of scope.now) op (tree_of e.now)) }
+    ensures fault { IfOk result (λ c. IsLeast (FailsInStep text.now (scope_of scope.now) (tree_of e.now)) c.fault) }
+{
+    let side = side_fault(alloc, text, scope, e)?;
+    let operand = own_value(text, scope, e);
+    let own = step_fault(&operand, e.pos());
+    Ok(Line {
+        statement: stepped(op, operand),
+        fault: lesser(side, own),
+    })
+}

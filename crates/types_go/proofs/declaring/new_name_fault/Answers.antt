@@ -1,5 +1,0 @@
-use Rattle.expression_types.proofs.Leasts.{leaf}
-use Rattle.types_go.proofs.declaring.new_name_fault.Goals as goal
-
-pub returns : goal.returns
-returns c = rw (c.new_name_fault_of.ensures, c.is_blank.ensures, c.is_here.ensures, c.declaration.ensures, c.spelled-bytes.ensures) (leaf _)

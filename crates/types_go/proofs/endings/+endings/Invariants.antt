@@ -1,8 +1,0 @@
-use Rattle.std.proofs.Common.{◌≡◌, drop, false}
-use Rattle.syntax.specs.Statements.{stms_of}
-use Rattle.expression_types.specs.Scope.{scope_of}
-use Rattle.types_go.specs.Statements.{ends_after}
-use Rattle.types_go.proofs.endings.+endings.Given as goal
-
-abbrev pub invariant-ends_in_terminating-loop-s : goal.invariant-ends_in_terminating-loop-s
-invariant-ends_in_terminating-loop-s l = ends_after l.text (scope_of l.scope) false (stms_of l.ms) ≡ ends_after l.text (scope_of l.scope) l.ends (stms_of (drop l.s-index l.ms))

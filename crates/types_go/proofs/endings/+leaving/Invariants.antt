@@ -1,8 +1,0 @@
-use Rattle.std.proofs.Common.{◌≡◌, drop}
-use Rattle.std.specs.Prelude.{◌||◌}
-use Rattle.syntax.specs.Statements.{stms_of}
-use Rattle.types_go.specs.Statements.{leaves_any}
-use Rattle.types_go.proofs.endings.+leaving.Given as goal
-
-abbrev pub invariant-leaves_any-loop-s : goal.invariant-leaves_any-loop-s
-invariant-leaves_any-loop-s l = leaves_any (stms_of l.ms) ≡ (l.any || leaves_any (stms_of (drop l.s-index l.ms)))

@@ -1,8 +1,0 @@
-use Rattle.std.proofs.Common.{◌≡◌, drop}
-use Rattle.syntax.specs.Declarations.{declarations_of}
-use Rattle.expression_types.specs.Scope.{scope_of}
-use Rattle.types_go.specs.Functions.{with_heads}
-use Rattle.types_go.proofs.signatures.add_heads.Given as goal
-
-abbrev pub invariant-loop-decl : goal.invariant-loop-decl
-invariant-loop-decl l = with_heads l.text (scope_of l.fn.heads) (declarations_of l.decls) ≡ with_heads l.text (scope_of l.heads) (declarations_of (drop l.decl-index l.decls))

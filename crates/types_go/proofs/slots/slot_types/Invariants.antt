@@ -1,6 +1,0 @@
-use Rattle.std.proofs.Common.{◌≡◌, ◌++◌, drop, map}
-use Rattle.types_go.specs.declared.slots.Slot.{Slot}
-use Rattle.types_go.proofs.slots.slot_types.Given as goal
-
-abbrev pub invariant-loop-slot : goal.invariant-loop-slot
-invariant-loop-slot l = map (λ (p : Slot). p.value_type) l.slots ≡ l.types.items ++ map (λ (p : Slot). p.value_type) (drop l.slot-index l.slots)

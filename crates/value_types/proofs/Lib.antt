@@ -1,0 +1,4 @@
+pub mod Leasts
+pub mod Options
+pub mod Decided
+pub mod Lists

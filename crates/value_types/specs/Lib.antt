@@ -1,0 +1,4 @@
+pub mod Least
+pub mod Given
+pub mod Constants
+pub mod Faults
