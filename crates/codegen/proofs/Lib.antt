@@ -30,3 +30,4 @@ pub mod Follows
 pub mod Emitted
 pub mod Composed
 pub mod Whole
+pub mod Sample

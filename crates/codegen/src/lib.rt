@@ -41,6 +41,8 @@ mod running;
 mod shown;
 mod slots;
 mod stmt_lengths;
+#[cfg(test)]
+mod tests;
 mod values;
 
 pub use program::emit;

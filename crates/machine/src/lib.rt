@@ -31,6 +31,8 @@ mod links;
 mod place;
 mod slots;
 mod steps;
+#[cfg(test)]
+mod tests;
 mod whole;
 
 pub use place::{Ending, Next, Panic, Place};

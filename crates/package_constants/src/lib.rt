@@ -17,3 +17,6 @@ mod values;
 
 pub use faults::constants_fault;
 pub use values::settle;
+
+#[cfg(test)]
+mod tests;

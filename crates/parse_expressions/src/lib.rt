@@ -39,3 +39,6 @@ pub use open::{Open, Progress};
 pub use operand::MOST;
 pub use part::Part;
 pub use terminal::{Terminal, terminal_of};
+
+#[cfg(test)]
+mod tests;

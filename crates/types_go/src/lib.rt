@@ -18,3 +18,6 @@ mod heads;
 
 pub use checking::check;
 pub use value_types::{Fault, FaultKind, TypeFault};
+
+#[cfg(test)]
+mod tests;
