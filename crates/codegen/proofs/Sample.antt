@@ -164,7 +164,7 @@ sample_plain at (suc (suc (suc (suc zero)))) = inl refl
 sample_plain at (suc (suc (suc (suc (suc site))))) = inl refl
 
 sample_in_form : (at : Pos) → IsInForm (sample at)
-sample_in_form at = record { fits = sample_fits at; few = omega arith; main = (main_func, refl, refl, refl, refl); plain = sample_plain at; zeros = refl; globals = λ i g e. absurd (none_some e) }
+sample_in_form at = record { fits = sample_fits at; few = omega arith; main = (main_func, refl, refl, refl, refl); plain = sample_plain at; zeros = refl }
 
 all_stopped_fits : (at : Pos) (f : ℕ) (func : Func) → slice_get (stopped at).funcs f ≡ Some func → FuncFits (stopped at) func
 all_stopped_fits at zero func e = subst (λ (g : Func). FuncFits (stopped at) g) (same_some e) (stopped_fits at)
@@ -175,7 +175,7 @@ stopped_plain at zero = inl refl
 stopped_plain at (suc site) = inl refl
 
 stopped_in_form : (at : Pos) → IsInForm (stopped at)
-stopped_in_form at = record { fits = all_stopped_fits at; few = omega arith; main = (stopped_func at, refl, refl, refl, refl); plain = stopped_plain at; zeros = refl; globals = λ i g e. absurd (none_some e) }
+stopped_in_form at = record { fits = all_stopped_fits at; few = omega arith; main = (stopped_func at, refl, refl, refl, refl); plain = stopped_plain at; zeros = refl }
 
 all_asking_fits : (f : ℕ) (func : Func) → slice_get asking.funcs f ≡ Some func → FuncFits asking func
 all_asking_fits zero func e = subst (λ (g : Func). FuncFits asking g) (same_some e) asking_fits
@@ -187,7 +187,7 @@ asking_plain (suc zero) = inr refl
 asking_plain (suc (suc site)) = inl refl
 
 asking_in_form : IsInForm asking
-asking_in_form = record { fits = all_asking_fits; few = omega arith; main = (asking_func, refl, refl, refl, refl); plain = asking_plain; zeros = refl; globals = λ i g e. absurd (none_some e) }
+asking_in_form = record { fits = all_asking_fits; few = omega arith; main = (asking_func, refl, refl, refl, refl); plain = asking_plain; zeros = refl }
 
 same_parts : (p q : Program) → p.funcs ≡ q.funcs → p.zeros ≡ q.zeros → p.sites ≡ q.sites → p.strings ≡ q.strings → p.globals ≡ q.globals → p.main ≡ q.main → p ≡ q
 same_parts p q e1 e2 e3 e4 e5 e6 =
@@ -212,24 +212,24 @@ at : Pos
 at = record { offset = 60; line = 5; col = 10 }
 
 -- 2 3, in 200 turns
-prints : (items : ℕ → Item) → output (source items (sample at) (limits (sample at) 49 0) 200) ≡ 50 ∷ 32 ∷ 51 ∷ 10 ∷ []
+prints : (items : ℕ → Item) → output (source items (sample at) (limits (sample at) 49) 200) ≡ 50 ∷ 32 ∷ 51 ∷ 10 ∷ []
 unfolding at digits
 prints items = refl
 
 -- i 0 and i 1, and a panic
-stops : (items : ℕ → Item) → output (source items (stopped at) (limits (stopped at) 49 0) 200) ≡ 105 ∷ 32 ∷ 48 ∷ 10 ∷ 105 ∷ 32 ∷ 49 ∷ 10 ∷ []
+stops : (items : ℕ → Item) → output (source items (stopped at) (limits (stopped at) 49) 200) ≡ 105 ∷ 32 ∷ 48 ∷ 10 ∷ 105 ∷ 32 ∷ 49 ∷ 10 ∷ []
 unfolding at digits
 stops items = refl
 
-stops_so : (items : ℕ → Item) → ending_in (source items (stopped at) (limits (stopped at) 49 0) 200) ≡ Some (Panic at divide_by_zero)
+stops_so : (items : ℕ → Item) → ending_in (source items (stopped at) (limits (stopped at) 49) 200) ≡ Some (Panic at divide_by_zero)
 unfolding at digits
 stops_so items = refl
 
 -- 7 true, and 0 false where there is no item
-reads_one : output (source (λ k. Some (pos 7)) asking (limits asking 49 0) 200) ≡ 105 ∷ 10 ∷ 55 ∷ 32 ∷ 116 ∷ 114 ∷ 117 ∷ 101 ∷ 10 ∷ []
+reads_one : output (source (λ k. Some (pos 7)) asking (limits asking 49) 200) ≡ 105 ∷ 10 ∷ 55 ∷ 32 ∷ 116 ∷ 114 ∷ 117 ∷ 101 ∷ 10 ∷ []
 unfolding digits
 reads_one = refl
 
-reads_none : output (source (λ k. None) asking (limits asking 49 0) 200) ≡ 105 ∷ 10 ∷ 48 ∷ 32 ∷ 102 ∷ 97 ∷ 108 ∷ 115 ∷ 101 ∷ 10 ∷ []
+reads_none : output (source (λ k. None) asking (limits asking 49) 200) ≡ 105 ∷ 10 ∷ 48 ∷ 32 ∷ 102 ∷ 97 ∷ 108 ∷ 115 ∷ 101 ∷ 10 ∷ []
 unfolding digits
 reads_none = refl

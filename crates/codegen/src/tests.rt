@@ -13,10 +13,7 @@ use machine::Panic;
 use outside::{MemSink, MemSource};
 use std::alloc::Global;
 use std::test::Fail;
-use typed::{BOOL, BinOp, Const, Expr, Func, INT, Left, Piece, Place, Program, Site, Stmt, Values};
-
-// The most words of the heap.
-const HEAP: u64 = 8;
+use typed::{BOOL, BinOp, Const, Expr, Func, INT, Left, Piece, Program, Site, Stmt, Values};
 
 const AT: Pos = Pos {
     offset: 0,
@@ -37,7 +34,7 @@ const BOOL_SITE: Site = Site {
 fn variable(site: u32) -> Expr
     ensures { ex_of result ≡ read (local site here) }
 {
-    Expr::Read(Place::Local(SiteId(site)))
+    Expr::Local(SiteId(site))
 }
 
 fn number(n: i64) -> Expr
@@ -101,7 +98,7 @@ fn assigned(alloc: Global, a: u32, b: u32, first: Expr, second: Expr) -> Result<
     ensures { IfOk result (λ s. st_of s ≡ assign (to (local a here) ∷ to (local b here) ∷ []) (more (ex_of first) (more (ex_of second) none))) }
 {
     let values = two(alloc, first, second)?;
-    let lefts = vec![in alloc; Left::To(Place::Local(SiteId(a))), Left::To(Place::Local(SiteId(b)))]?;
+    let lefts = vec![in alloc; Left::To(SiteId(a)), Left::To(SiteId(b))]?;
     Ok(Stmt::Assign(lefts, values))
 }
 
@@ -185,7 +182,6 @@ fn program(alloc: Global, at: Pos) -> Result<Program, Fail>
         main: FuncId(1),
         sites,
         strings: Vec::new(alloc),
-        globals: Vec::new(alloc),
     })
 }
 
@@ -234,7 +230,6 @@ fn stopped(alloc: Global, at: Pos) -> Result<Program, Fail>
         main: FuncId(0),
         sites,
         strings,
-        globals: Vec::new(alloc),
     })
 }
 
@@ -274,7 +269,6 @@ fn asking(alloc: Global) -> Result<Program, Fail>
         main: FuncId(0),
         sites,
         strings,
-        globals: Vec::new(alloc),
     })
 }
 
@@ -314,10 +308,9 @@ fn calls_give_several_results(rt: HostRuntime) -> Result<(), Fail> {
         assert_eq!(rt;
             run(
                 rt.alloc(),
-                &program,
                 &code,
+                program.main,
                 stack,
-                HEAP,
                 steps,
                 &mut input,
                 &mut out
@@ -339,10 +332,9 @@ fn a_failed_write_ends_the_run(rt: HostRuntime) -> Result<(), Fail> {
     assert_eq!(rt;
         run(
             rt.alloc(),
-            &program,
             &code,
+            program.main,
             1000,
-            HEAP,
             1000,
             &mut input,
             &mut out
@@ -363,10 +355,9 @@ fn a_panic_ends_the_run(rt: HostRuntime) -> Result<(), Fail> {
     assert_eq!(rt;
         run(
             rt.alloc(),
-            &program,
             &code,
+            program.main,
             1000,
-            HEAP,
             1000,
             &mut input,
             &mut out
@@ -394,10 +385,9 @@ fn items_are_read(rt: HostRuntime) -> Result<(), Fail> {
         assert_eq!(rt;
             run(
                 rt.alloc(),
-                &program,
                 &code,
+                program.main,
                 1000,
-                HEAP,
                 1000,
                 &mut input,
                 &mut out

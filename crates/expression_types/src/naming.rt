@@ -14,14 +14,14 @@ use base::Pos;
 use names::{Declared, Scope, declaration, fixed, spelled};
 use operators::Operand;
 use syntax::Name;
-use typed::{Expr, Place};
+use typed::Expr;
 use value_types::{Constant, Fault, FaultKind, untyped};
 
 fn value_of(scope: &Scope, declared: Option<Declared>) -> Option<Gives>
     ensures { option_map gives_of result ≡ option_map one (name_operand (scope_of scope.now) declared) }
 {
     let operand = match declared {
-        Some(Declared::Variable(site, value_type)) => Operand::Value(value_type, Expr::Read(Place::Local(site))),
+        Some(Declared::Variable(site, value_type)) => Operand::Value(value_type, Expr::Local(site)),
         Some(Declared::Constant(number)) => Operand::Constant(fixed(scope, number)?),
         Some(Declared::Truth(truth)) => Operand::Constant(untyped(Constant::Truth(truth))),
         _ => return None,

@@ -9,7 +9,7 @@ use Rattle.gostk.specs.Refusal.{refusal_line}
 use Rattle.gostk.specs.declared.answer.Answer.{Answer}
 use Rattle.gostk.specs.declared.answer.Reason.{Reason}
 use Rattle.gostk.specs.declared.answer.Reason.TheVariants.{DivideByZero, ShiftCount, ExitCode, Text, Int, Bool as Truth}
-use Rattle.gostk.specs.declared.answer.Answer.TheVariants.{Ended, Panicked, Usage, Limits, SourceOnly, Refused, ReadFault, WriteFault, Steps, StackLimit, HeapLimit, NoMemory}
+use Rattle.gostk.specs.declared.answer.Answer.TheVariants.{Ended, Panicked, Usage, Limits, SourceOnly, Refused, ReadFault, WriteFault, Steps, StackLimit, NoMemory}
 
 abbrev pub status_of : Answer → ℕ
 status_of (Ended status) = status
@@ -22,7 +22,6 @@ status_of ReadFault = 203
 status_of WriteFault = 204
 status_of (Steps n) = 205
 status_of (StackLimit used asked limit) = 207
-status_of (HeapLimit used asked limit) = 206
 status_of NoMemory = 209
 
 abbrev pub limits_line : LimitFault → List ℕ
@@ -34,10 +33,6 @@ steps_line n = codes "gostk: steps " ++ (decimal n ++ codes "\n")
 abbrev pub stack_line : (used asked limit : ℕ) → List ℕ
 stack_line used asked limit =
     codes "gostk: stack used " ++ (decimal used ++ (codes " asked " ++ (decimal asked ++ (codes " limit " ++ (decimal limit ++ codes "\n")))))
-
-abbrev pub heap_line : (used asked limit : ℕ) → List ℕ
-heap_line used asked limit =
-    codes "gostk: heap used " ++ (decimal used ++ (codes " asked " ++ (decimal asked ++ (codes " limit " ++ (decimal limit ++ codes "\n")))))
 
 -- why a program panics, in words
 abbrev pub truth_text : Bool → List ℕ
@@ -78,5 +73,4 @@ line_of ReadFault = codes "gostk: read fault\n"
 line_of WriteFault = codes "gostk: write fault\n"
 line_of (Steps n) = steps_line n
 line_of (StackLimit used asked limit) = stack_line used asked limit
-line_of (HeapLimit used asked limit) = heap_line used asked limit
 line_of NoMemory = codes "gostk: no memory\n"

@@ -42,8 +42,6 @@ pub enum Answer<'a> {
     Steps(u64),
     /// A call would have passed the limit of the stack: the words in use, those asked for, and the limit.
     StackLimit { used: u64, asked: u64, limit: u64 },
-    /// The package variables would have passed the limit of the heap: the words taken, those asked for, and the limit.
-    HeapLimit { used: u64, asked: u64, limit: u64 },
     /// Memory was refused.
     NoMemory,
 }
@@ -61,7 +59,6 @@ impl Answer<'_> {
             Answer::ReadFault => 203,
             Answer::WriteFault => 204,
             Answer::Steps(_) => 205,
-            Answer::HeapLimit { .. } => 206,
             Answer::StackLimit { .. } => 207,
             Answer::NoMemory => 209,
         }

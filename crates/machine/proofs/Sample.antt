@@ -1,11 +1,11 @@
--- A code with a recursive function is one, and so are one with a string, one that reads and one that reaches memory.
+-- A code with a recursive function is one, and so are one with a string and one that reads.
 use Rattle.std.proofs.Common.{◌≡◌, ℕ, zero, suc, ◌+◌, List, [], ◌∷◌, Some, refl, subst, arith}
 use Rattle.std.specs.Prelude.{slice_get, ⊤}
 use Rattle.std.proofs.lemmas.Option.{slice_get_within}
 use Rattle.isa.specs.Code.{Tables, CanCall, Fits, FitsPlace, IsLinked, IsCode}
 use Rattle.isa.specs.declared.instr.BinOp.TheVariants.{Add, Sub, Div, ShiftLeft}
 use Rattle.isa.specs.declared.instr.Instr.{Instr}
-use Rattle.isa.specs.declared.instr.Instr.TheVariants.{Const, MoveWords, Bin, Jump, JumpZero, Call, Argument, SetResults, Load, Store, PrintInt, PrintBool, PrintText, PrintSpace, PrintLine, ReadInt, Return, Exit, PanicText}
+use Rattle.isa.specs.declared.instr.Instr.TheVariants.{Const, MoveWords, Bin, Jump, JumpZero, Call, Argument, SetResults, PrintInt, PrintBool, PrintText, PrintSpace, PrintLine, ReadInt, Return, Exit, PanicText}
 use Rattle.isa.specs.declared.func.Func.{Func}
 
 some_injective : {A : Type 0} (x y : A) → Some x ≡ Some y → x ≡ y
@@ -176,21 +176,3 @@ reading_linked (suc f) fn is = absurd (let within = slice_get_within ending_func
 
 pub reading_is_code : IsCode (record { instrs = reading_instrs; owners = reading_owners; funcs = ending_funcs; strings = [] })
 reading_is_code = record { same = refl; fits = λ place i is. each_at reading_owners ending_funcs 0 0 reading_instrs each_reading place place i (omega arith) is; linked = reading_linked }
-
-abbrev pub reaching_instrs : List Instr
-reaching_instrs = Store 0 1 1 2 ∷ (Load 2 0 1 2 ∷ (PrintInt 2 ∷ (PrintSpace ∷ (PrintInt 3 ∷ (Return ∷ [])))))
-
-each_reaching : Each reading_owners ending_funcs 0 0 reaching_instrs
-each_reaching = (
-  in_readings 0 (Store 0 1 1 2) refl (omega arith, omega arith, omega arith, refl),
-  (
-    in_readings 1 (Load 2 0 1 2) refl (omega arith, omega arith, omega arith, refl),
-    (
-      in_readings 2 (PrintInt 2) refl (omega arith, refl),
-      (in_readings 3 PrintSpace refl refl, (in_readings 4 (PrintInt 3) refl (omega arith, refl), (in_readings 5 Return refl tt, tt))),
-    ),
-  ),
-)
-
-pub reaching_is_code : IsCode (record { instrs = reaching_instrs; owners = reading_owners; funcs = ending_funcs; strings = [] })
-reaching_is_code = record { same = refl; fits = λ place i is. each_at reading_owners ending_funcs 0 0 reaching_instrs each_reaching place place i (omega arith) is; linked = reading_linked }

@@ -5,7 +5,6 @@ ghost use Rattle.isa.specs.declared.instr.Instr.{Instr};
 ghost use Rattle.machine.specs.Inside.{Inside};
 
 use crate::{Ending, Panic, Place, run};
-use heap_bump::{HEAP_LOW, Heap};
 use isa::{BinOp, Code, Func, Instr};
 use outside::{IntReader, MemSink, MemSource};
 use std::alloc::Global;
@@ -120,34 +119,6 @@ fn readings(alloc: Global) -> Result<Code, Fail>
     Ok(Code::made(instrs, owners, funcs, Vec::new(alloc)))
 }
 
-// The two words of slots 1 and 2 go to memory, to one word behind the address in slot 0 and the next, and from there to
-// slots 2 and 3.
-fn reaching(alloc: Global) -> Result<Code, Fail>
-    ensures { IfOk result (λ c. length c.instrs ≡ 6) }
-{
-    let instrs = vec![in alloc;
-        Instr::Store {
-            a: 0,
-            off: 1,
-            c: 1,
-            n: 2
-        },
-        Instr::Load {
-            a: 2,
-            b: 0,
-            off: 1,
-            n: 2
-        },
-        Instr::PrintInt { a: 2 },
-        Instr::PrintSpace,
-        Instr::PrintInt { a: 3 },
-        Instr::Return,
-    ]?;
-    let owners = vec![in alloc; 0, 0, 0, 0, 0, 0]?;
-    let funcs = vec![in alloc; MAIN]?;
-    Ok(Code::made(instrs, owners, funcs, Vec::new(alloc)))
-}
-
 // A reader, and a source that has ended.
 fn no_input(alloc: Global) -> (IntReader, MemSource) {
     (
@@ -197,7 +168,6 @@ fn sums_are_printed(rt: HostRuntime) -> Result<(), Fail> {
     for (stack_max, want, printed) in cases {
         let mut words = vec![in rt.alloc(); 0; 6]?;
         let mut out = MemSink::new(rt.alloc(), Vec::new(rt.alloc()));
-        let mut heap = Heap::new(rt.alloc(), 0);
         let at = Place { pc: 0, base: 0 };
         assert!(rt; is_inside(&code, words.len(), at));
         let (mut reader, mut input) = no_input(rt.alloc());
@@ -206,7 +176,6 @@ fn sums_are_printed(rt: HostRuntime) -> Result<(), Fail> {
             &code,
             &mut words,
             stack_max,
-            &mut heap,
             at,
             &mut reader,
             &mut input,
@@ -224,7 +193,6 @@ fn a_run_goes_on(rt: HostRuntime) -> Result<(), Fail> {
     let code = sums(rt.alloc())?;
     let mut words = vec![in rt.alloc(); 0; 6]?;
     let mut out = MemSink::new(rt.alloc(), Vec::new(rt.alloc()));
-    let mut heap = Heap::new(rt.alloc(), 0);
     let at = Place { pc: 0, base: 0 };
     assert!(rt; is_inside(&code, words.len(), at));
     let (mut reader, mut input) = no_input(rt.alloc());
@@ -233,7 +201,6 @@ fn a_run_goes_on(rt: HostRuntime) -> Result<(), Fail> {
         &code,
         &mut words,
         100,
-        &mut heap,
         at,
         &mut reader,
         &mut input,
@@ -246,7 +213,6 @@ fn a_run_goes_on(rt: HostRuntime) -> Result<(), Fail> {
         &code,
         &mut words,
         100,
-        &mut heap,
         first.at,
         &mut reader,
         &mut input,
@@ -277,7 +243,6 @@ fn runs_end(rt: HostRuntime) -> Result<(), Fail> {
         words[0] = first.cast_unsigned();
         words[1] = second.cast_unsigned();
         let mut out = MemSink::new(rt.alloc(), Vec::new(rt.alloc()));
-        let mut heap = Heap::new(rt.alloc(), 0);
         let at = Place { pc, base: 0 };
         assert!(rt; is_inside(&code, words.len(), at));
         let (mut reader, mut input) = no_input(rt.alloc());
@@ -286,7 +251,6 @@ fn runs_end(rt: HostRuntime) -> Result<(), Fail> {
             &code,
             &mut words,
             100,
-            &mut heap,
             at,
             &mut reader,
             &mut input,
@@ -331,7 +295,6 @@ fn items_are_read(rt: HostRuntime) -> Result<(), Fail> {
             ),
         );
         let mut out = MemSink::new(rt.alloc(), Vec::new(rt.alloc()));
-        let mut heap = Heap::new(rt.alloc(), 0);
         let at = Place { pc: 0, base: 0 };
         assert!(rt; is_inside(&code, words.len(), at));
         let end = run(
@@ -339,7 +302,6 @@ fn items_are_read(rt: HostRuntime) -> Result<(), Fail> {
             &code,
             &mut words,
             100,
-            &mut heap,
             at,
             &mut reader,
             &mut input,
@@ -399,7 +361,6 @@ fn wild_words_are_found(rt: HostRuntime) -> Result<(), Fail> {
         words.extend_from_slice(stack)?;
         assert!(rt; words.len() <= 100);
         let mut out = MemSink::new(rt.alloc(), Vec::new(rt.alloc()));
-        let mut heap = Heap::new(rt.alloc(), 0);
         let at = Place { pc, base: 0 };
         assert!(rt; is_inside(&code, words.len(), at));
         let (mut reader, mut input) = no_input(rt.alloc());
@@ -408,7 +369,6 @@ fn wild_words_are_found(rt: HostRuntime) -> Result<(), Fail> {
             &code,
             &mut words,
             100,
-            &mut heap,
             at,
             &mut reader,
             &mut input,
@@ -416,60 +376,6 @@ fn wild_words_are_found(rt: HostRuntime) -> Result<(), Fail> {
             1000,
         );
         assert_eq!(rt; end.ending, Some(want));
-    }
-    Ok(())
-}
-
-// The heap has so many words, and the stack at most 100, of which the frame's are the upper 6.
-#[test]
-fn memory_is_reached(rt: HostRuntime) -> Result<(), Fail> {
-    let code = reaching(rt.alloc())?;
-    let cases: [(u64, u64, Ending, &[u8], &[u64]); 11] = [
-        (HEAP_LOW, 3, Ending::Exit(0), b"7 8", &[0, 7, 8]),
-        (HEAP_LOW + 1, 4, Ending::Exit(0), b"7 8", &[0, 0, 7, 8]),
-        (HEAP_LOW - 1, 2, Ending::Exit(0), b"7 8", &[7, 8]),
-        (HEAP_LOW, 2, Ending::WildAddress(HEAP_LOW + 1), b"", &[0, 0]),
-        (
-            HEAP_LOW - 2,
-            2,
-            Ending::WildAddress(HEAP_LOW - 1),
-            b"",
-            &[0, 0],
-        ),
-        (0, 2, Ending::Panic(Panic::NilPointer), b"", &[0, 0]),
-        (u64::MAX, 2, Ending::WildAddress(0), b"", &[0, 0]),
-        (u64::MAX - 1, 2, Ending::WildAddress(u64::MAX), b"", &[0, 0]),
-        (TOP + 95, 2, Ending::Exit(0), b"7 8", &[0, 0]),
-        (TOP + 92, 2, Ending::WildAddress(TOP + 93), b"", &[0, 0]),
-        (TOP + 98, 2, Ending::WildAddress(TOP + 99), b"", &[0, 0]),
-    ];
-    for (address, taken, want, printed, left) in cases {
-        let mut words = vec![in rt.alloc(); 0; 6]?;
-        words[0] = address;
-        words[1] = 7;
-        words[2] = 8;
-        let mut heap = Heap::new(rt.alloc(), 10);
-        heap.take(taken)?;
-        let mut out = MemSink::new(rt.alloc(), Vec::new(rt.alloc()));
-        let at = Place { pc: 0, base: 0 };
-        assert!(rt; is_inside(&code, words.len(), at));
-        let (mut reader, mut input) = no_input(rt.alloc());
-        let end = run(
-            rt.alloc(),
-            &code,
-            &mut words,
-            100,
-            &mut heap,
-            at,
-            &mut reader,
-            &mut input,
-            &mut out,
-            1000,
-        );
-        assert_eq!(rt; end.ending, Some(want));
-        assert_eq!(rt; out.bytes(), printed);
-        let many = heap.used();
-        assert_eq!(rt; heap.words(HEAP_LOW, many as usize), left);
     }
     Ok(())
 }

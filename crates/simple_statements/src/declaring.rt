@@ -27,7 +27,7 @@ use names::{
 use signatures::{Slot, fault_where};
 use std::alloc::Global;
 use syntax::{Expr, Name};
-use typed::{Left, Place};
+use typed::Left;
 use value_types::{Fault, FaultKind, ValueType, lesser};
 
 /// What is known of left sides.
@@ -49,7 +49,7 @@ fn target(declared: Option<Declared>) -> Option<Left>
     ensures { option_map left_view result ≡ target declared }
 {
     match declared {
-        Some(Declared::Variable(site, _)) => Some(Left::To(Place::Local(site))),
+        Some(Declared::Variable(site, _)) => Some(Left::To(site)),
         _ => None,
     }
 }

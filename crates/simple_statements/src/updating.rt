@@ -31,7 +31,7 @@ use operators::{Operand, pair_fault, paired, type_of};
 use signatures::fault_where;
 use std::alloc::Global;
 use syntax::{ArithmeticOp, Expr, Name};
-use typed::{BinOp, Place};
+use typed::BinOp;
 use value_types::{Fault, FaultKind, ValueType, lesser, same_type};
 
 /// What is known of left sides that have values of their own: whether each has one, and the fault.
@@ -46,7 +46,7 @@ fn variable_value(declared: Option<Declared>) -> Option<Operand>
 {
     match declared {
         Some(Declared::Variable(site, value_type)) => {
-            Some(Operand::Value(value_type, typed::Expr::Read(Place::Local(site))))
+            Some(Operand::Value(value_type, typed::Expr::Local(site)))
         }
         _ => None,
     }
@@ -143,9 +143,9 @@ fn updated(operand: Operand) -> Option<typed::Stmt>
         return None;
     };
     match Box::into_inner(left) {
-        typed::Expr::Read(place) => Some(typed::Stmt::Update(
+        typed::Expr::Local(site) => Some(typed::Stmt::Update(
             pos,
-            place,
+            site,
             op,
             Box::into_inner(right),
         )),
@@ -265,8 +265,8 @@ fn stepped(op: BinOp, operand: Option<Operand>) -> Option<typed::Stmt>
     ensures { option_map st_of result ≡ option_and_then (stepped op) (option_map operand_of operand) }
 {
     match operand {
-        Some(Operand::Value(ValueType::Int, typed::Expr::Read(place))) => {
-            Some(typed::Stmt::Bump(place, op))
+        Some(Operand::Value(ValueType::Int, typed::Expr::Local(site))) => {
+            Some(typed::Stmt::Bump(site, op))
         }
         _ => None,
     }

@@ -12,8 +12,7 @@ use Rattle.syntax.specs.Statements.{ValueSpec}
 use Rattle.syntax.specs.Declarations.{TypeSpec, Function as TreeFunction, Declaration, constants, variables, types, Syntax, declarations_of, syntax_of}
 use Rattle.syntax.specs.Declarations as tree
 use Rattle.typed.specs.Syntax.{Func, Program}
-use Rattle.typed.specs.View.{zero_values, func_of, global_of, site_types, program_of}
-use Rattle.typed.specs.declared.program.PackageVariable.{PackageVariable}
+use Rattle.typed.specs.View.{zero_values, func_of, program_of}
 use Rattle.typed.specs.declared.program.Program.{Program as ProgramData}
 use Rattle.typed.specs.declared.program.Site.{Site}
 use Rattle.std.specs.Global.{Vec}
@@ -98,21 +97,14 @@ pub sound : (t : Syntax) → IsLeast (FailsIn t) None → Sound t
 sound t least f h = least f (inr (inl (inr h)))
 
 pub typed : (t : Syntax) (p : ProgramData) → Sound t → program_functions t ≡ Some (map func_of p.funcs.items) → main_number t ≡ Some p.main.0 → p.sites.items ≡ sites_in t
-    → map (λ (bytes : Vec ℕ). bytes.items) p.strings.items ≡ strings_in t → p.globals.items ≡ [] → Types t (program_of p)
-typed t p constants_sound funcs main sites strings globals = record {
+    → map (λ (bytes : Vec ℕ). bytes.items) p.strings.items ≡ strings_in t → Types t (program_of p)
+typed t p constants_sound funcs main sites strings = record {
   funcs = map func_of p.funcs.items;
   main = p.main.0;
   functions = funcs;
   main_is = main;
   constants = constants_sound;
-  is = ap (λ (l : List PackageVariable). record {
-    funcs = map func_of p.funcs.items;
-    zeros = zero_values;
-    sites = map (λ (site : Site). site.type_id.0) p.sites.items;
-    strings = map (λ (bytes : Vec ℕ). bytes.items) p.strings.items;
-    globals = map (global_of (site_types p.sites.items)) l;
-    main = p.main.0;
-  }) globals ∙ ap (λ (l : List Site). record {
+  is = ap (λ (l : List Site). record {
     funcs = map func_of p.funcs.items;
     zeros = zero_values;
     sites = map (λ (site : Site). site.type_id.0) l;

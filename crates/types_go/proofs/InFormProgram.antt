@@ -418,5 +418,4 @@ in_form t p a =
       main = (at.1.1.0, at.1.1.1.0, plain.0, plain.1.0, plain.1.1);
       plain = λ site. subst (λ (l : List ℕ). IsPlain (get_or l site int_type)) (sym has) (sites_plain all every site);
       zeros = refl;
-      globals = λ i g got. absurd (none_some got);
     })

@@ -1,6 +1,6 @@
 //! A tree's typed program.
 
-ghost use Rattle.std.specs.Prelude.{◌≡◌, ◌⊎◌, [], Option, Some, None, IfOk, IfErr, map, length, not, slice_get, if◌then◌else◌, codes, ◌&&◌};
+ghost use Rattle.std.specs.Prelude.{◌≡◌, ◌⊎◌, Option, Some, None, IfOk, IfErr, map, length, not, slice_get, if◌then◌else◌, codes, ◌&&◌};
 ghost use Rattle.std.specs.Option.{option_map};
 ghost use Rattle.syntax.specs.Expressions.{spelled};
 ghost use Rattle.syntax.specs.Declarations.{function as function_item, function_of, declaration_of, declarations_of, syntax_of};
@@ -30,7 +30,7 @@ use signatures::{
 };
 use std::alloc::Global;
 use syntax::{Decl, Func, Name, Tree};
-use typed::{PackageVariable, Program, Site};
+use typed::{Program, Site};
 use value_types::{Fault, FaultKind, TypeFault, lesser};
 
 fn number_of(declared: Option<Declared>) -> Option<FuncId>
@@ -271,7 +271,6 @@ struct Passed {
     funcs: Option<Vec<typed::Func>>,
     sites: Vec<Site>,
     strings: Vec<Vec<u8>>,
-    globals: Vec<PackageVariable>,
     fault: Option<Fault>,
 }
 
@@ -281,7 +280,6 @@ fn pass(alloc: Global, tree: &Tree) -> Result<Passed, NoMemory>
     ensures funcs { IfOk result (λ r. option_map (λ v. map func_of v.items) r.funcs ≡ functions (syntax_of tree.now).text (heads_of (syntax_of tree.now)) (package_scope (syntax_of tree.now)) 0 (numbered_functions (syntax_of tree.now))) }
     ensures sites { IfOk result (λ r. r.sites.items ≡ sites_in (syntax_of tree.now)) }
     ensures strings { IfOk result (λ r. map (λ string. string.items) r.strings.items ≡ strings_in (syntax_of tree.now)) }
-    ensures globals { IfOk result (λ r. r.globals.items ≡ []) }
     ensures places { IfOk result (λ r. AreAt (function_places (syntax_of tree.now)) (option_map (λ v. v.items) r.funcs)) }
     ensures fault { IfOk result (λ r. IsLeast (FailsIn (syntax_of tree.now)) r.fault) }
 {
@@ -300,7 +298,6 @@ fn pass(alloc: Global, tree: &Tree) -> Result<Passed, NoMemory>
         funcs: checked.funcs,
         sites: scope.sites,
         strings: scope.strings,
-        globals: Vec::new(alloc),
         fault: lesser(main_fault, others),
     })
 }
@@ -326,7 +323,6 @@ pub fn check(alloc: Global, tree: &Tree) -> Result<Program, TypeFault>
         funcs,
         sites,
         strings,
-        globals,
         fault,
     } = pass(alloc, tree)?;
     match fault {
@@ -339,7 +335,6 @@ pub fn check(alloc: Global, tree: &Tree) -> Result<Program, TypeFault>
                 main,
                 sites,
                 strings,
-                globals,
             })
         }
     }
