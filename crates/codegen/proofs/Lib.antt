@@ -30,4 +30,3 @@ pub mod Follows
 pub mod Emitted
 pub mod Composed
 pub mod Whole
-pub mod Sample

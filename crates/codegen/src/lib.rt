@@ -41,8 +41,6 @@ mod running;
 mod shown;
 mod slots;
 mod stmt_lengths;
-#[cfg(test)]
-mod tests;
 mod values;
 
 pub use program::emit;

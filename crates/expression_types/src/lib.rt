@@ -21,6 +21,3 @@ pub use values::{
     accepts, are_single, asked, count, count_fault, placed_fault, singles_fault, take_fault, taken,
     taken_types, value_types, values_fault,
 };
-
-#[cfg(test)]
-mod tests;

@@ -13,7 +13,7 @@ use Rattle.meaning.specs.Meaning.{Item}
 use Rattle.meaning.specs.Output.{Sight, output}
 use Rattle.compile.specs.Accepted.{Accepted}
 use Rattle.base.specs.declared.pos.Pos.{Pos}
-use Rattle.gostk.specs.Answer.{status_of, line_of, reason_text, fault_text, panic_line, steps_line, stack_line}
+use Rattle.gostk.specs.Answer.{IsStatus, of_run, words_refused as for_words, text_refused as for_text, read_failed as for_reading, write_failed as for_writing, steps_passed as for_steps, stack_passed as for_stack, memory_refused as for_memory, status_of, line_of, reason_text, fault_text, panic_line, steps_line, stack_line}
 use Rattle.gostk.specs.Programs.{EndsBy, PanicsWith, PanicsBy, GoesOn, Begins, CameInOrder, Reading, few_turns, all_turns}
 use Rattle.gostk.specs.Words.{bounds_of, is_source, path_of, Asks, IsOffLimits, IsNoSource}
 use Rattle.gostk.specs.Rows.{Seen, Reads, IsNoText, IsRunOf, GainedRead, Allowed, Reported, FinishedOrPanicked, WriteFailed, StepsPassed, TextRefused, MemoryRefused, IsWrong, IsMissing, IsUnaccepted, Comes, IsCalm, Completes, Does}
@@ -358,3 +358,21 @@ memory_refused old new words WriteFault status err err' before now al (inl h) is
 memory_refused old new words (Steps n) status err err' before now al (inl h) is = absurd (omega (arith, h.0, is))
 memory_refused old new words (StackLimit u x l) status err err' before now al (inl h) is = absurd (omega (arith, h.0, is))
 memory_refused old new words NoMemory status err err' before now al (inl h) is = record { when = al; line = h.1 }
+
+-- every answer has a status of the table
+answer_status : (old new : Seen) (words : List (List ℕ)) (a : Answer) → Allowed old new words a → IsStatus (status_of a)
+answer_status old new words (Ended n) al = of_run n al.4
+answer_status old new words (Panicked reason) al = of_run 2 (omega arith)
+answer_status old new words (Usage t) al = for_words
+answer_status old new words (Limits f) al = for_words
+answer_status old new words SourceOnly al = for_words
+answer_status old new words (Refused file refusal) al = for_text
+answer_status old new words ReadFault al = for_reading
+answer_status old new words WriteFault al = for_writing
+answer_status old new words (Steps n) al = for_steps
+answer_status old new words (StackLimit u x l) al = for_stack
+answer_status old new words NoMemory al = for_memory
+
+pub has_status : (old new : Seen) (words : List (List ℕ)) (a : Answer) (status : ℕ) (err err' : Option (List ℕ)) (before now : ℕ) → Allowed old new words a → Reported a status err err' before now → IsStatus status
+has_status old new words a status err err' before now al (inl h) = subst IsStatus (sym h.0) (answer_status old new words a al)
+has_status old new words a status err err' before now al (inr h) = subst IsStatus (sym h.0) for_writing

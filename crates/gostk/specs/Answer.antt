@@ -1,5 +1,5 @@
 -- The status and the line of each answer.
-use Rattle.std.specs.Prelude.{ℕ, Bool, true, false, List, [], ◌++◌, codes, decimal, string_bytes}
+use Rattle.std.specs.Prelude.{ℕ, ◌≤◌, Bool, true, false, List, [], ◌++◌, codes, decimal, string_bytes}
 use Rattle.std.specs.Fmt.{signed_decimal}
 use Rattle.typed.specs.Value.{Value, int, bool}
 use Rattle.meaning.specs.Trace.{Fault, divide_by_zero, shift_count, exit_code, raised_text, raised}
@@ -23,6 +23,17 @@ status_of WriteFault = 204
 status_of (Steps n) = 205
 status_of (StackLimit used asked limit) = 207
 status_of NoMemory = 209
+
+-- the statuses that the program ends with: those of a program that ran, and those of the table
+pub data IsStatus : ℕ → Type 0 where
+  of_run : (status : ℕ) → status ≤ 125 → IsStatus status
+  words_refused : IsStatus 200
+  text_refused : IsStatus 201
+  read_failed : IsStatus 203
+  write_failed : IsStatus 204
+  steps_passed : IsStatus 205
+  stack_passed : IsStatus 207
+  memory_refused : IsStatus 209
 
 abbrev pub limits_line : LimitFault → List ℕ
 limits_line fault = codes "gostk: limits kind " ++ (decimal (fault_number fault) ++ codes "\n")

@@ -4,6 +4,7 @@ ghost use Rattle.typed.specs.Syntax.{Program};
 ghost use Rattle.compile.specs.Compiled.{Does, compiled_program};
 ghost use Rattle.gostk.specs.Words.{texts_of};
 ghost use Rattle.gostk.specs.Rows.{seen, streams, IsTextOf, Tells, Allowed, Reported, FinishedOrPanicked, WordsRefused, TextRefused, ReadFailed, WriteFailed, StepsPassed, StackPassed, MemoryRefused, GainedRead, IsWrong, IsMissing, IsUnaccepted, Comes, Completes, RanBy, RanText, Asking, RunsAsking, words_answer};
+ghost use Rattle.gostk.specs.Answer.{IsStatus};
 ghost use Rattle.gostk.specs.declared.answer.Answer.{Answer};
 
 use crate::answer::{Answer, Reason};
@@ -175,6 +176,8 @@ pub fn gostk<F: Files, I: Source, O: Sink, E: Sink>(
         (seen (F.content files.old) (F.failed files.old) (streams (O.taken out.old) (O.faults out.old) (I.left input.old) (I.faults input.old)))
         (seen (F.content files.new) (F.failed files.new) (streams (O.taken out.new) (O.faults out.new) (I.left input.new) (I.faults input.new))) (texts_of words.now) answer
         × Reported answer result (E.taken err.old) (E.taken err.new) (E.faults err.old) (E.faults err.new) }
+
+    ensures status { IsStatus result }
 
     // The rows, each by its status.
     ensures finished { result ≤ 125 → FinishedOrPanicked result

@@ -31,8 +31,6 @@ mod links;
 mod place;
 mod slots;
 mod steps;
-#[cfg(test)]
-mod tests;
 mod whole;
 
 pub use place::{Ending, Next, Panic, Place};

@@ -17,6 +17,3 @@ mod values;
 
 pub use faults::constants_fault;
 pub use values::settle;
-
-#[cfg(test)]
-mod tests;

@@ -39,6 +39,3 @@ pub use open::{Open, Progress};
 pub use operand::MOST;
 pub use part::Part;
 pub use terminal::{Terminal, terminal_of};
-
-#[cfg(test)]
-mod tests;

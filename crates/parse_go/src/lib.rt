@@ -41,6 +41,3 @@ pub use syntax::{
     ArithmeticOp, BinOp, Body, Bound, Clause, CompareOp, Decl, Element, Else, Expr, Field, Func,
     Guard, Name, Params, Simple, Stmt, Targets, Tree, TypeSpec, UnOp, ValueSpec,
 };
-
-#[cfg(test)]
-mod tests;

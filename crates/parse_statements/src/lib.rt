@@ -29,6 +29,3 @@ pub use declaration::{begin_specs, step_specs};
 pub use spot::Declares;
 pub use state::{BodyProgress, BodyState};
 pub use value_specs::{SpecsProgress, ValueSpecs};
-
-#[cfg(test)]
-mod tests;

@@ -18,6 +18,3 @@ mod heads;
 
 pub use checking::check;
 pub use value_types::{Fault, FaultKind, TypeFault};
-
-#[cfg(test)]
-mod tests;

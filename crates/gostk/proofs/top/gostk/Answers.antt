@@ -1,6 +1,9 @@
 use Rattle.gostk.specs.Words.{texts_of}
-use Rattle.gostk.proofs.Table.{completes, finished, wrong_text, text_refused, write_failed, steps_passed, memory_refused}
+use Rattle.gostk.proofs.Table.{completes, finished, has_status, wrong_text, text_refused, write_failed, steps_passed, memory_refused}
 use Rattle.gostk.proofs.top.gostk.Goals as goal
+
+pub returns-clause-status : goal.returns-clause-status
+returns-clause-status g c = has_status _ _ (texts_of c.args.words.now) c.carry_out-answer.result c.report.result _ _ _ _ c.carry_out-answer.ensures.allowed c.report.ensures
 
 pub returns-clause-finished : goal.returns-clause-finished
 returns-clause-finished g c = finished _ _ (texts_of c.args.words.now) c.carry_out-answer.result c.report.result _ _ _ _ c.carry_out-answer.ensures.allowed c.report.ensures

@@ -1,0 +1,305 @@
+//! Typed programs, written down in short: a variable is the number of its site behind a `v`, a function that of itself behind an `f`, a
+//! string that of itself behind an `s`; a place is a column behind an `@`.
+
+use base::{Pos, SiteId, TypeId};
+use std::alloc::AllocError;
+use std::str::from_utf8;
+use typed::{BOOL, BinOp, Const, Expr, Func, INT, Left, Piece, Program, Stmt, UnOp, Values};
+
+fn prefix_sign(op: UnOp) -> &'static str {
+    match op {
+        UnOp::Plus => "+",
+        UnOp::Negate => "-",
+        UnOp::Complement => "^",
+        UnOp::Not => "!",
+    }
+}
+
+fn sign(op: BinOp) -> &'static str {
+    match op {
+        BinOp::Add => "+",
+        BinOp::Sub => "-",
+        BinOp::Mul => "*",
+        BinOp::Div => "/",
+        BinOp::Rem => "%",
+        BinOp::And => "&",
+        BinOp::Or => "|",
+        BinOp::Xor => "^",
+        BinOp::AndNot => "&^",
+        BinOp::ShiftLeft => "<<",
+        BinOp::ShiftRight => ">>",
+        BinOp::Equal => "==",
+        BinOp::NotEqual => "!=",
+        BinOp::Less => "<",
+        BinOp::LessEqual => "<=",
+        BinOp::Greater => ">",
+        BinOp::GreaterEqual => ">=",
+    }
+}
+
+/// An operator, with the place that a panic would name where it can panic.
+fn write_sign(op: BinOp, pos: Pos, out: &mut String) -> Result<(), AllocError> {
+    out.push_str(sign(op))?;
+    match op {
+        BinOp::Div | BinOp::Rem | BinOp::ShiftLeft | BinOp::ShiftRight => {
+            write!(out, "@{}", pos.col)
+        }
+        _ => Ok(()),
+    }
+}
+
+fn type_name(type_id: TypeId) -> &'static str {
+    match type_id {
+        INT => "int",
+        BOOL => "bool",
+        _ => "?",
+    }
+}
+
+/// Each type behind a space.
+fn write_types(types: &[TypeId], out: &mut String) -> Result<(), AllocError> {
+    for type_id in types {
+        out.push(' ')?;
+        out.push_str(type_name(*type_id))?;
+    }
+    Ok(())
+}
+
+/// Each variable behind a space.
+fn write_sites(sites: &[SiteId], out: &mut String) -> Result<(), AllocError> {
+    for site in sites {
+        write!(out, " v{}", site.0)?;
+    }
+    Ok(())
+}
+
+/// An expression behind a space.
+#[cycle(expressions)]
+fn write_expr(e: &Expr, out: &mut String) -> Result<(), AllocError> {
+    match e {
+        Expr::Constant(Const::Int(n)) => write!(out, " {n}"),
+        Expr::Constant(Const::Bool(b)) => write!(out, " {b}"),
+        Expr::Local(site) => write!(out, " v{}", site.0),
+        Expr::Unary(op, operand) => {
+            write!(out, " ({}", prefix_sign(*op))?;
+            write_expr(operand, out)?;
+            out.push(')')
+        }
+        Expr::Binary(pos, op, left, right) => {
+            out.push_str(" (")?;
+            write_sign(*op, *pos, out)?;
+            write_expr(left, out)?;
+            write_expr(right, out)?;
+            out.push(')')
+        }
+        Expr::Both(left, right) => {
+            out.push_str(" (&&")?;
+            write_expr(left, out)?;
+            write_expr(right, out)?;
+            out.push(')')
+        }
+        Expr::Either(left, right) => {
+            out.push_str(" (||")?;
+            write_expr(left, out)?;
+            write_expr(right, out)?;
+            out.push(')')
+        }
+        Expr::Call(function, arguments) => {
+            write!(out, " (f{}", function.0)?;
+            write_values(arguments, out)?;
+            out.push(')')
+        }
+    }
+}
+
+/// Values, each behind a space; all results of one call are behind an `all`.
+#[cycle(expressions)]
+fn write_values(values: &Values, out: &mut String) -> Result<(), AllocError> {
+    match values {
+        Values::Each(es) => {
+            for e in es {
+                write_expr(e, out)?;
+            }
+            Ok(())
+        }
+        Values::Results(function, arguments) => {
+            write!(out, " (all f{}", function.0)?;
+            write_values(arguments, out)?;
+            out.push(')')
+        }
+        Values::ReadInt => out.push_str(" (all readInt)"),
+    }
+}
+
+/// A left side behind a space; a new variable is behind a `+`.
+fn write_left(left: Left, out: &mut String) -> Result<(), AllocError> {
+    match left {
+        Left::Blank => out.push_str(" _"),
+        Left::New(site) => write!(out, " +v{}", site.0),
+        Left::To(site) => write!(out, " v{}", site.0),
+    }
+}
+
+fn write_lefts(lefts: &[Left], out: &mut String) -> Result<(), AllocError> {
+    for left in lefts {
+        write_left(*left, out)?;
+    }
+    Ok(())
+}
+
+/// An operand behind a space, with its type.
+fn write_piece(piece: &Piece, out: &mut String) -> Result<(), AllocError> {
+    match piece {
+        Piece::Text(number) => write!(out, " s{number}"),
+        Piece::Shown(type_id, e) => {
+            out.push(' ')?;
+            out.push_str(type_name(*type_id))?;
+            write_expr(e, out)
+        }
+    }
+}
+
+fn write_pieces(pieces: &[Piece], out: &mut String) -> Result<(), AllocError> {
+    for piece in pieces {
+        write_piece(piece, out)?;
+    }
+    Ok(())
+}
+
+/// What stands in a statement that has no statements in it.
+fn write_plain(stmt: &Stmt, out: &mut String) -> Result<(), AllocError> {
+    match stmt {
+        Stmt::Declare(sites) => {
+            out.push_str("new")?;
+            write_sites(sites, out)
+        }
+        Stmt::Assign(lefts, values) => {
+            out.push_str("set")?;
+            write_lefts(lefts, out)?;
+            out.push_str(" =")?;
+            write_values(values, out)
+        }
+        Stmt::Update(pos, site, op, e) => {
+            write_sign(*op, *pos, out)?;
+            write!(out, "= v{}", site.0)?;
+            write_expr(e, out)
+        }
+        Stmt::Bump(site, op) => write!(out, "{}1 v{}", sign(*op), site.0),
+        Stmt::Discard(values) => {
+            out.push_str("do")?;
+            write_values(values, out)
+        }
+        Stmt::Return(values) => {
+            out.push_str("return")?;
+            write_values(values, out)
+        }
+        Stmt::Print(is_line, pieces) => {
+            out.push_str(if *is_line { "println" } else { "print" })?;
+            write_pieces(pieces, out)
+        }
+        Stmt::Panic(pos, piece) => {
+            write!(out, "panic@{}", pos.col)?;
+            write_piece(piece, out)
+        }
+        Stmt::Exit(pos, e) => {
+            write!(out, "exit@{}", pos.col)?;
+            write_expr(e, out)
+        }
+        Stmt::Break => out.push_str("break"),
+        Stmt::Continue => out.push_str("continue"),
+        _ => out.push('?'),
+    }
+}
+
+#[cycle(statements)]
+fn write_stmt(stmt: &Stmt, out: &mut String) -> Result<(), AllocError> {
+    match stmt {
+        Stmt::Block(body) => write_block(body, out),
+        Stmt::If(condition, then, otherwise) => {
+            out.push_str(" (if")?;
+            write_expr(condition, out)?;
+            write_block(then, out)?;
+            write_block(otherwise, out)?;
+            out.push(')')
+        }
+        Stmt::Loop(sites, condition, post, body) => {
+            out.push_str(" (loop")?;
+            write_sites(sites, out)?;
+            out.push(';')?;
+            if let Some(condition) = condition {
+                write_expr(condition, out)?;
+            }
+            out.push(';')?;
+            write_block(post, out)?;
+            write_block(body, out)?;
+            out.push(')')
+        }
+        Stmt::Count(e, left, body) => {
+            out.push_str(" (count")?;
+            write_expr(e, out)?;
+            write_left(*left, out)?;
+            write_block(body, out)?;
+            out.push(')')
+        }
+        plain => {
+            out.push_str(" (")?;
+            write_plain(plain, out)?;
+            out.push(')')
+        }
+    }
+}
+
+/// Statements, each behind a space.
+#[cycle(statements)]
+pub fn write_stmts(body: &[Stmt], out: &mut String) -> Result<(), AllocError> {
+    for stmt in body {
+        write_stmt(stmt, out)?;
+    }
+    Ok(())
+}
+
+/// The same in braces, behind a space.
+#[cycle(statements)]
+fn write_block(body: &[Stmt], out: &mut String) -> Result<(), AllocError> {
+    out.push_str(" {")?;
+    write_stmts(body, out)?;
+    out.push_str(" }")
+}
+
+/// A function: its first site and how many it has, its parameters with their types, the types of its results, their variables, and its
+/// body.
+fn write_func(func: &Func, out: &mut String) -> Result<(), AllocError> {
+    write!(
+        out,
+        " (func@{} {}+{}:",
+        func.pos.col, func.first_site, func.sites
+    )?;
+    for param in &func.params {
+        match param {
+            Some(site) => write!(out, " v{}", site.0)?,
+            None => out.push_str(" _")?,
+        }
+    }
+    out.push(':')?;
+    write_types(&func.param_types, out)?;
+    out.push(':')?;
+    write_types(&func.results, out)?;
+    write_sites(&func.named, out)?;
+    write_block(&func.body, out)?;
+    out.push(')')
+}
+
+/// Which function is `main`, the functions, the types of all sites with their places, and the strings.
+pub fn write_program(program: &Program, out: &mut String) -> Result<(), AllocError> {
+    write!(out, "f{}", program.main.0)?;
+    for func in &program.funcs {
+        write_func(func, out)?;
+    }
+    for site in &program.sites {
+        write!(out, " {}@{}", type_name(site.type_id), site.pos.col)?;
+    }
+    for string in &program.strings {
+        write!(out, " \"{}\"", from_utf8(string).unwrap_or("?"))?;
+    }
+    Ok(())
+}
