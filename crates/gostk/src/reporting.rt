@@ -3,7 +3,7 @@ ghost use Rattle.std.specs.Fmt.{signed_decimal};
 ghost use Rattle.std.specs.Prelude.{◌++◌, OnOk, OnErr, codes};
 ghost use Rattle.outside.specs.Causes.{HasCause};
 ghost use Rattle.outside.specs.Took.{Took, TookPrefix};
-ghost use Rattle.gostk.specs.Answer.{line_of, reason_text, panic_line, limits_line, steps_line, stack_line, heap_line};
+ghost use Rattle.gostk.specs.Answer.{line_of, reason_text, panic_line, limits_line, steps_line, stack_line};
 ghost use Rattle.gostk.specs.Refusal.{refusal_line};
 ghost use Rattle.gostk.specs.Rows.{Reported};
 
@@ -43,7 +43,6 @@ fn put_answer<E: Sink>(answer: &Answer<'_>, err: &mut E) -> Result<(), WriteFaul
         Answer::WriteFault => put_bytes(err, b"gostk: write fault\n"),
         Answer::Steps(n) => put_steps(*n, err),
         Answer::StackLimit { used, asked, limit } => put_stack(*used, *asked, *limit, err),
-        Answer::HeapLimit { used, asked, limit } => put_heap(*used, *asked, *limit, err),
         Answer::NoMemory => put_bytes(err, b"gostk: no memory\n"),
     }
 }
@@ -56,7 +55,6 @@ fn put_panic<E: Sink>(reason: &Reason, err: &mut E) -> Result<(), WriteFault>
 {
     match reason {
         Reason::DivideByZero => put_bytes(err, b"panic: divide by zero\n"),
-        Reason::NilPointer => put_bytes(err, b"panic: nil pointer\n"),
         Reason::ShiftCount(n) => put_panic_number(b"panic: shift count ", *n, err),
         Reason::ExitCode(n) => put_panic_number(b"panic: exit code ", *n, err),
         Reason::Text(bytes) => put_line(
@@ -113,32 +111,6 @@ fn put_stack<E: Sink>(used: u64, asked: u64, limit: u64, err: &mut E) -> Result<
     ensures cause { HasCause (E.faults err.old) (E.faults err.new) result }
 {
     let of_used = Piece::Text(b"gostk: stack used ");
-    let of_asked = Piece::Text(b" asked ");
-    let of_limit = Piece::Text(b" limit ");
-    let used = Piece::Number(used);
-    let asked = Piece::Number(asked);
-    let limit = Piece::Number(limit);
-    put_line(
-        err,
-        &[
-            of_used,
-            used,
-            of_asked,
-            asked,
-            of_limit,
-            limit,
-            Piece::Text(b"\n"),
-        ],
-    )
-}
-
-// Writes the line of the heap's limit.
-fn put_heap<E: Sink>(used: u64, asked: u64, limit: u64, err: &mut E) -> Result<(), WriteFault>
-    ensures whole { OnOk result (Took (E.taken err.old) (E.taken err.new) (heap_line used asked limit)) }
-    ensures part { OnErr result (TookPrefix (E.taken err.old) (E.taken err.new) (heap_line used asked limit)) }
-    ensures cause { HasCause (E.faults err.old) (E.faults err.new) result }
-{
-    let of_used = Piece::Text(b"gostk: heap used ");
     let of_asked = Piece::Text(b" asked ");
     let of_limit = Piece::Text(b" limit ");
     let used = Piece::Number(used);

@@ -1,12 +1,10 @@
 mod Answering
 mod Growth
-mod InFormGlobals
 mod InFormHeads
 mod InFormProgram
 mod InFormStatements
 mod Inside
 mod Lines
-mod MemberLists
 mod Package
 mod Sequences
 mod SettledFunctions

@@ -1,5 +1,0 @@
-pub mod Values
-pub mod Needs
-pub mod ValueFaults
-pub mod Passing
-pub mod Laws

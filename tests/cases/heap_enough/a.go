@@ -1,8 +1,0 @@
-package main
-
-var a, b = 1, true
-var c int
-
-func main() {
-	println(a, b, c)
-}
