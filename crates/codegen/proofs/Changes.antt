@@ -8,7 +8,7 @@ use Rattle.std.proofs.lemmas.Bool.{eq-eqb}
 use Rattle.std.proofs.lemmas.Bool.Decides.{eqb_tells}
 use Rattle.typed.specs.Value.{Value, int}
 use Rattle.typed.specs.Syntax.{Func}
-use Rattle.typed.specs.Form.{IsOf, site_type, InScope}
+use Rattle.typed.specs.Form.{IsOf, site_type, global_type, InScope}
 use Rattle.typed.specs.Frames.{outgoing_of, temps_of, frame_of}
 use Rattle.meaning.specs.Trace.{World, Cell}
 use Rattle.meaning.specs.Store.{no_value, no_cell, value_of, written, change, born}
@@ -34,12 +34,12 @@ pub born_length : (w : World) (c : Cell) → length (born w c).store ≡ length 
 born_length w c = length-append w.store (c ∷ [])
 
 -- the store after a write
-change_same : (cs : List Cell) (v : ℕ) (x : Value) → v < length cs → (get_or (change cs v [] x) v no_cell).value ≡ x
+pub change_same : (cs : List Cell) (v : ℕ) (x : Value) → v < length cs → (get_or (change cs v [] x) v no_cell).value ≡ x
 change_same [] v x lt = absurd (omega arith)
 change_same (c ∷ cs) zero x lt = refl
 change_same (c ∷ cs) (suc v) x lt = change_same cs v x (omega arith)
 
-change_other : (cs : List Cell) (v u : ℕ) (x : Value) → u ≢ v → (get_or (change cs v [] x) u no_cell).value ≡ (get_or cs u no_cell).value
+pub change_other : (cs : List Cell) (v u : ℕ) (x : Value) → u ≢ v → (get_or (change cs v [] x) u no_cell).value ≡ (get_or cs u no_cell).value
 change_other [] v u x ne = refl
 change_other (c ∷ cs) zero zero x ne = absurd (ne refl)
 change_other (c ∷ cs) zero (suc u) x ne = refl
@@ -87,11 +87,14 @@ module _ (m : Built) where
       → AreAt vs (depth m (c ∷ calls)) (outgoing_of m.program.funcs c.func + length c.held) words1 → Good m (c ∷ calls) w words → Good m (hold c (c.held ++ vs) ∷ calls) w words1
   held_more c calls w words words1 vs long room same are g = let s = g.stack.0 in record {
     long = long ∙ g.long;
+    many = g.many;
+    kinds = g.kinds;
     stack = (
       record {
         named = s.named;
         room = omega (arith, length-append c.held vs);
         begins = s.begins;
+        above = s.above;
         among = s.among;
         homes = s.homes;
         sole = s.sole;
@@ -102,7 +105,7 @@ module _ (m : Built) where
         back = same (depth m calls + 1) (omega arith, inr (omega arith)) ∙ s.back;
         link = same (depth m calls + 2) (omega arith, inr (omega arith)) ∙ s.link;
       },
-      stack_keeps m c.entry c.entry calls w w words words1 (omega arith) (λ x l. refl) (λ d l. let e = depth_is m calls in same d (omega arith, inr (omega arith))) g.stack.1,
+      stack_keeps m c.entry c.entry calls w w words words1 (omega arith) (λ x p l. refl) (λ d l. let e = depth_is m calls in same d (omega arith, inr (omega arith))) g.stack.1,
     );
   }
     where
@@ -140,11 +143,14 @@ module _ (m : Built) where
   pub fewer : (c : Frame) (calls : List Frame) (w : World) (words : List ℕ) (held more : List Value) → Good m (hold c (held ++ more) ∷ calls) w words → Good m (hold c held ∷ calls) w words
   fewer c calls w words held more g = let s = g.stack.0 in record {
     long = g.long;
+    many = g.many;
+    kinds = g.kinds;
     stack = (
       record {
         named = s.named;
         room = let r = s.room in omega (arith, length-append held more);
         begins = s.begins;
+        above = s.above;
         among = s.among;
         homes = s.homes;
         sole = s.sole;
@@ -189,11 +195,14 @@ module _ (m : Built) where
       Good m (grown c v (length w.store) ∷ calls) (born w cell) (slice_set words (site_slot (slots_of m.program.funcs c.func) v) x)
   born_site c calls w words cell v x from to e typed g = let s = g.stack.0 in record {
     long = length-set words slot x ∙ g.long;
+    many = let least = g.many in omega (arith, more);
+    kinds = λ p l. subst (λ y. IsOf (global_type m.program p) y) (sym (born_earlier w cell p (let least = g.many in omega arith))) (g.kinds p l);
     stack = (
       record {
         named = s.named;
         room = s.room;
         begins = let b = s.begins in omega (arith, more);
+        above = s.above;
         among = among;
         homes = there;
         sole = alone;
@@ -203,7 +212,7 @@ module _ (m : Built) where
         back = other (depth m calls + 1) (omega arith) ∙ s.back;
         link = other (depth m calls + 2) (omega arith) ∙ s.link;
       },
-      stack_keeps m c.entry c.entry calls w (born w cell) words (slice_set words slot x) (omega arith) (λ y l. born_earlier w cell y (let b = s.begins in omega arith)) (λ d l. other d (let k = depth_is m calls in omega arith)) g.stack.1,
+      stack_keeps m c.entry c.entry calls w (born w cell) words (slice_set words slot x) (omega arith) (λ y p l. born_earlier w cell y (let b = s.begins in omega arith)) (λ d l. other d (let k = depth_is m calls in omega arith)) g.stack.1,
     );
   }
     where
@@ -271,11 +280,14 @@ module _ (m : Built) where
       Good m (c ∷ calls) (written w (c.env v) [] y) (slice_set words (site_slot (slots_of m.program.funcs c.func) v) x)
   written_site c calls w words y v x i e typed g = let s = g.stack.0 in record {
     long = length-set words slot x ∙ g.long;
+    many = let least = g.many in omega (arith, same_length);
+    kinds = λ p l. subst (λ t. IsOf (global_type m.program p) t) (sym (change_other w.store (c.env v) p y (λ k. let h = s.homes v i in let above = s.above in absurd (omega arith)))) (g.kinds p l);
     stack = (
       record {
         named = s.named;
         room = s.room;
         begins = let b = s.begins in omega (arith, same_length);
+        above = s.above;
         among = s.among;
         homes = λ u j. (let h = s.homes u j in (h.0, omega (arith, same_length)));
         sole = s.sole;
@@ -286,7 +298,7 @@ module _ (m : Built) where
         link = let n = s.among v i in other (depth m calls + 2) (omega arith) ∙ s.link;
       },
       stack_keeps m c.entry c.entry calls w (written w (c.env v) [] y) words (slice_set words slot x) (omega arith)
-          (λ u l. change_other w.store (c.env v) u y (λ k. let h = s.homes v i in absurd (omega arith))) (λ d l. let n = s.among v i in let k = depth_is m calls in other d (omega arith)) g.stack.1,
+          (λ u p l. change_other w.store (c.env v) u y (λ k. let h = s.homes v i in absurd (omega arith))) (λ d l. let n = s.among v i in let k = depth_is m calls in other d (omega arith)) g.stack.1,
     );
   }
     where
@@ -321,6 +333,21 @@ module _ (m : Built) where
             (other (depth m (c ∷ calls) - site_slot (slots_of m.program.funcs c.func) u) (λ k. ne (omega arith))) (g.stack.0.values u j))
       ]
 
+  -- a package variable gets a value
+  pub written_global : (calls : List Frame) (w : World) (words : List ℕ) (y : Value) (p : ℕ) → p < length m.program.globals → IsOf (global_type m.program p) y → Good m calls w words → Good m calls (written w p [] y) words
+  written_global calls w words y p l typed g = record {
+    long = g.long;
+    many = let least = g.many in omega (arith, same_length);
+    kinds = λ q k. elim (eqb_tells q p) [
+      | inl e ↦ subst (λ t. IsOf (global_type m.program q) t) (sym (ap (λ u. value_of (written w p [] y) u) e.1 ∙ change_same w.store p y (let least = g.many in omega arith))) (subst (λ u. IsOf (global_type m.program u) y) (sym e.1) typed)
+      | inr e ↦ subst (λ t. IsOf (global_type m.program q) t) (sym (change_other w.store p q y e.1)) (g.kinds q k)
+    ];
+    stack = stack_keeps m (length w.store) (length (written w p [] y).store) calls w (written w p [] y) words words (omega (arith, same_length)) (λ x a k. change_other w.store p x y (λ e. absurd (omega arith))) (λ d k. refl) g.stack;
+  }
+    where
+      same_length : length (written w p [] y).store ≡ length w.store
+      same_length = change_length w.store p [] y
+
   -- a call begins
   pub entered_frame : (f : ℕ) (func : Func) (calls : List Frame) (w : World) (words : List ℕ) (link ret : ℕ) → slice_get m.program.funcs f ≡ Some func → link ≡ link_of m calls → ret ≡ back_of calls → Good m calls w words →
       Good m (fresh f func (length w.store) ∷ calls) w (entered (frame_of m.program.funcs func) link ret words)
@@ -328,11 +355,14 @@ module _ (m : Built) where
       let frame = frame_of m.program.funcs func in let long = g.long in
       record {
         long = entered_length frame link ret words (omega arith) ∙ ap (λ n. frame + n) long;
+        many = g.many;
+        kinds = g.kinds;
         stack = (
           record {
             named = named;
             room = omega arith;
             begins = omega arith;
+            above = g.many;
             among = λ v i. absurd i;
             homes = λ v i. absurd i;
             sole = λ u v i j. absurd i;
@@ -342,7 +372,7 @@ module _ (m : Built) where
             back = ap (λ n. word_at (entered frame link ret words) (n + 1)) (sym long) ∙ entered_return frame link ret words (omega arith) ∙ er;
             link = ap (λ n. word_at (entered frame link ret words) (n + 2)) (sym long) ∙ entered_link frame link ret words (omega arith) ∙ el;
           },
-          stack_keeps m (length w.store) (length w.store) calls w w words (entered frame link ret words) (omega arith) (λ x l. refl) (λ d l. entered_keeps frame link ret words d (omega arith) (let e = depth_is m calls in omega arith)) g.stack,
+          stack_keeps m (length w.store) (length w.store) calls w w words (entered frame link ret words) (omega arith) (λ x p l. refl) (λ d l. entered_keeps frame link ret words d (omega arith) (let e = depth_is m calls in omega arith)) g.stack,
         );
       }
 
@@ -352,14 +382,18 @@ module _ (m : Built) where
   all_zero (suc n) (suc i) = all_zero n i
 
   -- the first call begins
-  pub first_frame : (f : ℕ) (func : Func) (w : World) → slice_get m.program.funcs f ≡ Some func → Good m (fresh f func (length w.store) ∷ []) w (replicate (frame_of m.program.funcs func) 0)
-  first_frame f func w named = record {
+  pub first_frame : (f : ℕ) (func : Func) (w : World) → slice_get m.program.funcs f ≡ Some func → length m.program.globals ≤ length w.store → ((g : ℕ) → g < length m.program.globals → IsOf (global_type m.program g) (value_of w g))
+      → Good m (fresh f func (length w.store) ∷ []) w (replicate (frame_of m.program.funcs func) 0)
+  first_frame f func w named many kinds = record {
     long = let e : frame_of m.program.funcs func ≡ frame_of m.program.funcs func + 0 = omega arith in length-replicate (frame_of m.program.funcs func) 0 ∙ e;
+    many = many;
+    kinds = kinds;
     stack = (
       record {
         named = named;
         room = omega arith;
         begins = omega arith;
+        above = many;
         among = λ v i. absurd i;
         homes = λ v i. absurd i;
         sole = λ u v i j. absurd i;
@@ -379,5 +413,7 @@ module _ (m : Built) where
       let long = g.long in let s = g.stack.0 in
       record {
         long = dropped_length words (frame_of m.program.funcs c.func) (depth m calls) long;
-        stack = stack_keeps m c.entry (length w.store) calls w w words (drop (frame_of m.program.funcs c.func) words) s.begins (λ x l. refl) (λ d l. dropped words (frame_of m.program.funcs c.func) d (let e = depth_is m calls in omega arith)) g.stack.1;
+        many = g.many;
+        kinds = g.kinds;
+        stack = stack_keeps m c.entry (length w.store) calls w w words (drop (frame_of m.program.funcs c.func) words) s.begins (λ x p l. refl) (λ d l. dropped words (frame_of m.program.funcs c.func) d (let e = depth_is m calls in omega arith)) g.stack.1;
       }

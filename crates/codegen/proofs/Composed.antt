@@ -1,25 +1,26 @@
 -- What a run of the machine and the theorem give together.
-use Rattle.std.proofs.Common.{◌≡◌, inl, inr, ℕ, zero, suc, ◌/◌, ◌≤◌, length, List, [], ◌∷◌, ◌++◌, Option, Some, None, Bool, true, false, sym, refl, ap, ◌∙◌, subst, arith, append_assoc}
+use Rattle.std.proofs.Common.{◌≡◌, inl, inr, ℕ, zero, suc, ◌/◌, ◌^◌, ◌≤◌, length, List, [], ◌∷◌, ◌++◌, Option, Some, None, Bool, true, false, sym, refl, ap, ◌∙◌, subst, arith, append_assoc}
 use Rattle.std.specs.Prelude.{replicate, nat_le, if◌then◌else◌, slice_get, Result, Err}
 use Rattle.outside.specs.Pending.{Pending, to_come}
 use Rattle.outside.specs.Took.{Took, TookPrefix}
 use Rattle.outside.proofs.Took.{Took-nothing}
 use Rattle.base.specs.declared.pos.Pos.{Pos}
 use Rattle.typed.specs.Syntax.{Program}
-use Rattle.meaning.specs.Trace.{Fault, Ending, Exit, Panic, Turns, StackLimit}
+use Rattle.meaning.specs.Trace.{Fault, Ending, Exit, Panic, Turns, StackLimit, HeapLimit}
 use Rattle.meaning.specs.Meaning.{Item}
 use Rattle.meaning.specs.Output.{Sight, printing, asking, source, output, AsksBehind}
 use Rattle.simulation.specs.Outcome.{Outcome, Gives, Ends, Unfinished, Below, events_in, ending_in}
 use Rattle.simulation.specs.Steps.{Stops, events_of, many, shown_by}
 use Rattle.simulation.proofs.Whole.{shows, events_shown, ending_giving}
+use Rattle.heap_bump.specs.Words.{Words}
 use Rattle.isa.specs.Code.{Tables}
 use Rattle.isa.specs.declared.func.Func.{Func as Entry}
 use Rattle.machine.specs.Machine.{State, Does, Event, Printed, Asked, bytes_of, asks_in, act}
 use Rattle.machine.specs.Answers.{Answers, ReadInOrder, ReadsUpTo, WithAnswers, printed_by, state_of}
 use Rattle.machine.specs.declared.place.Panic.{Panic as MachinePanic}
 use Rattle.machine.specs.declared.place.Ending.{Ending as Stop}
-use Rattle.machine.specs.declared.place.Ending.TheVariants.{Exit as Stopped, Panic as Panicked, ReadFault, WriteFault, NoMemory, StackLimit as Limit, WildReturn, WildLink, WildAddress}
-use Rattle.codegen.specs.Correct.{same_event, same_fault, same_end, limits, target, entered, first_state, Simulated, AreNumbers, asks_of, AsksFor, Ran, ReadBy, answer_to}
+use Rattle.machine.specs.declared.place.Ending.TheVariants.{Exit as Stopped, Panic as Panicked, ReadFault, WriteFault, NoMemory, StackLimit as Limit, HeapLimit as Full, WildReturn, WildLink, WildAddress}
+use Rattle.codegen.specs.Correct.{same_event, same_fault, same_end, limits, first_words, target, entered, first_state, Simulated, AreNumbers, asks_of, AsksFor, Ran, ReadBy, answer_to}
 use Rattle.codegen.specs.declared.running.RunFault.{RunFault}
 use Rattle.codegen.specs.declared.running.RunFault.TheVariants as fault
 
@@ -140,6 +141,7 @@ module _ (strings : List (List ℕ)) where
   exit_is : (e : Ending) (m : ℕ) → same_end strings e (Stopped m) → e ≡ Exit m
   exit_is (Exit n) m a = ap Exit a
   exit_is (StackLimit u k l) m a = absurd a
+  exit_is (HeapLimit u k l) m a = absurd a
   exit_is Turns m a = absurd a
   exit_is (Panic at f) m a = absurd a
 
@@ -147,29 +149,41 @@ module _ (strings : List (List ℕ)) where
   panic_is (Panic at f) x a = (at, f, refl, a)
   panic_is (Exit n) x a = absurd a
   panic_is (StackLimit u k l) x a = absurd a
+  panic_is (HeapLimit u k l) x a = absurd a
   panic_is Turns x a = absurd a
 
   limit_is : (e : Ending) (u k l : ℕ) → same_end strings e (Limit u k l) → e ≡ StackLimit u k l
   limit_is (StackLimit a b c) u k l (e, f, g) = ap (λ x. StackLimit x b c) e ∙ ap (λ x. StackLimit u x c) f ∙ ap (λ x. StackLimit u k x) g
   limit_is (Exit n) u k l a = absurd a
   limit_is Turns u k l a = absurd a
+  limit_is (HeapLimit a b c) u k l d = absurd d
   limit_is (Panic at f) u k l a = absurd a
+
+  heap_is : (e : Ending) (u k l : ℕ) → same_end strings e (Full u k l) → e ≡ HeapLimit u k l
+  heap_is (HeapLimit a b c) u k l (e, f, g) = ap (λ x. HeapLimit x b c) e ∙ ap (λ x. HeapLimit u x c) f ∙ ap (λ x. HeapLimit u k x) g
+  heap_is (Exit n) u k l a = absurd a
+  heap_is Turns u k l a = absurd a
+  heap_is (StackLimit a b c) u k l d = absurd d
+  heap_is (Panic at f) u k l a = absurd a
 
   place_is : (e : Ending) (x : ℕ) → same_end strings e (WildReturn x) → ⊥
   place_is (Exit n) x a = a
   place_is (StackLimit u k l) x a = a
+  place_is (HeapLimit u k l) x a = a
   place_is Turns x a = a
   place_is (Panic at f) x a = a
 
   address_is : (e : Ending) (x : ℕ) → same_end strings e (WildAddress x) → ⊥
   address_is (Exit n) x a = a
   address_is (StackLimit u k l) x a = a
+  address_is (HeapLimit u k l) x a = a
   address_is Turns x a = a
   address_is (Panic at f) x a = a
 
   link_is : (e : Ending) (x : ℕ) → same_end strings e (WildLink x) → ⊥
   link_is (Exit n) x a = a
   link_is (StackLimit u k l) x a = a
+  link_is (HeapLimit u k l) x a = a
   link_is Turns x a = a
   link_is (Panic at f) x a = a
 
@@ -219,6 +233,8 @@ module _ (strings : List (List ℕ)) where
         (i.0, i.1, m.ended ∙ ap (λ y. Some y) i.2, i.3, whole (Panicked x) m took, whole_asked (Panicked x) m asked)
     ran (Some (Limit u k l)) (stops, took, asked) =
         let m = ends (Limit u k l) stops in (m.ended ∙ ap (λ x. Some x) (limit_is m.ending u k l m.alike), whole (Limit u k l) m took, whole_asked (Limit u k l) m asked)
+    ran (Some (Full u k l)) (stops, took, asked) =
+        let m = ends (Full u k l) stops in (m.ended ∙ ap (λ x. Some x) (heap_is m.ending u k l m.alike), whole (Full u k l) m took, whole_asked (Full u k l) m asked)
     ran (Some (WildReturn x)) a = let m = ends (WildReturn x) a.0 in absurd (place_is m.ending x m.alike)
     ran (Some (WildLink x)) a = let m = ends (WildLink x) a.0 in absurd (link_is m.ending x m.alike)
     ran (Some (WildAddress x)) a = let m = ends (WildAddress x) a.0 in absurd (address_is m.ending x m.alike)
@@ -231,41 +247,61 @@ shut : (b : Bool) (x y : Outcome Event Stop) → b ≡ false → (if b then x el
 shut false x y e = refl
 shut true x y e = absurd (let f : true ≡ false = e in cc)
 
-module _ (p : Program) (code : Tables) (is : Simulated p code) (items : ℕ → Item) (numbers : AreNumbers items) (max steps : ℕ) (fn : Entry) (entry : slice_get code.funcs p.main ≡ Some fn) where
+module _ (p : Program) (code : Tables) (is : Simulated p code) (items : ℕ → Item) (numbers : AreNumbers items) (max heap_max steps : ℕ) (small : heap_max ≤ 2 ^ 32) where
   abbrev few : Outcome Sight Ending
-  few = source items p (limits p max) (steps / 16)
+  few = source items p (limits p max heap_max) (steps / 16)
 
   abbrev turns : Outcome Sight Ending
-  turns = source items p (limits p max) steps
+  turns = source items p (limits p max heap_max) steps
 
-  few_below : Below same_event (same_end p.strings) few (target code items p.main max steps)
-  few_below = is.at_least items numbers max (steps / 16) steps (omega arith)
+  abbrev goal : Outcome Event Stop
+  goal = target code items (first_words p.globals) p.main max heap_max steps
 
-  enters : target code items p.main max steps ≡ entered code items max (Some fn) steps
-  enters = ap (λ (f : Option Entry). entered code items max f steps) entry
+  -- what the heap begins with
+  abbrev heap : Words
+  heap = record { words = first_words p.globals; max = heap_max }
 
-  -- of a block of words that is the first frame
-  pub composed : (block : List ℕ) (s : State) (answered : ℕ) (e : Option Stop) (old new : Option (List ℕ)) (before now : ℕ) → nat_le fn.frame max ≡ true → block ≡ replicate fn.frame 0
-      → Answers (many (act code max items) steps (state_of block (record { pc = fn.start; base = 0 }) 0)) s answered e old new before now
-      → Ran p.strings few turns (answer_to e) answered old new before now
-  composed block s answered e old new before now fits zeros a =
-      let d = many (act code max items) steps (first_state fn) in
-      let same : target code items p.main max steps ≡ shown_by d = enters ∙ gated (nat_le fn.frame max) _ _ fits ∙ shows State Event Stop (act code max items) steps (first_state fn) in
-      ran p.strings few turns d s answered old new before now
-      (subst (λ o. Below same_event (same_end p.strings) few o) same few_below)
-      (subst (λ o. Within p.strings o turns) same (is.at_most items numbers max steps)) e
-      (subst (λ (ws : List ℕ). let s0 : State = record { pc = fn.start; words = ws; reads = 0 } in Answers (many (act code max items) steps s0) s answered e old new before now) zeros a)
+  few_below : Below same_event (same_end p.strings) few goal
+  few_below = is.at_least items numbers max heap_max (steps / 16) steps small (omega arith)
 
-  -- where the first frame passes the limit
-  pub refused : (old : Option (List ℕ)) (faults : ℕ) → nat_le fn.frame max ≡ false → Ran p.strings few turns (answer_to (Some (Limit 0 fn.frame max))) 0 old old faults faults
-  refused old faults passes =
-      let same : target code items p.main max steps ≡ Ends (Limit 0 fn.frame max) = enters ∙ shut (nat_le fn.frame max) _ _ passes in
-      let m = met p.strings (Ends (Limit 0 fn.frame max)) turns (Limit 0 fn.frame max) (subst (λ o. Within p.strings o turns) same (is.at_most items numbers max steps)) refl in
-      (m.ended ∙ ap (λ x. Some x) (limit_is p.strings m.ending 0 fn.frame max m.alike), subst (λ x. Took old old x) (sym m.all) (Took-nothing old), m.asked)
+  -- a run that ends before its first instruction
+  at_once : (e : Stop) (old : Option (List ℕ)) → goal ≡ Ends e → (m : Met p.strings e (Ends e) turns) × Took old old (output turns)
+  at_once e old same =
+      let m = met p.strings (Ends e) turns e (subst (λ o. Within p.strings o turns) same (is.at_most items numbers max heap_max steps small)) refl in
+      (m, subst (λ x. Took old old x) (sym m.all) (Took-nothing old))
 
-  -- where there is no memory for the first frame
+  -- where the package variables have no room
+  pub full : (old : Option (List ℕ)) (faults : ℕ) → nat_le (length (first_words p.globals)) heap_max ≡ false → Ran p.strings few turns (answer_to (Some (Full heap_max 1 heap_max))) 0 old old faults faults
+  full old faults passes =
+      let r = at_once (Full heap_max 1 heap_max) old (shut (nat_le (length (first_words p.globals)) heap_max) _ _ passes) in
+      (r.0.ended ∙ ap (λ x. Some x) (heap_is p.strings r.0.ending heap_max 1 heap_max r.0.alike), r.1, r.0.asked)
+
+  -- where there is no memory for them, or for the first frame
   pub unready : (old : Option (List ℕ)) (faults : ℕ) → Ran p.strings few turns (Err fault.NoMemory) 0 old old faults faults
   unready old faults = ((output turns, record { done = []; splits = refl; took = Took-nothing old }), omega arith)
+
+  module _ (room : nat_le (length (first_words p.globals)) heap_max ≡ true) (fn : Entry) (entry : slice_get code.funcs p.main ≡ Some fn) where
+    enters : goal ≡ entered code items max heap (Some fn) steps
+    enters = gated (nat_le (length (first_words p.globals)) heap_max) _ _ room ∙ ap (λ (f : Option Entry). entered code items max heap f steps) entry
+
+    -- of a block of words that is the first frame, and such a heap
+    pub composed : (block : List ℕ) (first : Words) (s : State) (answered : ℕ) (e : Option Stop) (old new : Option (List ℕ)) (before now : ℕ) → nat_le fn.frame max ≡ true → block ≡ replicate fn.frame 0 → first ≡ heap
+        → Answers (many (act code max items) steps (state_of block (record { pc = fn.start; base = 0 }) 0 first)) s answered e old new before now
+        → Ran p.strings few turns (answer_to e) answered old new before now
+    composed block first s answered e old new before now fits zeros begins a =
+        let d = many (act code max items) steps (first_state fn heap) in
+        let same : goal ≡ shown_by d = enters ∙ gated (nat_le fn.frame max) _ _ fits ∙ shows State Event Stop (act code max items) steps (first_state fn heap) in
+        ran p.strings few turns d s answered old new before now
+        (subst (λ o. Below same_event (same_end p.strings) few o) same few_below)
+        (subst (λ o. Within p.strings o turns) same (is.at_most items numbers max heap_max steps small)) e
+        (subst (λ (h : Words). let s0 : State = record { pc = fn.start; words = replicate fn.frame 0; reads = 0; heap = h } in Answers (many (act code max items) steps s0) s answered e old new before now) begins
+        (subst (λ (ws : List ℕ). let s0 : State = record { pc = fn.start; words = ws; reads = 0; heap = first } in Answers (many (act code max items) steps s0) s answered e old new before now) zeros a))
+
+    -- where the first frame passes the limit
+    pub refused : (old : Option (List ℕ)) (faults : ℕ) → nat_le fn.frame max ≡ false → Ran p.strings few turns (answer_to (Some (Limit 0 fn.frame max))) 0 old old faults faults
+    refused old faults passes =
+        let r = at_once (Limit 0 fn.frame max) old (enters ∙ shut (nat_le fn.frame max) _ _ passes) in
+        (r.0.ended ∙ ap (λ x. Some x) (limit_is p.strings r.0.ending 0 fn.frame max r.0.alike), r.1, r.0.asked)
 
 -- a reader that holds nothing has to give what the source has left
 fresh : (reader : Pending) → reader ≡ record { bytes = []; ended = false } → (left : Option (List ℕ)) → to_come reader left ≡ left
@@ -284,6 +320,7 @@ answered_by (Some NoMemory) old new answers r = (new, r)
 answered_by (Some (Stopped n)) old new answers r = (new, r)
 answered_by (Some (Panicked x)) old new answers r = (new, r)
 answered_by (Some (Limit u k l)) old new answers r = (new, r)
+answered_by (Some (Full u k l)) old new answers r = (new, r)
 answered_by (Some (WildReturn x)) old new answers r = (new, r)
 answered_by (Some (WildLink x)) old new answers r = (new, r)
 answered_by (Some (WildAddress x)) old new answers r = (new, r)
@@ -297,6 +334,7 @@ fault_is (Some NoMemory) h = absurd cc h
 fault_is (Some (Stopped n)) h = absurd cc h
 fault_is (Some (Panicked x)) h = absurd cc h
 fault_is (Some (Limit u k l)) h = absurd cc h
+fault_is (Some (Full u k l)) h = absurd cc h
 fault_is (Some (WildReturn x)) h = absurd cc h
 fault_is (Some (WildLink x)) h = absurd cc h
 fault_is (Some (WildAddress x)) h = absurd cc h

@@ -15,6 +15,7 @@ use Rattle.simulation.specs.Outcome.{Lines}
 use Rattle.simulation.specs.Steps.{Goes, Stops, exec}
 use Rattle.simulation.specs.Follows.{Follows}
 use Rattle.simulation.proofs.Rules
+use Rattle.heap_bump.specs.Words.{Words}
 use Rattle.isa.specs.Code.{Tables}
 use Rattle.isa.specs.declared.instr.Instr.{Instr}
 use Rattle.isa.specs.declared.instr.Instr.TheVariants.{Call, Return}
@@ -27,7 +28,7 @@ use Rattle.codegen.proofs.Distances.{word_at, word_slot, put_length, put_other, 
 use Rattle.codegen.proofs.Frames.{Built, AreAt, Frame, placed, fresh, numbers, back_of, depth, link_of, Stack, Good, moved}
 use Rattle.codegen.proofs.Changes.{are_kept, outgoing_put, entered_frame}
 use Rattle.codegen.proofs.Moves.{arguments_length}
-use Rattle.codegen.proofs.Places.{words_limits, At, frame_here, stepped, stopped}
+use Rattle.codegen.proofs.Places.{words_limits, state_at, At, frame_here, stepped, stopped}
 
 -- a return from function f, by the numbers that it reads
 abbrev gives_back : Tables → (max f frame ret link : ℕ) → State → Does
@@ -35,7 +36,7 @@ gives_back t max f frame ret link s =
     if frame == length s.words then exits ret link
     else (if follows_call t f ret then goes_back max frame (code_frame t (owner_of t (ret - 1))) ret link s else Stops [] (WildReturn ret))
 
-different : (a b : ℕ) → a ≢ b → (a == b) ≡ false
+pub different : (a b : ℕ) → a ≢ b → (a == b) ≡ false
 different a b ne = elim (eqb_tells a b) [ inl p ↦ absurd (ne p.1) | inr p ↦ p.0 ]
 
 module _ (m : Built) where
@@ -73,18 +74,21 @@ module _ (m : Built) where
   pub called : (c : Frame) (calls : List Frame) (w : World) (words : List ℕ) (f : ℕ) (func : Func) (vs : List Value) (pc lo b : ℕ) (t : Trace) (place : Placed m.program.funcs m.code f func) → slice_get m.program.funcs f ≡ Some func
       → slice_get m.code.instrs pc ≡ Some (Call f) → owner_of m.code pc ≡ c.fn → AreOf func.param_types vs → argument_words func + result_words func ≤ outgoing_of m.program.funcs c.func
       → AreAt vs (depth m (c ∷ calls)) 0 words → Good m (c ∷ calls) w words
-      → ((words1 : List ℕ) → Good m (fresh f func (length w.store) ∷ placed c (pc + 1) ∷ calls) w words1 → AreAt vs (depth m (c ∷ calls)) 0 words1 → At m (f ∷ numbers (c ∷ calls)) lo 0 b t place.start words1 w.reads)
-      → At m (numbers (c ∷ calls)) (suc lo) 1 b (Note (Called f) t) pc words w.reads
+      → ((words1 : List ℕ) → Good m (fresh f func (length w.store) ∷ placed c (pc + 1) ∷ calls) w words1 → AreAt vs (depth m (c ∷ calls)) 0 words1 → At m (f ∷ numbers (c ∷ calls)) lo 0 b t place.start words1 w)
+      → At m (numbers (c ∷ calls)) (suc lo) 1 b (Note (Called f) t) pc words w
   called c calls w words f func vs pc lo b t place named here own typed room are g post = record {
-    at = subst (λ n. Follows Sight Event Ending Stop same_event (same_end m.program.strings) (suc lo) 1 b (if nat_le (n + frame_in m.program.funcs (slice_get m.program.funcs f)) m.max then out (words_limits m) (f ∷ numbers (c ∷ calls)) t else Run.End (StackLimit n (frame_in m.program.funcs (slice_get m.program.funcs f)) m.max)) (λ k. exec (act m.code m.max m.items) k s))
+    at = λ heap hs.
+        let s = state_at m pc words w.reads heap in
+        let count = length m.program.globals in
+        subst (λ n. Follows Sight Event Ending Stop same_event (same_end m.program.strings) (suc lo) 1 b (if nat_le (n + frame_in m.program.funcs (slice_get m.program.funcs f)) m.max then out (words_limits m) (f ∷ numbers (c ∷ calls)) count t else Run.End (StackLimit n (frame_in m.program.funcs (slice_get m.program.funcs f)) m.max)) (λ k. exec (act m.code m.max m.items) k s))
         (g.long ∙ sym (used (length w.store) (c ∷ calls) w words g.stack))
-        (subst (λ n. Follows Sight Event Ending Stop same_event (same_end m.program.strings) (suc lo) 1 b (if nat_le (length words + n) m.max then out (words_limits m) (f ∷ numbers (c ∷ calls)) t else Run.End (StackLimit (length words) n m.max)) (λ k. exec (act m.code m.max m.items) k s))
+        (subst (λ n. Follows Sight Event Ending Stop same_event (same_end m.program.strings) (suc lo) 1 b (if nat_le (length words + n) m.max then out (words_limits m) (f ∷ numbers (c ∷ calls)) count t else Run.End (StackLimit (length words) n m.max)) (λ k. exec (act m.code m.max m.items) k s))
         (sym (ap (frame_in m.program.funcs) named))
-        (gate lo b (length words) (frame_of m.program.funcs func) (out (words_limits m) (f ∷ numbers (c ∷ calls)) t) s s1 does (post words1 good1 are1).at));
+        (gate lo b (length words) (frame_of m.program.funcs func) (out (words_limits m) (f ∷ numbers (c ∷ calls)) count t) s (state_at m place.start words1 w.reads heap) (does s.heap) ((post words1 good1 are1).at heap hs)));
   }
     where
-      s : State
-      s = record { pc = pc; words = words; reads = w.reads }
+      before : Words → State
+      before heap = record { pc = pc; words = words; reads = w.reads; heap = heap }
 
       cleared : List ℕ
       cleared = zeroed words (argument_words func) (result_words func)
@@ -95,8 +99,8 @@ module _ (m : Built) where
       words1 : List ℕ
       words1 = entered (frame_of m.program.funcs func) link (pc + 1) cleared
 
-      s1 : State
-      s1 = record { pc = place.start; words = words1; reads = w.reads }
+      behind : Words → State
+      behind heap = record { pc = place.start; words = words1; reads = w.reads; heap = heap }
 
       zeros : length {A = ℕ} (replicate (result_words func) 0) ≡ result_words func
       zeros = length-replicate (result_words func) 0
@@ -112,8 +116,8 @@ module _ (m : Built) where
           let e : length words - frame_of m.program.funcs c.func ≡ depth m calls = omega (arith, long) in
           ap (λ n. address_of m.max (length words - n)) (frame_here m c.fn pc c.func g.stack.0.named own) ∙ ap (address_of m.max) e
 
-      does : act m.code m.max m.items s ≡ (if nat_lt m.max (length words + frame_of m.program.funcs func) then Stops [] (Limit (length words) (frame_of m.program.funcs func) m.max) else Goes [] s1)
-      does = ap (λ o. act_on m.code m.max m.items o s) here ∙ ap (λ o. calling m.max (code_frame m.code (owner_of m.code pc)) o s) place.entry
+      does : (heap : Words) → act m.code m.max m.items (before heap) ≡ (if nat_lt m.max (length words + frame_of m.program.funcs func) then Stops [] (Limit (length words) (frame_of m.program.funcs func) m.max) else Goes [] (behind heap))
+      does heap = ap (λ o. act_on m.code m.max m.items o (before heap)) here ∙ ap (λ o. calling m.max (code_frame m.code (owner_of m.code pc)) o (before heap)) place.entry
 
       good0 : Good m (placed c (pc + 1) ∷ calls) w cleared
       good0 = moved m c (pc + 1) calls w cleared (outgoing_put m c calls w words (replicate (result_words func) 0) (argument_words func) (omega (arith, zeros)) g)
@@ -140,35 +144,37 @@ module _ (m : Built) where
       let e : depth m (c ∷ calls) - (frame_of m.program.funcs c.func - 2) ≡ depth m calls + 2 = omega arith in
       sym (word_slot words (depth m (c ∷ calls)) (frame_of m.program.funcs c.func - 2) g.long (omega arith)) ∙ ap (word_at words) e ∙ g.stack.0.link
 
-  reads : (c : Frame) (calls : List Frame) (w : World) (words : List ℕ) (pc : ℕ) → owner_of m.code pc ≡ c.fn → Good m (c ∷ calls) w words →
-      act_on m.code m.max m.items (Some Return) (record { pc = pc; words = words; reads = w.reads }) ≡ gives_back m.code m.max c.fn (frame_of m.program.funcs c.func) (back_of calls) (link_of m calls) (record { pc = pc; words = words; reads = w.reads })
-  reads c calls w words pc own g =
-      let s : State = record { pc = pc; words = words; reads = w.reads } in let fr = frame_of m.program.funcs c.func in
+  reads : (c : Frame) (calls : List Frame) (w : World) (words : List ℕ) (pc : ℕ) (heap : Words) → owner_of m.code pc ≡ c.fn → Good m (c ∷ calls) w words →
+      act_on m.code m.max m.items (Some Return) (record { pc = pc; words = words; reads = w.reads; heap = heap }) ≡ gives_back m.code m.max c.fn (frame_of m.program.funcs c.func) (back_of calls) (link_of m calls) (record { pc = pc; words = words; reads = w.reads; heap = heap })
+  reads c calls w words pc heap own g =
+      let s : State = record { pc = pc; words = words; reads = w.reads; heap = heap } in let fr = frame_of m.program.funcs c.func in
       ap (λ f. gives_back m.code m.max f (code_frame m.code f) (slot s (code_frame m.code f - 1)) (slot s (code_frame m.code f - 2)) s) own
       ∙ ap (λ n. gives_back m.code m.max c.fn n (slot s (n - 1)) (slot s (n - 2)) s) (ap (code_frame m.code) (sym own) ∙ frame_here m c.fn pc c.func g.stack.0.named own)
       ∙ ap (λ r. gives_back m.code m.max c.fn fr r (slot s (fr - 2)) s) (return_word c calls w words g)
       ∙ ap (λ l. gives_back m.code m.max c.fn fr (back_of calls) l s) (link_word c calls w words g)
 
   -- the return from the first call, and from another
-  pub first_returns : (c : Frame) (w : World) (words : List ℕ) (pc lo b : ℕ) (running : List ℕ) → slice_get m.code.instrs pc ≡ Some Return → owner_of m.code pc ≡ c.fn → Good m (c ∷ []) w words → At m running (suc lo) 1 b (End (Exit 0)) pc words w.reads
+  pub first_returns : (c : Frame) (w : World) (words : List ℕ) (pc lo b : ℕ) (running : List ℕ) → slice_get m.code.instrs pc ≡ Some Return → owner_of m.code pc ≡ c.fn → Good m (c ∷ []) w words → At m running (suc lo) 1 b (End (Exit 0)) pc words w
   first_returns c w words pc lo b running here own g =
-      let s : State = record { pc = pc; words = words; reads = w.reads } in let fr = frame_of m.program.funcs c.func in let long = g.long in
+      let fr = frame_of m.program.funcs c.func in let long = g.long in
       stopped m {lo = lo} Return here
-      (reads c [] w words pc own g
+      (λ heap. let s : State = record { pc = pc; words = words; reads = w.reads; heap = heap } in
+      reads c [] w words pc heap own g
       ∙ ap (λ (x : Bool). if x then exits 0 0 else (if follows_call m.code c.fn 0 then goes_back m.max fr (code_frame m.code (owner_of m.code (0 - 1))) 0 0 s else Stops [] (WildReturn 0))) (eq-eqb fr (length words) (omega arith)))
 
   pub returned : (c up : Frame) (calls : List Frame) (w : World) (words : List ℕ) (pc lo b : ℕ) (running : List ℕ) (t : Trace) → slice_get m.code.instrs pc ≡ Some Return → owner_of m.code pc ≡ c.fn → Behind c.fn up → Good m (c ∷ up ∷ calls) w words
-      → At m running lo 0 b t up.place (drop (frame_of m.program.funcs c.func) words) w.reads → At m running (suc lo) 1 b t pc words w.reads
+      → At m running lo 0 b t up.place (drop (frame_of m.program.funcs c.func) words) w → At m running (suc lo) 1 b t pc words w
   returned c up calls w words pc lo b running t here own from g post =
       stepped m {lo = lo} {hi = 0} Return here
-      (reads c (up ∷ calls) w words pc own g
+      (λ heap. let s = before heap in
+      reads c (up ∷ calls) w words pc heap own g
       ∙ ap (λ (x : Bool). if x then exits ret link else (if follows_call m.code c.fn ret then goes_back m.max fr above ret link s else Stops [] (WildReturn ret))) (different fr (length words) (λ e. absurd (omega (arith, long))))
       ∙ ap (λ (x : Bool). if x then goes_back m.max fr above ret link s else Stops [] (WildReturn ret)) follows
       ∙ ap (λ n. goes_back m.max fr n ret link s) above_is
-      ∙ ap (λ (x : Bool). if x then Goes [] (record { pc = ret; words = drop fr words; reads = w.reads }) else Stops [] (WildLink link)) links) post
+      ∙ ap (λ (x : Bool). if x then Goes [] (record { pc = ret; words = drop fr words; reads = w.reads; heap = heap }) else Stops [] (WildLink link)) links) post
     where
-      s : State
-      s = record { pc = pc; words = words; reads = w.reads }
+      before : Words → State
+      before heap = record { pc = pc; words = words; reads = w.reads; heap = heap }
 
       fr : ℕ
       fr = frame_of m.program.funcs c.func

@@ -10,12 +10,13 @@ use Rattle.typed.specs.declared.operators.BinOp.{BinOp}
 use Rattle.typed.specs.declared.expr.Expr.{Expr}
 use Rattle.typed.specs.declared.stmt.Piece.{Piece as PieceData}
 use Rattle.typed.specs.declared.stmt.Stmt.{Stmt}
-use Rattle.typed.specs.Syntax.{Ex, Left, Piece, Sts, Func, both, either, more, text, shown, over_int, choose, loop, range, next}
+use Rattle.typed.specs.Frames.{far}
+use Rattle.typed.specs.Syntax.{Ex, Pl, Left, Piece, Sts, Func, both, either, more, text, shown, over_int, choose, loop, range, next}
 use Rattle.typed.specs.View.{ex_of, exs_of, piece_of, st_of, sts_of}
 use Rattle.codegen.specs.Frame.{temp_behind}
 use Rattle.codegen.specs.Temps.{ExsFitIn, PiecesFitIn, StsFitIn}
-use Rattle.codegen.specs.Code.{Slots, temp, operation, lefts_code, lefts_size, renew_code, renew_size, ex_code, exs_code, pieces_code, test_code, test_size, st_code, sts_code, piece_size, size, st_size, sts_size}
-use Rattle.codegen.proofs.Sizes.{length_code, length_last, length_lefts, length_pieces, length_renew, length_st, length_sts, length_test}
+use Rattle.codegen.specs.Code.{Slots, temp, operation, read_code, write_code, lefts_code, lefts_size, renew_code, renew_size, ex_code, exs_code, pieces_code, test_code, test_size, st_code, sts_code, piece_size, size, st_size, sts_size}
+use Rattle.codegen.proofs.Sizes.{length_read, length_code, length_last, length_lefts, length_pieces, length_renew, length_st, length_sts, length_test}
 
 split : (ss : List Stmt) (i : ℕ) (x : Stmt) → i < length ss → x ≡ get_or ss i x → sts_of (drop i ss) ≡ next (st_of x) (sts_of (drop (i + 1) ss))
 split ss i x l is =
@@ -110,13 +111,16 @@ module _ (fs : List Func) (s : Slots) where
       by (text number) g = g
       by (shown t e) g = g.2
 
-  pub update_emitted : (old c1 c2 c3 c4 : List Instr) (read write o : Instr) (e : Ex) (h : ℕ) → c1 ≡ old ++ read ∷ [] → c2 ≡ c1 ++ ex_code fs s e (h + 1) (length c1) → c3 ≡ c2 ++ o ∷ [] → c4 ≡ c3 ++ write ∷ []
-      → c4 ≡ old ++ read ∷ (ex_code fs s e (h + 1) (length old + 1) ++ o ∷ write ∷ [])
-  update_emitted old c1 c2 c3 c4 read write o e h e1 e2 e3 e4 =
-      let n1 : length c1 ≡ length old + 1 = ap length e1 ∙ length_last old read in
-      let f2 : c2 ≡ c1 ++ ex_code fs s e (h + 1) (length old + 1) = e2 ∙ ap (λ p. c1 ++ ex_code fs s e (h + 1) p) n1 in
-      let all : c4 ≡ (((old ++ read ∷ []) ++ ex_code fs s e (h + 1) (length old + 1)) ++ o ∷ []) ++ write ∷ [] = cc in
-      all ∙ simp append_assoc
+  pub update_emitted : (old c1 c2 c3 c4 : List Instr) (p : Pl) (o : Instr) (e : Ex) (h : ℕ) → c1 ≡ old ++ read_code s p h → c2 ≡ c1 ++ ex_code fs s e (h + 1) (length c1) → c3 ≡ c2 ++ o ∷ [] → c4 ≡ c3 ++ write_code s p (h + 1) h
+      → c4 ≡ old ++ (read_code s p h ++ (ex_code fs s e (h + 1) (length old + (far p + 1)) ++ o ∷ write_code s p (h + 1) h))
+  update_emitted old c1 c2 c3 c4 p o e h e1 e2 e3 e4 =
+      let n1 : length c1 ≡ length old + (far p + 1) = ap length e1 ∙ omega (arith, length-append old (read_code s p h), length_read s p h) in
+      let ce = ex_code fs s e (h + 1) (length old + (far p + 1)) in
+      let f1 : c1 ++ ce ≡ old ++ (read_code s p h ++ ce) = ap (λ c. c ++ ce) e1 ∙ append_assoc old (read_code s p h) ce in
+      let f2 : c2 ≡ old ++ (read_code s p h ++ ce) = e2 ∙ ap (λ q. c1 ++ ex_code fs s e (h + 1) q) n1 ∙ f1 in
+      let w = write_code s p (h + 1) h in
+      let f3 : c4 ≡ ((old ++ (read_code s p h ++ ce)) ++ o ∷ []) ++ w = e4 ∙ ap (λ c. c ++ w) (e3 ∙ ap (λ c. c ++ o ∷ []) f2) in
+      f3 ∙ append_assoc (old ++ (read_code s p h ++ ce)) (o ∷ []) w ∙ append_assoc old (read_code s p h ++ ce) (o ∷ w) ∙ ap (λ l. old ++ l) (append_assoc (read_code s p h) ce (o ∷ w))
 
 module _ (fs : List Func) (arguments : ℕ) (named : List ℕ) (s : Slots) where
   abbrev code_at : Sts → (h out again pc : ℕ) → List Instr
@@ -173,21 +177,21 @@ module _ (fs : List Func) (arguments : ℕ) (named : List ℕ) (s : Slots) where
 
   pub count_emitted : (old c1 c2 c3 c4 : List Instr) (e : Ex) (key value : Left) (body : Sts) (start test turn behind h out again : ℕ) → start ≡ length old → test ≡ start + size fs e + 1
       → turn ≡ test + 2 + lefts_size (key ∷ []) + long body → behind ≡ turn + 3 → c1 ≡ old ++ (ex_code fs s e h (length old) ++ Const (temp s (h + 1)) 0 ∷ [])
-      → c2 ≡ c1 ++ Bin Word.Less (temp s (h + 2)) (temp s (h + 1)) (temp s h) ∷ JumpZero (temp s (h + 2)) behind ∷ lefts_code s (key ∷ []) (h + 1) → c3 ≡ c2 ++ code_at body (h + 2) behind turn (length c2)
+      → c2 ≡ c1 ++ Bin Word.Less (temp s (h + 2)) (temp s (h + 1)) (temp s h) ∷ JumpZero (temp s (h + 2)) behind ∷ lefts_code s (key ∷ []) (h + 2) (h + 1) → c3 ≡ c2 ++ code_at body (h + 2) behind turn (length c2)
       → c4 ≡ c3 ++ Const (temp s (h + 2)) 1 ∷ Bin Word.Add (temp s (h + 1)) (temp s (h + 1)) (temp s (h + 2)) ∷ Jump test ∷ [] → c4 ≡ old ++ st_code fs arguments named s (range (over_int e) key value body) h out again (length old)
   count_emitted old c1 c2 c3 c4 e key value body start test turn behind h out again es et eu eb e1 e2 e3 e4 =
       let pc = length old in
       let pt = pc + size fs e + 1 in let pi = pt + 2 + lefts_size (key ∷ []) in let pu = pi + long body in let pb = pu + 3 in
       let less = Bin Word.Less (temp s (h + 2)) (temp s (h + 1)) (temp s h) in
       let zero = Const (temp s (h + 1)) 0 in
-      let lefts = lefts_code s (key ∷ []) (h + 1) in
+      let lefts = lefts_code s (key ∷ []) (h + 2) (h + 1) in
       let one = Const (temp s (h + 2)) 1 in let sum = Bin Word.Add (temp s (h + 1)) (temp s (h + 1)) (temp s (h + 2)) in
       let t : test ≡ pt = omega (arith, es, et) in
       let u : turn ≡ pu = omega (arith, t, eu) in
       let b : behind ≡ pb = omega (arith, u, eb) in
       let n1 : length c1 ≡ pt = ap length e1 ∙ omega (arith, length-append old (ex_code fs s e h pc ++ zero ∷ []), length_last (ex_code fs s e h pc) zero, length_code fs s e h pc) in
       let two : length (less ∷ JumpZero (temp s (h + 2)) behind ∷ lefts) ≡ suc (suc (length lefts)) = refl in
-      let n2 : length c2 ≡ pi = ap length e2 ∙ omega (arith, n1, two, length-append c1 (less ∷ JumpZero (temp s (h + 2)) behind ∷ lefts), length_lefts s (key ∷ []) (h + 1)) in
+      let n2 : length c2 ≡ pi = ap length e2 ∙ omega (arith, n1, two, length-append c1 (less ∷ JumpZero (temp s (h + 2)) behind ∷ lefts), length_lefts s (key ∷ []) (h + 2) (h + 1)) in
       let f2 : c2 ≡ c1 ++ less ∷ JumpZero (temp s (h + 2)) pb ∷ lefts = e2 ∙ ap (λ p. c1 ++ less ∷ JumpZero (temp s (h + 2)) p ∷ lefts) b in
       let f3 : c3 ≡ c2 ++ code_at body (h + 2) pb pu pi = e3 ∙ ap (λ p. c2 ++ code_at body (h + 2) behind turn p) n2 ∙ ap (λ p. c2 ++ code_at body (h + 2) p turn pi) b ∙ ap (λ p. c2 ++ code_at body (h + 2) pb p pi) u in
       let f4 : c4 ≡ c3 ++ one ∷ sum ∷ Jump pt ∷ [] = e4 ∙ ap (λ p. c3 ++ one ∷ sum ∷ Jump p ∷ []) t in

@@ -4,22 +4,23 @@ use Rattle.std.specs.Prelude.{slice_get, slice_index, slice_set, None, IfSome, F
 use Rattle.std.proofs.lemmas.Int.{to_z-of_z}
 use Rattle.std.specs.Int.{w64}
 use Rattle.typed.specs.Value.{Value, int, bool}
-use Rattle.typed.specs.Syntax.{Ex, Exs, Piece, Func, Program, constant, read, unary, binary, both, either, call, local, here as itself, none, more, results, asked, text, shown, int_type, bool_type, results_in}
+use Rattle.typed.specs.Syntax.{Ex, Exs, Piece, Func, Program, constant, read, unary, binary, both, either, call, none, more, results, asked, text, shown, int_type, bool_type, results_in}
 use Rattle.typed.specs.Form.{IsOf, AreOf, IsWord, ExFits, ExsFit, PiecesFit}
 use Rattle.typed.specs.Frames.{need, need_all, need_pieces, reach, reach_all, reach_pieces, outgoing_of, temps_of}
-use Rattle.meaning.specs.Trace.{World, Asked, Turn, Note}
-use Rattle.meaning.specs.Store.{no_value, value_of}
+use Rattle.meaning.specs.Trace.{World, Asked, Trace, Turn, Note}
+use Rattle.meaning.specs.Store.{no_value}
 use Rattle.meaning.specs.Operators.{unary_of}
 use Rattle.meaning.specs.Meaning
 use Rattle.meaning.specs.Meaning.{Go, Then, Ways, Calls, Setting, Item, only_value}
-use Rattle.isa.specs.declared.instr.Instr.TheVariants.{Const, Move, Bin, Jump, JumpZero, ReadInt}
+use Rattle.isa.specs.declared.instr.Instr.TheVariants.{Const, Bin, Jump, JumpZero, ReadInt}
 use Rattle.machine.specs.Machine.{put_words, item_words}
-use Rattle.codegen.specs.Code.{temp, site_slot, slots_of, operation, unary_code, ex_code, exs_code, pieces_code, size, exs_size, pieces_size, call_code, call_size, word_of}
+use Rattle.codegen.specs.Code.{temp, slots_of, operation, unary_code, ex_code, exs_code, pieces_code, size, exs_size, pieces_size, call_code, call_size, word_of}
 use Rattle.codegen.proofs.Sizes.{length_code, length_exs}
 use Rattle.codegen.proofs.Frames.{Built, Stands, Frame, hold, numbers, Good, good_read}
-use Rattle.codegen.proofs.Changes.{one_more, temp_set, temps_put, fewer, held_word, site_word}
+use Rattle.codegen.proofs.Changes.{one_more, temp_set, temps_put, fewer, held_word}
 use Rattle.codegen.proofs.Numbers.{agrees_one, unary_word}
 use Rattle.codegen.proofs.Places.{Standing, front, back, Panics, At, place_is, turned, seen, read_of, stepped, asking}
+use Rattle.codegen.proofs.Globals.{aim_is, fetched}
 use Rattle.codegen.proofs.Moves.{held_none, CallsFollow, call_end}
 use Rattle.codegen.proofs.OperatorsFollow.{operates, operates_one}
 use Rattle.codegen.proofs.ConditionsFollow.{goes_on, goes_to}
@@ -35,7 +36,7 @@ only_of : (t : ℕ) (rs : List Value) → AreOf (t ∷ []) rs → IsOf t (only_v
 only_of t [] are = absurd are
 only_of t (r ∷ rs) are = are.0
 
-word_stands : (v : Value) → IsWord v → Stands v (word_of v)
+pub word_stands : (v : Value) → IsWord v → Stands v (word_of v)
 word_stands (int z) is = to_z-of_z w64 z is
 word_stands (bool x) is = refl
 
@@ -84,9 +85,9 @@ module _ (m : Built) where
   module _ (around : Setting) (inputs : around.items ≡ m.items) (callees : Calls) (n : ℕ) (cf : CallsFollow m callees n) where
     -- behind the first operand of `&&`, and of `||`, which is in its temp
     both_end : (x : Value) (g : Go) (c : Frame) (calls : List Frame) (ws : Ways) (k : Then Value) (w : World) (words : List ℕ) (h goal pc lo b : ℕ) → slice_get m.code.instrs pc ≡ Some (JumpZero (temp (slots_of m.program.funcs c.func) h) goal)
-        → length c.held ≡ h → IsOf bool_type x → Good m (hold c (c.held ++ x ∷ []) ∷ calls) w words → At m (numbers (c ∷ calls)) lo 0 b (g w) (pc + 1) words w.reads
-        → (Good m (hold c (c.held ++ bool false ∷ []) ∷ calls) w words → At m (numbers (c ∷ calls)) lo 0 b (k (bool false) w) goal words w.reads)
-        → At m (numbers (c ∷ calls)) lo 0 b (Turn (Meaning.branch x g (Meaning.give ws k (bool false)) w)) pc words w.reads
+        → length c.held ≡ h → IsOf bool_type x → Good m (hold c (c.held ++ x ∷ []) ∷ calls) w words → At m (numbers (c ∷ calls)) lo 0 b (g w) (pc + 1) words w
+        → (Good m (hold c (c.held ++ bool false ∷ []) ∷ calls) w words → At m (numbers (c ∷ calls)) lo 0 b (k (bool false) w) goal words w)
+        → At m (numbers (c ∷ calls)) lo 0 b (Turn (Meaning.branch x g (Meaning.give ws k (bool false)) w)) pc words w
     both_end (int z) g c calls ws k w words h goal pc lo b here hh is good on off = absurd (omega arith)
     both_end (bool true) g c calls ws k w words h goal pc lo b here hh is good on off =
         let a = temp (slots_of m.program.funcs c.func) h in
@@ -96,9 +97,9 @@ module _ (m : Built) where
         turned m {lo1 = suc lo} (omega arith) (goes_to m {lo = lo} a goal here (held_word m c calls w words c.held [] (bool false) h hh good) (seen m _ (off good)))
 
     either_end : (x : Value) (g : Go) (c : Frame) (calls : List Frame) (ws : Ways) (k : Then Value) (w : World) (words : List ℕ) (h goal end pc lo b : ℕ) → slice_get m.code.instrs pc ≡ Some (JumpZero (temp (slots_of m.program.funcs c.func) h) goal) → slice_get m.code.instrs (pc + 1) ≡ Some (Jump end)
-        → length c.held ≡ h → IsOf bool_type x → Good m (hold c (c.held ++ x ∷ []) ∷ calls) w words → At m (numbers (c ∷ calls)) lo 0 b (g w) goal words w.reads
-        → (Good m (hold c (c.held ++ bool true ∷ []) ∷ calls) w words → At m (numbers (c ∷ calls)) lo 0 b (k (bool true) w) end words w.reads)
-        → At m (numbers (c ∷ calls)) lo 0 b (Turn (Meaning.branch x (Meaning.give ws k (bool true)) g w)) pc words w.reads
+        → length c.held ≡ h → IsOf bool_type x → Good m (hold c (c.held ++ x ∷ []) ∷ calls) w words → At m (numbers (c ∷ calls)) lo 0 b (g w) goal words w
+        → (Good m (hold c (c.held ++ bool true ∷ []) ∷ calls) w words → At m (numbers (c ∷ calls)) lo 0 b (k (bool true) w) end words w)
+        → At m (numbers (c ∷ calls)) lo 0 b (Turn (Meaning.branch x (Meaning.give ws k (bool true)) g w)) pc words w
     either_end (int z) g c calls ws k w words h goal end pc lo b here jump hh is good off on = absurd (omega arith)
     either_end (bool false) g c calls ws k w words h goal end pc lo b here jump hh is good off on =
         let a = temp (slots_of m.program.funcs c.func) h in
@@ -106,17 +107,17 @@ module _ (m : Built) where
     either_end (bool true) g c calls ws k w words h goal end pc lo b here jump hh is good off on =
         let a = temp (slots_of m.program.funcs c.func) h in
         turned m {lo1 = suc (suc lo)} (omega arith) (goes_on m {lo = suc lo} {hi = 1} a goal here (held_word m c calls w words c.held [] (bool true) h hh good)
-        (stepped m {lo = lo} {hi = 0} (Jump end) jump refl (seen m _ (on good))))
+        (stepped m {lo = lo} {hi = 0} (Jump end) jump (λ heap. refl) (seen m _ (on good))))
 
     -- an item of the input: its number and its truth value go to two temps
     item_read : (c : Frame) (calls : List Frame) (ws : Ways) (k : Then (List Value)) (w : World) (words : List ℕ) (h pc lo b : ℕ) → length c.held ≡ h → Standing m.code c.fn pc (ReadInt (temp (slots_of m.program.funcs c.func) h) ∷ []) → h + 2 ≤ temps_of m.program.funcs c.func → Good m (c ∷ calls) w words
-        → ((vs : List Value) (w1 : World) (words1 : List ℕ) → AreOf (int_type ∷ bool_type ∷ []) vs → Good m (hold c (c.held ++ vs) ∷ calls) w1 words1 → At m (numbers (c ∷ calls)) lo 0 b (k vs w1) (pc + 1) words1 w1.reads)
-        → At m (numbers (c ∷ calls)) lo 0 b (Meaning.turn (Meaning.ask around (Meaning.give_all ws k)) w) pc words w.reads
+        → ((vs : List Value) (w1 : World) (words1 : List ℕ) → AreOf (int_type ∷ bool_type ∷ []) vs → Good m (hold c (c.held ++ vs) ∷ calls) w1 words1 → At m (numbers (c ∷ calls)) lo 0 b (k vs w1) (pc + 1) words1 w1)
+        → At m (numbers (c ∷ calls)) lo 0 b (Meaning.turn (Meaning.ask around (Meaning.give_all ws k)) w) pc words w
     item_read c calls ws k w words h pc lo b hh has room g post =
         let a = temp (slots_of m.program.funcs c.func) h in let item = m.items w.reads in
         let w1 : World = record { store = w.store; reads = suc w.reads } in
-        subst (λ (items : ℕ → Item). At m (numbers (c ∷ calls)) lo 0 b (Turn (Note Asked (Meaning.give_all ws k (Meaning.item_values (items w.reads)) w1))) pc words w.reads) (sym inputs)
-        (turned m {lo1 = suc lo} (omega arith) (asking m {lo = lo} {hi = 0} (ReadInt a) has.0.0 refl (seen m _
+        subst (λ (items : ℕ → Item). At m (numbers (c ∷ calls)) lo 0 b (Turn (Note Asked (Meaning.give_all ws k (Meaning.item_values (items w.reads)) w1))) pc words w) (sym inputs)
+        (turned m {lo1 = suc lo} (omega arith) (asking m {lo = lo} {hi = 0} (ReadInt a) has.0.0 (λ heap. refl) (seen m _
         (post (Meaning.item_values item) w1 (put_words words a (item_words item)) (item_types item)
         (temps_put m c calls w1 words (item_words item) h (Meaning.item_values item) hh (item_long item) (let two = item_two item in omega (arith, two)) (item_stands item (m.numbers w.reads))
         (good_read m (c ∷ calls) w (suc w.reads) words g))))))
@@ -124,16 +125,16 @@ module _ (m : Built) where
     mutual
       pub ev_follows : (e : Ex) (t : ℕ) (c : Frame) (calls : List Frame) (ws : Ways) (k : Then Value) (w : World) (words : List ℕ) (h pc lo b : ℕ) → b ≤ suc n → length c.held ≡ h → Panics ws → Standing m.code c.fn pc (ex_code m.program.funcs (slots_of m.program.funcs c.func) e h pc)
           → ExFits m.program c.scope t e → h + need m.program.funcs e ≤ temps_of m.program.funcs c.func → reach m.program.funcs e ≤ outgoing_of m.program.funcs c.func → Good m (c ∷ calls) w words
-          → ((v : Value) (w1 : World) (words1 : List ℕ) → IsOf t v → Good m (hold c (c.held ++ v ∷ []) ∷ calls) w1 words1 → At m (numbers (c ∷ calls)) lo 0 b (k v w1) (pc + size m.program.funcs e) words1 w1.reads)
-          → At m (numbers (c ∷ calls)) lo 0 b (Meaning.ev around callees e ws c.env k w) pc words w.reads
+          → ((v : Value) (w1 : World) (words1 : List ℕ) → IsOf t v → Good m (hold c (c.held ++ v ∷ []) ∷ calls) w1 words1 → At m (numbers (c ∷ calls)) lo 0 b (k v w1) (pc + size m.program.funcs e) words1 w1)
+          → At m (numbers (c ∷ calls)) lo 0 b (Meaning.ev around callees e ws c.env k w) pc words w
       ev_follows (constant v) t c calls ws k w words h pc lo b le hh stops has fit enough reaches g post =
           let s = slots_of m.program.funcs c.func in let some = some_need c.scope t (constant v) fit in
-          turned m {lo1 = suc lo} (omega arith) (seen m _ (stepped m {lo = lo} {hi = 0} (Const (temp s h) (word_of v)) has.0.0 refl
+          turned m {lo1 = suc lo} (omega arith) (seen m _ (stepped m {lo = lo} {hi = 0} (Const (temp s h) (word_of v)) has.0.0 (λ heap. refl)
           (post v w (slice_set words (temp s h) (word_of v)) fit.0 (temp_set m c calls w words h (word_of v) v hh (omega arith) (word_stands v fit.1) g))))
-      ev_follows (read (local v itself)) t c calls ws k w words h pc lo b le hh stops has fit enough reaches g post =
-          let s = slots_of m.program.funcs c.func in let word = slice_index words (site_slot s v) in let x = value_of w (c.env v) in
-          turned m {lo1 = suc lo} (omega arith) (read_of m _ _ _ (seen m _ (stepped m {lo = lo} {hi = 0} (Move (temp s h) (site_slot s v)) has.0.0 refl
-          (post x w (slice_set words (temp s h) word) (subst (λ u. IsOf u x) fit.1 (g.stack.0.types v fit.0)) (temp_set m c calls w words h word x hh (omega arith) (site_word m c calls w words v fit.0 g) g)))))
+      ev_follows (read p) t c calls ws k w words h pc lo b le hh stops has fit enough reaches g post =
+          subst (λ (u : Trace). At m (numbers (c ∷ calls)) lo 0 b u pc words w) (sym (aim_is around callees p ws c.env (λ a. Meaning.settle a (λ q. Meaning.read_part q.variable q.path (Meaning.give ws k))) w))
+          (turned m {lo1 = suc (suc lo)} (omega arith) (read_of m _ _ _ (seen m _
+          (fetched m c calls p t w words (numbers (c ∷ calls)) h pc lo 0 b _ has fit hh (omega arith) g (λ words1 is g1. post _ w words1 is g1)))))
       ev_follows (unary o a) t c calls ws k w words h pc lo b le hh stops has fit enough reaches g post =
           let s = slots_of m.program.funcs c.func in let na = size m.program.funcs a in
           let ca = ex_code m.program.funcs s a h pc in let i = unary_code o (temp s h) in
@@ -190,8 +191,8 @@ module _ (m : Built) where
 
       pub evs_follow : (es : Exs) (ts : List ℕ) (c : Frame) (calls : List Frame) (ws : Ways) (k : Then (List Value)) (w : World) (words : List ℕ) (h pc lo b : ℕ) → b ≤ suc n → length c.held ≡ h → Panics ws → Standing m.code c.fn pc (exs_code m.program.funcs (slots_of m.program.funcs c.func) es h pc)
           → ExsFit m.program c.scope ts es → h + need_all m.program.funcs es ≤ temps_of m.program.funcs c.func → reach_all m.program.funcs es ≤ outgoing_of m.program.funcs c.func → Good m (c ∷ calls) w words
-          → ((vs : List Value) (w1 : World) (words1 : List ℕ) → AreOf ts vs → Good m (hold c (c.held ++ vs) ∷ calls) w1 words1 → At m (numbers (c ∷ calls)) lo 0 b (k vs w1) (pc + exs_size m.program.funcs es) words1 w1.reads)
-          → At m (numbers (c ∷ calls)) lo 0 b (Meaning.evs around callees es ws c.env k w) pc words w.reads
+          → ((vs : List Value) (w1 : World) (words1 : List ℕ) → AreOf ts vs → Good m (hold c (c.held ++ vs) ∷ calls) w1 words1 → At m (numbers (c ∷ calls)) lo 0 b (k vs w1) (pc + exs_size m.program.funcs es) words1 w1)
+          → At m (numbers (c ∷ calls)) lo 0 b (Meaning.evs around callees es ws c.env k w) pc words w
       evs_follow none [] c calls ws k w words h pc lo b le hh stops has fit enough reaches g post =
           place_is m (let e : pc + 0 ≡ pc = omega arith in e) (post [] w words tt (held_none m c calls w words g))
       evs_follow none (t ∷ ts) c calls ws k w words h pc lo b le hh stops has fit enough reaches g post = absurd fit
@@ -218,8 +219,8 @@ module _ (m : Built) where
 
     pub pieces_follow : (ps : List Piece) (c : Frame) (calls : List Frame) (ws : Ways) (k : Then (List (List ℕ))) (w : World) (words : List ℕ) (h pc lo b : ℕ) → b ≤ suc n → length c.held ≡ h → Panics ws → Standing m.code c.fn pc (pieces_code m.program.funcs (slots_of m.program.funcs c.func) ps h pc)
         → PiecesFit m.program c.scope ps → h + need_pieces m.program.funcs ps ≤ temps_of m.program.funcs c.func → reach_pieces m.program.funcs ps ≤ outgoing_of m.program.funcs c.func → Good m (c ∷ calls) w words
-        → ((vs : List Value) (w1 : World) (words1 : List ℕ) → AreOf (piece_types ps) vs → Good m (hold c (c.held ++ vs) ∷ calls) w1 words1 → At m (numbers (c ∷ calls)) lo 0 b (k (texts around.strings ps vs) w1) (pc + pieces_size m.program.funcs ps) words1 w1.reads)
-        → At m (numbers (c ∷ calls)) lo 0 b (Meaning.pieces around callees ps ws c.env k w) pc words w.reads
+        → ((vs : List Value) (w1 : World) (words1 : List ℕ) → AreOf (piece_types ps) vs → Good m (hold c (c.held ++ vs) ∷ calls) w1 words1 → At m (numbers (c ∷ calls)) lo 0 b (k (texts around.strings ps vs) w1) (pc + pieces_size m.program.funcs ps) words1 w1)
+        → At m (numbers (c ∷ calls)) lo 0 b (Meaning.pieces around callees ps ws c.env k w) pc words w
     pieces_follow [] c calls ws k w words h pc lo b le hh stops has fit enough reaches g post =
         place_is m (let e : pc + 0 ≡ pc = omega arith in e) (post [] w words tt (held_none m c calls w words g))
     pieces_follow (text number ∷ ps) c calls ws k w words h pc lo b le hh stops has fit enough reaches g post =

@@ -1,33 +1,38 @@
 -- The machine follows a program.
-use Rattle.std.proofs.Common.{◌≡◌, inl, inr, ℕ, zero, suc, ◌+◌, ◌-◌, ◌<◌, ◌≤◌, pos, Bool, true, false, List, [], ◌∷◌, ◌++◌, length, Option, Some, None, refl, sym, ap, ◌∙◌, subst, arith, get_or}
-use Rattle.std.specs.Prelude.{slice_get, nat_le, if◌then◌else◌, replicate}
+use Rattle.std.proofs.Common.{◌≡◌, inl, inr, ℕ, zero, suc, ◌+◌, ◌-◌, ◌^◌, ◌<◌, ◌≤◌, pos, Bool, true, false, List, [], ◌∷◌, ◌++◌, length, Option, Some, None, refl, sym, ap, ◌∙◌, subst, arith, get_or}
+use Rattle.std.specs.Prelude.{slice_get, slice_index, nat_le, if◌then◌else◌, replicate}
 use Rattle.typed.specs.Value.{Value, int, bool}
 use Rattle.std.proofs.lemmas.List.{length-map}
+use Rattle.std.proofs.lemmas.Option.{slice_get-get_or}
 use Rattle.typed.specs.Syntax.{Func, Program, argument_words, result_words}
-use Rattle.typed.specs.Form.{IsOf, AreOf, IsPlain, site_type, InScope, SitesNext, FuncFits, IsInForm, ParamsFit, named_params, scope_with, params_scope, scope_in, body_first, breaks_all, ends_all}
+use Rattle.typed.specs.Form.{IsOf, AreOf, IsPlain, site_type, global_type, InScope, SitesNext, FuncFits, GlobalFits, IsInForm, ParamsFit, named_params, scope_with, params_scope, scope_in, body_first, breaks_all, ends_all}
 use Rattle.typed.specs.View.{zero_values}
+use Rattle.typed.specs.Placement.{on_heap}
 use Rattle.typed.specs.Frames.{frame_in, frame_of, named_need, temps_of}
 use Rattle.meaning.specs.Trace.{Ending, Exit, StackLimit, World}
-use Rattle.meaning.specs.Store.{no_value, born}
+use Rattle.meaning.specs.Store.{no_value, value_of}
 use Rattle.meaning.specs.Meaning
-use Rattle.meaning.specs.Meaning.{Env, Go, Then, Ways, Calls, Setting, Item}
-use Rattle.meaning.specs.Output.{Limits, Sight, out}
+use Rattle.meaning.specs.Meaning.{Env, Then, Ways, Calls, Setting, Item}
+use Rattle.meaning.specs.Output.{Sight, out}
 use Rattle.simulation.specs.Outcome as Run
 use Rattle.simulation.specs.Outcome.{Lines, Outcome}
 use Rattle.simulation.specs.Follows.{Follows}
 use Rattle.simulation.specs.Steps.{exec}
+use Rattle.heap_bump.specs.Words.{Words}
 use Rattle.isa.specs.Code.{Tables}
 use Rattle.isa.specs.declared.instr.Instr.{Instr}
 use Rattle.machine.specs.Machine.{Event, act, owner_of}
 use Rattle.machine.specs.declared.place.Ending.{Ending as Stop}
-use Rattle.machine.specs.declared.place.Ending.TheVariants.{StackLimit as Limit}
-use Rattle.codegen.specs.Code.{slots_of, params_code, zeros_code, params_size, entry_code, entry_size, sts_code, sts_size, leave_code, values_code, func_code}
-use Rattle.codegen.specs.Correct.{same_event, same_end, limits, entered, target, Simulated, AreNumbers}
+use Rattle.machine.specs.declared.place.Ending.TheVariants.{StackLimit as Limit, HeapLimit as Full}
+use Rattle.codegen.specs.Code.{word_of, slots_of, params_code, zeros_code, params_size, entry_code, entry_size, sts_code, sts_size, leave_code, values_code, func_code}
+use Rattle.codegen.specs.Correct.{same_event, same_end, limits, first_words, entered, target, Simulated, AreNumbers}
 use Rattle.codegen.proofs.Sizes.{length_params, length_entry, length_sts, length_func}
 use Rattle.codegen.proofs.Compiled.{Placed, Compiled}
-use Rattle.codegen.proofs.Frames.{Built, Stands, AreAt, Frame, placed, fresh, numbers, depth, room_of, Good, moved_back}
+use Rattle.codegen.proofs.Frames.{Built, Stands, stands_same, AreAt, Frame, placed, fresh, numbers, depth, room_of, Good, moved_back}
 use Rattle.codegen.proofs.Changes.{first_frame}
-use Rattle.codegen.proofs.Places.{Standing, front, back, standing, Panics, At, place_is, none_asked, seen}
+use Rattle.codegen.proofs.Places.{Standing, front, back, standing, Panics, Heaps, At, state_at, place_is, none_asked, seen}
+use Rattle.codegen.proofs.Births.{none_among, all_among, first_length, no_global, first_word, born_all, reads_kept, all_length, all_values, globals_follow}
+use Rattle.codegen.proofs.EvaluationsFollow.{word_stands}
 use Rattle.codegen.proofs.Crossing.{Behind, Linked, called}
 use Rattle.codegen.proofs.Moves.{params_length, arguments_length, CallsFollow}
 use Rattle.codegen.proofs.ReturnsFollow.{Home, Given, Returns, home_returns}
@@ -116,7 +121,7 @@ module _ (m : Built) (around : Setting) (strings : around.strings ≡ m.program.
 
     body_follows : (calls : List Frame) (vs : List Value) (ws : Ways) (env0 : Env) (k : Then (List Value)) (w : World) (words : List ℕ) (lo b : ℕ) → b ≤ suc n → Linked m f calls → Panics ws → AreOf func.param_types vs → argument_words func + result_words func ≤ room_of m calls
         → AreAt vs (depth m calls) 0 words → Good m (fresh f func (length w.store) ∷ calls) w words → Home m lo b func calls k
-        → At m (f ∷ numbers calls) lo 0 b (Meaning.births (λ e. Meaning.bear_params around e func.params vs (λ x. 0) (λ env1. Meaning.bear_zeros around e func.named env1 (λ env2. Meaning.exec_all around callees (suc n) func.body (Meaning.ways_in func.named e ws env0 k) env2 (Meaning.leave func.named e k [])))) w) place.start words w.reads
+        → At m (f ∷ numbers calls) lo 0 b (Meaning.births (λ e. Meaning.bear_params around e func.params vs (λ x. 0) (λ env1. Meaning.bear_zeros around e func.named env1 (λ env2. Meaning.exec_all around callees (suc n) func.body (Meaning.ways_in func.named e ws env0 k) env2 (Meaning.leave func.named e k [])))) w) place.start words w
     body_follows calls vs ws env0 k w words lo b le from stops typed room are g home =
         let entry = length w.store in let c = fresh f func entry in let count = fit.count in let many = arguments_length m f func vs named typed in
         let returns : Returns m lo b c calls (Meaning.leave func.named entry k) = home_returns m c calls k entry lo b from room home fit.names in
@@ -141,17 +146,11 @@ module _ (m : Built) (around : Setting) (strings : around.strings ≡ m.program.
         let place = m.compiled.placed f func named in let callees = Meaning.call_at around m.program.funcs n in
         let before : pc ≡ pc + 1 - 1 = omega arith in
         let from : Behind m f (placed c (pc + 1)) = record { some = omega arith; call = ap (slice_get m.code.instrs) (sym before) ∙ here; owner = ap (owner_of m.code) (sym before) ∙ own } in
-        subst (λ o. At m (numbers (c ∷ calls)) (suc lo) 1 b (Meaning.run_body around m.program.funcs callees (suc n) f o vs ws env k w) pc words w.reads) (sym named)
+        subst (λ o. At m (numbers (c ∷ calls)) (suc lo) 1 b (Meaning.run_body around m.program.funcs callees (suc n) f o vs ws env k w) pc words w) (sym named)
         (seen m _ (called m c calls w words f func vs pc lo b _ place named here own typed room are g (λ words1 g1 are1.
         body_follows n callees (calls_follow n) f func named place (placed c (pc + 1) ∷ calls) vs ws env k w words1 lo b le from stops typed room are1 g1
         (λ rs w1 words2 some are2 g2. post rs w1 words2 some are2 (moved_back m c (pc + 1) calls w1 words2 g2)))));
   }
-
--- the package variables show nothing, and read nothing
-globals_follow : (strings : List (List ℕ)) (around : Setting) (l : Limits) (gs : List (ℕ × Value)) (g : Go) (lo hi b : ℕ) (run : ℕ → Outcome Event Stop) → ((w : World) → w.reads ≡ 0 → Follows Sight Event Ending Stop same_event (same_end strings) lo hi b (out l [] (g w)) run)
-    → (w : World) → w.reads ≡ 0 → Follows Sight Event Ending Stop same_event (same_end strings) lo hi b (out l [] (Meaning.bear_globals around gs g w)) run
-globals_follow strings around l [] g lo hi b run post w unread = post w unread
-globals_follow strings around l ((site, v) ∷ gs) g lo hi b run post w unread = globals_follow strings around l gs g lo hi b run post (born w (Meaning.new_cell around 0 site v)) unread
 
 -- the first frame's limit is met by both or by neither
 gate : (strings : List (List ℕ)) (test : Bool) (frame max b : ℕ) (t : Lines Sight Ending) (run : ℕ → Outcome Event Stop) → Follows Sight Event Ending Stop same_event (same_end strings) 0 0 b t run →
@@ -176,44 +175,82 @@ zero_of_type zeros t same (inr e) =
     let is : get_or zeros t no_value ≡ bool false = ap (λ zs. get_or zs t no_value) same ∙ ap (λ i. get_or zero_values i no_value) e in
     subst (λ v. Stands v 0 × IsOf t v) (sym is) (refl, e)
 
-module _ (p : Program) (code : Tables) (compiled : Compiled p.funcs code) (texts : code.strings ≡ p.strings) (form : IsInForm p) (items : ℕ → Item) (numbers_are : AreNumbers items) (max : ℕ) where
-  abbrev built : Built
-  built = record { program = p; code = code; max = max; items = items; fits = form.fits; plain = form.plain; strings = texts; numbers = numbers_are; compiled = compiled }
-
+module _ (p : Program) (code : Tables) (compiled : Compiled p.funcs code) (texts : code.strings ≡ p.strings) (form : IsInForm p) (items : ℕ → Item) (numbers_are : AreNumbers items) (max heap_max : ℕ) where
   abbrev around : Setting
   around = Meaning.setting_of items p
 
   zero_is : (site : ℕ) → Stands (Meaning.zero_of around site) 0 × IsOf (site_type p site) (Meaning.zero_of around site)
   zero_is site = zero_of_type p.zeros (site_type p site) form.zeros (form.plain site)
 
-  -- no item was read before
-  begun : (t : Lines Sight Ending) (start reads b : ℕ) (words : List ℕ) → reads ≡ 0 → Follows Sight Event Ending Stop same_event (same_end p.strings) 0 0 b t (λ k. exec (act code max items) k (record { pc = start; words = words; reads = reads }))
-      → Follows Sight Event Ending Stop same_event (same_end p.strings) 0 0 b t (λ k. exec (act code max items) k (record { pc = start; words = words; reads = 0 }))
-  begun t start reads b words unread f = subst (λ r. Follows Sight Event Ending Stop same_event (same_end p.strings) 0 0 b t (λ k. exec (act code max items) k (record { pc = start; words = words; reads = r }))) unread f
+  -- no site of a function is one of the package
+  apart : (f : ℕ) (func : Func) → slice_get p.funcs f ≡ Some func → (site : ℕ) → func.first ≤ site → site < func.first + func.count → on_heap p site ≡ false
+  apart f func is site from to = none_among site p.globals (λ i g e same. elim ((form.globals i g e).apart f func is) [ inl l ↦ absurd (omega (arith, l, same)) | inr l ↦ absurd (omega (arith, l, same)) ])
 
-  -- `main` is entered without a call
-  main_follows : (n b : ℕ) → b ≤ suc n → (func : Func) → slice_get p.funcs p.main ≡ Some func → func.params ≡ [] → func.results ≡ [] → (w : World) → w.reads ≡ 0 → Follows Sight Event Ending Stop same_event (same_end p.strings) 0 0 b
-      (out (limits p max) [] (Meaning.call_at around p.funcs (suc n) p.main [] Meaning.at_top (λ x. 0) (λ rs. Meaning.stop (Exit 0)) w)) (target code items p.main max)
-  main_follows n b le func named no_params no_results w unread =
-      let callees = Meaning.call_at around p.funcs n in
-      let place = compiled.placed p.main func named in
-      let none : length {A = Option ℕ} [] ≡ argument_words func = ap (λ l. length l) (sym no_params) in
-      let nothing : result_words func ≡ 0 = ap (λ l. length l) no_results in
-      let typed : AreOf func.param_types [] = none_of func.param_types (params_length p func.first func.param_types func.params (form.fits p.main func named).params ∙ sym none) in
-      subst (λ o. Follows Sight Event Ending Stop same_event (same_end p.strings) 0 0 b (out (limits p max) [] (Meaning.run_body around p.funcs callees (suc n) p.main o [] Meaning.at_top (λ x. 0) (λ rs. Meaning.stop (Exit 0)) w)) (target code items p.main max)) (sym named)
-      (subst (λ o. Follows Sight Event Ending Stop same_event (same_end p.strings) 0 0 b (out (limits p max) [] (Meaning.run_body around p.funcs callees (suc n) p.main (Some func) [] Meaning.at_top (λ x. 0) (λ rs. Meaning.stop (Exit 0)) w)) (λ k. entered code items max o k)) (sym place.entry)
-      (first_gate p.strings (frame_in p.funcs (slice_get p.funcs p.main)) (frame_of p.funcs func) max b _ _ (ap (frame_in p.funcs) named)
-      (begun _ place.start w.reads b (replicate (frame_of p.funcs func) 0) unread (body_follows built around refl refl zero_is n callees (calls_follow built around refl refl zero_is n) p.main func named place [] [] Meaning.at_top (λ x. 0) (λ rs. Meaning.stop (Exit 0)) w (replicate (frame_of p.funcs func) 0) 0 b le tt (λ at x env1 w1. refl) typed (omega (arith, none, nothing)) (λ j l. absurd (omega arith))
-      (first_frame built p.main func w named) (λ rs w1. refl)).at)))
+  -- what the heap begins with
+  abbrev heap : List ℕ
+  heap = first_words p.globals
 
-  whole_follows : (n b : ℕ) → b ≤ suc n → Follows Sight Event Ending Stop same_event (same_end p.strings) 0 0 b (out (limits p max) [] (Meaning.trace items p n)) (target code items p.main max)
-  whole_follows n b le =
-      globals_follow p.strings around (limits p max) p.globals _ 0 0 b (target code items p.main max)
-      (λ w unread. main_follows n b le form.main.0 form.main.1 form.main.2 form.main.3 w unread) Meaning.beginning refl
+  -- the state in which `main` is called
+  abbrev begun : World
+  begun = born_all around p.globals Meaning.beginning
+
+  begun_length : length begun.store ≡ length p.globals
+  begun_length = omega (arith, all_length around p.globals Meaning.beginning)
+
+  begun_value : (i : ℕ) → i < length p.globals → value_of begun i ≡ (get_or p.globals i no_global).1
+  begun_value i l = let e : i ≡ 0 + i = omega arith in ap (value_of begun) e ∙ all_values around p.globals Meaning.beginning i l
+
+  global_fits : (i : ℕ) → i < length p.globals → GlobalFits p (get_or p.globals i no_global)
+  global_fits i l = form.globals i (get_or p.globals i no_global) (slice_get-get_or p.globals i no_global l)
+
+  begun_kinds : (i : ℕ) → i < length p.globals → IsOf (global_type p i) (value_of begun i)
+  begun_kinds i l = subst (λ v. IsOf (global_type p i) v) (sym (begun_value i l)) (global_fits i l).value.0
+
+  begun_stands : (i : ℕ) → i < length p.globals → Stands (value_of begun i) (slice_index heap i)
+  begun_stands i l =
+      let v = (get_or p.globals i no_global).1 in
+      stands_same v (value_of begun i) (word_of v) (slice_index heap i) (begun_value i l) (first_word p.globals i l) (word_stands v (global_fits i l).value.1)
+
+  module _ (few : length p.globals ≤ 2 ^ 32) where
+    abbrev built : Built
+    built = record { program = p; code = code; max = max; heap_max = heap_max; items = items; fits = form.fits; plain = form.plain; few = few; stacked = apart; strings = texts; numbers = numbers_are; compiled = compiled }
+
+    begun_heaps : Heaps built begun heap
+    begun_heaps = record { long = first_length p.globals; stands = begun_stands }
+
+    -- no item was read before
+    unread : (t : Lines Sight Ending) (start b : ℕ) (words : List ℕ) → Follows Sight Event Ending Stop same_event (same_end p.strings) 0 0 b t (λ k. exec (act code max items) k (state_at built start words begun.reads heap))
+        → Follows Sight Event Ending Stop same_event (same_end p.strings) 0 0 b t (λ k. exec (act code max items) k (state_at built start words 0 heap))
+    unread t start b words f = subst (λ r. Follows Sight Event Ending Stop same_event (same_end p.strings) 0 0 b t (λ k. exec (act code max items) k (state_at built start words r heap))) (reads_kept around p.globals Meaning.beginning) f
+
+    -- `main` is entered without a call
+    main_follows : (n b : ℕ) → b ≤ suc n → (func : Func) → slice_get p.funcs p.main ≡ Some func → func.params ≡ [] → func.results ≡ [] → Follows Sight Event Ending Stop same_event (same_end p.strings) 0 0 b
+        (out (limits p max heap_max) [] (length p.globals) (Meaning.call_at around p.funcs (suc n) p.main [] Meaning.at_top (λ x. 0) (λ rs. Meaning.stop (Exit 0)) begun)) (entered code items max (record { words = heap; max = heap_max }) (slice_get code.funcs p.main))
+    main_follows n b le func named no_params no_results =
+        let callees = Meaning.call_at around p.funcs n in
+        let place = compiled.placed p.main func named in
+        let first : Words = record { words = heap; max = heap_max } in
+        let none : length {A = Option ℕ} [] ≡ argument_words func = ap (λ l. length l) (sym no_params) in
+        let nothing : result_words func ≡ 0 = ap (λ l. length l) no_results in
+        let typed : AreOf func.param_types [] = none_of func.param_types (params_length p func.first func.param_types func.params (form.fits p.main func named).params ∙ sym none) in
+        subst (λ o. Follows Sight Event Ending Stop same_event (same_end p.strings) 0 0 b (out (limits p max heap_max) [] (length p.globals) (Meaning.run_body around p.funcs callees (suc n) p.main o [] Meaning.at_top (λ x. 0) (λ rs. Meaning.stop (Exit 0)) begun)) (entered code items max first (slice_get code.funcs p.main))) (sym named)
+        (subst (λ o. Follows Sight Event Ending Stop same_event (same_end p.strings) 0 0 b (out (limits p max heap_max) [] (length p.globals) (Meaning.run_body around p.funcs callees (suc n) p.main (Some func) [] Meaning.at_top (λ x. 0) (λ rs. Meaning.stop (Exit 0)) begun)) (λ k. entered code items max first o k)) (sym place.entry)
+        (first_gate p.strings (frame_in p.funcs (slice_get p.funcs p.main)) (frame_of p.funcs func) max b _ _ (ap (frame_in p.funcs) named)
+        (unread _ place.start b (replicate (frame_of p.funcs func) 0) ((body_follows built around refl refl zero_is n callees (calls_follow built around refl refl zero_is n) p.main func named place [] [] Meaning.at_top (λ x. 0) (λ rs. Meaning.stop (Exit 0)) begun (replicate (frame_of p.funcs func) 0) 0 b le tt (λ at x env1 w1. refl) typed (omega (arith, none, nothing)) (λ j l. absurd (omega arith))
+        (first_frame built p.main func begun named (omega (arith, begun_length)) begun_kinds) (λ rs w1. refl)).at heap begun_heaps))))
+
+  -- the births of the package variables, and `main`
+  whole_follows : (n b : ℕ) → b ≤ suc n → heap_max ≤ 2 ^ 32 → Follows Sight Event Ending Stop same_event (same_end p.strings) 0 0 b (out (limits p max heap_max) [] 0 (Meaning.trace items p n)) (target code items heap p.main max heap_max)
+  whole_follows n b le small =
+      let main = Meaning.call_at around p.funcs (suc n) p.main [] Meaning.at_top (λ x. 0) (λ rs. Meaning.stop (Exit 0)) in
+      let first : Words = record { words = heap; max = heap_max } in
+      subst (λ count. Follows Sight Event Ending Stop same_event (same_end p.strings) 0 0 b (out (limits p max heap_max) [] 0 (Meaning.trace items p n)) (λ k. if nat_le count heap_max then entered code items max first (slice_get code.funcs p.main) k else Run.Ends (Full heap_max 1 heap_max))) (sym (first_length p.globals))
+      (globals_follow around (limits p max heap_max) p.strings main (entered code items max first (slice_get code.funcs p.main)) b p.globals Meaning.beginning 0 (length p.globals) (all_among p.globals) (omega arith) (omega arith) (λ fits.
+      main_follows (omega arith) n b le form.main.0 form.main.1 form.main.2 form.main.3))
 
 -- the code of a program in form does what the program means
 pub simulated : (p : Program) (code : Tables) → Compiled p.funcs code → IsInForm p → code.strings ≡ p.strings → Simulated p code
 simulated p code compiled form texts = record {
-  at_least = λ items are max n k le. (whole_follows p code compiled texts form items are max n 0 (omega arith)).lower n k (omega arith);
-  at_most = λ items are max k. (whole_follows p code compiled texts form items are max k (suc k) (omega arith)).upper k k (omega arith) (omega arith);
+  at_least = λ items are max heap_max n k small le. (whole_follows p code compiled texts form items are max heap_max n 0 (omega arith) small).lower n k (omega arith);
+  at_most = λ items are max heap_max k small. (whole_follows p code compiled texts form items are max heap_max k (suc k) (omega arith) small).upper k k (omega arith) (omega arith);
 }

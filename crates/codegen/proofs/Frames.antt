@@ -1,11 +1,12 @@
 -- The running calls, and what the stack's words stand for.
-use Rattle.std.proofs.Common.{◌≡◌, ℕ, suc, ◌+◌, ◌-◌, ◌<◌, ◌≤◌, List, [], ◌∷◌, length, Some, refl, sym, ap, ◌∙◌, subst, arith, get_or}
+use Rattle.std.proofs.Common.{◌≡◌, ℕ, suc, ◌+◌, ◌-◌, ◌^◌, ◌<◌, ◌≤◌, false, List, [], ◌∷◌, length, Some, refl, sym, ap, ◌∙◌, subst, arith, get_or}
 use Rattle.std.specs.Prelude.{slice_get}
 use Rattle.std.specs.Int.{w64, cast_signed}
 use Rattle.typed.specs.Value.{Value, int, bool}
 use Rattle.typed.specs.Syntax.{Func, Program}
-use Rattle.typed.specs.Form.{IsOf, AreOf, IsPlain, site_type, InScope, FuncFits}
+use Rattle.typed.specs.Form.{IsOf, AreOf, IsPlain, site_type, global_type, InScope, FuncFits}
 use Rattle.typed.specs.Frames.{outgoing_of, temps_of, frame_of}
+use Rattle.typed.specs.Placement.{on_heap}
 use Rattle.meaning.specs.Trace.{World}
 use Rattle.meaning.specs.Store.{no_value, value_of}
 use Rattle.meaning.specs.Meaning.{Env, Item, with_home}
@@ -17,14 +18,18 @@ use Rattle.codegen.specs.Correct.{AreNumbers}
 use Rattle.codegen.proofs.Compiled.{Compiled}
 use Rattle.codegen.proofs.Distances.{word_at}
 
--- a program in form, its code, the most words that the stack may have, and the items of the input
+-- A program in form, its code, the most words that the stack and the heap may have, and the items of the input. The package
+-- variables have room in the heap, and no site of a function is theirs.
 pub record Built : Type 0 where
   pub program : Program
   pub code : Tables
   pub max : ℕ
+  pub heap_max : ℕ
   pub items : ℕ → Item
   pub fits : (f : ℕ) (func : Func) → slice_get program.funcs f ≡ Some func → FuncFits program func
   pub plain : (site : ℕ) → IsPlain (site_type program site)
+  pub few : length program.globals ≤ 2 ^ 32
+  pub stacked : (f : ℕ) (func : Func) → slice_get program.funcs f ≡ Some func → (site : ℕ) → func.first ≤ site → site < func.first + func.count → on_heap program site ≡ false
   pub strings : code.strings ≡ program.strings
   pub numbers : AreNumbers items
   pub compiled : Compiled program.funcs code
@@ -116,11 +121,13 @@ module _ (m : Built) where
   link_of [] = 0
   link_of (c ∷ calls) = address_of m.max (depth calls)
 
-  -- a frame below those of these calls; its variables are among those from its entry to the entry of the next inner call
+  -- A frame below those of these calls. Its variables are among those from its entry to the entry of the next inner call, and
+  -- behind those of the package.
   pub record Level (top : ℕ) (c : Frame) (calls : List Frame) (w : World) (words : List ℕ) : Type 0 where
     pub named : slice_get m.program.funcs c.fn ≡ Some c.func
     pub room : length c.held ≤ temps_of m.program.funcs c.func
     pub begins : c.entry ≤ top
+    pub above : length m.program.globals ≤ c.entry
     pub among : (v : ℕ) → InScope v c.scope → (c.func.first ≤ v) × (v < c.func.first + c.func.count)
     pub homes : (v : ℕ) → InScope v c.scope → (c.entry ≤ c.env v) × (c.env v < top)
     pub sole : (u v : ℕ) → InScope u c.scope → InScope v c.scope → c.env u ≡ c.env v → u ≡ v
@@ -134,9 +141,11 @@ module _ (m : Built) where
   Stack top [] w words = Unit {0}
   Stack top (c ∷ calls) w words = Level top c calls w words × Stack c.entry calls w words
 
-  -- the stack of these calls
+  -- the stack of these calls, and the package variables
   pub record Good (calls : List Frame) (w : World) (words : List ℕ) : Type 0 where
     pub long : length words ≡ depth calls
+    pub many : length m.program.globals ≤ length w.store
+    pub kinds : (g : ℕ) → g < length m.program.globals → IsOf (global_type m.program g) (value_of w g)
     pub stack : Stack (length w.store) calls w words
 
   -- what stays: the words above the outgoing area, and the values of the frames' variables
@@ -146,6 +155,7 @@ module _ (m : Built) where
     named = g.named;
     room = g.room;
     begins = let b = g.begins in omega arith;
+    above = g.above;
     among = g.among;
     homes = λ v i. (let h = g.homes v i in (h.0, omega arith));
     sole = g.sole;
@@ -159,49 +169,60 @@ module _ (m : Built) where
     link = same (depth calls + 2) (omega arith) (omega arith) ∙ g.link;
   }
 
-  pub stack_keeps : (top later : ℕ) (calls : List Frame) (w w1 : World) (words words1 : List ℕ) → top ≤ later → ((x : ℕ) → x < top → value_of w1 x ≡ value_of w x)
+  pub stack_keeps : (top later : ℕ) (calls : List Frame) (w w1 : World) (words words1 : List ℕ) → top ≤ later → ((x : ℕ) → length m.program.globals ≤ x → x < top → value_of w1 x ≡ value_of w x)
       → ((d : ℕ) → d ≤ steady calls → word_at words1 d ≡ word_at words d) → Stack top calls w words → Stack later calls w1 words1
   stack_keeps top later [] w w1 words words1 le old same s = tt
   stack_keeps top later (c ∷ calls) w w1 words words1 le old same s = (
-    level_keeps top later c calls w w1 words words1 le (λ x a l. old x l) (λ d a l. same d l) s.0,
-    stack_keeps c.entry c.entry calls w w1 words words1 (omega arith) (λ x l. old x (let b = s.0.begins in omega arith)) (λ d l. same d (let e = depth_is calls in omega arith)) s.1,
+    level_keeps top later c calls w w1 words words1 le (λ x a l. old x (let p = s.0.above in omega arith) l) (λ d a l. same d l) s.0,
+    stack_keeps c.entry c.entry calls w w1 words words1 (omega arith) (λ x p l. old x p (let b = s.0.begins in omega arith)) (λ d l. same d (let e = depth_is calls in omega arith)) s.1,
   )
 
   pub good_keeps : (calls : List Frame) (w : World) (words words1 : List ℕ) → length words1 ≡ length words → ((d : ℕ) → d ≤ steady calls → word_at words1 d ≡ word_at words d) → Good calls w words → Good calls w words1
   good_keeps calls w words words1 long same g = record {
     long = long ∙ g.long;
-    stack = stack_keeps (length w.store) (length w.store) calls w w words words1 (omega arith) (λ x l. refl) same g.stack;
+    many = g.many;
+    kinds = g.kinds;
+    stack = stack_keeps (length w.store) (length w.store) calls w w words words1 (omega arith) (λ x p l. refl) same g.stack;
   }
 
   -- how many items were read is no matter of the words
   pub good_read : (calls : List Frame) (w : World) (reads : ℕ) (words : List ℕ) → Good calls w words → Good calls (record { store = w.store; reads = reads }) words
   good_read calls w reads words g = let u : World = record { store = w.store; reads = reads } in record {
     long = g.long;
-    stack = stack_keeps (length w.store) (length w.store) calls w u words words (omega arith) (λ x l. refl) (λ d l. refl) g.stack;
+    many = g.many;
+    kinds = g.kinds;
+    stack = stack_keeps (length w.store) (length w.store) calls w u words words (omega arith) (λ x p l. refl) (λ d l. refl) g.stack;
   }
 
   -- the place to go on at is no matter of the words
   pub moved : (c : Frame) (place : ℕ) (calls : List Frame) (w : World) (words : List ℕ) → Good (c ∷ calls) w words → Good (placed c place ∷ calls) w words
   moved c place calls w words g = let s = g.stack.0 in record {
     long = g.long;
-    stack = (record { named = s.named; room = s.room; begins = s.begins; among = s.among; homes = s.homes; sole = s.sole; values = s.values; types = s.types; temps = s.temps; back = s.back; link = s.link }, g.stack.1);
+    many = g.many;
+    kinds = g.kinds;
+    stack = (record { named = s.named; room = s.room; begins = s.begins; above = s.above; among = s.among; homes = s.homes; sole = s.sole; values = s.values; types = s.types; temps = s.temps; back = s.back; link = s.link }, g.stack.1);
   }
 
   pub moved_back : (c : Frame) (place : ℕ) (calls : List Frame) (w : World) (words : List ℕ) → Good (placed c place ∷ calls) w words → Good (c ∷ calls) w words
   moved_back c place calls w words g = let s = g.stack.0 in record {
     long = g.long;
-    stack = (record { named = s.named; room = s.room; begins = s.begins; among = s.among; homes = s.homes; sole = s.sole; values = s.values; types = s.types; temps = s.temps; back = s.back; link = s.link }, g.stack.1);
+    many = g.many;
+    kinds = g.kinds;
+    stack = (record { named = s.named; room = s.room; begins = s.begins; above = s.above; among = s.among; homes = s.homes; sole = s.sole; values = s.values; types = s.types; temps = s.temps; back = s.back; link = s.link }, g.stack.1);
   }
 
   -- fewer sites are in scope
   pub narrowed : (c : Frame) (env : Env) (scope less : List ℕ) (calls : List Frame) (w : World) (words : List ℕ) → ((v : ℕ) → InScope v less → InScope v scope) → Good (with_sites c env scope ∷ calls) w words → Good (with_sites c env less ∷ calls) w words
   narrowed c env scope less calls w words sub g = let s = g.stack.0 in record {
     long = g.long;
+    many = g.many;
+    kinds = g.kinds;
     stack = (
       record {
         named = s.named;
         room = s.room;
         begins = s.begins;
+        above = s.above;
         among = λ v i. s.among v (sub v i);
         homes = λ v i. s.homes v (sub v i);
         sole = λ u v i j. s.sole u v (sub u i) (sub v j);

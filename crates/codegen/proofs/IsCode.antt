@@ -6,15 +6,15 @@ use Rattle.isa.specs.Code.{Tables, CanCall, Fits as FitsAt, FitsPlace, IsCode, I
 use Rattle.isa.specs.declared.func.Func.{Func as Entry}
 use Rattle.isa.specs.declared.instr.Instr.{Instr}
 use Rattle.isa.specs.declared.instr.BinOp.TheVariants as Word
-use Rattle.isa.specs.declared.instr.Instr.TheVariants.{Const, Move, MoveWords, Bin, Un, Jump, JumpZero, Call, Argument, SetResults, ReadInt, PrintInt, PrintBool, PrintText, PrintSpace, PrintLine, Return, Exit, PanicText, PanicInt, PanicBool}
+use Rattle.isa.specs.declared.instr.Instr.TheVariants.{Const, Move, MoveWords, Bin, Un, Jump, JumpZero, Call, Argument, SetResults, Load, Store, ReadInt, PrintInt, PrintBool, PrintText, PrintSpace, PrintLine, Return, Exit, PanicText, PanicInt, PanicBool}
 use Rattle.machine.specs.Inside.{Inside}
 use Rattle.typed.specs.declared.operators.UnOp.{UnOp}
 use Rattle.typed.specs.declared.operators.UnOp.TheVariants as One
-use Rattle.typed.specs.Syntax.{Ex, Exs, Pl, Left, Piece, St, Sts, Func, Program, constant, read, unary, binary, both, either, call, local, here, none, more, results, asked, blank, new, to, text, shown, over_int, declare, assign, update, bump, discard, block, choose, loop, range, break_off, go_on, give_back, print, raise, quit, done, next, bool_type, arguments_in, results_in, argument_words, result_words, arguments_of, results_of}
+use Rattle.typed.specs.Syntax.{Ex, Exs, Pl, Left, Piece, St, Sts, Func, Program, constant, read, unary, binary, both, either, call, local, global, here, none, more, results, asked, blank, new, to, text, shown, over_int, declare, assign, update, bump, discard, block, choose, loop, range, break_off, go_on, give_back, print, raise, quit, done, next, bool_type, arguments_in, results_in, argument_words, result_words, arguments_of, results_of}
 use Rattle.typed.specs.Form.{scope_in, body_first, IsInForm}
-use Rattle.typed.specs.Frames.{frame_of}
-use Rattle.codegen.specs.Temps.{SiteFits, PlaceFits, SitesFit, ParamsFitIn, LeftsFitIn, ValuesFit, RenewFits, CallFits, Fits, ExsFitIn, PiecesFitIn, TestFitsIn, StFitsIn, StsFitIn, FuncFitsIn}
-use Rattle.codegen.specs.Code.{Slots, temp, site_slot, operation, unary_code, read_code, write_code, move_code, result_code, call_code, count_of, ex_code, exs_code, pieces_code, test_code, shown_code, raised_code, show_more, show_plain, show_code, lefts_code, lefts_size, named_write_code, named_read_code, leave_code, values_code, params_code, zeros_code, renew_code, renew_size, size, exs_size, pieces_size, test_size, st_size, sts_size, st_code, sts_code, slots_of, entry_code, entry_size, func_code, func_size, entry_of, funcs_code, funcs_owners, funcs_entries, code_of}
+use Rattle.typed.specs.Frames.{far, frame_of}
+use Rattle.codegen.specs.Temps.{SiteFits, PlaceFits, AddressFits, SitesFit, ParamsFitIn, LeftsFitIn, ValuesFit, RenewFits, CallFits, Fits, ExsFitIn, PiecesFitIn, TestFitsIn, StFitsIn, StsFitIn, FuncFitsIn}
+use Rattle.codegen.specs.Code.{Slots, temp, site_slot, operation, unary_code, address_code, fetch_code, land_code, read_code, write_code, move_code, result_code, call_code, count_of, ex_code, exs_code, pieces_code, test_code, shown_code, raised_code, show_more, show_plain, show_code, lefts_code, lefts_size, named_write_code, named_read_code, leave_code, values_code, params_code, zeros_code, renew_code, renew_size, size, exs_size, pieces_size, test_size, st_size, sts_size, st_code, sts_code, slots_of, entry_code, entry_size, func_code, func_size, entry_of, funcs_code, funcs_owners, funcs_entries, code_of}
 use Rattle.codegen.proofs.Sizes.{length_func}
 use Rattle.codegen.proofs.Stands.{same_some, start_of, some_size, length_owners, stands, located, entered_from, exists}
 use Rattle.codegen.proofs.Suffice.{func_fits}
@@ -34,6 +34,8 @@ module _ (fns : List Entry) (strings slots incoming start end : ℕ) where
   Ok (Call g) = CanCall fns slots g
   Ok (Argument a b) = (a < slots) × (b < incoming)
   Ok (SetResults a b n) = (1 ≤ n) × (a + n ≤ slots) × (b + n ≤ incoming)
+  Ok (Load a b off n) = (1 ≤ n) × (a + n ≤ slots) × (b < slots)
+  Ok (Store a off c n) = (1 ≤ n) × (a < slots) × (c + n ≤ slots)
   Ok (PrintInt a) = a < slots
   Ok (PrintBool a) = a < slots
   Ok (PrintText number) = number < strings
@@ -89,16 +91,33 @@ module _ (fs : List Func) (s : Slots) (n : ℕ) (fns : List Entry) (strings argu
   unary_ok One.Complement h l = ((omega arith, omega arith), tt)
   unary_ok One.Not h l = ((omega arith, omega arith), tt)
 
-  read_ok : (q : Pl) (h : ℕ) (is : List Instr) → h < s.temps → PlaceFits s n q → Are is → Are (read_code s q h ∷ is)
-  read_ok (local site here) h is l f g = (((omega arith), site_in site f), g)
+  address_ok : (q : Pl) (at : ℕ) (is : List Instr) → AddressFits s.temps at q → Are is → Are (address_code s q at ++ is)
+  address_ok (local site here) at is a g = g
+  address_ok (global number here) at is a g = ((omega arith), g)
 
-  write_ok : (q : Pl) (h : ℕ) (is : List Instr) → h < s.temps → PlaceFits s n q → Are is → Are (write_code s q h ∷ is)
-  write_ok (local site here) h is l f g = ((site_in site f, (omega arith)), g)
+  fetch_ok : (q : Pl) (at h : ℕ) (is : List Instr) → h < s.temps → PlaceFits s n q → AddressFits s.temps at q → Are is → Are (fetch_code s q at h ∷ is)
+  fetch_ok (local site here) at h is l f a g = (((omega arith), site_in site f), g)
+  fetch_ok (global number here) at h is l f a g = ((omega arith, omega arith, omega arith), g)
+
+  land_ok : (q : Pl) (at h : ℕ) (is : List Instr) → h < s.temps → PlaceFits s n q → AddressFits s.temps at q → Are is → Are (land_code s q at h ∷ is)
+  land_ok (local site here) at h is l f a g = ((site_in site f, (omega arith)), g)
+  land_ok (global number here) at h is l f a g = ((omega arith, omega arith, omega arith), g)
+
+  -- a temp can have an address
+  room_at : (q : Pl) (h : ℕ) → h < s.temps → AddressFits s.temps h q
+  room_at (local site here) h l = tt
+  room_at (global number here) h l = l
+
+  read_ok : (q : Pl) (h : ℕ) → h < s.temps → PlaceFits s n q → Are (read_code s q h)
+  read_ok q h l f = address_ok q h (fetch_code s q h h ∷ []) (room_at q h l) (fetch_ok q h h [] l f (room_at q h l) tt)
+
+  write_ok : (q : Pl) (at h : ℕ) → h < s.temps → PlaceFits s n q → AddressFits s.temps at q → Are (write_code s q at h)
+  write_ok q at h l f a = address_ok q at (land_code s q at h ∷ []) a (land_ok q at h [] l f a tt)
 
   mutual
     ex_ok : (e : Ex) (h pc : ℕ) → Fits fs s n h e → start ≤ pc → pc + size fs e < end → Are (ex_code fs s e h pc)
     ex_ok (constant v) h pc f a l = (omega arith, tt)
-    ex_ok (read q) h pc f a l = read_ok q h [] f.0 f.1 tt
+    ex_ok (read q) h pc f a l = read_ok q h f.0 f.1
     ex_ok (unary op e) h pc f a l = join (ex_code fs s e h pc) (unary_code op (temp s h) ∷ []) (ex_ok e h pc f.1 a (omega arith)) (unary_ok op h f.0)
     ex_ok (binary at o x y) h pc f a l =
         let k = f.0 in let i = Bin (operation o) (temp s h) (temp s h) (temp s (h + 1)) in let py = pc + size fs x in
@@ -163,11 +182,11 @@ module _ (fs : List Func) (s : Slots) (n : ℕ) (fns : List Entry) (strings argu
   shown_ok true (shown t e ∷ ps) h f w = value_ok t h (show_more s ps (h + 1)) f.0 (more_ok ps (h + 1) f.2 w.1)
   shown_ok false ps h f w = plain_ok ps h f w
 
-  lefts_ok : (ls : List Left) (h : ℕ) → LeftsFitIn s n h ls → Are (lefts_code s ls h)
-  lefts_ok [] h f = tt
-  lefts_ok (blank ∷ ls) h f = lefts_ok ls (h + 1) f.1
-  lefts_ok (new site ∷ ls) h f = ((site_in site f.1, (let k = f.0 in omega arith)), lefts_ok ls (h + 1) f.2)
-  lefts_ok (to q ∷ ls) h f = write_ok q h (lefts_code s ls (h + 1)) f.0 f.1 (lefts_ok ls (h + 1) f.2)
+  lefts_ok : (ls : List Left) (at h : ℕ) → LeftsFitIn s n at h ls → Are (lefts_code s ls at h)
+  lefts_ok [] at h f = tt
+  lefts_ok (blank ∷ ls) at h f = lefts_ok ls at (h + 1) f.1
+  lefts_ok (new site ∷ ls) at h f = ((site_in site f.1, (let k = f.0 in omega arith)), lefts_ok ls at (h + 1) f.2)
+  lefts_ok (to q ∷ ls) at h f = join (write_code s q at h) (lefts_code s ls at (h + 1)) (write_ok q at h f.0 f.1 f.2) (lefts_ok ls at (h + 1) f.3)
 
   named_write_ok : (sites : List ℕ) (h : ℕ) → SitesFit s n sites → h + length sites ≤ s.temps → Are (named_write_code s sites h)
   named_write_ok [] h f l = tt
@@ -221,15 +240,17 @@ module _ (fs : List Func) (s : Slots) (n : ℕ) (fns : List Entry) (strings argu
     mutual
       st_ok : (looped : Bool) (t : St) (h out again pc : ℕ) → StFitsIn fs s n wanted named h t → StWithin strings looped t → Around looped out again → start ≤ pc → pc + st_len t < end → Are (st_code fs arguments named s t h out again pc)
       st_ok looped (declare births) h out again pc f w r a l = zeros_ok births f
-      st_ok looped (assign ls es) h out again pc f w r a l = join (exs_code fs s es h pc) (lefts_code s ls h) (exs_ok es h pc f.0 a (omega arith)) (lefts_ok ls h f.1)
+      st_ok looped (assign ls es) h out again pc f w r a l = join (exs_code fs s es h pc) (lefts_code s ls (h + length ls) h) (exs_ok es h pc f.1 a (omega arith)) (lefts_ok ls (h + length ls) h f.2)
       st_ok looped (update at q o e) h out again pc f w r a l =
-          let k = f.0 in let i = Bin (operation o) (temp s h) (temp s h) (temp s (h + 1)) in
-          read_ok q h (ex_code fs s e (h + 1) (pc + 1) ++ i ∷ write_code s q h ∷ []) (omega arith) f.1
-          (join (ex_code fs s e (h + 1) (pc + 1)) (i ∷ write_code s q h ∷ []) (ex_ok e (h + 1) (pc + 1) f.2 (omega arith) (omega arith)) ((omega arith, omega arith, omega arith), write_ok q h [] (omega arith) f.1 tt))
+          let k = f.0 in
+          let i = Bin (operation o) (temp s h) (temp s h) (temp s (h + 1)) in let ce = ex_code fs s e (h + 1) (pc + (far q + 1)) in let cw = write_code s q (h + 1) h in
+          join (read_code s q h) (ce ++ i ∷ cw) (read_ok q h (omega arith) f.1)
+          (join ce (i ∷ cw) (ex_ok e (h + 1) (pc + (far q + 1)) f.2 (omega arith) (omega arith)) ((omega arith, omega arith, omega arith), write_ok q (h + 1) h (omega arith) f.1 (room_at q (h + 1) k)))
       st_ok looped (bump q o) h out again pc f w r a l =
           let k = f.0 in
-          read_ok q h (Const (temp s (h + 1)) 1 ∷ Bin (operation o) (temp s h) (temp s h) (temp s (h + 1)) ∷ write_code s q h ∷ []) (omega arith) f.1
-          (omega arith, ((omega arith, omega arith, omega arith), write_ok q h [] (omega arith) f.1 tt))
+          let i = Bin (operation o) (temp s h) (temp s h) (temp s (h + 1)) in let cw = write_code s q (h + 1) h in
+          join (read_code s q h) (Const (temp s (h + 1)) 1 ∷ i ∷ cw) (read_ok q h (omega arith) f.1)
+          (omega arith, ((omega arith, omega arith, omega arith), write_ok q (h + 1) h (omega arith) f.1 (room_at q (h + 1) k)))
       st_ok looped (discard es) h out again pc f w r a l = exs_ok es h pc f a l
       st_ok looped (block ss) h out again pc f w r a l = sts_ok looped ss h out again pc f w r a l
       st_ok looped (choose e x y) h out again pc f w r a l =
@@ -259,7 +280,7 @@ module _ (fs : List Func) (s : Slots) (n : ℕ) (fns : List Entry) (strings argu
           let behind = turn + 3 in
           let here_behind : Here behind = (omega arith, omega arith) in
           let here_turn : Here turn = (omega arith, omega arith) in
-          let cl = lefts_code s (key ∷ []) (h + 1) in let cb = code body (h + 2) behind turn inside in
+          let cl = lefts_code s (key ∷ []) (h + 2) (h + 1) in let cb = code body (h + 2) behind turn inside in
           let last : List Instr = Const (temp s (h + 2)) 1 ∷ Bin Word.Add (temp s (h + 1)) (temp s (h + 1)) (temp s (h + 2)) ∷ Jump test ∷ [] in
           join (ex_code fs s e h pc) (Const (temp s (h + 1)) 0 ∷ Bin Word.Less (temp s (h + 2)) (temp s (h + 1)) (temp s h) ∷ JumpZero (temp s (h + 2)) behind ∷ (cl ++ (cb ++ last))) (ex_ok e h pc f.1 a (omega arith)) (
             omega arith,
@@ -267,7 +288,7 @@ module _ (fs : List Func) (s : Slots) (n : ℕ) (fns : List Entry) (strings argu
               (omega arith, omega arith, omega arith),
               (
                 (omega arith, here_behind),
-                join cl (cb ++ last) (lefts_ok (key ∷ []) (h + 1) f.2)
+                join cl (cb ++ last) (lefts_ok (key ∷ []) (h + 2) (h + 1) f.2)
                     (join cb last (sts_ok true body (h + 2) behind turn inside f.3 w (λ e. (here_behind, here_turn)) (omega arith) (omega arith))
                     (omega arith, ((omega arith, omega arith, omega arith), ((omega arith, omega arith), tt)))),
               ),
@@ -324,6 +345,8 @@ module _ (owners : List ℕ) (f start end : ℕ) (own : (p : ℕ) → start ≤ 
   fits_at place slots incoming (Call c) k (inr g) = (k, g)
   fits_at place slots incoming (Argument a b) k (inr g) = (k.0, k.1, g)
   fits_at place slots incoming (SetResults a b n) k (inr g) = (k.0, k.1, k.2, g)
+  fits_at place slots incoming (Load a b off n) k (inr g) = (k.0, k.1, k.2, g)
+  fits_at place slots incoming (Store a off c n) k (inr g) = (k.0, k.1, k.2, g)
   fits_at place slots incoming (PrintInt a) k (inr g) = (k, g)
   fits_at place slots incoming (PrintBool a) k (inr g) = (k, g)
   fits_at place slots incoming (PrintText number) k (inr g) = (k, g)

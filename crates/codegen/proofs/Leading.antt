@@ -16,7 +16,7 @@ use Rattle.codegen.proofs.ReturnsFollow.{Returns, returns_later}
 module _ (m : Built) (c : Frame) (calls : List Frame) where
   -- what goes on at a place, with these values held
   abbrev pub After : (held : List Value) → (scope : List ℕ) → (pc lo b : ℕ) → (Env → Go) → Type 0
-  After held scope pc lo b k = (env : Env) (w : World) (words : List ℕ) → Good m (during c env scope held ∷ calls) w words → At m (numbers (c ∷ calls)) lo 0 b (k env w) pc words w.reads
+  After held scope pc lo b k = (env : Env) (w : World) (words : List ℕ) → Good m (during c env scope held ∷ calls) w words → At m (numbers (c ∷ calls)) lo 0 b (k env w) pc words w
 
   pub after_later : (held : List Value) (scope : List ℕ) (pc lo lo1 b b1 : ℕ) (k : Env → Go) → lo ≤ lo1 → b1 ≤ b → After held scope pc lo b k → After held scope pc lo1 b1 k
   after_later held scope pc lo lo1 b b1 k p q post env w words g = later m {lo = lo} {hi = 0} {b = b} p (omega arith) q (post env w words g)
@@ -72,7 +72,7 @@ module _ (m : Built) (c : Frame) (calls : List Frame) where
         → StFits m.program c.func.results (length c.func.named) looped scope q (c.func.first + c.func.count) x → h + st_need m.program.funcs (length c.func.named) x ≤ temps_of m.program.funcs c.func → st_reach m.program.funcs x ≤ outgoing_of m.program.funcs c.func
         → Scoped c.func scope q → Leads held looped (breaks x) outer scope out again lo b ws → Good m (during c env scope held ∷ calls) w words
         → (ends x ≡ false → After held (scope_after scope x) (pc + st_size m.program.funcs (argument_words c.func) c.func.named x) lo b k)
-        → At m (numbers (c ∷ calls)) lo 0 b (Meaning.exec around callees (suc n) x ws env k w) pc words w.reads
+        → At m (numbers (c ∷ calls)) lo 0 b (Meaning.exec around callees (suc n) x ws env k w) pc words w
 
     abbrev pub AllFollowed : Sts → Type 0
     AllFollowed xs =
@@ -81,4 +81,4 @@ module _ (m : Built) (c : Frame) (calls : List Frame) where
         → StsFit m.program c.func.results (length c.func.named) looped scope q (c.func.first + c.func.count) xs → h + sts_need m.program.funcs (length c.func.named) xs ≤ temps_of m.program.funcs c.func → sts_reach m.program.funcs xs ≤ outgoing_of m.program.funcs c.func
         → Scoped c.func scope q → Leads held looped (breaks_all xs) outer scope out again lo b ws → Good m (during c env scope held ∷ calls) w words
         → (ends_all xs ≡ false → After held scope (pc + sts_size m.program.funcs (argument_words c.func) c.func.named xs) lo b k)
-        → At m (numbers (c ∷ calls)) lo 0 b (Meaning.exec_all around callees (suc n) xs ws env k w) pc words w.reads
+        → At m (numbers (c ∷ calls)) lo 0 b (Meaning.exec_all around callees (suc n) xs ws env k w) pc words w

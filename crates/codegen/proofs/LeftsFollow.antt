@@ -2,24 +2,26 @@
 use Rattle.std.proofs.Common.{◌≡◌, inr, ℕ, suc, ◌+◌, ◌<◌, ◌≤◌, List, [], ◌∷◌, ◌++◌, length, refl, sym, ◌∙◌, subst, arith, append_assoc}
 use Rattle.std.specs.Prelude.{slice_index, slice_set}
 use Rattle.typed.specs.Value.{Value}
-use Rattle.typed.specs.Syntax.{Left, Func, Program, blank, new, to, local, here as itself}
-use Rattle.typed.specs.Form.{IsOf, AreOf, site_type, InScope, AllInScope, LeftsFit, SitesNext, NamedFit, scope_behind, scope_with}
-use Rattle.typed.specs.Frames.{renewal_need, temps_of}
+use Rattle.typed.specs.Syntax.{Pl, Left, Func, Program, blank, new, to, local, global, here as itself}
+use Rattle.typed.specs.Form.{IsOf, AreOf, site_type, InScope, AllInScope, PlFits, LeftsFit, SitesNext, NamedFit, scope_behind, scope_with}
+use Rattle.typed.specs.Frames.{far, lefts_far, renewal_need, temps_of}
 use Rattle.meaning.specs.Trace.{World}
 use Rattle.meaning.specs.Store.{value_of, written, born}
 use Rattle.meaning.specs.Meaning
-use Rattle.meaning.specs.Meaning.{Env, Go, Ways, Calls, Setting, Landing, nowhere, birth, on, variable, with_home}
+use Rattle.meaning.specs.Meaning.{Env, Go, Ways, Calls, Setting, Landing, nowhere, birth, on, with_home}
 use Rattle.isa.specs.declared.instr.Instr.TheVariants.{Const, Move}
-use Rattle.codegen.specs.Code.{temp, site_slot, slots_of, lefts_code, lefts_size, zeros_code, renew_code, renew_size}
+use Rattle.codegen.specs.Code.{temp, site_slot, slots_of, write_code, lefts_code, lefts_size, zeros_code, renew_code, renew_size}
+use Rattle.codegen.proofs.Sizes.{length_write}
 use Rattle.codegen.proofs.Frames.{Built, Stands, Frame, hold, grown, during, numbers, Good, narrowed}
-use Rattle.codegen.proofs.Changes.{one_more, home_other, temp_set, fewer, born_site, written_site, held_word, site_word}
-use Rattle.codegen.proofs.Places.{Standing, At, later, place_is, turned, seen, bore, read_of, write_of, stepped}
+use Rattle.codegen.proofs.Changes.{one_more, home_other, temp_set, fewer, born_site, held_word, site_word}
+use Rattle.codegen.proofs.Places.{Standing, front, back, At, later, place_is, turned, seen, bore, read_of, write_of, stepped}
+use Rattle.codegen.proofs.Globals.{variable_of, aimed, aim_is, born_kept, landed}
 
 -- where left sides lead
 abbrev pub landing : Env → Left → Landing
 landing env blank = nowhere
 landing env (new site) = birth site
-landing env (to (local site steps)) = on (record { base = variable (env site); steps = [] })
+landing env (to p) = on (aimed env p)
 
 abbrev pub landings : Env → List Left → List Landing
 landings env [] = []
@@ -28,13 +30,14 @@ landings env (l ∷ ls) = landing env l ∷ landings env ls
 pub ready_one_is : (around : Setting) (callees : Calls) (l : Left) (ws : Ways) (env : Env) (k : Landing → Go) (w : World) → Meaning.ready around callees l ws env k w ≡ k (landing env l) w
 ready_one_is around callees blank ws env k w = refl
 ready_one_is around callees (new site) ws env k w = refl
-ready_one_is around callees (to (local site itself)) ws env k w = refl
+ready_one_is around callees (to p) ws env k w = aim_is around callees p ws env (λ a. k (on a)) w
 
 pub ready_is : (around : Setting) (callees : Calls) (ls : List Left) (ws : Ways) (env : Env) (k : List Landing → Ways → Go) (w : World) → Meaning.ready_all around callees ls ws env k w ≡ k (landings env ls) ws w
 ready_is around callees [] ws env k w = refl
 ready_is around callees (blank ∷ ls) ws env k w = ready_is around callees ls ws env (λ xs ws1. k (nowhere ∷ xs) ws1) w
 ready_is around callees (new site ∷ ls) ws env k w = ready_is around callees ls ws env (λ xs ws1. k (birth site ∷ xs) ws1) w
-ready_is around callees (to (local site itself) ∷ ls) ws env k w = ready_is around callees ls ws env (λ xs ws1. k (on (record { base = variable (env site); steps = [] }) ∷ xs) ws1) w
+ready_is around callees (to (local site itself) ∷ ls) ws env k w = ready_is around callees ls ws env (λ xs ws1. k (on (aimed env (local site itself)) ∷ xs) ws1) w
+ready_is around callees (to (global g itself) ∷ ls) ws env k w = ready_is around callees ls ws env (λ xs ws1. k (on (aimed env (global g itself)) ∷ xs) ws1) w
 
 -- the sites of results with names are next
 pub named_next : (p : Program) (n limit : ℕ) (sites : List ℕ) → NamedFit p n sites → n + length sites ≤ limit → SitesNext n limit sites
@@ -50,18 +53,25 @@ module _ (m : Built) (around : Setting) where
   abbrev pub Kept : List ℕ → (scope : List ℕ) → (first env : Env) → ℕ → Type 0
   Kept before scope first env n = (v : ℕ) → InScope v before → InScope v scope × (env v ≡ first v) × (v < n)
 
-  pub lefts_follow : (ls : List Left) (ts : List ℕ) (vs gone all : List Value) (c : Frame) (first env : Env) (before scope : List ℕ) (calls : List Frame) (ws : Ways) (k : Env → Go) (w : World) (words : List ℕ) (n h pc lo b : ℕ) → AreOf ts vs → length gone ≡ h → all ≡ gone ++ vs
-      → Standing m.code c.fn pc (lefts_code (slots_of m.program.funcs c.func) ls h) → LeftsFit m.program before n (c.func.first + c.func.count) ts ls → c.func.first ≤ n → Kept before scope first env n → Good m (during c env scope all ∷ calls) w words
-      → ((env1 : Env) (w1 : World) (words1 : List ℕ) → Good m (during c env1 (scope_behind scope ls) all ∷ calls) w1 words1 → At m (numbers (c ∷ calls)) lo 0 b (k env1 w1) (pc + lefts_size ls) words1 w1.reads)
-      → At m (numbers (c ∷ calls)) lo 0 b (Meaning.land_all around (landings first ls) vs ws env k w) pc words w.reads
-  lefts_follow [] [] vs gone all c first env before scope calls ws k w words n h pc lo b are hg e has fit from kept good post = place_is m (let q : pc + 0 ≡ pc = omega arith in q) (post env w words good)
-  lefts_follow [] (t ∷ ts) vs gone all c first env before scope calls ws k w words n h pc lo b are hg e has fit from kept good post = absurd fit
-  lefts_follow (l ∷ ls) [] [] gone all c first env before scope calls ws k w words n h pc lo b are hg e has fit from kept good post = absurd fit
-  lefts_follow (l ∷ ls) [] (v ∷ vs) gone all c first env before scope calls ws k w words n h pc lo b are hg e has fit from kept good post = absurd are
-  lefts_follow (l ∷ ls) (t ∷ ts) [] gone all c first env before scope calls ws k w words n h pc lo b are hg e has fit from kept good post = absurd are
-  lefts_follow (blank ∷ ls) (t ∷ ts) (v ∷ vs) gone all c first env before scope calls ws k w words n h pc lo b are hg e has fit from kept good post =
-      lefts_follow ls ts vs (gone ++ v ∷ []) all c first env before scope calls ws k w words n (h + 1) pc lo b are.1 (one_more gone v h hg) (e ∙ sym (append_assoc gone (v ∷ []) vs)) has fit from kept good post
-  lefts_follow (new site ∷ ls) (t ∷ ts) (v ∷ vs) gone all c first env before scope calls ws k w words n h pc lo b are hg e has fit from kept good post =
+  -- a place keeps its variable
+  kept_place : (before scope : List ℕ) (first env : Env) (n t : ℕ) (p : Pl) → Kept before scope first env n → PlFits m.program before t p → PlFits m.program scope t p × (variable_of env p ≡ variable_of first p)
+  kept_place before scope first env n t (local site steps) kept fit = let k = kept site fit.0 in ((k.0, fit.1), k.1)
+  kept_place before scope first env n t (global g steps) kept fit = (fit, refl)
+
+  -- an address goes to temp `at`, which is free
+  pub lefts_follow : (ls : List Left) (ts : List ℕ) (vs gone all : List Value) (c : Frame) (first env : Env) (before scope : List ℕ) (calls : List Frame) (ws : Ways) (k : Env → Go) (w : World) (words : List ℕ) (n at h pc lo b : ℕ) → AreOf ts vs → length gone ≡ h → all ≡ gone ++ vs → length all ≡ at
+      → Standing m.code c.fn pc (lefts_code (slots_of m.program.funcs c.func) ls at h) → LeftsFit m.program before n (c.func.first + c.func.count) ts ls → at + lefts_far ls ≤ temps_of m.program.funcs c.func → c.func.first ≤ n → Kept before scope first env n
+      → Good m (during c env scope all ∷ calls) w words
+      → ((env1 : Env) (w1 : World) (words1 : List ℕ) → Good m (during c env1 (scope_behind scope ls) all ∷ calls) w1 words1 → At m (numbers (c ∷ calls)) lo 0 b (k env1 w1) (pc + lefts_size ls) words1 w1)
+      → At m (numbers (c ∷ calls)) lo 0 b (Meaning.land_all around (landings first ls) vs ws env k w) pc words w
+  lefts_follow [] [] vs gone all c first env before scope calls ws k w words n at h pc lo b are hg e ha has fit room from kept good post = place_is m (let q : pc + 0 ≡ pc = omega arith in q) (post env w words good)
+  lefts_follow [] (t ∷ ts) vs gone all c first env before scope calls ws k w words n at h pc lo b are hg e ha has fit room from kept good post = absurd fit
+  lefts_follow (l ∷ ls) [] [] gone all c first env before scope calls ws k w words n at h pc lo b are hg e ha has fit room from kept good post = absurd fit
+  lefts_follow (l ∷ ls) [] (v ∷ vs) gone all c first env before scope calls ws k w words n at h pc lo b are hg e ha has fit room from kept good post = absurd are
+  lefts_follow (l ∷ ls) (t ∷ ts) [] gone all c first env before scope calls ws k w words n at h pc lo b are hg e ha has fit room from kept good post = absurd are
+  lefts_follow (blank ∷ ls) (t ∷ ts) (v ∷ vs) gone all c first env before scope calls ws k w words n at h pc lo b are hg e ha has fit room from kept good post =
+      lefts_follow ls ts vs (gone ++ v ∷ []) all c first env before scope calls ws k w words n at (h + 1) pc lo b are.1 (one_more gone v h hg) (e ∙ sym (append_assoc gone (v ∷ []) vs)) ha has fit (omega arith) from kept good post
+  lefts_follow (new site ∷ ls) (t ∷ ts) (v ∷ vs) gone all c first env before scope calls ws k w words n at h pc lo b are hg e ha has fit room from kept good post =
       let s = slots_of m.program.funcs c.func in let x = slice_index words (temp s h) in
       let stands = held_word m (during c env scope all) calls w words gone vs v h hg (subst (λ l. Good m (during c env scope l ∷ calls) w words) e good) in
       let cell = Meaning.new_cell around ws.call site v in let words1 = slice_set words (site_slot s site) x in
@@ -69,23 +79,28 @@ module _ (m : Built) (around : Setting) where
       let good1 = born_site m (during c env scope all) calls w words cell site x (omega arith) (omega arith) stands (subst (λ y. IsOf y v) (sym fit.2) are.0) good in
       let kept1 : Kept before (site ∷ scope) first (with_home env site (length w.store)) (suc n) =
       λ u i. (inr (kept u i).0, home_other env site (length w.store) u (λ q. let l = (kept u i).2 in absurd (omega arith)) ∙ (kept u i).1, (let l = (kept u i).2 in omega arith)) in
-      turned m {lo1 = suc lo} (omega arith) (bore m _ _ (stepped m {lo = lo} {hi = 0} (Move (site_slot s site) (temp s h)) has.0.0 refl
-      (lefts_follow ls ts vs (gone ++ v ∷ []) all c first (with_home env site (length w.store)) before (site ∷ scope) calls ws k (born w cell) words1 (suc n) (h + 1) (pc + 1) lo b are.1 (one_more gone v h hg) (e ∙ sym (append_assoc gone (v ∷ []) vs)) has.1 fit.3 (omega arith) kept1 good1
-      (λ env1 w1 words2 g2. place_is m (let q : pc + suc (lefts_size ls) ≡ pc + 1 + lefts_size ls = omega arith in q) (post env1 w1 words2 g2)))))
-  lefts_follow (to (local site itself) ∷ ls) (t ∷ ts) (v ∷ vs) gone all c first env before scope calls ws k w words n h pc lo b are hg e has fit from kept good post =
-      let s = slots_of m.program.funcs c.func in let x = slice_index words (temp s h) in
-      let stands = held_word m (during c env scope all) calls w words gone vs v h hg (subst (λ l. Good m (during c env scope l ∷ calls) w words) e good) in
-      let words1 = slice_set words (site_slot s site) x in let old = kept site fit.0.0 in
-      let good1 = subst (λ u. Good m (during c env scope all ∷ calls) (written w u [] v) words1) old.1 (written_site m (during c env scope all) calls w words v site x old.0 stands (subst (λ y. IsOf y v) (sym fit.0.1) are.0) good) in
-      turned m {lo1 = suc lo} (omega arith) (write_of m _ _ _ (stepped m {lo = lo} {hi = 0} (Move (site_slot s site) (temp s h)) has.0.0 refl
-      (lefts_follow ls ts vs (gone ++ v ∷ []) all c first env before scope calls ws k (written w (first site) [] v) words1 n (h + 1) (pc + 1) lo b are.1 (one_more gone v h hg) (e ∙ sym (append_assoc gone (v ∷ []) vs)) has.1 fit.1 from kept good1
-      (λ env1 w1 words2 g2. place_is m (let q : pc + suc (lefts_size ls) ≡ pc + 1 + lefts_size ls = omega arith in q) (post env1 w1 words2 g2)))))
+      turned m {lo1 = suc lo} (omega arith) (bore m _ _ (m.stacked c.fn c.func good.stack.0.named site (omega arith) (omega arith))
+      (stepped m {lo = lo} {hi = 0} (Move (site_slot s site) (temp s h)) has.0.0 (λ heap. refl)
+      (born_kept m cell good.many
+      (lefts_follow ls ts vs (gone ++ v ∷ []) all c first (with_home env site (length w.store)) before (site ∷ scope) calls ws k (born w cell) words1 (suc n) at (h + 1) (pc + 1) lo b are.1 (one_more gone v h hg) (e ∙ sym (append_assoc gone (v ∷ []) vs)) ha has.1 fit.3 (omega arith) (omega arith) kept1 good1
+      (λ env1 w1 words2 g2. place_is m (let q : pc + suc (lefts_size ls) ≡ pc + 1 + lefts_size ls = omega arith in q) (post env1 w1 words2 g2))))))
+  lefts_follow (to p ∷ ls) (t ∷ ts) (v ∷ vs) gone all c first env before scope calls ws k w words n at h pc lo b are hg e ha has fit room from kept good post =
+      let s = slots_of m.program.funcs c.func in
+      let cp = write_code s p at h in let rest = lefts_code s ls at (h + 1) in
+      let same = kept_place before scope first env n t p kept fit.0 in
+      let w1 = written w (variable_of first p) [] v in
+      turned m {lo1 = suc (suc lo)} (omega arith) (write_of m _ _ _
+      (landed m (during c env scope all) calls p t w words (numbers (c ∷ calls)) gone vs v at h pc lo 0 b _ (front m.code c.fn pc cp rest has) same.0 (omega arith) e hg ha are.0 good (λ words1 g1.
+      subst (λ u. At m (numbers (c ∷ calls)) lo 0 b (Meaning.land_all around (landings first ls) vs ws env k w1) (pc + (far p + 1)) words1 (written w u [] v)) (sym same.1)
+      (lefts_follow ls ts vs (gone ++ v ∷ []) all c first env before scope calls ws k w1 words1 n at (h + 1) (pc + (far p + 1)) lo b are.1 (one_more gone v h hg) (e ∙ sym (append_assoc gone (v ∷ []) vs)) ha
+      (back m.code c.fn pc (far p + 1) cp rest (length_write s p at h) has) fit.1 (omega arith) from kept (subst (λ u. Good m (during c env scope all ∷ calls) (written w u [] v) words1) same.1 g1)
+      (λ env1 w2 words2 g2. place_is m (let q : pc + (far p + 1 + lefts_size ls) ≡ pc + (far p + 1) + lefts_size ls = omega arith in q) (post env1 w2 words2 g2))))))
 
   -- a new round's variables get the values of the old ones, through temp h
   pub renew_follows : (sites : List ℕ) (c : Frame) (env : Env) (scope : List ℕ) (held : List Value) (calls : List Frame) (entry : ℕ) (k : Env → Go) (w : World) (words : List ℕ) (h pc lo b : ℕ) → length held ≡ h → h + renewal_need m.program.funcs sites ≤ temps_of m.program.funcs c.func → AllInScope scope sites
       → Standing m.code c.fn pc (renew_code (slots_of m.program.funcs c.func) sites h) → Good m (during c env scope held ∷ calls) w words
-      → ((env1 : Env) (w1 : World) (words1 : List ℕ) → Good m (during c env1 scope held ∷ calls) w1 words1 → At m (numbers (c ∷ calls)) lo 0 b (k env1 w1) (pc + renew_size sites) words1 w1.reads)
-      → At m (numbers (c ∷ calls)) lo 0 b (Meaning.renew around entry sites env k w) pc words w.reads
+      → ((env1 : Env) (w1 : World) (words1 : List ℕ) → Good m (during c env1 scope held ∷ calls) w1 words1 → At m (numbers (c ∷ calls)) lo 0 b (k env1 w1) (pc + renew_size sites) words1 w1)
+      → At m (numbers (c ∷ calls)) lo 0 b (Meaning.renew around entry sites env k w) pc words w
   renew_follows [] c env scope held calls entry k w words h pc lo b hh room among has good post = place_is m (let q : pc + 0 ≡ pc = omega arith in q) (post env w words good)
   renew_follows (site ∷ sites) c env scope held calls entry k w words h pc lo b hh room among has good post =
       let s = slots_of m.program.funcs c.func in let v = value_of w (env site) in let old = during c env scope held in
@@ -97,25 +112,28 @@ module _ (m : Built) (around : Setting) where
       let good2 = born_site m (hold old (held ++ v ∷ [])) calls w words1 cell site y places.0 places.1 (held_word m old calls w words1 held [] v h hh good1) (good.stack.0.types site among.0) good1 in
       let good3 = narrowed m old (with_home env site (length w.store)) (site ∷ scope) scope calls (born w cell) words2 (λ u i. inr i) (fewer m (grown old site (length w.store)) calls (born w cell) words2 held (v ∷ []) good2) in
       let q : pc + suc (suc (renew_size sites)) ≡ pc + 1 + 1 + renew_size sites = omega arith in
-      turned m {lo1 = suc (suc lo)} (omega arith) (seen m _ (read_of m _ _ _ (bore m _ _
+      turned m {lo1 = suc (suc lo)} (omega arith) (seen m _ (read_of m _ _ _ (bore m _ _ (m.stacked c.fn c.func good.stack.0.named site places.0 places.1)
       (later m {lo = suc (suc lo)} {hi = 1} {b = b} (omega arith) (omega arith) (omega arith)
-      (stepped m {lo = suc lo} {hi = 1} (Move (temp s h) (site_slot s site)) has.0.0 refl
-      (stepped m {lo = lo} {hi = 0} (Move (site_slot s site) (temp s h)) has.1.0.0 refl
+      (stepped m {lo = suc lo} {hi = 1} (Move (temp s h) (site_slot s site)) has.0.0 (λ heap. refl)
+      (stepped m {lo = lo} {hi = 0} (Move (site_slot s site) (temp s h)) has.1.0.0 (λ heap. refl)
+      (born_kept m cell good.many
       (renew_follows sites c (with_home env site (length w.store)) scope held calls entry k (born w cell) words2 h (pc + 1 + 1) lo b hh (omega (arith, rest_need m.program.funcs sites)) among.1 has.1.1 good3
-      (λ env1 w1 words3 g3. place_is m q (post env1 w1 words3 g3)))))))))
+      (λ env1 w1 words3 g3. place_is m q (post env1 w1 words3 g3))))))))))
 
   -- new variables with zeros
   module _ (zero_is : (site : ℕ) → Stands (Meaning.zero_of around site) 0 × IsOf (site_type m.program site) (Meaning.zero_of around site)) where
     pub zeros_follow : (sites : List ℕ) (c : Frame) (env : Env) (scope : List ℕ) (held : List Value) (calls : List Frame) (entry : ℕ) (k : Env → Go) (w : World) (words : List ℕ) (n pc lo b : ℕ) → Standing m.code c.fn pc (zeros_code (slots_of m.program.funcs c.func) sites)
         → SitesNext n (c.func.first + c.func.count) sites → c.func.first ≤ n → Good m (during c env scope held ∷ calls) w words
-        → ((env1 : Env) (w1 : World) (words1 : List ℕ) → Good m (during c env1 (scope_with scope sites) held ∷ calls) w1 words1 → At m (numbers (c ∷ calls)) lo 0 b (k env1 w1) (pc + length sites) words1 w1.reads)
-        → At m (numbers (c ∷ calls)) lo 0 b (Meaning.bear_zeros around entry sites env k w) pc words w.reads
+        → ((env1 : Env) (w1 : World) (words1 : List ℕ) → Good m (during c env1 (scope_with scope sites) held ∷ calls) w1 words1 → At m (numbers (c ∷ calls)) lo 0 b (k env1 w1) (pc + length sites) words1 w1)
+        → At m (numbers (c ∷ calls)) lo 0 b (Meaning.bear_zeros around entry sites env k w) pc words w
     zeros_follow [] c env scope held calls entry k w words n pc lo b has fit from good post = place_is m (let e : pc + 0 ≡ pc = omega arith in e) (post env w words good)
     zeros_follow (site ∷ sites) c env scope held calls entry k w words n pc lo b has fit from good post =
         let s = slots_of m.program.funcs c.func in let words1 = slice_set words (site_slot s site) 0 in
         let cell = Meaning.new_cell around entry site (Meaning.zero_of around site) in
         let here = fit.0 in let among = fit.1 in
         let good1 = born_site m (during c env scope held) calls w words cell site 0 (omega arith) (omega arith) (zero_is site).0 (zero_is site).1 good in
-        turned m {lo1 = suc lo} (omega arith) (bore m _ _ (stepped m {lo = lo} {hi = 0} (Const (site_slot s site) 0) has.0.0 refl
+        turned m {lo1 = suc lo} (omega arith) (bore m _ _ (m.stacked c.fn c.func good.stack.0.named site (omega arith) (omega arith))
+        (stepped m {lo = lo} {hi = 0} (Const (site_slot s site) 0) has.0.0 (λ heap. refl)
+        (born_kept m cell good.many
         (zeros_follow sites c (with_home env site (length w.store)) (site ∷ scope) held calls entry k (born w cell) words1 (suc n) (pc + 1) lo b has.1 fit.2 (omega arith) good1
-        (λ env1 w1 words2 g2. place_is m (let e : pc + suc (length sites) ≡ pc + 1 + length sites = omega arith in e) (post env1 w1 words2 g2)))))
+        (λ env1 w1 words2 g2. place_is m (let e : pc + suc (length sites) ≡ pc + 1 + length sites = omega arith in e) (post env1 w1 words2 g2))))))

@@ -10,6 +10,7 @@ pub mod Distances
 pub mod Frames
 pub mod Changes
 pub mod Places
+pub mod Globals
 pub mod Crossing
 pub mod Numbers
 pub mod Counting
@@ -26,6 +27,7 @@ pub mod SimpleFollow
 pub mod LoopsFollow
 pub mod StatementsFollow
 pub mod EntriesFollow
+pub mod Births
 pub mod Follows
 pub mod Emitted
 pub mod Composed

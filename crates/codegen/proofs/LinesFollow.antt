@@ -31,48 +31,44 @@ texts strings (shown t e ∷ ps) (v ∷ vs) = shown_bytes v ∷ texts strings ps
 
 module _ (m : Built) where
   -- an operand's value
-  value_printed : {reads : ℕ} (t : ℕ) (v : Value) (running : List ℕ) (words : List ℕ) (a pc lo hi b : ℕ) (rest : Trace) → IsOf t v → slice_get m.code.instrs pc ≡ Some (shown_code t a) → Stands v (slice_index words a)
-      → At m running lo hi b rest (pc + 1) words reads → At m running (suc lo) 1 b (Note (Print (shown_bytes v)) rest) pc words reads
-  value_printed {reads} t (int z) running words a pc lo hi b rest typed here stands post =
-      let s1 : State = record { pc = pc + 1; words = words; reads = reads } in
-      printing m {lo = lo} {hi = hi} (PrintInt a) (signed_decimal z) (subst (λ u. slice_get m.code.instrs pc ≡ Some (shown_code u a)) typed here) (ap (λ x. Goes (Printed (signed_decimal x) ∷ []) s1) stands) post
-  value_printed {reads} t (bool true) running words a pc lo hi b rest typed here stands post =
-      let s1 : State = record { pc = pc + 1; words = words; reads = reads } in
-      printing m {lo = lo} {hi = hi} (PrintBool a) _ (subst (λ u. slice_get m.code.instrs pc ≡ Some (shown_code u a)) typed here) (ap (λ x. Goes (Printed (truth_bytes x) ∷ []) s1) stands) post
-  value_printed {reads} t (bool false) running words a pc lo hi b rest typed here stands post =
-      let s1 : State = record { pc = pc + 1; words = words; reads = reads } in
-      printing m {lo = lo} {hi = hi} (PrintBool a) _ (subst (λ u. slice_get m.code.instrs pc ≡ Some (shown_code u a)) typed here) (ap (λ x. Goes (Printed (truth_bytes x) ∷ []) s1) stands) post
+  value_printed : {w : World} (t : ℕ) (v : Value) (running : List ℕ) (words : List ℕ) (a pc lo hi b : ℕ) (rest : Trace) → IsOf t v → slice_get m.code.instrs pc ≡ Some (shown_code t a) → Stands v (slice_index words a)
+      → At m running lo hi b rest (pc + 1) words w → At m running (suc lo) 1 b (Note (Print (shown_bytes v)) rest) pc words w
+  value_printed {w} t (int z) running words a pc lo hi b rest typed here stands post =
+      printing m {lo = lo} {hi = hi} (PrintInt a) (signed_decimal z) (subst (λ u. slice_get m.code.instrs pc ≡ Some (shown_code u a)) typed here) (λ heap. let s1 : State = record { pc = pc + 1; words = words; reads = w.reads; heap = heap } in ap (λ x. Goes (Printed (signed_decimal x) ∷ []) s1) stands) post
+  value_printed {w} t (bool true) running words a pc lo hi b rest typed here stands post =
+      printing m {lo = lo} {hi = hi} (PrintBool a) _ (subst (λ u. slice_get m.code.instrs pc ≡ Some (shown_code u a)) typed here) (λ heap. let s1 : State = record { pc = pc + 1; words = words; reads = w.reads; heap = heap } in ap (λ x. Goes (Printed (truth_bytes x) ∷ []) s1) stands) post
+  value_printed {w} t (bool false) running words a pc lo hi b rest typed here stands post =
+      printing m {lo = lo} {hi = hi} (PrintBool a) _ (subst (λ u. slice_get m.code.instrs pc ≡ Some (shown_code u a)) typed here) (λ heap. let s1 : State = record { pc = pc + 1; words = words; reads = w.reads; heap = heap } in ap (λ x. Goes (Printed (truth_bytes x) ∷ []) s1) stands) post
 
   -- the strings are those of the program
   module _ (strings : List (List ℕ)) (same : strings ≡ m.program.strings) where
-    text_printed : {reads : ℕ} (number : ℕ) (running : List ℕ) (words : List ℕ) (pc lo hi b : ℕ) (rest : Trace) → slice_get m.code.instrs pc ≡ Some (PrintText number)
-        → At m running lo hi b rest (pc + 1) words reads → At m running (suc lo) 1 b (Note (Print (get_or strings number [])) rest) pc words reads
-    text_printed {reads} number running words pc lo hi b rest here post =
-        let s1 : State = record { pc = pc + 1; words = words; reads = reads } in
-        printing m {lo = lo} {hi = hi} (PrintText number) (get_or strings number []) here (ap (λ ss. Goes (Printed (get_or ss number []) ∷ []) s1) (m.strings ∙ sym same)) post
+    text_printed : {w : World} (number : ℕ) (running : List ℕ) (words : List ℕ) (pc lo hi b : ℕ) (rest : Trace) → slice_get m.code.instrs pc ≡ Some (PrintText number)
+        → At m running lo hi b rest (pc + 1) words w → At m running (suc lo) 1 b (Note (Print (get_or strings number [])) rest) pc words w
+    text_printed {w} number running words pc lo hi b rest here post =
+        printing m {lo = lo} {hi = hi} (PrintText number) (get_or strings number []) here (λ heap. let s1 : State = record { pc = pc + 1; words = words; reads = w.reads; heap = heap } in ap (λ ss. Goes (Printed (get_or ss number []) ∷ []) s1) (m.strings ∙ sym same)) post
 
     more_follows : (ps : List Piece) (vs before all : List Value) (g : Go) (c : Frame) (calls : List Frame) (w : World) (words : List ℕ) (h pc lo b : ℕ) → AreOf (piece_types ps) vs → length before ≡ h → all ≡ before ++ vs → Standing m.code c.fn pc (show_more (slots_of m.program.funcs c.func) ps h)
-        → Good m (hold c all ∷ calls) w words → At m (numbers (c ∷ calls)) lo 0 b (g w) (pc + more_size ps) words w.reads → At m (numbers (c ∷ calls)) lo 0 b (Meaning.emit_more (texts strings ps vs) g w) pc words w.reads
+        → Good m (hold c all ∷ calls) w words → At m (numbers (c ∷ calls)) lo 0 b (g w) (pc + more_size ps) words w → At m (numbers (c ∷ calls)) lo 0 b (Meaning.emit_more (texts strings ps vs) g w) pc words w
     more_follows [] vs before all g c calls w words h pc lo b are hb e has good post =
-        turned m {lo1 = suc lo} (omega arith) (printing m {lo = lo} {hi = 0} PrintLine (10 ∷ []) has.0.0 refl post)
+        turned m {lo1 = suc lo} (omega arith) (printing m {lo = lo} {hi = 0} PrintLine (10 ∷ []) has.0.0 (λ heap. refl) post)
     more_follows (text number ∷ ps) vs before all g c calls w words h pc lo b are hb e has good post =
         let q : pc + suc (suc (more_size ps)) ≡ pc + 1 + 1 + more_size ps = omega arith in
-        turned m {lo1 = suc (suc lo)} (omega arith) (printing m {lo = suc lo} {hi = 1} PrintSpace (32 ∷ []) has.0.0 refl
+        turned m {lo1 = suc (suc lo)} (omega arith) (printing m {lo = suc lo} {hi = 1} PrintSpace (32 ∷ []) has.0.0 (λ heap. refl)
         (text_printed number (numbers (c ∷ calls)) words (pc + 1) lo 0 b _ has.1.0.0
         (more_follows ps vs before all g c calls w words h (pc + 1 + 1) lo b are hb e has.1.1 good (place_is m q post))))
     more_follows (shown t x ∷ ps) [] before all g c calls w words h pc lo b are hb e has good post = absurd are
     more_follows (shown t x ∷ ps) (v ∷ vs) before all g c calls w words h pc lo b are hb e has good post =
         let stands = held_word m c calls w words before vs v h hb (subst (λ l. Good m (hold c l ∷ calls) w words) e good) in
         let q : pc + suc (suc (more_size ps)) ≡ pc + 1 + 1 + more_size ps = omega arith in
-        turned m {lo1 = suc (suc lo)} (omega arith) (printing m {lo = suc lo} {hi = 1} PrintSpace (32 ∷ []) has.0.0 refl
+        turned m {lo1 = suc (suc lo)} (omega arith) (printing m {lo = suc lo} {hi = 1} PrintSpace (32 ∷ []) has.0.0 (λ heap. refl)
         (value_printed t v (numbers (c ∷ calls)) words (temp (slots_of m.program.funcs c.func) h) (pc + 1) lo 0 b _ are.0 has.1.0.0 stands
         (more_follows ps vs (before ++ v ∷ []) all g c calls w words (h + 1) (pc + 1 + 1) lo b are.1 (one_more before v h hb) (e ∙ sym (append_assoc before (v ∷ []) vs)) has.1.1 good (place_is m q post))))
 
     -- a line
     pub line_follows : (ps : List Piece) (vs before all : List Value) (g : Go) (c : Frame) (calls : List Frame) (w : World) (words : List ℕ) (h pc lo b : ℕ) → AreOf (piece_types ps) vs → length before ≡ h → all ≡ before ++ vs → Standing m.code c.fn pc (show_line (slots_of m.program.funcs c.func) ps h)
-        → Good m (hold c all ∷ calls) w words → At m (numbers (c ∷ calls)) lo 0 b (g w) (pc + shown_size true ps) words w.reads → At m (numbers (c ∷ calls)) lo 0 b (Meaning.emit_line (texts strings ps vs) g w) pc words w.reads
+        → Good m (hold c all ∷ calls) w words → At m (numbers (c ∷ calls)) lo 0 b (g w) (pc + shown_size true ps) words w → At m (numbers (c ∷ calls)) lo 0 b (Meaning.emit_line (texts strings ps vs) g w) pc words w
     line_follows [] vs before all g c calls w words h pc lo b are hb e has good post =
-        turned m {lo1 = suc lo} (omega arith) (printing m {lo = lo} {hi = 0} PrintLine (10 ∷ []) has.0.0 refl post)
+        turned m {lo1 = suc lo} (omega arith) (printing m {lo = lo} {hi = 0} PrintLine (10 ∷ []) has.0.0 (λ heap. refl) post)
     line_follows (text number ∷ ps) vs before all g c calls w words h pc lo b are hb e has good post =
         let q : pc + suc (more_size ps) ≡ pc + 1 + more_size ps = omega arith in
         turned m {lo1 = suc lo} (omega arith) (text_printed number (numbers (c ∷ calls)) words pc lo 0 b _ has.0.0
@@ -86,7 +82,7 @@ module _ (m : Built) where
 
     -- without spaces and a newline
     pub plain_follows : (ps : List Piece) (vs before all : List Value) (g : Go) (c : Frame) (calls : List Frame) (w : World) (words : List ℕ) (h pc lo b : ℕ) → AreOf (piece_types ps) vs → length before ≡ h → all ≡ before ++ vs → Standing m.code c.fn pc (show_plain (slots_of m.program.funcs c.func) ps h)
-        → Good m (hold c all ∷ calls) w words → At m (numbers (c ∷ calls)) lo 0 b (g w) (pc + shown_size false ps) words w.reads → At m (numbers (c ∷ calls)) lo 0 b (Meaning.emit_plain (texts strings ps vs) g w) pc words w.reads
+        → Good m (hold c all ∷ calls) w words → At m (numbers (c ∷ calls)) lo 0 b (g w) (pc + shown_size false ps) words w → At m (numbers (c ∷ calls)) lo 0 b (Meaning.emit_plain (texts strings ps vs) g w) pc words w
     plain_follows [] vs before all g c calls w words h pc lo b are hb e has good post = place_is m (let q : pc + 0 ≡ pc = omega arith in q) post
     plain_follows (text number ∷ ps) vs before all g c calls w words h pc lo b are hb e has good post =
         let q : pc + suc (length ps) ≡ pc + 1 + length ps = omega arith in

@@ -13,6 +13,7 @@ use Rattle.isa.specs.declared.instr.Instr.{Instr}
 use Rattle.isa.specs.declared.instr.Instr.TheVariants.{Const, Bin, Jump, JumpZero}
 use Rattle.codegen.specs.Code.{temp, slots_of, ex_code, test_code, lefts_code, renew_code, st_code, sts_code, size, test_size, lefts_size, renew_size, st_size, sts_size}
 use Rattle.codegen.proofs.Sizes.{length_code, length_test, length_lefts, length_renew, length_st, length_sts}
+use Rattle.codegen.proofs.Suffice.{key_room}
 use Rattle.codegen.proofs.Frames.{Built, Frame, hold, during, numbers, Good, narrowed}
 use Rattle.codegen.proofs.Changes.{one_more, temp_set, fewer, held_word}
 use Rattle.codegen.proofs.Places.{Standing, front, back, Panics, At, later, place_is, turned, seen, stepped}
@@ -59,7 +60,7 @@ module _ (m : Built) (around : Setting) (inputs : around.items ≡ m.items) (cal
       (branches m v (Meaning.exec_all around callees (suc n) x ws env k) (Meaning.exec_all around callees (suc n) y ws env k) w1 (numbers (c ∷ calls)) words1 (temp s h) p2 (pc + size fs e) (suc lo) b has1.0.0 iv (held_word m (during c env scope held) calls w1 words1 held [] v h hh g1)
       (first ws env k w1 words1 held h looped outer scope q out again p1 (suc lo) b le hh (front m.code c.fn p1 cx (j ∷ cy) has1.1) fit.1 (omega arith) (omega arith) sc
       (leads_later m c calls {lo = lo} {b = b} (omega arith) (omega arith) (first_or (breaks_all x) (breaks_all y)) (λ v i. i) leads) g2
-      (λ goes env1 w2 words2 g3. later m {lo = suc lo} {hi = 1} {b = b} (omega arith) (omega arith) (omega arith) (stepped m {lo = lo} {hi = 0} j has3.0.0 refl
+      (λ goes env1 w2 words2 g3. later m {lo = suc lo} {hi = 1} {b = b} (omega arith) (omega arith) (omega arith) (stepped m {lo = lo} {hi = 0} j has3.0.0 (λ heap. refl)
       (place_is m q2 (post (ap (λ t. t && ends_all y) goes) env1 w2 words2 g3)))))
       (later m {lo = lo} {hi = 0} {b = b} (omega arith) (omega arith) (omega arith)
       (second ws env k w1 words1 held h looped outer scope (q + births_all x) out again p2 lo b le hh has3.1 fit.2 (omega arith) (omega arith) (scoped_more c.func scope q (births_all x) sc)
@@ -180,7 +181,7 @@ module _ (m : Built) (around : Setting) (inputs : around.items ≡ m.items) (cal
       ce = ex_code m.program.funcs (slots_of m.program.funcs c.func) e h pc
 
       cl : List Instr
-      cl = lefts_code (slots_of m.program.funcs c.func) (key ∷ []) (h + 1)
+      cl = lefts_code (slots_of m.program.funcs c.func) (key ∷ []) (h + 2) (h + 1)
 
       cb : List Instr
       cb = sts_code m.program.funcs (argument_words c.func) c.func.named (slots_of m.program.funcs c.func) body (h + 2) behind turn here
@@ -197,7 +198,7 @@ module _ (m : Built) (around : Setting) (inputs : around.items ≡ m.items) (cal
       has_b : Standing m.code c.fn here (cb ++ counts)
       has_b =
           let q1 : test + 1 + 1 + lefts_size (key ∷ []) ≡ here = omega arith in
-          subst (λ p. Standing m.code c.fn p (cb ++ counts)) q1 (back m.code c.fn (test + 1 + 1) (lefts_size (key ∷ [])) cl (cb ++ counts) (length_lefts (slots_of m.program.funcs c.func) (key ∷ []) (h + 1)) has_rest.1.1.1)
+          subst (λ p. Standing m.code c.fn p (cb ++ counts)) q1 (back m.code c.fn (test + 1 + 1) (lefts_size (key ∷ [])) cl (cb ++ counts) (length_lefts (slots_of m.program.funcs c.func) (key ∷ []) (h + 2) (h + 1)) has_rest.1.1.1)
 
       has_c : Standing m.code c.fn turn counts
       has_c = back m.code c.fn here (sts_size m.program.funcs (argument_words c.func) c.func.named body) cb counts (length_sts m.program.funcs (argument_words c.func) c.func.named (slots_of m.program.funcs c.func) body (h + 2) behind turn here) has_b
@@ -221,9 +222,10 @@ module _ (m : Built) (around : Setting) (inputs : around.items ≡ m.items) (cal
           let first = Meaning.outside k v in let then_next = Meaning.to_next_count v j in
           let all = counting z held i in let more = scope_behind scope (key ∷ []) in
           let next = next_follow z i v j d go in
-          subst (λ t. At m (numbers (c ∷ calls)) lo 0 d t (test + 1 + 1) words1 w1.reads) (sym (ready_one_is around callees key (ways z) env1 (λ a. Meaning.land around a (int (pos i)) (ways z) env1 (λ env2. Meaning.in_loop (Meaning.exec_all around callees (suc n) body) (ways z) first then_next env2)) w1))
-          (lefts_follow m around (key ∷ []) (int_type ∷ []) (int (pos i) ∷ []) (held ++ int z ∷ []) all c env1 env1 scope scope calls (ways z) (λ env2. Meaning.in_loop (Meaning.exec_all around callees (suc n) body) (ways z) first then_next env2) w1 words1 q (h + 1) (test + 1 + 1) lo d (refl, tt)
-          (one_more held (int z) h hh) (sym (counting_is z held i)) (front m.code c.fn (test + 1 + 1) cl (cb ++ counts) has_rest.1.1.1) fit.1 sc.from (λ u i. (i, refl, sc.below u i)) g1 (λ env2 w2 words2 g2.
+          subst (λ t. At m (numbers (c ∷ calls)) lo 0 d t (test + 1 + 1) words1 w1) (sym (ready_one_is around callees key (ways z) env1 (λ a. Meaning.land around a (int (pos i)) (ways z) env1 (λ env2. Meaning.in_loop (Meaning.exec_all around callees (suc n) body) (ways z) first then_next env2)) w1))
+          (lefts_follow m around (key ∷ []) (int_type ∷ []) (int (pos i) ∷ []) (held ++ int z ∷ []) all c env1 env1 scope scope calls (ways z) (λ env2. Meaning.in_loop (Meaning.exec_all around callees (suc n) body) (ways z) first then_next env2) w1 words1 q (h + 2) (h + 1) (test + 1 + 1) lo d (refl, tt)
+          (one_more held (int z) h hh) (sym (counting_is z held i)) (two_held z held h i hh) (front m.code c.fn (test + 1 + 1) cl (cb ++ counts) has_rest.1.1.1) fit.1
+          (let room = key_room m.program.funcs (temps_of m.program.funcs c.func) h key (omega arith) in omega arith) sc.from (λ u i. (i, refl, sc.below u i)) g1 (λ env2 w2 words2 g2.
           place_is m (let q1 : here ≡ test + 1 + 1 + lefts_size (key ∷ []) = omega arith in q1)
           (bodies (inside m c calls (ways z) first then_next) env2 then_next w2 words2 all (h + 2) true scope more (q + new_sites (key ∷ [])) behind turn here lo d (omega arith) (two_held z held h i hh)
           (front m.code c.fn here cb counts has_b) fit.2 (omega arith) (omega arith) (scoped_behind m.program c.func scope q (c.func.first + c.func.count) (int_type ∷ []) (key ∷ []) fit.1 sc)
@@ -232,10 +234,10 @@ module _ (m : Built) (around : Setting) (inputs : around.items ≡ m.items) (cal
           (λ goes env3 w3 words3 g3. next env3 w3 words3 (narrowed m (hold c all) env3 more scope calls w3 words3 (behind_has scope (key ∷ [])) g3)))))
 
       over : (v : Value) (w1 : World) (words1 : List ℕ) → IsOf int_type v → Good m (during c env scope (held ++ v ∷ []) ∷ calls) w1 words1
-          → At m (numbers (c ∷ calls)) lo 0 b (Meaning.turn (Meaning.births (λ v1. Meaning.counted (suc n) 0 (Meaning.count_of v) (Meaning.range_round around callees (suc n) key (Meaning.exec_all around callees (suc n) body) (Meaning.holding ws v) (Meaning.outside k)) (Meaning.outside k) v1 env)) w1) (pc + size m.program.funcs e) words1 w1.reads
+          → At m (numbers (c ∷ calls)) lo 0 b (Meaning.turn (Meaning.births (λ v1. Meaning.counted (suc n) 0 (Meaning.count_of v) (Meaning.range_round around callees (suc n) key (Meaning.exec_all around callees (suc n) body) (Meaning.holding ws v) (Meaning.outside k)) (Meaning.outside k) v1 env)) w1) (pc + size m.program.funcs e) words1 w1
       over (bool x) w1 words1 iv g1 = absurd (omega arith)
       over (int z) w1 words1 iv g1 =
-          turned m {lo1 = suc lo} (omega arith) (stepped m {lo = lo} {hi = 0} (Const index_slot 0) has_rest.0.0 refl
+          turned m {lo1 = suc lo} (omega arith) (stepped m {lo = lo} {hi = 0} (Const index_slot 0) has_rest.0.0 (λ heap. refl)
           (counted_follow m c calls z held h scope test turn behind hh (omega arith) has_rest.1.0.0 has_rest.1.1.0.0 has_c.0.0 has_c.1.0.0 has_c.1.1.0.0 (body_of z) (Meaning.outside k) lo b (round z) behind_loop (suc n) 0 (Meaning.count_of (int z)) b (omega arith) le (remains_first z) (length w1.store) env w1 (slice_set words1 index_slot 0)
           (subst (λ l. Good m (during c env scope l ∷ calls) w1 (slice_set words1 index_slot 0)) (counting_is z held 0)
           (temp_set m (during c env scope (held ++ int z ∷ [])) calls w1 words1 (h + 1) 0 (int (pos 0)) (one_more held (int z) h hh) (omega arith) refl g1))))

@@ -49,7 +49,7 @@ module _ (m : Built) where
 
   pub arguments_moved : (count h : ℕ) (c : Frame) (calls : List Frame) (w : World) (words : List ℕ) (vs : List Value) (running : List ℕ) (pc lo b : ℕ) (t : Trace) → Standing m.code c.fn pc (move_code count 0 (temp (slots_of m.program.funcs c.func) h))
       → length c.held ≡ h → length vs ≡ count → count ≤ outgoing_of m.program.funcs c.func → Good m (hold c (c.held ++ vs) ∷ calls) w words
-      → ((words1 : List ℕ) → AreAt vs (depth m (c ∷ calls)) 0 words1 → Good m (c ∷ calls) w words1 → At m running lo 1 b t (pc + move_size count) words1 w.reads) → At m running (suc lo) 1 b t pc words w.reads
+      → ((words1 : List ℕ) → AreAt vs (depth m (c ∷ calls)) 0 words1 → Good m (c ∷ calls) w words1 → At m running lo 1 b t (pc + move_size count) words1 w) → At m running (suc lo) 1 b t pc words w
   arguments_moved zero h c calls w words vs running pc lo b t has hh many room g post =
       let e : pc + 0 ≡ pc = omega arith in
       later m {lo = lo} {hi = 1} {b = b} (omega arith) (omega arith) (omega arith) (place_is m e (post words (λ j l. absurd (omega arith)) (fewer m c calls w words c.held vs g)))
@@ -58,7 +58,7 @@ module _ (m : Built) where
       let long = g.long in let r = g.stack.0.room in
       let within : a + suc k ≤ length words = omega (arith, length-append c.held vs) in
       let put : length xs ≡ suc k = read_length words a (suc k) within in
-      stepped m {lo = lo} {hi = 1} (MoveWords 0 a (suc k)) has.0.0 refl
+      stepped m {lo = lo} {hi = 1} (MoveWords 0 a (suc k)) has.0.0 (λ heap. refl)
       (post (put_words words 0 xs)
       (λ j l. stands_same (get_or vs j no_value) (get_or vs j no_value) (slice_index words (a + j)) (word_at (put_words words 0 xs) (depth m (c ∷ calls) - (0 + j))) refl
       (put_same words 0 xs j (depth m (c ∷ calls) - (0 + j)) (omega (arith, put)) (omega (arith, put)) (omega arith) ∙ read_index words a (suc k) j (omega arith))
@@ -67,7 +67,7 @@ module _ (m : Built) where
 
   pub results_moved : (count h a : ℕ) (c : Frame) (calls : List Frame) (w : World) (words : List ℕ) (rs : List Value) (running : List ℕ) (pc lo b : ℕ) (t : Trace) → Standing m.code c.fn pc (move_code count (temp (slots_of m.program.funcs c.func) h) a)
       → length c.held ≡ h → length rs ≡ count → a + count ≤ outgoing_of m.program.funcs c.func → h + count ≤ temps_of m.program.funcs c.func → AreAt rs (depth m (c ∷ calls)) a words → Good m (c ∷ calls) w words
-      → ((words1 : List ℕ) → Good m (hold c (c.held ++ rs) ∷ calls) w words1 → At m running lo 0 b t (pc + move_size count) words1 w.reads) → At m running (suc lo) 0 b t pc words w.reads
+      → ((words1 : List ℕ) → Good m (hold c (c.held ++ rs) ∷ calls) w words1 → At m running lo 0 b t (pc + move_size count) words1 w) → At m running (suc lo) 0 b t pc words w
   results_moved zero h a c calls w words [] running pc lo b t has hh many room within are g post =
       let e : pc + 0 ≡ pc = omega arith in
       later m {lo = lo} {hi = 0} {b = b} (omega arith) (omega arith) (omega arith) (place_is m e (post words (held_none c calls w words g)))
@@ -77,7 +77,7 @@ module _ (m : Built) where
       let long = g.long in
       let put : length xs ≡ suc k = read_length words a (suc k) (omega arith) in
       later m {lo = suc lo} {hi = 1} {b = b} (omega arith) (omega arith) (omega arith)
-      (stepped m {lo = lo} {hi = 0} (MoveWords to a (suc k)) has.0.0 refl
+      (stepped m {lo = lo} {hi = 0} (MoveWords to a (suc k)) has.0.0 (λ heap. refl)
       (post (put_words words to xs)
       (temps_put m c calls w words xs h rs hh (omega (arith, put)) (omega arith)
       (λ j l. stands_same (get_or rs j no_value) (get_or rs j no_value) (word_at words (depth m (c ∷ calls) - (a + j))) (slice_index xs j) refl
@@ -88,15 +88,15 @@ module _ (m : Built) where
     pub by : (f : ℕ) (func : Func) (vs : List Value) (c : Frame) (calls : List Frame) (ws : Ways) (env : Env) (k : Then (List Value)) (w : World) (words : List ℕ) (pc lo b : ℕ) → b ≤ n → slice_get m.program.funcs f ≡ Some func
         → slice_get m.code.instrs pc ≡ Some (Call f) → owner_of m.code pc ≡ c.fn → Panics ws → AreOf func.param_types vs → argument_words func + result_words func ≤ outgoing_of m.program.funcs c.func
         → AreAt vs (depth m (c ∷ calls)) 0 words → Good m (c ∷ calls) w words
-        → ((rs : List Value) (w1 : World) (words1 : List ℕ) → AreOf func.results rs → AreAt rs (depth m (c ∷ calls)) (argument_words func) words1 → Good m (c ∷ calls) w1 words1 → At m (numbers (c ∷ calls)) lo 0 b (k rs w1) (pc + 1) words1 w1.reads)
-        → At m (numbers (c ∷ calls)) (suc lo) 1 b (callees f vs ws env k w) pc words w.reads
+        → ((rs : List Value) (w1 : World) (words1 : List ℕ) → AreOf func.results rs → AreAt rs (depth m (c ∷ calls)) (argument_words func) words1 → Good m (c ∷ calls) w1 words1 → At m (numbers (c ∷ calls)) lo 0 b (k rs w1) (pc + 1) words1 w1)
+        → At m (numbers (c ∷ calls)) (suc lo) 1 b (callees f vs ws env k w) pc words w
 
   -- the arguments are held: the call, whose results take their places
   pub call_end : (callees : Calls) (n : ℕ) → CallsFollow callees n → (f : ℕ) (func : Func) (vs : List Value) (c : Frame) (calls : List Frame) (ws : Ways) (env : Env) (k : Then (List Value)) (w : World) (words : List ℕ) (h pc lo b : ℕ) → b ≤ suc n → slice_get m.program.funcs f ≡ Some func
       → length c.held ≡ h → Panics ws → AreOf func.param_types vs → Standing m.code c.fn pc (call_code m.program.funcs (slots_of m.program.funcs c.func) f h) → h + results_of m.program.funcs f ≤ temps_of m.program.funcs c.func → arguments_of m.program.funcs f + results_of m.program.funcs f ≤ outgoing_of m.program.funcs c.func
       → Good m (hold c (c.held ++ vs) ∷ calls) w words
-      → ((rs : List Value) (w1 : World) (words1 : List ℕ) → AreOf func.results rs → Good m (hold c (c.held ++ rs) ∷ calls) w1 words1 → At m (numbers (c ∷ calls)) lo 0 b (k rs w1) (pc + call_size m.program.funcs f) words1 w1.reads)
-      → At m (numbers (c ∷ calls)) lo 0 b (Turn (callees f vs ws env k w)) pc words w.reads
+      → ((rs : List Value) (w1 : World) (words1 : List ℕ) → AreOf func.results rs → Good m (hold c (c.held ++ rs) ∷ calls) w1 words1 → At m (numbers (c ∷ calls)) lo 0 b (k rs w1) (pc + call_size m.program.funcs f) words1 w1)
+      → At m (numbers (c ∷ calls)) lo 0 b (Turn (callees f vs ws env k w)) pc words w
   call_end callees n cf f func vs c calls ws env k w words h pc lo b le named hh stops typed has room reach g post =
       let s = slots_of m.program.funcs c.func in
       let na = arguments_of m.program.funcs f in let nr = results_of m.program.funcs f in

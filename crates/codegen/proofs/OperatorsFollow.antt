@@ -26,23 +26,23 @@ module _ (m : Built) where
   -- on two operands in slots: a slot gets the word of what it gives, or it panics
   pub operates : (at : Pos) (o : BinOp) (s t : ℕ) (x y : Value) (ws : Ways) (env : Env) (k : Then Value) (w : World) (running : List ℕ) (words : List ℕ) (to left right pc lo hi b : ℕ) → slice_get m.code.instrs pc ≡ Some (Bin (operation o) to left right)
       → Panics ws → Takes o s t → IsOf s x → IsOf s y → Stands x (slice_index words left) → Stands y (slice_index words right)
-      → ((v : Value) (word : ℕ) → IsOf t v → Stands v word → At m running lo hi b (k v w) (pc + 1) (slice_set words to word) w.reads)
-      → At m running (suc lo) 1 b (Meaning.or_panic ws env at (binary_of o x y) k w) pc words w.reads
+      → ((v : Value) (word : ℕ) → IsOf t v → Stands v word → At m running lo hi b (k v w) (pc + 1) (slice_set words to word) w)
+      → At m running (suc lo) 1 b (Meaning.or_panic ws env at (binary_of o x y) k w) pc words w
   operates at o s t x y ws env k w running words to left right pc lo hi b here stops takes ix iy sx sy post =
       go (binary_of o x y) (bin_of (operation o) (slice_index words left) (slice_index words right)) (agrees o s t x y (slice_index words left) (slice_index words right) takes ix iy sx sy) refl
     where
-      go : (r : Result Value Fault) (q : Result ℕ BinFault) → Agree t r q → bin_of (operation o) (slice_index words left) (slice_index words right) ≡ q → At m running (suc lo) 1 b (Meaning.or_panic ws env at r k w) pc words w.reads
+      go : (r : Result Value Fault) (q : Result ℕ BinFault) → Agree t r q → bin_of (operation o) (slice_index words left) (slice_index words right) ≡ q → At m running (suc lo) 1 b (Meaning.or_panic ws env at r k w) pc words w
       go (Ok v) (Ok word) agree e =
-          stepped m {lo = lo} {hi = hi} (Bin (operation o) to left right) here (ap (puts_or_panics (record { pc = pc; words = words; reads = w.reads }) to) e) (post v word agree.0 agree.1)
+          stepped m {lo = lo} {hi = hi} (Bin (operation o) to left right) here (λ heap. ap (puts_or_panics (record { pc = pc; words = words; reads = w.reads; heap = heap }) to) e) (post v word agree.0 agree.1)
       go (Err f) (Err g) agree e =
-          subst (λ (u : Trace). At m running (suc lo) 1 b u pc words w.reads) (sym (stops at f env w))
-          (halted m {lo = lo} (Bin (operation o) to left right) (Panic at f) (Panicked (panic_of g)) here (agree m.program.strings) (ap (puts_or_panics (record { pc = pc; words = words; reads = w.reads }) to) e))
+          subst (λ (u : Trace). At m running (suc lo) 1 b u pc words w) (sym (stops at f env w))
+          (halted m {lo = lo} (Bin (operation o) to left right) (Panic at f) (Panicked (panic_of g)) here (agree m.program.strings) (λ heap. ap (puts_or_panics (record { pc = pc; words = words; reads = w.reads; heap = heap }) to) e))
       go (Ok v) (Err g) agree e = absurd agree
       go (Err f) (Ok word) agree e = absurd agree
 
   -- on the operand in a slot
-  pub operates_one : {running : List ℕ} {lo hi b : ℕ} {t : Trace} {pc : ℕ} {words : List ℕ} {reads : ℕ} (o : UnOp) (a : ℕ) → slice_get m.code.instrs pc ≡ Some (unary_code o a) → At m running lo hi b t (pc + 1) (slice_set words a (unary_word o (slice_index words a))) reads → At m running (suc lo) 1 b t pc words reads
-  operates_one {lo = lo} {hi = hi} Plus a here post = stepped m {lo = lo} {hi = hi} (Move a a) here refl post
-  operates_one {lo = lo} {hi = hi} Negate a here post = stepped m {lo = lo} {hi = hi} (Un WordOne.Negate a a) here refl post
-  operates_one {lo = lo} {hi = hi} Complement a here post = stepped m {lo = lo} {hi = hi} (Un WordOne.Complement a a) here refl post
-  operates_one {lo = lo} {hi = hi} Not a here post = stepped m {lo = lo} {hi = hi} (Un WordOne.IsZero a a) here refl post
+  pub operates_one : {running : List ℕ} {lo hi b : ℕ} {t : Trace} {pc : ℕ} {words : List ℕ} {w : World} (o : UnOp) (a : ℕ) → slice_get m.code.instrs pc ≡ Some (unary_code o a) → At m running lo hi b t (pc + 1) (slice_set words a (unary_word o (slice_index words a))) w → At m running (suc lo) 1 b t pc words w
+  operates_one {lo = lo} {hi = hi} Plus a here post = stepped m {lo = lo} {hi = hi} (Move a a) here (λ heap. refl) post
+  operates_one {lo = lo} {hi = hi} Negate a here post = stepped m {lo = lo} {hi = hi} (Un WordOne.Negate a a) here (λ heap. refl) post
+  operates_one {lo = lo} {hi = hi} Complement a here post = stepped m {lo = lo} {hi = hi} (Un WordOne.Complement a a) here (λ heap. refl) post
+  operates_one {lo = lo} {hi = hi} Not a here post = stepped m {lo = lo} {hi = hi} (Un WordOne.IsZero a a) here (λ heap. refl) post

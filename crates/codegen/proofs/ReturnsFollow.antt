@@ -20,6 +20,7 @@ use Rattle.codegen.proofs.Frames.{Built, Stands, stands_same, of_length, AreAt, 
 use Rattle.codegen.proofs.Changes.{one_more, less_or, are_kept, are_none, temp_set, fewer, held_word, site_word, written_site, left}
 use Rattle.codegen.proofs.Crossing.{Linked, first_returns, returned}
 use Rattle.codegen.proofs.Places.{Standing, front, back, At, later, place_is, frame_here, turned, read_of, write_of, stepped, results_set}
+use Rattle.codegen.proofs.Globals.{written_kept}
 use Rattle.codegen.proofs.Moves.{held_words}
 
 -- no values of no types
@@ -33,7 +34,7 @@ module _ (m : Built) where
   abbrev pub Home : (lo b : ℕ) → Func → List Frame → Then (List Value) → Type 0
   Home lo b func [] k = (rs : List Value) (w : World) → k rs w ≡ End (Exit 0)
   Home lo b func (up ∷ calls) k =
-      (rs : List Value) (w : World) (words : List ℕ) → AreOf func.results rs → AreAt rs (depth m (up ∷ calls)) (argument_words func) words → Good m (up ∷ calls) w words → At m (numbers (up ∷ calls)) lo 0 b (k rs w) up.place words w.reads
+      (rs : List Value) (w : World) (words : List ℕ) → AreOf func.results rs → AreAt rs (depth m (up ∷ calls)) (argument_words func) words → Good m (up ∷ calls) w words → At m (numbers (up ∷ calls)) lo 0 b (k rs w) up.place words w
 
   -- the words of the caller's outgoing area may change
   pub incoming_put : (c : Frame) (calls : List Frame) (w : World) (words xs : List ℕ) (a : ℕ) → a + length xs ≤ room_of m calls → Good m (c ∷ calls) w words → Good m (c ∷ calls) w (put_words words (frame_of m.program.funcs c.func + a) xs)
@@ -42,17 +43,19 @@ module _ (m : Built) where
       let words1 = put_words words (fr + a) xs in
       record {
         long = put_length words (fr + a) xs (omega arith) ∙ g.long;
+        many = g.many;
+        kinds = g.kinds;
         stack = (
           level_keeps m (length w.store) (length w.store) c calls w w words words1 (omega arith) (λ x i l. refl) (λ d l k. put_other words (fr + a) xs d (omega arith) (inl (omega arith))) g.stack.0,
-          stack_keeps m c.entry c.entry calls w w words words1 (omega arith) (λ x l. refl) (λ d l. put_other words (fr + a) xs d (omega arith) (inr (omega arith))) g.stack.1,
+          stack_keeps m c.entry c.entry calls w w words words1 (omega arith) (λ x p l. refl) (λ d l. put_other words (fr + a) xs d (omega arith) (inr (omega arith))) g.stack.1,
         );
       }
 
   -- the results are there: the return
   goes_home : (c : Frame) (calls : List Frame) (k : Then (List Value)) (w : World) (words : List ℕ) (rs : List Value) (pc lo b : ℕ) → slice_get m.code.instrs pc ≡ Some Return → owner_of m.code pc ≡ c.fn → Linked m c.fn calls → argument_words c.func + result_words c.func ≤ room_of m calls
-      → Home lo b c.func calls k → AreOf c.func.results rs → AreAt rs (depth m calls) (argument_words c.func) words → Good m (c ∷ calls) w words → At m (numbers calls) (suc lo) 1 b (k rs w) pc words w.reads
+      → Home lo b c.func calls k → AreOf c.func.results rs → AreAt rs (depth m calls) (argument_words c.func) words → Good m (c ∷ calls) w words → At m (numbers calls) (suc lo) 1 b (k rs w) pc words w
   goes_home c [] k w words rs pc lo b here own from room home typed are g =
-      subst (λ t. At m [] (suc lo) 1 b t pc words w.reads) (sym (home rs w)) (first_returns m c w words pc lo b [] here own g)
+      subst (λ t. At m [] (suc lo) 1 b t pc words w) (sym (home rs w)) (first_returns m c w words pc lo b [] here own g)
   goes_home c (up ∷ calls) k w words rs pc lo b here own from room home typed are g =
       let fr = frame_of m.program.funcs c.func in let long = g.long in let words1 = drop fr words in
       returned m c up calls w words pc lo b (numbers (up ∷ calls)) (k rs w) here own from g
@@ -61,13 +64,13 @@ module _ (m : Built) where
       (left m c (up ∷ calls) w words g))
 
   leave_end : (c : Frame) (calls : List Frame) (k : Then (List Value)) (w : World) (words : List ℕ) (rs : List Value) (n pc lo b : ℕ) → slice_get m.code.instrs pc ≡ Some Return → owner_of m.code pc ≡ c.fn → Linked m c.fn calls → argument_words c.func + result_words c.func ≤ room_of m calls
-      → Home lo b c.func calls k → AreOf c.func.results rs → AreAt rs (depth m calls) (argument_words c.func) words → Good m (c ∷ calls) w words → At m (numbers (c ∷ calls)) lo 0 b (Meaning.leave_with n k rs w) pc words w.reads
+      → Home lo b c.func calls k → AreOf c.func.results rs → AreAt rs (depth m calls) (argument_words c.func) words → Good m (c ∷ calls) w words → At m (numbers (c ∷ calls)) lo 0 b (Meaning.leave_with n k rs w) pc words w
   leave_end c calls k w words rs n pc lo b here own from room home typed are g =
       turned m {lo1 = suc lo} (omega arith) (record { at = (goes_home c calls k w words rs pc lo b here own from room home typed are g).at })
 
   -- results without names
   unnamed : (c : Frame) (calls : List Frame) (k : Then (List Value)) (w : World) (words : List ℕ) (rs : List Value) (count n h pc lo b : ℕ) → length c.held ≡ h → Standing m.code c.fn pc (result_code count (temp (slots_of m.program.funcs c.func) h) (argument_words c.func) ++ Return ∷ []) → Linked m c.fn calls → argument_words c.func + result_words c.func ≤ room_of m calls
-      → Home lo b c.func calls k → length rs ≡ count → AreOf c.func.results rs → Good m (hold c (c.held ++ rs) ∷ calls) w words → At m (numbers (c ∷ calls)) lo 0 b (Meaning.leave_with n k rs w) pc words w.reads
+      → Home lo b c.func calls k → length rs ≡ count → AreOf c.func.results rs → Good m (hold c (c.held ++ rs) ∷ calls) w words → At m (numbers (c ∷ calls)) lo 0 b (Meaning.leave_with n k rs w) pc words w
   unnamed c calls k w words rs zero n h pc lo b hh has from room home many typed g =
       leave_end (hold c (c.held ++ rs)) calls k w words rs n pc lo b has.0.0 has.0.1 from room home typed (λ j l. absurd (omega arith)) g
   unnamed c calls k w words rs (suc i) n h pc lo b hh has from room home many typed g =
@@ -90,8 +93,8 @@ module _ (m : Built) where
   -- results with names: they are written
   named_writes : (sites : List ℕ) (vs gone all : List Value) (c : Frame) (env : Env) (scope : List ℕ) (calls : List Frame) (g : Go) (w : World) (words : List ℕ) (h pc lo b : ℕ) → AreOf (map (site_type m.program) sites) vs → length gone ≡ h → all ≡ gone ++ vs
       → Standing m.code c.fn pc (named_write_code (slots_of m.program.funcs c.func) sites h) → ((v : ℕ) → InScope v sites → InScope v scope) → Good m (during c env scope all ∷ calls) w words
-      → ((w1 : World) (words1 : List ℕ) → Good m (during c env scope all ∷ calls) w1 words1 → At m (numbers (c ∷ calls)) lo 0 b (g w1) (pc + length sites) words1 w1.reads)
-      → At m (numbers (c ∷ calls)) lo 0 b (Meaning.write_results sites vs env g w) pc words w.reads
+      → ((w1 : World) (words1 : List ℕ) → Good m (during c env scope all ∷ calls) w1 words1 → At m (numbers (c ∷ calls)) lo 0 b (g w1) (pc + length sites) words1 w1)
+      → At m (numbers (c ∷ calls)) lo 0 b (Meaning.write_results sites vs env g w) pc words w
   named_writes [] vs gone all c env scope calls g w words h pc lo b typed hg e has sub good post = place_is m (let q : pc + 0 ≡ pc = omega arith in q) (post w words good)
   named_writes (site ∷ sites) [] gone all c env scope calls g w words h pc lo b typed hg e has sub good post = absurd typed
   named_writes (site ∷ sites) (v ∷ vs) gone all c env scope calls g w words h pc lo b typed hg e has sub good post =
@@ -99,15 +102,17 @@ module _ (m : Built) where
       let stands = held_word m (during c env scope all) calls w words gone vs v h hg (subst (λ l. Good m (during c env scope l ∷ calls) w words) e good) in
       let words1 = slice_set words (site_slot s site) x in
       let good1 = written_site m (during c env scope all) calls w words v site x (sub site (inl refl)) stands typed.0 good in
-      turned m {lo1 = suc lo} (omega arith) (write_of m _ _ _ (stepped m {lo = lo} {hi = 0} (Move (site_slot s site) (temp s h)) has.0.0 refl
+      let above = good.stack.0.above in let home = good.stack.0.homes site (sub site (inl refl)) in
+      turned m {lo1 = suc lo} (omega arith) (write_of m _ _ _ (stepped m {lo = lo} {hi = 0} (Move (site_slot s site) (temp s h)) has.0.0 (λ heap. refl)
+      (written_kept m (env site) v (omega arith)
       (named_writes sites vs (gone ++ v ∷ []) all c env scope calls g (written w (env site) [] v) words1 (h + 1) (pc + 1) lo b typed.1 (one_more gone v h hg) (e ∙ sym (append_assoc gone (v ∷ []) vs)) has.1 (λ u i. sub u (inr i)) good1
-      (λ w1 words2 g2. place_is m (let q : pc + suc (length sites) ≡ pc + 1 + length sites = omega arith in q) (post w1 words2 g2)))))
+      (λ w1 words2 g2. place_is m (let q : pc + suc (length sites) ≡ pc + 1 + length sites = omega arith in q) (post w1 words2 g2))))))
 
   -- and read
   named_reads : (sites : List ℕ) (gone : List Value) (c : Frame) (env : Env) (scope : List ℕ) (calls : List Frame) (k : Then (List Value)) (w : World) (words : List ℕ) (i pc lo b : ℕ) → i ≡ argument_words c.func + length gone → i + length sites ≤ room_of m calls → 0 < temps_of m.program.funcs c.func
       → Standing m.code c.fn pc (named_read_code (slots_of m.program.funcs c.func) sites i) → ((v : ℕ) → InScope v sites → InScope v scope) → AreAt gone (depth m calls) (argument_words c.func) words → Good m (during c env scope [] ∷ calls) w words
-      → ((rs : List Value) (words1 : List ℕ) → AreOf (map (site_type m.program) sites) rs → AreAt (gone ++ rs) (depth m calls) (argument_words c.func) words1 → Good m (during c env scope [] ∷ calls) w words1 → At m (numbers (c ∷ calls)) lo 0 b (k rs w) (pc + named_read_size sites) words1 w.reads)
-      → At m (numbers (c ∷ calls)) lo 0 b (Meaning.read_results sites env k w) pc words w.reads
+      → ((rs : List Value) (words1 : List ℕ) → AreOf (map (site_type m.program) sites) rs → AreAt (gone ++ rs) (depth m calls) (argument_words c.func) words1 → Good m (during c env scope [] ∷ calls) w words1 → At m (numbers (c ∷ calls)) lo 0 b (k rs w) (pc + named_read_size sites) words1 w)
+      → At m (numbers (c ∷ calls)) lo 0 b (Meaning.read_results sites env k w) pc words w
   named_reads [] gone c env scope calls k w words i pc lo b ei room some has sub are good post =
       place_is m (let q : pc + 0 ≡ pc = omega arith in q)
       (post [] words tt (λ j l. let n = length-append gone [] in
@@ -126,7 +131,7 @@ module _ (m : Built) where
       let g3 = fewer m c0 calls w words2 [] (v ∷ []) g2 in
       let shape : List Value = gone ++ v ∷ [] in
       let longer : length shape ≡ length gone + 1 = one_more gone v (length gone) refl in
-      turned m {lo1 = suc (suc lo)} (omega arith) (read_of m _ _ _ (stepped m {lo = suc lo} {hi = 1} (Move (temp s 0) (site_slot s site)) has.0.0 refl
+      turned m {lo1 = suc (suc lo)} (omega arith) (read_of m _ _ _ (stepped m {lo = suc lo} {hi = 1} (Move (temp s 0) (site_slot s site)) has.0.0 (λ heap. refl)
       (results_set m {lo = lo} {hi = 0} (temp s 0) i 1 fr has.1.0.0 (frame_here m c.fn (pc + 1) c.func g1.stack.0.named has.1.0.1) (omega arith)
       (named_reads sites shape c env scope calls _ w words2 (i + 1) (pc + 1 + 1) lo b (omega (arith, longer)) (omega arith) some has.1.1 (λ u z. sub u (inr z))
       (λ j l. elim (less_or j (length gone)) [
@@ -149,7 +154,7 @@ module _ (m : Built) where
   abbrev pub Returns : (lo b : ℕ) → Frame → List Frame → (List Value → Env → Go) → Type 0
   Returns lo b c calls r =
       (vs : List Value) (count : ℕ) (env : Env) (scope : List ℕ) (held : List Value) (w : World) (words : List ℕ) (h pc : ℕ) → length held ≡ h → Standing m.code c.fn pc (values_code (slots_of m.program.funcs c.func) (argument_words c.func) count c.func.named h ++ leave_code (slots_of m.program.funcs c.func) (argument_words c.func) c.func.named)
-      → length vs ≡ count → Given c.func count vs → named_need m.program.funcs (length c.func.named) ≤ temps_of m.program.funcs c.func → ((v : ℕ) → InScope v c.func.named → InScope v scope) → Good m (during c env scope (held ++ vs) ∷ calls) w words → At m (numbers (c ∷ calls)) lo 0 b (r vs env w) pc words w.reads
+      → length vs ≡ count → Given c.func count vs → named_need m.program.funcs (length c.func.named) ≤ temps_of m.program.funcs c.func → ((v : ℕ) → InScope v c.func.named → InScope v scope) → Good m (during c env scope (held ++ vs) ∷ calls) w words → At m (numbers (c ∷ calls)) lo 0 b (r vs env w) pc words w
 
   pub returns_later : (lo lo1 b b1 : ℕ) (c : Frame) (calls : List Frame) (r : List Value → Env → Go) → lo ≤ lo1 → b1 ≤ b → Returns lo b c calls r → Returns lo1 b1 c calls r
   returns_later lo lo1 b b1 c calls r p q ret vs count env scope held w words h pc hh has many gives room sub g = later m {lo = lo} {hi = 0} {b = b} p (omega arith) q (ret vs count env scope held w words h pc hh has many gives room sub g)
@@ -158,7 +163,7 @@ module _ (m : Built) where
   module _ (c : Frame) (calls : List Frame) (k : Then (List Value)) (n lo b : ℕ) (from : Linked m c.fn calls) (room : argument_words c.func + result_words c.func ≤ room_of m calls) (home : Home lo b c.func calls k) where
     -- results that have been written are read, and the call returns
     reads_all : (sites : List ℕ) (env : Env) (scope : List ℕ) (w : World) (words : List ℕ) (pc : ℕ) → map (site_type m.program) sites ≡ c.func.results → 0 < temps_of m.program.funcs c.func → Standing m.code c.fn pc (leave_code (slots_of m.program.funcs c.func) (argument_words c.func) sites) → ((v : ℕ) → InScope v sites → InScope v scope)
-        → Good m (during c env scope [] ∷ calls) w words → At m (numbers (c ∷ calls)) lo 0 b (Meaning.read_results sites env (Meaning.leave_with n k) w) pc words w.reads
+        → Good m (during c env scope [] ∷ calls) w words → At m (numbers (c ∷ calls)) lo 0 b (Meaning.read_results sites env (Meaning.leave_with n k) w) pc words w
     reads_all sites env scope w words pc names some has sub g =
         let s = slots_of m.program.funcs c.func in let a = argument_words c.func in
         let reads = named_read_code s sites a in
@@ -168,7 +173,7 @@ module _ (m : Built) where
         leave_end (during c env scope []) calls k w words1 rs n (pc + named_read_size sites) lo b has_r.0.0 has_r.0.1 from room home (subst (λ ts. AreOf ts rs) names typed) are g1)
 
     leaves : (sites : List ℕ) (vs : List Value) (count : ℕ) (env : Env) (scope : List ℕ) (held : List Value) (w : World) (words : List ℕ) (h pc : ℕ) → (sites ≡ []) ⊎ (map (site_type m.program) sites ≡ c.func.results) → length held ≡ h → Standing m.code c.fn pc (values_code (slots_of m.program.funcs c.func) (argument_words c.func) count sites h ++ leave_code (slots_of m.program.funcs c.func) (argument_words c.func) sites)
-        → length vs ≡ count → ((count ≡ result_words c.func) × AreOf c.func.results vs) ⊎ ((count ≡ 0) × (length sites ≡ result_words c.func)) → named_need m.program.funcs (length sites) ≤ temps_of m.program.funcs c.func → ((v : ℕ) → InScope v sites → InScope v scope) → Good m (during c env scope (held ++ vs) ∷ calls) w words → At m (numbers (c ∷ calls)) lo 0 b (Meaning.leave sites n k vs env w) pc words w.reads
+        → length vs ≡ count → ((count ≡ result_words c.func) × AreOf c.func.results vs) ⊎ ((count ≡ 0) × (length sites ≡ result_words c.func)) → named_need m.program.funcs (length sites) ≤ temps_of m.program.funcs c.func → ((v : ℕ) → InScope v sites → InScope v scope) → Good m (during c env scope (held ++ vs) ∷ calls) w words → At m (numbers (c ∷ calls)) lo 0 b (Meaning.leave sites n k vs env w) pc words w
     leaves [] vs count env scope held w words h pc names hh has many gives some sub g =
         unnamed (during c env scope held) calls k w words vs count n h pc lo b hh has from room home many (elim gives [ inl e ↦ e.1 | inr e ↦ no_results c.func.results vs (sym e.1) (many ∙ e.0) ]) g
     leaves (site ∷ sites) [] zero env scope held w words h pc names hh has many gives some sub g =

@@ -10,7 +10,7 @@ use Rattle.meaning.specs.Meaning.{Env, Go, Then}
 use Rattle.isa.specs.Bin.{bit_of, bin_of}
 use Rattle.isa.specs.declared.instr.BinOp.TheVariants as Word
 use Rattle.isa.specs.declared.instr.Instr.TheVariants.{Const, Bin, Jump, JumpZero}
-use Rattle.machine.specs.Machine.{State, puts_or_panics}
+use Rattle.machine.specs.Machine.{puts_or_panics}
 use Rattle.codegen.specs.Code.{temp, slots_of}
 use Rattle.codegen.proofs.Frames.{Built, Frame, during, numbers, Good}
 use Rattle.codegen.proofs.Changes.{one_more, temp_set, spare_set, fewer, held_word}
@@ -35,9 +35,9 @@ module _ (m : Built) (c : Frame) (calls : List Frame) where
   abbrev pub Tests : (held : List Value) → (scope : List ℕ) → (tested : Bool) → (pc inside behind lo b : ℕ) → (Env → Then Value → Go) → Type 0
   Tests held scope tested pc inside behind lo b test =
       (env : Env) (g h : Go) (w : World) (words : List ℕ) (d : ℕ) → d ≤ b → Good m (during c env scope held ∷ calls) w words
-      → ((w1 : World) (words1 : List ℕ) → Good m (during c env scope held ∷ calls) w1 words1 → At m (numbers (c ∷ calls)) lo 0 d (g w1) inside words1 w1.reads)
-      → (tested ≡ true → (w1 : World) (words1 : List ℕ) → Good m (during c env scope held ∷ calls) w1 words1 → At m (numbers (c ∷ calls)) lo 0 d (h w1) behind words1 w1.reads)
-      → At m (numbers (c ∷ calls)) lo 0 d (test env (λ v. Meaning.branch v g h) w) pc words w.reads
+      → ((w1 : World) (words1 : List ℕ) → Good m (during c env scope held ∷ calls) w1 words1 → At m (numbers (c ∷ calls)) lo 0 d (g w1) inside words1 w1)
+      → (tested ≡ true → (w1 : World) (words1 : List ℕ) → Good m (during c env scope held ∷ calls) w1 words1 → At m (numbers (c ∷ calls)) lo 0 d (h w1) behind words1 w1)
+      → At m (numbers (c ∷ calls)) lo 0 d (test env (λ v. Meaning.branch v g h) w) pc words w
 
   -- what a round does, from behind its test to the jump back
   abbrev pub Round : (held : List Value) → (scope : List ℕ) → (inside last lo b : ℕ) → (ℕ → Env → (ℕ → Env → Go) → Go) → Type 0
@@ -52,7 +52,7 @@ module _ (m : Built) (c : Frame) (calls : List Frame) where
     rounds_follow test body k lo b tests round post (suc fuel) d db df v env w words g =
         tests env _ _ w words d db g
         (λ w1 words1 g1. round v _ d db (λ v1 env1 w2 words2 g2.
-        turned_less m {lo1 = suc lo} (omega arith) (stepped m {lo = lo} {hi = 0} (Jump pc) back refl (rounds_follow test body k lo b tests round post fuel (d - 1) (omega arith) (omega arith) v1 env1 w2 words2 g2))) env w1 words1 g1)
+        turned_less m {lo1 = suc lo} (omega arith) (stepped m {lo = lo} {hi = 0} (Jump pc) back (λ heap. refl) (rounds_follow test body k lo b tests round post fuel (d - 1) (omega arith) (omega arith) v1 env1 w2 words2 g2))) env w1 words1 g1)
         (λ t w1 words1 g1. after_later m c calls held scope behind lo lo b d (k v) (omega arith) db (post t v) env w1 words1 g1)
 
   -- the rounds of a `range` over a number, which is held, with the index above it
@@ -98,10 +98,9 @@ module _ (m : Built) (c : Frame) (calls : List Frame) where
 
     -- the comparison, whose outcome is known, and the jump
     compared : (r : Bool) (goal i lo d : ℕ) (env : Env) (g : Go) (w : World) (words : List ℕ) → int_lt (pos i) z ≡ r → (if bit_of r == 0 then behind else test + 1 + 1) ≡ goal
-        → ((words1 : List ℕ) → Good m (during c env scope (counting z held i) ∷ calls) w words1 → At m (numbers (c ∷ calls)) lo 0 d (g w) goal words1 w.reads)
-        → Good m (during c env scope (counting z held i) ∷ calls) w words → At m (numbers (c ∷ calls)) lo 0 d (Meaning.turn g w) test words w.reads
+        → ((words1 : List ℕ) → Good m (during c env scope (counting z held i) ∷ calls) w words1 → At m (numbers (c ∷ calls)) lo 0 d (g w) goal words1 w)
+        → Good m (during c env scope (counting z held i) ∷ calls) w words → At m (numbers (c ∷ calls)) lo 0 d (Meaning.turn g w) test words w
     compared r goal i lo d env g w words known leads post good =
-        let s0 : State = record { pc = test; words = words; reads = w.reads } in
         let words1 = slice_set words spare_slot (bit_of r) in
         let good1 = spare i (bit_of r) env w words good in
         let long = good.long in let from = good.stack.0.room in
@@ -109,10 +108,10 @@ module _ (m : Built) (c : Frame) (calls : List Frame) where
         let bit : bin_of Word.Less x y ≡ Ok (bit_of r) = less_bit x y (pos i) z (index_stands i env w words good) (number_stands i env w words good) ∙ ap (λ t. Ok (bit_of t)) known in
         let set : slice_index words1 spare_slot ≡ bit_of r = get_or-set_same words spare_slot (bit_of r) 0 (omega arith) in
         turned m {lo1 = suc (suc lo)} (omega arith)
-        (stepped m {lo = suc lo} {hi = 1} (Bin Word.Less spare_slot index_slot number_slot) less (ap (puts_or_panics s0 spare_slot) bit)
+        (stepped m {lo = suc lo} {hi = 1} (Bin Word.Less spare_slot index_slot number_slot) less (λ heap. ap (puts_or_panics (record { pc = test; words = words; reads = w.reads; heap = heap }) spare_slot) bit)
         (jumped r words1 set leads (post words1 good1)))
       where
-        jumped : (r : Bool) (words1 : List ℕ) → slice_index words1 spare_slot ≡ bit_of r → (if bit_of r == 0 then behind else test + 1 + 1) ≡ goal → At m (numbers (c ∷ calls)) lo 0 d (g w) goal words1 w.reads → At m (numbers (c ∷ calls)) (suc lo) 1 d (g w) (test + 1) words1 w.reads
+        jumped : (r : Bool) (words1 : List ℕ) → slice_index words1 spare_slot ≡ bit_of r → (if bit_of r == 0 then behind else test + 1 + 1) ≡ goal → At m (numbers (c ∷ calls)) lo 0 d (g w) goal words1 w → At m (numbers (c ∷ calls)) (suc lo) 1 d (g w) (test + 1) words1 w
         jumped true words1 set leads post = goes_on m {lo = lo} spare_slot behind leave set (place_is m (sym leads) post)
         jumped false words1 set leads post = goes_to m {lo = lo} spare_slot behind leave set (place_is m (sym leads) post)
 
@@ -125,7 +124,6 @@ module _ (m : Built) (c : Frame) (calls : List Frame) where
     counted_follow body k lo b round post (suc fuel) i (suc left) d db df remains v env w words g =
         compared true (test + 1 + 1) i lo d env (body i v env (λ v1 env1. Meaning.turn (Meaning.counted fuel (suc i) left body k v1 env1))) w words (some_less z i left remains) refl
         (λ words1 g1. round i v _ d db (λ v1 env1 w2 words2 g2.
-        let s0 : State = record { pc = turn + 1; words = slice_set words2 spare_slot 1; reads = w2.reads } in
         let words3 = slice_set words2 spare_slot 1 in
         let g3 = spare i 1 env1 w2 words2 g2 in
         let long = g2.long in
@@ -133,8 +131,8 @@ module _ (m : Built) (c : Frame) (calls : List Frame) where
         let next = next_index z i left (slice_index words3 index_slot) (slice_index words3 number_slot) remains (index_stands i env1 w2 words3 g3) (number_stands i env1 w2 words3 g3) in
         let sum : bin_of Word.Add (slice_index words3 index_slot) (slice_index words3 spare_slot) ≡ Ok next.0 = ap (bin_of Word.Add (slice_index words3 index_slot)) set ∙ next.1.0 in
         turned_less m {lo1 = suc (suc (suc lo))} (omega arith)
-        (stepped m {lo = suc (suc lo)} {hi = 1} (Const spare_slot 1) one refl
-        (stepped m {lo = suc lo} {hi = 1} (Bin Word.Add index_slot index_slot spare_slot) add (ap (puts_or_panics s0 index_slot) sum)
-        (stepped m {lo = lo} {hi = 0} (Jump test) back refl
+        (stepped m {lo = suc (suc lo)} {hi = 1} (Const spare_slot 1) one (λ heap. refl)
+        (stepped m {lo = suc lo} {hi = 1} (Bin Word.Add index_slot index_slot spare_slot) add (λ heap. ap (puts_or_panics (record { pc = turn + 1; words = words3; reads = w2.reads; heap = heap }) index_slot) sum)
+        (stepped m {lo = lo} {hi = 0} (Jump test) back (λ heap. refl)
         (counted_follow body k lo b round post fuel (suc i) left (d - 1) (omega arith) (omega arith) (remains_next z i left remains) v1 env1 w2 (slice_set words3 index_slot next.0)
         (counted_on i (suc i) next.0 env1 w2 words3 next.1.1 g3)))))) env w words1 g1) g

@@ -1,14 +1,14 @@
 -- The machine follows statements that have no others inside.
-use Rattle.std.proofs.Common.{◌≡◌, inl, inr, ℕ, suc, ◌+◌, ◌<◌, ℤ, pos, negsuc, Bool, true, false, List, [], ◌∷◌, ◌++◌, length, Some, refl, sym, ap, ◌∙◌, subst, arith, get_or}
+use Rattle.std.proofs.Common.{◌≡◌, inl, inr, ℕ, suc, ◌+◌, ◌≤◌, ℤ, pos, negsuc, Bool, true, false, List, [], ◌∷◌, ◌++◌, length, Some, refl, sym, ap, ◌∙◌, subst, arith, length-append, get_or}
 use Rattle.std.specs.Prelude.{slice_get, slice_index, slice_set, not, ◌==◌, nat_lt, if◌then◌else◌}
 use Rattle.std.specs.Int.{w64, cast_signed}
 use Rattle.base.specs.declared.pos.Pos.{Pos}
 use Rattle.typed.specs.declared.operators.BinOp.{BinOp}
 use Rattle.typed.specs.declared.operators.BinOp.TheVariants.{Add, Sub, Mul, Div, Rem, And, Or, Xor, AndNot, ShiftLeft, ShiftRight, Equal, NotEqual, Less, LessEqual, Greater, GreaterEqual}
 use Rattle.typed.specs.Value.{Value, int, bool}
-use Rattle.typed.specs.Syntax.{Ex, Exs, Pl, Left, Piece, none, more, results, asked, local, here as itself, text, shown, declare, assign, update, bump, discard, break_off, go_on, give_back, print, raise, quit, int_type, argument_words, results_in}
-use Rattle.typed.specs.Form.{IsOf, AreOf, IsArithmetic, IsStep, Takes, InScope, site_type, scope_behind, ExsFit, ReturnFits}
-use Rattle.typed.specs.Frames.{temps_of}
+use Rattle.typed.specs.Syntax.{Ex, Exs, Pl, Left, Piece, none, more, results, asked, text, shown, declare, assign, update, bump, discard, break_off, go_on, give_back, print, raise, quit, int_type, argument_words, results_in}
+use Rattle.typed.specs.Form.{IsOf, AreOf, IsArithmetic, IsStep, Takes, PlFits, site_type, scope_behind, ExsFit, ReturnFits}
+use Rattle.typed.specs.Frames.{far, lefts_far, temps_of}
 use Rattle.meaning.specs.Trace.{World, Trace, Exit, Panic, raised, raised_text, exit_code}
 use Rattle.meaning.specs.Store.{value_of, written}
 use Rattle.meaning.specs.Operators.{binary_of}
@@ -16,15 +16,17 @@ use Rattle.meaning.specs.Meaning
 use Rattle.meaning.specs.Meaning.{Env, Go, Ways, Calls, Setting}
 use Rattle.simulation.specs.Steps.{Stops}
 use Rattle.isa.specs.Bin.{bit_of}
-use Rattle.isa.specs.declared.instr.Instr.TheVariants.{Const, Move, Bin, Jump, Exit as ExitWith, PanicText, PanicInt, PanicBool}
+use Rattle.isa.specs.declared.instr.Instr.TheVariants.{Const, Bin, Jump, Exit as ExitWith, PanicText, PanicInt, PanicBool}
 use Rattle.machine.specs.Machine.{exits_with, panics}
 use Rattle.machine.specs.declared.place.Ending.TheVariants.{Exit as Exited, Panic as Panicked}
 use Rattle.machine.specs.declared.place.Panic.TheVariants.{Text, Int, Bool as Truth, ExitCode}
-use Rattle.codegen.specs.Code.{temp, site_slot, slots_of, operation, ex_code, exs_code, pieces_code, show_code, lefts_code, values_code, leave_code, raised_code, count_of, size, exs_size, pieces_size, lefts_size, shown_size}
-use Rattle.codegen.proofs.Sizes.{length_code, length_exs, length_pieces}
+use Rattle.codegen.specs.Code.{temp, slots_of, operation, read_code, write_code, ex_code, exs_code, pieces_code, show_code, lefts_code, values_code, leave_code, raised_code, count_of, size, exs_size, pieces_size, lefts_size, shown_size}
+use Rattle.codegen.proofs.Sizes.{length_read, length_code, length_exs, length_pieces}
+use Rattle.codegen.proofs.Suffice.{lefts_length, address_room}
 use Rattle.codegen.proofs.Frames.{Built, Stands, of_length, Frame, hold, during, numbers, Good, narrowed}
-use Rattle.codegen.proofs.Changes.{one_more, temp_set, fewer, held_word, site_word, written_site}
+use Rattle.codegen.proofs.Changes.{one_more, temp_set, fewer, held_word}
 use Rattle.codegen.proofs.Places.{Standing, front, back, Panics, At, later, place_is, turned, read_of, write_of, stepped, halted}
+use Rattle.codegen.proofs.Globals.{variable_of, aim_is, fetched, landed}
 use Rattle.codegen.proofs.Moves.{CallsFollow}
 use Rattle.codegen.proofs.OperatorsFollow.{operates}
 use Rattle.codegen.proofs.EvaluationsFollow.{ev_follows, evs_follow, pieces_follow}
@@ -72,32 +74,22 @@ module _ (m : Built) where
   count_is scope asked [] fit = sym (ap (length {A = ℕ}) fit)
   count_is scope asked (t ∷ ts) fit = sym (ap (length {A = ℕ}) fit)
 
-  -- an operator's result in its first operand's temp goes to a variable
   module _ (c : Frame) (calls : List Frame) where
-    stored : (site h : ℕ) (env : Env) (scope : List ℕ) (held : List Value) (k : Env → Go) (w : World) (words : List ℕ) (x : Value) (pc lo b : ℕ) → slice_get m.code.instrs pc ≡ Some (Move (site_slot (slots_of m.program.funcs c.func) site) (temp (slots_of m.program.funcs c.func) h))
-        → length held ≡ h → InScope site scope → IsOf (site_type m.program site) x → Good m (during c env scope (held ++ x ∷ []) ∷ calls) w words → After m c calls held scope (pc + 1) lo b k
-        → At m (numbers (c ∷ calls)) (suc lo) 1 b (Meaning.write_part (env site) [] x (k env) w) pc words w.reads
-    stored site h env scope held k w words x pc lo b here hh among typed g post =
-        let s = slots_of m.program.funcs c.func in let y = slice_index words (temp s h) in
-        write_of m _ _ _ (stepped m {lo = lo} {hi = 0} (Move (site_slot s site) (temp s h)) here refl
-        (post env (written w (env site) [] x) (slice_set words (site_slot s site) y)
-        (fewer m (during c env scope held) calls (written w (env site) [] x) (slice_set words (site_slot s site) y) held (x ∷ [])
-        (written_site m (during c env scope (held ++ x ∷ [])) calls w words x site y among (held_word m (during c env scope held) calls w words held [] x h hh g) typed g))))
-
-    -- two operands in temps: the operator, and a variable gets the result
-    updated : (at : Pos) (o : BinOp) (site h : ℕ) (ws : Ways) (env : Env) (scope : List ℕ) (held : List Value) (v u : Value) (k : Env → Go) (w : World) (words : List ℕ) (pc lo b : ℕ)
+    -- two operands in temps: the operator, and a place gets the result
+    updated : (at : Pos) (o : BinOp) (p : Pl) (h : ℕ) (ws : Ways) (env : Env) (scope : List ℕ) (held : List Value) (v u : Value) (k : Env → Go) (w : World) (words : List ℕ) (pc lo b : ℕ)
         → slice_get m.code.instrs pc ≡ Some (Bin (operation o) (temp (slots_of m.program.funcs c.func) h) (temp (slots_of m.program.funcs c.func) h) (temp (slots_of m.program.funcs c.func) (h + 1)))
-        → slice_get m.code.instrs (pc + 1) ≡ Some (Move (site_slot (slots_of m.program.funcs c.func) site) (temp (slots_of m.program.funcs c.func) h))
-        → length held ≡ h → h < temps_of m.program.funcs c.func → InScope site scope → site_type m.program site ≡ int_type → Panics ws → Takes o int_type int_type → IsOf int_type v → IsOf int_type u
-        → Good m (during c env scope ((held ++ v ∷ []) ++ u ∷ []) ∷ calls) w words → After m c calls held scope (pc + 1 + 1) lo b k
-        → At m (numbers (c ∷ calls)) (suc (suc lo)) 1 b (Meaning.or_panic ws env at (binary_of o v u) (λ x. Meaning.write_part (env site) [] x (k env)) w) pc words w.reads
-    updated at o site h ws env scope held v u k w words pc lo b here write hh room among same stops takes iv iu g post =
-        let s = slots_of m.program.funcs c.func in let c0 = during c env scope held in
+        → Standing m.code c.fn (pc + 1) (write_code (slots_of m.program.funcs c.func) p (h + 1) h) → length held ≡ h → h + 1 + far p ≤ temps_of m.program.funcs c.func → PlFits m.program scope int_type p → Panics ws → Takes o int_type int_type → IsOf int_type v → IsOf int_type u
+        → Good m (during c env scope ((held ++ v ∷ []) ++ u ∷ []) ∷ calls) w words → After m c calls held scope (pc + 1 + (far p + 1)) lo b k
+        → At m (numbers (c ∷ calls)) (suc (suc (suc lo))) 1 b (Meaning.or_panic ws env at (binary_of o v u) (λ x. Meaning.write_part (variable_of env p) [] x (k env)) w) pc words w
+    updated at o p h ws env scope held v u k w words pc lo b here has hh room fit stops takes iv iu g post =
+        let s = slots_of m.program.funcs c.func in let c0 = during c env scope held in let site = variable_of env p in
         let left = fewer m c0 calls w words (held ++ v ∷ []) (u ∷ []) g in
-        operates m at o int_type int_type v u ws env (λ x. Meaning.write_part (env site) [] x (k env)) w (numbers (c ∷ calls)) words (temp s h) (temp s h) (temp s (h + 1)) pc (suc lo) 1 b here stops takes iv iu
+        operates m at o int_type int_type v u ws env (λ x. Meaning.write_part site [] x (k env)) w (numbers (c ∷ calls)) words (temp s h) (temp s h) (temp s (h + 1)) pc (suc (suc lo)) 1 b here stops takes iv iu
         (held_word m c0 calls w words held [] v h hh left) (held_word m c0 calls w words (held ++ v ∷ []) [] u (h + 1) (one_more held v h hh) g)
-        (λ x word ix sx. stored site h env scope held k w (slice_set words (temp s h) word) x (pc + 1) lo b write hh among (subst (λ t. IsOf t x) (sym same) ix)
-        (temp_set m c0 calls w words h word x hh room sx (fewer m c0 calls w words held (v ∷ []) left)) post)
+        (λ x word ix sx. write_of m _ _ _
+        (landed m (during c env scope (held ++ x ∷ [])) calls p int_type w (slice_set words (temp s h) word) (numbers (c ∷ calls)) held [] x (h + 1) h (pc + 1) lo 0 b _ has fit room refl hh (one_more held x h hh) ix
+        (temp_set m c0 calls w words h word x hh (omega arith) sx (fewer m c0 calls w words held (v ∷ []) left)) (λ words1 g1.
+        post env (written w site [] x) words1 (fewer m c0 calls (written w site [] x) words1 held (x ∷ []) g1))))
 
   module _ (around : Setting) (strings : around.strings ≡ m.program.strings) (inputs : around.items ≡ m.items) (zero_is : (site : ℕ) → Stands (Meaning.zero_of around site) 0 × IsOf (site_type m.program site) (Meaning.zero_of around site))
       (callees : Calls) (n : ℕ) (cf : CallsFollow m callees n) (c : Frame) (calls : List Frame) where
@@ -108,40 +100,48 @@ module _ (m : Built) where
     pub assign_follows : (ls : List Left) (es : Exs) → Followed m c calls around callees n (assign ls es)
     assign_follows ls es ws env k w words held h looped outer scope q out again pc lo b le hh has fit enough reaches sc leads g post =
         let s = slots_of m.program.funcs c.func in
-        let ces = exs_code m.program.funcs s es h pc in let cls = lefts_code s ls h in
+        let ces = exs_code m.program.funcs s es h pc in let cls = lefts_code s ls (h + length ls) h in
         let has_l = back m.code c.fn pc (exs_size m.program.funcs es) ces cls (length_exs m.program.funcs s es h pc) has in
-        subst (λ t. At m (numbers (c ∷ calls)) lo 0 b t pc words w.reads) (sym (ready_is around callees ls ws env (λ those ws1. Meaning.evs around callees es ws1 env (λ vs. Meaning.land_all around those vs ws env k)) w))
-        (evs_follow m around inputs callees n cf es fit.0 (during c env scope held) calls ws (λ vs. Meaning.land_all around (landings env ls) vs ws env k) w words h pc lo b le hh leads.panics (front m.code c.fn pc ces cls has) fit.2 enough reaches g (λ vs w1 words1 are g1.
-        lefts_follow m around ls fit.0 vs held (held ++ vs) c env env scope scope calls ws k w1 words1 q h (pc + exs_size m.program.funcs es) lo b are hh refl has_l fit.1 sc.from (λ v i. (i, refl, sc.below v i)) g1 (λ env1 w2 words2 g2.
+        subst (λ t. At m (numbers (c ∷ calls)) lo 0 b t pc words w) (sym (ready_is around callees ls ws env (λ those ws1. Meaning.evs around callees es ws1 env (λ vs. Meaning.land_all around those vs ws env k)) w))
+        (evs_follow m around inputs callees n cf es fit.0 (during c env scope held) calls ws (λ vs. Meaning.land_all around (landings env ls) vs ws env k) w words h pc lo b le hh leads.panics (front m.code c.fn pc ces cls has) fit.2 (omega arith) reaches g (λ vs w1 words1 are g1.
+        let count : length vs ≡ length ls = of_length fit.0 vs are ∙ lefts_length m.program scope q (c.func.first + c.func.count) fit.0 ls fit.1 in
+        let long : length (held ++ vs) ≡ h + length ls = omega (arith, length-append held vs, count) in
+        let within = g1.stack.0.room in
+        let room = address_room (temps_of m.program.funcs c.func) h (length ls) (lefts_far ls) (omega (arith, long)) (omega arith) in
+        lefts_follow m around ls fit.0 vs held (held ++ vs) c env env scope scope calls ws k w1 words1 q (h + length ls) h (pc + exs_size m.program.funcs es) lo b are hh refl long has_l fit.1 room sc.from (λ v i. (i, refl, sc.below v i)) g1 (λ env1 w2 words2 g2.
         place_is m (let e : pc + (exs_size m.program.funcs es + lefts_size ls) ≡ pc + exs_size m.program.funcs es + lefts_size ls = omega arith in e)
         (post refl env1 w2 words2 (fewer m (during c env1 (scope_behind scope ls) held) calls w2 words2 held vs g2)))))
 
     pub update_follows : (at : Pos) (p : Pl) (o : BinOp) (e : Ex) → Followed m c calls around callees n (update at p o e)
-    update_follows at (local site itself) o e ws env k w words held h looped outer scope q out again pc lo b le hh has fit enough reaches sc leads g post =
+    update_follows at p o e ws env k w words held h looped outer scope q out again pc lo b le hh has fit enough reaches sc leads g post =
         let s = slots_of m.program.funcs c.func in let fs = m.program.funcs in let c0 = during c env scope held in
-        let v = value_of w (env site) in let x = slice_index words (site_slot s site) in
-        let g1 = temp_set m c0 calls w words h x v hh (omega arith) (site_word m c0 calls w words site fit.1.0 g) g in
-        let iv : IsOf int_type v = subst (λ t. IsOf t v) fit.1.1 (g.stack.0.types site fit.1.0) in
-        let ce = ex_code fs s e (h + 1) (pc + 1) in let i = Bin (operation o) (temp s h) (temp s h) (temp s (h + 1)) in let j = Move (site_slot s site) (temp s h) in
-        let has_o = back m.code c.fn (pc + 1) (size fs e) ce (i ∷ j ∷ []) (length_code fs s e (h + 1) (pc + 1)) has.1 in
-        turned m {lo1 = suc (suc (suc lo))} (omega arith) (read_of m _ _ _ (stepped m {lo = suc (suc lo)} {hi = 0} (Move (temp s h) (site_slot s site)) has.0.0 refl
-        (ev_follows m around inputs callees n cf e int_type (hold c0 (held ++ v ∷ [])) calls (Meaning.holding ws v) _ w (slice_set words (temp s h) x) (h + 1) (pc + 1) (suc (suc lo)) b le (one_more held v h hh) leads.panics (front m.code c.fn (pc + 1) ce (i ∷ j ∷ []) has.1) fit.2 (omega arith) reaches g1 (λ u w1 words1 iu g2.
-        later m {lo = suc (suc lo)} {hi = 1} {b = b} (omega arith) (omega arith) (omega arith)
-        (updated c calls at o site h ws env scope held v u k w1 words1 (pc + 1 + size fs e) lo b has_o.0.0 has_o.1.0.0 hh (omega arith) fit.1.0 fit.1.1 leads.panics (arithmetic_takes o fit.0) iv iu g2
-        (λ env1 w2 words2 g3. place_is m (let q : pc + (1 + size fs e + 2) ≡ pc + 1 + size fs e + 1 + 1 = omega arith in q) (post refl env1 w2 words2 g3)))))))
+        let v = value_of w (variable_of env p) in
+        let cr = read_code s p h in let ce = ex_code fs s e (h + 1) (pc + (far p + 1)) in let i = Bin (operation o) (temp s h) (temp s h) (temp s (h + 1)) in let cw = write_code s p (h + 1) h in
+        let has_e = back m.code c.fn pc (far p + 1) cr (ce ++ i ∷ cw) (length_read s p h) has in
+        let has_o = back m.code c.fn (pc + (far p + 1)) (size fs e) ce (i ∷ cw) (length_code fs s e (h + 1) (pc + (far p + 1))) has_e in
+        subst (λ (u : Trace). At m (numbers (c ∷ calls)) lo 0 b u pc words w)
+        (sym (aim_is around callees p ws env (λ a. Meaning.settle a (λ r. Meaning.read_part r.variable r.path (λ x. Meaning.ev around callees e (Meaning.holding ws x) env (λ y. Meaning.or_panic ws env at (binary_of o x y) (λ z. Meaning.write_part r.variable r.path z (k env)))))) w))
+        (turned m {lo1 = suc (suc (suc (suc (suc lo))))} (omega arith) (read_of m _ _ _
+        (fetched m c0 calls p int_type w words (numbers (c ∷ calls)) h pc (suc (suc (suc lo))) 0 b _ (front m.code c.fn pc cr (ce ++ i ∷ cw) has) fit.1 hh (omega arith) g (λ words1 iv g1.
+        ev_follows m around inputs callees n cf e int_type (hold c0 (held ++ v ∷ [])) calls (Meaning.holding ws v) _ w words1 (h + 1) (pc + (far p + 1)) (suc (suc (suc lo))) b le (one_more held v h hh) leads.panics (front m.code c.fn (pc + (far p + 1)) ce (i ∷ cw) has_e) fit.2 (omega arith) reaches g1 (λ u w1 words2 iu g2.
+        later m {lo = suc (suc (suc lo))} {hi = 1} {b = b} (omega arith) (omega arith) (omega arith)
+        (updated c calls at o p h ws env scope held v u k w1 words2 (pc + (far p + 1) + size fs e) lo b has_o.0.0 has_o.1 hh (omega arith) fit.1 leads.panics (arithmetic_takes o fit.0) iv iu g2
+        (λ env1 w2 words3 g3. place_is m (let r : pc + (far p + 1 + size fs e + 1 + (far p + 1)) ≡ pc + (far p + 1) + size fs e + 1 + (far p + 1) = omega arith in r) (post refl env1 w2 words3 g3))))))))
 
     pub bump_follows : (p : Pl) (o : BinOp) → Followed m c calls around callees n (bump p o)
-    bump_follows (local site itself) o ws env k w words held h looped outer scope q out again pc lo b le hh has fit enough reaches sc leads g post =
+    bump_follows p o ws env k w words held h looped outer scope q out again pc lo b le hh has fit enough reaches sc leads g post =
         let s = slots_of m.program.funcs c.func in let c0 = during c env scope held in
-        let v = value_of w (env site) in let x = slice_index words (site_slot s site) in
-        let words1 = slice_set words (temp s h) x in
-        let g1 = temp_set m c0 calls w words h x v hh (omega arith) (site_word m c0 calls w words site fit.1.0 g) g in
-        let g2 = temp_set m (hold c0 (held ++ v ∷ [])) calls w words1 (h + 1) 1 (int (pos 1)) (one_more held v h hh) (omega arith) refl g1 in
-        let iv : IsOf int_type v = subst (λ t. IsOf t v) fit.1.1 (g.stack.0.types site fit.1.0) in
-        turned m {lo1 = suc (suc (suc (suc lo)))} (omega arith) (read_of m _ _ _ (stepped m {lo = suc (suc (suc lo))} {hi = 1} (Move (temp s h) (site_slot s site)) has.0.0 refl
-        (stepped m {lo = suc (suc lo)} {hi = 1} (Const (temp s (h + 1)) 1) has.1.0.0 refl
-        (updated c calls Meaning.no_pos o site h ws env scope held v (int (pos 1)) k w (slice_set words1 (temp s (h + 1)) 1) (pc + 1 + 1) lo b has.1.1.0.0 has.1.1.1.0.0 hh (omega arith) fit.1.0 fit.1.1 leads.panics (step_takes o fit.0) iv refl g2
-        (λ env1 w2 words2 g3. place_is m (let q : pc + 4 ≡ pc + 1 + 1 + 1 + 1 = omega arith in q) (post refl env1 w2 words2 g3))))))
+        let v = value_of w (variable_of env p) in
+        let cr = read_code s p h in let i = Bin (operation o) (temp s h) (temp s h) (temp s (h + 1)) in let rest = Const (temp s (h + 1)) 1 ∷ (i ∷ write_code s p (h + 1) h) in
+        let has_c = back m.code c.fn pc (far p + 1) cr rest (length_read s p h) has in
+        subst (λ (u : Trace). At m (numbers (c ∷ calls)) lo 0 b u pc words w)
+        (sym (aim_is around callees p ws env (λ a. Meaning.settle a (λ r. Meaning.read_part r.variable r.path (λ x. Meaning.or_panic ws env Meaning.no_pos (binary_of o x (int (pos 1))) (λ z. Meaning.write_part r.variable r.path z (k env))))) w))
+        (turned m {lo1 = suc (suc (suc (suc (suc (suc lo)))))} (omega arith) (read_of m _ _ _
+        (fetched m c0 calls p int_type w words (numbers (c ∷ calls)) h pc (suc (suc (suc (suc lo)))) 1 b _ (front m.code c.fn pc cr rest has) fit.1 hh (omega arith) g (λ words1 iv g1.
+        stepped m {lo = suc (suc (suc lo))} {hi = 1} (Const (temp s (h + 1)) 1) has_c.0.0 (λ heap. refl)
+        (updated c calls Meaning.no_pos o p h ws env scope held v (int (pos 1)) k w (slice_set words1 (temp s (h + 1)) 1) (pc + (far p + 1) + 1) lo b has_c.1.0.0 has_c.1.1 hh (omega arith) fit.1 leads.panics (step_takes o fit.0) iv refl
+        (temp_set m (hold c0 (held ++ v ∷ [])) calls w words1 (h + 1) 1 (int (pos 1)) (one_more held v h hh) (omega arith) refl g1)
+        (λ env1 w2 words2 g3. place_is m (let r : pc + (far p + 1 + 2 + (far p + 1)) ≡ pc + (far p + 1) + 1 + 1 + (far p + 1) = omega arith in r) (post refl env1 w2 words2 g3)))))))
 
     pub discard_follows : (es : Exs) → Followed m c calls around callees n (discard es)
     discard_follows (results f es) ws env k w words held h looped outer scope q out again pc lo b le hh has fit enough reaches sc leads g post =
@@ -155,12 +155,12 @@ module _ (m : Built) where
 
     pub break_follows : Followed m c calls around callees n break_off
     break_follows ws env k w words held h looped outer scope q out again pc lo b le hh has fit enough reaches sc leads g post =
-        turned m {lo1 = suc lo} (omega arith) (stepped m {lo = lo} {hi = 0} (Jump out) has.0.0 refl
+        turned m {lo1 = suc lo} (omega arith) (stepped m {lo = lo} {hi = 0} (Jump out) has.0.0 (λ heap. refl)
         (leads.broken fit refl env w words (narrowed m (hold c held) env scope outer calls w words leads.around g)))
 
     pub continue_follows : Followed m c calls around callees n go_on
     continue_follows ws env k w words held h looped outer scope q out again pc lo b le hh has fit enough reaches sc leads g post =
-        turned m {lo1 = suc lo} (omega arith) (stepped m {lo = lo} {hi = 0} (Jump again) has.0.0 refl
+        turned m {lo1 = suc lo} (omega arith) (stepped m {lo = lo} {hi = 0} (Jump again) has.0.0 (λ heap. refl)
         (leads.continued fit env w words (narrowed m (hold c held) env scope outer calls w words leads.around g)))
 
     -- a return's values
@@ -194,25 +194,25 @@ module _ (m : Built) where
         showing line vs w1 words1 are has_l g1 (place_is m e (post refl env w1 words1 (fewer m (during c env scope held) calls w1 words1 held vs g1))))
       where
         showing : (line : Bool) (vs : List Value) (w1 : World) (words1 : List ℕ) → AreOf (piece_types ps) vs → Standing m.code c.fn (pc + pieces_size m.program.funcs ps) (show_code (slots_of m.program.funcs c.func) line ps h) → Good m (during c env scope (held ++ vs) ∷ calls) w1 words1
-            → At m (numbers (c ∷ calls)) lo 0 b (k env w1) (pc + pieces_size m.program.funcs ps + shown_size line ps) words1 w1.reads → At m (numbers (c ∷ calls)) lo 0 b (Meaning.emit line (texts around.strings ps vs) (k env) w1) (pc + pieces_size m.program.funcs ps) words1 w1.reads
+            → At m (numbers (c ∷ calls)) lo 0 b (k env w1) (pc + pieces_size m.program.funcs ps + shown_size line ps) words1 w1 → At m (numbers (c ∷ calls)) lo 0 b (Meaning.emit line (texts around.strings ps vs) (k env) w1) (pc + pieces_size m.program.funcs ps) words1 w1
         showing true vs w1 words1 are has_l g1 on = line_follows m around.strings strings ps vs held (held ++ vs) (k env) (during c env scope held) calls w1 words1 h (pc + pieces_size m.program.funcs ps) lo b are hh refl has_l g1 on
         showing false vs w1 words1 are has_l g1 on = plain_follows m around.strings strings ps vs held (held ++ vs) (k env) (during c env scope held) calls w1 words1 h (pc + pieces_size m.program.funcs ps) lo b are hh refl has_l g1 on
 
     -- a panic that a value is raised with
     raises : (at : Pos) (t : ℕ) (v : Value) (ws : Ways) (env : Env) (w : World) (words : List ℕ) (a pc lo b : ℕ) → Panics ws → slice_get m.code.instrs pc ≡ Some (raised_code t a) → IsOf t v → Stands v (slice_index words a)
-        → At m (numbers (c ∷ calls)) (suc lo) 1 b (ws.panicked at (raised v) env w) pc words w.reads
+        → At m (numbers (c ∷ calls)) (suc lo) 1 b (ws.panicked at (raised v) env w) pc words w
     raises at t (int z) ws env w words a pc lo b stops here typed stands =
-        subst (λ (u : Trace). At m (numbers (c ∷ calls)) (suc lo) 1 b u pc words w.reads) (sym (stops at (raised (int z)) env w))
-        (halted m {lo = lo} (PanicInt a) (Panic at (raised (int z))) (Panicked (Int (cast_signed w64 (slice_index words a)))) (here ∙ ap (λ u. Some (raised_code u a)) typed) (sym stands) refl)
+        subst (λ (u : Trace). At m (numbers (c ∷ calls)) (suc lo) 1 b u pc words w) (sym (stops at (raised (int z)) env w))
+        (halted m {lo = lo} (PanicInt a) (Panic at (raised (int z))) (Panicked (Int (cast_signed w64 (slice_index words a)))) (here ∙ ap (λ u. Some (raised_code u a)) typed) (sym stands) (λ heap. refl))
     raises at t (bool x) ws env w words a pc lo b stops here typed stands =
-        subst (λ (u : Trace). At m (numbers (c ∷ calls)) (suc lo) 1 b u pc words w.reads) (sym (stops at (raised (bool x)) env w))
-        (halted m {lo = lo} (PanicBool a) (Panic at (raised (bool x))) (Panicked (Truth (not (slice_index words a == 0)))) (here ∙ ap (λ u. Some (raised_code u a)) typed) (sym (ap (λ y. not (y == 0)) stands ∙ bit_tells x)) refl)
+        subst (λ (u : Trace). At m (numbers (c ∷ calls)) (suc lo) 1 b u pc words w) (sym (stops at (raised (bool x)) env w))
+        (halted m {lo = lo} (PanicBool a) (Panic at (raised (bool x))) (Panicked (Truth (not (slice_index words a == 0)))) (here ∙ ap (λ u. Some (raised_code u a)) typed) (sym (ap (λ y. not (y == 0)) stands ∙ bit_tells x)) (λ heap. refl))
 
     pub raise_follows : (at : Pos) (p : Piece) → Followed m c calls around callees n (raise at p)
     raise_follows at (text number) ws env k w words held h looped outer scope q out again pc lo b le hh has fit enough reaches sc leads g post =
         turned m {lo1 = suc lo} (omega arith)
-        (subst (λ (u : Trace). At m (numbers (c ∷ calls)) (suc lo) 1 b u pc words w.reads) (sym (leads.panics at (raised_text (get_or around.strings number [])) env w))
-        (halted m {lo = lo} (PanicText number) (Panic at (raised_text (get_or around.strings number []))) (Panicked (Text number)) has.0.0 (ap (λ ss. get_or ss number []) strings) refl))
+        (subst (λ (u : Trace). At m (numbers (c ∷ calls)) (suc lo) 1 b u pc words w) (sym (leads.panics at (raised_text (get_or around.strings number [])) env w))
+        (halted m {lo = lo} (PanicText number) (Panic at (raised_text (get_or around.strings number []))) (Panicked (Text number)) has.0.0 (ap (λ ss. get_or ss number []) strings) (λ heap. refl)))
     raise_follows at (shown t e) ws env k w words held h looped outer scope q out again pc lo b le hh has fit enough reaches sc leads g post =
         let s = slots_of m.program.funcs c.func in let fs = m.program.funcs in
         let ce = ex_code fs s e h pc in
@@ -222,17 +222,17 @@ module _ (m : Built) where
 
     -- an exit, with a status or with a panic
     quits : (at : Pos) (z : ℤ) (ws : Ways) (env : Env) (w : World) (words : List ℕ) (a pc lo b : ℕ) → Panics ws → slice_get m.code.instrs pc ≡ Some (ExitWith a) → cast_signed w64 (slice_index words a) ≡ z
-        → At m (numbers (c ∷ calls)) (suc lo) 1 b (Meaning.quit_with ws env at z w) pc words w.reads
+        → At m (numbers (c ∷ calls)) (suc lo) 1 b (Meaning.quit_with ws env at z w) pc words w
     quits at (pos z) ws env w words a pc lo b stops here stands = by (nat_lt z 126) refl
       where
-        by : (r : Bool) → nat_lt z 126 ≡ r → At m (numbers (c ∷ calls)) (suc lo) 1 b (Meaning.when r (Meaning.stop (Exit z)) (ws.panicked at (exit_code (pos z)) env) w) pc words w.reads
-        by true e = halted m {lo = lo} (ExitWith a) (Exit z) (Exited z) here refl (ap exits_with stands ∙ ap (λ r. if r then Stops [] (Exited z) else panics (ExitCode (pos z))) e)
+        by : (r : Bool) → nat_lt z 126 ≡ r → At m (numbers (c ∷ calls)) (suc lo) 1 b (Meaning.when r (Meaning.stop (Exit z)) (ws.panicked at (exit_code (pos z)) env) w) pc words w
+        by true e = halted m {lo = lo} (ExitWith a) (Exit z) (Exited z) here refl (λ heap. ap exits_with stands ∙ ap (λ r. if r then Stops [] (Exited z) else panics (ExitCode (pos z))) e)
         by false e =
-            subst (λ (u : Trace). At m (numbers (c ∷ calls)) (suc lo) 1 b u pc words w.reads) (sym (stops at (exit_code (pos z)) env w))
-            (halted m {lo = lo} (ExitWith a) (Panic at (exit_code (pos z))) (Panicked (ExitCode (pos z))) here refl (ap exits_with stands ∙ ap (λ r. if r then Stops [] (Exited z) else panics (ExitCode (pos z))) e))
+            subst (λ (u : Trace). At m (numbers (c ∷ calls)) (suc lo) 1 b u pc words w) (sym (stops at (exit_code (pos z)) env w))
+            (halted m {lo = lo} (ExitWith a) (Panic at (exit_code (pos z))) (Panicked (ExitCode (pos z))) here refl (λ heap. ap exits_with stands ∙ ap (λ r. if r then Stops [] (Exited z) else panics (ExitCode (pos z))) e))
     quits at (negsuc z) ws env w words a pc lo b stops here stands =
-        subst (λ (u : Trace). At m (numbers (c ∷ calls)) (suc lo) 1 b u pc words w.reads) (sym (stops at (exit_code (negsuc z)) env w))
-        (halted m {lo = lo} (ExitWith a) (Panic at (exit_code (negsuc z))) (Panicked (ExitCode (negsuc z))) here refl (ap exits_with stands))
+        subst (λ (u : Trace). At m (numbers (c ∷ calls)) (suc lo) 1 b u pc words w) (sym (stops at (exit_code (negsuc z)) env w))
+        (halted m {lo = lo} (ExitWith a) (Panic at (exit_code (negsuc z))) (Panicked (ExitCode (negsuc z))) here refl (λ heap. ap exits_with stands))
 
     pub quit_follows : (at : Pos) (e : Ex) → Followed m c calls around callees n (quit at e)
     quit_follows at e ws env k w words held h looped outer scope q out again pc lo b le hh has fit enough reaches sc leads g post =
@@ -243,6 +243,6 @@ module _ (m : Built) where
         turned m {lo1 = suc lo} (omega arith) (by v w1 words1 iv has_x.0.0 (held_word m (during c env scope held) calls w1 words1 held [] v h hh g1)))
       where
         by : (v : Value) (w1 : World) (words1 : List ℕ) → IsOf int_type v → slice_get m.code.instrs (pc + size m.program.funcs e) ≡ Some (ExitWith (temp (slots_of m.program.funcs c.func) h)) → Stands v (slice_index words1 (temp (slots_of m.program.funcs c.func) h))
-            → At m (numbers (c ∷ calls)) (suc lo) 1 b (Meaning.quit_with ws env at (Meaning.int_of v) w1) (pc + size m.program.funcs e) words1 w1.reads
+            → At m (numbers (c ∷ calls)) (suc lo) 1 b (Meaning.quit_with ws env at (Meaning.int_of v) w1) (pc + size m.program.funcs e) words1 w1
         by (int z) w1 words1 iv here stands = quits at z ws env w1 words1 (temp (slots_of m.program.funcs c.func) h) (pc + size m.program.funcs e) lo b leads.panics here stands
         by (bool x) w1 words1 iv here stands = absurd (omega arith)

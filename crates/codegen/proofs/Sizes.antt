@@ -4,8 +4,9 @@ use Rattle.std.specs.Prelude.{Option}
 use Rattle.isa.specs.declared.instr.Instr.{Instr}
 use Rattle.isa.specs.declared.instr.Instr.TheVariants.{Const, Bin, Call, Jump, JumpZero, Return, Exit}
 use Rattle.isa.specs.declared.instr.BinOp.TheVariants as Word
-use Rattle.typed.specs.Syntax.{Ex, Exs, Left, Piece, St, Sts, Func, constant, read, unary, binary, both, either, call, none, more, results, asked, blank, new, to, text, shown, over_int, declare, assign, update, bump, discard, block, choose, loop, range, break_off, go_on, give_back, print, raise, quit, done, next, argument_words, arguments_of, results_of}
-use Rattle.codegen.specs.Code.{Slots, temp, operation, unary_code, read_code, write_code, move_code, move_size, result_code, call_code, call_size, count_of, ex_code, exs_code, pieces_code, test_code, test_size, size, exs_size, pieces_size, raised_code, show_more, show_plain, show_code, more_size, shown_size, lefts_code, lefts_size, named_write_code, named_read_code, named_read_size, leave_code, leave_size, values_code, values_size, params_code, params_size, zeros_code, renew_code, renew_size, st_code, sts_code, st_size, sts_size, slots_of, entry_code, entry_size, func_code, func_size}
+use Rattle.typed.specs.Frames.{far}
+use Rattle.typed.specs.Syntax.{Ex, Exs, Pl, Left, Piece, St, Sts, Func, constant, read, unary, binary, both, either, call, local, global, none, more, results, asked, blank, new, to, text, shown, over_int, declare, assign, update, bump, discard, block, choose, loop, range, break_off, go_on, give_back, print, raise, quit, done, next, argument_words, arguments_of, results_of}
+use Rattle.codegen.specs.Code.{Slots, temp, operation, unary_code, address_code, fetch_code, land_code, read_code, write_code, move_code, move_size, result_code, call_code, call_size, count_of, ex_code, exs_code, pieces_code, test_code, test_size, size, exs_size, pieces_size, raised_code, show_more, show_plain, show_code, more_size, shown_size, lefts_code, lefts_size, named_write_code, named_read_code, named_read_size, leave_code, leave_size, values_code, values_size, params_code, params_size, zeros_code, renew_code, renew_size, st_code, sts_code, st_size, sts_size, slots_of, entry_code, entry_size, func_code, func_size}
 
 pub length_move : (n a b : ℕ) → length (move_code n a b) ≡ move_size n
 length_move zero a b = refl
@@ -15,11 +16,21 @@ pub length_result : (n a b : ℕ) → length (result_code n a b) ≡ move_size n
 length_result zero a b = refl
 length_result (suc n) a b = refl
 
-pub length_lefts : (s : Slots) (ls : List Left) (h : ℕ) → length (lefts_code s ls h) ≡ lefts_size ls
-length_lefts s [] h = refl
-length_lefts s (blank ∷ ls) h = length_lefts s ls (h + 1)
-length_lefts s (new site ∷ ls) h = ap suc (length_lefts s ls (h + 1))
-length_lefts s (to p ∷ ls) h = ap suc (length_lefts s ls (h + 1))
+pub length_address : (s : Slots) (p : Pl) (h : ℕ) → length (address_code s p h) ≡ far p
+length_address s (local site steps) h = refl
+length_address s (global g steps) h = refl
+
+pub length_read : (s : Slots) (p : Pl) (h : ℕ) → length (read_code s p h) ≡ far p + 1
+length_read s p h = let one : length (fetch_code s p h h ∷ []) ≡ 1 = refl in omega (arith, one, length-append (address_code s p h) (fetch_code s p h h ∷ []), length_address s p h)
+
+pub length_write : (s : Slots) (p : Pl) (at h : ℕ) → length (write_code s p at h) ≡ far p + 1
+length_write s p at h = let one : length (land_code s p at h ∷ []) ≡ 1 = refl in omega (arith, one, length-append (address_code s p at) (land_code s p at h ∷ []), length_address s p at)
+
+pub length_lefts : (s : Slots) (ls : List Left) (at h : ℕ) → length (lefts_code s ls at h) ≡ lefts_size ls
+length_lefts s [] at h = refl
+length_lefts s (blank ∷ ls) at h = length_lefts s ls at (h + 1)
+length_lefts s (new site ∷ ls) at h = ap suc (length_lefts s ls at (h + 1))
+length_lefts s (to p ∷ ls) at h = omega (arith, length-append (write_code s p at h) (lefts_code s ls at (h + 1)), length_write s p at h, length_lefts s ls at (h + 1))
 
 pub length_named_write : (s : Slots) (sites : List ℕ) (h : ℕ) → length (named_write_code s sites h) ≡ length sites
 length_named_write s [] h = refl
@@ -83,7 +94,7 @@ module _ (fs : List Func) where
   mutual
     pub length_code : (s : Slots) (e : Ex) (h pc : ℕ) → length (ex_code fs s e h pc) ≡ size fs e
     length_code s (constant v) h pc = refl
-    length_code s (read p) h pc = refl
+    length_code s (read p) h pc = length_read s p h
     length_code s (unary op a) h pc =
         omega (arith, length_last (ex_code fs s a h pc) (unary_code op (temp s h)), length_code s a h pc)
     length_code s (binary at o a b) h pc =
@@ -126,13 +137,16 @@ module _ (fs : List Func) where
     mutual
       pub length_st : (s : Slots) (t : St) (h out again pc : ℕ) → length (st_code fs arguments named s t h out again pc) ≡ st_size fs arguments named t
       length_st s (declare sites) h out again pc = length_zeros s sites
-      length_st s (assign ls es) h out again pc = omega (arith, length-append (exs_code fs s es h pc) (lefts_code s ls h), length_exs s es h pc, length_lefts s ls h)
+      length_st s (assign ls es) h out again pc = omega (arith, length-append (exs_code fs s es h pc) (lefts_code s ls (h + length ls) h), length_exs s es h pc, length_lefts s ls (h + length ls) h)
       length_st s (update at p o e) h out again pc =
-          let ce = ex_code fs s e (h + 1) (pc + 1) in let i = Bin (operation o) (temp s h) (temp s h) (temp s (h + 1)) in let w = write_code s p h in
-          let one : length (read_code s p h ∷ (ce ++ i ∷ w ∷ [])) ≡ suc (length (ce ++ i ∷ w ∷ [])) = refl in
-          let two : length (i ∷ w ∷ []) ≡ 2 = refl in
-          omega (arith, one, two, length-append ce (i ∷ w ∷ []), length_code s e (h + 1) (pc + 1))
-      length_st s (bump p o) h out again pc = refl
+          let ce = ex_code fs s e (h + 1) (pc + (far p + 1)) in let i = Bin (operation o) (temp s h) (temp s h) (temp s (h + 1)) in let w = write_code s p (h + 1) h in
+          let one : length (i ∷ w) ≡ suc (length w) = refl in
+          omega (arith, one, length-append (read_code s p h) (ce ++ i ∷ w), length_read s p h, length-append ce (i ∷ w), length_code s e (h + 1) (pc + (far p + 1)), length_write s p (h + 1) h)
+      length_st s (bump p o) h out again pc =
+          let w = write_code s p (h + 1) h in
+          let rest : List Instr = Const (temp s (h + 1)) 1 ∷ Bin (operation o) (temp s h) (temp s h) (temp s (h + 1)) ∷ w in
+          let two : length rest ≡ suc (suc (length w)) = refl in
+          omega (arith, two, length-append (read_code s p h) rest, length_read s p h, length_write s p (h + 1) h)
       length_st s (discard es) h out again pc = length_exs s es h pc
       length_st s (block ss) h out again pc = length_sts s ss h out again pc
       length_st s (choose e a b) h out again pc =
@@ -167,7 +181,7 @@ module _ (fs : List Func) where
           let turn = inside + sts_size fs arguments named body in
           let behind = turn + 3 in
           let ce = ex_code fs s e h pc in
-          let cl = lefts_code s (key ∷ []) (h + 1) in
+          let cl = lefts_code s (key ∷ []) (h + 2) (h + 1) in
           let cb = sts_code fs arguments named s body (h + 2) behind turn inside in
           let last : List Instr = Const (temp s (h + 2)) 1 ∷ Bin Word.Add (temp s (h + 1)) (temp s (h + 1)) (temp s (h + 2)) ∷ Jump test ∷ [] in
           let round : List Instr = Const (temp s (h + 1)) 0 ∷ Bin Word.Less (temp s (h + 2)) (temp s (h + 1)) (temp s h) ∷ JumpZero (temp s (h + 2)) behind ∷ (cl ++ (cb ++ last)) in
@@ -176,7 +190,7 @@ module _ (fs : List Func) where
           let whole : length (ce ++ round) ≡ length ce + length round = length-append ce round in
           let tail : length (cl ++ (cb ++ last)) ≡ length cl + length (cb ++ last) = length-append cl (cb ++ last) in
           let end : length (cb ++ last) ≡ length cb + length last = length-append cb last in
-          omega (arith, one, three, whole, tail, end, length_code s e h pc, length_lefts s (key ∷ []) (h + 1), length_sts s body (h + 2) behind turn inside)
+          omega (arith, one, three, whole, tail, end, length_code s e h pc, length_lefts s (key ∷ []) (h + 2) (h + 1), length_sts s body (h + 2) behind turn inside)
       length_st s break_off h out again pc = refl
       length_st s go_on h out again pc = refl
       length_st s (give_back es) h out again pc =

@@ -4,11 +4,11 @@ use Rattle.std.specs.Prelude.{Option, None, max, slice_get}
 use Rattle.std.proofs.lemmas.List.{length-map}
 use Rattle.std.proofs.lemmas.Option.{slice_get_within}
 use Rattle.typed.specs.Value.{int, bool}
-use Rattle.typed.specs.Syntax.{Ex, Exs, Left, Piece, St, Sts, Func, Program, constant, read, unary, binary, both, either, call, local, here, none, more, results, asked, blank, new, to, text, shown, over_int, declare, assign, update, bump, discard, block, choose, loop, range, break_off, go_on, give_back, print, raise, quit, done, next, int_type, bool_type, arguments_in, results_in, result_words, arguments_of, results_of}
-use Rattle.typed.specs.Form.{InScope, AllInScope, births, births_all, new_sites, scope_behind, scope_with, scope_after, SitesNext, LeftsFit, ExFits, ExsFit, TestFits, PiecesFit, ReturnFits, StFits, StsFit, ParamsFit, NamedFit, named_params, params_scope, scope_in, body_first, site_type, FuncFits, IsInForm}
-use Rattle.typed.specs.Frames.{need, need_all, need_pieces, reach, reach_all, reach_pieces, test_need, test_reach, renewal_need, named_need, st_need, sts_need, st_reach, sts_reach}
+use Rattle.typed.specs.Syntax.{Ex, Exs, Pl, Left, Piece, St, Sts, Func, Program, constant, read, unary, binary, both, either, call, local, global, here, none, more, results, asked, blank, new, to, text, shown, over_int, declare, assign, update, bump, discard, block, choose, loop, range, break_off, go_on, give_back, print, raise, quit, done, next, int_type, bool_type, arguments_in, results_in, result_words, arguments_of, results_of}
+use Rattle.typed.specs.Form.{PlFits, InScope, AllInScope, births, births_all, new_sites, scope_behind, scope_with, scope_after, SitesNext, LeftsFit, ExFits, ExsFit, TestFits, PiecesFit, ReturnFits, StFits, StsFit, ParamsFit, NamedFit, named_params, params_scope, scope_in, body_first, site_type, FuncFits, IsInForm}
+use Rattle.typed.specs.Frames.{far, left_far, lefts_far, behind_values, need, need_all, need_pieces, reach, reach_all, reach_pieces, test_need, test_reach, renewal_need, key_need, named_need, st_need, sts_need, st_reach, sts_reach}
 use Rattle.codegen.specs.Code.{Slots, count_of, slots_of}
-use Rattle.codegen.specs.Temps.{SiteFits, SitesFit, ParamsFitIn, LeftsFitIn, ValuesFit, RenewFits, CallFits, Fits, ExsFitIn, PiecesFitIn, TestFitsIn, StFitsIn, StsFitIn, FuncFitsIn}
+use Rattle.codegen.specs.Temps.{SiteFits, SitesFit, PlaceFits, AddressFits, ParamsFitIn, LeftsFitIn, ValuesFit, RenewFits, CallFits, Fits, ExsFitIn, PiecesFitIn, TestFitsIn, StFitsIn, StsFitIn, FuncFitsIn}
 
 -- the sites in scope are among the n of a frame
 abbrev pub Below : Slots → ℕ → List ℕ → Type 0
@@ -45,6 +45,24 @@ params_length p m (t ∷ ts) (Some site ∷ ps) f = ap suc (params_length p (suc
 params_length p m [] (None ∷ ps) f = absurd f
 params_length p m [] (Some site ∷ ps) f = absurd f
 params_length p m (t ∷ ts) [] f = absurd f
+
+pub lefts_length : (p : Program) (scope : List ℕ) (m e : ℕ) (ts : List ℕ) (ls : List Left) → LeftsFit p scope m e ts ls → length ts ≡ length ls
+lefts_length p scope m e [] [] f = refl
+lefts_length p scope m e [] (l ∷ ls) f = absurd f
+lefts_length p scope m e (t ∷ ts) [] f = absurd f
+lefts_length p scope m e (t ∷ ts) (blank ∷ ls) f = ap suc (lefts_length p scope m e ts ls f)
+lefts_length p scope m e (t ∷ ts) (new site ∷ ls) f = ap suc (lefts_length p scope (suc m) e ts ls f.3)
+lefts_length p scope m e (t ∷ ts) (to q ∷ ls) f = ap suc (lefts_length p scope m e ts ls f.1)
+
+-- an address behind values has a temp
+pub address_room : (temps h values far : ℕ) → h + values ≤ temps → h + behind_values values far ≤ temps → h + values + far ≤ temps
+address_room temps h values zero l k = omega arith
+address_room temps h values (suc far) l k = omega arith
+
+pub key_room : (fs : List Func) (temps h : ℕ) (key : Left) → h + (2 + key_need fs key) ≤ temps → h + 2 + left_far key ≤ temps
+key_room fs temps h blank l = omega arith
+key_room fs temps h (new site) l = omega arith
+key_room fs temps h (to q) l = omega arith
 
 module _ (p : Program) (form : IsInForm p) where
   abbrev fs : List Func
@@ -87,6 +105,14 @@ module _ (p : Program) (form : IsInForm p) where
   values_need scope (t ∷ ts) asked f = let two : length (t ∷ ts) ≡ 2 = ap length f in omega (arith, two)
 
   module _ (s : Slots) (n : ℕ) where
+    place_fits : (scope : List ℕ) (t : ℕ) (q : Pl) → Below s n scope → PlFits p scope t q → PlaceFits s n q
+    place_fits scope t (local v here) b f = b v f.0
+    place_fits scope t (global g here) b f = tt
+
+    address_fits : (at : ℕ) (q : Pl) → at + far q ≤ s.temps → AddressFits s.temps at q
+    address_fits at (local v here) l = tt
+    address_fits at (global g here) l = omega arith
+
     call_fits : (h f : ℕ) (func : Func) (scope : List ℕ) (es : Exs) → slice_get fs f ≡ Some func → ExsFit p scope func.param_types es → h + need_all fs es ≤ s.temps → h + results_of fs f ≤ s.temps → arguments_of fs f + results_of fs f ≤ s.outgoing → CallFits fs s n h f
     call_fits h f func scope es is fit l r o =
         let w : f < length fs = slice_get_within fs f func is in
@@ -96,7 +122,7 @@ module _ (p : Program) (form : IsInForm p) where
       ex_fits : (h : ℕ) (scope : List ℕ) (t : ℕ) (e : Ex) → Below s n scope → ExFits p scope t e → h + need fs e ≤ s.temps → reach fs e ≤ s.outgoing → Fits fs s n h e
       ex_fits h scope t (constant (int z)) b f l o = omega arith
       ex_fits h scope t (constant (bool c)) b f l o = omega arith
-      ex_fits h scope t (read (local v here)) b f l o = (omega arith, b v f.0)
+      ex_fits h scope t (read q) b f l o = (omega arith, place_fits scope t q b f)
       ex_fits h scope t (unary op e) b f l o = ((let k = some_need scope t e f.1 in omega arith), ex_fits h scope t e b f.1 l o)
       ex_fits h scope t (binary at op a c) b f l o =
           ((let k = some_need scope f.0 c f.3 in omega arith), ex_fits h scope f.0 a b f.2 (omega arith) (omega arith), ex_fits (h + 1) scope f.0 c b f.3 (omega arith) (omega arith))
@@ -129,25 +155,18 @@ module _ (p : Program) (form : IsInForm p) where
     test_fits h scope None b f l o = tt
     test_fits h scope (Some e) b f l o = ((let k = some_need scope bool_type e f in omega arith), ex_fits h scope bool_type e b f l o)
 
-    lefts_length : (scope : List ℕ) (m e : ℕ) (ts : List ℕ) (ls : List Left) → LeftsFit p scope m e ts ls → length ts ≡ length ls
-    lefts_length scope m e [] [] f = refl
-    lefts_length scope m e [] (l ∷ ls) f = absurd f
-    lefts_length scope m e (t ∷ ts) [] f = absurd f
-    lefts_length scope m e (t ∷ ts) (blank ∷ ls) f = ap suc (lefts_length scope m e ts ls f)
-    lefts_length scope m e (t ∷ ts) (new site ∷ ls) f = ap suc (lefts_length scope (suc m) e ts ls f.3)
-    lefts_length scope m e (t ∷ ts) (to q ∷ ls) f = ap suc (lefts_length scope m e ts ls f.1)
-
-    lefts_fit : (h : ℕ) (scope : List ℕ) (m : ℕ) (ts : List ℕ) (ls : List Left) → s.first ≤ m → Below s n scope → LeftsFit p scope m (s.first + n) ts ls → h + length ls ≤ s.temps → LeftsFitIn s n h ls
-    lefts_fit h scope m ts [] a b f l = tt
-    lefts_fit h scope m [] (left ∷ ls) a b f l = absurd f
-    lefts_fit h scope m (t ∷ ts) (blank ∷ ls) a b f l = (omega arith, lefts_fit (h + 1) scope m ts ls a b f (omega arith))
-    lefts_fit h scope m (t ∷ ts) (new site ∷ ls) a b f l =
-        (omega arith, ((let e = f.0 in omega (arith, e)), (let e = f.0 in let k = f.1 in omega (arith, e, k))), lefts_fit (h + 1) scope (suc m) ts ls (omega arith) b f.3 (omega arith))
-    lefts_fit h scope m (t ∷ ts) (to (local v here) ∷ ls) a b f l = (omega arith, b v f.0.0, lefts_fit (h + 1) scope m ts ls a b f.1 (omega arith))
+    lefts_fit : (at h : ℕ) (scope : List ℕ) (m : ℕ) (ts : List ℕ) (ls : List Left) → s.first ≤ m → Below s n scope → LeftsFit p scope m (s.first + n) ts ls → h + length ls ≤ s.temps → at + lefts_far ls ≤ s.temps → LeftsFitIn s n at h ls
+    lefts_fit at h scope m ts [] a b f l k = tt
+    lefts_fit at h scope m [] (left ∷ ls) a b f l k = absurd f
+    lefts_fit at h scope m (t ∷ ts) (blank ∷ ls) a b f l k = (omega arith, lefts_fit at (h + 1) scope m ts ls a b f (omega arith) (omega arith))
+    lefts_fit at h scope m (t ∷ ts) (new site ∷ ls) a b f l k =
+        (omega arith, ((let e = f.0 in omega (arith, e)), (let e = f.0 in let k = f.1 in omega (arith, e, k))), lefts_fit at (h + 1) scope (suc m) ts ls (omega arith) b f.3 (omega arith) (omega arith))
+    lefts_fit at h scope m (t ∷ ts) (to q ∷ ls) a b f l k =
+        (omega arith, place_fits scope t q b f.0, address_fits at q (omega arith), lefts_fit at (h + 1) scope m ts ls a b f.1 (omega arith) (omega arith))
 
     -- one left side
-    left_fits : (h : ℕ) (scope : List ℕ) (m t : ℕ) (left : Left) → s.first ≤ m → Below s n scope → LeftsFit p scope m (s.first + n) (t ∷ []) (left ∷ []) → h + 1 ≤ s.temps → LeftsFitIn s n h (left ∷ [])
-    left_fits h scope m t left a b f l = lefts_fit h scope m (t ∷ []) (left ∷ []) a b f l
+    left_fits : (at h : ℕ) (scope : List ℕ) (m t : ℕ) (left : Left) → s.first ≤ m → Below s n scope → LeftsFit p scope m (s.first + n) (t ∷ []) (left ∷ []) → h + 1 ≤ s.temps → at + left_far left ≤ s.temps → LeftsFitIn s n at h (left ∷ [])
+    left_fits at h scope m t left a b f l k = lefts_fit at h scope m (t ∷ []) (left ∷ []) a b f l (omega arith)
 
     below_behind : (m : ℕ) (scope inner ts : List ℕ) (ls : List Left) → s.first ≤ m → Below s n scope → LeftsFit p inner m (s.first + n) ts ls → Below s n (scope_behind scope ls)
     below_behind m scope inner ts [] a b f = b
@@ -204,10 +223,11 @@ module _ (p : Program) (form : IsInForm p) where
           st_fits : (looped : Bool) (h m : ℕ) (scope : List ℕ) (t : St) → s.first ≤ m → Below s n scope → StFits p wanted (length named) looped scope m (s.first + n) t → h + st_need fs (length named) t ≤ s.temps → st_reach fs t ≤ s.outgoing → StFitsIn fs s n (length wanted) named h t
           st_fits looped h m scope (declare sites) a b f k o = next_fit s n m sites a f
           st_fits looped h m scope (assign ls es) a b (ts, lefts, fit) k o =
-              (exs_fit h scope ts es b fit k o, lefts_fit h scope m ts ls a b lefts (omega (arith, lefts_length scope m (s.first + n) ts ls lefts, values_need scope ts es fit, k)))
-          st_fits looped h m scope (update at (local v here) op e) a b f k o =
-              ((let c = some_need scope int_type e f.2 in omega arith), b v f.1.0, ex_fits (h + 1) scope int_type e b f.2 (omega arith) o)
-          st_fits looped h m scope (bump (local v here) op) a b f k o = (omega arith, b v f.1.0)
+              let room : h + length ls ≤ s.temps = omega (arith, lefts_length p scope m (s.first + n) ts ls lefts, values_need scope ts es fit, k) in
+              (room, exs_fit h scope ts es b fit (omega arith) o, lefts_fit (h + length ls) h scope m ts ls a b lefts room (address_room s.temps h (length ls) (lefts_far ls) room (omega arith)))
+          st_fits looped h m scope (update at q op e) a b f k o =
+              ((let c = some_need scope int_type e f.2 in omega arith), place_fits scope int_type q b f.1, ex_fits (h + 1) scope int_type e b f.2 (omega arith) o)
+          st_fits looped h m scope (bump q op) a b f k o = (omega arith, place_fits scope int_type q b f.1)
           st_fits looped h m scope (discard (results g es)) a b (ts, fit) k o = exs_fit h scope ts (results g es) b fit k o
           st_fits looped h m scope (discard none) a b f k o = absurd f
           st_fits looped h m scope (discard (more e es)) a b f k o = absurd f
@@ -229,7 +249,7 @@ module _ (p : Program) (form : IsInForm p) where
           st_fits looped h m scope (range (over_int e) key blank body) a b f k o = (
             omega arith,
             ex_fits h scope int_type e b f.0 (omega arith) (omega arith),
-            left_fits (h + 1) scope m int_type key a b f.1 (omega arith),
+            left_fits (h + 2) (h + 1) scope m int_type key a b f.1 (omega arith) (key_room fs s.temps h key (omega arith)),
             sts_fit true (h + 2) (m + new_sites (key ∷ [])) (scope_behind scope (key ∷ [])) body (omega arith) (below_behind m scope scope (int_type ∷ []) (key ∷ []) a b f.1) f.2 (omega arith) (omega arith),
           )
           st_fits looped h m scope (range (over_int e) key (new site) body) a b f k o = absurd f

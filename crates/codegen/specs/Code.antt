@@ -7,15 +7,16 @@ use Rattle.isa.specs.declared.instr.BinOp.{BinOp}
 use Rattle.isa.specs.declared.instr.BinOp.TheVariants as Word
 use Rattle.isa.specs.declared.instr.UnOp.TheVariants as WordOne
 use Rattle.isa.specs.declared.instr.Instr.{Instr}
-use Rattle.isa.specs.declared.instr.Instr.TheVariants.{Const, Move, Bin, Un, Jump, JumpZero, MoveWords, Call, Argument, SetResults, ReadInt, PrintInt, PrintBool, PrintText, PrintSpace, PrintLine, Return, Exit, PanicText, PanicInt, PanicBool}
+use Rattle.isa.specs.declared.instr.Instr.TheVariants.{Const, Move, Bin, Un, Jump, JumpZero, MoveWords, Call, Argument, SetResults, Load, Store, ReadInt, PrintInt, PrintBool, PrintText, PrintSpace, PrintLine, Return, Exit, PanicText, PanicInt, PanicBool}
 use Rattle.isa.specs.declared.func.Func.{Func as Entry}
 use Rattle.typed.specs.declared.operators.BinOp.{BinOp as Operator}
 use Rattle.typed.specs.declared.operators.BinOp.TheVariants.{Add, Sub, Mul, Div, Rem, And, Or, Xor, AndNot, ShiftLeft, ShiftRight, Equal, NotEqual, Less, LessEqual, Greater, GreaterEqual}
 use Rattle.typed.specs.declared.operators.UnOp.{UnOp}
 use Rattle.typed.specs.declared.operators.UnOp.TheVariants as One
 use Rattle.typed.specs.Value.{Value, int, bool}
-use Rattle.typed.specs.Syntax.{Ex, Exs, Pl, Left, Piece, St, Sts, Func, Program, constant, read, unary, binary, both, either, call, local, none, more, results, asked, blank, new, to, text, shown, over_int, declare, assign, update, bump, discard, block, choose, loop, range, break_off, go_on, give_back, print, raise, quit, done, next, bool_type, argument_words, result_words, arguments_of, results_of}
-use Rattle.typed.specs.Frames.{outgoing_of, temps_of, frame_of}
+use Rattle.typed.specs.Syntax.{Ex, Exs, Pl, Left, Piece, St, Sts, Func, Program, constant, read, unary, binary, both, either, call, local, global, none, more, results, asked, blank, new, to, text, shown, over_int, declare, assign, update, bump, discard, block, choose, loop, range, break_off, go_on, give_back, print, raise, quit, done, next, bool_type, argument_words, result_words, arguments_of, results_of}
+use Rattle.typed.specs.Frames.{far, outgoing_of, temps_of, frame_of}
+use Rattle.heap_bump.specs.Words.{first_address}
 
 abbrev pub operation : Operator → BinOp
 operation Add = Word.Add
@@ -60,12 +61,31 @@ temp s h = s.outgoing + h
 abbrev pub site_slot : Slots → ℕ → ℕ
 site_slot s site = s.outgoing + s.temps + (site - s.first)
 
-abbrev pub read_code : Slots → Pl → ℕ → Instr
-read_code s (local site steps) h = Move (temp s h) (site_slot s site)
+-- package variables stand one behind the other from the heap's first word on
+abbrev pub global_address : ℕ → ℕ
+global_address g = first_address + g
 
--- a place gets the word of a temp
-abbrev pub write_code : Slots → Pl → ℕ → Instr
-write_code s (local site steps) h = Move (site_slot s site) (temp s h)
+-- the address of a place, where it is reached by one, goes to temp h
+abbrev pub address_code : Slots → Pl → (h : ℕ) → List Instr
+address_code s (local site steps) h = []
+address_code s (global g steps) h = Const (temp s h) (global_address g) ∷ []
+
+-- the word of a place goes to temp h; its address, if there is one, is in temp `at`
+abbrev pub fetch_code : Slots → Pl → (at h : ℕ) → Instr
+fetch_code s (local site steps) at h = Move (temp s h) (site_slot s site)
+fetch_code s (global g steps) at h = Load (temp s h) (temp s at) 0 1
+
+-- a place gets the word of temp h
+abbrev pub land_code : Slots → Pl → (at h : ℕ) → Instr
+land_code s (local site steps) at h = Move (site_slot s site) (temp s h)
+land_code s (global g steps) at h = Store (temp s at) 0 (temp s h) 1
+
+abbrev pub read_code : Slots → Pl → (h : ℕ) → List Instr
+read_code s p h = address_code s p h ++ fetch_code s p h h ∷ []
+
+-- temp `at` is free for the address
+abbrev pub write_code : Slots → Pl → (at h : ℕ) → List Instr
+write_code s p at h = address_code s p at ++ land_code s p at h ∷ []
 
 -- n words go from slots from b on to slots from a on
 abbrev pub move_code : (n a b : ℕ) → List Instr
@@ -110,18 +130,18 @@ abbrev pub show_code : Slots → Bool → List Piece → ℕ → List Instr
 show_code s true ps h = show_line s ps h
 show_code s false ps h = show_plain s ps h
 
--- left sides get the values in temps from h on
-abbrev pub lefts_code : Slots → List Left → ℕ → List Instr
-lefts_code s [] h = []
-lefts_code s (blank ∷ ls) h = lefts_code s ls (h + 1)
-lefts_code s (new site ∷ ls) h = Move (site_slot s site) (temp s h) ∷ lefts_code s ls (h + 1)
-lefts_code s (to p ∷ ls) h = write_code s p h ∷ lefts_code s ls (h + 1)
+-- left sides get the values in temps from h on; an address goes to temp `at`
+abbrev pub lefts_code : Slots → List Left → (at h : ℕ) → List Instr
+lefts_code s [] at h = []
+lefts_code s (blank ∷ ls) at h = lefts_code s ls at (h + 1)
+lefts_code s (new site ∷ ls) at h = Move (site_slot s site) (temp s h) ∷ lefts_code s ls at (h + 1)
+lefts_code s (to p ∷ ls) at h = write_code s p at h ++ lefts_code s ls at (h + 1)
 
 abbrev pub lefts_size : List Left → ℕ
 lefts_size [] = 0
 lefts_size (blank ∷ ls) = lefts_size ls
 lefts_size (new site ∷ ls) = suc (lefts_size ls)
-lefts_size (to p ∷ ls) = suc (lefts_size ls)
+lefts_size (to p ∷ ls) = far p + 1 + lefts_size ls
 
 -- results with names: they get the values in temps from h on, and are the results from incoming word i on
 abbrev pub named_write_code : Slots → List ℕ → (h : ℕ) → List Instr
@@ -206,7 +226,7 @@ module _ (fs : List Func) where
   abbrev mutual
     pub size : Ex → ℕ
     size (constant v) = 1
-    size (read p) = 1
+    size (read p) = far p + 1
     size (unary op a) = size a + 1
     size (binary at op a b) = size a + size b + 1
     size (both a b) = size a + 1 + size b
@@ -237,7 +257,7 @@ module _ (fs : List Func) where
   abbrev mutual
     pub ex_code : Slots → Ex → (h pc : ℕ) → List Instr
     ex_code s (constant v) h pc = Const (temp s h) (word_of v) ∷ []
-    ex_code s (read p) h pc = read_code s p h ∷ []
+    ex_code s (read p) h pc = read_code s p h
     ex_code s (unary op e) h pc = ex_code s e h pc ++ unary_code op (temp s h) ∷ []
     ex_code s (binary at op a b) h pc = ex_code s a h pc ++ (ex_code s b (h + 1) (pc + size a) ++ Bin (operation op) (temp s h) (temp s h) (temp s (h + 1)) ∷ [])
     ex_code s (both a b) h pc = ex_code s a h pc ++ JumpZero (temp s h) (pc + size a + 1 + size b) ∷ ex_code s b h (pc + size a + 1)
@@ -266,8 +286,8 @@ module _ (fs : List Func) where
       pub st_size : St → ℕ
       st_size (declare sites) = length sites
       st_size (assign ls es) = exs_size es + lefts_size ls
-      st_size (update at p op e) = 1 + size e + 2
-      st_size (bump p op) = 4
+      st_size (update at p op e) = far p + 1 + size e + 1 + (far p + 1)
+      st_size (bump p op) = far p + 1 + 2 + (far p + 1)
       st_size (discard es) = exs_size es
       st_size (block ss) = sts_size ss
       st_size (choose e a b) = size e + 1 + sts_size a + 1 + sts_size b
@@ -289,11 +309,11 @@ module _ (fs : List Func) where
     abbrev mutual
       pub st_code : Slots → St → (h out again pc : ℕ) → List Instr
       st_code s (declare sites) h out again pc = zeros_code s sites
-      st_code s (assign ls es) h out again pc = exs_code s es h pc ++ lefts_code s ls h
+      st_code s (assign ls es) h out again pc = exs_code s es h pc ++ lefts_code s ls (h + length ls) h
       st_code s (update at p op e) h out again pc =
-          read_code s p h ∷ (ex_code s e (h + 1) (pc + 1) ++ Bin (operation op) (temp s h) (temp s h) (temp s (h + 1)) ∷ write_code s p h ∷ [])
+          read_code s p h ++ (ex_code s e (h + 1) (pc + (far p + 1)) ++ Bin (operation op) (temp s h) (temp s h) (temp s (h + 1)) ∷ write_code s p (h + 1) h)
       st_code s (bump p op) h out again pc =
-          read_code s p h ∷ Const (temp s (h + 1)) 1 ∷ Bin (operation op) (temp s h) (temp s h) (temp s (h + 1)) ∷ write_code s p h ∷ []
+          read_code s p h ++ (Const (temp s (h + 1)) 1 ∷ Bin (operation op) (temp s h) (temp s h) (temp s (h + 1)) ∷ write_code s p (h + 1) h)
       st_code s (discard es) h out again pc = exs_code s es h pc
       st_code s (block ss) h out again pc = sts_code s ss h out again pc
       st_code s (choose e a b) h out again pc =
@@ -315,7 +335,7 @@ module _ (fs : List Func) where
           ++ (Const (temp s (h + 1)) 0
           ∷ (Bin Word.Less (temp s (h + 2)) (temp s (h + 1)) (temp s h)
           ∷ (JumpZero (temp s (h + 2)) behind
-          ∷ (lefts_code s (key ∷ []) (h + 1)
+          ∷ (lefts_code s (key ∷ []) (h + 2) (h + 1)
           ++ (sts_code s body (h + 2) behind turn inside
           ++ (Const (temp s (h + 2)) 1 ∷ Bin Word.Add (temp s (h + 1)) (temp s (h + 1)) (temp s (h + 2)) ∷ Jump test ∷ []))))))
       st_code s break_off h out again pc = Jump out ∷ []

@@ -1,6 +1,6 @@
 -- That the slots of a frame suffice.
 use Rattle.std.specs.Prelude.{ℕ, zero, suc, ◌+◌, ◌<◌, ◌≤◌, List, [], ◌∷◌, Option, Some, None, length}
-use Rattle.typed.specs.Syntax.{Ex, Exs, Pl, Left, Piece, St, Sts, Func, constant, read, unary, binary, both, either, call, local, none, more, results, asked, blank, new, to, text, shown, over_int, declare, assign, update, bump, discard, block, choose, loop, range, break_off, go_on, give_back, print, raise, quit, done, next, argument_words, result_words, arguments_of, results_of}
+use Rattle.typed.specs.Syntax.{Ex, Exs, Pl, Left, Piece, St, Sts, Func, constant, read, unary, binary, both, either, call, local, global, none, more, results, asked, blank, new, to, text, shown, over_int, declare, assign, update, bump, discard, block, choose, loop, range, break_off, go_on, give_back, print, raise, quit, done, next, argument_words, result_words, arguments_of, results_of}
 use Rattle.codegen.specs.Code.{Slots, count_of, slots_of}
 
 -- the site is among the n of a frame
@@ -9,6 +9,12 @@ SiteFits s n site = (s.first ≤ site) × (site < s.first + n)
 
 abbrev pub PlaceFits : Slots → (n : ℕ) → Pl → Type 0
 PlaceFits s n (local site steps) = SiteFits s n site
+PlaceFits s n (global g steps) = Unit {0}
+
+-- there is a temp for the address of a place, if it has one
+abbrev pub AddressFits : (temps at : ℕ) → Pl → Type 0
+AddressFits temps at (local site steps) = Unit {0}
+AddressFits temps at (global g steps) = at < temps
 
 abbrev pub SitesFit : Slots → (n : ℕ) → List ℕ → Type 0
 SitesFit s n [] = Unit {0}
@@ -19,12 +25,12 @@ ParamsFitIn s n [] = Unit {0}
 ParamsFitIn s n (None ∷ ps) = ParamsFitIn s n ps
 ParamsFitIn s n (Some site ∷ ps) = SiteFits s n site × ParamsFitIn s n ps
 
--- left sides, and the temps from h on whose words they get
-abbrev pub LeftsFitIn : Slots → (n h : ℕ) → List Left → Type 0
-LeftsFitIn s n h [] = Unit {0}
-LeftsFitIn s n h (blank ∷ ls) = (h < s.temps) × LeftsFitIn s n (h + 1) ls
-LeftsFitIn s n h (new site ∷ ls) = (h < s.temps) × SiteFits s n site × LeftsFitIn s n (h + 1) ls
-LeftsFitIn s n h (to p ∷ ls) = (h < s.temps) × PlaceFits s n p × LeftsFitIn s n (h + 1) ls
+-- left sides, the temps from h on whose words they get, and the one for an address
+abbrev pub LeftsFitIn : Slots → (n at h : ℕ) → List Left → Type 0
+LeftsFitIn s n at h [] = Unit {0}
+LeftsFitIn s n at h (blank ∷ ls) = (h < s.temps) × LeftsFitIn s n at (h + 1) ls
+LeftsFitIn s n at h (new site ∷ ls) = (h < s.temps) × SiteFits s n site × LeftsFitIn s n at (h + 1) ls
+LeftsFitIn s n at h (to p ∷ ls) = (h < s.temps) × PlaceFits s n p × AddressFits s.temps at p × LeftsFitIn s n at (h + 1) ls
 
 -- n values in temps from h on, for so many results with these names or none; these are moved through temp 0
 abbrev pub ValuesFit : (temps wanted h n : ℕ) → List ℕ → Type 0
@@ -73,14 +79,14 @@ module _ (fs : List Func) (s : Slots) (n : ℕ) where
     abbrev mutual
       pub StFitsIn : (h : ℕ) → St → Type 0
       StFitsIn h (declare sites) = SitesFit s n sites
-      StFitsIn h (assign ls es) = ExsFitIn h es × LeftsFitIn s n h ls
+      StFitsIn h (assign ls es) = (h + length ls ≤ s.temps) × ExsFitIn h es × LeftsFitIn s n (h + length ls) h ls
       StFitsIn h (update at p op e) = (h + 1 < s.temps) × PlaceFits s n p × Fits (h + 1) e
       StFitsIn h (bump p op) = (h + 1 < s.temps) × PlaceFits s n p
       StFitsIn h (discard es) = ExsFitIn h es
       StFitsIn h (block ss) = StsFitIn h ss
       StFitsIn h (choose e a b) = (h < s.temps) × Fits h e × StsFitIn h a × StsFitIn h b
       StFitsIn h (loop sites test post body) = TestFitsIn h test × SitesFit s n sites × RenewFits s.temps h sites × StsFitIn h post × StsFitIn h body
-      StFitsIn h (range (over_int e) key value body) = (h + 2 < s.temps) × Fits h e × LeftsFitIn s n (h + 1) (key ∷ []) × StsFitIn (h + 2) body
+      StFitsIn h (range (over_int e) key value body) = (h + 2 < s.temps) × Fits h e × LeftsFitIn s n (h + 2) (h + 1) (key ∷ []) × StsFitIn (h + 2) body
       StFitsIn h break_off = Unit {0}
       StFitsIn h go_on = Unit {0}
       StFitsIn h (give_back es) = ExsFitIn h es × ValuesFit s.temps wanted h (count_of fs es) named

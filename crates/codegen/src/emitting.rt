@@ -43,8 +43,8 @@ fn emit_stmt(
     match s {
         Stmt::Declare(sites) => emit_zeros(code, frame, sites)?,
         Stmt::Assign(ls, values) => emit_assign(code, funcs, frame, ls, values, h)?,
-        Stmt::Update(_, site, op, e) => emit_update(code, funcs, frame, *site, *op, e, h)?,
-        Stmt::Bump(site, op) => emit_bump(code, frame, *site, *op, h)?,
+        Stmt::Update(_, place, op, e) => emit_update(code, funcs, frame, *place, *op, e, h)?,
+        Stmt::Bump(place, op) => emit_bump(code, frame, *place, *op, h)?,
         Stmt::Discard(values) => emit_values(code, funcs, frame, values, h)?,
         Stmt::Block(ss) => emit_stmts(code, funcs, frame, func, ss, h, goals)?,
         Stmt::If(e, a, b) => {

@@ -3,6 +3,7 @@ ghost use Rattle.std.specs.Prelude.{◌≡◌, ◌+◌, IfOk, map};
 ghost use Rattle.typed.specs.View.{ex_of, exs_of, exs_of_values, func_of, test_of};
 ghost use Rattle.codegen.specs.Code.{call_size, count_of, exs_size, move_size, size, test_size};
 
+use crate::reaching::address_len;
 use base::{FuncId, NoMemory};
 use frame_layout::{arguments_of, results_of};
 use typed::{Expr, Func, Values};
@@ -47,7 +48,7 @@ pub fn expr_len(funcs: &[Func], e: &Expr) -> Result<u32, NoMemory>
 {
     match e {
         Expr::Constant(_) => Ok(1),
-        Expr::Local(_) => Ok(1),
+        Expr::Read(place) => Ok(address_len(*place) + 1),
         Expr::Unary(_, a) => {
             let n = expr_len(funcs, a)?;
             plus(n, 1)

@@ -145,12 +145,12 @@ pub fn emit_count_test(
     out: u32,
 ) -> Result<(), NoMemory>
     requires temps { h + 2 < frame.temps }
-    requires key { LeftsFitIn (slots_in frame) frame.sites (h + 1) (left_of key ∷ []) }
+    requires key { LeftsFitIn (slots_in frame) frame.sites (h + 2) (h + 1) (left_of key ∷ []) }
     requires frame { IsSmall frame }
     ensures { OnOk result (code.new.items ≡ code.old.items
         ++ Instr.Bin BinOp.Less (temp (slots_in frame) (h + 2)) (temp (slots_in frame) (h + 1)) (temp (slots_in frame) h)
         ∷ Instr.JumpZero (temp (slots_in frame) (h + 2)) out
-        ∷ lefts_code (slots_in frame) (left_of key ∷ []) (h + 1)) }
+        ∷ lefts_code (slots_in frame) (left_of key ∷ []) (h + 2) (h + 1)) }
 {
     let (number, index, below) = (frame.temp(h), frame.temp(h + 1), frame.temp(h + 2));
     let op = isa::BinOp::Less;
@@ -164,7 +164,7 @@ pub fn emit_count_test(
         },
     )?;
     put(code, Instr::JumpZero { a: below, to: out })?;
-    emit_left(code, frame, key, h + 1)?;
+    emit_left(code, frame, key, h + 2, h + 1)?;
     Ok(())
 }
 

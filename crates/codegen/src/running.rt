@@ -2,18 +2,20 @@
 ghost use Rattle.std.specs.Prelude.{◌≡◌, ◌/◌, ◌<◌, ◌≤◌, ◌^◌, length, slice_get, Some, Err};
 ghost use Rattle.machine.specs.Inside.{Inside};
 ghost use Rattle.machine.specs.Answers.{StatusFits};
-ghost use Rattle.typed.specs.Syntax.{Program};
+ghost use Rattle.typed.specs.View.{program_of};
 ghost use Rattle.meaning.specs.Output.{source};
 ghost use Rattle.outside.specs.Causes.{Rose};
 ghost use Rattle.codegen.specs.Correct.{Simulated, Ran, ReadBy, answer_to, limits};
 ghost use Rattle.codegen.specs.declared.running.RunFault.{RunFault};
 
+use crate::beginning::first_heap;
 use base::FuncId;
 use isa::Code;
 use machine::{Ending, Panic, Place};
 use outside::{IntReader, Sink, Source};
 use std::alloc::{AllocError, Global};
 use thiserror::Error;
+use typed::Program;
 
 /// Why a program's run did not come to its end.
 #[derive(Clone, Copy, Debug, PartialEq, Eq, Error)]
@@ -36,6 +38,9 @@ pub enum RunFault {
     /// A frame would have passed the limit of the stack: the words in use, those asked for, and the limit.
     #[error("stack used {used} asked {asked} limit {limit}")]
     StackLimit { used: u64, asked: u64, limit: u64 },
+    /// The package variables would have passed the limit of the heap: the words taken, those asked for, and the limit.
+    #[error("heap used {used} asked {asked} limit {limit}")]
+    HeapLimit { used: u64, asked: u64, limit: u64 },
 }
 
 impl From<AllocError> for RunFault {
@@ -65,6 +70,11 @@ fn answer(ending: Option<Ending>) -> Result<u8, RunFault>
             asked,
             limit,
         }),
+        Some(Ending::HeapLimit { used, asked, limit }) => Err(RunFault::HeapLimit {
+            used,
+            asked,
+            limit,
+        }),
         Some(Ending::WildAddress(_)) => Err(RunFault::Steps),
         Some(Ending::WildReturn(_)) => Err(RunFault::Steps),
         Some(Ending::WildLink(_)) => Err(RunFault::Steps),
@@ -82,28 +92,31 @@ fn entry(code: &Code, main: FuncId) -> isa::Func
     code.funcs()[main.0 as usize]
 }
 
-/// Runs the code of a program from the entry of its function `main`, for at most so many steps and with a stack of at most
-/// so many words. The program reads its input through a buffer of its own. The answer is the status that the program ended
-/// with.
+/// Runs the code of a program from the entry of its function `main`, for at most so many steps and with a stack and a heap
+/// of at most so many words. The package variables are put into the heap before. The program reads its input through a
+/// buffer of its own. The answer is the status that the program ended with.
 pub fn run<I: Source, O: Sink>(
     alloc: Global,
+    program: &Program,
     code: &Code,
-    main: FuncId,
     stack_max: u64,
+    heap_max: u64,
     steps: u64,
     input: &mut I,
     out: &mut O,
 ) -> Result<u8, RunFault>
-    requires main { main.0 < length code.now.funcs }
+    requires main { program.now.main.0 < length code.now.funcs }
     requires stack { stack_max ≤ 2 ^ 32 }
+    requires heap { heap_max ≤ 2 ^ 32 }
     requires small { length code.now.instrs < 2 ^ 40 }
-    ensures runs { ReadBy result (I.left input.old) (input.new ≡ input.old) (λ items answered. (p : Program) → p.main ≡ main.0 → Simulated p code.now
-        → Ran p.strings (source items p (limits p stack_max) (steps / 16)) (source items p (limits p stack_max) steps) result answered
+    ensures runs { let p = program_of program.now in ReadBy result (I.left input.old) (input.new ≡ input.old) (λ items answered. Simulated p code.now
+        → Ran p.strings (source items p (limits p stack_max heap_max) (steps / 16)) (source items p (limits p stack_max heap_max) steps) result answered
         (O.taken out.old) (O.taken out.new) (O.faults out.old) (O.faults out.new)) }
     ensures source_later { I.faults input.old ≤ I.faults input.new }
     ensures read_fault { result ≡ Err RunFault.ReadFault → Rose (I.faults input.old) (I.faults input.new) }
 {
-    let first = entry(code, main);
+    let mut heap = first_heap(alloc, &program.globals, heap_max)?;
+    let first = entry(code, program.main);
     let asked = first.frame as u64;
     if asked > stack_max {
         return Err(RunFault::StackLimit {
@@ -123,6 +136,7 @@ pub fn run<I: Source, O: Sink>(
         code,
         &mut words,
         stack_max,
+        &mut heap,
         at,
         &mut reader,
         input,

@@ -1,14 +1,16 @@
 //! The numbers of instructions of statements.
 ghost use Rattle.std.specs.Prelude.{◌≡◌, ◌+◌, ◌≤◌, IfOk, ◌∷◌, [], map};
 ghost use Rattle.typed.specs.Syntax.{argument_words};
-ghost use Rattle.typed.specs.View.{ex_of, exs_of_values, func_of, left_of, piece_of, site_numbers, st_of, sts_of, test_of};
+ghost use Rattle.typed.specs.View.{ex_of, exs_of_values, func_of, left_of, piece_of, place_of, site_numbers, st_of, sts_of, test_of};
+ghost use Rattle.typed.specs.Frames.{far};
 ghost use Rattle.codegen.specs.Code.{count_of, exs_size, leave_size, lefts_size, piece_size, pieces_size, renew_size, shown_size, size, st_size, sts_size, test_size, values_size};
 
 use crate::lengths::{count, expr_len, last_len, move_len, number, plus, test_len, values_len};
+use crate::reaching::address_len;
 use base::{NoMemory, SiteId};
-use typed::{Expr, Func, Left, Piece, Stmt, Values};
+use typed::{Expr, Func, Left, Piece, Place, Stmt, Values};
 
-/// A bump: a read, a constant, the operation and a write.
+/// A bump: a read, a constant, the operation and a write, without their addresses.
 const BUMP: u32 = 4;
 
 /// `range`: what stands before its test, and the test with its jump.
@@ -75,7 +77,7 @@ fn lefts_len(ls: &[Left]) -> Result<u32, NoMemory>
         match left {
             Left::Blank => {}
             Left::New(_) => total = plus(total, 1)?,
-            Left::To(_) => total = plus(total, 1)?,
+            Left::To(place) => total = plus(total, address_len(*place) + 1)?,
         }
     }
     Ok(total)
@@ -89,12 +91,12 @@ fn assign_len(funcs: &[Func], ls: &[Left], values: &Values) -> Result<u32, NoMem
     plus(m, n)
 }
 
-// A read stands before the operand, the operation and a write behind it.
-fn update_len(funcs: &[Func], e: &Expr) -> Result<u32, NoMemory>
-    ensures { IfOk result (λ n. n ≡ 1 + size (map func_of funcs.now) (ex_of e.now) + 2) }
+// A read stands before the operand, the operation and a write behind it, each with an address, if there is one.
+fn update_len(funcs: &[Func], place: Place, e: &Expr) -> Result<u32, NoMemory>
+    ensures { IfOk result (λ n. n ≡ far (place_of place) + 1 + size (map func_of funcs.now) (ex_of e.now) + 1 + (far (place_of place) + 1)) }
 {
     let n = expr_len(funcs, e)?;
-    plus(n, 3)
+    plus(n, 2 * address_len(place) + 3)
 }
 
 // So many values become the results, which have these names or none.
@@ -171,12 +173,12 @@ fn loop_len(
 /// The write of a round's index.
 pub fn key_len(key: Left) -> u32
     ensures len { result ≡ lefts_size (left_of key ∷ []) }
-    ensures few { result ≤ 1 }
+    ensures few { result ≤ 2 }
 {
     match key {
         Left::Blank => 0,
         Left::New(_) => 1,
-        Left::To(_) => 1,
+        Left::To(place) => address_len(place) + 1,
     }
 }
 
@@ -198,8 +200,8 @@ fn stmt_len(funcs: &[Func], func: &Func, s: &Stmt) -> Result<u32, NoMemory>
     match s {
         Stmt::Declare(sites) => number(sites.len()),
         Stmt::Assign(ls, values) => assign_len(funcs, ls, values),
-        Stmt::Update(_, _, _, e) => update_len(funcs, e),
-        Stmt::Bump(_, _) => Ok(BUMP),
+        Stmt::Update(_, place, _, e) => update_len(funcs, *place, e),
+        Stmt::Bump(place, _) => Ok(2 * address_len(*place) + BUMP),
         Stmt::Discard(values) => values_len(funcs, values),
         Stmt::Block(ss) => stmts_len(funcs, func, ss),
         Stmt::If(e, a, b) => {

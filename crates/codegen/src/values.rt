@@ -8,6 +8,7 @@ ghost use Rattle.codegen.specs.Code.{call_code, ex_code, exs_code, move_code, op
 
 use crate::jumps::{jump, jump_if_zero, put};
 use crate::lengths::expr_len;
+use crate::reaching::emit_read;
 use crate::slots::Frame;
 use base::{FuncId, NoMemory};
 use frame_layout::{arguments_of, results_of};
@@ -39,7 +40,8 @@ pub fn operation(op: BinOp) -> isa::BinOp
     }
 }
 
-fn word(c: Const) -> u64
+/// The word of a constant.
+pub fn word(c: Const) -> u64
     ensures { result ≡ word_of (value_of c) }
 {
     match c {
@@ -177,9 +179,8 @@ pub fn emit_expr(
             let (a, word) = (frame.temp(h), word(*c));
             put(code, Instr::Const { a, word })?;
         }
-        Expr::Local(site) => {
-            let (a, b) = (frame.temp(h), frame.of_site(*site));
-            put(code, Instr::Move { a, b })?;
+        Expr::Read(place) => {
+            emit_read(code, frame, *place, h)?;
         }
         Expr::Unary(op, a) => {
             let a: &Expr = a;

@@ -39,7 +39,8 @@ const FAULTS: &str = "
 2:6 kind 19 => func f(); func main() { f() }
 2:20 kind 20 => func main() { x := \"a\" }
 2:31 kind 20 => func main() { a := 1; println(a[0]) }
-2:1 kind 20 => var v = 1; func main() { v = 2 }
+2:9 kind 20 => var v = f(); func f() int { return 1 }; func main() { }
+2:5 kind 15 => var v = c; const c = v; func main() { v = 2 }
 2:28 kind 22 => func main() { a := 1; a %= 0 }
 ";
 
@@ -59,6 +60,7 @@ func main() { if a := 1; a == 1 { } else if b := a; b > 2 { panic(b) } }
 func f(a, b bool) (c bool, d int) { c = a && !b; d = 1 << 3; return }; func main() { a, b := f(true, 1 < 2); println(a, b) }
 func f(n int) int { for { if n > 0 { return n }; n++ } }; func g() bool { panic(true) }; func main() { println(f(-1), g()) }
 const true, len = 1, 2; func print(int int) int { return int }; func main() { string, _ := true, len; println(print(string)) }
+var v, w = 1 << 3, c; const c = !true; func main() { v, w = v + 1, v == 2; println(v, w) }
 const a = b + 1; const (b int = 1 << 3; c = a > b); func main() { for i, _ := range a { if c { println(i, 1 << 100 >> 98) } } }
 func f(n int) { if n > 0 { main() } }; func main() { f(0) }
 func exit(code int); func readInt() (int, bool); func main() { n, ok := readInt(); println(\"n\", n, ok); if !ok { panic(\"none\") }; exit(n) }

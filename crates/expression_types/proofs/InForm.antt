@@ -1,6 +1,6 @@
 -- What expressions give is in form: what they read is in scope and has its type, constants are words, and operators and calls have operands
 -- of the types that they take.
-use Rattle.std.proofs.Common.{◌≡◌, ℕ, ◌^◌, ℤ, pos, Bool, true, false, cond, List, [], ◌∷◌, Option, Some, None, Result, refl, sym, ap, ◌∙◌, subst, arith, length}
+use Rattle.std.proofs.Common.{◌≡◌, ◌<◌, ℕ, ◌^◌, ℤ, pos, Bool, true, false, cond, List, [], ◌∷◌, Option, Some, None, Result, refl, sym, ap, ◌∙◌, subst, arith, length}
 use Rattle.std.specs.Prelude.{option_and_then, nat_lt, nat_le, slice_get, ◌==◌, ◌&&◌}
 use Rattle.std.specs.Option.{option_map}
 use Rattle.std.proofs.lemmas.Int.{ints as int_lemmas}
@@ -24,7 +24,7 @@ use Rattle.typed.specs.declared.program.Site.{Site}
 use Rattle.typed.specs.Value.{int}
 use Rattle.typed.specs.Syntax.{Ex, Exs, Func, Program, more, none, int_type, bool_type}
 use Rattle.typed.specs.Syntax as typed
-use Rattle.typed.specs.Form.{InScope, IsWord, TakesOne, site_type, ExFits, ExsFit}
+use Rattle.typed.specs.Form.{InScope, IsWord, TakesOne, site_type, global_type, ExFits, ExsFit}
 use Rattle.value_types.specs.declared.constant.Constant.{Constant}
 use Rattle.value_types.specs.declared.constant.Constant.TheVariants.{Number, Truth}
 use Rattle.value_types.specs.declared.constant.Fixed.{Fixed}
@@ -40,21 +40,29 @@ use Rattle.operators.specs.Operands.{Operand, constant, value, type_of, constant
 use Rattle.operators.specs.Operators.{joint_type, converts, worked_out, has_rules, takes_one, prefix_of, prefixed, takes, result_type, right_allowed, arithmetic_of, compare_of, typed_pair, both_values, value_pair, combined}
 use Rattle.operators.proofs.Held.{AreHeld, held_type, constant_is}
 use Rattle.names.specs.declared.scope.Declared.{Declared}
+use Rattle.names.specs.declared.scope.ValueId.{ValueId}
+use Rattle.names.specs.declared.scope.GlobalId.{GlobalId}
 use Rattle.names.specs.declared.scope.Declared.TheVariants as declared
 use Rattle.names.specs.declared.scope.External.TheVariants.{ReadInt, Exit}
 use Rattle.names.specs.Scope.{Scope, Signature, type_number, type_numbers, declaration, signature, fixed}
 use Rattle.names.specs.Naming.{name_in}
-use Rattle.expression_types.specs.Typing.{Part, said, valued, Gives, one, called, asking, quoted, printed, panicked, exited, name_operand, prefix_gives, pair_gives, single, operand_in, value_in, as_part, part_in, Seen, values, parts, type_in_one, single_types, Many, many_in, many, types_with, value_types, accepts, types_agree, operand_agrees, values_agree, each, fits_with, fits, all_values, taken, asked, Callee, printer, panicker, reader, exiter, function, conversion, no_function, no_spread, no_text_spread, nothing, function_with, callee_declared, callee_value, spread_over, panicked_with, exit_places, exited_with, called_with, as_condition, callee, gives, seen, condition, test}
+use Rattle.expression_types.specs.Typing.{Part, said, valued, Gives, one, called, asking, quoted, printed, panicked, exited, known_type, global_read, name_operand, prefix_gives, pair_gives, single, operand_in, value_in, as_part, part_in, Seen, values, parts, type_in_one, single_types, Many, many_in, many, types_with, value_types, accepts, types_agree, operand_agrees, values_agree, each, fits_with, fits, all_values, taken, asked, Callee, printer, panicker, reader, exiter, function, conversion, no_function, no_spread, no_text_spread, nothing, function_with, callee_declared, callee_value, spread_over, panicked_with, exit_places, exited_with, called_with, as_condition, callee, gives, seen, condition, test}
 use Rattle.expression_types.proofs.DecidedValues.{many_single}
 
 is_word : (z : ℤ) → is_int z ≡ true → IsWord (int z)
 is_word z h = grind (arith, int_lemmas)
 
--- what a program has at the sites and functions of a scope: sites of these types, and functions with these signatures
+-- what a program has at the sites, functions and package variables of a scope: sites of these types, functions with these signatures, and
+-- package variables of these types
 pub record Agrees (s : Scope) (p : Program) : Type 0 where
   pub sites : (k : ℕ) (site : Site) → slice_get s.sites k ≡ Some site → site_type p k ≡ site.type_id.0
   pub functions : (f : ℕ) (sig : Signature) → signature s f ≡ Some sig
       → (func : Func) × (slice_get p.funcs f ≡ Some func) × (func.param_types ≡ type_numbers sig.params) × (func.results ≡ type_numbers sig.results)
+  pub globals : (g k : ℕ) (f : Fixed) → slice_get s.globals g ≡ Some k → fixed s k ≡ Some f → (g < length p.globals) × (global_type p g ≡ type_number (known_type f))
+
+-- the package variables that names stand for have their numbers
+abbrev pub AreNumbered : Scope → Type 0
+AreNumbered s = (n : List ℕ) (k : ValueId) (g : GlobalId) → declaration s n ≡ Some (declared.Global k g) → slice_get s.globals g.0 ≡ Some k.0
 
 -- a variable of a scope has a site of its type
 abbrev pub HasSite : Scope → ℕ → ValueType → Type 0
@@ -471,7 +479,7 @@ module _ (p : Program) (scope : List ℕ) where
   call_fits at no_text_spread os g k all is = absurd (none_some is)
   call_fits at nothing os g k all is = absurd (none_some is)
 
-  module _ (text : List ℕ) (s : Scope) (are_shown : AreShown s scope) (held : AreHeld s.constants) (agrees : Agrees s p) where
+  module _ (text : List ℕ) (s : Scope) (are_shown : AreShown s scope) (are_numbered : AreNumbered s) (held : AreHeld s.values) (agrees : Agrees s p) where
     variable_fits : (n : List ℕ) (site : SiteId) (t : ValueType) → declaration s n ≡ Some (declared.Variable site t) → InScope site.0 scope × (site_type p site.0 ≡ type_number t)
     variable_fits n site t is = let k = are_shown n site t is in (k.0, agrees.sites site.0 k.1.0 k.1.1 ∙ k.1.2)
 
@@ -479,20 +487,26 @@ module _ (p : Program) (scope : List ℕ) where
     constant_fits_name None g known is = absurd (none_some is)
     constant_fits_name (Some f) g known is = subst GivesFit (same_some is) (known f refl)
 
-    name_fits : (d : Option Declared) (g : Gives) → ((site : SiteId) (t : ValueType) → d ≡ Some (declared.Variable site t) → InScope site.0 scope × (site_type p site.0 ≡ type_number t)) → option_map one (name_operand s d) ≡ Some g → GivesFit g
-    name_fits None g has is = absurd (none_some is)
-    name_fits (Some (declared.Variable site t)) g has is = subst GivesFit (same_some is) (has site t refl)
-    name_fits (Some declared.Untyped) g has is = absurd (none_some is)
-    name_fits (Some (declared.Constant k)) g has is = constant_fits_name (fixed s k.0) g (λ f known. held k.0 f known) is
-    name_fits (Some (declared.Function f)) g has is = absurd (none_some is)
-    name_fits (Some (declared.External e at)) g has is = absurd (none_some is)
-    name_fits (Some declared.TypeName) g has is = absurd (none_some is)
-    name_fits (Some (declared.«Type» t)) g has is = absurd (none_some is)
-    name_fits (Some (declared.Truth b)) g has is = subst GivesFit (same_some is) refl
-    name_fits (Some (declared.Print line)) g has is = absurd (none_some is)
-    name_fits (Some declared.Panic) g has is = absurd (none_some is)
-    name_fits (Some declared.LeftOutType) g has is = absurd (none_some is)
-    name_fits (Some declared.LeftOutValue) g has is = absurd (none_some is)
+    global_fits : (g k : ℕ) (o : Option Fixed) (x : Gives) → fixed s k ≡ o → slice_get s.globals g ≡ Some k → option_map one (option_map (global_read g) o) ≡ Some x → GivesFit x
+    global_fits g k None x known at is = absurd (none_some is)
+    global_fits g k (Some f) x known at is = subst GivesFit (same_some is) (agrees.globals g k f at known)
+
+    name_fits : (d : Option Declared) (g : Gives) → ((site : SiteId) (t : ValueType) → d ≡ Some (declared.Variable site t) → InScope site.0 scope × (site_type p site.0 ≡ type_number t))
+        → ((k : ValueId) (h : GlobalId) → d ≡ Some (declared.Global k h) → slice_get s.globals h.0 ≡ Some k.0) → option_map one (name_operand s d) ≡ Some g → GivesFit g
+    name_fits None g has at is = absurd (none_some is)
+    name_fits (Some (declared.Variable site t)) g has at is = subst GivesFit (same_some is) (has site t refl)
+    name_fits (Some declared.Untyped) g has at is = absurd (none_some is)
+    name_fits (Some (declared.Constant k)) g has at is = constant_fits_name (fixed s k.0) g (λ f known. held k.0 f known) is
+    name_fits (Some (declared.Global k h)) g has at is = global_fits h.0 k.0 (fixed s k.0) g refl (at k h refl) is
+    name_fits (Some (declared.Function f)) g has at is = absurd (none_some is)
+    name_fits (Some (declared.External e place)) g has at is = absurd (none_some is)
+    name_fits (Some declared.TypeName) g has at is = absurd (none_some is)
+    name_fits (Some (declared.«Type» t)) g has at is = absurd (none_some is)
+    name_fits (Some (declared.Truth b)) g has at is = subst GivesFit (same_some is) refl
+    name_fits (Some (declared.Print line)) g has at is = absurd (none_some is)
+    name_fits (Some declared.Panic) g has at is = absurd (none_some is)
+    name_fits (Some declared.LeftOutType) g has at is = absurd (none_some is)
+    name_fits (Some declared.LeftOutValue) g has at is = absurd (none_some is)
 
     callee_signed : (f : ℕ) (sig : Option Signature) → signature s f ≡ sig → CalleeFits (function_with f sig)
     callee_signed f None is = tt
@@ -507,6 +521,7 @@ module _ (p : Program) (scope : List ℕ) where
     declared_fits (Some (declared.Variable site t)) = tt
     declared_fits (Some declared.Untyped) = tt
     declared_fits (Some (declared.Constant k)) = callee_value_fits (option_map constant (fixed s k.0))
+    declared_fits (Some (declared.Global k g)) = callee_value_fits (option_map (global_read g.0) (fixed s k.0))
     declared_fits (Some (declared.Function f)) = callee_signed f.0 (signature s f.0) refl
     declared_fits (Some (declared.External ReadInt at)) = tt
     declared_fits (Some (declared.External Exit at)) = tt
@@ -556,7 +571,7 @@ module _ (p : Program) (scope : List ℕ) where
           by : (b : Bool) → cond b (Some (one (constant (untyped (Number (pos n)))))) None ≡ Some g → GivesFit g
           by true is1 = subst GivesFit (same_some is1) refl
           by false is1 = absurd (none_some is1)
-      gives_fit (name n) g is = name_fits (declaration s (spelled text n)) g (λ site t h. variable_fits (spelled text n) site t h) is
+      gives_fit (name n) g is = name_fits (declaration s (spelled text n)) g (λ site t h. variable_fits (spelled text n) site t h) (λ k h j. are_numbered (spelled text n) k h j) is
       gives_fit (unary at op e) g is =
           unary_fits op (has_rules op) (operand_in (gives text s e)) g (λ x h. operand_fits (gives text s e) x (maybe_fits (gives text s e) (λ k i. gives_fit e k i)) h) is
       gives_fit (binary at op a b) g is =

@@ -31,7 +31,7 @@ use Rattle.names.specs.declared.scope.External.TheVariants.{ReadInt, Exit}
 use Rattle.names.specs.Scope.{Scope, Signature, declaration, signature, fixed}
 use Rattle.names.specs.Naming.{name_in}
 use Rattle.names.proofs.Settled.{HasSignature, HasValue, IsTyped, IsSettled, declared_typed}
-use Rattle.expression_types.specs.Typing.{Gives, one, name_operand, prefix_gives, operand_in, Seen, parts, taken, Callee, printer, panicker, reader, exiter, function, conversion, no_function, no_spread, no_text_spread, nothing, function_with, callee_declared, callee_value, spread_over, called_with, as_condition, callee, gives, seen, condition, test}
+use Rattle.expression_types.specs.Typing.{Gives, one, global_read, name_operand, prefix_gives, operand_in, Seen, parts, taken, Callee, printer, panicker, reader, exiter, function, conversion, no_function, no_spread, no_text_spread, nothing, function_with, callee_declared, callee_value, spread_over, called_with, as_condition, callee, gives, seen, condition, test}
 use Rattle.expression_types.specs.Faults.{WhereTaken, name_fault, callee_name_fault, single_fault, literal_fault, condition_fault, PartsFail, RangeFails, CallFails, CalleeFails, Fails, FailsInEach, FailsAsOperand, FailsInCondition, FailsInTest}
 use Rattle.expression_types.proofs.Held.{operand_held}
 use Rattle.expression_types.proofs.DecidedValues.{operand_decided, given_all, take_decided, print_decided, panic_decided, read_decided, exit_decided, refused, parts_refused}
@@ -62,11 +62,16 @@ constant_name_decided : (o : Option Fixed) → HasValue o → Decided (option_ma
 constant_name_decided None has = absurd has
 constant_name_decided (Some f) has = λ g h. h
 
-name_decided : (s : Scope) (d : Option Declared) (at : Pos) → ((x : Declared) → d ≡ Some x → IsTyped s.signatures s.constants x) → Decided (option_map one (name_operand s d)) (IsFault (name_fault d at))
+global_name_decided : (g : ℕ) (o : Option Fixed) → HasValue o → Decided (option_map one (option_map (global_read g) o)) (IsFault None)
+global_name_decided g None has = absurd has
+global_name_decided g (Some f) has = λ h k. k
+
+name_decided : (s : Scope) (d : Option Declared) (at : Pos) → ((x : Declared) → d ≡ Some x → IsTyped s.signatures s.values x) → Decided (option_map one (name_operand s d)) (IsFault (name_fault d at))
 name_decided s None at typed = (_, refl)
 name_decided s (Some (declared.Variable site t)) at typed = λ f h. h
 name_decided s (Some declared.Untyped) at typed = absurd (typed declared.Untyped refl)
 name_decided s (Some (declared.Constant k)) at typed = constant_name_decided (fixed s k.0) (typed (declared.Constant k) refl)
+name_decided s (Some (declared.Global k g)) at typed = global_name_decided g.0 (fixed s k.0) (typed (declared.Global k g) refl)
 name_decided s (Some (declared.Function g)) at typed = (_, refl)
 name_decided s (Some (declared.External e place)) at typed = (_, refl)
 name_decided s (Some declared.TypeName) at typed = (_, refl)
@@ -82,11 +87,16 @@ fixed_held : (o : Option Fixed) (x : Operand) → HasValue o → option_map cons
 fixed_held None x has is = absurd has
 fixed_held (Some f) x has is = subst IsHeld (same_some is) has
 
-name_held : (s : Scope) (d : Option Declared) (x : Operand) → ((y : Declared) → d ≡ Some y → IsTyped s.signatures s.constants y) → name_operand s d ≡ Some x → IsHeld x
+global_held : (g : ℕ) (o : Option Fixed) (x : Operand) → option_map (global_read g) o ≡ Some x → IsHeld x
+global_held g None x is = absurd (none_some is)
+global_held g (Some f) x is = subst IsHeld (same_some is) tt
+
+name_held : (s : Scope) (d : Option Declared) (x : Operand) → ((y : Declared) → d ≡ Some y → IsTyped s.signatures s.values y) → name_operand s d ≡ Some x → IsHeld x
 name_held s None x typed is = absurd (none_some is)
 name_held s (Some (declared.Variable site t)) x typed is = subst IsHeld (same_some is) tt
 name_held s (Some declared.Untyped) x typed is = absurd (none_some is)
 name_held s (Some (declared.Constant k)) x typed is = fixed_held (fixed s k.0) x (typed (declared.Constant k) refl) is
+name_held s (Some (declared.Global k g)) x typed is = global_held g.0 (fixed s k.0) x is
 name_held s (Some (declared.Function g)) x typed is = absurd (none_some is)
 name_held s (Some (declared.External e place)) x typed is = absurd (none_some is)
 name_held s (Some declared.TypeName) x typed is = absurd (none_some is)
@@ -124,11 +134,16 @@ callee_constant_is : (o : Option Fixed) (C : Fault → Type 0) → HasValue o �
 callee_constant_is None C has none = absurd has
 callee_constant_is (Some f) C has none = none
 
-callee_declared_is : (s : Scope) (d : Option Declared) (at : Pos) → ((x : Declared) → d ≡ Some x → IsTyped s.signatures s.constants x) → CalleeIs (callee_declared s d) (IsFault (callee_name_fault d at))
+callee_global_is : (g : ℕ) (o : Option Fixed) (C : Fault → Type 0) → HasValue o → ((f : Fault) → C f → ⊥) → CalleeIs (callee_value (option_map (global_read g) o)) C
+callee_global_is g None C has none = absurd has
+callee_global_is g (Some f) C has none = none
+
+callee_declared_is : (s : Scope) (d : Option Declared) (at : Pos) → ((x : Declared) → d ≡ Some x → IsTyped s.signatures s.values x) → CalleeIs (callee_declared s d) (IsFault (callee_name_fault d at))
 callee_declared_is s None at typed = (_, refl)
 callee_declared_is s (Some (declared.Variable site t)) at typed = λ f h. h
 callee_declared_is s (Some declared.Untyped) at typed = absurd (typed declared.Untyped refl)
 callee_declared_is s (Some (declared.Constant k)) at typed = callee_constant_is (fixed s k.0) (IsFault (callee_name_fault (Some (declared.Constant k)) at)) (typed (declared.Constant k) refl) (λ f h. h)
+callee_declared_is s (Some (declared.Global k g)) at typed = callee_global_is g.0 (fixed s k.0) (IsFault (callee_name_fault (Some (declared.Global k g)) at)) (typed (declared.Global k g) refl) (λ f h. h)
 callee_declared_is s (Some (declared.Function g)) at typed = callee_function_is g.0 (signature s g.0) (IsFault (callee_name_fault (Some (declared.Function g)) at)) (typed (declared.Function g) refl) (λ f h. h)
 callee_declared_is s (Some (declared.External ReadInt place)) at typed = λ f h. h
 callee_declared_is s (Some (declared.External Exit place)) at typed = λ f h. h

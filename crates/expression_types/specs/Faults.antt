@@ -39,6 +39,7 @@ name_fault None at = Some (fault Unknown at)
 name_fault (Some (declared.Variable site t)) at = None
 name_fault (Some declared.Untyped) at = None
 name_fault (Some (declared.Constant k)) at = None
+name_fault (Some (declared.Global k g)) at = None
 name_fault (Some (declared.Function g)) at = Some (fault OutOfProfile at)
 name_fault (Some (declared.External e place)) at = Some (fault OutOfProfile at)
 name_fault (Some declared.TypeName) at = Some (fault BadOperand at)

@@ -9,14 +9,15 @@ use Rattle.syntax.specs.FirstBytes.{first_place}
 use Rattle.syntax.specs.Expressions.{Ex as TreeEx, Exs as TreeExs, number, string, name, unary, binary, paren, call, selector, index, slice, array_type, slice_type, literal, elements, some, spelled}
 use Rattle.syntax.specs.Expressions as tree
 use Rattle.syntax.specs.Statements.{Clause, forever, while_true, counting, ranging}
-use Rattle.typed.specs.Syntax.{Ex, Exs, read, local, here, none, more, results, asked as items}
+use Rattle.typed.specs.Syntax.{Ex, Exs, read, local, global, here, none, more, results, asked as items}
 use Rattle.typed.specs.Syntax as typed
 use Rattle.value_types.specs.declared.constant.Constant.TheVariants.{Number, Truth}
+use Rattle.value_types.specs.declared.constant.Fixed.{Fixed}
 use Rattle.value_types.specs.declared.value_type.ValueType.{ValueType}
 use Rattle.string_value.specs.StringValue.{string_value}
 use Rattle.value_types.specs.declared.value_type.ValueType.TheVariants.{Int, Bool as Boolean}
 use Rattle.value_types.specs.Given.{allowed, both}
-use Rattle.value_types.specs.Constants.{same_type, untyped}
+use Rattle.value_types.specs.Constants.{same_type, constant_type, untyped}
 use Rattle.operators.specs.Operands.{Operand, constant, value, type_of, as_value}
 use Rattle.operators.specs.Operators.{has_rules, prefixed, combined}
 use Rattle.names.specs.declared.scope.Declared.{Declared}
@@ -49,12 +50,20 @@ pub data Gives : Type 0 where
 
 -- ---- names
 
--- a constant whose value is known, or a variable's read
+-- the type of a package variable, by what is known of it, and its read
+abbrev pub known_type : Fixed → ValueType
+known_type f = constant_type f.value_type f.value
+
+abbrev pub global_read : ℕ → Fixed → Operand
+global_read g f = value (known_type f) (read (global g here))
+
+-- a constant whose value is known, or the read of a variable with a type
 abbrev pub name_operand : Scope → Option Declared → Option Operand
 name_operand s None = None
 name_operand s (Some (declared.Variable site t)) = Some (value t (read (local site.0 here)))
 name_operand s (Some declared.Untyped) = None
 name_operand s (Some (declared.Constant k)) = option_map constant (fixed s k.0)
+name_operand s (Some (declared.Global k g)) = option_map (global_read g.0) (fixed s k.0)
 name_operand s (Some (declared.Function f)) = None
 name_operand s (Some (declared.External e at)) = None
 name_operand s (Some declared.TypeName) = None
@@ -271,6 +280,7 @@ callee_declared s None = nothing
 callee_declared s (Some (declared.Variable site t)) = no_function
 callee_declared s (Some declared.Untyped) = nothing
 callee_declared s (Some (declared.Constant k)) = callee_value (option_map constant (fixed s k.0))
+callee_declared s (Some (declared.Global k g)) = callee_value (option_map (global_read g.0) (fixed s k.0))
 callee_declared s (Some (declared.Function f)) = function_with f.0 (signature s f.0)
 callee_declared s (Some (declared.External e at)) = callee_external e
 callee_declared s (Some declared.TypeName) = conversion

@@ -1,6 +1,6 @@
 //! Calls: what is called, and what a call gives.
 
-ghost use Rattle.std.specs.Prelude.{◌≡◌, ◌⊎◌, Option, Some, None, IfOk, map};
+ghost use Rattle.std.specs.Prelude.{◌≡◌, ◌⊎◌, ℕ, Option, Some, None, IfOk, map};
 ghost use Rattle.std.specs.Option.{option_map};
 ghost use Rattle.syntax.specs.Expressions.{ex_of as tree_of, spelled};
 ghost use Rattle.value_types.specs.declared.fault.FaultKind.TheVariants.{ArgCount};
@@ -10,7 +10,7 @@ ghost use Rattle.operators.specs.Operands.{constant};
 ghost use Rattle.operators.specs.Passing.{operand_of};
 ghost use Rattle.names.specs.Scope.{scope_of, declaration, signature};
 ghost use Rattle.names.specs.Naming.{name_in};
-ghost use Rattle.expression_types.specs.Typing.{operand_in, function_with, callee_declared, callee_value, spread_over, many, count, part_count, exit_places, panicked_with, exited_with, called_with};
+ghost use Rattle.expression_types.specs.Typing.{global_read, operand_in, function_with, callee_declared, callee_value, spread_over, many, count, part_count, exit_places, panicked_with, exited_with, called_with};
 ghost use Rattle.expression_types.specs.Faults.{PartsFail, ValuesFail, RangeFails, TakeFails, CallFails, callee_name_fault, refused_fault};
 ghost use Rattle.expression_types.specs.Passing.{part_view, gives_of, seens, callee_of};
 ghost use Rattle.typed.specs.View.{ex_of};
@@ -42,9 +42,10 @@ fn callee_function(alloc: Global, scope: &Scope, function: FuncId) -> Result<Cal
     }
 }
 
-/// A constant as what is called, where its value is known.
-fn callee_constant(fixed: Option<Fixed>) -> Callee
-    ensures { callee_of result ≡ callee_value (option_map constant fixed) }
+/// A constant or a package variable as what is called, where its type is known.
+fn callee_known(fixed: Option<Fixed>) -> Callee
+    ensures constant { callee_of result ≡ callee_value (option_map constant fixed) }
+    ensures variable { (g : ℕ) → callee_of result ≡ callee_value (option_map (global_read g) fixed) }
 {
     match fixed {
         Some(_) => Callee::NoFunction,
@@ -61,7 +62,9 @@ fn callee_declared(
 {
     Ok(match declared {
         Some(Declared::Function(function)) => return callee_function(alloc, scope, function),
-        Some(Declared::Constant(number)) => callee_constant(fixed(scope, number)),
+        Some(Declared::Constant(number) | Declared::Global(number, _)) => {
+            callee_known(fixed(scope, number))
+        }
         Some(Declared::External(External::ReadInt, _)) => Callee::Reader,
         Some(Declared::External(External::Exit, _)) => Callee::Exiter,
         Some(Declared::Print(line)) => Callee::Printer(line),

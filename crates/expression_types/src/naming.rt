@@ -4,25 +4,37 @@ ghost use Rattle.std.specs.Prelude.{◌≡◌};
 ghost use Rattle.std.specs.Option.{option_map};
 ghost use Rattle.syntax.specs.Expressions.{name as name_of};
 ghost use Rattle.value_types.specs.Least.{IsLeast};
+ghost use Rattle.operators.specs.Passing.{operand_of};
 ghost use Rattle.names.specs.Scope.{scope_of};
-ghost use Rattle.expression_types.specs.Typing.{one, name_operand, gives};
+ghost use Rattle.expression_types.specs.Typing.{one, global_read, name_operand, gives};
 ghost use Rattle.expression_types.specs.Faults.{name_fault, Fails};
 ghost use Rattle.expression_types.specs.Passing.{gives_of};
 
 use crate::gives::Gives;
 use base::Pos;
-use names::{Declared, Scope, declaration, fixed, spelled};
+use names::{Declared, GlobalId, Scope, declaration, fixed, spelled};
 use operators::Operand;
 use syntax::Name;
-use typed::Expr;
-use value_types::{Constant, Fault, FaultKind, untyped};
+use typed::{Expr, Place};
+use value_types::{Constant, Fault, FaultKind, Fixed, constant_type, untyped};
+
+/// The read of a package variable, of which this is known.
+fn global_read(global: GlobalId, known: Fixed) -> Operand
+    ensures { operand_of result ≡ global_read global.0 known }
+{
+    Operand::Value(constant_type(known), Expr::Read(Place::Global(global.0)))
+}
 
 fn value_of(scope: &Scope, declared: Option<Declared>) -> Option<Gives>
     ensures { option_map gives_of result ≡ option_map one (name_operand (scope_of scope.now) declared) }
 {
     let operand = match declared {
-        Some(Declared::Variable(site, value_type)) => Operand::Value(value_type, Expr::Local(site)),
+        Some(Declared::Variable(site, value_type)) => Operand::Value(
+            value_type,
+            Expr::Read(Place::Local(site)),
+        ),
         Some(Declared::Constant(number)) => Operand::Constant(fixed(scope, number)?),
+        Some(Declared::Global(number, global)) => global_read(global, fixed(scope, number)?),
         Some(Declared::Truth(truth)) => Operand::Constant(untyped(Constant::Truth(truth))),
         _ => return None,
     };
@@ -45,6 +57,7 @@ fn declared_fault(declared: Option<Declared>, pos: Pos) -> Option<Fault>
             Declared::Variable(_, _)
             | Declared::Untyped
             | Declared::Constant(_)
+            | Declared::Global(_, _)
             | Declared::Truth(_),
         ) => return None,
         Some(Declared::TypeName | Declared::Type(_) | Declared::Print(_) | Declared::Panic) =>

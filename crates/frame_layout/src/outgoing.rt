@@ -24,7 +24,7 @@ pub fn expr_reach(funcs: &[Func], e: &Expr) -> Result<u64, NoMemory>
 {
     match e {
         Expr::Constant(_) => Ok(0),
-        Expr::Local(_) => Ok(0),
+        Expr::Read(_) => Ok(0),
         Expr::Unary(_, a) => {
             let a: &Expr = a;
             expr_reach(funcs, a)

@@ -1,13 +1,13 @@
 //! The temps that values want. A number of temps that passes 64 bits counts as want of memory.
 
-ghost use Rattle.std.specs.Prelude.{◌≡◌, ◌≤◌, ◌+◌, max, map, List, IfOk};
+ghost use Rattle.std.specs.Prelude.{◌≡◌, ◌≤◌, ◌+◌, length, max, map, List, IfOk};
 ghost use Rattle.typed.specs.Syntax.{Func as Function};
-ghost use Rattle.typed.specs.View.{ex_of, exs_of, exs_of_values, piece_of, test_of, site_numbers, left_of, st_of, sts_of, func_of};
-ghost use Rattle.typed.specs.Frames.{need, need_all, piece_need, need_pieces, test_need, renewal_need, key_need, named_need, st_need, sts_need};
+ghost use Rattle.typed.specs.View.{ex_of, exs_of, exs_of_values, place_of, piece_of, test_of, site_numbers, left_of, st_of, sts_of, func_of};
+ghost use Rattle.typed.specs.Frames.{far, left_far, lefts_far, behind_values, need, need_all, piece_need, need_pieces, test_need, renewal_need, key_need, named_need, st_need, sts_need};
 
 use crate::words::results_of;
 use base::{NoMemory, SiteId};
-use typed::{Expr, Func, Left, Piece, Stmt, Values};
+use typed::{Expr, Func, Left, Piece, Place, Stmt, Values};
 
 /// What a `range` over a number keeps, the number and the index, and the most that it counts with above them.
 const KEPT: u64 = 2;
@@ -28,7 +28,7 @@ pub fn expr_temps(funcs: &[Func], e: &Expr) -> Result<u64, NoMemory>
 {
     match e {
         Expr::Constant(_) => Ok(1),
-        Expr::Local(_) => Ok(1),
+        Expr::Read(_) => Ok(1),
         Expr::Unary(_, a) => {
             let a: &Expr = a;
             expr_temps(funcs, a)
@@ -124,14 +124,6 @@ fn line_temps(funcs: &[Func], ps: &[Piece]) -> Result<u64, NoMemory>
     Ok(temps.max(kept))
 }
 
-/// The temps of an assignment with an operator: the variable's value stands below the operand's.
-fn update_temps(funcs: &[Func], e: &Expr) -> Result<u64, NoMemory>
-    ensures { IfOk result (λ n. n ≡ 1 + need (map func_of funcs.now) (ex_of e.now)) }
-{
-    let temps = expr_temps(funcs, e)?;
-    above(temps)
-}
-
 /// The temps of a condition, where there is one.
 fn test_temps(funcs: &[Func], test: &Option<Expr>) -> Result<u64, NoMemory>
     ensures { IfOk result (λ n. n ≡ test_need (map func_of funcs.now) (test_of test.now)) }
@@ -153,16 +145,73 @@ fn header_temps(funcs: &[Func], test: &Option<Expr>, sites: &[SiteId]) -> Result
     Ok(temps.max(1))
 }
 
-/// The temp of the index that a left side gets.
+/// The temp of a place's address, where it is reached by one.
+fn address_temps(place: Place) -> u64
+    ensures is { result ≡ far (place_of place) }
+    ensures few { result ≤ 1 }
+{
+    match place {
+        Place::Local(_) => 0,
+        Place::Global(_) => 1,
+    }
+}
+
+/// The temp of the index that a left side gets, and that of its address.
 fn key_temps(key: Left) -> u64
     ensures need { (fs : List Function) → result ≡ key_need fs (left_of key) }
-    ensures few { result ≤ 1 }
+    ensures few { result ≤ 2 }
 {
     match key {
         Left::Blank => 0,
         Left::New(_) => 1,
-        Left::To(_) => 1,
+        Left::To(place) => 1 + address_temps(place),
     }
+}
+
+/// The temp of a left side's address.
+fn left_address(left: Left) -> u64
+    ensures is { result ≡ left_far (left_of left) }
+    ensures few { result ≤ 1 }
+{
+    match left {
+        Left::Blank => 0,
+        Left::New(_) => 0,
+        Left::To(place) => address_temps(place),
+    }
+}
+
+/// The temp of an address, if one of some left sides has one.
+fn lefts_address(lefts: &[Left]) -> u64
+    ensures is { result ≡ lefts_far (map left_of lefts.now) }
+    ensures few { result ≤ 1 }
+{
+    let mut most: u64 = 0;
+    for left in lefts {
+        most = most.max(left_address(*left));
+    }
+    most
+}
+
+/// The temps of an assignment: those of its values, and where a left side has an address, the values and this behind
+/// them.
+fn assign_temps(funcs: &[Func], lefts: &[Left], values: &Values) -> Result<u64, NoMemory>
+    ensures { IfOk result (λ n. n ≡ max (need_all (map func_of funcs.now) (exs_of_values values.now)) (behind_values (length (map left_of lefts.now)) (lefts_far (map left_of lefts.now)))) }
+{
+    let temps = values_temps(funcs, values)?;
+    if lefts_address(lefts) == 0 {
+        return Ok(temps);
+    }
+    let beside = above(lefts.len() as u64)?;
+    Ok(temps.max(beside))
+}
+
+/// The temps of an assignment with an operator: an address, if there is one, the value, and those of the operand.
+fn update_temps(funcs: &[Func], place: Place, e: &Expr) -> Result<u64, NoMemory>
+    ensures { IfOk result (λ n. n ≡ far (place_of place) + 1 + need (map func_of funcs.now) (ex_of e.now)) }
+{
+    let operand = expr_temps(funcs, e)?;
+    let kept = address_temps(place) + 1;
+    operand.checked_add(kept).ok_or(NoMemory)
 }
 
 /// The temps of a `range` over a number whose body wants so many.
@@ -195,9 +244,9 @@ pub fn stmt_temps(funcs: &[Func], named: u64, s: &Stmt) -> Result<u64, NoMemory>
 {
     match s {
         Stmt::Declare(_) => Ok(0),
-        Stmt::Assign(_, values) => values_temps(funcs, values),
-        Stmt::Update(_, _, _, e) => update_temps(funcs, e),
-        Stmt::Bump(_, _) => Ok(2),
+        Stmt::Assign(lefts, values) => assign_temps(funcs, lefts, values),
+        Stmt::Update(_, place, _, e) => update_temps(funcs, *place, e),
+        Stmt::Bump(place, _) => Ok(address_temps(*place) + 2),
         Stmt::Discard(values) => values_temps(funcs, values),
         Stmt::Block(ss) => body_temps(funcs, named, ss),
         Stmt::If(e, a, b) => {

@@ -44,6 +44,7 @@ fn caller_and_callee(alloc: Global) -> Result<Program, Fail> {
         main: FuncId(1),
         sites: Vec::new(alloc),
         strings: Vec::new(alloc),
+        globals: Vec::new(alloc),
     })
 }
 

@@ -4,9 +4,10 @@ use Rattle.std.specs.Prelude.{⊤, nat_lt}
 use Rattle.std.proofs.lemmas.Bool.{ltb-true}
 use Rattle.base.specs.declared.pos.Pos.{Pos}
 use Rattle.typed.specs.Value.{Value, int}
-use Rattle.typed.specs.Syntax.{Ex, Exs, Left, Piece, St, Sts, Func, Program, constant, read, unary, binary, both, either, call, none, more, results, asked, local, here, blank, new, to, text, shown, over_int, declare, assign, update, bump, discard, block, choose, loop, range, break_off, go_on, give_back, print, raise, quit, done, next}
+use Rattle.typed.specs.Syntax.{Ex, Exs, Left, Piece, St, Sts, Func, Program, constant, read, unary, binary, both, either, call, none, more, results, asked, local, global, here, blank, new, to, text, shown, over_int, declare, assign, update, bump, discard, block, choose, loop, range, break_off, go_on, give_back, print, raise, quit, done, next}
+use Rattle.simulation.specs.Outcome as Run
 use Rattle.simulation.specs.Outcome.{Outcome, Gives, Ends, Unfinished, upto, ending_in}
-use Rattle.meaning.specs.Trace.{World, Call, Return, Born, Read, Write, Print, Fault, exit_code, Ending, Turns, Exit, Panic, StackLimit, Trace, Turn, Note, Seen, End, Cut, Asked}
+use Rattle.meaning.specs.Trace.{World, Call, Return, Born, Read, Write, Print, Fault, exit_code, Ending, Turns, Exit, Panic, StackLimit, HeapLimit, Trace, Turn, Note, Seen, End, Cut, Asked}
 use Rattle.meaning.specs.Store.{read_at, written}
 use Rattle.meaning.specs.Operators.{unary_of, binary_of}
 use Rattle.meaning.specs.Meaning.{Go, Then, Env, Ways, Calls, stop, write_part, no_pos, Item, Setting, counted, count_of, int_of, quit_with, give, or_panic, holding, holding_all, when, is_true, Step, fixed, Aim, Spot, settle_steps, settle, ev, evs, Landing, nowhere, birth, on, landing_values, ready, ready_all, land, land_all, shown_bytes, emit_more, emit_plain, emit, pieces, test_of, renew, rounds, to_next, exec, exec_all, bear_params, bear_zeros, write_results, read_results, leave, leave_with, run_body, call_at, bear_globals, setting_of, at_top, beginning, trace}
@@ -17,6 +18,7 @@ IsGood Turns = ⊤
 IsGood (Exit status) = status ≤ 125
 IsGood (Panic at f) = ⊤
 IsGood (StackLimit used wanted most) = ⊤
+IsGood (HeapLimit used wanted most) = ⊤
 
 -- each end of a trace is good
 abbrev EndsWell : Trace → Type 0
@@ -68,6 +70,7 @@ module _ (around : Setting) (calls : Calls) (gc : GoodCalls calls) where
     good_ev : (e : Ex) (ws : Ways) (env : Env) (k : Then Value) → GoodWays ws → GoodThen k → Good (ev around calls e ws env k)
     good_ev (constant v) ws env k s h = λ w. h v w
     good_ev (read (local site here)) ws env k s h = λ w. h _ w
+    good_ev (read (global g here)) ws env k s h = λ w. h _ w
     good_ev (unary op e) ws env k s h = good_ev e ws env _ s (λ v w. h (unary_of op v) w)
     good_ev (binary at op a b) ws env k s h =
         good_ev a ws env _ s (λ v. good_ev b (holding ws v) env _ (good_holding ws v s) (λ u w. good_or_panic ws env at (binary_of op v u) (give ws k) s (λ x y. h x y) w))
@@ -85,6 +88,7 @@ module _ (around : Setting) (calls : Calls) (gc : GoodCalls calls) where
   good_ready blank ws env k s h = h nowhere
   good_ready (new site) ws env k s h = h (birth site)
   good_ready (to (local site here)) ws env k s h = h _
+  good_ready (to (global g here)) ws env k s h = h _
 
   good_ready_all : (ls : List Left) (ws : Ways) (env : Env) (k : List Landing → Ways → Go) → GoodWays ws
       → ((xs : List Landing) (ws1 : Ways) → GoodWays ws1 → Good (k xs ws1)) → Good (ready_all around calls ls ws env k)
@@ -187,8 +191,12 @@ module _ (around : Setting) (calls : Calls) (gc : GoodCalls calls) (fuel : ℕ) 
     good_exec (declare sites) ws env k s h = good_zeros around ws.call sites env k h
     good_exec (update at (local site here) op e) ws env k s h =
         λ w. good_ev around calls gc e (holding ws _) env _ (good_holding ws _ s) (λ u. good_or_panic ws env at (binary_of op _ u) _ s (λ x w1. h env _)) w
+    good_exec (update at (global g here) op e) ws env k s h =
+        λ w. good_ev around calls gc e (holding ws _) env _ (good_holding ws _ s) (λ u. good_or_panic ws env at (binary_of op _ u) _ s (λ x w1. h env _)) w
     good_exec (bump (local site here) op) ws env k s h =
         λ w. good_or_panic ws env no_pos (binary_of op (read_at w (env site) []) (int (pos 1))) (λ x. write_part (env site) [] x (k env)) s (λ x w1. h env (written w1 (env site) [] x)) w
+    good_exec (bump (global g here) op) ws env k s h =
+        λ w. good_or_panic ws env no_pos (binary_of op (read_at w g []) (int (pos 1))) (λ x. write_part g [] x (k env)) s (λ x w1. h env (written w1 g [] x)) w
     good_exec (range (over_int e) key value body) ws env k s h =
         good_ev around calls gc e ws env _ s (λ v w. good_counted fuel 0 (count_of v) _ _
         (λ i n1 env1 j g. good_ready around calls gc key (holding ws v) env1 _ (good_holding ws v s) (λ a. good_land around a _ (holding ws v) env1 _ (λ env2. good_exec_all body _ env2 _
@@ -259,24 +267,31 @@ ShowsWell (Gives bytes o) = ShowsWell o
 ShowsWell (Ends e) = IsGood e
 ShowsWell Unfinished = ⊤
 
-called : (l : Limits) (calls : List ℕ) (f : ℕ) (t : Trace) (n : ℕ) (b : Bool) → ShowsWell (upto n (out l (f ∷ calls) t))
-    → ShowsWell (upto n (if b then out l (f ∷ calls) t else Rattle.simulation.specs.Outcome.End (StackLimit (used_by l calls) (l.frame f) l.stack_max)))
-called l calls f t n true h = h
-called l calls f t n false h = tt
+called : (l : Limits) (calls : List ℕ) (heap f : ℕ) (t : Trace) (n : ℕ) (b : Bool) → ShowsWell (upto n (out l (f ∷ calls) heap t))
+    → ShowsWell (upto n (if b then out l (f ∷ calls) heap t else Run.End (StackLimit (used_by l calls) (l.frame f) l.stack_max)))
+called l calls heap f t n true h = h
+called l calls heap f t n false h = tt
 
-shows_well : (l : Limits) (calls : List ℕ) (t : Trace) (n : ℕ) → EndsWell t → ShowsWell (upto n (out l calls t))
-shows_well l calls (Turn t) zero h = tt
-shows_well l calls (Turn t) (suc n) h = shows_well l calls t n h
-shows_well l calls (Seen m t) n h = shows_well l calls t n h
-shows_well l calls (End e) n h = h
-shows_well l calls Cut n h = tt
-shows_well l calls (Note (Print bytes) t) n h = shows_well l calls t n h
-shows_well l calls (Note Asked t) n h = shows_well l calls t n h
-shows_well l calls (Note (Call f) t) n h = called l calls f t n (nat_le (used_by l calls + l.frame f) l.stack_max) (shows_well l (f ∷ calls) t n h)
-shows_well l calls (Note Return t) n h = shows_well l (tail_of calls) t n h
-shows_well l calls (Note (Born site k) t) n h = shows_well l calls t n h
-shows_well l calls (Note (Read v path k) t) n h = shows_well l calls t n h
-shows_well l calls (Note (Write v path k) t) n h = shows_well l calls t n h
+-- a variable is born, on the heap or not, and there with room or not
+bore : (l : Limits) (calls : List ℕ) (heap k : ℕ) (t : Trace) (n : ℕ) (far room : Bool) → ((words : ℕ) → ShowsWell (upto n (out l calls words t)))
+    → ShowsWell (upto n (if far then (if room then out l calls (heap + k) t else Run.End (HeapLimit heap k l.heap_max)) else out l calls heap t))
+bore l calls heap k t n true true h = h (heap + k)
+bore l calls heap k t n true false h = tt
+bore l calls heap k t n false room h = h heap
+
+shows_well : (l : Limits) (calls : List ℕ) (heap : ℕ) (t : Trace) (n : ℕ) → EndsWell t → ShowsWell (upto n (out l calls heap t))
+shows_well l calls heap (Turn t) zero h = tt
+shows_well l calls heap (Turn t) (suc n) h = shows_well l calls heap t n h
+shows_well l calls heap (Seen m t) n h = shows_well l calls heap t n h
+shows_well l calls heap (End e) n h = h
+shows_well l calls heap Cut n h = tt
+shows_well l calls heap (Note (Print bytes) t) n h = shows_well l calls heap t n h
+shows_well l calls heap (Note Asked t) n h = shows_well l calls heap t n h
+shows_well l calls heap (Note (Call f) t) n h = called l calls heap f t n (nat_le (used_by l calls + l.frame f) l.stack_max) (shows_well l (f ∷ calls) heap t n h)
+shows_well l calls heap (Note Return t) n h = shows_well l (tail_of calls) heap t n h
+shows_well l calls heap (Note (Born site k) t) n h = bore l calls heap k t n (l.on_heap site) (nat_le (heap + k) l.heap_max) (λ words. shows_well l calls words t n h)
+shows_well l calls heap (Note (Read v path k) t) n h = shows_well l calls heap t n h
+shows_well l calls heap (Note (Write v path k) t) n h = shows_well l calls heap t n h
 
 exits_well : (o : Outcome Sight Ending) → ShowsWell o → (status : ℕ) → ending_in o ≡ Some (Exit status) → status ≤ 125
 exits_well (Gives bytes o) h status e = exits_well o h status e
@@ -287,4 +302,4 @@ exits_well Unfinished h status e = cc
 
 -- an exit's status is at most 125
 pub exit_status : (items : ℕ → Item) (p : Program) (l : Limits) (n status : ℕ) → ending_in (source items p l n) ≡ Some (Exit status) → status ≤ 125
-exit_status items p l n status e = exits_well (source items p l n) (shows_well l [] (trace items p n) n (ends_well items p n)) status e
+exit_status items p l n status e = exits_well (source items p l n) (shows_well l [] 0 (trace items p n) n (ends_well items p n)) status e

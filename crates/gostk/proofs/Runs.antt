@@ -35,20 +35,21 @@ pub record Told (p : Program) (b : Bounds) (result : Result ℕ RunFault) (untou
   pub does : (r : Reading) → Begins answers r → RanCode p.strings (few_turns p b r) (all_turns p b r) result (length answers) old.taken new.taken old.faults new.faults
 
 -- what is said of a run of code with these limits
-abbrev pub Says : Tables → (main max steps : ℕ) → Result ℕ RunFault → Streams → Streams → (ℕ → Item) → ℕ → Type 0
-Says code main max steps result old new items answered = (p : Program) → p.main ≡ main → Simulated p code
-    → RanCode p.strings (source items p (limits p max) (steps / 16)) (source items p (limits p max) steps) result answered old.taken new.taken old.faults new.faults
+abbrev pub Says : Program → Tables → (max heap_max steps : ℕ) → Result ℕ RunFault → Streams → Streams → (ℕ → Item) → ℕ → Type 0
+Says p code max heap_max steps result old new items answered = Simulated p code
+    → RanCode p.strings (source items p (limits p max heap_max) (steps / 16)) (source items p (limits p max heap_max) steps) result answered old.taken new.taken old.faults new.faults
 
-pub told : (p : Program) (b : Bounds) (code : Tables) (max steps : ℕ) (result : Result ℕ RunFault) (untouched : Type 0) (old new : Streams) → max ≡ b.stack_max → steps ≡ b.steps → Simulated p code
-    → ReadBy result old.left untouched (Says code p.main max steps result old new) → Told p b result untouched old new
-told p b code max steps result untouched old new m n simulated h = record {
+pub told : (p : Program) (b : Bounds) (code : Tables) (max heap_max steps : ℕ) (result : Result ℕ RunFault) (untouched : Type 0) (old new : Streams) → max ≡ b.stack_max → heap_max ≡ b.heap_max → steps ≡ b.steps → Simulated p code
+    → ReadBy result old.left untouched (Says p code max heap_max steps result old new) → Told p b result untouched old new
+told p b code max heap_max steps result untouched old new m l n simulated h = record {
   answers = h.answers;
   came = record { numbers = h.numbers; rest = h.rest; read = h.read };
   unread = h.unread;
   does = λ r starts.
-      let did = h.does r starts.numbers starts.has p refl simulated in
-      subst (λ (k : ℕ). RanCode p.strings (source r p (limits p b.stack_max) (k / 16)) (source r p (limits p b.stack_max) k) result (length h.answers) old.taken new.taken old.faults new.faults) n
-      (subst (λ (k : ℕ). RanCode p.strings (source r p (limits p k) (steps / 16)) (source r p (limits p k) steps) result (length h.answers) old.taken new.taken old.faults new.faults) m did);
+      let did = h.does r starts.numbers starts.has simulated in
+      subst (λ (k : ℕ). RanCode p.strings (source r p (limits p b.stack_max b.heap_max) (k / 16)) (source r p (limits p b.stack_max b.heap_max) k) result (length h.answers) old.taken new.taken old.faults new.faults) n
+      (subst (λ (k : ℕ). RanCode p.strings (source r p (limits p b.stack_max k) (steps / 16)) (source r p (limits p b.stack_max k) steps) result (length h.answers) old.taken new.taken old.faults new.faults) l
+      (subst (λ (k : ℕ). RanCode p.strings (source r p (limits p k heap_max) (steps / 16)) (source r p (limits p k heap_max) steps) result (length h.answers) old.taken new.taken old.faults new.faults) m did));
 }
 
 -- a whole text that was taken is a front part of itself
@@ -58,7 +59,7 @@ whole_front old new text took = ([], record { done = text; splits = append-nil t
 module _ (p : Program) (b : Bounds) (untouched : Type 0) (old new : Streams) where
   early : (r : Reading) (x : Ending) → ending_in (few_turns p b r) ≡ Some x → few_turns p b r ≡ all_turns p b r
   early r x e =
-      joined (few_turns p b r) (all_turns p b r) (longer_sources_extend r p (limits p b.stack_max) (b.steps / 16) b.steps (omega arith)) x e
+      joined (few_turns p b r) (all_turns p b r) (longer_sources_extend r p (limits p b.stack_max b.heap_max) (b.steps / 16) b.steps (omega arith)) x e
 
   pub ended : (status : ℕ) → Told p b (Ok status) untouched old new → RanBy p b (answer.Ended status) old new
   ended status h =
@@ -68,7 +69,7 @@ module _ (p : Program) (b : Bounds) (untouched : Type 0) (old new : Streams) whe
         came = h.came;
         leaves = (
           record { ends = λ r starts. (h.does r starts).0; took = λ r starts. (h.does r starts).1; asks = λ r starts. (h.does r starts).2; early = early },
-          exit_status (reading_of h.answers) p (limits p b.stack_max) b.steps status some.0,
+          exit_status (reading_of h.answers) p (limits p b.stack_max b.heap_max) b.steps status some.0,
         );
       }
 
@@ -93,12 +94,20 @@ module _ (p : Program) (b : Bounds) (untouched : Type 0) (old new : Streams) whe
   panicked_by x answer.WriteFault h tells = absurd tells
   panicked_by x (answer.Steps n) h tells = absurd tells
   panicked_by x (answer.StackLimit used asked limit) h tells = absurd tells
+  panicked_by x (answer.HeapLimit used asked limit) h tells = absurd tells
 
   pub panicked : (x : MachinePanic) (a : Answer) → Told p b (Err (fault.Panic x)) untouched old new → Tells x p.strings a → RanBy p b a old new
   panicked x a h tells = record { answers = h.answers; came = h.came; leaves = panicked_by x a h tells }
 
   pub met_limit : (used asked limit : ℕ) → Told p b (Err (fault.StackLimit used asked limit)) untouched old new → RanBy p b (answer.StackLimit used asked limit) old new
   met_limit used asked limit h = record {
+    answers = h.answers;
+    came = h.came;
+    leaves = record { ends = λ r starts. (h.does r starts).0; took = λ r starts. (h.does r starts).1; asks = λ r starts. (h.does r starts).2; early = early };
+  }
+
+  pub filled_heap : (used asked limit : ℕ) → Told p b (Err (fault.HeapLimit used asked limit)) untouched old new → RanBy p b (answer.HeapLimit used asked limit) old new
+  filled_heap used asked limit h = record {
     answers = h.answers;
     came = h.came;
     leaves = record { ends = λ r starts. (h.does r starts).0; took = λ r starts. (h.does r starts).1; asks = λ r starts. (h.does r starts).2; early = early };
@@ -135,6 +144,7 @@ module _ (p : Program) (b : Bounds) (untouched : Type 0) (old new : Streams) whe
   asks_as_many (Ok status) h r starts = let as_many = (h.does r starts).2 in omega (arith, as_many)
   asks_as_many (Err (fault.Panic x)) h r starts = let as_many = (h.does r starts).5 in omega (arith, as_many)
   asks_as_many (Err (fault.StackLimit used asked limit)) h r starts = let as_many = (h.does r starts).2 in omega (arith, as_many)
+  asks_as_many (Err (fault.HeapLimit used asked limit)) h r starts = let as_many = (h.does r starts).2 in omega (arith, as_many)
   asks_as_many (Err fault.Steps) h r starts = (h.does r starts).3
   asks_as_many (Err fault.ReadFault) h r starts =
       let did = h.does r starts in
@@ -169,6 +179,7 @@ module _ (p : Program) (b : Bounds) (untouched : Type 0) (old new : Streams) whe
   asked_or_untouched (Err (fault.Panic x)) h = other (Err (fault.Panic x)) h (λ e. absurd cc e)
   asked_or_untouched (Err fault.Steps) h = other (Err fault.Steps) h (λ e. absurd cc e)
   asked_or_untouched (Err (fault.StackLimit used asked limit)) h = other (Err (fault.StackLimit used asked limit)) h (λ e. absurd cc e)
+  asked_or_untouched (Err (fault.HeapLimit used asked limit)) h = other (Err (fault.HeapLimit used asked limit)) h (λ e. absurd cc e)
 
 -- what a run of a text's program leaves, a run of the text leaves
 pub of_text : (file text : List ℕ) (b : Bounds) (a : Answer) (old new : Streams) (p : Program) → IsTextOf text p → RanBy p b a old new → RanText file text b a old new
@@ -182,6 +193,7 @@ of_text file text b answer.ReadFault old new p is h = (p, is, h)
 of_text file text b answer.WriteFault old new p is h = (p, is, h)
 of_text file text b (answer.Steps n) old new p is h = (p, is, h)
 of_text file text b (answer.StackLimit used asked limit) old new p is h = (p, is, h)
+of_text file text b (answer.HeapLimit used asked limit) old new p is h = (p, is, h)
 of_text file text b answer.NoMemory old new p is h = inr (p, is, h)
 
 -- and of the input
@@ -214,6 +226,7 @@ module _ (old new : Seen) (words : List (List ℕ)) (path text : List ℕ) (read
   allowed_by answer.WriteFault h = (h.0, h.2.answers, run_of old new words path text reads files h.0 h.1 h.2.answers h.2.came, h.2.leaves)
   allowed_by (answer.Steps n) h = (h.0, h.2.answers, run_of old new words path text reads files h.0 h.1 h.2.answers h.2.came, h.2.leaves.0, h.2.leaves.1)
   allowed_by (answer.StackLimit used asked limit) h = (h.0, h.2.answers, run_of old new words path text reads files h.0 h.1 h.2.answers h.2.came, h.2.leaves)
+  allowed_by (answer.HeapLimit used asked limit) h = (h.0, h.2.answers, run_of old new words path text reads files h.0 h.1 h.2.answers h.2.came, h.2.leaves)
   allowed_by answer.NoMemory (inl quiet) = inl (record { io = quiet; files = files })
   allowed_by answer.NoMemory (inr h) = inr (h.0, h.2.answers, run_of old new words path text reads files h.0 h.1 h.2.answers h.2.came, h.2.leaves)
 

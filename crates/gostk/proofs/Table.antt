@@ -13,13 +13,13 @@ use Rattle.meaning.specs.Meaning.{Item}
 use Rattle.meaning.specs.Output.{Sight, output}
 use Rattle.compile.specs.Accepted.{Accepted}
 use Rattle.base.specs.declared.pos.Pos.{Pos}
-use Rattle.gostk.specs.Answer.{IsStatus, of_run, words_refused as for_words, text_refused as for_text, read_failed as for_reading, write_failed as for_writing, steps_passed as for_steps, stack_passed as for_stack, memory_refused as for_memory, status_of, line_of, reason_text, fault_text, panic_line, steps_line, stack_line}
+use Rattle.gostk.specs.Answer.{IsStatus, of_run, words_refused as for_words, text_refused as for_text, read_failed as for_reading, write_failed as for_writing, steps_passed as for_steps, heap_passed as for_heap, stack_passed as for_stack, memory_refused as for_memory, status_of, line_of, reason_text, fault_text, panic_line, steps_line, stack_line, heap_line}
 use Rattle.gostk.specs.Programs.{EndsBy, PanicsWith, PanicsBy, GoesOn, Begins, CameInOrder, Reading, few_turns, all_turns}
 use Rattle.gostk.specs.Words.{bounds_of, is_source, path_of, Asks, IsOffLimits, IsNoSource}
 use Rattle.gostk.specs.Rows.{Seen, Reads, IsNoText, IsRunOf, GainedRead, Allowed, Reported, FinishedOrPanicked, WriteFailed, StepsPassed, TextRefused, MemoryRefused, IsWrong, IsMissing, IsUnaccepted, Comes, IsCalm, Completes, Does}
 use Rattle.gostk.proofs.Items.{none_came}
 use Rattle.gostk.specs.declared.answer.Answer.{Answer}
-use Rattle.gostk.specs.declared.answer.Answer.TheVariants.{Ended, Panicked, Usage, Limits, SourceOnly, Refused, ReadFault, WriteFault, Steps, StackLimit, NoMemory}
+use Rattle.gostk.specs.declared.answer.Answer.TheVariants.{Ended, Panicked, Usage, Limits, SourceOnly, Refused, ReadFault, WriteFault, Steps, StackLimit, HeapLimit, NoMemory}
 
 -- words that are refused ask for nothing
 on_limits : (b : Bounds) (f : LimitFault) → AreLimits b → IsFirstFault b f → ⊥
@@ -81,7 +81,7 @@ same_panic text at f h =
 
 module _ (p : Program) (b : Bounds) (answers : List Item) (old new : Seen) (came : CameInOrder old.io.left answers) (status : ℕ) (err err' : Option (List ℕ)) where
   does_nothing : status ≡ 209 → Does p b old new status err err'
-  does_nothing h = record { answers = answers; came = came; ends = λ r starts n e. inr h; panics = λ r starts at f e. inr h; meets = λ r starts u a l e. inr h; stops = λ r starts e. inr h }
+  does_nothing h = record { answers = answers; came = came; ends = λ r starts n e. inr h; panics = λ r starts at f e. inr h; meets = λ r starts u a l e. inr h; fills = λ r starts u a l e. inr h; stops = λ r starts e. inr h }
 
   does_end : (n : ℕ) → EndsBy p b answers (source.Exit n) old.io.taken new.io.taken → status ≡ n → Took err err' [] → Does p b old new status err err'
   does_end n ends is line = record {
@@ -90,6 +90,7 @@ module _ (p : Program) (b : Bounds) (answers : List Item) (old new : Seen) (came
     ends = λ r starts m e. let h = early_end p b answers (source.Exit n) (source.Exit m) old.io.taken new.io.taken r ends starts e in inl (is ∙ same n m h.0, h.1, line);
     panics = λ r starts at f e. absurd (no_fault n at f (early_end p b answers (source.Exit n) (source.Panic at f) old.io.taken new.io.taken r ends starts e).0);
     meets = λ r starts u a l e. absurd (other n u a l (early_end p b answers (source.Exit n) (source.StackLimit u a l) old.io.taken new.io.taken r ends starts e).0);
+    fills = λ r starts u a l e. absurd (no_heap n u a l (early_end p b answers (source.Exit n) (source.HeapLimit u a l) old.io.taken new.io.taken r ends starts e).0);
     stops = λ r starts e. absurd (none n (sym (ends.ends r starts) ∙ e));
   }
     where
@@ -98,6 +99,9 @@ module _ (p : Program) (b : Bounds) (answers : List Item) (old new : Seen) (came
 
       other : (n u a l : ℕ) → source.Exit n ≡ source.StackLimit u a l → ⊥
       other n u a l e = cc
+
+      no_heap : (n u a l : ℕ) → source.Exit n ≡ source.HeapLimit u a l → ⊥
+      no_heap n u a l e = cc
 
       no_fault : (n : ℕ) (at : Pos) (f : source.Fault) → source.Exit n ≡ source.Panic at f → ⊥
       no_fault n at f e = cc
@@ -114,6 +118,7 @@ module _ (p : Program) (b : Bounds) (answers : List Item) (old new : Seen) (came
         let h = early_panic p b answers text (source.Panic at f) old.io.taken new.io.taken r ends starts e in
         inl (is, h.1, subst (λ (t : List ℕ). Took err err' (panic_line t)) (same_panic text at f h.0) line);
     meets = λ r starts u a l e. absurd (no_panic text (source.StackLimit u a l) (early_panic p b answers text (source.StackLimit u a l) old.io.taken new.io.taken r ends starts e).0 (λ at f same. no_limit u a l at f same));
+    fills = λ r starts u a l e. absurd (no_panic text (source.HeapLimit u a l) (early_panic p b answers text (source.HeapLimit u a l) old.io.taken new.io.taken r ends starts e).0 (λ at f same. no_heap u a l at f same));
     stops = λ r starts e. absurd (let h = ends.ends r starts in none h.0 h.1 (sym h.2 ∙ e));
   }
     where
@@ -122,6 +127,9 @@ module _ (p : Program) (b : Bounds) (answers : List Item) (old new : Seen) (came
 
       no_limit : (u a l : ℕ) (at : Pos) (f : source.Fault) → source.StackLimit u a l ≡ source.Panic at f → ⊥
       no_limit u a l at f e = cc
+
+      no_heap : (u a l : ℕ) (at : Pos) (f : source.Fault) → source.HeapLimit u a l ≡ source.Panic at f → ⊥
+      no_heap u a l at f e = cc
 
       none : (at : Pos) (f : source.Fault) → Some (source.Panic at f) ≡ None → ⊥
       none at f e = cc
@@ -136,6 +144,7 @@ module _ (p : Program) (b : Bounds) (answers : List Item) (old new : Seen) (came
     meets = λ r starts u a l e.
         let h = early_end p b answers (source.StackLimit used asked limit) (source.StackLimit u a l) old.io.taken new.io.taken r ends starts e in
         inl (is, h.1, subst (λ (t : List ℕ). Took err err' t) (same u a l h.0) line);
+    fills = λ r starts u a l e. absurd (no_heap u a l (early_end p b answers (source.StackLimit used asked limit) (source.HeapLimit u a l) old.io.taken new.io.taken r ends starts e).0);
     stops = λ r starts e. absurd (none (sym (ends.ends r starts) ∙ e));
   }
     where
@@ -148,7 +157,39 @@ module _ (p : Program) (b : Bounds) (answers : List Item) (old new : Seen) (came
       no_fault : (at : Pos) (f : source.Fault) → source.StackLimit used asked limit ≡ source.Panic at f → ⊥
       no_fault at f e = cc
 
+      no_heap : (u a l : ℕ) → source.StackLimit used asked limit ≡ source.HeapLimit u a l → ⊥
+      no_heap u a l e = cc
+
       none : Some (source.StackLimit used asked limit) ≡ None → ⊥
+      none e = cc
+
+  does_fill : (used asked limit : ℕ) → EndsBy p b answers (source.HeapLimit used asked limit) old.io.taken new.io.taken → status ≡ 206 → Took err err' (heap_line used asked limit)
+      → Does p b old new status err err'
+  does_fill used asked limit ends is line = record {
+    answers = answers;
+    came = came;
+    ends = λ r starts m e. absurd (other m (early_end p b answers (source.HeapLimit used asked limit) (source.Exit m) old.io.taken new.io.taken r ends starts e).0);
+    panics = λ r starts at f e. absurd (no_fault at f (early_end p b answers (source.HeapLimit used asked limit) (source.Panic at f) old.io.taken new.io.taken r ends starts e).0);
+    meets = λ r starts u a l e. absurd (no_stack u a l (early_end p b answers (source.HeapLimit used asked limit) (source.StackLimit u a l) old.io.taken new.io.taken r ends starts e).0);
+    fills = λ r starts u a l e.
+        let h = early_end p b answers (source.HeapLimit used asked limit) (source.HeapLimit u a l) old.io.taken new.io.taken r ends starts e in
+        inl (is, h.1, subst (λ (t : List ℕ). Took err err' t) (same u a l h.0) line);
+    stops = λ r starts e. absurd (none (sym (ends.ends r starts) ∙ e));
+  }
+    where
+      same : (u a l : ℕ) → source.HeapLimit used asked limit ≡ source.HeapLimit u a l → heap_line used asked limit ≡ heap_line u a l
+      same u a l e = cc
+
+      other : (m : ℕ) → source.HeapLimit used asked limit ≡ source.Exit m → ⊥
+      other m e = cc
+
+      no_fault : (at : Pos) (f : source.Fault) → source.HeapLimit used asked limit ≡ source.Panic at f → ⊥
+      no_fault at f e = cc
+
+      no_stack : (u a l : ℕ) → source.HeapLimit used asked limit ≡ source.StackLimit u a l → ⊥
+      no_stack u a l e = cc
+
+      none : Some (source.HeapLimit used asked limit) ≡ None → ⊥
       none e = cc
 
   does_stop : (n : ℕ) → GoesOn p b answers old.io.taken new.io.taken → n ≡ b.steps → status ≡ 205 → Took err err' (steps_line n) → Does p b old new status err err'
@@ -158,6 +199,7 @@ module _ (p : Program) (b : Bounds) (answers : List Item) (old new : Seen) (came
     ends = λ r starts m e. absurd (none (source.Exit m) (sym (on.goes_on r starts) ∙ e));
     panics = λ r starts at f e. absurd (none (source.Panic at f) (sym (on.goes_on r starts) ∙ e));
     meets = λ r starts u a l e. absurd (none (source.StackLimit u a l) (sym (on.goes_on r starts) ∙ e));
+    fills = λ r starts u a l e. absurd (none (source.HeapLimit u a l) (sym (on.goes_on r starts) ∙ e));
     stops = λ r starts e. inl (is, subst (λ (k : ℕ). Took err err' (steps_line k)) steps line);
   }
     where
@@ -188,6 +230,7 @@ module _ (old new : Seen) (words : List (List ℕ)) (status : ℕ) (err err' : O
   by_answer WriteFault h is line = absurd (calm.out h.3.rose)
   by_answer (Steps n) h is line = of_program h.0 h.1 h.2 (does_stop h.0 (bounds_of words) h.1 old new h.2.came status err err' n h.3 h.4 is line)
   by_answer (StackLimit u a l) h is line = of_program h.0 h.1 h.2 (does_meet h.0 (bounds_of words) h.1 old new h.2.came status err err' u a l h.3 is line)
+  by_answer (HeapLimit u a l) h is line = of_program h.0 h.1 h.2 (does_fill h.0 (bounds_of words) h.1 old new h.2.came status err err' u a l h.3 is line)
   by_answer NoMemory h is line = does_nothing program (bounds_of words) [] old new (none_came old.io.left) status err err' is
 
 -- what comes where a text is accepted and nothing fails
@@ -216,6 +259,7 @@ module _ (old new : Seen) (words : List (List ℕ)) (status : ℕ) (before now :
   wrong_by WriteFault h wrong (inl is) = absurd (wrong h.2.path h.2.reads.asks)
   wrong_by (Steps n) h wrong (inl is) = absurd (wrong h.2.path h.2.reads.asks)
   wrong_by (StackLimit u x l) h wrong (inl is) = absurd (wrong h.2.path h.2.reads.asks)
+  wrong_by (HeapLimit u x l) h wrong (inl is) = absurd (wrong h.2.path h.2.reads.asks)
   wrong_by NoMemory h wrong (inl is) = inr is
 
   -- a file that is missing
@@ -236,6 +280,7 @@ module _ (old new : Seen) (words : List (List ℕ)) (status : ℕ) (before now :
   missing_by WriteFault h m (inl is) = absurd (no_file m.0 m.1 m.2 h.2.path h.2.text h.2.reads)
   missing_by (Steps n) h m (inl is) = absurd (no_file m.0 m.1 m.2 h.2.path h.2.text h.2.reads)
   missing_by (StackLimit u x l) h m (inl is) = absurd (no_file m.0 m.1 m.2 h.2.path h.2.text h.2.reads)
+  missing_by (HeapLimit u x l) h m (inl is) = absurd (no_file m.0 m.1 m.2 h.2.path h.2.text h.2.reads)
   missing_by NoMemory h m (inl is) = inr is
 
   -- a text that is not accepted
@@ -258,6 +303,7 @@ module _ (old new : Seen) (words : List (List ℕ)) (status : ℕ) (before now :
   unaccepted_by WriteFault h u (inl is) = absurd (no_run u.0 u.1 u.2 u.3 u.4 h.0 h.1 h.2)
   unaccepted_by (Steps n) h u (inl is) = absurd (no_run u.0 u.1 u.2 u.3 u.4 h.0 h.1 h.2)
   unaccepted_by (StackLimit x y z) h u (inl is) = absurd (no_run u.0 u.1 u.2 u.3 u.4 h.0 h.1 h.2)
+  unaccepted_by (HeapLimit x y z) h u (inl is) = absurd (no_run u.0 u.1 u.2 u.3 u.4 h.0 h.1 h.2)
   unaccepted_by NoMemory h u (inl is) = inr (inl is)
 
 how : (a : Answer) (status : ℕ) (err err' : Option (List ℕ)) (before now : ℕ) → Reported a status err err' before now → (status ≡ status_of a) ⊎ ((status ≡ 204) × Rose before now)
@@ -295,6 +341,7 @@ finished old new words ReadFault status err err' before now al (inl h) le = absu
 finished old new words WriteFault status err err' before now al (inl h) le = absurd (omega (arith, h.0, le))
 finished old new words (Steps n) status err err' before now al (inl h) le = absurd (omega (arith, h.0, le))
 finished old new words (StackLimit u x l) status err err' before now al (inl h) le = absurd (omega (arith, h.0, le))
+finished old new words (HeapLimit u x l) status err err' before now al (inl h) le = absurd (omega (arith, h.0, le))
 finished old new words NoMemory status err err' before now al (inl h) le = absurd (omega (arith, h.0, le))
 
 pub write_failed : (old new : Seen) (words : List (List ℕ)) (a : Answer) (status : ℕ) (err err' : Option (List ℕ)) (before now : ℕ)
@@ -310,6 +357,7 @@ write_failed old new words ReadFault status err err' before now al (inl h) is = 
 write_failed old new words WriteFault status err err' before now al (inl h) is = inl (record { program = al.0; answers = al.1; run = al.2; out = al.3; line = h.1 })
 write_failed old new words (Steps n) status err err' before now al (inl h) is = absurd (omega (arith, h.0, is))
 write_failed old new words (StackLimit u x l) status err err' before now al (inl h) is = absurd (omega (arith, h.0, is))
+write_failed old new words (HeapLimit u x l) status err err' before now al (inl h) is = absurd (omega (arith, h.0, is))
 write_failed old new words NoMemory status err err' before now al (inl h) is = absurd (omega (arith, h.0, is))
 
 pub steps_passed : (old new : Seen) (words : List (List ℕ)) (a : Answer) (status : ℕ) (err err' : Option (List ℕ)) (before now : ℕ)
@@ -326,6 +374,7 @@ steps_passed old new words WriteFault status err err' before now al (inl h) is =
 steps_passed old new words (Steps n) status err err' before now al (inl h) is =
     record { program = al.0; answers = al.1; run = al.2; out = al.3; line = subst (λ (k : ℕ). Took err err' (steps_line k)) al.4 h.1 }
 steps_passed old new words (StackLimit u x l) status err err' before now al (inl h) is = absurd (omega (arith, h.0, is))
+steps_passed old new words (HeapLimit u x l) status err err' before now al (inl h) is = absurd (omega (arith, h.0, is))
 steps_passed old new words NoMemory status err err' before now al (inl h) is = absurd (omega (arith, h.0, is))
 
 pub text_refused : (old new : Seen) (words : List (List ℕ)) (a : Answer) (status : ℕ) (err err' : Option (List ℕ)) (before now : ℕ)
@@ -342,6 +391,7 @@ text_refused old new words ReadFault status err err' before now al (inl h) is = 
 text_refused old new words WriteFault status err err' before now al (inl h) is = absurd (omega (arith, h.0, is))
 text_refused old new words (Steps n) status err err' before now al (inl h) is = absurd (omega (arith, h.0, is))
 text_refused old new words (StackLimit u x l) status err err' before now al (inl h) is = absurd (omega (arith, h.0, is))
+text_refused old new words (HeapLimit u x l) status err err' before now al (inl h) is = absurd (omega (arith, h.0, is))
 text_refused old new words NoMemory status err err' before now al (inl h) is = absurd (omega (arith, h.0, is))
 
 pub memory_refused : (old new : Seen) (words : List (List ℕ)) (a : Answer) (status : ℕ) (err err' : Option (List ℕ)) (before now : ℕ)
@@ -357,6 +407,7 @@ memory_refused old new words ReadFault status err err' before now al (inl h) is 
 memory_refused old new words WriteFault status err err' before now al (inl h) is = absurd (omega (arith, h.0, is))
 memory_refused old new words (Steps n) status err err' before now al (inl h) is = absurd (omega (arith, h.0, is))
 memory_refused old new words (StackLimit u x l) status err err' before now al (inl h) is = absurd (omega (arith, h.0, is))
+memory_refused old new words (HeapLimit u x l) status err err' before now al (inl h) is = absurd (omega (arith, h.0, is))
 memory_refused old new words NoMemory status err err' before now al (inl h) is = record { when = al; line = h.1 }
 
 -- every answer has a status of the table
@@ -371,6 +422,7 @@ answer_status old new words ReadFault al = for_reading
 answer_status old new words WriteFault al = for_writing
 answer_status old new words (Steps n) al = for_steps
 answer_status old new words (StackLimit u x l) al = for_stack
+answer_status old new words (HeapLimit u x l) al = for_heap
 answer_status old new words NoMemory al = for_memory
 
 pub has_status : (old new : Seen) (words : List (List ℕ)) (a : Answer) (status : ℕ) (err err' : Option (List ℕ)) (before now : ℕ) → Allowed old new words a → Reported a status err err' before now → IsStatus status

@@ -8,8 +8,8 @@ use Rattle.limits.specs.Limits.{fault_number}
 use Rattle.gostk.specs.Refusal.{refusal_line}
 use Rattle.gostk.specs.declared.answer.Answer.{Answer}
 use Rattle.gostk.specs.declared.answer.Reason.{Reason}
-use Rattle.gostk.specs.declared.answer.Reason.TheVariants.{DivideByZero, ShiftCount, ExitCode, Text, Int, Bool as Truth}
-use Rattle.gostk.specs.declared.answer.Answer.TheVariants.{Ended, Panicked, Usage, Limits, SourceOnly, Refused, ReadFault, WriteFault, Steps, StackLimit, NoMemory}
+use Rattle.gostk.specs.declared.answer.Reason.TheVariants.{DivideByZero, NilPointer, ShiftCount, ExitCode, Text, Int, Bool as Truth}
+use Rattle.gostk.specs.declared.answer.Answer.TheVariants.{Ended, Panicked, Usage, Limits, SourceOnly, Refused, ReadFault, WriteFault, Steps, StackLimit, HeapLimit, NoMemory}
 
 abbrev pub status_of : Answer → ℕ
 status_of (Ended status) = status
@@ -22,6 +22,7 @@ status_of ReadFault = 203
 status_of WriteFault = 204
 status_of (Steps n) = 205
 status_of (StackLimit used asked limit) = 207
+status_of (HeapLimit used asked limit) = 206
 status_of NoMemory = 209
 
 -- the statuses that the program ends with: those of a program that ran, and those of the table
@@ -32,6 +33,7 @@ pub data IsStatus : ℕ → Type 0 where
   read_failed : IsStatus 203
   write_failed : IsStatus 204
   steps_passed : IsStatus 205
+  heap_passed : IsStatus 206
   stack_passed : IsStatus 207
   memory_refused : IsStatus 209
 
@@ -41,9 +43,16 @@ limits_line fault = codes "gostk: limits kind " ++ (decimal (fault_number fault)
 abbrev pub steps_line : ℕ → List ℕ
 steps_line n = codes "gostk: steps " ++ (decimal n ++ codes "\n")
 
+-- the line of a limit: the words in use, those asked for, and the limit
+abbrev pub limit_line : List ℕ → (used asked limit : ℕ) → List ℕ
+limit_line before used asked limit =
+    before ++ (decimal used ++ (codes " asked " ++ (decimal asked ++ (codes " limit " ++ (decimal limit ++ codes "\n")))))
+
 abbrev pub stack_line : (used asked limit : ℕ) → List ℕ
-stack_line used asked limit =
-    codes "gostk: stack used " ++ (decimal used ++ (codes " asked " ++ (decimal asked ++ (codes " limit " ++ (decimal limit ++ codes "\n")))))
+stack_line used asked limit = limit_line (codes "gostk: stack used ") used asked limit
+
+abbrev pub heap_line : (used asked limit : ℕ) → List ℕ
+heap_line used asked limit = limit_line (codes "gostk: heap used ") used asked limit
 
 -- why a program panics, in words
 abbrev pub truth_text : Bool → List ℕ
@@ -52,6 +61,7 @@ truth_text false = codes "false"
 
 abbrev pub reason_text : Reason → List ℕ
 reason_text DivideByZero = codes "divide by zero"
+reason_text NilPointer = codes "nil pointer"
 reason_text (ShiftCount n) = codes "shift count " ++ signed_decimal n
 reason_text (ExitCode n) = codes "exit code " ++ signed_decimal n
 reason_text (Text bytes) = bytes.items
@@ -84,4 +94,5 @@ line_of ReadFault = codes "gostk: read fault\n"
 line_of WriteFault = codes "gostk: write fault\n"
 line_of (Steps n) = steps_line n
 line_of (StackLimit used asked limit) = stack_line used asked limit
+line_of (HeapLimit used asked limit) = heap_line used asked limit
 line_of NoMemory = codes "gostk: no memory\n"

@@ -39,13 +39,13 @@ pub record Begins (answers : List Item) (r : Reading) : Type 0 where
   pub numbers : AreNumbers r
   pub has : HasFrom r 0 answers
 
--- what the source of a program shows in as many turns as steps are allowed, under the limit of the stack
+-- what the source of a program shows in as many turns as steps are allowed, under the limits of the stack and the heap
 abbrev pub all_turns : Program → Bounds → Reading → Outcome Sight Ending
-all_turns p b r = source r p (limits p b.stack_max) b.steps
+all_turns p b r = source r p (limits p b.stack_max b.heap_max) b.steps
 
 -- and in a sixteenth of them, rounded down
 abbrev pub few_turns : Program → Bounds → Reading → Outcome Sight Ending
-few_turns p b r = source r p (limits p b.stack_max) (b.steps / 16)
+few_turns p b r = source r p (limits p b.stack_max b.heap_max) (b.steps / 16)
 
 -- within the turns the source ends so, it asks for just the items that came, and out took exactly what it prints; where it
 -- ends in the sixteenth of them already, that is the same run

@@ -11,7 +11,7 @@ use Rattle.meaning.specs.Trace as source
 use Rattle.meaning.specs.Meaning.{Item}
 use Rattle.meaning.specs.Output.{output}
 use Rattle.base.specs.declared.pos.Pos.{Pos}
-use Rattle.gostk.specs.Answer.{status_of, line_of, reason_text, fault_text, panic_line, limits_line, steps_line, stack_line}
+use Rattle.gostk.specs.Answer.{status_of, line_of, reason_text, fault_text, panic_line, limits_line, steps_line, stack_line, heap_line}
 use Rattle.machine.specs.declared.place.Panic.{Panic as MachinePanic}
 use Rattle.codegen.specs.Correct.{same_fault}
 use Rattle.compile.specs.Accepted.{Accepted}
@@ -19,7 +19,7 @@ use Rattle.gostk.specs.Programs.{EndsBy, PanicsBy, GoesOn, PrintedFront, Printed
 use Rattle.gostk.specs.Refusal.{refusal_line}
 use Rattle.gostk.specs.Words.{bounds_of, Asks, IsUsage, IsOffLimits, IsNoSource}
 use Rattle.gostk.specs.declared.answer.Answer.{Answer}
-use Rattle.gostk.specs.declared.answer.Answer.TheVariants.{Ended, Panicked, Usage, Limits, SourceOnly, Refused, ReadFault, WriteFault, Steps, StackLimit, NoMemory}
+use Rattle.gostk.specs.declared.answer.Answer.TheVariants.{Ended, Panicked, Usage, Limits, SourceOnly, Refused, ReadFault, WriteFault, Steps, StackLimit, HeapLimit, NoMemory}
 use Rattle.gostk.specs.declared.refusal.Refusal.{Refusal}
 use Rattle.gostk.specs.declared.words.WordsFault.{WordsFault}
 use Rattle.gostk.specs.declared.words.WordsFault.TheVariants as words
@@ -120,6 +120,8 @@ Allowed old new words (Steps n) =
     (p : Program) × (answers : List Item) × IsRunOf p answers old new words × GoesOn p (bounds_of words) answers old.io.taken new.io.taken × (n ≡ (bounds_of words).steps)
 Allowed old new words (StackLimit used asked limit) =
     (p : Program) × (answers : List Item) × IsRunOf p answers old new words × EndsBy p (bounds_of words) answers (source.StackLimit used asked limit) old.io.taken new.io.taken
+Allowed old new words (HeapLimit used asked limit) =
+    (p : Program) × (answers : List Item) × IsRunOf p answers old new words × EndsBy p (bounds_of words) answers (source.HeapLimit used asked limit) old.io.taken new.io.taken
 Allowed old new words NoMemory =
     IsUntouched old new ⊎ ((p : Program) × (answers : List Item) × IsRunOf p answers old new words × PrintedFront p (bounds_of words) answers old.io.taken new.io.taken)
 
@@ -216,6 +218,17 @@ pub record StackPassed (old new : Seen) (words : List (List ℕ)) (err err' : Op
   pub out : EndsBy program (bounds_of words) answers (source.StackLimit used asked limit) old.io.taken new.io.taken
   pub line : Took err err' (stack_line used asked limit)
 
+-- 206: the same of the heap
+pub record HeapPassed (old new : Seen) (words : List (List ℕ)) (err err' : Option (List ℕ)) : Type 0 where
+  pub program : Program
+  pub answers : List Item
+  pub used : ℕ
+  pub asked : ℕ
+  pub limit : ℕ
+  pub run : IsRunOf program answers old new words
+  pub out : EndsBy program (bounds_of words) answers (source.HeapLimit used asked limit) old.io.taken new.io.taken
+  pub line : Took err err' (heap_line used asked limit)
+
 -- 209: nothing was written but the line; or the text is accepted, and out took a front part of what its program prints
 pub record MemoryRefused (old new : Seen) (words : List (List ℕ)) (err err' : Option (List ℕ)) : Type 0 where
   pub when : IsUntouched old new ⊎ ((p : Program) × (answers : List Item) × IsRunOf p answers old new words × PrintedFront p (bounds_of words) answers old.io.taken new.io.taken)
@@ -262,6 +275,12 @@ MeetsLimit p b answers old new status err err' =
     (r : Reading) → Begins answers r → (used asked limit : ℕ) → ending_in (few_turns p b r) ≡ Some (source.StackLimit used asked limit)
     → ((status ≡ 207) × Took old.io.taken new.io.taken (output (few_turns p b r)) × Took err err' (stack_line used asked limit)) ⊎ (status ≡ 209)
 
+-- the program meets the limit of the heap in a sixteenth of the turns, so it does here
+abbrev pub FillsHeap : Program → Bounds → List Item → Seen → Seen → ℕ → Option (List ℕ) → Option (List ℕ) → Type 0
+FillsHeap p b answers old new status err err' =
+    (r : Reading) → Begins answers r → (used asked limit : ℕ) → ending_in (few_turns p b r) ≡ Some (source.HeapLimit used asked limit)
+    → ((status ≡ 206) × Took old.io.taken new.io.taken (output (few_turns p b r)) × Took err err' (heap_line used asked limit)) ⊎ (status ≡ 209)
+
 -- the program goes on beyond all turns, so it is stopped here
 abbrev pub StopsHere : Program → Bounds → List Item → ℕ → Option (List ℕ) → Option (List ℕ) → Type 0
 StopsHere p b answers status err err' =
@@ -275,6 +294,7 @@ pub record Does (p : Program) (b : Bounds) (old new : Seen) (status : ℕ) (err 
   pub ends : EndsHere p b answers old new status err err'
   pub panics : PanicsHere p b answers old new status err err'
   pub meets : MeetsLimit p b answers old new status err err'
+  pub fills : FillsHeap p b answers old new status err err'
   pub stops : StopsHere p b answers status err err'
 
 abbrev pub Completes : Seen → Seen → List (List ℕ) → ℕ → Option (List ℕ) → Option (List ℕ) → ℕ → ℕ → Type 0
@@ -288,6 +308,7 @@ Ran p b answers (Ended status) old new = EndsBy p b answers (source.Exit status)
 Ran p b answers (Panicked reason) old new = PanicsBy p b answers (reason_text reason) old.taken new.taken
 Ran p b answers (Steps n) old new = GoesOn p b answers old.taken new.taken × (n ≡ b.steps)
 Ran p b answers (StackLimit used asked limit) old new = EndsBy p b answers (source.StackLimit used asked limit) old.taken new.taken
+Ran p b answers (HeapLimit used asked limit) old new = EndsBy p b answers (source.HeapLimit used asked limit) old.taken new.taken
 Ran p b answers ReadFault old new = AsksInVain p b answers old.taken new.taken old.read_faults new.read_faults
 Ran p b answers WriteFault old new = PrintedPart p b answers old.taken new.taken old.faults new.faults
 Ran p b answers NoMemory old new = PrintedFront p b answers old.taken new.taken

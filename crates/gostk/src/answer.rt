@@ -9,6 +9,8 @@ use limits::LimitFault;
 #[derive(Debug, Drop)]
 pub enum Reason {
     DivideByZero,
+    /// A pointer that is nil was followed.
+    NilPointer,
     /// The count of a shift, which is below 0.
     ShiftCount(i64),
     /// The status of an exit, which is not from 0 to 125.
@@ -42,6 +44,8 @@ pub enum Answer<'a> {
     Steps(u64),
     /// A call would have passed the limit of the stack: the words in use, those asked for, and the limit.
     StackLimit { used: u64, asked: u64, limit: u64 },
+    /// The package variables would have passed the limit of the heap: the words taken, those asked for, and the limit.
+    HeapLimit { used: u64, asked: u64, limit: u64 },
     /// Memory was refused.
     NoMemory,
 }
@@ -59,6 +63,7 @@ impl Answer<'_> {
             Answer::ReadFault => 203,
             Answer::WriteFault => 204,
             Answer::Steps(_) => 205,
+            Answer::HeapLimit { .. } => 206,
             Answer::StackLimit { .. } => 207,
             Answer::NoMemory => 209,
         }

@@ -2,15 +2,16 @@
 ghost use Rattle.std.specs.Fmt.{signed_decimal};
 ghost use Rattle.std.specs.Prelude.{◌++◌, OnOk, OnErr, codes};
 ghost use Rattle.outside.specs.Causes.{HasCause};
+ghost use Rattle.outside.specs.Line.{text_of};
 ghost use Rattle.outside.specs.Took.{Took, TookPrefix};
-ghost use Rattle.gostk.specs.Answer.{line_of, reason_text, panic_line, limits_line, steps_line, stack_line};
+ghost use Rattle.gostk.specs.Answer.{line_of, reason_text, panic_line, limits_line, steps_line, limit_line};
 ghost use Rattle.gostk.specs.Refusal.{refusal_line};
 ghost use Rattle.gostk.specs.Rows.{Reported};
 
 use crate::answer::{Answer, Reason};
 use crate::refusal::Refusal;
 use limits::LimitFault;
-use outside::{Piece, Sink, WriteFault, put_bytes, put_line};
+use outside::{Failed, Piece, Sink, put_bytes, put_line};
 
 /// The status where the line can't be written.
 const WRITE_FAULT: u8 = 204;
@@ -26,112 +27,142 @@ pub fn report<E: Sink>(answer: &Answer<'_>, err: &mut E) -> u8
     }
 }
 
+// Writes a whole text.
+fn put_text<E: Sink>(text: &[u8], err: &mut E) -> Result<(), Failed>
+    ensures whole { OnOk result (Took (E.taken err.old) (E.taken err.new) text.now) }
+    ensures part { OnErr result (TookPrefix (E.taken err.old) (E.taken err.new) text.now) }
+    ensures cause { HasCause (E.faults err.old) (E.faults err.new) result }
+{
+    match put_bytes(err, text) {
+        Ok(()) => Ok(()),
+        Err(_) => Err(Failed),
+    }
+}
+
+// Writes a line from its pieces.
+fn put_pieces<E: Sink>(pieces: &[Piece<'_>], err: &mut E) -> Result<(), Failed>
+    ensures whole { OnOk result (Took (E.taken err.old) (E.taken err.new) (text_of pieces.now)) }
+    ensures part { OnErr result (TookPrefix (E.taken err.old) (E.taken err.new) (text_of pieces.now)) }
+    ensures cause { HasCause (E.faults err.old) (E.faults err.new) result }
+{
+    match put_line(err, pieces) {
+        Ok(()) => Ok(()),
+        Err(_) => Err(Failed),
+    }
+}
+
 // Writes the answer's line, where it has one.
-fn put_answer<E: Sink>(answer: &Answer<'_>, err: &mut E) -> Result<(), WriteFault>
+fn put_answer<E: Sink>(answer: &Answer<'_>, err: &mut E) -> Result<(), Failed>
     ensures whole { OnOk result (Took (E.taken err.old) (E.taken err.new) (line_of answer.now)) }
     ensures part { OnErr result (TookPrefix (E.taken err.old) (E.taken err.new) (line_of answer.now)) }
     ensures cause { HasCause (E.faults err.old) (E.faults err.new) result }
 {
     match answer {
-        Answer::Ended(_) => put_bytes(err, b""),
+        Answer::Ended(_) => put_text(b"", err),
         Answer::Panicked(reason) => put_panic(reason, err),
-        Answer::Usage(text) => put_bytes(err, text.as_bytes()),
+        Answer::Usage(text) => put_text(text.as_bytes(), err),
         Answer::Limits(fault) => put_limits(*fault, err),
-        Answer::SourceOnly => put_bytes(err, b"gostk: source only\n"),
+        Answer::SourceOnly => put_text(b"gostk: source only\n", err),
         Answer::Refused { file, refusal } => put_refusal(file, refusal, err),
-        Answer::ReadFault => put_bytes(err, b"gostk: read fault\n"),
-        Answer::WriteFault => put_bytes(err, b"gostk: write fault\n"),
+        Answer::ReadFault => put_text(b"gostk: read fault\n", err),
+        Answer::WriteFault => put_text(b"gostk: write fault\n", err),
         Answer::Steps(n) => put_steps(*n, err),
-        Answer::StackLimit { used, asked, limit } => put_stack(*used, *asked, *limit, err),
-        Answer::NoMemory => put_bytes(err, b"gostk: no memory\n"),
+        Answer::StackLimit { used, asked, limit } => {
+            put_limit(b"gostk: stack used ", *used, *asked, *limit, err)
+        }
+        Answer::HeapLimit { used, asked, limit } => {
+            put_limit(b"gostk: heap used ", *used, *asked, *limit, err)
+        }
+        Answer::NoMemory => put_text(b"gostk: no memory\n", err),
     }
 }
 
 // Writes the line of a panic.
-fn put_panic<E: Sink>(reason: &Reason, err: &mut E) -> Result<(), WriteFault>
+fn put_panic<E: Sink>(reason: &Reason, err: &mut E) -> Result<(), Failed>
     ensures whole { OnOk result (Took (E.taken err.old) (E.taken err.new) (panic_line (reason_text reason.now))) }
     ensures part { OnErr result (TookPrefix (E.taken err.old) (E.taken err.new) (panic_line (reason_text reason.now))) }
     ensures cause { HasCause (E.faults err.old) (E.faults err.new) result }
 {
     match reason {
-        Reason::DivideByZero => put_bytes(err, b"panic: divide by zero\n"),
+        Reason::DivideByZero => put_text(b"panic: divide by zero\n", err),
+        Reason::NilPointer => put_text(b"panic: nil pointer\n", err),
         Reason::ShiftCount(n) => put_panic_number(b"panic: shift count ", *n, err),
         Reason::ExitCode(n) => put_panic_number(b"panic: exit code ", *n, err),
-        Reason::Text(bytes) => put_line(
-            err,
+        Reason::Text(bytes) => put_pieces(
             &[
                 Piece::Text(b"panic: "),
                 Piece::Text(bytes.as_slice()),
                 Piece::Text(b"\n"),
             ],
+            err,
         ),
         Reason::Int(n) => put_panic_number(b"panic: ", *n, err),
-        Reason::Bool(true) => put_bytes(err, b"panic: true\n"),
-        Reason::Bool(false) => put_bytes(err, b"panic: false\n"),
+        Reason::Bool(true) => put_text(b"panic: true\n", err),
+        Reason::Bool(false) => put_text(b"panic: false\n", err),
     }
 }
 
 // Writes the line of a panic that has a number.
-fn put_panic_number<E: Sink>(before: &[u8], n: i64, err: &mut E) -> Result<(), WriteFault>
+fn put_panic_number<E: Sink>(before: &[u8], n: i64, err: &mut E) -> Result<(), Failed>
     ensures whole { OnOk result (Took (E.taken err.old) (E.taken err.new) (before.now ++ (signed_decimal n ++ codes "\n"))) }
     ensures part { OnErr result (TookPrefix (E.taken err.old) (E.taken err.new) (before.now ++ (signed_decimal n ++ codes "\n"))) }
     ensures cause { HasCause (E.faults err.old) (E.faults err.new) result }
 {
-    put_line(
-        err,
+    put_pieces(
         &[Piece::Text(before), Piece::Int(n), Piece::Text(b"\n")],
+        err,
     )
 }
 
 // Writes the line of limits that are refused.
-fn put_limits<E: Sink>(fault: LimitFault, err: &mut E) -> Result<(), WriteFault>
+fn put_limits<E: Sink>(fault: LimitFault, err: &mut E) -> Result<(), Failed>
     ensures whole { OnOk result (Took (E.taken err.old) (E.taken err.new) (limits_line fault)) }
     ensures part { OnErr result (TookPrefix (E.taken err.old) (E.taken err.new) (limits_line fault)) }
     ensures cause { HasCause (E.faults err.old) (E.faults err.new) result }
 {
     let text = Piece::Text(b"gostk: limits kind ");
     let kind = Piece::Number(u64::from(fault.number()));
-    put_line(err, &[text, kind, Piece::Text(b"\n")])
+    put_pieces(&[text, kind, Piece::Text(b"\n")], err)
 }
 
 // Writes the line of a run that was stopped after so many instructions.
-fn put_steps<E: Sink>(n: u64, err: &mut E) -> Result<(), WriteFault>
+fn put_steps<E: Sink>(n: u64, err: &mut E) -> Result<(), Failed>
     ensures whole { OnOk result (Took (E.taken err.old) (E.taken err.new) (steps_line n)) }
     ensures part { OnErr result (TookPrefix (E.taken err.old) (E.taken err.new) (steps_line n)) }
     ensures cause { HasCause (E.faults err.old) (E.faults err.new) result }
 {
     let text = Piece::Text(b"gostk: steps ");
-    put_line(err, &[text, Piece::Number(n), Piece::Text(b"\n")])
+    put_pieces(&[text, Piece::Number(n), Piece::Text(b"\n")], err)
 }
 
-// Writes the line of a stack's limit.
-fn put_stack<E: Sink>(used: u64, asked: u64, limit: u64, err: &mut E) -> Result<(), WriteFault>
-    ensures whole { OnOk result (Took (E.taken err.old) (E.taken err.new) (stack_line used asked limit)) }
-    ensures part { OnErr result (TookPrefix (E.taken err.old) (E.taken err.new) (stack_line used asked limit)) }
+// Writes the line of a limit of the stack or the heap.
+fn put_limit<E: Sink>(
+    before: &[u8],
+    used: u64,
+    asked: u64,
+    limit: u64,
+    err: &mut E,
+) -> Result<(), Failed>
+    ensures whole { OnOk result (Took (E.taken err.old) (E.taken err.new) (limit_line before.now used asked limit)) }
+    ensures part { OnErr result (TookPrefix (E.taken err.old) (E.taken err.new) (limit_line before.now used asked limit)) }
     ensures cause { HasCause (E.faults err.old) (E.faults err.new) result }
 {
-    let of_used = Piece::Text(b"gostk: stack used ");
-    let of_asked = Piece::Text(b" asked ");
-    let of_limit = Piece::Text(b" limit ");
-    let used = Piece::Number(used);
-    let asked = Piece::Number(asked);
-    let limit = Piece::Number(limit);
-    put_line(
-        err,
+    put_pieces(
         &[
-            of_used,
-            used,
-            of_asked,
-            asked,
-            of_limit,
-            limit,
+            Piece::Text(before),
+            Piece::Number(used),
+            Piece::Text(b" asked "),
+            Piece::Number(asked),
+            Piece::Text(b" limit "),
+            Piece::Number(limit),
             Piece::Text(b"\n"),
         ],
+        err,
     )
 }
 
 // Writes the line of a refusal.
-fn put_refusal<E: Sink>(file: &str, refusal: &Refusal, err: &mut E) -> Result<(), WriteFault>
+fn put_refusal<E: Sink>(file: &str, refusal: &Refusal, err: &mut E) -> Result<(), Failed>
     ensures whole { OnOk result (Took (E.taken err.old) (E.taken err.new) (refusal_line file.now refusal.now)) }
     ensures part { OnErr result (TookPrefix (E.taken err.old) (E.taken err.new) (refusal_line file.now refusal.now)) }
     ensures cause { HasCause (E.faults err.old) (E.faults err.new) result }
@@ -146,21 +177,21 @@ fn put_refusal<E: Sink>(file: &str, refusal: &Refusal, err: &mut E) -> Result<()
     let kind = Piece::Number(u64::from(refusal.kind));
     let newline = Piece::Text(b"\n");
     match refusal.words {
-        None => put_line(
-            err,
+        None => put_pieces(
             &[
                 file, colon, line, colon, col, blank, stage, of_kind, kind, newline,
             ],
+            err,
         ),
         Some(words) => {
             let of_words = Piece::Text(b" words ");
             let words = Piece::Number(words);
-            put_line(
-                err,
+            put_pieces(
                 &[
                     file, colon, line, colon, col, blank, stage, of_kind, kind, of_words, words,
                     newline,
                 ],
+                err,
             )
         }
     }

@@ -3,7 +3,7 @@ ghost use Rattle.std.specs.Prelude.{◌≡◌, ◌⊎◌, ℕ, ◌≤◌, List, 
 ghost use Rattle.typed.specs.Syntax.{Program};
 ghost use Rattle.compile.specs.Compiled.{Does, compiled_program};
 ghost use Rattle.gostk.specs.Words.{texts_of};
-ghost use Rattle.gostk.specs.Rows.{seen, streams, IsTextOf, Tells, Allowed, Reported, FinishedOrPanicked, WordsRefused, TextRefused, ReadFailed, WriteFailed, StepsPassed, StackPassed, MemoryRefused, GainedRead, IsWrong, IsMissing, IsUnaccepted, Comes, Completes, RanBy, RanText, Asking, RunsAsking, words_answer};
+ghost use Rattle.gostk.specs.Rows.{seen, streams, IsTextOf, Tells, Allowed, Reported, FinishedOrPanicked, WordsRefused, TextRefused, ReadFailed, WriteFailed, StepsPassed, HeapPassed, StackPassed, MemoryRefused, GainedRead, IsWrong, IsMissing, IsUnaccepted, Comes, Completes, RanBy, RanText, Asking, RunsAsking, words_answer};
 ghost use Rattle.gostk.specs.Answer.{IsStatus};
 ghost use Rattle.gostk.specs.declared.answer.Answer.{Answer};
 
@@ -25,6 +25,7 @@ fn panicked(alloc: Global, panic: Panic, strings: &[Vec<u8>]) -> Answer<'static>
 {
     let reason = match panic {
         Panic::DivideByZero => Reason::DivideByZero,
+        Panic::NilPointer => Reason::NilPointer,
         Panic::ShiftCount(n) => Reason::ShiftCount(n),
         Panic::ExitCode(n) => Reason::ExitCode(n),
         Panic::Text(number) => match text_of(alloc, number, strings) {
@@ -63,17 +64,18 @@ fn run_compiled<I: Source, O: Sink>(
     ensures input { (input.new ≡ input.old) ⊎ Asking (compiled_program compiled.now) limits.now (I.left input.old) }
 {
     let steps = limits.steps();
-    let stack_max = limits.stack_max();
-    let main = compiled.program.main;
-    match run(alloc, &compiled.code, main, stack_max, steps, input, out) {
+    let (stack_max, heap_max) = (limits.stack_max(), limits.heap_max());
+    let Compiled { program, code, .. } = compiled;
+    match run(alloc, program, code, stack_max, heap_max, steps, input, out) {
         Ok(status) => Answer::Ended(status),
-        Err(RunFault::Panic(panic)) => panicked(alloc, panic, compiled.code.strings()),
+        Err(RunFault::Panic(panic)) => panicked(alloc, panic, code.strings()),
         Err(RunFault::Steps) => Answer::Steps(steps),
         Err(RunFault::StackLimit { used, asked, limit }) => Answer::StackLimit {
             used,
             asked,
             limit,
         },
+        Err(RunFault::HeapLimit { used, asked, limit }) => Answer::HeapLimit { used, asked, limit },
         Err(RunFault::ReadFault) => Answer::ReadFault,
         Err(RunFault::WriteFault) => Answer::WriteFault,
         Err(RunFault::NoMemory) => Answer::NoMemory,
@@ -161,6 +163,7 @@ fn carry_out<'a, F: Files, I: Source, O: Sink>(
 /// | 203 | the file was not read; or the input failed where the program asks for an item | `gostk: read fault` |
 /// | 204 | `out` or `err` failed | `gostk: write fault`; where `err` failed, a part of the line of another row |
 /// | 205 | so many instructions ran, and the program has not ended | `gostk: steps N` |
+/// | 206 | the package variables would have passed the limit of the heap | `gostk: heap used U asked A limit M` |
 /// | 207 | a call would have passed the limit of the stack | `gostk: stack used U asked A limit M` |
 /// | 209 | memory was refused | `gostk: no memory` |
 pub fn gostk<F: Files, I: Source, O: Sink, E: Sink>(
@@ -201,6 +204,10 @@ pub fn gostk<F: Files, I: Source, O: Sink, E: Sink>(
         (seen (F.content files.new) (F.failed files.new) (streams (O.taken out.new) (O.faults out.new) (I.left input.new) (I.faults input.new))) (texts_of words.now)
         (E.taken err.old) (E.taken err.new) (E.faults err.old) (E.faults err.new) }
     ensures steps_passed { result ≡ 205 → StepsPassed
+        (seen (F.content files.old) (F.failed files.old) (streams (O.taken out.old) (O.faults out.old) (I.left input.old) (I.faults input.old)))
+        (seen (F.content files.new) (F.failed files.new) (streams (O.taken out.new) (O.faults out.new) (I.left input.new) (I.faults input.new))) (texts_of words.now)
+        (E.taken err.old) (E.taken err.new) }
+    ensures heap_passed { result ≡ 206 → HeapPassed
         (seen (F.content files.old) (F.failed files.old) (streams (O.taken out.old) (O.faults out.old) (I.left input.old) (I.faults input.old)))
         (seen (F.content files.new) (F.failed files.new) (streams (O.taken out.new) (O.faults out.new) (I.left input.new) (I.faults input.new))) (texts_of words.now)
         (E.taken err.old) (E.taken err.new) }

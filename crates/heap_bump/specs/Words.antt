@@ -22,7 +22,7 @@ AreTaken words at n = (first_address ≤ at) × (at + n ≤ first_address + leng
 abbrev pub word_at : List ℕ → ℕ → ℕ
 word_at words at = slice_index words (place_of at)
 
--- the words, with this word at an address
+-- the words, of which the one at an address is now this
 abbrev pub with_word : List ℕ → ℕ → ℕ → List ℕ
 with_word words at word = slice_set words (place_of at) word
 
@@ -30,6 +30,10 @@ with_word words at word = slice_set words (place_of at) word
 abbrev pub words_at : List ℕ → ℕ → ℕ → List ℕ
 words_at words from n = take n (drop (place_of from) words)
 
--- the words, with the n that stand from one address on put from another one on too
+-- the words, of which the n from one address on are now what the n from another one on were
 abbrev pub with_moved : List ℕ → ℕ → ℕ → ℕ → List ℕ
 with_moved words from to n = take (place_of to) words ++ words_at words from n ++ drop (place_of to + n) words
+
+-- the words, of which those from an address on are now these
+abbrev pub with_words : List ℕ → ℕ → List ℕ → List ℕ
+with_words words at put = take (place_of at) words ++ (put ++ drop (place_of at + length put) words)

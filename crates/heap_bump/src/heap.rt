@@ -1,6 +1,6 @@
 //! The heap.
 ghost use Rattle.std.specs.Prelude.{◌≡◌, ◌+◌, ◌<◌, ◌≤◌, ◌^◌, ◌++◌, [], length, replicate, Err, IfOk, IfErr, OnOk, OnErr};
-ghost use Rattle.heap_bump.specs.Words.{first_address, AreTaken, word_at, with_word, with_moved};
+ghost use Rattle.heap_bump.specs.Words.{first_address, AreTaken, word_at, with_word, with_moved, words_at, with_words};
 
 use crate::HeapFault;
 use std::alloc::Global;
@@ -92,8 +92,8 @@ impl Heap {
         requires { AreTaken self.old.words at 1 }
         ensures { self.new ≡ record self.old { words = with_word self.old.words at word } }
     {
-        let place = (at - HEAP_LOW) as usize;
-        self.words[place] = word;
+        let index = (at - HEAP_LOW) as usize;
+        self.words[index] = word;
     }
 
     /// Puts the n words from one address on at another one, as if through a copy.
@@ -105,5 +105,27 @@ impl Heap {
         let words = &mut self.words;
         let first = (from - HEAP_LOW) as usize;
         words.copy_within(first..first + n as usize, (to - HEAP_LOW) as usize);
+    }
+
+    /// The n words from an address on.
+    #[inline(always)]
+    pub fn words(&self, at: u64, n: usize) -> &[u64]
+        requires { AreTaken self.now.words at n }
+        ensures { result.now ≡ words_at self.now.words at n }
+    {
+        let words = &self.words;
+        let first = (at - HEAP_LOW) as usize;
+        &words[first..first + n]
+    }
+
+    /// Puts words from an address on.
+    #[inline(always)]
+    pub fn put(&mut self, at: u64, put: &[u64])
+        requires { AreTaken self.old.words at (length put.now) }
+        ensures { self.new ≡ record self.old { words = with_words self.old.words at put.now } }
+    {
+        let words = &mut self.words;
+        let first = (at - HEAP_LOW) as usize;
+        words[first..first + put.len()].copy_from_slice(put);
     }
 }

@@ -67,6 +67,12 @@ pub enum Instr {
     Argument { a: u16, b: u16 },
     /// The n incoming words from b on get the words of the slots from a on.
     SetResults { a: u16, b: u16, n: u16 },
+    /// The n slots from a on get the n words from the address on that lies off behind the word of b, as through a copy. Where
+    /// that word is 0, the program panics.
+    Load { a: u16, b: u16, off: u16, n: u16 },
+    /// The n words from the address on that lies off behind the word of a get the n words of the slots from c on, as through
+    /// a copy. Where the word of a is 0, the program panics.
+    Store { a: u16, off: u16, c: u16, n: u16 },
     /// Prints the slot's number in decimal.
     PrintInt { a: u16 },
     /// Prints `true` or `false`; every word but 0 is true.

@@ -6,6 +6,7 @@ use Rattle.outside.specs.Took.{Took, TookPrefix}
 use Rattle.outside.proofs.Took.{Took-trans, Took-nothing}
 use Rattle.simulation.specs.Steps.{Goes, Stops, events_of, behind, go_on, many}
 use Rattle.simulation.proofs.Whole.{many_none, many_more}
+use Rattle.heap_bump.specs.Words.{Words}
 use Rattle.isa.specs.Code.{Tables, IsCode}
 use Rattle.isa.specs.declared.instr.Instr.{Instr}
 use Rattle.isa.specs.declared.func.Func.{Func}
@@ -15,7 +16,7 @@ use Rattle.machine.specs.Answers.{Answers, AskedBehind, CallFits, Refused, WithA
 use Rattle.machine.specs.declared.place.Place.{Place}
 use Rattle.machine.proofs.Reading.{joined, follows, nothing_read, goes_on_is_no_fault}
 use Rattle.machine.specs.declared.place.Ending.{Ending}
-use Rattle.machine.specs.declared.place.Ending.TheVariants.{Exit, Panic, ReadFault, WriteFault, NoMemory, StackLimit, WildAddress, WildReturn, WildLink}
+use Rattle.machine.specs.declared.place.Ending.TheVariants.{Exit, Panic, ReadFault, WriteFault, NoMemory, StackLimit, HeapLimit, WildAddress, WildReturn, WildLink}
 
 -- a run that has come so far, with so many items read
 pub record Going (t : Tables) (max : ℕ) (items : ℕ → Item) (steps : ℕ) (first : State) (left : ℕ) (s : State) (answered : ℕ) (old now : Option (List ℕ)) : Type 0 where
@@ -150,6 +151,7 @@ module _ (t : Tables) (max : ℕ) (items : ℕ → Item) (steps : ℕ) (first : 
     ends (Exit n) a = stopped (Exit n) a
     ends (Panic x) a = stopped (Panic x) a
     ends (StackLimit used asked limit) a = stopped (StackLimit used asked limit) a
+    ends (HeapLimit used asked limit) a = stopped (HeapLimit used asked limit) a
     ends (WildAddress n) a = stopped (WildAddress n) a
     ends (WildReturn n) a = stopped (WildReturn n) a
     ends (WildLink n) a = stopped (WildLink n) a
@@ -197,7 +199,7 @@ call_events max frame (Some callee) s = by (nat_lt max (length s.words + callee.
         → events_of
         (let done : Does = if b
         then Stops [] (StackLimit (length s.words) callee.frame max)
-        else Goes [] (record { pc = callee.start; words = entered callee.frame (address_of max (length s.words - frame)) (s.pc + 1) (zeroed s.words callee.arguments callee.results); reads = s.reads }) in done)
+        else Goes [] (record { pc = callee.start; words = entered callee.frame (address_of max (length s.words - frame)) (s.pc + 1) (zeroed s.words callee.arguments callee.results); reads = s.reads; heap = s.heap }) in done)
         ≡ []
     by true = refl
     by false = refl
@@ -207,40 +209,40 @@ call_asks t max items s call =
     ap (λ i. asks_in (events_of (act_on t max items i s))) call.1 ∙ ap asks_in (call_events max (frame_of t (owner_of t s.pc)) (slice_get t.funcs call.0) s)
 
 -- how far a run is that began and goes on at these places of a block
-abbrev pub SoFar : Tables → ℕ → ℕ → List ℕ → Place → ℕ → List ℕ → Place → Option (List ℕ) → Option (List ℕ) → (ℕ → Item) → ℕ → ℕ → Type 0
-SoFar t max steps block0 at0 left block at old now items reads answered = Going t max items steps (state_of block0 at0 reads) left (state_of block at (reads + answered)) answered old now
+abbrev pub SoFar : Tables → ℕ → ℕ → List ℕ → Words → Place → ℕ → List ℕ → Words → Place → Option (List ℕ) → Option (List ℕ) → (ℕ → Item) → ℕ → ℕ → Type 0
+SoFar t max steps block0 heap0 at0 left block heap at old now items reads answered = Going t max items steps (state_of block0 at0 reads heap0) left (state_of block at (reads + answered) heap) answered old now
 
 -- how it answers
-abbrev pub RunAnswers : Tables → ℕ → ℕ → List ℕ → Place → List ℕ → Place → Option Ending → Option (List ℕ) → Option (List ℕ) → ℕ → ℕ → (ℕ → Item) → ℕ → ℕ → Type 0
-RunAnswers t max steps block0 at0 block at e old new before now items reads answered =
-    Answers (many (act t max items) steps (state_of block0 at0 reads)) (state_of block at (reads + answered)) answered e old new before now
-    × (e ≡ Some NoMemory → Refused t max items steps (state_of block0 at0 reads) answered old new)
+abbrev pub RunAnswers : Tables → ℕ → ℕ → List ℕ → Words → Place → List ℕ → Words → Place → Option Ending → Option (List ℕ) → Option (List ℕ) → ℕ → ℕ → (ℕ → Item) → ℕ → ℕ → Type 0
+RunAnswers t max steps block0 heap0 at0 block heap at e old new before now items reads answered =
+    Answers (many (act t max items) steps (state_of block0 at0 reads heap0)) (state_of block at (reads + answered) heap) answered e old new before now
+    × (e ≡ Some NoMemory → Refused t max items steps (state_of block0 at0 reads heap0) answered old new)
 
 -- how one step answers
-abbrev pub StepAnswers : Tables → ℕ → List ℕ → Place → List ℕ → Place → Option Ending → Option (List ℕ) → Option (List ℕ) → ℕ → ℕ → (ℕ → Item) → ℕ → ℕ → Type 0
-StepAnswers t max block0 at0 block at e old new before now items reads answered =
-    Answers (act t max items (state_of block0 at0 reads)) (state_of block at (reads + answered)) answered e old new before now
+abbrev pub StepAnswers : Tables → ℕ → List ℕ → Words → Place → List ℕ → Words → Place → Option Ending → Option (List ℕ) → Option (List ℕ) → ℕ → ℕ → (ℕ → Item) → ℕ → ℕ → Type 0
+StepAnswers t max block0 heap0 at0 block heap at e old new before now items reads answered =
+    Answers (act t max items (state_of block0 at0 reads heap0)) (state_of block at (reads + answered) heap) answered e old new before now
 
-module _ (t r : Tables) (max steps : ℕ) (block0 : List ℕ) (at0 : Place) (left : ℕ) (block : List ℕ) (at : Place) (block1 : List ℕ) (at1 : Place) (old now late : Option (List ℕ)) (before later last : ℕ) (come0 come come1 : Option (List ℕ)) (U V W : Type 0) (e : Option Ending)
-    (so_far : WithAnswers None come0 come U (SoFar t max steps block0 at0 left block at old now)) (some : 0 < left) (same : r ≡ t) (both : U → V → W) (did : WithAnswers e come come1 V (StepAnswers r max block at block1 at1 e now late later last)) where
-  pub on_by : e ≡ None → WithAnswers None come0 come1 W (SoFar t max steps block0 at0 (left - 1) block1 at1 old late)
+module _ (t r : Tables) (max steps : ℕ) (block0 : List ℕ) (heap0 : Words) (at0 : Place) (left : ℕ) (block : List ℕ) (heap : Words) (at : Place) (block1 : List ℕ) (heap1 : Words) (at1 : Place) (old now late : Option (List ℕ)) (before later last : ℕ) (come0 come come1 : Option (List ℕ)) (U V W : Type 0) (e : Option Ending)
+    (so_far : WithAnswers None come0 come U (SoFar t max steps block0 heap0 at0 left block heap at old now)) (some : 0 < left) (same : r ≡ t) (both : U → V → W) (did : WithAnswers e come come1 V (StepAnswers r max block heap at block1 heap1 at1 e now late later last)) where
+  pub on_by : e ≡ None → WithAnswers None come0 come1 W (SoFar t max steps block0 heap0 at0 (left - 1) block1 heap1 at1 old late)
   on_by none =
-      let one = subst (λ (x : Tables). WithAnswers e come come1 V (StepAnswers x max block at block1 at1 e now late later last)) same did in
-      let two = subst (λ x. WithAnswers x come come1 V (StepAnswers t max block at block1 at1 x now late later last)) none one in
-      joined None come0 come come1 U V W _ _ (SoFar t max steps block0 at0 (left - 1) block1 at1 old late) so_far two both
+      let one = subst (λ (x : Tables). WithAnswers e come come1 V (StepAnswers x max block heap at block1 heap1 at1 e now late later last)) same did in
+      let two = subst (λ x. WithAnswers x come come1 V (StepAnswers t max block heap at block1 heap1 at1 x now late later last)) none one in
+      joined None come0 come come1 U V W _ _ (SoFar t max steps block0 heap0 at0 (left - 1) block1 heap1 at1 old late) so_far two both
       (λ items reads a b g d.
       let order : reads + (a + b) ≡ reads + a + b = omega arith in
-      rw order (goes_on t max items steps (state_of block0 at0 reads) left (state_of block at (reads + a)) (state_of block1 at1 (reads + a + b)) a b old now late g some d))
+      rw order (goes_on t max items steps (state_of block0 at0 reads heap0) left (state_of block at (reads + a) heap) (state_of block1 at1 (reads + a + b) heap1) a b old now late g some d))
 
-  pub ends_by : (ending : Ending) → e ≡ Some ending → before ≤ later → (e ≡ Some NoMemory → CallFits r max at.pc (drop at.base block) × Took now late []) → WithAnswers e come0 come1 W (RunAnswers t max steps block0 at0 block1 at1 e old late before last)
+  pub ends_by : (ending : Ending) → e ≡ Some ending → before ≤ later → (e ≡ Some NoMemory → CallFits r max at.pc (drop at.base block) × Took now late []) → WithAnswers e come0 come1 W (RunAnswers t max steps block0 heap0 at0 block1 heap1 at1 e old late before last)
   ends_by ending is grown memory =
-      let one = subst (λ (x : Tables). WithAnswers e come come1 V (StepAnswers x max block at block1 at1 e now late later last)) same did in
-      joined e come0 come come1 U V W _ _ (RunAnswers t max steps block0 at0 block1 at1 e old late before last) so_far one both
+      let one = subst (λ (x : Tables). WithAnswers e come come1 V (StepAnswers x max block heap at block1 heap1 at1 e now late later last)) same did in
+      joined e come0 come come1 U V W _ _ (RunAnswers t max steps block0 heap0 at0 block1 heap1 at1 e old late before last) so_far one both
       (λ items reads a b g d.
       let order : reads + (a + b) ≡ reads + a + b = omega arith in
-      let s = state_of block at (reads + a) in
-      let first = state_of block0 at0 reads in
-      let new = state_of block1 at1 (reads + a + b) in
+      let s = state_of block at (reads + a) heap in
+      let first = state_of block0 at0 reads heap0 in
+      let new = state_of block1 at1 (reads + a + b) heap1 in
       let by_ending = subst (λ x. Answers (act t max items s) new b x now late later last) is d in
       let answers = ends t max items steps first left s new a b old now late g some before later last grown ending by_ending in (
         rw order (subst (λ x. Answers (many (act t max items) steps first) new (a + b) x old late before last) (sym is) answers),
@@ -252,16 +254,16 @@ module _ (t r : Tables) (max steps : ℕ) (block0 : List ℕ) (at0 : Place) (lef
             rw none (refused t max items steps first left s a old now late g some call fits.1),
       ))
 
-pub ran_out : (t : Tables) (max steps : ℕ) (block0 : List ℕ) (at0 : Place) (left : ℕ) (block : List ℕ) (at : Place) (old now : Option (List ℕ)) (before later : ℕ) (come0 come : Option (List ℕ)) (U : Type 0)
-    → WithAnswers None come0 come U (SoFar t max steps block0 at0 left block at old now) → left ≤ 0 → WithAnswers None come0 come U (RunAnswers t max steps block0 at0 block at None old now before later)
-ran_out t max steps block0 at0 left block at old now before later come0 come U so_far none =
-    follows None come0 come U _ (RunAnswers t max steps block0 at0 block at None old now before later) so_far
-    (λ items reads a g. (runs_out t max items steps (state_of block0 at0 reads) left (state_of block at (reads + a)) a old now before later g none, λ refusal. absurd (no_refusal refusal)))
+pub ran_out : (t : Tables) (max steps : ℕ) (block0 : List ℕ) (heap0 : Words) (at0 : Place) (left : ℕ) (block : List ℕ) (heap : Words) (at : Place) (old now : Option (List ℕ)) (before later : ℕ) (come0 come : Option (List ℕ)) (U : Type 0)
+    → WithAnswers None come0 come U (SoFar t max steps block0 heap0 at0 left block heap at old now) → left ≤ 0 → WithAnswers None come0 come U (RunAnswers t max steps block0 heap0 at0 block heap at None old now before later)
+ran_out t max steps block0 heap0 at0 left block heap at old now before later come0 come U so_far none =
+    follows None come0 come U _ (RunAnswers t max steps block0 heap0 at0 block heap at None old now before later) so_far
+    (λ items reads a g. (runs_out t max items steps (state_of block0 at0 reads heap0) left (state_of block at (reads + a) heap) a old now before later g none, λ refusal. absurd (no_refusal refusal)))
   where
     no_refusal : (let e : Option Ending = None in e ≡ Some NoMemory) → ⊥
     no_refusal e = cc
 
-pub at_start : (t : Tables) (max steps : ℕ) (block : List ℕ) (at : Place) (old come : Option (List ℕ)) (U : Type 0) → U → WithAnswers None come come U (SoFar t max steps block at steps block at old old)
-at_start t max steps block at old come U same =
-    nothing_read None come U (SoFar t max steps block at steps block at old old) goes_on_is_no_fault same
-    (λ items reads. let zero_more : reads + 0 ≡ reads = omega arith in rw zero_more (at_first t max items steps (state_of block at reads) old))
+pub at_start : (t : Tables) (max steps : ℕ) (block : List ℕ) (heap : Words) (at : Place) (old come : Option (List ℕ)) (U : Type 0) → U → WithAnswers None come come U (SoFar t max steps block heap at steps block heap at old old)
+at_start t max steps block heap at old come U same =
+    nothing_read None come U (SoFar t max steps block heap at steps block heap at old old) goes_on_is_no_fault same
+    (λ items reads. let zero_more : reads + 0 ≡ reads = omega arith in rw zero_more (at_first t max items steps (state_of block at reads heap) old))

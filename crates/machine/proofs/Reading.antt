@@ -1,15 +1,21 @@
 -- What a call read from the input, by what its parts read.
-use Rattle.std.proofs.Common.{◌≡◌, ◌≢◌, ℕ, suc, ◌+◌, List, [], ◌∷◌, ◌++◌, Option, Some, None, length, arith, refl, ap, sym, ◌∙◌, subst, length-append}
-use Rattle.std.specs.Prelude.{IfSome, FitsSigned}
+use Rattle.std.proofs.Common.{◌≡◌, ◌≢◌, ℕ, suc, Result, Ok, Err, append-nil, ◌+◌, List, [], ◌∷◌, ◌++◌, Option, Some, None, length, arith, refl, ap, sym, ◌∙◌, subst, length-append}
+use Rattle.std.specs.Prelude.{IfSome, FitsSigned, OnOk, OnErr}
 use Rattle.std.specs.Int.{w64}
+use Rattle.outside.specs.Causes.{HasCause}
 use Rattle.outside.specs.Items.{Reads, Loses}
+use Rattle.outside.specs.Puts.{Puts}
+use Rattle.outside.specs.declared.fault.WriteFault.{WriteFault as Fault}
 use Rattle.outside.proofs.Took.{Took-nothing}
 use Rattle.outside.specs.Took.{Took}
 use Rattle.simulation.specs.Steps.{Goes, Stops, events_of}
-use Rattle.machine.specs.Machine.{State, Does, Event, Asked, Item, asks_in, reads_item, item_words, put_words}
-use Rattle.machine.specs.Answers.{AllNumbers, Answers, Comes, HasFrom, ReadInOrder, ReadsUpTo, WithAnswers, printed_by}
+use Rattle.heap_bump.specs.Words.{Words}
+use Rattle.machine.specs.Machine.{State, Does, Event, Asked, Item, asks_in, prints, reads_item, item_words, put_words}
+use Rattle.machine.specs.Answers.{AllNumbers, Answers, Comes, HasFrom, ReadInOrder, ReadsUpTo, WithAnswers, printed_by, state_of}
+use Rattle.machine.specs.declared.place.Next.{Next}
+use Rattle.machine.specs.declared.place.Place.{Place}
 use Rattle.machine.specs.declared.place.Ending.{Ending}
-use Rattle.machine.specs.declared.place.Ending.TheVariants.{Exit, Panic, ReadFault, WriteFault, NoMemory, StackLimit, WildAddress, WildReturn, WildLink}
+use Rattle.machine.specs.declared.place.Ending.TheVariants.{Exit, Panic, ReadFault, WriteFault, NoMemory, StackLimit, HeapLimit, WildAddress, WildReturn, WildLink}
 
 has_front : (items : ℕ → Item) (n : ℕ) (a b : List Item) → HasFrom items n (a ++ b) → HasFrom items n a
 has_front items n [] b h = tt
@@ -103,17 +109,18 @@ told_nothing d s (Some NoMemory) taken faults c = ((printed_by d, record { done 
 told_nothing d s (Some (Exit n)) taken faults c = stops_quietly d (Exit n) taken c
 told_nothing d s (Some (Panic x)) taken faults c = stops_quietly d (Panic x) taken c
 told_nothing d s (Some (StackLimit used asked limit)) taken faults c = stops_quietly d (StackLimit used asked limit) taken c
+told_nothing d s (Some (HeapLimit used asked limit)) taken faults c = stops_quietly d (HeapLimit used asked limit) taken c
 told_nothing d s (Some (WildAddress n)) taken faults c = stops_quietly d (WildAddress n) taken c
 told_nothing d s (Some (WildReturn n)) taken faults c = stops_quietly d (WildReturn n) taken c
 told_nothing d s (Some (WildLink n)) taken faults c = stops_quietly d (WildLink n) taken c
 
 -- what comes of a read, and the state that it comes to
-pub item_read : (s new : State) (a : ℕ) (item answer : Item) → item ≡ answer → new.pc ≡ s.pc + 1 → new.words ≡ put_words s.words a (item_words answer) → new.reads ≡ s.reads + 1
+pub item_read : (s new : State) (a : ℕ) (item answer : Item) → item ≡ answer → new.pc ≡ s.pc + 1 → new.words ≡ put_words s.words a (item_words answer) → new.reads ≡ s.reads + 1 → new.heap ≡ s.heap
     → reads_item s a item ≡ Goes (Asked ∷ []) new
-item_read s new a item answer is pc words reads =
+item_read s new a item answer is pc words reads heap =
     let more : new.reads ≡ suc s.reads = omega (arith, reads) in
-    let same : (let x : State = record { pc = s.pc + 1; words = put_words s.words a (item_words answer); reads = suc s.reads } in x) ≡ new =
-    rw (sym pc, sym words, sym more) refl in
+    let same : (let x : State = record { pc = s.pc + 1; words = put_words s.words a (item_words answer); reads = suc s.reads; heap = s.heap } in x) ≡ new =
+    rw (sym pc, sym words, sym more, sym heap) refl in
     ap (reads_item s a) is ∙ ap (λ (x : State). let d : Does = Goes (Asked ∷ []) x in d) same
 
 -- a step that asks for an item, and the item came
@@ -125,3 +132,10 @@ asked_once d s taken faults is =
 -- the same, and the read failed
 pub asked_in_vain : (d : Does) (new : State) (taken : Option (List ℕ)) (faults : ℕ) → events_of d ≡ Asked ∷ [] → Answers d new 0 (Some ReadFault) taken taken faults faults
 asked_in_vain d new taken faults told = record { before = []; after = []; splits = sym told; asked = refl; took = Took-nothing taken }
+
+-- a piece was written, or the sink failed
+pub piece_printed : {T : Type 0} (words : List ℕ) (at : Place) (next : Next) (written : Result T Fault) (bytes piece : List ℕ) → bytes ≡ piece → (reads : ℕ) (heap : Words) (old new : Option (List ℕ)) (few many : Option ℕ) (before now : ℕ)
+    → OnOk written (next ≡ record { at = record { pc = at.pc + 1; base = at.base }; ending = None }) → OnErr written (next ≡ record { at = at; ending = Some WriteFault })
+    → Puts old new few many written piece → HasCause before now written → Answers (prints (state_of words at reads heap) bytes) (state_of words next.at reads heap) 0 next.ending old new before now
+piece_printed words at next (Ok x) bytes piece same reads heap old new few many before now ok err puts cause = rw ok (refl, rw (append-nil, same) puts.whole, refl)
+piece_printed words at next (Err f) bytes piece same reads heap old new few many before now ok err puts cause = rw err (rw (append-nil, same) puts.prefix, cause.failed, omega arith)

@@ -11,6 +11,9 @@ slot_read words base a = get_or-drop base words a 0
 pub slot_written : (words : List ℕ) (base a word : ℕ) → drop base (slice_set words (base + a) word) ≡ slice_set (drop base words) a word
 slot_written words base a word = drop-set-add base words a word
 
+pub slots_read : (words : List ℕ) (base a count : ℕ) → take count (drop (base + a) words) ≡ words_at (drop base words) a count
+slots_read words base a count = ap (take count) (sym (drop-drop a base words))
+
 -- words that are replaced behind an index, seen from the index
 pub put_behind : (words put : List ℕ) (base from : ℕ) → base + from ≤ length words → drop base (put_words words (base + from) put) ≡ put_words (drop base words) from put
 put_behind words put base from room =

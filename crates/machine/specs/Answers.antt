@@ -1,20 +1,21 @@
 -- Steps were done with the items that were read, and out took what they print; or a device failed in one, or memory was refused to one.
-use Rattle.std.specs.Prelude.{◌≡◌, ◌≢◌, ℕ, suc, ◌+◌, ◌<◌, ◌≤◌, ⊤, List, [], ◌∷◌, ◌++◌, length, drop, Option, Some, None, slice_get, IfSome, FitsSigned}
+use Rattle.std.specs.Prelude.{◌≡◌, ◌≢◌, ℕ, suc, ◌+◌, ◌<◌, ◌≤◌, ⊤, List, [], ◌∷◌, ◌++◌, length, drop, Bool, true, false, Option, Some, None, slice_get, IfSome, FitsSigned}
 use Rattle.std.specs.Int.{w64}
 use Rattle.outside.specs.Causes.{Rose}
 use Rattle.outside.specs.Items.{Reads, Loses}
 use Rattle.outside.specs.Took.{Took, TookPrefix}
 use Rattle.simulation.specs.Steps.{Goes, Stops, events_of, many}
+use Rattle.heap_bump.specs.Words.{Words}
 use Rattle.isa.specs.Code.{Tables}
 use Rattle.isa.specs.declared.instr.Instr.TheVariants.{Call}
 use Rattle.machine.specs.Machine.{State, Event, Asked, Item, Does, act, bytes_of, asks_in, frame_of}
 use Rattle.machine.specs.declared.place.Place.{Place}
 use Rattle.machine.specs.declared.place.Ending.{Ending}
-use Rattle.machine.specs.declared.place.Ending.TheVariants.{Exit, ReadFault, WriteFault, NoMemory}
+use Rattle.machine.specs.declared.place.Ending.TheVariants.{Exit, ReadFault, WriteFault, NoMemory, WildAddress}
 
--- the state whose frame begins at an index of a block of words, where so many items were read before
-abbrev pub state_of : List ℕ → Place → ℕ → State
-state_of block at reads = record { pc = at.pc; words = drop at.base block; reads = reads }
+-- the state whose frame begins at an index of a block of words, where so many items were read before, with a heap
+abbrev pub state_of : List ℕ → Place → ℕ → Words → State
+state_of block at reads heap = record { pc = at.pc; words = drop at.base block; reads = reads; heap = heap }
 
 abbrev pub printed_by : Does → List ℕ
 printed_by d = bytes_of (events_of d)
@@ -43,6 +44,11 @@ Comes d s (Some WriteFault) = ⊥
 Comes d s (Some NoMemory) = ⊤
 Comes d s None = d ≡ Goes [] s
 Comes d s (Some e) = d ≡ Stops [] e
+
+-- what comes of a touch of words from an address on, which lie somewhere or not
+abbrev pub touched : Bool → State → ℕ → Does
+touched true s at = Goes [] s
+touched false s at = Stops [] (WildAddress at)
 
 -- these answers came in order from a reader, in front of which stood the old bytes, and behind them the new ones
 abbrev pub ReadInOrder : Option (List ℕ) → Option (List ℕ) → List Item → Type 0

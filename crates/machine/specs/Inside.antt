@@ -1,9 +1,12 @@
 -- Places whose frame lies inside the words.
-use Rattle.std.specs.Prelude.{◌≡◌, ℕ, ◌+◌, ◌<◌, ◌≤◌, ⊤, length, slice_get, Some}
+use Rattle.std.specs.Prelude.{◌≡◌, ℕ, ◌+◌, ◌-◌, ◌<◌, ◌≤◌, ⊤, List, length, slice_get, Some}
+use Rattle.heap_bump.specs.Words.{AreTaken, first_address}
 use Rattle.isa.specs.Code.{Tables}
 use Rattle.isa.specs.declared.instr.Instr.{Instr}
-use Rattle.isa.specs.declared.instr.Instr.TheVariants.{Const, Move, MoveWords, Bin, Un, Jump, JumpZero, Call, Argument, SetResults, PrintInt, PrintBool, PrintText, ReadInt, Return, Exit, PanicText, PanicInt, PanicBool}
+use Rattle.isa.specs.declared.instr.Instr.TheVariants.{Const, Move, MoveWords, Bin, Un, Jump, JumpZero, Call, Argument, SetResults, Load, Store, PrintInt, PrintBool, PrintText, ReadInt, Return, Exit, PanicText, PanicInt, PanicBool}
 use Rattle.isa.specs.declared.func.Func.{Func}
+use Rattle.machine.specs.declared.memory.Spot.{Spot}
+use Rattle.machine.specs.declared.memory.Spot.TheVariants.{InHeap, InStack, Nowhere}
 
 pub record Inside (t : Tables) (long pc base : ℕ) : Type 0 where
   pub f : ℕ
@@ -44,6 +47,8 @@ Touches t long base (JumpZero a to) = base + a < long
 Touches t long base (Call g) = Callable t long base g
 Touches t long base (Argument a b) = base + a < long
 Touches t long base (SetResults a b n) = base + (a + n) ≤ long
+Touches t long base (Load a b off n) = (base + (a + n) ≤ long) × (base + b < long)
+Touches t long base (Store a off c n) = (base + a < long) × (base + (c + n) ≤ long)
 Touches t long base (PrintInt a) = base + a < long
 Touches t long base (PrintBool a) = base + a < long
 Touches t long base (PrintText text) = text < length t.strings
@@ -52,3 +57,9 @@ Touches t long base (Exit a) = base + a < long
 Touches t long base (PanicInt a) = base + a < long
 Touches t long base (PanicBool a) = base + a < long
 Touches t long base _ = ⊤
+
+-- words that lie somewhere are taken ones of the heap, or lie behind the frame's lowest word in a block of so many
+abbrev pub Reached : (heap : List ℕ) → (long base at count : ℕ) → Spot → Type 0
+Reached heap long base at count (InHeap index) = AreTaken heap at count × (index ≡ at - first_address)
+Reached heap long base at count (InStack index) = base + (index + count) ≤ long
+Reached heap long base at count Nowhere = ⊤

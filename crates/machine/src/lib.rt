@@ -1,9 +1,9 @@
 //! The machine: one step, and a run of steps.
 //!
 //! One definition says what a step does: `act` takes the tables of a code, the most words that the stack may have, the
-//! items of the input, and a state, which is the place of the next instruction, the words of the stack in use and how
-//! many items were read. It gives what comes of it, a line for each instruction: the machine goes on in a state or stops
-//! by an ending, each with the events that it tells. The contract of `step` speaks of `act`, the one of `run` of its
+//! items of the input, and a state, which is the place of the next instruction, the words of the stack in use, how many
+//! items were read, and the heap. It gives what comes of it, a line for each instruction: the machine goes on in a state
+//! or stops by an ending, each with the events that it tells. The contract of `step` speaks of `act`, the one of `run` of its
 //! iteration, and whoever has a theorem on the code has it on the iteration too, so the two meet there.
 //!
 //! In the definition the stack is the list of its used words from the lowest address: the running frame comes first,
@@ -11,6 +11,10 @@
 //! from the stack's upper end, and its address follows from that alone. A frame's two highest words are its links: the
 //! place behind the call, and the address behind the caller's frame. A return tests both, so words that a program wrote
 //! over are found out and not followed.
+//!
+//! Two instructions reach memory by an address: so many words from it on must be taken ones of the heap, or lie in the stack
+//! from the running frame on. One definition says which of both, or that they lie nowhere, and then the run stops. By the
+//! address 0 the program panics. The heap is a part of the state, and the other instructions keep it.
 //!
 //! The items of the input have numbers, and the definition takes them as a function of these, as though all were known
 //! before the run. In truth nobody knows an item before it was read. So a contract tells the answers that came from the
@@ -28,11 +32,13 @@
 mod block;
 mod functions;
 mod links;
+mod memory;
 mod place;
 mod slots;
 mod steps;
 mod whole;
 
+pub use memory::Spot;
 pub use place::{Ending, Next, Panic, Place};
 pub use steps::step;
 pub use whole::run;

@@ -1,6 +1,7 @@
 //! Calls and returns.
 ghost use Rattle.std.specs.Prelude.{◌≡◌, ◌≢◌, ◌↔◌, ℕ, ◌+◌, ◌-◌, ◌<◌, ◌≤◌, ◌^◌, length, drop, map, slice_get, IsTrue, Some, None, []};
 ghost use Rattle.simulation.specs.Steps.{Stops};
+ghost use Rattle.heap_bump.specs.Words.{Words};
 ghost use Rattle.isa.specs.Code.{Tables, IsCode};
 ghost use Rattle.machine.specs.Machine.{address_of, entered, calls, exits, returns, follows_call, owner_of};
 ghost use Rattle.machine.specs.Inside.{Inside};
@@ -53,7 +54,7 @@ pub fn call(
     requires frame { at.base + frame ≤ length words.old.items }
     requires callee { (2 ≤ callee.frame) × (at.base + (callee.arguments + callee.results) ≤ length words.old.items) }
     requires place { at.pc < 2 ^ 40 }
-    ensures calls { (reads : ℕ) → Comes (calls stack_max frame (Some callee) (state_of words.old.items at reads)) (state_of words.new.items result.at reads) result.ending }
+    ensures calls { (reads : ℕ) (heap : Words) → Comes (calls stack_max frame (Some callee) (state_of words.old.items at reads heap)) (state_of words.new.items result.at reads heap) result.ending }
     ensures entered { result.ending ≡ None → (result.at.pc ≡ callee.start) × (result.at.base + callee.frame ≤ length words.new.items) }
     ensures length { length words.new.items ≤ stack_max }
     ensures status { StatusFits result.ending }
@@ -153,7 +154,7 @@ pub fn leave(
     requires words { (length words.now.items ≤ stack_max) × (stack_max ≤ 2 ^ 32) }
     requires inside { Inside (record { instrs = instrs.now; owners = owners.now; funcs = funcs.now; strings = map (λ bytes. bytes.items) strings.now }) (length words.now.items) at.pc at.base }
     requires place { at.pc < length instrs.now }
-    ensures returns { let t : Tables = record { instrs = instrs.now; owners = owners.now; funcs = funcs.now; strings = map (λ bytes. bytes.items) strings.now } in (reads : ℕ) → Comes (returns t stack_max (owner_of t at.pc) (state_of words.now.items at reads)) (state_of words.now.items result.at reads) result.ending }
+    ensures returns { let t : Tables = record { instrs = instrs.now; owners = owners.now; funcs = funcs.now; strings = map (λ bytes. bytes.items) strings.now } in (reads : ℕ) (heap : Words) → Comes (returns t stack_max (owner_of t at.pc) (state_of words.now.items at reads heap)) (state_of words.now.items result.at reads heap) result.ending }
     ensures stays { result.ending ≡ None → Inside (record { instrs = instrs.now; owners = owners.now; funcs = funcs.now; strings = map (λ bytes. bytes.items) strings.now }) (length words.now.items) result.at.pc result.at.base }
     ensures status { StatusFits result.ending }
     ensures memory { result.ending ≢ Some Ending.NoMemory }

@@ -14,6 +14,8 @@ pub enum Panic {
     DivideByZero,
     /// The count of a shift, which is below 0.
     ShiftCount(i64),
+    /// Memory was to be reached by the address 0.
+    NilPointer,
     /// The status of an exit, which is not from 0 to 125.
     ExitCode(i64),
     /// A panic with a string, by its number, with a number, or with a truth value.
@@ -38,7 +40,11 @@ pub enum Ending {
     NoMemory,
     /// A frame would have passed the limit of the stack: the words in use, those asked for, and the limit.
     StackLimit { used: u64, asked: u64, limit: u64 },
-    /// An incoming word at this address lies past the end of the stack.
+    /// Words would have passed the limit of the heap: those taken, those asked for, and the limit. No step takes words, so
+    /// only what prepares a run meets it.
+    HeapLimit { used: u64, asked: u64, limit: u64 },
+    /// An incoming word at this address lies past the end of the stack, or the words from this address on that were to be
+    /// reached lie neither in the heap nor in the stack.
     WildAddress(u64),
     /// A return met this return place, and it was not its frame's.
     WildReturn(u64),

@@ -23,6 +23,48 @@ pub fn set_slot(words: &mut Vec<u64>, base: usize, a: usize, word: u64)
     words[base + a] = word;
 }
 
+/// The words of so many slots from one on.
+#[inline(always)]
+#[tactic(auto, using(crate::proofs::Words::slots_read))]
+pub fn slots(words: &Vec<u64>, base: usize, a: usize, count: usize) -> &[u64]
+    requires { base + (a + count) ≤ length words.now.items }
+    ensures is { result.now ≡ words_at (drop base words.now.items) a count }
+    ensures length { length result.now ≡ count }
+{
+    let from = base + a;
+    &words[from..from + count]
+}
+
+// The words from an index on are replaced by these.
+#[inline(always)]
+fn put(words: &mut [u64], from: usize, put: &[u64])
+    requires { from + length put.now ≤ length words.old }
+    ensures is { words.new ≡ put_words words.old from put.now }
+    ensures length { length words.new ≡ length words.old }
+{
+    words[from..from + put.len()].copy_from_slice(put);
+}
+
+// The same in a block.
+#[inline(always)]
+fn put_block(words: &mut Vec<u64>, from: usize, slots: &[u64])
+    requires { from + length slots.now ≤ length words.old.items }
+    ensures is { words.new.items ≡ put_words words.old.items from slots.now }
+    ensures length { length words.new.items ≡ length words.old.items }
+{
+    put(words.as_mut_slice(), from, slots);
+}
+
+/// The slots from one on get these words.
+#[inline(always)]
+pub fn set_slots(words: &mut Vec<u64>, base: usize, a: usize, slots: &[u64])
+    requires { base + (a + length slots.now) ≤ length words.old.items }
+    ensures words { drop base words.new.items ≡ put_words (drop base words.old.items) a slots.now }
+    ensures length { length words.new.items ≡ length words.old.items }
+{
+    put_block(words, base + a, slots);
+}
+
 // So many words from one index get the words from another index on.
 #[inline(always)]
 fn copy_words(words: &mut [u64], from: usize, to: usize, count: usize)

@@ -7,6 +7,7 @@ ghost use Rattle.std.specs.Fmt.{signed_decimal};
 ghost use Rattle.std.specs.Int.{w64, cast_signed};
 ghost use Rattle.std.specs.Prelude.{◌≡◌, ◌⊎◌, ◌≢◌, ℕ, List, Option, [], OnOk, OnErr, IfOk, IfErr, ◌+◌, ◌-◌, ◌<◌, ◌≤◌, ◌^◌, ◌==◌, length, drop, map, if◌then◌else◌, slice_get, slice_index, slice_set, Some, None, IfSome, FitsSigned};
 ghost use Rattle.simulation.specs.Steps.{Stops};
+ghost use Rattle.heap_bump.specs.Words.{Words};
 ghost use Rattle.isa.specs.Code.{Tables, IsCode};
 ghost use Rattle.machine.specs.Machine.{Item, act, reads_item, item_words, put_words, exits_with, prints, truth_bytes, panic_of, address_of, frame_of, owner_of};
 ghost use Rattle.machine.specs.Inside.{Inside, Callable, Touches, Leads};
@@ -14,8 +15,10 @@ ghost use Rattle.machine.specs.Answers.{Answers, Comes, StatusFits, CallFits, No
 
 use crate::functions::{callee, own_frame, string};
 use crate::links::{address, call, leave};
+use crate::memory::{load, store};
 use crate::slots::{copy_slots, set_slot, slot};
 use crate::{Ending, Next, Panic, Place};
+use heap_bump::Heap;
 use isa::{BinFault, Func, Instr, bin, un};
 use outside::{IntReader, ReadFault, Sink, Source, WriteFault, put_bool, put_bytes, put_int};
 use std::alloc::Global;
@@ -39,7 +42,7 @@ fn printed(at: Place, written: Result<(), WriteFault>) -> Next
 #[inline(always)]
 fn print<O: Sink>(_words: &Vec<u64>, at: Place, piece: &[u8], out: &mut O) -> Next
     requires { at.pc < 2 ^ 40 }
-    ensures step { (reads : ℕ) → Answers (prints (state_of _words.now.items at reads) piece.now) (state_of _words.now.items result.at reads) 0 result.ending (O.taken out.old) (O.taken out.new) (O.faults out.old) (O.faults out.new) }
+    ensures step { (reads : ℕ) (heap : Words) → Answers (prints (state_of _words.now.items at reads heap) piece.now) (state_of _words.now.items result.at reads heap) 0 result.ending (O.taken out.old) (O.taken out.new) (O.faults out.old) (O.faults out.new) }
     ensures later { O.faults out.old ≤ O.faults out.new }
     ensures on { result.ending ≡ None → result.at ≡ record { pc = at.pc + 1; base = at.base } }
     ensures status { StatusFits result.ending }
@@ -54,7 +57,7 @@ fn print<O: Sink>(_words: &Vec<u64>, at: Place, piece: &[u8], out: &mut O) -> Ne
 fn print_int<O: Sink>(words: &Vec<u64>, at: Place, a: u16, out: &mut O) -> Next
     requires slot { at.base + a < length words.now.items }
     requires place { at.pc < 2 ^ 40 }
-    ensures step { (reads : ℕ) → Answers (prints (state_of words.now.items at reads) (signed_decimal (cast_signed w64 (slice_index (drop at.base words.now.items) a)))) (state_of words.now.items result.at reads) 0 result.ending (O.taken out.old) (O.taken out.new) (O.faults out.old) (O.faults out.new) }
+    ensures step { (reads : ℕ) (heap : Words) → Answers (prints (state_of words.now.items at reads heap) (signed_decimal (cast_signed w64 (slice_index (drop at.base words.now.items) a)))) (state_of words.now.items result.at reads heap) 0 result.ending (O.taken out.old) (O.taken out.new) (O.faults out.old) (O.faults out.new) }
     ensures later { O.faults out.old ≤ O.faults out.new }
     ensures on { result.ending ≡ None → result.at ≡ record { pc = at.pc + 1; base = at.base } }
     ensures status { StatusFits result.ending }
@@ -69,7 +72,7 @@ fn print_int<O: Sink>(words: &Vec<u64>, at: Place, a: u16, out: &mut O) -> Next
 fn print_bool<O: Sink>(words: &Vec<u64>, at: Place, a: u16, out: &mut O) -> Next
     requires slot { at.base + a < length words.now.items }
     requires place { at.pc < 2 ^ 40 }
-    ensures step { (reads : ℕ) → Answers (prints (state_of words.now.items at reads) (truth_bytes (slice_index (drop at.base words.now.items) a))) (state_of words.now.items result.at reads) 0 result.ending (O.taken out.old) (O.taken out.new) (O.faults out.old) (O.faults out.new) }
+    ensures step { (reads : ℕ) (heap : Words) → Answers (prints (state_of words.now.items at reads heap) (truth_bytes (slice_index (drop at.base words.now.items) a))) (state_of words.now.items result.at reads heap) 0 result.ending (O.taken out.old) (O.taken out.new) (O.faults out.old) (O.faults out.new) }
     ensures later { O.faults out.old ≤ O.faults out.new }
     ensures on { result.ending ≡ None → result.at ≡ record { pc = at.pc + 1; base = at.base } }
     ensures status { StatusFits result.ending }
@@ -203,7 +206,7 @@ fn read_int<I: Source>(
     requires slots { at.base + (a + 2) ≤ length words.old.items }
     requires place { at.pc < 2 ^ 40 }
     ensures step { WithAnswers result.ending (to_come reader.old (I.left input.old)) (to_come reader.new (I.left input.new)) ((reader.new ≡ reader.old) × (input.new ≡ input.old))
-        (λ items reads answered. (taken : Option (List ℕ)) (faults : ℕ) → Answers (reads_item (state_of words.old.items at reads) a (items reads)) (state_of words.new.items result.at (reads + answered)) answered result.ending taken taken faults faults) }
+        (λ items reads answered. (heap : Words) (taken : Option (List ℕ)) (faults : ℕ) → Answers (reads_item (state_of words.old.items at reads heap) a (items reads)) (state_of words.new.items result.at (reads + answered) heap) answered result.ending taken taken faults faults) }
     ensures later { I.faults input.old ≤ I.faults input.new }
     ensures fault { result.ending ≡ Some Ending.ReadFault → Rose (I.faults input.old) (I.faults input.new) }
     ensures on { result.ending ≡ None → result.at ≡ record { pc = at.pc + 1; base = at.base } }
@@ -228,6 +231,7 @@ pub fn step<I: Source, O: Sink>(
     strings: &[Vec<u8>],
     words: &mut Vec<u64>,
     stack_max: u64,
+    heap: &mut Heap,
     at: Place,
     reader: &mut IntReader,
     input: &mut I,
@@ -238,7 +242,7 @@ pub fn step<I: Source, O: Sink>(
     requires inside { Inside (record { instrs = instrs.now; owners = owners.now; funcs = funcs.now; strings = map (λ bytes. bytes.items) strings.now }) (length words.old.items) at.pc at.base }
     requires place { (at.pc < length instrs.now) × (length instrs.now < 2 ^ 40) }
     ensures step { WithAnswers result.ending (to_come reader.old (I.left input.old)) (to_come reader.new (I.left input.new)) ((reader.new ≡ reader.old) × (input.new ≡ input.old))
-        (λ items reads answered. Answers (act (record { instrs = instrs.now; owners = owners.now; funcs = funcs.now; strings = map (λ bytes. bytes.items) strings.now }) stack_max items (state_of words.old.items at reads)) (state_of words.new.items result.at (reads + answered)) answered result.ending
+        (λ items reads answered. Answers (act (record { instrs = instrs.now; owners = owners.now; funcs = funcs.now; strings = map (λ bytes. bytes.items) strings.now }) stack_max items (state_of words.old.items at reads heap.old)) (state_of words.new.items result.at (reads + answered) heap.new) answered result.ending
         (O.taken out.old) (O.taken out.new) (O.faults out.old) (O.faults out.new)) }
     ensures later { O.faults out.old ≤ O.faults out.new }
     ensures source_later { I.faults input.old ≤ I.faults input.new }
@@ -317,6 +321,8 @@ pub fn step<I: Source, O: Sink>(
                 Err(ending) => Next::ended(at, ending),
             }
         }
+        Instr::Load { a, b, off, n } => load(words, stack_max, heap, at, a, b, off, n),
+        Instr::Store { a, off, c, n } => store(words, stack_max, heap, at, a, off, c, n),
         Instr::PrintInt { a } => print_int(words, at, a, out),
         Instr::PrintBool { a } => print_bool(words, at, a, out),
         Instr::PrintText { text } => print(words, at, string(strings, text), out),

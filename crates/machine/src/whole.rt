@@ -10,18 +10,20 @@ ghost use Rattle.machine.specs.declared.place.Ending.{Ending};
 
 use crate::steps::step;
 use crate::{Next, Place};
+use heap_bump::Heap;
 use isa::Code;
 use outside::{IntReader, Sink, Source};
 use std::alloc::Global;
 
-/// Runs so many steps, or fewer where it ends before, with a stack of at most so many words. The items of the input come
-/// from it through the reader. The answer says where the run then stands. The block of words grows at its low end as
-/// calls need it.
+/// Runs so many steps, or fewer where it ends before, with a stack of at most so many words and a heap. The items of the
+/// input come from it through the reader. The answer says where the run then stands. The block of words grows at its low
+/// end as calls need it.
 pub fn run<I: Source, O: Sink>(
     alloc: Global,
     code: &Code,
     words: &mut Vec<u64>,
     stack_max: u64,
+    heap: &mut Heap,
     at: Place,
     reader: &mut IntReader,
     input: &mut I,
@@ -32,9 +34,9 @@ pub fn run<I: Source, O: Sink>(
     requires inside { Inside code.now (length words.old.items) at.pc at.base }
     requires code { length code.now.instrs < 2 ^ 40 }
     ensures runs { WithAnswers result.ending (to_come reader.old (I.left input.old)) (to_come reader.new (I.left input.new)) ((reader.new ≡ reader.old) × (input.new ≡ input.old))
-        (λ items reads answered. Answers (many (act code.now stack_max items) steps (state_of words.old.items at reads)) (state_of words.new.items result.at (reads + answered)) answered result.ending
+        (λ items reads answered. Answers (many (act code.now stack_max items) steps (state_of words.old.items at reads heap.old)) (state_of words.new.items result.at (reads + answered) heap.new) answered result.ending
         (O.taken out.old) (O.taken out.new) (O.faults out.old) (O.faults out.new)
-        × (result.ending ≡ Some Ending.NoMemory → Refused code.now stack_max items steps (state_of words.old.items at reads) answered (O.taken out.old) (O.taken out.new))) }
+        × (result.ending ≡ Some Ending.NoMemory → Refused code.now stack_max items steps (state_of words.old.items at reads heap.old) answered (O.taken out.old) (O.taken out.new))) }
     ensures source_later { I.faults input.old ≤ I.faults input.new }
     ensures read_fault { result.ending ≡ Some Ending.ReadFault → Rose (I.faults input.old) (I.faults input.new) }
     ensures stays { result.ending ≡ None → Inside code.now (length words.new.items) result.at.pc result.at.base }
@@ -49,7 +51,7 @@ pub fn run<I: Source, O: Sink>(
     let mut left = steps;
     'steps: while left > 0 {
         let next = step(
-            alloc, instrs, owners, funcs, strings, words, stack_max, at, reader, input, out,
+            alloc, instrs, owners, funcs, strings, words, stack_max, heap, at, reader, input, out,
         );
         match next.ending {
             None => at = next.at,

@@ -3,7 +3,7 @@ use Rattle.std.proofs.Common.{◌≡◌, refl, ℕ, zero, suc, ◌+◌, ◌-◌,
 use Rattle.std.specs.Prelude.{length, slice_get, nat_lt}
 use Rattle.base.specs.declared.pos.Pos.{Pos}
 use Rattle.typed.specs.Value.{Value, int}
-use Rattle.typed.specs.Syntax.{Ex, Exs, Pl, Steps, Left, Piece, Over, St, Sts, Func, Program, constant, read, unary, binary, both, either, call, none, more, results, asked, local, here, blank, new, to, text, shown, over_int, declare, assign, update, bump, discard, block, choose, loop, range, break_off, go_on, give_back, print, raise, quit, done, next}
+use Rattle.typed.specs.Syntax.{Ex, Exs, Pl, Steps, Left, Piece, Over, St, Sts, Func, Program, constant, read, unary, binary, both, either, call, none, more, results, asked, local, global, here, blank, new, to, text, shown, over_int, declare, assign, update, bump, discard, block, choose, loop, range, break_off, go_on, give_back, print, raise, quit, done, next}
 use Rattle.meaning.specs.Trace.{Return, Fault, Exit, Panic, World, Mark, entered, ended, copied, Trace, Turn, Seen, Cut}
 use Rattle.meaning.specs.Store.{written, born, read_at}
 use Rattle.meaning.specs.Operators.{binary_of}
@@ -58,6 +58,7 @@ module _ (F : Family) where
 
     aim_holds : (q : Pl) {b : ℕ} (p : Pair F (suc n) b) (env : Env) (k j : Then Aim) → ((a : Aim) (w : World) → F.Holds b w (k a w) (j a w)) → (w : World) → F.Holds b w (Meaning.aim around calls q p.left env k w) (Meaning.aim around dalls q p.right env j w)
     aim_holds (local site steps) p env k j h w = walk_holds steps p env _ _ (λ r. h _) w
+    aim_holds (global g steps) p env k j h w = walk_holds steps p env _ _ (λ r. h _) w
 
     mutual
       ev_holds : (e : Ex) {b : ℕ} (p : Pair F (suc n) b) (env : Env) (k j : Then Value) → ((v : Value) (w : World) → F.Holds b w (k v w) (j v w)) → (w : World) → F.Holds b w (Meaning.ev around calls e p.left env k w) (Meaning.ev around dalls e p.right env j w)

@@ -4,7 +4,7 @@ use Rattle.std.specs.Prelude.{nat_le, if◌then◌else◌}
 use Rattle.std.proofs.lemmas.Bool.{cases_lt}
 use Rattle.simulation.specs.Outcome as Run
 use Rattle.simulation.specs.Outcome.{Lines, Outcome, Gives, Ends, Unfinished, upto, ending_in}
-use Rattle.meaning.specs.Trace.{Entry, Call, Return, Born, Read, Write, Print, Asked, Ending, Turns, StackLimit, World, Mark, state, entered, ended, copied, Trace, Turn, Note, Seen, End, Cut}
+use Rattle.meaning.specs.Trace.{Entry, Call, Return, Born, Read, Write, Print, Asked, Ending, Turns, StackLimit, HeapLimit, World, Mark, state, entered, ended, copied, Trace, Turn, Note, Seen, End, Cut}
 use Rattle.meaning.specs.Meaning.{whole, beginning, trace}
 use Rattle.meaning.specs.Output.{Limits, used_by, tail_of, Sight, out, output}
 use Rattle.meaning.specs.Journal.{entries, entries_within, with_entry, journal_in, bytes_in, with_ask, asks_in, ending_of, meaning_of, printed}
@@ -124,107 +124,132 @@ under_below n m le (End e) Cut h = absurd h
 
 -- the same under limits
 module _ (l : Limits) where
-  within_note : (n m : ℕ) (x : Entry) (s t : Trace) → ((calls : List ℕ) → Below (upto n (entries_within l calls s)) (upto m (entries_within l calls t))) → (calls : List ℕ) → Below (upto n (entries_within l calls (Note x s))) (upto m (entries_within l calls (Note x t)))
-  within_note n m Return s t h calls = (refl, h (tail_of calls))
-  within_note n m (Born site k) s t h calls = (refl, h calls)
-  within_note n m (Read v path k) s t h calls = (refl, h calls)
-  within_note n m (Write v path k) s t h calls = (refl, h calls)
-  within_note n m (Print bytes) s t h calls = (refl, h calls)
-  within_note n m Asked s t h calls = (refl, h calls)
-  within_note n m (Call f) s t h calls =
+  within_note : (n m : ℕ) (x : Entry) (s t : Trace) → ((calls : List ℕ) (heap : ℕ) → Below (upto n (entries_within l calls heap s)) (upto m (entries_within l calls heap t))) → (calls : List ℕ) (heap : ℕ) → Below (upto n (entries_within l calls heap (Note x s))) (upto m (entries_within l calls heap (Note x t)))
+  within_note n m Return s t h calls heap = (refl, h (tail_of calls) heap)
+  within_note n m (Born site k) s t h calls heap =
+      let cut : Lines Entry Ending = Run.End (HeapLimit heap k l.heap_max) in
+      elim (l.on_heap site) as (λ q. Below (upto n (if q then (if nat_le (heap + k) l.heap_max then Run.Line (Born site k) (entries_within l calls (heap + k) s) else cut) else Run.Line (Born site k) (entries_within l calls heap s)))
+      (upto m (if q then (if nat_le (heap + k) l.heap_max then Run.Line (Born site k) (entries_within l calls (heap + k) t) else cut) else Run.Line (Born site k) (entries_within l calls heap t)))) [
+        | true ↦
+            elim (nat_le (heap + k) l.heap_max) as (λ o. Below (upto n (if o then Run.Line (Born site k) (entries_within l calls (heap + k) s) else cut)) (upto m (if o then Run.Line (Born site k) (entries_within l calls (heap + k) t) else cut)))
+            [ true ↦ (refl, h calls (heap + k)) | false ↦ refl ]
+        | false ↦ (refl, h calls heap)
+      ]
+  within_note n m (Read v path k) s t h calls heap = (refl, h calls heap)
+  within_note n m (Write v path k) s t h calls heap = (refl, h calls heap)
+  within_note n m (Print bytes) s t h calls heap = (refl, h calls heap)
+  within_note n m Asked s t h calls heap = (refl, h calls heap)
+  within_note n m (Call f) s t h calls heap =
       let cut : Lines Entry Ending = Run.End (StackLimit (used_by l calls) (l.frame f) l.stack_max) in
-      elim (nat_le (used_by l calls + l.frame f) l.stack_max) as (λ o. Below (upto n (if o then Run.Line (Call f) (entries_within l (f ∷ calls) s) else cut)) (upto m (if o then Run.Line (Call f) (entries_within l (f ∷ calls) t) else cut)))
-      [ true ↦ (refl, h (f ∷ calls)) | false ↦ refl ]
+      elim (nat_le (used_by l calls + l.frame f) l.stack_max) as (λ o. Below (upto n (if o then Run.Line (Call f) (entries_within l (f ∷ calls) heap s) else cut)) (upto m (if o then Run.Line (Call f) (entries_within l (f ∷ calls) heap t) else cut)))
+      [ true ↦ (refl, h (f ∷ calls) heap) | false ↦ refl ]
 
-  within_below : (n m : ℕ) → n ≤ m → (s t : Trace) → Under s t → (calls : List ℕ) → Below (upto n (entries_within l calls s)) (upto m (entries_within l calls t))
-  within_below n m le Cut t h calls = tt
-  within_below zero m le (Turn s) (Turn t) h calls = tt
-  within_below (suc n) zero le (Turn s) (Turn t) h calls = absurd (omega arith)
-  within_below (suc n) (suc m) le (Turn s) (Turn t) h calls = within_below n m (omega arith) s t h calls
-  within_below n m le (End e) (End f) h calls = h
-  within_below n m le (Seen x s) (Seen y t) h calls = within_below n m le s t h calls
-  within_below n m le (Note x s) (Note y t) h calls =
-      subst (λ e. Below (upto n (entries_within l calls (Note x s))) (upto m (entries_within l calls (Note e t)))) h.0 (within_note n m x s t (within_below n m le s t h.1) calls)
-  within_below n m le (Turn s) (Note x t) h calls = absurd h
-  within_below n m le (Turn s) (Seen x t) h calls = absurd h
-  within_below n m le (Turn s) (End e) h calls = absurd h
-  within_below n m le (Turn s) Cut h calls = absurd h
-  within_below n m le (Note x s) (Turn t) h calls = absurd h
-  within_below n m le (Note x s) (Seen y t) h calls = absurd h
-  within_below n m le (Note x s) (End e) h calls = absurd h
-  within_below n m le (Note x s) Cut h calls = absurd h
-  within_below n m le (Seen x s) (Turn t) h calls = absurd h
-  within_below n m le (Seen x s) (Note y t) h calls = absurd h
-  within_below n m le (Seen x s) (End e) h calls = absurd h
-  within_below n m le (Seen x s) Cut h calls = absurd h
-  within_below n m le (End e) (Turn t) h calls = absurd h
-  within_below n m le (End e) (Note x t) h calls = absurd h
-  within_below n m le (End e) (Seen x t) h calls = absurd h
-  within_below n m le (End e) Cut h calls = absurd h
+  within_below : (n m : ℕ) → n ≤ m → (s t : Trace) → Under s t → (calls : List ℕ) (heap : ℕ) → Below (upto n (entries_within l calls heap s)) (upto m (entries_within l calls heap t))
+  within_below n m le Cut t h calls heap = tt
+  within_below zero m le (Turn s) (Turn t) h calls heap = tt
+  within_below (suc n) zero le (Turn s) (Turn t) h calls heap = absurd (omega arith)
+  within_below (suc n) (suc m) le (Turn s) (Turn t) h calls heap = within_below n m (omega arith) s t h calls heap
+  within_below n m le (End e) (End f) h calls heap = h
+  within_below n m le (Seen x s) (Seen y t) h calls heap = within_below n m le s t h calls heap
+  within_below n m le (Note x s) (Note y t) h calls heap =
+      subst (λ e. Below (upto n (entries_within l calls heap (Note x s))) (upto m (entries_within l calls heap (Note e t)))) h.0 (within_note n m x s t (within_below n m le s t h.1) calls heap)
+  within_below n m le (Turn s) (Note x t) h calls heap = absurd h
+  within_below n m le (Turn s) (Seen x t) h calls heap = absurd h
+  within_below n m le (Turn s) (End e) h calls heap = absurd h
+  within_below n m le (Turn s) Cut h calls heap = absurd h
+  within_below n m le (Note x s) (Turn t) h calls heap = absurd h
+  within_below n m le (Note x s) (Seen y t) h calls heap = absurd h
+  within_below n m le (Note x s) (End e) h calls heap = absurd h
+  within_below n m le (Note x s) Cut h calls heap = absurd h
+  within_below n m le (Seen x s) (Turn t) h calls heap = absurd h
+  within_below n m le (Seen x s) (Note y t) h calls heap = absurd h
+  within_below n m le (Seen x s) (End e) h calls heap = absurd h
+  within_below n m le (Seen x s) Cut h calls heap = absurd h
+  within_below n m le (End e) (Turn t) h calls heap = absurd h
+  within_below n m le (End e) (Note x t) h calls heap = absurd h
+  within_below n m le (End e) (Seen x t) h calls heap = absurd h
+  within_below n m le (End e) Cut h calls heap = absurd h
 
   -- what a source shows
-  out_note : (n m : ℕ) (x : Entry) (s t : Trace) → ((calls : List ℕ) → BelowShown (upto n (out l calls s)) (upto m (out l calls t))) → (calls : List ℕ) → BelowShown (upto n (out l calls (Note x s))) (upto m (out l calls (Note x t)))
-  out_note n m Return s t h calls = h (tail_of calls)
-  out_note n m (Born site k) s t h calls = h calls
-  out_note n m (Read v path k) s t h calls = h calls
-  out_note n m (Write v path k) s t h calls = h calls
-  out_note n m (Print bytes) s t h calls = (refl, h calls)
-  out_note n m Asked s t h calls = (refl, h calls)
-  out_note n m (Call f) s t h calls =
+  out_note : (n m : ℕ) (x : Entry) (s t : Trace) → ((calls : List ℕ) (heap : ℕ) → BelowShown (upto n (out l calls heap s)) (upto m (out l calls heap t))) → (calls : List ℕ) (heap : ℕ) → BelowShown (upto n (out l calls heap (Note x s))) (upto m (out l calls heap (Note x t)))
+  out_note n m Return s t h calls heap = h (tail_of calls) heap
+  out_note n m (Born site k) s t h calls heap =
+      let cut : Lines Sight Ending = Run.End (HeapLimit heap k l.heap_max) in
+      elim (l.on_heap site) as (λ q. BelowShown (upto n (if q then (if nat_le (heap + k) l.heap_max then out l calls (heap + k) s else cut) else out l calls heap s))
+      (upto m (if q then (if nat_le (heap + k) l.heap_max then out l calls (heap + k) t else cut) else out l calls heap t))) [
+        | true ↦
+            elim (nat_le (heap + k) l.heap_max) as (λ o. BelowShown (upto n (if o then out l calls (heap + k) s else cut)) (upto m (if o then out l calls (heap + k) t else cut)))
+            [ true ↦ h calls (heap + k) | false ↦ refl ]
+        | false ↦ h calls heap
+      ]
+  out_note n m (Read v path k) s t h calls heap = h calls heap
+  out_note n m (Write v path k) s t h calls heap = h calls heap
+  out_note n m (Print bytes) s t h calls heap = (refl, h calls heap)
+  out_note n m Asked s t h calls heap = (refl, h calls heap)
+  out_note n m (Call f) s t h calls heap =
       let cut : Lines Sight Ending = Run.End (StackLimit (used_by l calls) (l.frame f) l.stack_max) in
-      elim (nat_le (used_by l calls + l.frame f) l.stack_max) as (λ o. BelowShown (upto n (if o then out l (f ∷ calls) s else cut)) (upto m (if o then out l (f ∷ calls) t else cut)))
-      [ true ↦ h (f ∷ calls) | false ↦ refl ]
+      elim (nat_le (used_by l calls + l.frame f) l.stack_max) as (λ o. BelowShown (upto n (if o then out l (f ∷ calls) heap s else cut)) (upto m (if o then out l (f ∷ calls) heap t else cut)))
+      [ true ↦ h (f ∷ calls) heap | false ↦ refl ]
 
-  out_below : (n m : ℕ) → n ≤ m → (s t : Trace) → Under s t → (calls : List ℕ) → BelowShown (upto n (out l calls s)) (upto m (out l calls t))
-  out_below n m le Cut t h calls = tt
-  out_below zero m le (Turn s) (Turn t) h calls = tt
-  out_below (suc n) zero le (Turn s) (Turn t) h calls = absurd (omega arith)
-  out_below (suc n) (suc m) le (Turn s) (Turn t) h calls = out_below n m (omega arith) s t h calls
-  out_below n m le (End e) (End f) h calls = h
-  out_below n m le (Seen x s) (Seen y t) h calls = out_below n m le s t h calls
-  out_below n m le (Note x s) (Note y t) h calls =
-      subst (λ e. BelowShown (upto n (out l calls (Note x s))) (upto m (out l calls (Note e t)))) h.0 (out_note n m x s t (out_below n m le s t h.1) calls)
-  out_below n m le (Turn s) (Note x t) h calls = absurd h
-  out_below n m le (Turn s) (Seen x t) h calls = absurd h
-  out_below n m le (Turn s) (End e) h calls = absurd h
-  out_below n m le (Turn s) Cut h calls = absurd h
-  out_below n m le (Note x s) (Turn t) h calls = absurd h
-  out_below n m le (Note x s) (Seen y t) h calls = absurd h
-  out_below n m le (Note x s) (End e) h calls = absurd h
-  out_below n m le (Note x s) Cut h calls = absurd h
-  out_below n m le (Seen x s) (Turn t) h calls = absurd h
-  out_below n m le (Seen x s) (Note y t) h calls = absurd h
-  out_below n m le (Seen x s) (End e) h calls = absurd h
-  out_below n m le (Seen x s) Cut h calls = absurd h
-  out_below n m le (End e) (Turn t) h calls = absurd h
-  out_below n m le (End e) (Note x t) h calls = absurd h
-  out_below n m le (End e) (Seen x t) h calls = absurd h
-  out_below n m le (End e) Cut h calls = absurd h
+  out_below : (n m : ℕ) → n ≤ m → (s t : Trace) → Under s t → (calls : List ℕ) (heap : ℕ) → BelowShown (upto n (out l calls heap s)) (upto m (out l calls heap t))
+  out_below n m le Cut t h calls heap = tt
+  out_below zero m le (Turn s) (Turn t) h calls heap = tt
+  out_below (suc n) zero le (Turn s) (Turn t) h calls heap = absurd (omega arith)
+  out_below (suc n) (suc m) le (Turn s) (Turn t) h calls heap = out_below n m (omega arith) s t h calls heap
+  out_below n m le (End e) (End f) h calls heap = h
+  out_below n m le (Seen x s) (Seen y t) h calls heap = out_below n m le s t h calls heap
+  out_below n m le (Note x s) (Note y t) h calls heap =
+      subst (λ e. BelowShown (upto n (out l calls heap (Note x s))) (upto m (out l calls heap (Note e t)))) h.0 (out_note n m x s t (out_below n m le s t h.1) calls heap)
+  out_below n m le (Turn s) (Note x t) h calls heap = absurd h
+  out_below n m le (Turn s) (Seen x t) h calls heap = absurd h
+  out_below n m le (Turn s) (End e) h calls heap = absurd h
+  out_below n m le (Turn s) Cut h calls heap = absurd h
+  out_below n m le (Note x s) (Turn t) h calls heap = absurd h
+  out_below n m le (Note x s) (Seen y t) h calls heap = absurd h
+  out_below n m le (Note x s) (End e) h calls heap = absurd h
+  out_below n m le (Note x s) Cut h calls heap = absurd h
+  out_below n m le (Seen x s) (Turn t) h calls heap = absurd h
+  out_below n m le (Seen x s) (Note y t) h calls heap = absurd h
+  out_below n m le (Seen x s) (End e) h calls heap = absurd h
+  out_below n m le (Seen x s) Cut h calls heap = absurd h
+  out_below n m le (End e) (Turn t) h calls heap = absurd h
+  out_below n m le (End e) (Note x t) h calls heap = absurd h
+  out_below n m le (End e) (Seen x t) h calls heap = absurd h
+  out_below n m le (End e) Cut h calls heap = absurd h
 
   -- what is shown
-  shows_note : (n : ℕ) (x : Entry) (t : Trace) → ((calls : List ℕ) → Shows (upto n (out l calls t)) (meaning_of (upto n (entries_within l calls t)))) → (calls : List ℕ) → Shows (upto n (out l calls (Note x t))) (meaning_of (upto n (entries_within l calls (Note x t))))
-  shows_note n Return t h calls = record { printed = (h (tail_of calls)).printed; ending = (h (tail_of calls)).ending }
-  shows_note n (Born site k) t h calls = record { printed = (h calls).printed; ending = (h calls).ending }
-  shows_note n (Read v path k) t h calls = record { printed = (h calls).printed; ending = (h calls).ending }
-  shows_note n (Write v path k) t h calls = record { printed = (h calls).printed; ending = (h calls).ending }
-  shows_note n (Print bytes) t h calls = record { printed = ap (λ r. bytes ++ r) (h calls).printed; ending = (h calls).ending }
-  shows_note n Asked t h calls = record { printed = (h calls).printed; ending = (h calls).ending }
-  shows_note n (Call f) t h calls =
+  shows_note : (n : ℕ) (x : Entry) (t : Trace) → ((calls : List ℕ) (heap : ℕ) → Shows (upto n (out l calls heap t)) (meaning_of (upto n (entries_within l calls heap t)))) → (calls : List ℕ) (heap : ℕ) → Shows (upto n (out l calls heap (Note x t))) (meaning_of (upto n (entries_within l calls heap (Note x t))))
+  shows_note n Return t h calls heap = record { printed = (h (tail_of calls) heap).printed; ending = (h (tail_of calls) heap).ending }
+  shows_note n (Born site k) t h calls heap =
+      let cut : Lines Sight Ending = Run.End (HeapLimit heap k l.heap_max) in
+      let cut' : Lines Entry Ending = Run.End (HeapLimit heap k l.heap_max) in
+      elim (l.on_heap site) as (λ q. Shows (upto n (if q then (if nat_le (heap + k) l.heap_max then out l calls (heap + k) t else cut) else out l calls heap t))
+      (meaning_of (upto n (if q then (if nat_le (heap + k) l.heap_max then Run.Line (Born site k) (entries_within l calls (heap + k) t) else cut') else Run.Line (Born site k) (entries_within l calls heap t))))) [
+        | true ↦
+            elim (nat_le (heap + k) l.heap_max) as (λ o. Shows (upto n (if o then out l calls (heap + k) t else cut)) (meaning_of (upto n (if o then Run.Line (Born site k) (entries_within l calls (heap + k) t) else cut'))))
+            [ true ↦ record { printed = (h calls (heap + k)).printed; ending = (h calls (heap + k)).ending } | false ↦ record { printed = refl; ending = refl } ]
+        | false ↦ record { printed = (h calls heap).printed; ending = (h calls heap).ending }
+      ]
+  shows_note n (Read v path k) t h calls heap = record { printed = (h calls heap).printed; ending = (h calls heap).ending }
+  shows_note n (Write v path k) t h calls heap = record { printed = (h calls heap).printed; ending = (h calls heap).ending }
+  shows_note n (Print bytes) t h calls heap = record { printed = ap (λ r. bytes ++ r) (h calls heap).printed; ending = (h calls heap).ending }
+  shows_note n Asked t h calls heap = record { printed = (h calls heap).printed; ending = (h calls heap).ending }
+  shows_note n (Call f) t h calls heap =
       let cut : Lines Sight Ending = Run.End (StackLimit (used_by l calls) (l.frame f) l.stack_max) in
       let cut' : Lines Entry Ending = Run.End (StackLimit (used_by l calls) (l.frame f) l.stack_max) in
-      elim (nat_le (used_by l calls + l.frame f) l.stack_max) as (λ o. Shows (upto n (if o then out l (f ∷ calls) t else cut)) (meaning_of (upto n (if o then Run.Line (Call f) (entries_within l (f ∷ calls) t) else cut'))))
-      [ true ↦ record { printed = (h (f ∷ calls)).printed; ending = (h (f ∷ calls)).ending } | false ↦ record { printed = refl; ending = refl } ]
+      elim (nat_le (used_by l calls + l.frame f) l.stack_max) as (λ o. Shows (upto n (if o then out l (f ∷ calls) heap t else cut)) (meaning_of (upto n (if o then Run.Line (Call f) (entries_within l (f ∷ calls) heap t) else cut'))))
+      [ true ↦ record { printed = (h (f ∷ calls) heap).printed; ending = (h (f ∷ calls) heap).ending } | false ↦ record { printed = refl; ending = refl } ]
 
-  shows : (n : ℕ) (t : Trace) (calls : List ℕ) → Shows (upto n (out l calls t)) (meaning_of (upto n (entries_within l calls t)))
-  shows n Cut calls = record { printed = refl; ending = refl }
-  shows zero (Turn t) calls = record { printed = refl; ending = refl }
-  shows (suc n) (Turn t) calls = shows n t calls
-  shows n (End e) calls = record { printed = refl; ending = refl }
-  shows n (Seen m t) calls = shows n t calls
-  shows n (Note x t) calls = shows_note n x t (shows n t) calls
+  shows : (n : ℕ) (t : Trace) (calls : List ℕ) (heap : ℕ) → Shows (upto n (out l calls heap t)) (meaning_of (upto n (entries_within l calls heap t)))
+  shows n Cut calls heap = record { printed = refl; ending = refl }
+  shows zero (Turn t) calls heap = record { printed = refl; ending = refl }
+  shows (suc n) (Turn t) calls heap = shows n t calls heap
+  shows n (End e) calls heap = record { printed = refl; ending = refl }
+  shows n (Seen m t) calls heap = shows n t calls heap
+  shows n (Note x t) calls heap = shows_note n x t (shows n t) calls heap
 
 pub source_shows_journal : SourceShowsJournal
-source_shows_journal items p l n = shows l n (trace items p n) []
+source_shows_journal items p l n = shows l n (trace items p n) [] 0
 
 -- in the words of a reader
 entry_begins : (x : Entry) (es fs : List Entry) → Begins es fs → Begins (with_entry x es) (with_entry x fs)
@@ -286,12 +311,12 @@ longer_runs_extend items p n m le =
 pub longer_capped_extend : LongerCappedExtend
 longer_capped_extend items p l n m le =
     let h = whole_holds lasting items p (suc n) (suc m) (omega arith) beginning in
-    extends _ _ (within_below l n m le (trace items p n) (trace items p m) h.0 [])
+    extends _ _ (within_below l n m le (trace items p n) (trace items p m) h.0 [] 0)
 
 pub longer_sources_extend : LongerSourcesExtend
 longer_sources_extend items p l n m le =
     let h = whole_holds lasting items p (suc n) (suc m) (omega arith) beginning in
-    out_below l n m le (trace items p n) (trace items p m) h.0 []
+    out_below l n m le (trace items p n) (trace items p m) h.0 [] 0
 
 -- variables stay
 always_later : (w u : World) → Later w u → (t : Trace) → Always (Later u) t → Always (Later w) t

@@ -3,7 +3,7 @@ use Rattle.std.specs.Prelude.{ℕ, ◌+◌, List, [], ◌∷◌, ◌++◌, nat_l
 use Rattle.typed.specs.Syntax.{Program}
 use Rattle.simulation.specs.Outcome as Run
 use Rattle.simulation.specs.Outcome.{Lines, Outcome, Gives, Ends, Unfinished, upto}
-use Rattle.meaning.specs.Trace.{Entry, Call, Return, Born, Read, Write, Print, Asked, Ending, Turns, StackLimit, Trace, Turn, Note, Seen, End, Cut}
+use Rattle.meaning.specs.Trace.{Entry, Call, Return, Born, Read, Write, Print, Asked, Ending, Turns, StackLimit, HeapLimit, Trace, Turn, Note, Seen, End, Cut}
 use Rattle.meaning.specs.Meaning.{Item, trace}
 use Rattle.meaning.specs.Output.{Limits, used_by, tail_of}
 
@@ -15,20 +15,23 @@ entries (Note e t) = Run.Line e (entries t)
 entries (End e) = Run.End e
 entries Cut = Run.Cut
 
--- cut before the first call for which the stack would have too many words
-abbrev pub entries_within : Limits → List ℕ → Trace → Lines Entry Ending
-entries_within l calls (Turn t) = Run.Turn (entries_within l calls t)
-entries_within l calls (Seen m t) = entries_within l calls t
-entries_within l calls (End e) = Run.End e
-entries_within l calls Cut = Run.Cut
-entries_within l calls (Note (Call f) t) =
-    if nat_le (used_by l calls + l.frame f) l.stack_max then Run.Line (Call f) (entries_within l (f ∷ calls) t) else Run.End (StackLimit (used_by l calls) (l.frame f) l.stack_max)
-entries_within l calls (Note Return t) = Run.Line Return (entries_within l (tail_of calls) t)
-entries_within l calls (Note (Born site n) t) = Run.Line (Born site n) (entries_within l calls t)
-entries_within l calls (Note (Read v path n) t) = Run.Line (Read v path n) (entries_within l calls t)
-entries_within l calls (Note (Write v path n) t) = Run.Line (Write v path n) (entries_within l calls t)
-entries_within l calls (Note (Print bytes) t) = Run.Line (Print bytes) (entries_within l calls t)
-entries_within l calls (Note Asked t) = Run.Line Asked (entries_within l calls t)
+-- cut before the first call for which the stack would have too many words, and before the first birth for which the heap
+-- would; these calls run, and the heap has so many words
+abbrev pub entries_within : Limits → List ℕ → (heap : ℕ) → Trace → Lines Entry Ending
+entries_within l calls heap (Turn t) = Run.Turn (entries_within l calls heap t)
+entries_within l calls heap (Seen m t) = entries_within l calls heap t
+entries_within l calls heap (End e) = Run.End e
+entries_within l calls heap Cut = Run.Cut
+entries_within l calls heap (Note (Call f) t) =
+    if nat_le (used_by l calls + l.frame f) l.stack_max then Run.Line (Call f) (entries_within l (f ∷ calls) heap t) else Run.End (StackLimit (used_by l calls) (l.frame f) l.stack_max)
+entries_within l calls heap (Note Return t) = Run.Line Return (entries_within l (tail_of calls) heap t)
+entries_within l calls heap (Note (Born site n) t) =
+    if l.on_heap site then (if nat_le (heap + n) l.heap_max then Run.Line (Born site n) (entries_within l calls (heap + n) t) else Run.End (HeapLimit heap n l.heap_max))
+    else Run.Line (Born site n) (entries_within l calls heap t)
+entries_within l calls heap (Note (Read v path n) t) = Run.Line (Read v path n) (entries_within l calls heap t)
+entries_within l calls heap (Note (Write v path n) t) = Run.Line (Write v path n) (entries_within l calls heap t)
+entries_within l calls heap (Note (Print bytes) t) = Run.Line (Print bytes) (entries_within l calls heap t)
+entries_within l calls heap (Note Asked t) = Run.Line Asked (entries_within l calls heap t)
 
 -- a bounded run: its journal, the output before each call of `readInt`, and its ending
 pub record Meaning : Type 0 where
@@ -80,7 +83,7 @@ mean items p n = meaning_of (upto n (entries (trace items p n)))
 
 -- the same under limits
 abbrev pub capped : (ℕ → Item) → Program → Limits → ℕ → Meaning
-capped items p l n = meaning_of (upto n (entries_within l [] (trace items p n)))
+capped items p l n = meaning_of (upto n (entries_within l [] 0 (trace items p n)))
 
 -- the bytes that are printed, joined
 abbrev pub printed : List Entry → List ℕ

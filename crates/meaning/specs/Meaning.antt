@@ -3,7 +3,7 @@ use Rattle.std.specs.Prelude.{ℕ, zero, suc, ◌-◌, ℤ, pos, negsuc, Bool, t
 use Rattle.std.specs.Fmt.{signed_decimal}
 use Rattle.base.specs.declared.pos.Pos.{Pos}
 use Rattle.typed.specs.Value.{Value, int, bool, words}
-use Rattle.typed.specs.Syntax.{Ex, Exs, Pl, Steps, Left, Piece, Over, St, Sts, Func, Program, constant, read, unary, binary, both, either, call, none, more, results, asked, local, here, blank, new, to, text, shown, over_int, declare, assign, update, bump, discard, block, choose, loop, range, break_off, go_on, give_back, print, raise, quit, done, next}
+use Rattle.typed.specs.Syntax.{Ex, Exs, Pl, Steps, Left, Piece, Over, St, Sts, Func, Program, constant, read, unary, binary, both, either, call, none, more, results, asked, local, global, here, blank, new, to, text, shown, over_int, declare, assign, update, bump, discard, block, choose, loop, range, break_off, go_on, give_back, print, raise, quit, done, next}
 use Rattle.meaning.specs.Trace.{Entry, Call, Return, Born, Read, Write, Print, Asked, Fault, exit_code, raised_text, raised, Ending, Exit, Panic, World, Cell, Mark, state, entered, ended, copied, Trace, Turn, Note, Seen, End, Cut}
 use Rattle.meaning.specs.Store.{no_value, read_at, written, born}
 use Rattle.meaning.specs.Operators.{unary_of, binary_of}
@@ -172,6 +172,8 @@ module _ (around : Setting) (calls : Calls) where
 
   abbrev pub aim : Pl → Ways → Env → Then Aim → Go
   aim (local site steps) ws env k = walk steps ws env (λ r. k (record { base = variable (home env site); steps = r }))
+  -- the package variables are the first that are born
+  aim (global g steps) ws env k = walk steps ws env (λ r. k (record { base = variable g; steps = r }))
 
   abbrev mutual
     pub ev : Ex → Ways → Env → Then Value → Go

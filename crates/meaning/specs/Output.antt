@@ -1,15 +1,18 @@
 -- What a run shows to those outside: the printed pieces and the end, under limits.
-use Rattle.std.specs.Prelude.{◌≡◌, ◌⊎◌, ℕ, ◌+◌, List, [], ◌∷◌, ◌++◌, nat_le, if◌then◌else◌}
+use Rattle.std.specs.Prelude.{◌≡◌, ◌⊎◌, ℕ, ◌+◌, Bool, List, [], ◌∷◌, ◌++◌, nat_le, if◌then◌else◌}
 use Rattle.typed.specs.Syntax.{Program}
-use Rattle.meaning.specs.Trace.{Call, Return, Born, Read, Write, Print, Asked, Ending, StackLimit, Trace, Turn, Note, Seen, End, Cut}
+use Rattle.meaning.specs.Trace.{Call, Return, Born, Read, Write, Print, Asked, Ending, StackLimit, HeapLimit, Trace, Turn, Note, Seen, End, Cut}
 use Rattle.meaning.specs.Meaning.{Item, trace}
 use Rattle.simulation.specs.Outcome as Run
 use Rattle.simulation.specs.Outcome.{Lines, Outcome, Gives, Ends, Unfinished, upto}
 
--- the words of each function's frame, and the most words that the stack may have
+-- the words of each function's frame, whether the variables of a site are on the heap, and the most words that the stack
+-- and the heap may have
 pub record Limits : Type 0 where
   pub frame : ℕ → ℕ
+  pub on_heap : ℕ → Bool
   pub stack_max : ℕ
+  pub heap_max : ℕ
 
 -- the words of running calls
 abbrev pub used_by : Limits → List ℕ → ℕ
@@ -25,23 +28,25 @@ pub data Sight : Type 0 where
   printing : (bytes : List ℕ) → Sight
   asking : Sight
 
--- cut before the first call for which the stack would have too many words
-abbrev pub out : Limits → List ℕ → Trace → Lines Sight Ending
-out l calls (Turn t) = Run.Turn (out l calls t)
-out l calls (Seen m t) = out l calls t
-out l calls (End e) = Run.End e
-out l calls Cut = Run.Cut
-out l calls (Note (Print bytes) t) = Run.Line (printing bytes) (out l calls t)
-out l calls (Note Asked t) = Run.Line asking (out l calls t)
-out l calls (Note (Call f) t) = if nat_le (used_by l calls + l.frame f) l.stack_max then out l (f ∷ calls) t else Run.End (StackLimit (used_by l calls) (l.frame f) l.stack_max)
-out l calls (Note Return t) = out l (tail_of calls) t
-out l calls (Note (Born site n) t) = out l calls t
-out l calls (Note (Read v path n) t) = out l calls t
-out l calls (Note (Write v path n) t) = out l calls t
+-- cut before the first call for which the stack would have too many words, and before the first birth for which the heap
+-- would; these calls run, and the heap has so many words
+abbrev pub out : Limits → List ℕ → (heap : ℕ) → Trace → Lines Sight Ending
+out l calls heap (Turn t) = Run.Turn (out l calls heap t)
+out l calls heap (Seen m t) = out l calls heap t
+out l calls heap (End e) = Run.End e
+out l calls heap Cut = Run.Cut
+out l calls heap (Note (Print bytes) t) = Run.Line (printing bytes) (out l calls heap t)
+out l calls heap (Note Asked t) = Run.Line asking (out l calls heap t)
+out l calls heap (Note (Call f) t) = if nat_le (used_by l calls + l.frame f) l.stack_max then out l (f ∷ calls) heap t else Run.End (StackLimit (used_by l calls) (l.frame f) l.stack_max)
+out l calls heap (Note Return t) = out l (tail_of calls) heap t
+out l calls heap (Note (Born site n) t) =
+    if l.on_heap site then (if nat_le (heap + n) l.heap_max then out l calls (heap + n) t else Run.End (HeapLimit heap n l.heap_max)) else out l calls heap t
+out l calls heap (Note (Read v path n) t) = out l calls heap t
+out l calls heap (Note (Write v path n) t) = out l calls heap t
 
 -- what the source shows before turn n + 1, where these are the items of the input
 abbrev pub source : (ℕ → Item) → Program → Limits → ℕ → Outcome Sight Ending
-source items p l n = upto n (out l [] (trace items p n))
+source items p l n = upto n (out l [] 0 (trace items p n))
 
 -- the bytes that a bounded run prints
 abbrev pub output : Outcome Sight Ending → List ℕ

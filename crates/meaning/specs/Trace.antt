@@ -30,6 +30,8 @@ pub data Ending : Type 0 where
   Panic : Pos → Fault → Ending
   -- the words of the stack in use, those asked for, and the most
   StackLimit : (used asked max : ℕ) → Ending
+  -- the same of the heap
+  HeapLimit : (used asked max : ℕ) → Ending
 
 -- a variable: its site, the number of variables at the entry of the call that it was born in, its type and its value
 pub record Cell : Type 0 where

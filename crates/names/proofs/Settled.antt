@@ -32,23 +32,24 @@ abbrev pub HasValue : Option Fixed → Type 0
 HasValue None = ⊥
 HasValue (Some f) = is_held f.value_type f.value ≡ true
 
--- a variable with a type, a constant with a value, a function with a signature, or what needs none; types of a program are left out
+-- a variable with a type, a constant or package variable of which something is known, a function with a signature, or what needs none; types of a program are left out
 abbrev pub IsTyped : List (Option Signature) → List (Option Fixed) → Declared → Type 0
-IsTyped sigs constants (declared.Variable site t) = ⊤
-IsTyped sigs constants declared.Untyped = ⊥
-IsTyped sigs constants (declared.Constant k) = HasValue (option_and_then (λ o. o) (slice_get constants k.0))
-IsTyped sigs constants (declared.Function f) = HasSignature (option_and_then (λ o. o) (slice_get sigs f.0))
-IsTyped sigs constants (declared.External e at) = ⊤
-IsTyped sigs constants declared.TypeName = ⊥
-IsTyped sigs constants (declared.«Type» t) = ⊤
-IsTyped sigs constants (declared.Truth b) = ⊤
-IsTyped sigs constants (declared.Print line) = ⊤
-IsTyped sigs constants declared.Panic = ⊤
-IsTyped sigs constants declared.LeftOutType = ⊤
-IsTyped sigs constants declared.LeftOutValue = ⊤
+IsTyped sigs values (declared.Variable site t) = ⊤
+IsTyped sigs values declared.Untyped = ⊥
+IsTyped sigs values (declared.Constant k) = HasValue (option_and_then (λ o. o) (slice_get values k.0))
+IsTyped sigs values (declared.Global k g) = HasValue (option_and_then (λ o. o) (slice_get values k.0))
+IsTyped sigs values (declared.Function f) = HasSignature (option_and_then (λ o. o) (slice_get sigs f.0))
+IsTyped sigs values (declared.External e at) = ⊤
+IsTyped sigs values declared.TypeName = ⊥
+IsTyped sigs values (declared.«Type» t) = ⊤
+IsTyped sigs values (declared.Truth b) = ⊤
+IsTyped sigs values (declared.Print line) = ⊤
+IsTyped sigs values declared.Panic = ⊤
+IsTyped sigs values declared.LeftOutType = ⊤
+IsTyped sigs values declared.LeftOutValue = ⊤
 
 pub record IsSettled (s : Scope) : Type 0 where
-  pub all : AllByRecursion (IsTyped s.signatures s.constants) s.declared
+  pub all : AllByRecursion (IsTyped s.signatures s.values) s.declared
 
 element : (P : Declared → Type 0) (ds : List Declared) (k : ℕ) (d : Declared) → AllByRecursion P ds → slice_get ds k ≡ Some d → P d
 element P [] k d all is = cc is
@@ -79,21 +80,22 @@ module _ (P : Declared → Type 0) (type_is : (t : ValueType) → P (declared.«
       (by_test P (bytes_eq n (codes "bool")) (declared.«Type» Boolean) _ (type_is Boolean)
       (by_test P (bytes_eq n (codes "true")) (declared.Truth true) _ (truth_is true) (by_test P (bytes_eq n (codes "false")) (declared.Truth false) _ (truth_is false) (function_is n))))
 
-predeclared_typed : (sigs : List (Option Signature)) (constants : List (Option Fixed)) (n : List ℕ) (d : Declared) → predeclared n ≡ Some d → IsTyped sigs constants d
-predeclared_typed sigs constants n d is = predeclared_is (IsTyped sigs constants) (λ t. tt) (λ b. tt) (λ line. tt) tt tt tt n d is
+predeclared_typed : (sigs : List (Option Signature)) (values : List (Option Fixed)) (n : List ℕ) (d : Declared) → predeclared n ≡ Some d → IsTyped sigs values d
+predeclared_typed sigs values n d is = predeclared_is (IsTyped sigs values) (λ t. tt) (λ b. tt) (λ line. tt) tt tt tt n d is
 
-numbered_typed : (s : Scope) → IsSettled s → (n : List ℕ) (o : Option ℕ) (d : Declared) → numbered s n o ≡ Some d → IsTyped s.signatures s.constants d
-numbered_typed s settled n None d is = predeclared_typed s.signatures s.constants n d is
-numbered_typed s settled n (Some k) d is = element (IsTyped s.signatures s.constants) s.declared k d settled.all is
+numbered_typed : (s : Scope) → IsSettled s → (n : List ℕ) (o : Option ℕ) (d : Declared) → numbered s n o ≡ Some d → IsTyped s.signatures s.values d
+numbered_typed s settled n None d is = predeclared_typed s.signatures s.values n d is
+numbered_typed s settled n (Some k) d is = element (IsTyped s.signatures s.values) s.declared k d settled.all is
 
-pub declared_typed : (s : Scope) → IsSettled s → (n : List ℕ) (d : Declared) → declaration s n ≡ Some d → IsTyped s.signatures s.constants d
+pub declared_typed : (s : Scope) → IsSettled s → (n : List ℕ) (d : Declared) → declaration s n ≡ Some d → IsTyped s.signatures s.values d
 declared_typed s settled n d is = numbered_typed s settled n (lookup s.blocks n) d is
 
-type_name_decided : (s : Scope) (d : Option Declared) (at : Pos) → ((x : Declared) → d ≡ Some x → IsTyped s.signatures s.constants x) → Decided (declared_type d) (IsFault (type_name_fault d at))
+type_name_decided : (s : Scope) (d : Option Declared) (at : Pos) → ((x : Declared) → d ≡ Some x → IsTyped s.signatures s.values x) → Decided (declared_type d) (IsFault (type_name_fault d at))
 type_name_decided s None at typed = (_, refl)
 type_name_decided s (Some (declared.Variable site t)) at typed = (_, refl)
 type_name_decided s (Some declared.Untyped) at typed = (_, refl)
 type_name_decided s (Some (declared.Constant k)) at typed = (_, refl)
+type_name_decided s (Some (declared.Global k g)) at typed = (_, refl)
 type_name_decided s (Some (declared.Function g)) at typed = (_, refl)
 type_name_decided s (Some (declared.External e place)) at typed = (_, refl)
 type_name_decided s (Some declared.TypeName) at typed = absurd (typed declared.TypeName refl)

@@ -31,18 +31,20 @@ abbrev pub signature_of : SignatureData → Signature
 signature_of s = record { params = s.params.items; results = s.results.items }
 
 -- the blocks that are open, which number the declarations; the declarations; the sites of the variables with a type; the signatures of the
--- functions, where they have one; the values of the constants, where they are known; and the bytes of the strings that stand in statements
--- so far
+-- functions, where they have one; what is known of the constants and the package variables, which are numbered together: the value of a
+-- constant, and of a variable the zero value of its type; which of them are the package variables with a name; and the bytes of the strings
+-- that stand in statements so far
 pub record Scope : Type 0 where
   pub blocks : Blocks
   pub declared : List Declared
   pub sites : List Site
   pub signatures : List (Option Signature)
-  pub constants : List (Option Fixed)
+  pub values : List (Option Fixed)
+  pub globals : List ℕ
   pub strings : List (List ℕ)
 
 abbrev pub scope_of : ScopeData → Scope
-scope_of s = record { blocks = s.names; declared = s.declared.items; sites = s.sites.items; signatures = map (option_map signature_of) s.signatures.items; constants = s.constants.items; strings = map (λ string. string.items) s.strings.items }
+scope_of s = record { blocks = s.names; declared = s.declared.items; sites = s.sites.items; signatures = map (option_map signature_of) s.signatures.items; values = s.values.items; globals = map (λ k. k.0) s.globals.items; strings = map (λ string. string.items) s.strings.items }
 
 -- what the number of a declaration stands for, or else what the language says of the name
 abbrev pub numbered : Scope → List ℕ → Option ℕ → Option Declared
@@ -61,17 +63,17 @@ is_here s name = is_some (innermost s.blocks name)
 abbrev pub signature : Scope → ℕ → Option Signature
 signature s f = option_and_then (λ o. o) (slice_get s.signatures f)
 
--- the value of a constant, by its number, where it is known
+-- what is known of a constant or a package variable, by its number
 abbrev pub fixed : Scope → ℕ → Option Fixed
-fixed s k = option_and_then (λ o. o) (slice_get s.constants k)
+fixed s k = option_and_then (λ o. o) (slice_get s.values k)
 
 -- one more declaration, of a name of the innermost block
 abbrev pub with_declaration : Scope → List ℕ → Declared → Scope
-with_declaration s name d = record { blocks = insert s.blocks name (length s.declared); declared = s.declared ++ d ∷ []; sites = s.sites; signatures = s.signatures; constants = s.constants; strings = s.strings }
+with_declaration s name d = record { blocks = insert s.blocks name (length s.declared); declared = s.declared ++ d ∷ []; sites = s.sites; signatures = s.signatures; values = s.values; globals = s.globals; strings = s.strings }
 
 -- one more site, of a type, at a place
 abbrev pub with_site : Scope → ValueType → Pos → Scope
-with_site s t at = record { blocks = s.blocks; declared = s.declared; sites = s.sites ++ record { pos = at; type_id = record { 0 = type_number t } } ∷ []; signatures = s.signatures; constants = s.constants; strings = s.strings }
+with_site s t at = record { blocks = s.blocks; declared = s.declared; sites = s.sites ++ record { pos = at; type_id = record { 0 = type_number t } } ∷ []; signatures = s.signatures; values = s.values; globals = s.globals; strings = s.strings }
 
 -- one more variable: with a type it has a site of its own
 abbrev pub with_variable : Option ValueType → Scope → List ℕ → Pos → Scope
@@ -80,23 +82,27 @@ with_variable None s name at = with_declaration s name Untyped
 
 -- one more function, which has a signature or none
 abbrev pub with_signature : Scope → Option Signature → Scope
-with_signature s o = record { blocks = s.blocks; declared = s.declared; sites = s.sites; signatures = s.signatures ++ o ∷ []; constants = s.constants; strings = s.strings }
+with_signature s o = record { blocks = s.blocks; declared = s.declared; sites = s.sites; signatures = s.signatures ++ o ∷ []; values = s.values; globals = s.globals; strings = s.strings }
 
--- one more constant, whose value is known or not
-abbrev pub with_constant : Scope → Option Fixed → Scope
-with_constant s o = record { blocks = s.blocks; declared = s.declared; sites = s.sites; signatures = s.signatures; constants = s.constants ++ o ∷ []; strings = s.strings }
+-- one more constant or package variable, of which something is known or nothing
+abbrev pub with_value : Scope → Option Fixed → Scope
+with_value s o = record { blocks = s.blocks; declared = s.declared; sites = s.sites; signatures = s.signatures; values = s.values ++ o ∷ []; globals = s.globals; strings = s.strings }
 
--- what is known of the constant of a number
+-- one more package variable with a name, which is the constant or variable of the next number
+abbrev pub with_global : Scope → Scope
+with_global s = record { blocks = s.blocks; declared = s.declared; sites = s.sites; signatures = s.signatures; values = s.values; globals = s.globals ++ length s.values ∷ []; strings = s.strings }
+
+-- what is known of the constant or package variable of a number
 abbrev pub with_fixed : Scope → ℕ → Option Fixed → Scope
-with_fixed s k o = record { blocks = s.blocks; declared = s.declared; sites = s.sites; signatures = s.signatures; constants = slice_set s.constants k o; strings = s.strings }
+with_fixed s k o = record { blocks = s.blocks; declared = s.declared; sites = s.sites; signatures = s.signatures; values = slice_set s.values k o; globals = s.globals; strings = s.strings }
 
 -- more strings
 abbrev pub with_strings : Scope → List (List ℕ) → Scope
-with_strings s strings = record { blocks = s.blocks; declared = s.declared; sites = s.sites; signatures = s.signatures; constants = s.constants; strings = s.strings ++ strings }
+with_strings s strings = record { blocks = s.blocks; declared = s.declared; sites = s.sites; signatures = s.signatures; values = s.values; globals = s.globals; strings = s.strings ++ strings }
 
 -- where a block begins
 abbrev pub opened : Scope → Scope
-opened s = record { blocks = [] ∷ s.blocks; declared = s.declared; sites = s.sites; signatures = s.signatures; constants = s.constants; strings = s.strings }
+opened s = record { blocks = [] ∷ s.blocks; declared = s.declared; sites = s.sites; signatures = s.signatures; values = s.values; globals = s.globals; strings = s.strings }
 
 abbrev pub outer : Blocks → Blocks
 outer [] = []
@@ -104,8 +110,8 @@ outer (b ∷ bs) = bs
 
 -- behind a block
 abbrev pub closed : Scope → Scope
-closed s = record { blocks = outer s.blocks; declared = s.declared; sites = s.sites; signatures = s.signatures; constants = s.constants; strings = s.strings }
+closed s = record { blocks = outer s.blocks; declared = s.declared; sites = s.sites; signatures = s.signatures; values = s.values; globals = s.globals; strings = s.strings }
 
 -- where no name is declared
 abbrev pub beginning : Scope
-beginning = record { blocks = [] ∷ []; declared = []; sites = []; signatures = []; constants = []; strings = [] }
+beginning = record { blocks = [] ∷ []; declared = []; sites = []; signatures = []; values = []; globals = []; strings = [] }

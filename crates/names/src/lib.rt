@@ -17,9 +17,10 @@ mod universe;
 pub use block::Block;
 pub use naming::{between, name_in, spelled};
 pub use scope::{
-    ConstId, Declared, External, Scope, Signature, add_constant, add_signature, add_strings,
-    beginning, close, constant_count, declaration, declare, declare_variable, fixed, is_here,
-    next_site, open, set_fixed, site_behind, site_count, string_count, type_id,
+    Declared, External, GlobalId, Scope, Signature, ValueId, add_global, add_signature, add_site,
+    add_strings, add_value, beginning, close, declaration, declare, declare_variable, fixed,
+    global_count, is_here, next_site, open, set_fixed, site_behind, site_count, string_count,
+    type_id, value_count,
 };
 pub use type_names::{type_fault, type_in};
 pub use universe::{is_blank, is_main};

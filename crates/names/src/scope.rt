@@ -2,7 +2,7 @@
 
 ghost use Rattle.std.specs.Prelude.{◌≡◌, ◌<◌, length, map, OnOk, IfOk, Option, None, Some, ◌+◌};
 ghost use Rattle.std.specs.Option.{option_map};
-ghost use Rattle.names.specs.Scope.{type_number, scope_of, signature_of, declaration, is_here, signature, fixed, beginning, with_declaration, with_variable, with_signature, with_constant, with_fixed, with_strings, opened, closed};
+ghost use Rattle.names.specs.Scope.{type_number, scope_of, signature_of, declaration, is_here, signature, fixed, beginning, with_declaration, with_site, with_variable, with_signature, with_value, with_global, with_fixed, with_strings, opened, closed};
 
 use crate::block::Block;
 use crate::universe::predeclared;
@@ -35,9 +35,13 @@ pub enum External {
     Exit,
 }
 
-/// The number of a constant of the program, in the order of the text.
+/// The number of a constant or a package variable of the program, in the order of the text.
 #[derive(Clone, Copy, Debug, PartialEq, Eq)]
-pub struct ConstId(pub u32);
+pub struct ValueId(pub u32);
+
+/// The number of a package variable with a name, in the order of the text.
+#[derive(Clone, Copy, Debug, PartialEq, Eq)]
+pub struct GlobalId(pub u32);
 
 /// What a name stands for.
 #[derive(Clone, Copy, Debug, PartialEq, Eq)]
@@ -47,7 +51,9 @@ pub enum Declared {
     /// A variable whose value or type has no type.
     Untyped,
     /// A constant of the program.
-    Constant(ConstId),
+    Constant(ValueId),
+    /// A variable of the program that stands outside of its functions.
+    Global(ValueId, GlobalId),
     /// A function of the program.
     Function(FuncId),
     /// A function that has no body, and the place of its name.
@@ -69,15 +75,17 @@ pub enum Declared {
 }
 
 /// The declarations that are in scope: the open blocks number them. And the sites of the variables that have a type, the
-/// signature of each function, where it has one, the value of each constant, where it is known, and the bytes of the
-/// strings that stand in statements so far.
+/// signature of each function, where it has one, and the bytes of the strings that stand in statements so far. Of each
+/// constant and each package variable, which are numbered together, it says what is known: the value of a constant, and of a
+/// variable the zero value of its type.
 #[derive(Drop)]
 pub struct Scope {
     pub names: Block,
     pub declared: Vec<Declared>,
     pub sites: Vec<Site>,
     pub signatures: Vec<Option<Signature>>,
-    pub constants: Vec<Option<Fixed>>,
+    pub values: Vec<Option<Fixed>>,
+    pub globals: Vec<ValueId>,
     pub strings: Vec<Vec<u8>>,
 }
 
@@ -90,7 +98,8 @@ pub fn beginning(alloc: Global) -> Scope
         declared: Vec::new(alloc),
         sites: Vec::new(alloc),
         signatures: Vec::new(alloc),
-        constants: Vec::new(alloc),
+        values: Vec::new(alloc),
+        globals: Vec::new(alloc),
         strings: Vec::new(alloc),
     }
 }
@@ -132,38 +141,56 @@ pub fn add_signature(scope: &mut Scope, signature: Option<Signature>) -> Result<
     Ok(())
 }
 
-/// How many constants there are.
-pub fn constant_count(scope: &Scope) -> usize
-    ensures { result ≡ length (scope_of scope.now).constants }
+/// How many constants and package variables there are.
+pub fn value_count(scope: &Scope) -> usize
+    ensures { result ≡ length (scope_of scope.now).values }
 {
-    scope.constants.len()
+    scope.values.len()
 }
 
-/// The value of a constant, where it is known.
-pub fn fixed(scope: &Scope, constant: ConstId) -> Option<Fixed>
-    ensures { result ≡ fixed (scope_of scope.now) constant.0 }
+/// What is known of a constant or a package variable.
+pub fn fixed(scope: &Scope, number: ValueId) -> Option<Fixed>
+    ensures { result ≡ fixed (scope_of scope.now) number.0 }
 {
-    match scope.constants.get(constant.0 as usize) {
+    match scope.values.get(number.0 as usize) {
         Some(value) => *value,
         None => None,
     }
 }
 
-/// Adds a constant with the next number, by its value if that is known.
-pub fn add_constant(scope: &mut Scope, value: Option<Fixed>) -> Result<(), NoMemory>
-    ensures { OnOk result (scope_of scope.new ≡ with_constant (scope_of scope.old) value) }
+/// Adds a constant or a package variable with the next number, by what is known of it.
+pub fn add_value(scope: &mut Scope, value: Option<Fixed>) -> Result<(), NoMemory>
+    ensures { OnOk result (scope_of scope.new ≡ with_value (scope_of scope.old) value) }
 {
-    scope.constants.push(value)?;
+    scope.values.push(value)?;
     Ok(())
 }
 
-/// Says what is known of a constant.
-pub fn set_fixed(scope: &mut Scope, constant: ConstId, value: Option<Fixed>)
-    ensures { scope_of scope.new ≡ with_fixed (scope_of scope.old) constant.0 value }
+/// Says that the constant or variable of the next number is a package variable with a name.
+pub fn add_global(scope: &mut Scope) -> Result<(), NoMemory>
+    ensures { OnOk result (scope_of scope.new ≡ with_global (scope_of scope.old)) }
 {
-    let index = constant.0 as usize;
-    if index < scope.constants.len() {
-        scope.constants[index] = value;
+    let Ok(number) = u32::try_from(scope.values.len()) else {
+        return Err(NoMemory);
+    };
+    scope.globals.push(ValueId(number))?;
+    Ok(())
+}
+
+/// How many package variables have a name.
+pub fn global_count(scope: &Scope) -> usize
+    ensures { result ≡ length (scope_of scope.now).globals }
+{
+    scope.globals.len()
+}
+
+/// Says what is known of a constant or a package variable.
+pub fn set_fixed(scope: &mut Scope, number: ValueId, value: Option<Fixed>)
+    ensures { scope_of scope.new ≡ with_fixed (scope_of scope.old) number.0 value }
+{
+    let index = number.0 as usize;
+    if index < scope.values.len() {
+        scope.values[index] = value;
     }
 }
 
@@ -228,6 +255,18 @@ pub fn site_behind(scope: &Scope, before: usize) -> Result<SiteId, NoMemory>
     }
 }
 
+/// Adds a site of a type.
+pub fn add_site(scope: &mut Scope, value_type: ValueType, pos: Pos) -> Result<(), NoMemory>
+    ensures { OnOk result (scope_of scope.new ≡ with_site (scope_of scope.old) value_type pos) }
+{
+    let site_type = type_id(value_type);
+    scope.sites.push(Site {
+        pos,
+        type_id: site_type,
+    })?;
+    Ok(())
+}
+
 /// Declares a variable in the innermost block; with a type it has a site of its own.
 pub fn declare_variable(
     scope: &mut Scope,
@@ -241,12 +280,7 @@ pub fn declare_variable(
         Some(value_type) => {
             let site = next_site(scope)?;
             declare(scope, name, Declared::Variable(site, value_type))?;
-            let site_type = type_id(value_type);
-            scope.sites.push(Site {
-                pos,
-                type_id: site_type,
-            })?;
-            Ok(())
+            add_site(scope, value_type, pos)
         }
         None => declare(scope, name, Declared::Untyped),
     }

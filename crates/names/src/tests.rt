@@ -1,6 +1,6 @@
 use crate::{
-    Block, ConstId, Declared, add_constant, add_strings, beginning, constant_count, declaration,
-    declare, fixed, set_fixed, string_count, type_fault, type_in,
+    Block, Declared, ValueId, add_strings, add_value, beginning, declaration, declare, fixed,
+    set_fixed, string_count, type_fault, type_in, value_count,
 };
 use base::{FuncId, Pos};
 use std::test::Fail;
@@ -68,15 +68,15 @@ fn the_universe(rt: HostRuntime) -> Result<(), Fail> {
 fn constants_of_a_scope(rt: HostRuntime) -> Result<(), Fail> {
     let mut scope = beginning(rt.alloc());
     let five = untyped(Constant::Number(5));
-    add_constant(&mut scope, None)?;
-    add_constant(&mut scope, None)?;
-    assert_eq!(rt; constant_count(&scope), 2);
-    set_fixed(&mut scope, ConstId(1), Some(five));
-    set_fixed(&mut scope, ConstId(2), Some(five));
-    assert_eq!(rt; constant_count(&scope), 2);
-    assert_eq!(rt; fixed(&scope, ConstId(0)), None);
-    assert_eq!(rt; fixed(&scope, ConstId(1)), Some(five));
-    assert_eq!(rt; fixed(&scope, ConstId(2)), None);
+    add_value(&mut scope, None)?;
+    add_value(&mut scope, None)?;
+    assert_eq!(rt; value_count(&scope), 2);
+    set_fixed(&mut scope, ValueId(1), Some(five));
+    set_fixed(&mut scope, ValueId(2), Some(five));
+    assert_eq!(rt; value_count(&scope), 2);
+    assert_eq!(rt; fixed(&scope, ValueId(0)), None);
+    assert_eq!(rt; fixed(&scope, ValueId(1)), Some(five));
+    assert_eq!(rt; fixed(&scope, ValueId(2)), None);
     Ok(())
 }
 
@@ -117,7 +117,7 @@ fn types(rt: HostRuntime) -> Result<(), Fail> {
     let mut scope = beginning(alloc);
     declare(&mut scope, b"f", Declared::Function(FuncId(0)))?;
     declare(&mut scope, b"T", Declared::TypeName)?;
-    declare(&mut scope, b"k", Declared::Constant(ConstId(0)))?;
+    declare(&mut scope, b"k", Declared::Constant(ValueId(0)))?;
     let table: [(u32, u32, Option<FaultKind>); 8] = [
         (8, 11, None),
         (20, 24, None),

@@ -1,10 +1,12 @@
--- What names with types keep of a scope: the blocks outside the innermost one, the declarations before it, the signatures and the constants.
+-- What names with types keep of a scope: the blocks outside the innermost one, the declarations before it, and what it has of the
+-- package.
 -- There are at least as many strings behind it.
 use Rattle.std.proofs.Common.{◌≡◌, ℕ, ◌≤◌, Bool, true, false, cond, List, [], ◌∷◌, ◌++◌, length, Option, Some, None, refl, sym, ap, ◌∙◌, subst, arith, append-nil, append_assoc, length-append}
 use Rattle.std.specs.Prelude.{⊤, not, ◌&&◌}
 use Rattle.std.specs.List.{AllByRecursion}
 use Rattle.base.specs.declared.pos.Pos.{Pos}
 use Rattle.std.specs.Str.{bytes_eq}
+use Rattle.value_types.specs.declared.constant.Fixed.{Fixed}
 use Rattle.value_types.specs.declared.value_type.ValueType.{ValueType}
 use Rattle.syntax.specs.declared.expression.Name.{Name}
 use Rattle.syntax.specs.Expressions.{spelled}
@@ -13,7 +15,7 @@ use Rattle.names.specs.Blocks.{Names, Blocks, with_entry, insert}
 use Rattle.names.specs.declared.scope.Declared.{Declared}
 use Rattle.names.specs.declared.scope.Declared.TheVariants.{Variable, Untyped}
 use Rattle.names.specs.Universe.{is_blank}
-use Rattle.names.specs.Scope.{Scope, type_number, is_here, with_variable, with_strings, outer, opened, closed}
+use Rattle.names.specs.Scope.{Scope, Signature, type_number, is_here, with_variable, with_strings, outer, opened, closed}
 use Rattle.signatures.specs.declared.slots.Slot.{Slot}
 use Rattle.signatures.specs.Entries.{behind_entry_name, behind_entry, behind_entries}
 
@@ -35,6 +37,15 @@ IsSite site = (t : ValueType) × (site.type_id.0 ≡ type_number t)
 abbrev pub Extends : List Site → List Site → Type 0
 Extends a b = (more : List Site) × (b ≡ a ++ more) × AllByRecursion IsSite more
 
+-- what a scope has of its package: the signatures of the functions, what is known of the constants and variables, and the numbers of these
+pub record Package : Type 0 where
+  pub signatures : List (Option Signature)
+  pub values : List (Option Fixed)
+  pub globals : List ℕ
+
+abbrev pub package_of : Scope → Package
+package_of s = record { signatures = s.signatures; values = s.values; globals = s.globals }
+
 -- the numbers of the names in a block, and in the innermost one, are not below one
 abbrev pub EntriesAbove : ℕ → Names → Type 0
 EntriesAbove n [] = Unit {0}
@@ -51,8 +62,7 @@ pub record Grows (s r : Scope) : Type 0 where
   pub newer : (n : ℕ) → n ≤ length s.declared → InnerAbove n s.blocks → InnerAbove n r.blocks
   pub declared : Longer s.declared r.declared
   pub sites : Extends s.sites r.sites
-  pub signatures : r.signatures ≡ s.signatures
-  pub constants : r.constants ≡ s.constants
+  pub kept : package_of r ≡ package_of s
   pub strings : length s.strings ≤ length r.strings
 
 -- the same blocks, and more declarations
@@ -60,8 +70,7 @@ pub record Keeps (s r : Scope) : Type 0 where
   pub blocks : r.blocks ≡ s.blocks
   pub declared : Longer s.declared r.declared
   pub sites : Extends s.sites r.sites
-  pub signatures : r.signatures ≡ s.signatures
-  pub constants : r.constants ≡ s.constants
+  pub kept : package_of r ≡ package_of s
   pub strings : length s.strings ≤ length r.strings
 
 pub extends_none : (a : List Site) → Extends a a
@@ -85,7 +94,7 @@ pub longer_length : (a b : List Declared) → Longer a b → length a ≤ length
 longer_length a b p = let whole = ap length p.1 ∙ length-append a p.0 in omega (arith, whole)
 
 pub grows_none : (s : Scope) → Grows s s
-grows_none s = record { around = refl; depth = refl; newer = λ n le above. above; declared = ([], sym (append-nil s.declared), tt); sites = extends_none s.sites; signatures = refl; constants = refl; strings = omega arith }
+grows_none s = record { around = refl; depth = refl; newer = λ n le above. above; declared = ([], sym (append-nil s.declared), tt); sites = extends_none s.sites; kept = refl; strings = omega arith }
 
 pub grows_twice : (a b c : Scope) → Grows a b → Grows b c → Grows a c
 grows_twice a b c p q = record {
@@ -94,8 +103,7 @@ grows_twice a b c p q = record {
   newer = λ n le above. q.newer n (omega (arith, le, longer_length a.declared b.declared p.declared)) (p.newer n le above);
   declared = longer_twice a.declared b.declared c.declared p.declared q.declared;
   sites = extends_twice a.sites b.sites c.sites p.sites q.sites;
-  signatures = q.signatures ∙ p.signatures;
-  constants = q.constants ∙ p.constants;
+  kept = q.kept ∙ p.kept;
   strings = omega (arith, p.strings, q.strings);
 }
 
@@ -104,29 +112,28 @@ keeps_twice a b c p q = record {
   blocks = q.blocks ∙ p.blocks;
   declared = longer_twice a.declared b.declared c.declared p.declared q.declared;
   sites = extends_twice a.sites b.sites c.sites p.sites q.sites;
-  signatures = q.signatures ∙ p.signatures;
-  constants = q.constants ∙ p.constants;
+  kept = q.kept ∙ p.kept;
   strings = omega (arith, p.strings, q.strings);
 }
 
 pub keeps_none : (s : Scope) → Keeps s s
-keeps_none s = record { blocks = refl; declared = ([], sym (append-nil s.declared), tt); sites = extends_none s.sites; signatures = refl; constants = refl; strings = omega arith }
+keeps_none s = record { blocks = refl; declared = ([], sym (append-nil s.declared), tt); sites = extends_none s.sites; kept = refl; strings = omega arith }
 
 pub keeps_grows : (s r : Scope) → Keeps s r → Grows s r
-keeps_grows s r k = record { around = ap outer k.blocks; depth = ap length k.blocks; newer = λ n le above. subst (InnerAbove n) (sym k.blocks) above; declared = k.declared; sites = k.sites; signatures = k.signatures; constants = k.constants; strings = k.strings }
+keeps_grows s r k = record { around = ap outer k.blocks; depth = ap length k.blocks; newer = λ n le above. subst (InnerAbove n) (sym k.blocks) above; declared = k.declared; sites = k.sites; kept = k.kept; strings = k.strings }
 
 -- more strings
 pub keeps_strings : (s : Scope) (strings : List (List ℕ)) → Keeps s (with_strings s strings)
 keeps_strings s strings =
     let long = length-append s.strings strings in
-    record { blocks = refl; declared = ([], sym (append-nil s.declared), tt); sites = extends_none s.sites; signatures = refl; constants = refl; strings = omega (arith, long) }
+    record { blocks = refl; declared = ([], sym (append-nil s.declared), tt); sites = extends_none s.sites; kept = refl; strings = omega (arith, long) }
 
 pub grows_strings : (s : Scope) (strings : List (List ℕ)) → Grows s (with_strings s strings)
 grows_strings s strings = keeps_grows s (with_strings s strings) (keeps_strings s strings)
 
 -- behind a block
 pub keeps_inner : (s r : Scope) → Grows (opened s) r → Keeps s (closed r)
-keeps_inner s r g = record { blocks = g.around; declared = g.declared; sites = g.sites; signatures = g.signatures; constants = g.constants; strings = g.strings }
+keeps_inner s r g = record { blocks = g.around; declared = g.declared; sites = g.sites; kept = g.kept; strings = g.strings }
 
 insert_outer : (bs : Blocks) (name : List ℕ) (k : ℕ) → outer (insert bs name k) ≡ outer bs
 insert_outer [] name k = refl
@@ -149,8 +156,8 @@ insert_above n k le [] name above = tt
 insert_above n k le (b ∷ bs) name above = with_entry_above n k le b name above
 
 pub grows_variable : (t : Option ValueType) (s : Scope) (name : List ℕ) (at : Pos) → Grows s (with_variable t s name at)
-grows_variable (Some t) s name at = record { around = insert_outer s.blocks name _; depth = insert_length s.blocks name _; newer = λ n le above. insert_above n (length s.declared) le s.blocks name above; declared = (_, refl, (tt, tt)); sites = (_, refl, ((t, refl), tt)); signatures = refl; constants = refl; strings = omega arith }
-grows_variable None s name at = record { around = insert_outer s.blocks name _; depth = insert_length s.blocks name _; newer = λ n le above. insert_above n (length s.declared) le s.blocks name above; declared = (_, refl, (tt, tt)); sites = extends_none s.sites; signatures = refl; constants = refl; strings = omega arith }
+grows_variable (Some t) s name at = record { around = insert_outer s.blocks name _; depth = insert_length s.blocks name _; newer = λ n le above. insert_above n (length s.declared) le s.blocks name above; declared = (_, refl, (tt, tt)); sites = (_, refl, ((t, refl), tt)); kept = refl; strings = omega arith }
+grows_variable None s name at = record { around = insert_outer s.blocks name _; depth = insert_length s.blocks name _; newer = λ n le above. insert_above n (length s.declared) le s.blocks name above; declared = (_, refl, (tt, tt)); sites = extends_none s.sites; kept = refl; strings = omega arith }
 
 grows_where : (b : Bool) (t : Option ValueType) (s : Scope) (name : List ℕ) (at : Pos) → Grows s (cond b (with_variable t s name at) s)
 grows_where true t s name at = grows_variable t s name at

@@ -41,7 +41,7 @@ one_more_declared P [] d all p = (p, tt)
 one_more_declared P (e ∷ ds) d all p = (all.0, one_more_declared P ds d all.1 p)
 
 pub settled_with : (s : Scope) (n : List ℕ) (t : ValueType) (at : Pos) → IsSettled s → IsSettled (with_variable (Some t) s n at)
-settled_with s n t at settled = record { all = one_more_declared (IsTyped s.signatures s.constants) s.declared _ settled.all tt }
+settled_with s n t at settled = record { all = one_more_declared (IsTyped s.signatures s.values) s.declared _ settled.all tt }
 
 pub settled_opened : (s : Scope) → IsSettled s → IsSettled (opened s)
 settled_opened s settled = record { all = settled.all }

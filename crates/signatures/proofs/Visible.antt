@@ -1,4 +1,4 @@
--- The names that a scope shows stand for variables that can be named there.
+-- The names that a scope shows stand for variables that can be named there, and for package variables by their numbers.
 use Rattle.std.proofs.Common.{◌≡◌, ℕ, zero, suc, ◌+◌, ◌<◌, ◌≤◌, Bool, true, false, cond, List, [], ◌∷◌, ◌++◌, ◌⊎◌, inl, inr, length, Option, Some, None, refl, sym, ap, ◌∙◌, subst, arith, length-append}
 use Rattle.std.specs.Prelude.{slice_get}
 use Rattle.std.specs.Str.{bytes_eq}
@@ -11,11 +11,13 @@ use Rattle.operators.proofs.Held.{AreHeld}
 use Rattle.typed.specs.declared.program.Site.{Site}
 use Rattle.names.specs.Blocks.{Names, Blocks, entry_of, or_else, lookup, with_entry, insert}
 use Rattle.names.specs.declared.scope.Declared.{Declared}
-use Rattle.names.specs.declared.scope.Declared.TheVariants.{Variable}
+use Rattle.names.specs.declared.scope.ValueId.{ValueId}
+use Rattle.names.specs.declared.scope.GlobalId.{GlobalId}
+use Rattle.names.specs.declared.scope.Declared.TheVariants.{Variable, Global}
 use Rattle.names.specs.Universe.{predeclared}
 use Rattle.names.specs.Scope.{Scope, type_number, numbered, declaration, with_declaration, with_variable, with_strings, opened, beginning}
 use Rattle.names.proofs.Settled.{predeclared_is}
-use Rattle.signatures.proofs.Growth.{Extends, Keeps}
+use Rattle.signatures.proofs.Growth.{Extends, Package, Keeps}
 
 -- the numbers of the names lie below one
 abbrev EntriesBelow : ℕ → Names → Type 0
@@ -138,27 +140,44 @@ site_last : (sites : List Site) (x : Site) → slice_get (sites ++ x ∷ []) (le
 site_last [] x = refl
 site_last (y ∷ sites) x = site_last sites x
 
--- no variable is predeclared
-abbrev IsNoVariable : Declared → Type 0
-IsNoVariable (Variable site t) = ⊥
-IsNoVariable other = Unit {0}
+-- what a name stands for that a scope shows: a variable is in scope, with a site of its type; a package variable has its number
+abbrev pub IsShown : List ℕ → List Site → List ℕ → Declared → Type 0
+IsShown scope sites globals (Variable site t) = InScope site.0 scope × HasSite sites site.0 t
+IsShown scope sites globals (Global k g) = slice_get globals g.0 ≡ Some k.0
+IsShown scope sites globals other = Unit {0}
 
-pub no_variable : (name : List ℕ) (site : SiteId) (t : ValueType) → predeclared name ≡ Some (Variable site t) → ⊥
-no_variable name site t is = predeclared_is IsNoVariable (λ u. tt) (λ b. tt) (λ line. tt) tt tt tt name (Variable site t) is
+-- with more variables in scope, and more sites
+wider_shown : (scope wider : List ℕ) (sites more : List Site) (globals : List ℕ) → ((v : ℕ) → InScope v scope → InScope v wider) → Extends sites more → (d : Declared) → IsShown scope sites globals d → IsShown wider more globals d
+wider_shown scope wider sites more globals into e (Variable site t) h = (into site.0 h.0, has_longer sites more site.0 t e h.1)
+wider_shown scope wider sites more globals into e (Global k g) h = h
+wider_shown scope wider sites more globals into e d h = tt
 
--- the number of a variable
-variable_number : (s : Scope) (name : List ℕ) (o : Option ℕ) (site : SiteId) (t : ValueType) → numbered s name o ≡ Some (Variable site t) → (k : ℕ) × (o ≡ Some k) × (slice_get s.declared k ≡ Some (Variable site t))
-variable_number s name None site t is = absurd (no_variable name site t is)
-variable_number s name (Some k) site t is = (k, refl, is)
+-- a predeclared name is no variable
+predeclared_shown : (scope : List ℕ) (sites : List Site) (globals : List ℕ) (name : List ℕ) (d : Declared) → predeclared name ≡ Some d → IsShown scope sites globals d
+predeclared_shown scope sites globals name d is = predeclared_is (IsShown scope sites globals) (λ u. tt) (λ b. tt) (λ line. tt) tt tt tt name d is
 
--- names have numbers of declarations, those of variables are in scope, with sites of their types, and constants are held by their types
+-- a name that has a number or none
+numbered_shown : (s : Scope) (scope : List ℕ) (sites : List Site) (globals : List ℕ) (name : List ℕ) (o : Option ℕ) (d : Declared) → ((k : ℕ) → o ≡ Some k → slice_get s.declared k ≡ Some d → IsShown scope sites globals d)
+    → numbered s name o ≡ Some d → IsShown scope sites globals d
+numbered_shown s scope sites globals name None d here is = predeclared_shown scope sites globals name d is
+numbered_shown s scope sites globals name (Some k) d here is = here k refl is
+
+-- names have numbers of declarations, those of variables are in scope, with sites of their types, package variables have their numbers, and
+-- constants are held by their types
 pub record Visible (s : Scope) (scope : List ℕ) : Type 0 where
   pub bounded : BlocksBelow (length s.declared) s.blocks
-  pub shown : (name : List ℕ) (site : SiteId) (t : ValueType) → declaration s name ≡ Some (Variable site t) → InScope site.0 scope × HasSite s.sites site.0 t
-  pub held : AreHeld s.constants
+  pub shown : (name : List ℕ) (d : Declared) → declaration s name ≡ Some d → IsShown scope s.sites s.globals d
+  pub held : AreHeld s.values
+
+-- of a variable, and of a package variable
+pub shown_site : (s : Scope) (scope : List ℕ) → Visible s scope → (name : List ℕ) (site : SiteId) (t : ValueType) → declaration s name ≡ Some (Variable site t) → InScope site.0 scope × HasSite s.sites site.0 t
+shown_site s scope v name site t is = v.shown name (Variable site t) is
+
+pub shown_number : (s : Scope) (scope : List ℕ) → Visible s scope → (name : List ℕ) (k : ValueId) (g : GlobalId) → declaration s name ≡ Some (Global k g) → slice_get s.globals g.0 ≡ Some k.0
+shown_number s scope v name k g is = v.shown name (Global k g) is
 
 pub visible_beginning : Visible beginning []
-visible_beginning = record { bounded = (tt, tt); shown = λ name site t is. absurd (no_variable name site t is); held = λ k f is. absurd (none_some is) }
+visible_beginning = record { bounded = (tt, tt); shown = λ name d is. predeclared_shown [] [] [] name d is; held = λ k f is. absurd (none_some is) }
 
 pub visible_opened : (s : Scope) (scope : List ℕ) → Visible s scope → Visible (opened s) scope
 visible_opened s scope v = record { bounded = (tt, v.bounded); shown = v.shown; held = v.held }
@@ -170,63 +189,51 @@ visible_strings s scope strings v = record { bounded = v.bounded; shown = v.show
 pub visible_kept : (s r : Scope) (scope : List ℕ) → Visible s scope → Keeps s r → Visible r scope
 visible_kept s r scope v k = record {
   bounded = subst (λ bs. BlocksBelow (length r.declared) bs) (sym k.blocks) (more_blocks (length s.declared) (length r.declared) (omega (arith, longer)) s.blocks v.bounded);
-  shown = shown;
-  held = subst AreHeld (sym k.constants) v.held;
+  shown = λ name d is. numbered_shown r scope r.sites r.globals name (lookup r.blocks name) d (λ j j_is got. here name d j j_is got) is;
+  held = subst AreHeld (sym (ap (λ (q : Package). q.values) k.kept)) v.held;
 }
   where
     longer : length r.declared ≡ length s.declared + length k.declared.0
     longer = ap length k.declared.1 ∙ length-append s.declared k.declared.0
 
-    shown : (name : List ℕ) (site : SiteId) (t : ValueType) → declaration r name ≡ Some (Variable site t) → InScope site.0 scope × HasSite r.sites site.0 t
-    shown name site t is =
-        let p = variable_number r name (lookup r.blocks name) site t is in
-        let found : lookup s.blocks name ≡ Some p.0 = ap (λ bs. lookup bs name) (sym k.blocks) ∙ p.1 in
-        let below = lookup_below (length s.declared) s.blocks name p.0 v.bounded found in
-        let old : slice_get s.declared p.0 ≡ Some (Variable site t) = sym (get_left s.declared k.declared.0 p.0 below) ∙ ap (λ ds. slice_get ds p.0) (sym k.declared.1) ∙ p.2 in
-        let known = v.shown name site t (ap (numbered s name) found ∙ old) in
-        (known.0, has_longer s.sites r.sites site.0 t k.sites known.1)
+    here : (name : List ℕ) (d : Declared) (j : ℕ) → lookup r.blocks name ≡ Some j → slice_get r.declared j ≡ Some d → IsShown scope r.sites r.globals d
+    here name d j j_is got =
+        let found : lookup s.blocks name ≡ Some j = ap (λ bs. lookup bs name) (sym k.blocks) ∙ j_is in
+        let below = lookup_below (length s.declared) s.blocks name j v.bounded found in
+        let old : slice_get s.declared j ≡ Some d = sym (get_left s.declared k.declared.0 j below) ∙ ap (λ ds. slice_get ds j) (sym k.declared.1) ∙ got in
+        let known = v.shown name d (ap (numbered s name) found ∙ old) in
+        subst (λ (l : List ℕ). IsShown scope r.sites l d) (sym (ap (λ (q : Package). q.globals) k.kept)) (wider_shown scope scope s.sites r.sites s.globals (λ u h. h) k.sites d known)
 
 -- one more declaration, and perhaps more sites
-pub visible_more : (s : Scope) (sites : List Site) (scope wider : List ℕ) (name : List ℕ) (d : Declared) → Visible s scope → Extends s.sites sites → ((v : ℕ) → InScope v scope → InScope v wider)
-    → ((site : SiteId) (t : ValueType) → d ≡ Variable site t → InScope site.0 wider × HasSite sites site.0 t)
+pub visible_more : (s : Scope) (sites : List Site) (scope wider : List ℕ) (name : List ℕ) (d : Declared) → Visible s scope → Extends s.sites sites → ((v : ℕ) → InScope v scope → InScope v wider) → IsShown wider sites s.globals d
     → BlocksBelow (length (s.declared ++ d ∷ [])) (insert s.blocks name (length s.declared))
-    × ((other : List ℕ) (site : SiteId) (t : ValueType) → declaration (with_declaration s name d) other ≡ Some (Variable site t) → InScope site.0 wider × HasSite sites site.0 t)
+    × ((other : List ℕ) (e : Declared) → declaration (with_declaration s name d) other ≡ Some e → IsShown wider sites s.globals e)
 visible_more s sites scope wider name d v more into new1 =
     (insert_below (length (s.declared ++ d ∷ [])) (length s.declared) (omega (arith, one)) s.blocks name (more_blocks (length s.declared) (length (s.declared ++ d ∷ [])) (omega (arith, one)) s.blocks v.bounded), shown)
   where
     one : length (s.declared ++ d ∷ []) ≡ length s.declared + 1
     one = length-append s.declared (d ∷ [])
 
-    newest : (site : SiteId) (t : ValueType) (k : ℕ) → k ≡ length s.declared → slice_get (s.declared ++ d ∷ []) k ≡ Some (Variable site t) → d ≡ Variable site t
-    newest site t k is got = some_same d (Variable site t) (sym (ap (λ j. slice_get (s.declared ++ d ∷ []) j) is ∙ get_last s.declared d) ∙ got)
+    newest : (e : Declared) (k : ℕ) → k ≡ length s.declared → slice_get (s.declared ++ d ∷ []) k ≡ Some e → d ≡ e
+    newest e k is got = some_same d e (sym (ap (λ j. slice_get (s.declared ++ d ∷ []) j) is ∙ get_last s.declared d) ∙ got)
 
-    shown : (other : List ℕ) (site : SiteId) (t : ValueType) → declaration (with_declaration s name d) other ≡ Some (Variable site t) → InScope site.0 wider × HasSite sites site.0 t
-    shown other site t is =
-        let p = variable_number (with_declaration s name d) other (lookup (insert s.blocks name (length s.declared)) other) site t is in
-        elim (lookup_insert s.blocks name other (length s.declared) p.0 p.1) [
-          | inl n ↦ new1 site t (newest site t p.0 n p.2)
-          | inr o ↦ let below = lookup_below (length s.declared) s.blocks other p.0 v.bounded o in
-              let known = v.shown other site t (ap (numbered s other) o ∙ (sym (get_left s.declared (d ∷ []) p.0 below) ∙ p.2)) in
-              (into site.0 known.0, has_longer s.sites sites site.0 t more known.1)
+    here : (other : List ℕ) (e : Declared) (k : ℕ) → lookup (insert s.blocks name (length s.declared)) other ≡ Some k → slice_get (s.declared ++ d ∷ []) k ≡ Some e → IsShown wider sites s.globals e
+    here other e k k_is got =
+        elim (lookup_insert s.blocks name other (length s.declared) k k_is) [
+          | inl n ↦ subst (λ (x : Declared). IsShown wider sites s.globals x) (newest e k n got) new1
+          | inr o ↦ let below = lookup_below (length s.declared) s.blocks other k v.bounded o in
+              let known = v.shown other e (ap (numbered s other) o ∙ (sym (get_left s.declared (d ∷ []) k below) ∙ got)) in
+              wider_shown scope wider s.sites sites s.globals into more e known
         ]
+
+    shown : (other : List ℕ) (e : Declared) → declaration (with_declaration s name d) other ≡ Some e → IsShown wider sites s.globals e
+    shown other e is =
+        numbered_shown (with_declaration s name d) wider sites s.globals other (lookup (insert s.blocks name (length s.declared)) other) e (λ k k_is got. here other e k k_is got) is
 
 -- one more variable of a type, and its site in scope
 pub visible_with : (s : Scope) (scope name : List ℕ) (u : ValueType) (at : Pos) → Visible s scope → Visible (with_variable (Some u) s name at) (length s.sites ∷ scope)
 visible_with s scope name u at v =
     let d : Declared = Variable (record { 0 = length s.sites }) u in
     let x : Site = record { pos = at; type_id = record { 0 = type_number u } } in
-    let w = visible_more s (s.sites ++ x ∷ []) scope (length s.sites ∷ scope) name d v (x ∷ [], refl, ((u, refl), tt)) (λ w h. inr h) (λ site t is. (inl (same site t is), newest site t is)) in
+    let w = visible_more s (s.sites ++ x ∷ []) scope (length s.sites ∷ scope) name d v (x ∷ [], refl, ((u, refl), tt)) (λ w h. inr h) (inl refl, (x, site_last s.sites x, refl)) in
     record { bounded = w.0; shown = w.1; held = v.held }
-  where
-    same : (site : SiteId) (t : ValueType) → Variable (record { 0 = length s.sites }) u ≡ Variable site t → site.0 ≡ length s.sites
-    same site t is = cc
-
-    type_is : (site : SiteId) (t : ValueType) → Variable (record { 0 = length s.sites }) u ≡ Variable site t → u ≡ t
-    type_is site t is = cc
-
-    newest : (site : SiteId) (t : ValueType) → Variable (record { 0 = length s.sites }) u ≡ Variable site t → HasSite (s.sites ++ record { pos = at; type_id = record { 0 = type_number u } } ∷ []) site.0 t
-    newest site t is = (
-      record { pos = at; type_id = record { 0 = type_number u } },
-      ap (λ k. slice_get (s.sites ++ record { pos = at; type_id = record { 0 = type_number u } } ∷ []) k) (same site t is) ∙ site_last s.sites (record { pos = at; type_id = record { 0 = type_number u } }),
-      ap type_number (type_is site t is),
-    )

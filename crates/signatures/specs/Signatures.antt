@@ -15,9 +15,9 @@ use Rattle.value_types.specs.declared.value_type.ValueType.TheVariants.{Int, Boo
 use Rattle.names.specs.declared.scope.External.{External as ExternalData}
 use Rattle.names.specs.declared.scope.External.TheVariants as external
 use Rattle.names.specs.declared.scope.Declared.{Declared}
-use Rattle.names.specs.declared.scope.Declared.TheVariants.{Untyped, Constant, Function, External, TypeName}
+use Rattle.names.specs.declared.scope.Declared.TheVariants.{Untyped, Constant, Global, Function, External, TypeName}
 use Rattle.names.specs.Universe.{is_blank}
-use Rattle.names.specs.Scope.{Scope, Signature, is_here, with_declaration, with_signature, with_constant}
+use Rattle.names.specs.Scope.{Scope, Signature, is_here, with_declaration, with_signature, with_value, with_global}
 use Rattle.names.specs.Types.{type_in}
 use Rattle.signatures.specs.declared.slots.Slot.{Slot}
 
@@ -135,9 +135,9 @@ module _ (text : List ℕ) where
 
   -- ---- what the package block has apart from those names
 
-  -- a constant with the next number, whose value isn't known yet
+  -- a constant with the next number, of which nothing is known yet
   abbrev pub with_constant_name : Scope → Name → Scope
-  with_constant_name s n = with_constant (with_name (Constant (record { 0 = length s.constants })) s n) None
+  with_constant_name s n = with_value (with_name (Constant (record { 0 = length s.values })) s n) None
 
   abbrev pub with_constant_names : Scope → List Name → Scope
   with_constant_names s [] = s
@@ -146,6 +146,21 @@ module _ (text : List ℕ) where
   abbrev pub with_constants : Scope → List ValueSpec → Scope
   with_constants s [] = s
   with_constants s (v ∷ vs) = with_constants (with_constant_names s v.names) vs
+
+  -- a package variable with the next number, of which nothing is known yet: with a name it is numbered among those that have one, too
+  abbrev pub with_numbered_name : Scope → Name → Scope
+  with_numbered_name s n = with_global (with_name (Global (record { 0 = length s.values }) (record { 0 = length s.globals })) s n)
+
+  abbrev pub with_variable_name : Scope → Name → Scope
+  with_variable_name s n = with_value (if is_blank (spelled text n) then s else with_numbered_name s n) None
+
+  abbrev pub with_variable_names : Scope → List Name → Scope
+  with_variable_names s [] = s
+  with_variable_names s (n ∷ ns) = with_variable_names (with_variable_name s n) ns
+
+  abbrev pub with_package_variables : Scope → List ValueSpec → Scope
+  with_package_variables s [] = s
+  with_package_variables s (v ∷ vs) = with_package_variables (with_variable_names s v.names) vs
 
 -- in a text, among the names of its package
 module _ (text : List ℕ) (heads : Scope) where
@@ -181,7 +196,7 @@ module _ (text : List ℕ) (heads : Scope) where
 
   abbrev pub with_item : Scope → Declaration → Scope
   with_item s (constants at specs) = with_constants text s specs
-  with_item s (variables at specs) = with_values text s specs
+  with_item s (variables at specs) = with_package_variables text s specs
   with_item s (types at specs) = with_types text s specs
   with_item s (tree.function f) = with_function s f
 

@@ -1,8 +1,8 @@
 //! Names with types and the heads of functions: what parameters, results and other declared names are, and what the package block has.
 //!
 //! The names that the package declares are noted first, which tell what the types of heads stand for; then its block is declared, with
-//! the types of each function's parameters and results, and with constants whose values are not known yet. The first declaration of a
-//! name stays. `readInt` and `exit` are the two functions without a body, known by their names and types. Parameters, results and other
+//! the types of each function's parameters and results, and with constants and package variables of which nothing is known yet. The first
+//! declaration of a name stays. `readInt` and `exit` are the two functions without a body, known by their names and types. Parameters, results and other
 //! new variables are noted one by one in the innermost block, each with a site of its own. `specs/Signatures` and `specs/Entries` say what
 //! names and heads give; `specs/SignatureFaults` and `specs/EntryFaults` which rules fail in them, and where.
 #![tactic(auto)]

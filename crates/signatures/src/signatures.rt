@@ -1,6 +1,6 @@
 //! The package block: what it declares, and the names and signatures of functions.
 
-ghost use Rattle.std.specs.Prelude.{◌≡◌, Option, Some, None, IfOk, OnOk, option_and_then, not, codes, ◌||◌, ◌&&◌};
+ghost use Rattle.std.specs.Prelude.{◌≡◌, Option, Some, None, IfOk, OnOk, length, option_and_then, not, codes, ◌||◌, ◌&&◌};
 ghost use Rattle.std.specs.Option.{option_map};
 ghost use Rattle.std.specs.Str.{bytes_eq};
 ghost use Rattle.syntax.specs.Expressions.{spelled};
@@ -9,15 +9,15 @@ ghost use Rattle.syntax.specs.Declarations.{parameters_of, type_specs_of, functi
 ghost use Rattle.names.specs.declared.scope.Declared.TheVariants.{Untyped as NoType};
 ghost use Rattle.names.specs.Universe.{is_blank};
 ghost use Rattle.names.specs.Scope.{scope_of, signature_of, declaration, is_here};
-ghost use Rattle.signatures.specs.Signatures.{signature_in, is_init, declares_name, with_name, with_names, with_values, with_types, with_head, with_heads, with_constant_name, with_constant_names, with_constants, with_function, with_item, with_items, is_number, may_be_named, is_small, is_named, words, takes_one_int, is_of_exit, gives_int_and_bool, is_of_read_int, external_named, is_external, is_external_at};
+ghost use Rattle.signatures.specs.Signatures.{signature_in, is_init, declares_name, with_name, with_names, with_values, with_types, with_head, with_heads, with_constant_name, with_constant_names, with_constants, with_numbered_name, with_variable_name, with_variable_names, with_package_variables, with_function, with_item, with_items, is_number, may_be_named, is_small, is_named, words, takes_one_int, is_of_exit, gives_int_and_bool, is_of_read_int, external_named, is_external, is_external_at};
 ghost use Rattle.signatures.specs.SignatureFaults.{function_name_fault, size_fault};
 
 use crate::failing::fault_where;
 use crate::slots::{is_named, slots_of, types_of};
 use base::{FuncId, NoMemory, Pos};
 use names::{
-    ConstId, Declared, External, Scope, Signature, add_constant, add_signature, constant_count,
-    declare, is_blank, is_here, spelled,
+    Declared, External, GlobalId, Scope, Signature, ValueId, add_global, add_signature, add_value,
+    declare, global_count, is_blank, is_here, spelled, value_count,
 };
 use std::alloc::Global;
 use syntax::{Decl, Func, Name, TypeSpec, ValueSpec};
@@ -158,7 +158,7 @@ fn add_names(text: &[u8], scope: &mut Scope, names: &[Name]) -> Result<(), NoMem
     Ok(())
 }
 
-/// Declares variables, or constants as names of heads.
+/// Declares variables or constants as names of heads.
 fn add_values(text: &[u8], scope: &mut Scope, specs: &[ValueSpec]) -> Result<(), NoMemory>
     ensures { OnOk result (scope_of scope.new ≡ with_values text.now (scope_of scope.old) (value_specs_of specs.now)) }
 {
@@ -200,15 +200,33 @@ pub fn add_heads(text: &[u8], heads: &mut Scope, decls: &[Decl]) -> Result<(), N
     Ok(())
 }
 
-/// Declares a constant with the next number, whose value isn't known yet.
+/// The number of the next constant or package variable.
+fn next_value(scope: &Scope) -> Result<ValueId, NoMemory>
+    ensures { IfOk result (λ k. k.0 ≡ length (scope_of scope.now).values) }
+{
+    match u32::try_from(value_count(scope)) {
+        Ok(number) => Ok(ValueId(number)),
+        Err(_) => Err(NoMemory),
+    }
+}
+
+/// The number of the next package variable with a name.
+fn next_global(scope: &Scope) -> Result<GlobalId, NoMemory>
+    ensures { IfOk result (λ g. g.0 ≡ length (scope_of scope.now).globals) }
+{
+    match u32::try_from(global_count(scope)) {
+        Ok(number) => Ok(GlobalId(number)),
+        Err(_) => Err(NoMemory),
+    }
+}
+
+/// Declares a constant with the next number, of which nothing is known yet.
 fn add_constant_name(text: &[u8], scope: &mut Scope, name: Name) -> Result<(), NoMemory>
     ensures { OnOk result (scope_of scope.new ≡ with_constant_name text.now (scope_of scope.old) name) }
 {
-    let Ok(number) = u32::try_from(constant_count(scope)) else {
-        return Err(NoMemory);
-    };
-    add_name(text, scope, name, Declared::Constant(ConstId(number)))?;
-    add_constant(scope, None)
+    let number = next_value(scope)?;
+    add_name(text, scope, name, Declared::Constant(number))?;
+    add_value(scope, None)
 }
 
 fn add_constant_names(text: &[u8], scope: &mut Scope, names: &[Name]) -> Result<(), NoMemory>
@@ -226,6 +244,49 @@ fn add_constants(text: &[u8], scope: &mut Scope, specs: &[ValueSpec]) -> Result<
 {
     for spec in specs {
         add_constant_names(text, scope, &spec.names)?;
+    }
+    Ok(())
+}
+
+/// Declares a package variable with a name.
+fn add_numbered_name(text: &[u8], scope: &mut Scope, name: Name) -> Result<(), NoMemory>
+    ensures { OnOk result (scope_of scope.new ≡ with_numbered_name text.now (scope_of scope.old) name) }
+{
+    let number = next_value(scope)?;
+    let global = next_global(scope)?;
+    add_name(text, scope, name, Declared::Global(number, global))?;
+    add_global(scope)
+}
+
+/// Declares a package variable with the next number, of which nothing is known yet.
+fn add_variable_name(text: &[u8], scope: &mut Scope, name: Name) -> Result<(), NoMemory>
+    ensures { OnOk result (scope_of scope.new ≡ with_variable_name text.now (scope_of scope.old) name) }
+{
+    if !is_blank(spelled(text, name)) {
+        add_numbered_name(text, scope, name)?;
+    }
+    add_value(scope, None)
+}
+
+fn add_variable_names(text: &[u8], scope: &mut Scope, names: &[Name]) -> Result<(), NoMemory>
+    ensures { OnOk result (scope_of scope.new ≡ with_variable_names text.now (scope_of scope.old) names.now) }
+{
+    for name in names {
+        add_variable_name(text, scope, *name)?;
+    }
+    Ok(())
+}
+
+/// Declares package variables.
+fn add_package_variables(
+    text: &[u8],
+    scope: &mut Scope,
+    specs: &[ValueSpec],
+) -> Result<(), NoMemory>
+    ensures { OnOk result (scope_of scope.new ≡ with_package_variables text.now (scope_of scope.old) (value_specs_of specs.now)) }
+{
+    for spec in specs {
+        add_variable_names(text, scope, &spec.names)?;
     }
     Ok(())
 }
@@ -267,7 +328,7 @@ fn add_item(
 {
     match decl {
         Decl::Const(_, specs) => add_constants(text, scope, specs),
-        Decl::Var(_, specs) => add_values(text, scope, specs),
+        Decl::Var(_, specs) => add_package_variables(text, scope, specs),
         Decl::Type(_, specs) => add_types(text, scope, specs),
         Decl::Func(f) => add_function(alloc, text, heads, scope, f),
     }

@@ -19,6 +19,7 @@ use Rattle.typed.specs.declared.operators.BinOp.TheVariants as op
 use Rattle.typed.specs.declared.program.Site.{Site}
 use Rattle.typed.specs.Syntax.{Exs, Left, Pl, St, Program, read, local, here, none, more, results, asked as asked_two, blank, new, to, update, give_back, int_type, bool_type}
 use Rattle.typed.specs.Form.{IsArithmetic, IsStep, PlFits, LeftsFit, new_sites, births, scope_behind, scope_after, ExFits, ExsFit, PieceFits, PiecesFit, ReturnFits, StFits}
+use Rattle.value_types.specs.declared.constant.Fixed.{Fixed}
 use Rattle.value_types.specs.declared.value_type.ValueType.{ValueType}
 use Rattle.value_types.specs.declared.value_type.ValueType.TheVariants.{Int, Bool as Truth}
 use Rattle.value_types.specs.Given.{both}
@@ -26,18 +27,18 @@ use Rattle.value_types.proofs.Options.{and_then_some, map_some, none_some, same_
 use Rattle.operators.specs.Operands.{value}
 use Rattle.operators.specs.Operators.{arithmetic_of, combined}
 use Rattle.names.specs.declared.scope.Declared.{Declared}
-use Rattle.names.specs.declared.scope.Declared.TheVariants.{Variable}
+use Rattle.names.specs.declared.scope.Declared.TheVariants as declared
 use Rattle.names.specs.Universe.{is_blank}
-use Rattle.names.specs.Scope.{Scope, type_number, type_numbers, declaration, is_here, with_variable, with_strings}
+use Rattle.names.specs.Scope.{Scope, type_number, type_numbers, declaration, is_here, fixed, with_variable, with_strings}
 use Rattle.names.specs.Naming.{name_in}
 use Rattle.expression_types.specs.Typing.{Part, said, valued, Gives, one, called, asking, quoted, printed, panicked, exited, operand_in, Seen, value_types, asked, taken, gives, seen}
 use Rattle.expression_types.proofs.InForm.{Agrees, AreAccepted, PartFits, PartsFit, GivesFit, AllFit, OperandFits, CallFits, value_fits, operand_fits, taken_fits, asked_types, gives_fit, seen_fit, maybe_fits}
 use Rattle.signatures.specs.declared.slots.Slot.{Slot}
 use Rattle.signatures.specs.Entries.{slot_with, slots_each}
 use Rattle.signatures.proofs.Growth.{Extends, extends_twice}
-use Rattle.signatures.proofs.Visible.{has_longer, Visible, visible_with, visible_strings}
+use Rattle.signatures.proofs.Visible.{has_longer, Visible, shown_site, shown_number, visible_with, visible_strings}
 use Rattle.signatures.proofs.InFormEntries.{HasSites, site_is, Within}
-use Rattle.simple_statements.specs.SimpleStatements.{Returns, only, target, variable_type, variable_value, left_of, wanted_of, new_left_of, new_wanted_of, declares, strings_of, piece_from, pieces_from, strings_in_call, strings_in, expressed, updated, stepped, returned, assignment, left, wanted, lefts, all_wanted, new_left, new_wanted, new_lefts, all_new_wanted, new_slots, with_variables, may_define, own_value, definition_types, behind_simple, update_one, update_statement, step_statement, simple_statement}
+use Rattle.simple_statements.specs.SimpleStatements.{Returns, Variable, global_variable, variable_of, variable_named, only, target, variable_type, variable_value, left_of, wanted_of, new_left_of, new_wanted_of, declares, strings_of, piece_from, pieces_from, strings_in_call, strings_in, expressed, updated, stepped, returned, assignment, left, wanted, lefts, all_wanted, new_left, new_wanted, new_lefts, all_new_wanted, new_slots, with_variables, may_define, own_value, definition_types, behind_simple, update_one, update_statement, step_statement, simple_statement}
 use Rattle.simple_statements.proofs.SettledSimple.{assignment_some, where_some, own_read, update_some}
 use Rattle.simple_statements.proofs.Growth.{grows_variables}
 
@@ -96,19 +97,18 @@ module _ (p : Program) where
 
   -- a left side that is no new variable: blank, or a variable of the type that the value has
   abbrev IsOld : List ℕ → ValueType → Left → Type 0
-  IsOld scope t l = (l ≡ blank) ⊎ ((v : ℕ) × (l ≡ to (local v here)) × PlFits p scope (type_number t) (local v here))
+  IsOld scope t l = (l ≡ blank) ⊎ ((q : Pl) × (l ≡ to q) × PlFits p scope (type_number t) q)
 
-  abbrev Known : List ℕ → Option Declared → Type 0
-  Known scope d = (site : SiteId) (u : ValueType) → d ≡ Some (Variable site u) → PlFits p scope (type_number u) (local site.0 here)
+  abbrev Known : List ℕ → Option Variable → Type 0
+  Known scope o = (v : Variable) → o ≡ Some v → PlFits p scope (type_number v.value_type) v.place
 
-  target_old : (scope : List ℕ) (d : Option Declared) (t : ValueType) (l : Left) → Known scope d → ((u : ValueType) → variable_type d ≡ Some u → u ≡ t) → target d ≡ Some l → IsOld scope t l
-  target_old scope (Some (Variable site u)) t l has wants is =
-      inr (site.0, sym (same_some is), subst (λ (v : ValueType). PlFits p scope (type_number v) (local site.0 here)) (wants u refl) (has site u refl))
-  target_old scope other t l has wants is = absurd (none_some is)
+  target_old : (scope : List ℕ) (o : Option Variable) (t : ValueType) (l : Left) → Known scope o → ((u : ValueType) → variable_type o ≡ Some u → u ≡ t) → target o ≡ Some l → IsOld scope t l
+  target_old scope None t l has wants is = absurd (none_some is)
+  target_old scope (Some v) t l has wants is = inr (v.place, sym (same_some is), subst (λ (u : ValueType). PlFits p scope (type_number u) v.place) (wants v.value_type refl) (has v refl))
 
-  left_old : (scope : List ℕ) (b : Bool) (d : Option Declared) (t : ValueType) (l : Left) → Known scope d → ((u : ValueType) → wanted_of b d ≡ Some u → u ≡ t) → left_of b d ≡ Some l → IsOld scope t l
-  left_old scope true d t l has wants is = inl (sym (same_some is))
-  left_old scope false d t l has wants is = target_old scope d t l has wants is
+  left_old : (scope : List ℕ) (b : Bool) (o : Option Variable) (t : ValueType) (l : Left) → Known scope o → ((u : ValueType) → wanted_of b o ≡ Some u → u ≡ t) → left_of b o ≡ Some l → IsOld scope t l
+  left_old scope true o t l has wants is = inl (sym (same_some is))
+  left_old scope false o t l has wants is = target_old scope o t l has wants is
 
   -- left sides without new variables
   pub record OldFit (scope : List ℕ) (ts : List ValueType) (ls : List Left) : Type 0 where
@@ -121,13 +121,13 @@ module _ (p : Program) where
   old_more scope t ts l ls (inr o) k = subst (λ (x : Left). OldFit scope (t ∷ ts) (x ∷ ls)) (sym o.1) (record { fit = λ m n. (o.2, k.fit m n); sites = k.sites; behind = k.behind })
 
   module _ (text : List ℕ) where
-    -- the variables that names stand for have sites of their types
+    -- the variables that names stand for have places of their types
     abbrev KnownAll : Scope → List ℕ → Type 0
-    KnownAll s scope = (n : List ℕ) → Known scope (declaration s n)
+    KnownAll s scope = (n : List ℕ) → Known scope (variable_of s (declaration s n))
 
     side_old : (s : Scope) (scope : List ℕ) (known : KnownAll s scope) (o : Option Name) (t : ValueType) (l : Left) → ((u : ValueType) → wanted text s o ≡ Some u → u ≡ t) → left text s o ≡ Some l → IsOld scope t l
     side_old s scope known None t l wants is = absurd (none_some is)
-    side_old s scope known (Some n) t l wants is = left_old scope (is_blank (spelled text n)) (declaration s (spelled text n)) t l (known (spelled text n)) wants is
+    side_old s scope known (Some n) t l wants is = left_old scope (is_blank (spelled text n)) (variable_named text s n) t l (known (spelled text n)) wants is
 
     pub lefts_fit : (s : Scope) (scope : List ℕ) (known : KnownAll s scope) (es : TreeExs) (ts : List ValueType) (ls : List Left) → AreAccepted (all_wanted text s es) ts → lefts text s es ≡ Some ls → OldFit scope ts ls
     lefts_fit s scope known expressions.none [] ls accepted is = subst (λ (l : List Left). OldFit scope [] l) (same_some is) (record { fit = λ m n. tt; sites = refl; behind = λ wide. refl })
@@ -191,15 +191,15 @@ module _ (p : Program) where
           Later = (s2 : Scope) (scope2 : List ℕ) (ls2 : List Left) → Visible s2 scope2 → new_lefts text s0 (length s2.sites) ns ≡ Some ls2 → length (with_variables text s2 rest_slots).sites ≤ n → Extends (with_variables text s2 rest_slots).sites all
               → NewFit scope0 s2 scope2 rest_slots ts ls2 n
 
-          by : (b h : Bool) (l : Left) (rest : List Left) → ((u : ValueType) → new_wanted_of b h (declaration s0 (spelled text x)) ≡ Some u → u ≡ t)
-              → new_left_of b h (declaration s0 (spelled text x)) (length s.sites) ≡ Some l
+          by : (b h : Bool) (l : Left) (rest : List Left) → ((u : ValueType) → new_wanted_of b h (variable_named text s0 x) ≡ Some u → u ≡ t)
+              → new_left_of b h (variable_named text s0 x) (length s.sites) ≡ Some l
               → new_lefts text s0 (cond (not b && not h) (1 + length s.sites) (length s.sites)) ns ≡ Some rest
               → length (with_variables text s (cond (not b && not h) (slot_with (Some t) x ∷ rest_slots) rest_slots)).sites ≤ n
               → Extends (with_variables text s (cond (not b && not h) (slot_with (Some t) x ∷ rest_slots) rest_slots)).sites all → Later
               → NewFit scope0 s scope (cond (not b && not h) (slot_with (Some t) x ∷ rest_slots) rest_slots) (t ∷ ts) (l ∷ rest) n
           by true h l rest wants l_is rest_is le1 ext1 later = old_left scope0 s scope rest_slots t ts l rest n (inl (sym (same_some l_is))) (later s scope rest visible rest_is le1 ext1)
           by false true l rest wants l_is rest_is le1 ext1 later =
-              old_left scope0 s scope rest_slots t ts l rest n (target_old scope0 (declaration s0 (spelled text x)) t l (known0 (spelled text x)) wants l_is) (later s scope rest visible rest_is le1 ext1)
+              old_left scope0 s scope rest_slots t ts l rest n (target_old scope0 (variable_named text s0 x) t l (known0 (spelled text x)) wants l_is) (later s scope rest visible rest_is le1 ext1)
           by false false l rest wants l_is rest_is le1 ext1 later =
               let s1 = with_variable (Some t) s (spelled text x) x.pos in
               let one1 : length s1.sites ≡ length s.sites + 1 = length-append s.sites (record { pos = x.pos; type_id = record { 0 = type_number t } } ∷ []) in
@@ -211,9 +211,20 @@ module _ (p : Program) where
 -- ---- statements
 
 module _ (text : List ℕ) (p : Program) (all : List Site) (has : HasSites p all) where
-  -- what a scope shows has a site of its type in the program
-  pub known_all : (s : Scope) (scope : List ℕ) → Visible s scope → Extends s.sites all → (n : List ℕ) (site : SiteId) (u : ValueType) → declaration s n ≡ Some (Variable site u) → PlFits p scope (type_number u) (local site.0 here)
-  known_all s scope visible ext n site u is = let k = visible.shown n site u is in (k.0, site_is p all has site.0 u (has_longer s.sites all site.0 u ext k.1))
+  -- what a scope shows has a place of its type in the program
+  pub known_all : (s : Scope) (scope : List ℕ) → Visible s scope → Agrees s p → Extends s.sites all → (n : List ℕ) → Known p scope (variable_of s (declaration s n))
+  known_all s scope visible agrees ext n = by (declaration s n) refl
+    where
+      global_known : (k g : ℕ) (o : Option Fixed) → fixed s k ≡ o → slice_get s.globals g ≡ Some k → Known p scope (option_map (global_variable g) o)
+      global_known k g None known at v is = absurd (none_some is)
+      global_known k g (Some f) known at v is = subst (λ (x : Variable). PlFits p scope (type_number x.value_type) x.place) (same_some is) (agrees.globals g k f at known)
+
+      by : (d : Option Declared) → declaration s n ≡ d → Known p scope (variable_of s d)
+      by (Some (declared.Variable site u)) found v is =
+          let k = shown_site s scope visible n site u found in
+          subst (λ (x : Variable). PlFits p scope (type_number x.value_type) x.place) (same_some is) (k.0, site_is p all has site.0 u (has_longer s.sites all site.0 u ext k.1))
+      by (Some (declared.Global k g)) found v is = global_known k.0 g.0 (fixed s k.0) refl (shown_number s scope visible n k g found) v is
+      by other found v is = absurd (none_some is)
 
   module _ (wanted1 : List ℕ) (named : ℕ) where
     abbrev pub StFormed : (looped : Bool) → Scope → List ℕ → Scope → St → Type 0
@@ -266,8 +277,8 @@ module _ (text : List ℕ) (p : Program) (all : List Site) (has : HasSites p all
       assign_still : (ls : TreeExs) (es : TreeExs) (t : St) → Extends s.sites all → assignment (lefts text s ls) (taken (all_wanted text s ls) (seen text s es)) ≡ Some t → Still looped scope t
       assign_still ls es t ext is =
           let a = assignment_some (lefts text s ls) (taken (all_wanted text s ls) (seen text s es)) t is in
-          let values = taken_fits p scope (all_wanted text s ls) (seen text s es) a.1 (seen_fit p scope text s visible.shown visible.held agrees es) a.3 in
-          let left1 = lefts_fit p text s scope (known_all s scope visible ext) ls values.types a.0 values.accepted a.2 in
+          let values = taken_fits p scope (all_wanted text s ls) (seen text s es) a.1 (seen_fit p scope text s (shown_site s scope visible) (shown_number s scope visible) visible.held agrees es) a.3 in
+          let left1 = lefts_fit p text s scope (known_all s scope visible agrees ext) ls values.types a.0 values.accepted a.2 in
           subst (λ (x : St). Still looped scope x) a.4 (left1.sites, λ m n. (type_numbers values.types, left1.fit m n, values.fit), left1.behind scope)
 
       define_formed : (ns : List Name) (at : Pos) (es : TreeExs) (t : St) → Extends (behind_simple text s (tree.define ns at es)).sites all → Extends s.sites all → simple_statement text s (tree.define ns at es) ≡ Some t
@@ -276,13 +287,13 @@ module _ (text : List ℕ) (p : Program) (all : List Site) (has : HasSites p all
           let v = taken (all_new_wanted text s ns) (seen text s es) in
           let w = where_some (may_define text s ns) (assignment (new_lefts text s (length s.sites) ns) v) t is in
           let a = assignment_some (new_lefts text s (length s.sites) ns) v t w.1 in
-          let values = taken_fits p scope (all_new_wanted text s ns) (seen text s es) a.1 (seen_fit p scope text s visible.shown visible.held agrees es) a.3 in
+          let values = taken_fits p scope (all_new_wanted text s ns) (seen text s es) a.1 (seen_fit p scope text s (shown_site s scope visible) (shown_number s scope visible) visible.held agrees es) a.3 in
           let types_are : definition_types text s ns es ≡ Some values.types = ap (option_and_then (λ x. value_types (seen text s es))) a.3 ∙ values.found in
           let vs = new_slots text s (slots_each (Some values.types) ns) in
           let after = with_variables text s vs in
           let ext1 : Extends after.sites all = subst (λ (o : Option (List ValueType)). Extends (with_variables text s (new_slots text s (slots_each o ns))).sites all) types_are ext in
           let fits : (n : ℕ) → length after.sites ≤ n → NewFit p text scope s scope vs values.types a.0 n =
-          λ n le. new_lefts_fit p text all has s scope (known_all s scope visible ext0) n ns values.types s scope a.0 visible values.accepted a.2 le ext1 in
+          λ n le. new_lefts_fit p text all has s scope (known_all s scope visible agrees ext0) n ns values.types s scope a.0 visible values.accepted a.2 le ext1 in
           let whole = fits (length after.sites) (omega arith) in
           subst (λ (o : Option (List ValueType)). StFormed looped s scope (with_variables text s (new_slots text s (slots_each o ns))) t × Visible (with_variables text s (new_slots text s (slots_each o ns))) (scope_after scope t)) (sym types_are)
           (subst (λ (x : St). StFormed looped s scope after x × Visible after (scope_after scope x)) a.4
@@ -293,17 +304,17 @@ module _ (text : List ℕ) (p : Program) (all : List Site) (has : HasSites p all
       own_fits ext None t q is = absurd (none_some is)
       own_fits ext (Some n) t q is = by (is_blank (spelled text n)) is
         where
-          of_variable : (d : Option Declared) → Known p scope d → variable_value d ≡ Some (value t (read q)) → PlFits p scope (type_number t) q
-          of_variable (Some (Variable site u)) known is1 =
-              let read_is : value u (read (local site.0 here)) ≡ value t (read q) = same_some is1 in
-              let type_is : u ≡ t = cc in
-              let place_is : local site.0 here ≡ q = cc in
-              subst (λ (v : ValueType). PlFits p scope (type_number v) q) type_is (subst (λ (l : Pl). PlFits p scope (type_number u) l) place_is (known site u refl))
-          of_variable other known is1 = absurd (none_some is1)
+          of_variable : (o : Option Variable) → Known p scope o → variable_value o ≡ Some (value t (read q)) → PlFits p scope (type_number t) q
+          of_variable None known is1 = absurd (none_some is1)
+          of_variable (Some v) known is1 =
+              let read_is : value v.value_type (read v.place) ≡ value t (read q) = same_some is1 in
+              let type_is : v.value_type ≡ t = cc in
+              let place_is : v.place ≡ q = cc in
+              subst (λ (u : ValueType). PlFits p scope (type_number u) q) type_is (subst (λ (l : Pl). PlFits p scope (type_number v.value_type) l) place_is (known v refl))
 
-          by : (b : Bool) → cond b None (variable_value (declaration s (spelled text n))) ≡ Some (value t (read q)) → PlFits p scope (type_number t) q
+          by : (b : Bool) → cond b None (variable_value (variable_named text s n)) ≡ Some (value t (read q)) → PlFits p scope (type_number t) q
           by true is1 = absurd (none_some is1)
-          by false is1 = of_variable (declaration s (spelled text n)) (known_all s scope visible ext (spelled text n)) is1
+          by false is1 = of_variable (variable_named text s n) (known_all s scope visible agrees ext (spelled text n)) is1
 
       update_one_still : Extends s.sites all → (tree_op : ArithmeticOp) (e v : TreeEx) (t : St) → update_one text s tree_op e v ≡ Some t → Still looped scope t
       update_one_still ext tree_op e v t is =
@@ -313,7 +324,7 @@ module _ (text : List ℕ) (p : Program) (all : List Site) (has : HasSites p all
           let u = update_some (first_place e) tree_op a b q.0 (λ x x_is. own_read text s (name_in e) x x_is) q.1 in
           let form = u.5 in
           let place1 : PlFits p scope int_type u.1 = subst (λ (k : ValueType). PlFits p scope (type_number k) u.1) form.2 (own_fits ext (name_in e) u.0 u.1 u.3) in
-          let right : OperandFits p scope u.2 = operand_fits p scope (gives text s v) u.2 (maybe_fits p scope (gives text s v) (λ g g_is. gives_fit p scope text s visible.shown visible.held agrees v g g_is)) u.4 in
+          let right : OperandFits p scope u.2 = operand_fits p scope (gives text s v) u.2 (maybe_fits p scope (gives text s v) (λ g g_is. gives_fit p scope text s (shown_site s scope visible) (shown_number s scope visible) visible.held agrees v g g_is)) u.4 in
           let right1 : ExFits p scope int_type form.0 = subst (λ (k : ValueType). ExFits p scope (type_number k) form.0) form.1 (value_fits p scope u.2 form.0 right form.3) in
           let whole : update (first_place e) u.1 (arithmetic_of tree_op) form.0 ≡ t = same_some (ap updated (sym form.4) ∙ q.2) in
           subst (λ (x : St). Still looped scope x) whole (refl, λ m n. (arithmetic_is tree_op, place1, right1), refl)
@@ -338,7 +349,7 @@ module _ (text : List ℕ) (p : Program) (all : List Site) (has : HasSites p all
           let q = and_then_some (expressed (length s.strings)) (gives text s e) t is in
           let count1 : length (strings_in (gives text s e)) ≡ length (strings_in_call q.0) = ap (λ (o : Option Gives). length (strings_in o)) q.1 in
           let count2 = length-append s.strings (strings_in (gives text s e)) in
-          express_still looped scope (length s.strings) q.0 t (gives_fit p scope text s visible.shown visible.held agrees e q.0 q.1) (omega (arith, within.1, count1, count2)) q.2
+          express_still looped scope (length s.strings) q.0 t (gives_fit p scope text s (shown_site s scope visible) (shown_number s scope visible) visible.held agrees e q.0 q.1) (omega (arith, within.1, count1, count2)) q.2
 
       pub simple_still : (m : Simple) (t : St) → DeclaresNone m → Within p all (behind_simple text s m) → simple_statement text s m ≡ Some t → Still looped scope t
       simple_still (tree.express e) t none1 within is = call_still e t within is
@@ -365,4 +376,4 @@ module _ (text : List ℕ) (p : Program) (all : List Site) (has : HasSites p all
       simple_formed (tree.decrement e at) t within ext0 is = still_formed looped s scope t visible (simple_still (tree.decrement e at) t tt within is)
 
       pub return_formed : (r : Returns) (goes : ReturnsFit r wanted1 named) (es : TreeExs) (t : St) → returned r (seen text s es) ≡ Some t → StFormed looped s scope s t × Visible s (scope_after scope t)
-      return_formed r goes es t is = still_formed looped s scope t visible (return_still looped scope r goes (seen text s es) t (seen_fit p scope text s visible.shown visible.held agrees es) is)
+      return_formed r goes es t is = still_formed looped s scope t visible (return_still looped scope r goes (seen text s es) t (seen_fit p scope text s (shown_site s scope visible) (shown_number s scope visible) visible.held agrees es) is)

@@ -15,8 +15,9 @@ use Rattle.syntax.specs.Statements.{Simple}
 use Rattle.syntax.specs.Statements as tree
 use Rattle.typed.specs.declared.operators.BinOp.{BinOp as TypedOp}
 use Rattle.typed.specs.declared.operators.BinOp.TheVariants as op
-use Rattle.typed.specs.Syntax.{Ex, Exs, Left, Pl, St, binary, read, local, here, none, assign, update, give_back}
+use Rattle.typed.specs.Syntax.{Ex, Exs, Left, Pl, St, to, binary, read, local, here, none, assign, update, give_back}
 use Rattle.value_types.specs.declared.fault.FaultKind.TheVariants.{Unknown, Redeclared, NothingNew, NotAssignable, NotUsedValue, ArgCount, ResultCount, BadOperand, OutOfProfile}
+use Rattle.value_types.specs.declared.constant.Fixed.{Fixed}
 use Rattle.value_types.specs.declared.value_type.ValueType.{ValueType}
 use Rattle.value_types.specs.declared.value_type.ValueType.TheVariants.{Int, Bool as Truth}
 use Rattle.value_types.specs.Given.{both}
@@ -31,9 +32,9 @@ use Rattle.names.specs.Blocks.{Blocks}
 use Rattle.names.specs.declared.scope.Declared.{Declared}
 use Rattle.names.specs.declared.scope.Declared.TheVariants as declared
 use Rattle.names.specs.Universe.{is_blank}
-use Rattle.names.specs.Scope.{Scope, declaration, is_here}
+use Rattle.names.specs.Scope.{Scope, declaration, is_here, fixed}
 use Rattle.names.specs.Naming.{name_in}
-use Rattle.names.proofs.Settled.{IsSettled, declared_typed}
+use Rattle.names.proofs.Settled.{HasValue, IsTyped, IsSettled, declared_typed}
 use Rattle.expression_types.specs.Typing.{Gives, one, called, asking, quoted, printed, panicked, exited, operand_in, Seen, many, count, taken, gives, seen}
 use Rattle.expression_types.specs.Faults.{refused_fault, ValuesFail, CountFails, TakeFails, Fails, FailsInEach, FailsAsOperand}
 use Rattle.expression_types.proofs.DecidedValues.{given_all, operand_decided, take_decided, refused}
@@ -41,38 +42,49 @@ use Rattle.expression_types.proofs.Settled.{gives_decided, seen_decided}
 use Rattle.signatures.specs.Entries.{slots_each}
 use Rattle.signatures.specs.Failing.{fault_where}
 use Rattle.signatures.proofs.SettledEntries.{where_tested, some_tested}
-use Rattle.simple_statements.specs.SimpleStatements.{Returns, only, variable_value, left_of, new_left_of, declares, noted, is_noted, expressed, assignment, updated, stepped, returned, left, lefts, all_wanted, new_left, new_lefts, all_new_wanted, new_slots, with_variables, are_distinct, has_all, may_define, own_value, behind_simple, update_one, update_statement, step_statement, simple_statement}
+use Rattle.simple_statements.specs.SimpleStatements.{Returns, Variable, global_variable, variable_of, variable_named, only, variable_value, left_of, new_left_of, declares, noted, is_noted, expressed, assignment, updated, stepped, returned, left, lefts, all_wanted, new_left, new_lefts, all_new_wanted, new_slots, with_variables, are_distinct, has_all, may_define, own_value, behind_simple, update_one, update_statement, step_statement, simple_statement}
 use Rattle.simple_statements.specs.SimpleFaults.{left_fault, new_name_fault, own_fault, value_left_fault, names_place, lefts_place, use_fault, step_fault, ReturnFails, LeftSideFails, LeftsFail, OwnSideFails, OwnSidesFail, NewNamesFail, TwiceFails, FailsInAssignment, FailsInDefinition, have_values, given_count, UpdateFails, FailsInStep, FailsInSimple}
 use Rattle.simple_statements.proofs.SettledValues.{settled_new, allowed_is, taken_types_are}
 
 -- ---- left sides
 
-left_decided : (is_blank : Bool) (d : Option Declared) (at whole : Pos) → (d ≡ Some declared.Untyped → ⊥) → Decided (left_of is_blank d) (IsFault (left_fault is_blank d at whole))
-left_decided true d at whole typed = λ f h. h
-left_decided false None at whole typed = (fault Unknown at, refl)
-left_decided false (Some (declared.Variable site t)) at whole typed = λ f h. h
-left_decided false (Some declared.Untyped) at whole typed = absurd (typed refl)
-left_decided false (Some declared.TypeName) at whole typed = (fault BadOperand at, refl)
-left_decided false (Some (declared.«Type» t)) at whole typed = (fault BadOperand at, refl)
-left_decided false (Some declared.LeftOutType) at whole typed = (fault OutOfProfile at, refl)
-left_decided false (Some declared.LeftOutValue) at whole typed = (fault OutOfProfile at, refl)
-left_decided false (Some other) at whole typed = (fault NotAssignable whole, refl)
+-- what a name stands for has a type
+abbrev NameTyped : Scope → Option Declared → Type 0
+NameTyped s d = (x : Declared) → d ≡ Some x → IsTyped s.signatures s.values x
 
-own_decided : (is_blank : Bool) (d : Option Declared) (at whole : Pos) → (d ≡ Some declared.Untyped → ⊥) → Decided (cond is_blank None (variable_value d)) (IsFault (own_fault is_blank d at whole))
-own_decided true d at whole typed = (fault Unknown at, refl)
-own_decided false None at whole typed = (fault Unknown at, refl)
-own_decided false (Some (declared.Variable site t)) at whole typed = λ f h. h
-own_decided false (Some declared.Untyped) at whole typed = absurd (typed refl)
-own_decided false (Some declared.TypeName) at whole typed = (fault BadOperand at, refl)
-own_decided false (Some (declared.«Type» t)) at whole typed = (fault BadOperand at, refl)
-own_decided false (Some declared.LeftOutType) at whole typed = (fault OutOfProfile at, refl)
-own_decided false (Some declared.LeftOutValue) at whole typed = (fault OutOfProfile at, refl)
-own_decided false (Some other) at whole typed = (fault NotAssignable whole, refl)
+-- what follows from a package variable of which something is known
+known_decided : {A : Type 0} (h : Variable → A) (g : ℕ) (o : Option Fixed) → HasValue o → Decided (option_map h (option_map (global_variable g) o)) (IsFault None)
+known_decided h g None has = absurd has
+known_decided h g (Some f) has = λ k j. j
 
-new_left_decided : (is_blank is_here : Bool) (d : Option Declared) (site : ℕ) (at : Pos) → (d ≡ Some declared.Untyped → ⊥) → Decided (new_left_of is_blank is_here d site) (IsFault (new_name_fault is_blank is_here d at))
-new_left_decided true is_here d site at typed = λ f h. h
-new_left_decided false true d site at typed = left_decided false d at at typed
-new_left_decided false false d site at typed = λ f h. h
+left_decided : (s : Scope) (is_blank : Bool) (d : Option Declared) (at whole : Pos) → NameTyped s d → Decided (left_of is_blank (variable_of s d)) (IsFault (left_fault is_blank d at whole))
+left_decided s true d at whole typed = λ f h. h
+left_decided s false None at whole typed = (fault Unknown at, refl)
+left_decided s false (Some (declared.Variable site t)) at whole typed = λ f h. h
+left_decided s false (Some (declared.Global k g)) at whole typed = known_decided (λ v. to v.place) g.0 (fixed s k.0) (typed (declared.Global k g) refl)
+left_decided s false (Some declared.Untyped) at whole typed = absurd (typed declared.Untyped refl)
+left_decided s false (Some declared.TypeName) at whole typed = (fault BadOperand at, refl)
+left_decided s false (Some (declared.«Type» t)) at whole typed = (fault BadOperand at, refl)
+left_decided s false (Some declared.LeftOutType) at whole typed = (fault OutOfProfile at, refl)
+left_decided s false (Some declared.LeftOutValue) at whole typed = (fault OutOfProfile at, refl)
+left_decided s false (Some other) at whole typed = (fault NotAssignable whole, refl)
+
+own_decided : (s : Scope) (is_blank : Bool) (d : Option Declared) (at whole : Pos) → NameTyped s d → Decided (cond is_blank None (variable_value (variable_of s d))) (IsFault (own_fault is_blank d at whole))
+own_decided s true d at whole typed = (fault Unknown at, refl)
+own_decided s false None at whole typed = (fault Unknown at, refl)
+own_decided s false (Some (declared.Variable site t)) at whole typed = λ f h. h
+own_decided s false (Some (declared.Global k g)) at whole typed = known_decided (λ v. value v.value_type (read v.place)) g.0 (fixed s k.0) (typed (declared.Global k g) refl)
+own_decided s false (Some declared.Untyped) at whole typed = absurd (typed declared.Untyped refl)
+own_decided s false (Some declared.TypeName) at whole typed = (fault BadOperand at, refl)
+own_decided s false (Some (declared.«Type» t)) at whole typed = (fault BadOperand at, refl)
+own_decided s false (Some declared.LeftOutType) at whole typed = (fault OutOfProfile at, refl)
+own_decided s false (Some declared.LeftOutValue) at whole typed = (fault OutOfProfile at, refl)
+own_decided s false (Some other) at whole typed = (fault NotAssignable whole, refl)
+
+new_left_decided : (s : Scope) (is_blank is_here : Bool) (d : Option Declared) (site : ℕ) (at : Pos) → NameTyped s d → Decided (new_left_of is_blank is_here (variable_of s d) site) (IsFault (new_name_fault is_blank is_here d at))
+new_left_decided s true is_here d site at typed = λ f h. h
+new_left_decided s false true d site at typed = left_decided s false d at at typed
+new_left_decided s false false d site at typed = λ f h. h
 
 -- ---- what statements are made of
 
@@ -133,9 +145,9 @@ return_decided at r (o ∷ os) P d = mapped give_back (taken r.wanted (o ∷ os)
 abbrev pub IsRead : Operand → Type 0
 IsRead x = (t : ValueType) × (q : Pl) × (x ≡ value t (read q))
 
-variable_read : (d : Option Declared) (x : Operand) → variable_value d ≡ Some x → IsRead x
-variable_read (Some (declared.Variable site t)) x is = (t, local site.0 here, sym (same_some is))
-variable_read other x is = absurd (none_some is)
+variable_read : (v : Option Variable) (x : Operand) → variable_value v ≡ Some x → IsRead x
+variable_read None x is = absurd (none_some is)
+variable_read (Some v) x is = (v.value_type, v.place, sym (same_some is))
 
 -- what an operator gives of a variable and an operand has the form of an operator on two
 abbrev pub UpdatedAs : Pos → TypedOp → ValueType → Pl → Operand → Operand → Type 0
@@ -210,20 +222,20 @@ module _ (text : List ℕ) where
   side_decided : (s : Scope) (settled : IsSettled s) (o : Option Name) (e : TreeEx) → Decided (left text s o) (LeftSideFails text s o e)
   side_decided s settled None e = value_decided s e (gives text s e) (gives_decided text s settled e)
   side_decided s settled (Some n) e =
-      left_decided (is_blank (spelled text n)) (declaration s (spelled text n)) n.pos (first_place e) (λ is. declared_typed s settled (spelled text n) declared.Untyped is)
+      left_decided s (is_blank (spelled text n)) (declaration s (spelled text n)) n.pos (first_place e) (λ x is. declared_typed s settled (spelled text n) x is)
 
   own_side_decided : (s : Scope) (settled : IsSettled s) (o : Option Name) (e : TreeEx) → Decided (own_value text s o) (OwnSideFails text s o e)
   own_side_decided s settled None e = value_decided s e (gives text s e) (gives_decided text s settled e)
   own_side_decided s settled (Some n) e =
-      own_decided (is_blank (spelled text n)) (declaration s (spelled text n)) n.pos (first_place e) (λ is. declared_typed s settled (spelled text n) declared.Untyped is)
+      own_decided s (is_blank (spelled text n)) (declaration s (spelled text n)) n.pos (first_place e) (λ x is. declared_typed s settled (spelled text n) x is)
 
   pub own_read : (s : Scope) (o : Option Name) (x : Operand) → own_value text s o ≡ Some x → IsRead x
   own_read s None x is = absurd (none_some is)
   own_read s (Some n) x is = by (is_blank (spelled text n)) is
     where
-      by : (b : Bool) → cond b None (variable_value (declaration s (spelled text n))) ≡ Some x → IsRead x
+      by : (b : Bool) → cond b None (variable_value (variable_named text s n)) ≡ Some x → IsRead x
       by true is1 = absurd (none_some is1)
-      by false is1 = variable_read (declaration s (spelled text n)) x is1
+      by false is1 = variable_read (variable_named text s n) x is1
 
   own_sides_tested : (s : Scope) (settled : IsSettled s) (ls : TreeExs) → Tested (have_values text s ls) (OwnSidesFail text s ls)
   own_sides_tested s settled expressions.none = λ f h. h
@@ -243,7 +255,7 @@ module _ (text : List ℕ) where
       let bytes = spelled text n in
       let behind1 = cond (declares s bytes) (1 + site) site in
       after (new_left text s site n) (λ l. option_map (λ ls. l ∷ ls) (new_lefts text s behind1 ns)) (IsFault (new_name_fault (is_blank bytes) (is_here s bytes) (declaration s bytes) n.pos)) (NewNamesFail text s ns)
-      (new_left_decided (is_blank bytes) (is_here s bytes) (declaration s bytes) site n.pos (λ is. declared_typed s settled bytes declared.Untyped is))
+      (new_left_decided s (is_blank bytes) (is_here s bytes) (declaration s bytes) site n.pos (λ x is. declared_typed s settled bytes x is))
       (λ l is. mapped (λ ls. l ∷ ls) (new_lefts text s behind1 ns) (NewNamesFail text s ns) (new_lefts_decided s settled behind1 ns))
 
   pub distinct_tested : (names : Blocks) (ns : List Name) → Tested (are_distinct text names ns) (TwiceFails text names ns)

@@ -39,6 +39,7 @@ left_fault true d at whole = None
 left_fault false None at whole = Some (fault Unknown at)
 left_fault false (Some (declared.Variable site t)) at whole = None
 left_fault false (Some declared.Untyped) at whole = None
+left_fault false (Some (declared.Global k g)) at whole = None
 left_fault false (Some declared.TypeName) at whole = Some (fault BadOperand at)
 left_fault false (Some (declared.«Type» t)) at whole = Some (fault BadOperand at)
 left_fault false (Some declared.LeftOutType) at whole = Some (fault OutOfProfile at)

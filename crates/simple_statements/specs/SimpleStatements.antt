@@ -2,6 +2,7 @@
 -- declarations", "Variable declarations", "Assignment statements", "IncDec statements", "Expression statements", "Return statements").
 use Rattle.std.specs.Prelude.{ℕ, ◌+◌, length, Bool, true, false, not, ◌&&◌, ◌||◌, List, [], ◌∷◌, map, Option, Some, None, is_some, option_and_then, if◌then◌else◌}
 use Rattle.std.specs.Option.{option_map}
+use Rattle.value_types.specs.declared.constant.Fixed.{Fixed}
 use Rattle.value_types.specs.declared.value_type.ValueType.{ValueType}
 use Rattle.syntax.specs.declared.expression.Name.{Name}
 use Rattle.syntax.specs.declared.operator.ArithmeticOp.{ArithmeticOp}
@@ -13,23 +14,25 @@ use Rattle.syntax.specs.Statements.{Simple, ValueSpec}
 use Rattle.syntax.specs.Statements as tree
 use Rattle.typed.specs.declared.operators.BinOp.{BinOp as TypedOp}
 use Rattle.typed.specs.declared.operators.BinOp.TheVariants as op
-use Rattle.typed.specs.Syntax.{Exs, Left, Piece, St, Sts, text as string_number, shown, binary, read, local, here, none, results, asked, blank, new, to, declare, assign, update, bump, discard, give_back, print, raise, quit, done, next}
+use Rattle.typed.specs.View.{place_of}
+use Rattle.typed.specs.Syntax.{Exs, Left, Piece, Pl, St, Sts, text as string_number, shown, binary, read, local, global, here, none, results, asked, blank, new, to, declare, assign, update, bump, discard, give_back, print, raise, quit, done, next}
 use Rattle.value_types.specs.declared.value_type.ValueType.TheVariants.{Int}
 use Rattle.value_types.specs.Given.{allowed, both}
 use Rattle.operators.specs.Operands.{Operand, value}
 use Rattle.operators.specs.Operators.{combined}
 use Rattle.names.specs.Blocks.{Blocks, innermost, insert}
 use Rattle.names.specs.declared.scope.Declared.{Declared}
-use Rattle.names.specs.declared.scope.Declared.TheVariants.{Variable}
+use Rattle.names.specs.declared.scope.Declared.TheVariants as declared
 use Rattle.names.specs.Universe.{is_blank}
-use Rattle.names.specs.Scope.{Scope, declaration, is_here, with_variable, with_strings}
+use Rattle.names.specs.Scope.{Scope, declaration, is_here, fixed, with_variable, with_strings}
 use Rattle.names.specs.Naming.{name_in}
 use Rattle.names.specs.Types.{type_in}
-use Rattle.expression_types.specs.Typing.{Part, said, valued, Gives, one, called, asking, quoted, printed, panicked, exited, operand_in, Seen, value_types, taken, gives, seen}
+use Rattle.expression_types.specs.Typing.{known_type, Part, said, valued, Gives, one, called, asking, quoted, printed, panicked, exited, operand_in, Seen, value_types, taken, gives, seen}
 use Rattle.signatures.specs.declared.slots.Slot.{Slot}
 use Rattle.signatures.specs.declared.entries.Role.TheVariants.{Parameter}
 use Rattle.signatures.specs.Entries.{sites_of, entry_left, slot_with, slots_each, entries, behind_entries}
 use Rattle.simple_statements.specs.declared.statements.Returns.{Returns as ReturnsData}
+use Rattle.simple_statements.specs.declared.declaring.Variable.{Variable as VariableData}
 
 -- what a function gives back: the types of its values, where they are known, and whether a `return` may have none
 pub record Returns : Type 0 where
@@ -47,34 +50,46 @@ only (some e (some g es)) = None
 
 -- ---- left sides
 
--- a variable with a type as a left side
-abbrev pub target : Option Declared → Option Left
-target (Some (Variable site t)) = Some (to (local site.0 here))
-target other = None
+-- a variable with a type, and its place
+pub record Variable : Type 0 where
+  pub value_type : ValueType
+  pub place : Pl
 
--- the type that it asks for
-abbrev pub variable_type : Option Declared → Option ValueType
-variable_type (Some (Variable site t)) = Some t
-variable_type other = None
+abbrev pub variable_view : VariableData → Variable
+variable_view v = record { value_type = v.value_type; place = place_of v.place }
 
--- its value
-abbrev pub variable_value : Option Declared → Option Operand
-variable_value (Some (Variable site t)) = Some (value t (read (local site.0 here)))
-variable_value other = None
+abbrev pub global_variable : ℕ → Fixed → Variable
+global_variable g f = record { value_type = known_type f; place = global g here }
+
+-- the variable that a name stands for, where its type is known
+abbrev pub variable_of : Scope → Option Declared → Option Variable
+variable_of s (Some (declared.Variable site t)) = Some (record { value_type = t; place = local site.0 here })
+variable_of s (Some (declared.Global k g)) = option_map (global_variable g.0) (fixed s k.0)
+variable_of s other = None
+
+-- it as a left side, the type that it asks for, and its value
+abbrev pub target : Option Variable → Option Left
+target v = option_map (λ x. to x.place) v
+
+abbrev pub variable_type : Option Variable → Option ValueType
+variable_type v = option_map (λ x. x.value_type) v
+
+abbrev pub variable_value : Option Variable → Option Operand
+variable_value v = option_map (λ x. value x.value_type (read x.place)) v
 
 -- a left side of `=`, and the type that it asks for
-abbrev pub left_of : (is_blank : Bool) → Option Declared → Option Left
-left_of is_blank d = if is_blank then Some blank else target d
+abbrev pub left_of : (is_blank : Bool) → Option Variable → Option Left
+left_of is_blank v = if is_blank then Some blank else target v
 
-abbrev pub wanted_of : (is_blank : Bool) → Option Declared → Option ValueType
-wanted_of is_blank d = if is_blank then None else variable_type d
+abbrev pub wanted_of : (is_blank : Bool) → Option Variable → Option ValueType
+wanted_of is_blank v = if is_blank then None else variable_type v
 
 -- a left side of `:=`: a variable that the block has, or a new one with the next site
-abbrev pub new_left_of : (is_blank is_here : Bool) → Option Declared → ℕ → Option Left
-new_left_of is_blank is_here d site = if is_blank then Some blank else (if is_here then target d else Some (new site))
+abbrev pub new_left_of : (is_blank is_here : Bool) → Option Variable → ℕ → Option Left
+new_left_of is_blank is_here v site = if is_blank then Some blank else (if is_here then target v else Some (new site))
 
-abbrev pub new_wanted_of : (is_blank is_here : Bool) → Option Declared → Option ValueType
-new_wanted_of is_blank is_here d = if is_here then wanted_of is_blank d else None
+abbrev pub new_wanted_of : (is_blank is_here : Bool) → Option Variable → Option ValueType
+new_wanted_of is_blank is_here v = if is_here then wanted_of is_blank v else None
 
 -- whether a `:=` declares the name
 abbrev pub declares : Scope → List ℕ → Bool
@@ -159,14 +174,17 @@ is_bare (Some e) expressions.none = true
 is_bare (Some e) (some x xs) = false
 
 module _ (text : List ℕ) where
+  abbrev pub variable_named : Scope → Name → Option Variable
+  variable_named s n = variable_of s (declaration s (spelled text n))
+
   -- a left side of `=`: a name, in parentheses or not; any other expression is none
   abbrev pub left : Scope → Option Name → Option Left
   left s None = None
-  left s (Some n) = left_of (is_blank (spelled text n)) (declaration s (spelled text n))
+  left s (Some n) = left_of (is_blank (spelled text n)) (variable_named s n)
 
   abbrev pub wanted : Scope → Option Name → Option ValueType
   wanted s None = None
-  wanted s (Some n) = wanted_of (is_blank (spelled text n)) (declaration s (spelled text n))
+  wanted s (Some n) = wanted_of (is_blank (spelled text n)) (variable_named s n)
 
   -- the left sides of `=`, where each is a variable with a type or blank, and the types that they ask for
   abbrev pub lefts : Scope → TreeExs → Option (List Left)
@@ -187,10 +205,10 @@ module _ (text : List ℕ) where
   new_slots s (v ∷ vs) = if slot_declares s v.name then v ∷ new_slots s vs else new_slots s vs
 
   abbrev pub new_left : Scope → ℕ → Name → Option Left
-  new_left s site n = new_left_of (is_blank (spelled text n)) (is_here s (spelled text n)) (declaration s (spelled text n)) site
+  new_left s site n = new_left_of (is_blank (spelled text n)) (is_here s (spelled text n)) (variable_named s n) site
 
   abbrev pub new_wanted : Scope → Name → Option ValueType
-  new_wanted s n = new_wanted_of (is_blank (spelled text n)) (is_here s (spelled text n)) (declaration s (spelled text n))
+  new_wanted s n = new_wanted_of (is_blank (spelled text n)) (is_here s (spelled text n)) (variable_named s n)
 
   -- its left sides, the new ones of which have sites from one on, and the types that they ask for
   abbrev pub new_lefts : Scope → ℕ → List Name → Option (List Left)
@@ -225,7 +243,7 @@ module _ (text : List ℕ) where
   -- the value of a variable that is given another one of its own
   abbrev pub own_value : Scope → Option Name → Option Operand
   own_value s None = None
-  own_value s (Some n) = if is_blank (spelled text n) then None else variable_value (declaration s (spelled text n))
+  own_value s (Some n) = if is_blank (spelled text n) then None else variable_value (variable_named s n)
 
   -- ---- simple statements
 

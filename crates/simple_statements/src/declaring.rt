@@ -14,21 +14,21 @@ ghost use Rattle.names.specs.Naming.{name_in};
 ghost use Rattle.expression_types.specs.Typing.{gives};
 ghost use Rattle.value_types.specs.Given.{with_last};
 ghost use Rattle.expression_types.specs.Passing.{gives_of};
-ghost use Rattle.simple_statements.specs.SimpleStatements.{target, variable_type, left_of, wanted_of, new_left_of, new_wanted_of, declares, slot_declares, left, wanted, new_left, new_wanted, noted, is_noted, lefts, all_wanted, new_lefts, all_new_wanted, new_slots, with_slot, with_variables, has_all, may_define};
+ghost use Rattle.simple_statements.specs.SimpleStatements.{variable_view, variable_of, variable_named, target, variable_type, left_of, wanted_of, new_left_of, new_wanted_of, declares, slot_declares, left, wanted, new_left, new_wanted, noted, is_noted, lefts, all_wanted, new_lefts, all_new_wanted, new_slots, with_slot, with_variables, has_all, may_define};
 ghost use Rattle.signatures.specs.Failing.{fault_where};
 ghost use Rattle.simple_statements.specs.SimpleFaults.{left_fault, new_name_fault, value_left_fault, LeftSideFails, LeftsFail, NewNamesFail, TwiceFails, names_place, lefts_place};
 
 use base::{NoMemory, Pos, SiteId};
 use expression_types::{Gives, check_expr};
 use names::{
-    Block, Declared, Scope, declaration, declare_variable, is_blank, is_here, name_in, site_behind,
-    spelled,
+    Block, Declared, Scope, declaration, declare_variable, fixed, is_blank, is_here, name_in,
+    site_behind, spelled,
 };
 use signatures::{Slot, fault_where};
 use std::alloc::Global;
 use syntax::{Expr, Name};
-use typed::Left;
-use value_types::{Fault, FaultKind, ValueType, lesser};
+use typed::{Left, Place};
+use value_types::{Fault, FaultKind, ValueType, constant_type, lesser};
 
 /// What is known of left sides.
 #[derive(Drop)]
@@ -44,59 +44,92 @@ pub struct Declaration {
     pub fault: Option<Fault>,
 }
 
-/// A variable with a type as a left side.
-fn target(declared: Option<Declared>) -> Option<Left>
-    ensures { option_map left_view result ≡ target declared }
+/// A variable with a type, and its place.
+#[derive(Clone, Copy, Debug, PartialEq, Eq)]
+pub struct Variable {
+    pub value_type: ValueType,
+    pub place: Place,
+}
+
+/// The variable that a name stands for, where its type is known.
+fn variable_of(scope: &Scope, declared: Option<Declared>) -> Option<Variable>
+    ensures { option_map variable_view result ≡ variable_of (scope_of scope.now) declared }
 {
     match declared {
-        Some(Declared::Variable(site, _)) => Some(Left::To(site)),
+        Some(Declared::Variable(site, value_type)) => Some(Variable {
+            value_type,
+            place: Place::Local(site),
+        }),
+        Some(Declared::Global(number, global)) => match fixed(scope, number) {
+            Some(known) => Some(Variable {
+                value_type: constant_type(known),
+                place: Place::Global(global.0),
+            }),
+            None => None,
+        },
         _ => None,
+    }
+}
+
+pub fn variable_named(text: &[u8], scope: &Scope, name: Name) -> Option<Variable>
+    ensures { option_map variable_view result ≡ variable_named text.now (scope_of scope.now) name }
+{
+    variable_of(scope, declaration(scope, spelled(text, name)))
+}
+
+/// A variable as a left side.
+fn target(variable: Option<Variable>) -> Option<Left>
+    ensures { option_map left_view result ≡ target (option_map variable_view variable) }
+{
+    match variable {
+        Some(variable) => Some(Left::To(variable.place)),
+        None => None,
     }
 }
 
 /// The type that a variable asks for.
-fn variable_type(declared: Option<Declared>) -> Option<ValueType>
-    ensures { result ≡ variable_type declared }
+fn variable_type(variable: Option<Variable>) -> Option<ValueType>
+    ensures { result ≡ variable_type (option_map variable_view variable) }
 {
-    match declared {
-        Some(Declared::Variable(_, value_type)) => Some(value_type),
-        _ => None,
+    match variable {
+        Some(variable) => Some(variable.value_type),
+        None => None,
     }
 }
 
-fn left_of(blank: bool, declared: Option<Declared>) -> Option<Left>
-    ensures { option_map left_view result ≡ left_of blank declared }
+fn left_of(blank: bool, variable: Option<Variable>) -> Option<Left>
+    ensures { option_map left_view result ≡ left_of blank (option_map variable_view variable) }
 {
     if blank {
         Some(Left::Blank)
     } else {
-        target(declared)
+        target(variable)
     }
 }
 
-fn wanted_of(blank: bool, declared: Option<Declared>) -> Option<ValueType>
-    ensures { result ≡ wanted_of blank declared }
+fn wanted_of(blank: bool, variable: Option<Variable>) -> Option<ValueType>
+    ensures { result ≡ wanted_of blank (option_map variable_view variable) }
 {
-    if blank { None } else { variable_type(declared) }
+    if blank { None } else { variable_type(variable) }
 }
 
-fn new_left_of(blank: bool, here: bool, declared: Option<Declared>, site: SiteId) -> Option<Left>
-    ensures { option_map left_view result ≡ new_left_of blank here declared site.0 }
+fn new_left_of(blank: bool, here: bool, variable: Option<Variable>, site: SiteId) -> Option<Left>
+    ensures { option_map left_view result ≡ new_left_of blank here (option_map variable_view variable) site.0 }
 {
     if blank {
         Some(Left::Blank)
     } else if here {
-        target(declared)
+        target(variable)
     } else {
         Some(Left::New(site))
     }
 }
 
-fn new_wanted_of(blank: bool, here: bool, declared: Option<Declared>) -> Option<ValueType>
-    ensures { result ≡ new_wanted_of blank here declared }
+fn new_wanted_of(blank: bool, here: bool, variable: Option<Variable>) -> Option<ValueType>
+    ensures { result ≡ new_wanted_of blank here (option_map variable_view variable) }
 {
     if here {
-        wanted_of(blank, declared)
+        wanted_of(blank, variable)
     } else {
         None
     }
@@ -122,7 +155,7 @@ pub fn left_fault_of(blank: bool, declared: Option<Declared>, pos: Pos, whole: P
     }
     let (kind, pos) = match declared {
         None => (FaultKind::Unknown, pos),
-        Some(Declared::Variable(_, _) | Declared::Untyped) => return None,
+        Some(Declared::Variable(_, _) | Declared::Untyped | Declared::Global(_, _)) => return None,
         Some(Declared::TypeName | Declared::Type(_)) => (FaultKind::BadOperand, pos),
         Some(Declared::LeftOutType | Declared::LeftOutValue) => (FaultKind::OutOfProfile, pos),
         Some(_) => (FaultKind::NotAssignable, whole),
@@ -146,7 +179,7 @@ fn name_left(text: &[u8], scope: &Scope, name: Name) -> Option<Left>
     ensures { option_map left_view result ≡ left text.now (scope_of scope.now) (Some name) }
 {
     let bytes = spelled(text, name);
-    left_of(is_blank(bytes), declaration(scope, bytes))
+    left_of(is_blank(bytes), variable_named(text, scope, name))
 }
 
 /// A left side of a `=`.
@@ -163,7 +196,7 @@ fn name_wanted(text: &[u8], scope: &Scope, name: Name) -> Option<ValueType>
     ensures { result ≡ wanted text.now (scope_of scope.now) (Some name) }
 {
     let bytes = spelled(text, name);
-    wanted_of(is_blank(bytes), declaration(scope, bytes))
+    wanted_of(is_blank(bytes), variable_named(text, scope, name))
 }
 
 /// The type that a left side of a `=` asks for.
@@ -271,7 +304,7 @@ fn new_left(text: &[u8], scope: &Scope, before: usize, name: Name) -> Result<Opt
     Ok(new_left_of(
         is_blank(bytes),
         is_here(scope, bytes),
-        declaration(scope, bytes),
+        variable_named(text, scope, name),
         site,
     ))
 }
@@ -283,7 +316,7 @@ fn new_wanted(text: &[u8], scope: &Scope, name: Name) -> Option<ValueType>
     new_wanted_of(
         is_blank(bytes),
         is_here(scope, bytes),
-        declaration(scope, bytes),
+        variable_named(text, scope, name),
     )
 }
 

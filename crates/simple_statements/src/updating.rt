@@ -19,10 +19,10 @@ ghost use Rattle.names.specs.Naming.{name_in};
 ghost use Rattle.expression_types.specs.Typing.{many, count, gives, seen, operand_in};
 ghost use Rattle.expression_types.specs.Faults.{refused_fault, ValuesFail, FailsInEach, FailsAsOperand};
 ghost use Rattle.expression_types.specs.Passing.{seens};
-ghost use Rattle.simple_statements.specs.SimpleStatements.{only, variable_value, own_value, updated, stepped, update_one, update_statement, step_statement};
+ghost use Rattle.simple_statements.specs.SimpleStatements.{variable_view, variable_named, only, variable_value, own_value, updated, stepped, update_one, update_statement, step_statement};
 ghost use Rattle.simple_statements.specs.SimpleFaults.{own_fault, step_fault, given_count, have_values, lefts_place, OwnSideFails, OwnSidesFail, FailsInUpdate, FailsInStep};
 
-use crate::declaring::{left_fault_of, lefts_pos, value_fault};
+use crate::declaring::{Variable, left_fault_of, lefts_pos, value_fault, variable_named};
 use crate::statements::Line;
 use base::{NoMemory, Pos};
 use expression_types::{Item, check_list, check_single, count, values_fault};
@@ -41,14 +41,15 @@ struct Sides {
     fault: Option<Fault>,
 }
 
-fn variable_value(declared: Option<Declared>) -> Option<Operand>
-    ensures { option_map operand_of result ≡ variable_value declared }
+fn variable_value(variable: Option<Variable>) -> Option<Operand>
+    ensures { option_map operand_of result ≡ variable_value (option_map variable_view variable) }
 {
-    match declared {
-        Some(Declared::Variable(site, value_type)) => {
-            Some(Operand::Value(value_type, typed::Expr::Local(site)))
-        }
-        _ => None,
+    match variable {
+        Some(variable) => Some(Operand::Value(
+            variable.value_type,
+            typed::Expr::Read(variable.place),
+        )),
+        None => None,
     }
 }
 
@@ -59,7 +60,7 @@ fn name_value(text: &[u8], scope: &Scope, name: Name) -> Option<Operand>
     if is_blank(bytes) {
         None
     } else {
-        variable_value(declaration(scope, bytes))
+        variable_value(variable_named(text, scope, name))
     }
 }
 
@@ -143,9 +144,9 @@ fn updated(operand: Operand) -> Option<typed::Stmt>
         return None;
     };
     match Box::into_inner(left) {
-        typed::Expr::Local(site) => Some(typed::Stmt::Update(
+        typed::Expr::Read(place) => Some(typed::Stmt::Update(
             pos,
-            site,
+            place,
             op,
             Box::into_inner(right),
         )),
@@ -265,8 +266,8 @@ fn stepped(op: BinOp, operand: Option<Operand>) -> Option<typed::Stmt>
     ensures { option_map st_of result ≡ option_and_then (stepped op) (option_map operand_of operand) }
 {
     match operand {
-        Some(Operand::Value(ValueType::Int, typed::Expr::Local(site))) => {
-            Some(typed::Stmt::Bump(site, op))
+        Some(Operand::Value(ValueType::Int, typed::Expr::Read(place))) => {
+            Some(typed::Stmt::Bump(place, op))
         }
         _ => None,
     }

@@ -3,6 +3,7 @@ ghost use Rattle.std.specs.Prelude.{◌≤◌, ◌^◌, IsTrue};
 ghost use Rattle.machine.specs.Inside.{Inside};
 
 use compile::compile;
+use heap_bump::Heap;
 use isa::{Code, Instr};
 use machine::{Ending, Next, Place, run};
 use outside::{IntReader, MemSink, MemSource};
@@ -31,7 +32,7 @@ fn is_inside(code: &Code, long: usize, at: Place) -> bool
     f < funcs.len() && at.base + funcs[f].frame as usize <= long
 }
 
-/// Runs so many steps from a place, with nothing to read.
+/// Runs so many steps from a place, with an empty heap, and with nothing to read.
 fn run_from(
     rt: &impl Abort,
     alloc: Global,
@@ -46,11 +47,13 @@ fn run_from(
     assert!(rt; is_inside(code, words.len(), at));
     let mut reader = IntReader::new();
     let mut input = MemSource::new(Vec::new(alloc), Vec::new(alloc));
+    let mut heap = Heap::new(alloc, 0);
     run(
         alloc,
         code,
         words,
         MOST,
+        &mut heap,
         at,
         &mut reader,
         &mut input,

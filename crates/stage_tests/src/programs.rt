@@ -1,10 +1,10 @@
-//! Typed programs, written down in short: a variable is the number of its site behind a `v`, a function that of itself behind an `f`, a
+//! Typed programs, written down in short: a local variable is the number of its site behind a `v`, a package variable its own behind a `g`, a function that of itself behind an `f`, a
 //! string that of itself behind an `s`; a place is a column behind an `@`.
 
 use base::{Pos, SiteId, TypeId};
 use std::alloc::AllocError;
 use std::str::from_utf8;
-use typed::{BOOL, BinOp, Const, Expr, Func, INT, Left, Piece, Program, Stmt, UnOp, Values};
+use typed::{BOOL, BinOp, Const, Expr, Func, INT, Left, Piece, Place, Program, Stmt, UnOp, Values};
 
 fn prefix_sign(op: UnOp) -> &'static str {
     match op {
@@ -73,13 +73,21 @@ fn write_sites(sites: &[SiteId], out: &mut String) -> Result<(), AllocError> {
     Ok(())
 }
 
+/// A place behind a space.
+fn write_place(place: Place, out: &mut String) -> Result<(), AllocError> {
+    match place {
+        Place::Local(site) => write!(out, " v{}", site.0),
+        Place::Global(number) => write!(out, " g{number}"),
+    }
+}
+
 /// An expression behind a space.
 #[cycle(expressions)]
 fn write_expr(e: &Expr, out: &mut String) -> Result<(), AllocError> {
     match e {
         Expr::Constant(Const::Int(n)) => write!(out, " {n}"),
         Expr::Constant(Const::Bool(b)) => write!(out, " {b}"),
-        Expr::Local(site) => write!(out, " v{}", site.0),
+        Expr::Read(place) => write_place(*place, out),
         Expr::Unary(op, operand) => {
             write!(out, " ({}", prefix_sign(*op))?;
             write_expr(operand, out)?;
@@ -136,7 +144,7 @@ fn write_left(left: Left, out: &mut String) -> Result<(), AllocError> {
     match left {
         Left::Blank => out.push_str(" _"),
         Left::New(site) => write!(out, " +v{}", site.0),
-        Left::To(site) => write!(out, " v{}", site.0),
+        Left::To(place) => write_place(place, out),
     }
 }
 
@@ -179,12 +187,16 @@ fn write_plain(stmt: &Stmt, out: &mut String) -> Result<(), AllocError> {
             out.push_str(" =")?;
             write_values(values, out)
         }
-        Stmt::Update(pos, site, op, e) => {
+        Stmt::Update(pos, place, op, e) => {
             write_sign(*op, *pos, out)?;
-            write!(out, "= v{}", site.0)?;
+            out.push('=')?;
+            write_place(*place, out)?;
             write_expr(e, out)
         }
-        Stmt::Bump(site, op) => write!(out, "{}1 v{}", sign(*op), site.0),
+        Stmt::Bump(place, op) => {
+            write!(out, "{}1", sign(*op))?;
+            write_place(*place, out)
+        }
         Stmt::Discard(values) => {
             out.push_str("do")?;
             write_values(values, out)

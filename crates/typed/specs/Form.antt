@@ -1,12 +1,12 @@
 -- What holds of each program that the checker gives.
-use Rattle.std.specs.Prelude.{◌≡◌, ◌⊎◌, ⊤, ℕ, suc, ◌+◌, ◌<◌, ◌≤◌, Bool, true, false, not, List, [], ◌∷◌, Option, Some, None, length, map, get_or, slice_get, ◌&&◌, ◌||◌, FitsSigned}
+use Rattle.std.specs.Prelude.{◌≡◌, ◌⊎◌, ⊤, ℕ, suc, pos, ◌+◌, ◌<◌, ◌≤◌, Bool, true, false, not, List, [], ◌∷◌, Option, Some, None, length, map, get_or, slice_get, ◌&&◌, ◌||◌, FitsSigned}
 use Rattle.std.specs.Int.{w64}
 use Rattle.typed.specs.declared.operators.BinOp.{BinOp}
 use Rattle.typed.specs.declared.operators.BinOp.TheVariants.{Add, Sub, Equal, NotEqual, Less, LessEqual, Greater, GreaterEqual}
 use Rattle.typed.specs.declared.operators.UnOp.{UnOp}
 use Rattle.typed.specs.declared.operators.UnOp.TheVariants.{Not}
 use Rattle.typed.specs.Value.{Value, int, bool}
-use Rattle.typed.specs.Syntax.{Ex, Exs, Pl, Left, Piece, St, Sts, Func, Program, constant, read, unary, binary, both, either, call, local, none, more, results, asked, blank, new, to, text, shown, over_int, declare, assign, update, bump, discard, block, choose, loop, range, break_off, go_on, give_back, print, raise, quit, done, next, int_type, bool_type, argument_words, result_words}
+use Rattle.typed.specs.Syntax.{Ex, Exs, Pl, Left, Piece, St, Sts, Func, Program, constant, read, unary, binary, both, either, call, local, global, none, more, results, asked, blank, new, to, text, shown, over_int, declare, assign, update, bump, discard, block, choose, loop, range, break_off, go_on, give_back, print, raise, quit, done, next, int_type, bool_type, argument_words, result_words}
 use Rattle.typed.specs.View.{zero_values}
 
 -- ---- types
@@ -28,6 +28,13 @@ IsPlain t = (t ≡ int_type) ⊎ (t ≡ bool_type)
 -- the type of a site
 abbrev pub site_type : Program → ℕ → ℕ
 site_type p site = get_or p.sites site int_type
+
+-- the site of a package variable, and its type
+abbrev pub global_site : Program → ℕ → ℕ
+global_site p g = (get_or p.globals g (0, int (pos 0))).0
+
+abbrev pub global_type : Program → ℕ → ℕ
+global_type p g = site_type p (global_site p g)
 
 -- a constant is a number of 64 bits with a sign, or a truth value
 abbrev pub IsWord : Value → Type 0
@@ -158,6 +165,7 @@ abbrev mutual
 module _ (p : Program) where
   abbrev pub PlFits : List ℕ → ℕ → Pl → Type 0
   PlFits scope t (local site steps) = InScope site scope × (site_type p site ≡ t)
+  PlFits scope t (global g steps) = (g < length p.globals) × (global_type p g ≡ t)
 
   -- left sides for values of these types
   abbrev pub LeftsFit : List ℕ → (m n : ℕ) → List ℕ → List Left → Type 0
@@ -272,6 +280,11 @@ pub record FuncFits (p : Program) (f : Func) : Type 0 where
   -- arguments and results have at most 65,535 words
   pub small : argument_words f + result_words f ≤ 65535
 
+-- package variables: each begins with a value of its type, and its site is none of a function
+pub record GlobalFits (p : Program) (g : ℕ × Value) : Type 0 where
+  pub value : IsOf (site_type p g.0) g.1 × IsWord g.1
+  pub apart : (f : ℕ) (func : Func) → slice_get p.funcs f ≡ Some func → (g.0 < func.first) ⊎ (func.first + func.count ≤ g.0)
+
 -- each function fits; `main` is one without parameters and results; there are at most 4,096; each variable is a number or a
 -- truth value
 pub record IsInForm (p : Program) : Type 0 where
@@ -280,3 +293,4 @@ pub record IsInForm (p : Program) : Type 0 where
   pub main : (func : Func) × (slice_get p.funcs p.main ≡ Some func) × (func.params ≡ []) × (func.results ≡ []) × (func.named ≡ [])
   pub plain : (site : ℕ) → IsPlain (site_type p site)
   pub zeros : p.zeros ≡ zero_values
+  pub globals : (i : ℕ) (g : ℕ × Value) → slice_get p.globals i ≡ Some g → GlobalFits p g

@@ -2,7 +2,27 @@
 -- results; the temps that values are worked out in; a word for each site; the link and the return place.
 use Rattle.std.specs.Prelude.{ℕ, zero, suc, ◌+◌, List, [], ◌∷◌, Option, Some, None, length, max, slice_get}
 use Rattle.typed.specs.Value.{words}
-use Rattle.typed.specs.Syntax.{Ex, Exs, Left, Piece, Over, St, Sts, Func, Program, constant, read, unary, binary, both, either, call, none, more, results, asked, blank, new, to, text, shown, over_int, declare, assign, update, bump, discard, block, choose, loop, range, break_off, go_on, give_back, print, raise, quit, done, next, arguments_of, results_of}
+use Rattle.typed.specs.Syntax.{Ex, Exs, Pl, Left, Piece, Over, St, Sts, Func, Program, constant, read, unary, binary, both, either, call, local, global, none, more, results, asked, blank, new, to, text, shown, over_int, declare, assign, update, bump, discard, block, choose, loop, range, break_off, go_on, give_back, print, raise, quit, done, next, arguments_of, results_of}
+
+-- the words of the address of a place, where it is reached by one
+abbrev pub far : Pl → ℕ
+far (local site steps) = 0
+far (global g steps) = 1
+
+abbrev pub left_far : Left → ℕ
+left_far blank = 0
+left_far (new site) = 0
+left_far (to q) = far q
+
+-- the most of these among left sides
+abbrev pub lefts_far : List Left → ℕ
+lefts_far [] = 0
+lefts_far (l ∷ ls) = max (left_far l) (lefts_far ls)
+
+-- so many values, and behind them an address, if there is one
+abbrev pub behind_values : (values address : ℕ) → ℕ
+behind_values values zero = 0
+behind_values values (suc address) = values + suc address
 
 module _ (fs : List Func) where
   -- temps from the one on in which the value lands, and those of values side by side
@@ -90,14 +110,14 @@ module _ (fs : List Func) where
   abbrev pub key_need : Left → ℕ
   key_need blank = 0
   key_need (new site) = 1
-  key_need (to q) = 1
+  key_need (to q) = 1 + far q
 
   abbrev mutual
     pub st_need : (named : ℕ) → St → ℕ
     st_need named (declare sites) = 0
-    st_need named (assign ls es) = need_all es
-    st_need named (update at q op e) = 1 + need e
-    st_need named (bump q op) = 2
+    st_need named (assign ls es) = max (need_all es) (behind_values (length ls) (lefts_far ls))
+    st_need named (update at q op e) = far q + 1 + need e
+    st_need named (bump q op) = far q + 2
     st_need named (discard es) = need_all es
     st_need named (block ss) = sts_need named ss
     st_need named (choose e a b) = max (need e) (max (sts_need named a) (sts_need named b))

@@ -3,3 +3,4 @@ pub mod Syntax
 pub mod View
 pub mod Form
 pub mod Frames
+pub mod Placement

@@ -13,6 +13,8 @@ pub data Steps : Type 0 where
 pub data Pl : Type 0 where
   -- a local variable, by its site
   local : ℕ → Steps → Pl
+  -- a package variable, by its number
+  global : ℕ → Steps → Pl
 
 mutual
   -- an expression with one value; a node that can panic has the place that the panic names

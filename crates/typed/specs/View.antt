@@ -1,9 +1,11 @@
 -- The abstract syntax of typed programs.
-use Rattle.std.specs.Prelude.{ℕ, pos, false, List, [], ◌∷◌, Option, Some, None, map}
+use Rattle.std.specs.Prelude.{ℕ, pos, false, List, [], ◌∷◌, Option, Some, None, map, get_or}
 use Rattle.base.specs.declared.ids.SiteId.{SiteId}
 use Rattle.typed.specs.declared.expr.Const.{Const}
 use Rattle.typed.specs.declared.expr.Const.TheVariants.{Int, Bool}
-use Rattle.typed.specs.declared.expr.Expr.{Expr, Constant, Local, Unary', Binary', Both', Either', Call'}
+use Rattle.typed.specs.declared.expr.Place.{Place}
+use Rattle.typed.specs.declared.expr.Place.TheVariants.{Local, Global}
+use Rattle.typed.specs.declared.expr.Expr.{Expr, Constant, Read, Unary', Binary', Both', Either', Call'}
 use Rattle.typed.specs.declared.expr.Values.{Values, Row_of-Expr, end_of-Expr, more_of-Expr, Each', Results', ReadInt}
 use Rattle.typed.specs.declared.stmt.Left.{Left as LeftData}
 use Rattle.typed.specs.declared.stmt.Left.TheVariants.{Blank, New, To}
@@ -11,18 +13,24 @@ use Rattle.typed.specs.declared.stmt.Piece.{Piece as PieceData}
 use Rattle.typed.specs.declared.stmt.Piece.TheVariants.{Text, Shown}
 use Rattle.typed.specs.declared.stmt.Stmt.{Stmt, Row_of-Stmt, end_of-Stmt, more_of-Stmt, Declare, Assign, Update, Bump, Discard, Block', If', Loop', Count', Break, Continue, Return, Print, Panic, Exit}
 use Rattle.typed.specs.declared.program.Func.{Func as FuncData}
+use Rattle.typed.specs.declared.program.PackageVariable.{PackageVariable}
+use Rattle.typed.specs.declared.program.Site.{Site}
 use Rattle.typed.specs.declared.program.Program.{Program as ProgramData}
 use Rattle.typed.specs.Value.{Value, int, bool}
-use Rattle.typed.specs.Syntax.{Ex, Exs, Left, Piece, St, Sts, Func, Program, constant, read, unary, binary, both, either, call, local, here, none, more, results, asked, blank, new, to, text, shown, over_int, declare, assign, update, bump, discard, block, choose, loop, range, break_off, go_on, give_back, print, raise, quit, done, next}
+use Rattle.typed.specs.Syntax.{Ex, Exs, Pl, Left, Piece, St, Sts, Func, Program, constant, read, unary, binary, both, either, call, local, global, here, none, more, results, asked, blank, new, to, text, shown, over_int, declare, assign, update, bump, discard, block, choose, loop, range, break_off, go_on, give_back, print, raise, quit, done, next}
 
 abbrev pub value_of : Const → Value
 value_of (Int z) = int z
 value_of (Bool b) = bool b
 
+abbrev pub place_of : Place → Pl
+place_of (Local site) = local site.0 here
+place_of (Global number) = global number here
+
 abbrev mutual
   pub ex_of : Expr → Ex
   ex_of (Constant c) = constant (value_of c)
-  ex_of (Local site) = read (local site.0 here)
+  ex_of (Read q) = read (place_of q)
   ex_of (Unary' op p a) = unary op (ex_of a)
   ex_of (Binary' at op p a q b) = binary at op (ex_of a) (ex_of b)
   ex_of (Both' p a q b) = both (ex_of a) (ex_of b)
@@ -46,7 +54,7 @@ exs_of (e ∷ es) = more (ex_of e) (exs_of es)
 abbrev pub left_of : LeftData → Left
 left_of Blank = blank
 left_of (New site) = new site.0
-left_of (To site) = to (local site.0 here)
+left_of (To q) = to (place_of q)
 
 abbrev pub piece_of : PieceData → Piece
 piece_of (Text number) = text number
@@ -63,8 +71,8 @@ abbrev mutual
   pub st_of : Stmt → St
   st_of (Declare sites) = declare (site_numbers sites.items)
   st_of (Assign ls vs) = assign (map left_of ls.items) (exs_of_values vs)
-  st_of (Update at site op e) = update at (local site.0 here) op (ex_of e)
-  st_of (Bump site op) = bump (local site.0 here) op
+  st_of (Update at q op e) = update at (place_of q) op (ex_of e)
+  st_of (Bump q op) = bump (place_of q) op
   st_of (Discard vs) = discard (exs_of_values vs)
   st_of (Block' shape row) = block (sts_of_row row)
   st_of (If' e shape row shape' row') = choose (ex_of e) (sts_of_row row) (sts_of_row row')
@@ -106,12 +114,23 @@ func_of f = record {
 abbrev pub zero_values : List Value
 zero_values = int (pos 0) ∷ bool false ∷ []
 
+-- the value that a package variable of a type begins with
+abbrev pub first_value : ℕ → Option Const → Value
+first_value t None = get_or zero_values t (int (pos 0))
+first_value t (Some c) = value_of c
+
+abbrev pub site_types : List Site → List ℕ
+site_types sites = map (λ site. site.type_id.0) sites
+
+abbrev pub global_of : List ℕ → PackageVariable → ℕ × Value
+global_of types g = (g.site.0, first_value (get_or types g.site.0 0) g.value)
+
 abbrev pub program_of : ProgramData → Program
 program_of p = record {
   funcs = map func_of p.funcs.items;
   zeros = zero_values;
-  sites = map (λ site. site.type_id.0) p.sites.items;
+  sites = site_types p.sites.items;
   strings = map (λ bytes. bytes.items) p.strings.items;
-  globals = [];
+  globals = map (global_of (site_types p.sites.items)) p.globals.items;
   main = p.main.0;
 }

@@ -10,14 +10,22 @@ pub enum Const {
     Bool(bool),
 }
 
+/// A place that can be read and written: a local variable by its site, or a package variable by its number, in the order
+/// of the text.
+#[derive(Clone, Copy, Debug, PartialEq, Eq)]
+pub enum Place {
+    Local(SiteId),
+    Global(u32),
+}
+
 /// An expression with one value. An operator that can panic has the place that a panic would name: the first byte of
 /// the whole expression.
 #[derive(Drop)]
 #[cycle(expression)]
 pub enum Expr {
     Constant(Const),
-    /// A read of a local variable.
-    Local(SiteId),
+    /// A read of a place.
+    Read(Place),
     Unary(UnOp, Box<Expr>),
     Binary(Pos, BinOp, Box<Expr>, Box<Expr>),
     /// `&&`: the second operand is worked out where the first is true.

@@ -1,5 +1,6 @@
 //! Typed programs.
 
+use crate::expr::Const;
 use crate::stmt::Stmt;
 use base::{FuncId, Pos, SiteId, TypeId};
 
@@ -35,12 +36,20 @@ pub struct Func {
     pub body: Vec<Stmt>,
 }
 
+/// A package variable: its site, and the value that it begins with, where it is not the zero value of its type.
+#[derive(Clone, Copy, Debug, PartialEq, Eq)]
+pub struct PackageVariable {
+    pub site: SiteId,
+    pub value: Option<Const>,
+}
+
 /// A program: its functions in the order of the text, the one that is `main`, its sites in the order of the text, by
-/// which a `SiteId` counts, and the bytes of the strings that it shows.
+/// which a `SiteId` counts, the bytes of the strings that it shows, and its package variables in the order of the text.
 #[derive(Drop)]
 pub struct Program {
     pub funcs: Vec<Func>,
     pub main: FuncId,
     pub sites: Vec<Site>,
     pub strings: Vec<Vec<u8>>,
+    pub globals: Vec<PackageVariable>,
 }

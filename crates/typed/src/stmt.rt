@@ -1,6 +1,6 @@
 //! Typed statements.
 
-use crate::expr::{Expr, Values};
+use crate::expr::{Expr, Place, Values};
 use crate::operators::BinOp;
 use base::{Pos, SiteId, TypeId};
 
@@ -11,8 +11,8 @@ pub enum Left {
     Blank,
     /// A new variable of a site.
     New(SiteId),
-    /// A variable that is there.
-    To(SiteId),
+    /// A place that is there.
+    To(Place),
 }
 
 /// An operand of `print`, `println` or `panic`.
@@ -31,10 +31,10 @@ pub enum Stmt {
     Declare(Vec<SiteId>),
     /// A declaration with values, or an assignment: as many left sides as values.
     Assign(Vec<Left>, Values),
-    /// An assignment with an operator to a variable.
-    Update(Pos, SiteId, BinOp, Expr),
-    /// `++` and `--`: the variable, and the operator on it and 1.
-    Bump(SiteId, BinOp),
+    /// An assignment with an operator to a place.
+    Update(Pos, Place, BinOp, Expr),
+    /// `++` and `--`: the place, and the operator on it and 1.
+    Bump(Place, BinOp),
     /// A call whose results are not used.
     Discard(Values),
     Block(Vec<Stmt>),

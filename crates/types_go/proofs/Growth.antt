@@ -1,16 +1,21 @@
 -- What a statement and a function keep of a scope.
-use Rattle.std.proofs.Common.{ℕ, List, [], ◌∷◌, Option, Some, None}
+use Rattle.std.proofs.Common.{ℕ, Bool, true, false, cond, List, [], ◌∷◌, Option, Some, None, refl, sym, arith, append-nil}
+use Rattle.base.specs.declared.pos.Pos.{Pos}
 use Rattle.syntax.specs.Statements.{Simple, Guard, Clause, forever, while_true, counting, ranging, Stm, Stms, Els}
 use Rattle.syntax.specs.Statements as tree
 use Rattle.syntax.specs.Declarations.{Body, Function as TreeFunction}
-use Rattle.names.specs.Scope.{Scope, opened, closed}
+use Rattle.syntax.specs.Expressions.{spelled}
+use Rattle.value_types.specs.declared.value_type.ValueType.{ValueType}
+use Rattle.names.specs.Universe.{is_blank}
+use Rattle.names.specs.Scope.{Scope, fixed, with_site, opened, closed}
+use Rattle.package_values.specs.Values.{Item}
 use Rattle.expression_types.specs.Typing.{gives}
 use Rattle.signatures.specs.Signatures.{slots_of}
 use Rattle.signatures.proofs.Growth.{Grows, Keeps, grows_none, grows_twice, keeps_twice, keeps_none, keeps_grows, keeps_strings, keeps_inner, grows_entries}
 use Rattle.simple_statements.specs.SimpleStatements.{strings_in}
 use Rattle.simple_statements.proofs.Growth.{grows_simple, grows_specs}
 use Rattle.types_go.specs.Statements.{number_type, over, target_slots, header, behind_post_simple, behind_post, clause_scope, behind, behind_else, behind_all}
-use Rattle.types_go.specs.Functions.{behind_params, body_scope, behind_body, behind_function, behind_functions}
+use Rattle.types_go.specs.Functions.{Member, of_function, of_variable, type_or_int, behind_variable, behind_params, body_scope, behind_body, behind_function, behind_members}
 
 module _ (text : List ℕ) where
   pub grows_header : (s : Scope) (init : Option Simple) → Grows (opened s) (header text s init)
@@ -105,6 +110,15 @@ module _ (text : List ℕ) (heads : Scope) where
   pub keeps_function : (s : Scope) (g : TreeFunction) → Keeps s (behind_function text heads s g)
   keeps_function s g = keeps_body s g g.body
 
-  pub keeps_functions : (s : Scope) (gs : List TreeFunction) → Keeps s (behind_functions text heads s gs)
-  keeps_functions s [] = keeps_none s
-  keeps_functions s (g ∷ gs) = keeps_twice s (behind_function text heads s g) (behind_functions text heads (behind_function text heads s g) gs) (keeps_function s g) (keeps_functions (behind_function text heads s g) gs)
+  -- a package variable adds a site at most
+  keeps_named : (s : Scope) (t : ValueType) (at : Pos) (blank : Bool) → Keeps s (cond blank s (with_site s t at))
+  keeps_named s t at true = keeps_none s
+  keeps_named s t at false = record { blocks = refl; declared = ([], sym (append-nil s.declared), tt); sites = (_, refl, ((t, refl), tt)); kept = refl; strings = omega arith }
+
+  pub keeps_variable : (s : Scope) (k : ℕ) (i : Item) → Keeps s (behind_variable text s k i)
+  keeps_variable s k i = keeps_named s (type_or_int (fixed s k)) i.name.pos (is_blank (spelled text i.name))
+
+  pub keeps_members : (s : Scope) (ms : List Member) → Keeps s (behind_members text heads s ms)
+  keeps_members s [] = keeps_none s
+  keeps_members s (of_function g ∷ ms) = keeps_twice s (behind_function text heads s g) (behind_members text heads (behind_function text heads s g) ms) (keeps_function s g) (keeps_members (behind_function text heads s g) ms)
+  keeps_members s (of_variable k i ∷ ms) = keeps_twice s (behind_variable text s k i) (behind_members text heads (behind_variable text s k i) ms) (keeps_variable s k i) (keeps_members (behind_variable text s k i) ms)

@@ -22,8 +22,8 @@ use Rattle.expression_types.proofs.InForm.{Agrees, AreAccepted, OptionalFits, sa
 use Rattle.signatures.specs.declared.slots.Slot.{Slot}
 use Rattle.signatures.specs.declared.entries.Role.TheVariants.{Parameter}
 use Rattle.signatures.specs.Entries.{sites_of, entry_left, slot_with, slots_each, entries, behind_entries}
-use Rattle.signatures.proofs.Growth.{Extends, extends_twice, keeps_grows, grows_entries}
-use Rattle.signatures.proofs.Visible.{Visible, visible_opened, visible_kept}
+use Rattle.signatures.proofs.Growth.{Extends, package_of, extends_twice, keeps_grows, grows_entries}
+use Rattle.signatures.proofs.Visible.{Visible, shown_site, shown_number, visible_opened, visible_kept}
 use Rattle.signatures.proofs.InFormEntries.{HasSites, Within, within_before, SlotsHave, each_have, with_have, sites_long, left_sites, left_scope, named_scope_of, lefts_of_params, next_of_params, entries_fit}
 use Rattle.simple_statements.specs.SimpleStatements.{is_bare, lefts, all_wanted, simple_statement, spec_type, spec_wanted, spec_slots_of, spec_slots, behind_spec, spec_entries, is_known, spec_declared, spec_assigned, spec_statement, taken_types}
 use Rattle.simple_statements.proofs.SettledValues.{allowed_is}
@@ -128,7 +128,7 @@ module _ (text : List ℕ) (p : Program) (all : List Site) (has : HasSites p all
     keeps = λ t still. refl;
   }
 
-  module _ (s : Scope) (scope : List ℕ) (visible : Visible s scope) (agreed : (r : Scope) → r.signatures ≡ s.signatures → Extends r.sites all → Agrees r p) where
+  module _ (s : Scope) (scope : List ℕ) (visible : Visible s scope) (agreed : (r : Scope) → package_of r ≡ package_of s → Extends r.sites all → Agrees r p) where
     pub init_fits : (looped : Bool) (init : Option Simple) (i : Option St) → init_statement text s init ≡ Some i → Within p all (header text s init) → InitFits looped s scope (header text s init) i
     init_fits looped None i is ext = subst (λ (o : Option St). InitFits looped s scope (opened s) o) (same_some is) (no_init looped s scope visible)
     init_fits looped (Some m) i is ext =
@@ -144,13 +144,13 @@ module _ (text : List ℕ) (p : Program) (all : List Site) (has : HasSites p all
     abbrev pub ChoiceFits : (looped : Bool) → Scope → Choice → Type 0
     ChoiceFits looped h c = InitFits looped s scope h c.init × ExFits p (init_scope scope c.init) bool_type c.condition
 
-    pub guard_fits : (looped : Bool) (g : Guard) (c : Choice) → guard_head text s g ≡ Some c → Within p all (header text s g.init) → (header text s g.init).signatures ≡ s.signatures → ChoiceFits looped (header text s g.init) c
+    pub guard_fits : (looped : Bool) (g : Guard) (c : Choice) → guard_head text s g ≡ Some c → Within p all (header text s g.init) → package_of (header text s g.init) ≡ package_of s → ChoiceFits looped (header text s g.init) c
     guard_fits looped g c is ext signed =
         let h = header text s g.init in
         let r = and_then_some (λ i. option_map (λ x. record { init = i; condition = x }) (condition text h g.condition)) (init_statement text s g.init) c is in
         let q = map_some (λ x. record { init = r.0; condition = x }) (condition text h g.condition) c r.2 in
         let i = init_fits looped g.init r.0 r.1 ext in
-        subst (λ (k : Choice). ChoiceFits looped h k) q.2 (i, condition_fits p (init_scope scope r.0) text h i.visible.shown i.visible.held (agreed h signed ext.0) g.condition q.0 q.1)
+        subst (λ (k : Choice). ChoiceFits looped h k) q.2 (i, condition_fits p (init_scope scope r.0) text h (shown_site h (init_scope scope r.0) i.visible) (shown_number h (init_scope scope r.0) i.visible) i.visible.held (agreed h signed ext.0) g.condition q.0 q.1)
 
     pub choice_formed : (looped : Bool) (h inner after : Scope) (c : Choice) (y z : Sts) → ChoiceFits looped h c → StsFormed looped h (init_scope scope c.init) inner y → StsFormed looped inner (init_scope scope c.init) after z
         → Formed1 looped s scope after (chosen c y z)
@@ -288,7 +288,7 @@ module _ (text : List ℕ) (p : Program) (all : List Site) (has : HasSites p all
     assigned_fits : (ls : TreeExs) (l : List Left) (key : Left) → Extends s.sites all → lefts text (opened s) ls ≡ Some l → all_accept (Some Int) (all_wanted text (opened s) ls) ≡ true → key_of l ≡ Some key → KeyFits (opened s) key
     assigned_fits ls l key ext found accept is =
         let ps = all_wanted text (opened s) ls in
-        let old = lefts_fit p text (opened s) scope (known_all text p all has (opened s) scope (visible_opened s scope visible) ext) ls (map (λ (q : Option ValueType). Int) ps) l (given_types Int ps accept) found in
+        let old = lefts_fit p text (opened s) scope (known_all text p all has (opened s) scope (visible_opened s scope visible) (agreed (opened s) refl ext) ext) ls (map (λ (q : Option ValueType). Int) ps) l (given_types Int ps accept) found in
         let sites_are : new_sites (key ∷ []) ≡ 0 = sym (key_sites l key is) ∙ old.sites in
         record {
           shows = subst (λ (w : List ℕ). Visible (opened s) w) (sym (old.behind scope) ∙ key_scope scope l key is) (visible_opened s scope visible);
@@ -324,7 +324,7 @@ module _ (text : List ℕ) (p : Program) (all : List Site) (has : HasSites p all
         let q = and_then_some as_int (operand_in (gives text s e)) x is in
         let a = allowed_is (same_type Int (type_of q.0)) (as_value q.0) x q.2 in
         let agrees = agreed s refl ext in
-        let fits = operand_fits p scope (gives text s e) q.0 (maybe_fits p scope (gives text s e) (λ g g_is. gives_fit p scope text s visible.shown visible.held agrees e g g_is)) q.1 in
+        let fits = operand_fits p scope (gives text s e) q.0 (maybe_fits p scope (gives text s e) (λ g g_is. gives_fit p scope text s (shown_site s scope visible) (shown_number s scope visible) visible.held agrees e g g_is)) q.1 in
         subst (λ (t : ValueType). ExFits p scope (type_number t) x) (sym (same_type_same Int (type_of q.0) a.0)) (value_fits p scope q.0 x fits a.1)
 
     pub clause_fits : (looped : Bool) (c : Clause) (k : Head) → clause_head text s c ≡ Some k → Within p all (clause_scope text s c) → HeadFits looped (clause_scope text s c) k
@@ -332,7 +332,7 @@ module _ (text : List ℕ) (p : Program) (all : List Site) (has : HasSites p all
     clause_fits looped (while_true e) k is ext =
         let r = and_then_some (λ x. option_map (repeated None x) (Some done)) (option_map Some (condition text (opened s) e)) k is in
         let q = map_some Some (condition text (opened s) e) r.0 r.1 in
-        let fits = condition_fits p scope text (opened s) (visible_opened s scope visible).shown (visible_opened s scope visible).held (agreed (opened s) refl ext.0) e q.0 q.1 in
+        let fits = condition_fits p scope text (opened s) (shown_site (opened s) scope (visible_opened s scope visible)) (shown_number (opened s) scope (visible_opened s scope visible)) (visible_opened s scope visible).held (agreed (opened s) refl ext.0) e q.0 q.1 in
         subst (λ (x : Head). HeadFits looped (opened s) x) (same_some (ap (λ (x : Option Ex). Some (repeated None x done)) q.2 ∙ r.2)) (no_init looped s scope visible, fits, refl, λ m n. tt)
     clause_fits looped (counting init test1 post) k is ext =
         let h = header text s init in
@@ -341,9 +341,9 @@ module _ (text : List ℕ) (p : Program) (all : List Site) (has : HasSites p all
         let o = map_some (repeated r.0 q.0) (post_statement text h post) k q.2 in
         let ext1 = within_before p all h (behind_post text h post) (keeps_grows h (behind_post text h post) (keeps_post text h post)) ext in
         let i = init_fits looped init r.0 r.1 ext1 in
-        let agrees = agreed h (grows_header text s init).signatures ext1.0 in
+        let agrees = agreed h (grows_header text s init).kept ext1.0 in
         let last1 = post_fits h (init_scope scope r.0) post o.0 i.visible agrees ext o.1 in
-        subst (λ (x : Head). HeadFits looped (behind_post text h post) x) o.2 (init_behind looped h post r.0 i, optional_test (init_scope scope r.0) q.0 (test_fits p (init_scope scope r.0) text h i.visible.shown i.visible.held agrees test1 q.0 q.1), last1.0, last1.1)
+        subst (λ (x : Head). HeadFits looped (behind_post text h post) x) o.2 (init_behind looped h post r.0 i, optional_test (init_scope scope r.0) q.0 (test_fits p (init_scope scope r.0) text h (shown_site h (init_scope scope r.0) i.visible) (shown_number h (init_scope scope r.0) i.visible) i.visible.held agrees test1 q.0 q.1), last1.0, last1.1)
     clause_fits looped (ranging t at e) k is ext =
         let n = number_type (over text s e) in
         let r = and_then_some (λ x. option_map (counted x) (option_and_then key_of (target_lefts text (opened s) n t))) (over text s e) k is in
@@ -377,7 +377,7 @@ module _ (text : List ℕ) (p : Program) (all : List Site) (has : HasSites p all
     spec_assigned_formed looped v t ext0 ext have is =
         let after = behind_spec text s v in
         let a = assignment_some (option_map (map entry_left) (spec_entries text s v)) (taken (spec_wanted text s v) (seen text s v.values)) t is in
-        let values = taken_fits p scope (spec_wanted text s v) (seen text s v.values) a.1 (seen_fit p scope text s visible.shown visible.held (agreed s refl ext0) v.values) a.3 in
+        let values = taken_fits p scope (spec_wanted text s v) (seen text s v.values) a.1 (seen_fit p scope text s (shown_site s scope visible) (shown_number s scope visible) visible.held (agreed s refl ext0) v.values) a.3 in
         let types_are = ap (option_and_then (λ x. value_types (seen text s v.values))) a.3 ∙ values.found in
         let q = map_some (map entry_left) (spec_entries text s v) a.0 a.2 in
         let f = entries_fit text p all has Parameter s scope (spec_slots text s v) values.types q.0 visible (have values.types types_are values.accepted) q.1 ext in

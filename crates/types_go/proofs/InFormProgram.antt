@@ -18,25 +18,26 @@ use Rattle.value_types.proofs.Options.{and_then_some, map_some, none_some, same_
 use Rattle.names.specs.Universe.{is_blank, is_main}
 use Rattle.names.specs.Scope.{Scope, Signature, type_number, type_numbers, declaration, is_here, opened, beginning}
 use Rattle.expression_types.specs.Typing.{asked}
-use Rattle.package_constants.specs.Constants.{items_in, settled}
+use Rattle.package_values.specs.Values.{items_in, settled}
 use Rattle.signatures.specs.declared.slots.Slot.{Slot}
 use Rattle.signatures.specs.declared.entries.Role.{Role}
 use Rattle.signatures.specs.declared.entries.Role.TheVariants.{Parameter, Result}
 use Rattle.signatures.specs.Entries.{entry_of, sites_of, entry_in, behind_entry, entries}
 use Rattle.signatures.specs.Signatures.{Param, param_with, unnamed_params, named_params, params_of, is_named, slot_of, slots_of, words, is_small, types_of, signature_in, with_items, may_be_named}
-use Rattle.signatures.proofs.Growth.{IsSite, extends_twice, keeps_grows, grows_entries}
+use Rattle.signatures.proofs.Growth.{IsSite, Package, package_of, extends_twice, keeps_grows, grows_entries}
 use Rattle.signatures.proofs.Visible.{Visible, visible_opened, visible_kept}
 use Rattle.signatures.proofs.InFormEntries.{HasSites, Within, within_before, SlotsHave, sites_long, named_of_params, named_scope_of, variable_is, entries_fit}
 use Rattle.simple_statements.proofs.InFormSimple.{ReturnsFit}
 use Rattle.terminating.specs.Terminating.{ends_after}
 use Rattle.types_go.specs.Statements.{behind_all}
-use Rattle.types_go.specs.Functions.{is_plain, number_of, plain_number, number_or_int, slot_number, functions_in, are_supported, behind_params, body_scope, behind_body, behind_function, behind_functions, returns_of, func, function, functions, declarations_in, heads_of, numbered_functions, package_scope, main_number}
+use Rattle.types_go.specs.Functions.{is_plain, number_of, plain_number, number_or_int, slot_number, Member, of_function, of_variable, functions_of, behind_variable, functions_in, members_in, are_supported, behind_params, body_scope, behind_body, behind_function, behind_members, returns_of, func, function, functions, declarations_in, heads_of, numbered_functions, members, package_scope, main_number}
 use Rattle.types_go.specs.Checked.{Types, program_with}
-use Rattle.types_go.proofs.SettledFunctions.{allowed_some, signature_parts, small_signed, function_some}
-use Rattle.types_go.proofs.Package.{constant_one, declared_one, signatures_are, items_kept, settled_kept}
-use Rattle.types_go.proofs.Growth.{keeps_function, keeps_functions, grows_body, grows_all}
+use Rattle.types_go.proofs.SettledFunctions.{allowed_some, signature_parts, small_signed, function_some, members_functions}
+use Rattle.types_go.proofs.Package.{constant_one, variable_one, declared_one, signatures_are, globals_are, items_kept, settled_kept}
+use Rattle.types_go.proofs.Growth.{keeps_function, keeps_variable, keeps_members, grows_body, grows_all}
 use Rattle.types_go.proofs.Visible.{visible_package}
-use Rattle.types_go.proofs.InFormStatements.{AreSigned, formed_all}
+use Rattle.types_go.proofs.InFormStatements.{AreSigned, AreGlobals, formed_all}
+use Rattle.types_go.proofs.InFormGlobals.{member_numbers, members_numbers, globals_agree, globals_fit}
 use Rattle.types_go.proofs.Inside.{inside_start, inside_grows}
 use Rattle.types_go.proofs.Terminating.{ends_same, ends_list}
 
@@ -215,8 +216,8 @@ module _ (text : List ℕ) (heads : Scope) where
     no_values = λ is. ap (λ l. length (sites_of l)) (empty_list rs (long ∙ (sym (numbers_long g.results) ∙ ap length is)));
   }
 
-  module _ (p : Program) (all : List Site) (has : HasSites p all) (sigs : List (Option Signature)) (agrees : AreSigned sigs p.funcs) where
-    function_fits : (s : Scope) (i : ℕ) (g : TreeFunction) (t : Func) → Visible s [] → s.signatures ≡ sigs → Within p all (behind_function text heads s g) → function text heads s i g ≡ Some t → FuncFits p t
+  module _ (p : Program) (all : List Site) (has : HasSites p all) (own : Package) (agrees : AreSigned own.signatures p.funcs) (numbered : AreGlobals own p) where
+    function_fits : (s : Scope) (i : ℕ) (g : TreeFunction) (t : Func) → Visible s [] → package_of s ≡ own → Within p all (behind_function text heads s g) → function text heads s i g ≡ Some t → FuncFits p t
     function_fits s i g t visible signed ext0 is =
         let found = function_some text heads s i g t is in
         let b = found.0 in
@@ -237,7 +238,7 @@ module _ (text : List ℕ) (heads : Scope) where
         let two1 = entries_fit text p all has Result (behind_params text heads s g) (params_scope [] ps) (slots_of text heads g.results) types.1 rs one1.visible have_results k.3.4 ext_inner in
         let long : length rs ≡ length (params_of g.results) = two1.long ∙ slots_long g.results in
         let goes = returns_fit (behind_params text heads s g) g types.1 rs have_results k.3.4 long in
-        let formed = formed_all text p all has sigs agrees (returns_of text heads g) results1 (length (sites_of rs)) goes false inner (params_scope (params_scope [] ps) rs) b.statements body two1.visible ((grows_body text heads s g).signatures ∙ signed) ext k.3.5 in
+        let formed = formed_all text p all has own agrees numbered (returns_of text heads g) results1 (length (sites_of rs)) goes false inner (params_scope (params_scope [] ps) rs) b.statements body two1.visible ((grows_body text heads s g).kept ∙ signed) ext k.3.5 in
         let t0 = func text heads s g b ps rs body in
         let named_long = sites_long rs in
         let words_are : result_words t0 ≡ length (params_of g.results) = numbers_long g.results in
@@ -267,44 +268,49 @@ module _ (text : List ℕ) (heads : Scope) where
 
   -- ---- the functions of a program
 
-  function_at : (s : Scope) (i : ℕ) (gs : List TreeFunction) (ts : List Func) → functions text heads s i gs ≡ Some ts → (k : ℕ) (g : TreeFunction) → slice_get gs k ≡ Some g
+  function_at : (s : Scope) (i : ℕ) (ms : List Member) (ts : List Func) → functions text heads s i ms ≡ Some ts → (k : ℕ) (g : TreeFunction) → slice_get (functions_of ms) k ≡ Some g
       → (r : Scope) × ((j : ℕ) × ((t : Func) × ((slice_get ts k ≡ Some t) × (function text heads r j g ≡ Some t))))
   function_at s i [] ts is k g found = absurd (none_some found)
-  function_at s i (h ∷ gs) ts is zero g found =
-      let r = and_then_some (λ t. option_map (λ us. t ∷ us) (functions text heads (behind_function text heads s h) (1 + i) gs)) (function text heads s i h) ts is in
-      let q = map_some (λ us. r.0 ∷ us) (functions text heads (behind_function text heads s h) (1 + i) gs) ts r.2 in
+  function_at s i (of_variable v x ∷ ms) ts is k g found = function_at (behind_variable text s v x) i ms ts is k g found
+  function_at s i (of_function h ∷ ms) ts is zero g found =
+      let r = and_then_some (λ t. option_map (λ us. t ∷ us) (functions text heads (behind_function text heads s h) (1 + i) ms)) (function text heads s i h) ts is in
+      let q = map_some (λ us. r.0 ∷ us) (functions text heads (behind_function text heads s h) (1 + i) ms) ts r.2 in
       (s, (i, (r.0, (ap (λ (l : List Func). slice_get l 0) (sym q.2), subst (λ (x : TreeFunction). function text heads s i x ≡ Some r.0) (same_some found) r.1))))
-  function_at s i (h ∷ gs) ts is (suc k) g found =
-      let r = and_then_some (λ t. option_map (λ us. t ∷ us) (functions text heads (behind_function text heads s h) (1 + i) gs)) (function text heads s i h) ts is in
-      let q = map_some (λ us. r.0 ∷ us) (functions text heads (behind_function text heads s h) (1 + i) gs) ts r.2 in
-      let later = function_at (behind_function text heads s h) (1 + i) gs q.0 q.1 k g found in
+  function_at s i (of_function h ∷ ms) ts is (suc k) g found =
+      let r = and_then_some (λ t. option_map (λ us. t ∷ us) (functions text heads (behind_function text heads s h) (1 + i) ms)) (function text heads s i h) ts is in
+      let q = map_some (λ us. r.0 ∷ us) (functions text heads (behind_function text heads s h) (1 + i) ms) ts r.2 in
+      let later = function_at (behind_function text heads s h) (1 + i) ms q.0 q.1 k g found in
       (later.0, (later.1.0, (later.1.1.0, (ap (λ (l : List Func). slice_get l (suc k)) (sym q.2) ∙ later.1.1.1.0, later.1.1.1.1))))
 
-  module _ (p : Program) (all : List Site) (has : HasSites p all) (sigs : List (Option Signature)) (agrees : AreSigned sigs p.funcs) where
-    all_fit : (s : Scope) (i : ℕ) (gs : List TreeFunction) (ts : List Func) → Visible s [] → s.signatures ≡ sigs → Within p all (behind_functions text heads s gs) → functions text heads s i gs ≡ Some ts → (k : ℕ) (t : Func) → slice_get ts k ≡ Some t → FuncFits p t
+  module _ (p : Program) (all : List Site) (has : HasSites p all) (own : Package) (agrees : AreSigned own.signatures p.funcs) (numbered : AreGlobals own p) where
+    all_fit : (s : Scope) (i : ℕ) (ms : List Member) (ts : List Func) → Visible s [] → package_of s ≡ own → Within p all (behind_members text heads s ms) → functions text heads s i ms ≡ Some ts → (k : ℕ) (t : Func) → slice_get ts k ≡ Some t → FuncFits p t
     all_fit s i [] ts visible signed ext is k t found = absurd (none_some (subst (λ (l : List Func). slice_get l k ≡ Some t) (sym (same_some is)) found))
-    all_fit s i (h ∷ gs) ts visible signed ext is k t found =
+    all_fit s i (of_variable v x ∷ ms) ts visible signed ext is k t found =
+        let keeps = keeps_variable text heads s v x in
+        all_fit (behind_variable text s v x) i ms ts (visible_kept s (behind_variable text s v x) [] visible keeps) (keeps.kept ∙ signed) ext is k t found
+    all_fit s i (of_function h ∷ ms) ts visible signed ext is k t found =
         let s1 = behind_function text heads s h in
-        let r = and_then_some (λ x. option_map (λ us. x ∷ us) (functions text heads s1 (1 + i) gs)) (function text heads s i h) ts is in
-        let q = map_some (λ us. r.0 ∷ us) (functions text heads s1 (1 + i) gs) ts r.2 in
+        let r = and_then_some (λ x. option_map (λ us. x ∷ us) (functions text heads s1 (1 + i) ms)) (function text heads s i h) ts is in
+        let q = map_some (λ us. r.0 ∷ us) (functions text heads s1 (1 + i) ms) ts r.2 in
         let keeps = keeps_function text heads s h in
-        let ext1 = within_before p all s1 (behind_functions text heads s1 gs) (keeps_grows s1 (behind_functions text heads s1 gs) (keeps_functions text heads s1 gs)) ext in
-        by k r.0 q.0 (function_fits p all has sigs agrees s i h r.0 visible signed ext1 r.1)
-        (λ j found1. all_fit s1 (1 + i) gs q.0 (visible_kept s s1 [] visible keeps) (keeps.signatures ∙ signed) ext q.1 j t found1)
+        let ext1 = within_before p all s1 (behind_members text heads s1 ms) (keeps_grows s1 (behind_members text heads s1 ms) (keeps_members text heads s1 ms)) ext in
+        by k r.0 q.0 (function_fits p all has own agrees numbered s i h r.0 visible signed ext1 r.1)
+        (λ j found1. all_fit s1 (1 + i) ms q.0 (visible_kept s s1 [] visible keeps) (keeps.kept ∙ signed) ext q.1 j t found1)
         (subst (λ (l : List Func). slice_get l k ≡ Some t) (sym q.2) found)
       where
         by : (j : ℕ) (x : Func) (us : List Func) → FuncFits p x → ((n : ℕ) → slice_get us n ≡ Some t → FuncFits p t) → slice_get (x ∷ us) j ≡ Some t → FuncFits p t
         by zero x us here1 later found1 = subst (FuncFits p) (same_some found1) here1
         by (suc j) x us here1 later found1 = later j found1
 
-  few_functions : (s : Scope) (i : ℕ) (gs : List TreeFunction) (ts : List Func) → functions text heads s i gs ≡ Some ts → i ≤ 4096 → i + length ts ≤ 4096
+  few_functions : (s : Scope) (i : ℕ) (ms : List Member) (ts : List Func) → functions text heads s i ms ≡ Some ts → i ≤ 4096 → i + length ts ≤ 4096
   few_functions s i [] ts is le = let e : 0 ≡ length ts = ap length (same_some is) in omega (arith, le, e)
-  few_functions s i (h ∷ gs) ts is le =
-      let r = and_then_some (λ x. option_map (λ us. x ∷ us) (functions text heads (behind_function text heads s h) (1 + i) gs)) (function text heads s i h) ts is in
-      let q = map_some (λ us. r.0 ∷ us) (functions text heads (behind_function text heads s h) (1 + i) gs) ts r.2 in
+  few_functions s i (of_variable v x ∷ ms) ts is le = few_functions (behind_variable text s v x) i ms ts is le
+  few_functions s i (of_function h ∷ ms) ts is le =
+      let r = and_then_some (λ x. option_map (λ us. x ∷ us) (functions text heads (behind_function text heads s h) (1 + i) ms)) (function text heads s i h) ts is in
+      let q = map_some (λ us. r.0 ∷ us) (functions text heads (behind_function text heads s h) (1 + i) ms) ts r.2 in
       let head = (function_some text heads s i h r.0 r.1).1.1.0 in
       let lt = both_true (may_be_named i (is_blank (spelled text h.name)) (declaration s (spelled text h.name))) (nat_lt i 4096) head in
-      let rest = few_functions (behind_function text heads s h) (1 + i) gs q.0 q.1 (omega (arith, ltb-true i 4096 lt.1)) in
+      let rest = few_functions (behind_function text heads s h) (1 + i) ms q.0 q.1 (omega (arith, ltb-true i 4096 lt.1)) in
       let e : suc (length q.0) ≡ length ts = ap length q.2 in
       omega (arith, rest, e)
 
@@ -313,10 +319,10 @@ module _ (text : List ℕ) (heads : Scope) where
   signed_function (g ∷ gs) zero sig is = (g, (refl, is))
   signed_function (g ∷ gs) (suc k) sig is = signed_function gs k sig is
 
-  agree : (s : Scope) (gs : List TreeFunction) (ts : List Func) → s.signatures ≡ map (signature_in text heads) gs → functions text heads s 0 gs ≡ Some ts → AreSigned s.signatures ts
-  agree s gs ts signatures is k sig found =
-      let g = signed_function gs k sig (ap (λ (l : List (Option Signature)). option_and_then (λ o. o) (slice_get l k)) (sym signatures) ∙ found) in
-      let at = function_at s 0 gs ts is k g.0 g.1.0 in
+  agree : (s : Scope) (ms : List Member) (ts : List Func) → s.signatures ≡ map (signature_in text heads) (functions_of ms) → functions text heads s 0 ms ≡ Some ts → AreSigned s.signatures ts
+  agree s ms ts signatures is k sig found =
+      let g = signed_function (functions_of ms) k sig (ap (λ (l : List (Option Signature)). option_and_then (λ o. o) (slice_get l k)) (sym signatures) ∙ found) in
+      let at = function_at s 0 ms ts is k g.0 g.1.0 in
       let types = function_types at.0 at.1.0 g.0 at.1.1.0 sig at.1.1.1.1 g.1.1 in
       (at.1.1.0, at.1.1.1.0, types.0, types.1)
 
@@ -326,14 +332,25 @@ module _ (text : List ℕ) (heads : Scope) where
       let s = with_items text heads beginning ds in
       settled_kept text (λ (v : Scope). v.signatures ≡ s.signatures) (λ v k i h. h) s (items_in ds) refl ∙ signatures_are text heads r beginning ds is
 
+  -- its package variables have the numbers of the members
+  package_globals : (r : Scope) (ds : List Declaration) → are_supported text heads r ds ≡ true → (settled text (with_items text heads beginning ds) (items_in ds)).globals ≡ member_numbers text (members_in text heads 0 ds)
+  package_globals r ds is =
+      let s = with_items text heads beginning ds in
+      settled_kept text (λ (v : Scope). v.globals ≡ s.globals) (λ v k i h. h) s (items_in ds) refl ∙ globals_are text heads r beginning ds is ∙ sym (members_numbers text heads r 0 ds)
+
   -- it has no sites
   no_sites : (r : Scope) (ds : List Declaration) → are_supported text heads r ds ≡ true → (settled text (with_items text heads beginning ds) (items_in ds)).sites ≡ []
   no_sites r ds is =
-      settled_kept text (λ (v : Scope). v.sites ≡ []) (λ v k i h. h) (with_items text heads beginning ds) (items_in ds) (items_kept text heads r (λ (v : Scope). v.sites ≡ []) constant_sites function_sites beginning ds is refl)
+      settled_kept text (λ (v : Scope). v.sites ≡ []) (λ v k i h. h) (with_items text heads beginning ds) (items_in ds) (items_kept text heads r (λ (v : Scope). v.sites ≡ []) constant_sites variable_sites function_sites beginning ds is refl)
     where
       constant_sites : (s : Scope) (n : Name) (declares : Bool) → s.sites ≡ [] → (constant_one text s n declares).sites ≡ []
       constant_sites s n true h = h
       constant_sites s n false h = h
+
+      variable_sites : (s : Scope) (n : Name) (blank declares : Bool) → s.sites ≡ [] → (variable_one text s n blank declares).sites ≡ []
+      variable_sites s n true declares h = h
+      variable_sites s n false true h = h
+      variable_sites s n false false h = h
 
       function_sites : (s : Scope) (g : TreeFunction) (external declares : Bool) → s.sites ≡ [] → (declared_one text heads s g external declares).sites ≡ []
       function_sites s g true true h = h
@@ -394,28 +411,31 @@ pub in_form : (t : Syntax) (p : Program) → Types t p → IsInForm p
 in_form t p a =
     let ds = declarations_in t in
     let h = heads_of t in
-    let gs = numbered_functions t in
+    let gs = members t in
     let s = package_scope t in
     let w = allowed_some (are_supported t.text h s ds) (functions t.text h s 0 gs) a.funcs a.functions in
     let found : functions t.text h s 0 gs ≡ Some a.funcs = w.1 in
-    let last1 = behind_functions t.text h s gs in
+    let last1 = behind_members t.text h s gs in
+    let same_functions : functions_of gs ≡ numbered_functions t = members_functions t.text h 0 ds in
     let all = last1.sites in
     let p0 = program_with t a.funcs a.main in
     let has : HasSites p0 all = refl in
-    let agrees = agree t.text h s gs a.funcs (package_signatures t.text h s ds w.0) found in
+    let agrees = agree t.text h s gs a.funcs (package_signatures t.text h s ds w.0 ∙ ap (map (signature_in t.text h)) (sym same_functions)) found in
+    let numbered1 : AreGlobals (package_of s) p0 = globals_agree t.text h p0 all has s gs (package_globals t.text h s ds w.0) refl refl in
     let g = main_some t a.main a.main_is in
-    let at = function_at t.text h s 0 gs a.funcs found a.main g.0 g.1.0 in
+    let at = function_at t.text h s 0 gs a.funcs found a.main g.0 (ap (λ (l : List TreeFunction). slice_get l a.main) same_functions ∙ g.1.0) in
     let plain = plain_function t.text h at.0 at.1.0 g.0 at.1.1.0 at.1.1.1.1 g.1.1.0 g.1.1.1 in
     let few0 = few_functions t.text h s 0 gs a.funcs found (omega arith) in
     let few : length a.funcs ≤ 4096 = omega (arith, few0) in
-    let grown = (keeps_functions t.text h s gs).sites in
+    let grown = (keeps_members t.text h s gs).sites in
     let every : AllByRecursion IsSite all = subst (λ (l : List Site). AllByRecursion IsSite l) (sym (grown.1 ∙ ap (λ (l : List Site). l ++ grown.0) (no_sites t.text h s ds w.0))) grown.2 in
     let within : Within p0 all last1 = (([], sym (append-nil all), tt), omega arith) in
     subst IsInForm (sym a.is)
     (record {
-      fits = λ k f got. all_fit t.text h p0 all has s.signatures agrees s 0 gs a.funcs (visible_package t.text h s ds w.0) refl within found k f got;
+      fits = λ k f got. all_fit t.text h p0 all has (package_of s) agrees numbered1 s 0 gs a.funcs (visible_package t.text h s ds w.0) refl within found k f got;
       few = few;
       main = (at.1.1.0, at.1.1.1.0, plain.0, plain.1.0, plain.1.1);
       plain = λ site. subst (λ (l : List ℕ). IsPlain (get_or l site int_type)) (sym has) (sites_plain all every site);
       zeros = refl;
+      globals = λ i g got. globals_fit t.text h p0 all has s gs a.funcs found refl refl i g got;
     })

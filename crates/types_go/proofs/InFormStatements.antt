@@ -1,18 +1,19 @@
 -- Typed statements are in form: sites are born in the order of the text, what is named is in scope, and each value has the type of its place.
-use Rattle.std.proofs.Common.{◌≡◌, ℕ, ◌+◌, get_or, Bool, true, List, [], ◌∷◌, Option, Some, refl, sym, ap, ◌∙◌, subst, arith, length}
+use Rattle.std.proofs.Common.{◌≡◌, ◌<◌, ℕ, ◌+◌, get_or, Bool, true, List, [], ◌∷◌, Option, Some, refl, sym, ap, ◌∙◌, subst, arith, length}
 use Rattle.std.specs.Prelude.{option_and_then, slice_get}
 use Rattle.std.specs.Option.{option_map}
 use Rattle.syntax.specs.Statements.{ValueSpec, Guard, Stm, Stms, Els}
 use Rattle.syntax.specs.Statements as tree
 use Rattle.typed.specs.declared.program.Site.{Site}
 use Rattle.typed.specs.Syntax.{St, Sts, Func, Program, int_type, block, choose, break_off, go_on, done, next}
-use Rattle.typed.specs.Form.{births, births_all, scope_after, StFits, StsFit}
+use Rattle.typed.specs.Form.{global_type, births, births_all, scope_after, StFits, StsFit}
+use Rattle.value_types.specs.declared.constant.Fixed.{Fixed}
 use Rattle.value_types.specs.Given.{allowed}
 use Rattle.value_types.proofs.Options.{and_then_some, map_some, same_some}
-use Rattle.names.specs.Scope.{Scope, Signature, type_numbers, opened, closed}
-use Rattle.expression_types.specs.Typing.{seen}
+use Rattle.names.specs.Scope.{Scope, Signature, type_number, type_numbers, opened, closed}
+use Rattle.expression_types.specs.Typing.{known_type, seen}
 use Rattle.expression_types.proofs.InForm.{Agrees}
-use Rattle.signatures.proofs.Growth.{Extends, extends_twice, Keeps, keeps_grows, grows_entries}
+use Rattle.signatures.proofs.Growth.{Extends, Package, package_of, extends_twice, Keeps, keeps_grows, grows_entries}
 use Rattle.signatures.proofs.Visible.{Visible, visible_opened, visible_kept, got_longer}
 use Rattle.signatures.proofs.InFormEntries.{HasSites, Within, within_before, get_mapped}
 use Rattle.simple_statements.specs.SimpleStatements.{Returns, spec_slots, before, returned, simple_statement, spec_statement, spec_statements, behind_spec, behind_specs}
@@ -28,6 +29,10 @@ use Rattle.types_go.proofs.InFormHeads.{Formed1, StsFormed, init_scope, head_sco
 abbrev pub AreSigned : List (Option Signature) → List Func → Type 0
 AreSigned sigs fs = (f : ℕ) (sig : Signature) → option_and_then (λ o. o) (slice_get sigs f) ≡ Some sig
     → (func : Func) × (slice_get fs f ≡ Some func) × (func.param_types ≡ type_numbers sig.params) × (func.results ≡ type_numbers sig.results)
+
+-- the package variables of a program have the types that are known of them
+abbrev pub AreGlobals : Package → Program → Type 0
+AreGlobals own p = (g k : ℕ) (f : Fixed) → slice_get own.globals g ≡ Some k → option_and_then (λ o. o) (slice_get own.values k) ≡ Some f → (g < length p.globals) × (global_type p g ≡ type_number (known_type f))
 
 -- the scope behind statements
 abbrev pub scope_behind_all : List ℕ → Sts → List ℕ
@@ -45,12 +50,13 @@ module _ (p : Program) (wanted1 : List ℕ) (named : ℕ) where
       let e : m + births_all (next t a) ≡ (m + births t) + births_all a = omega arith in
       (fa.0, before_fits looped (scope_after scope t) (m + births t) n a b fa.1 (subst (λ j. StsFit p wanted1 named looped (scope_behind_all (scope_after scope t) a) j n b) e fb))
 
-module _ (text : List ℕ) (p : Program) (all : List Site) (has : HasSites p all) (sigs : List (Option Signature)) (signed : AreSigned sigs p.funcs) where
+module _ (text : List ℕ) (p : Program) (all : List Site) (has : HasSites p all) (own : Package) (signed : AreSigned own.signatures p.funcs) (numbered : AreGlobals own p) where
   -- a scope before the end has what the program has
-  pub agreed : (s : Scope) → s.signatures ≡ sigs → Extends s.sites all → Agrees s p
+  pub agreed : (s : Scope) → package_of s ≡ own → Extends s.sites all → Agrees s p
   agreed s g e = record {
     sites = λ k site is. ap (λ (l : List ℕ). get_or l k int_type) has ∙ get_mapped all k site (ap (λ (l : List Site). slice_get l k) e.1 ∙ got_longer s.sites e.0 k site is);
-    functions = λ f sig is. signed f sig (ap (λ (l : List (Option Signature)). option_and_then (λ o. o) (slice_get l f)) (sym g) ∙ is);
+    functions = λ f sig is. signed f sig (ap (λ (q : Package). option_and_then (λ o. o) (slice_get q.signatures f)) (sym g) ∙ is);
+    globals = λ j k f at known. numbered j k f (ap (λ (q : Package). slice_get q.globals j) (sym g) ∙ at) (ap (λ (q : Package). option_and_then (λ o. o) (slice_get q.values k)) (sym g) ∙ known);
   }
 
   module _ (r : Returns) (wanted1 : List ℕ) (named : ℕ) (goes : ReturnsFit r wanted1 named) where
@@ -71,7 +77,7 @@ module _ (text : List ℕ) (p : Program) (all : List Site) (has : HasSites p all
         subst (λ (x : Sts). Whole looped s scope s x) (same_some a.1)
         (one looped s s scope t (record { count = omega (arith, none1); fit = λ n le. fits a.0 (length s.sites) n }, subst (λ (w : List ℕ). Visible s w) (sym still) v))
 
-    specs_formed : (looped : Bool) (s : Scope) (scope : List ℕ) (vs : List ValueSpec) (b : Sts) → Visible s scope → s.signatures ≡ sigs → Extends (behind_specs text s vs).sites all → spec_statements text s vs ≡ Some b
+    specs_formed : (looped : Bool) (s : Scope) (scope : List ℕ) (vs : List ValueSpec) (b : Sts) → Visible s scope → package_of s ≡ own → Extends (behind_specs text s vs).sites all → spec_statements text s vs ≡ Some b
         → Whole looped s scope (behind_specs text s vs) b
     specs_formed looped s scope [] b v g ext is = subst (λ (x : Sts). Whole looped s scope s x) (same_some is) (record { count = omega arith; fit = λ n le. tt }, v)
     specs_formed looped s scope (spec ∷ vs) b v g ext is =
@@ -82,7 +88,7 @@ module _ (text : List ℕ) (p : Program) (all : List Site) (has : HasSites p all
         let ext1 = extends_twice s1.sites (behind_specs text s1 vs).sites all (grows_specs text s1 vs).sites ext in
         let ext0 = extends_twice s.sites s1.sites all grow.sites ext1 in
         let first = spec_formed text p all has wanted1 named s scope v (λ r1 same1 e. agreed r1 (same1 ∙ g) e) looped spec q.0 ext0 ext1 q.1 in
-        let rest = specs_formed looped s1 (scope_after scope q.0) vs k.0 first.1 (grow.signatures ∙ g) ext k.1 in
+        let rest = specs_formed looped s1 (scope_after scope q.0) vs k.0 first.1 (grow.kept ∙ g) ext k.1 in
         subst (λ (x : Sts). Whole looped s scope (behind_specs text s1 vs) x) k.2 (
           record {
             count = omega (arith, first.0.count, rest.0.count);
@@ -92,7 +98,7 @@ module _ (text : List ℕ) (p : Program) (all : List Site) (has : HasSites p all
         )
 
     -- an `if` of its parts
-    choice_in : (looped : Bool) (s : Scope) (scope : List ℕ) (g1 : Guard) (body : Stms) (rest : Els) → Visible s scope → s.signatures ≡ sigs
+    choice_in : (looped : Bool) (s : Scope) (scope : List ℕ) (g1 : Guard) (body : Stms) (rest : Els) → Visible s scope → package_of s ≡ own
         → Within p all (closed (behind_else text (closed (behind_all text (opened (header text s g1.init)) body)) rest)) → (c : Choice) (y z : Sts) (t : St)
         → guard_head text s g1 ≡ Some c → chosen c y z ≡ t
         → ((sc : List ℕ) → Visible (header text s g1.init) sc → Within p all (behind_all text (opened (header text s g1.init)) body) → StsFormed text p all has wanted1 named looped (opened (header text s g1.init)) sc (behind_all text (opened (header text s g1.init)) body) y)
@@ -106,7 +112,7 @@ module _ (text : List ℕ) (p : Program) (all : List Site) (has : HasSites p all
         let grow = grows_header text s g1.init in
         let ext2 = within_before p all inner last1 (keeps_grows inner last1 (keeps_else text inner rest)) ext in
         let ext1 = within_before p all h inner (keeps_grows h inner (keeps_block text h body)) ext2 in
-        let fits = guard_fits text p all has wanted1 named s scope v (λ r1 same2 e. agreed r1 (same2 ∙ g) e) looped g1 c found ext1 grow.signatures in
+        let fits = guard_fits text p all has wanted1 named s scope v (λ r1 same2 e. agreed r1 (same2 ∙ g) e) looped g1 c found ext1 grow.kept in
         let sc = init_scope scope c.init in
         let shows = fits.0.visible in
         let a = first sc shows ext2 in
@@ -116,7 +122,7 @@ module _ (text : List ℕ) (p : Program) (all : List Site) (has : HasSites p all
         (subst (λ (x : St). Formed1 text p all has wanted1 named looped s scope (closed last1) x) same1 whole, ap (scope_after scope) (sym same1) ∙ keeps)
 
     mutual
-      formed : (looped : Bool) (s : Scope) (scope : List ℕ) (m : Stm) (b : Sts) → Visible s scope → s.signatures ≡ sigs → Within p all (behind text s m) → statement text r looped s m ≡ Some b → Whole looped s scope (behind text s m) b
+      formed : (looped : Bool) (s : Scope) (scope : List ℕ) (m : Stm) (b : Sts) → Visible s scope → package_of s ≡ own → Within p all (behind text s m) → statement text r looped s m ≡ Some b → Whole looped s scope (behind text s m) b
       formed looped s scope (tree.declare at specs) b v g ext is = specs_formed looped s scope specs b v g ext.0 is
       formed looped s scope (tree.simple m) b v g ext is =
           let q = map_some alone (simple_statement text s m) b is in
@@ -135,8 +141,8 @@ module _ (text : List ℕ) (p : Program) (all : List Site) (has : HasSites p all
           let u = map_some alone (choice_of (guard_head text s g1) (statements text r looped (opened h) body) (alternative text r looped inner rest)) b is in
           let q = choice_some (guard_head text s g1) (statements text r looped (opened h) body) (alternative text r looped inner rest) u.0 u.1 in
           let f = choice_in looped s scope g1 body rest v g ext q.0 q.1 q.2 u.0 q.3 q.6
-          (λ sc sv se. formed_all looped (opened h) sc body q.1 (visible_opened h sc sv) ((grows_header text s g1.init).signatures ∙ g) se q.4)
-          (λ sc sv se. formed_else looped inner sc rest q.2 sv ((keeps_block text h body).signatures ∙ ((grows_header text s g1.init).signatures ∙ g)) se q.5) in
+          (λ sc sv se. formed_all looped (opened h) sc body q.1 (visible_opened h sc sv) ((grows_header text s g1.init).kept ∙ g) se q.4)
+          (λ sc sv se. formed_else looped inner sc rest q.2 sv ((keeps_block text h body).kept ∙ ((grows_header text s g1.init).kept ∙ g)) se q.5) in
           subst (λ (x : Sts). Whole looped s scope (closed last1) x) u.2 (kept looped s (closed last1) scope u.0 v (keeps_choice text s g1 body rest) f.0 f.1)
       formed looped s scope (tree.loop at c body) b v g ext is =
           let h = clause_scope text s c in
@@ -147,7 +153,7 @@ module _ (text : List ℕ) (p : Program) (all : List Site) (has : HasSites p all
           let ext1 = within_before p all h inner (keeps_grows h inner (keeps_block text h body)) ext in
           let fits = clause_fits text p all has wanted1 named s scope v (λ r1 same1 e. agreed r1 (same1 ∙ g) e) looped c q.0 q.2 ext1 in
           let shows = head_visible text p all has wanted1 named s scope v (λ r1 same1 e. agreed r1 (same1 ∙ g) e) looped h q.0 fits in
-          let a = formed_all true (opened h) (head_scope text p all has wanted1 named s scope v (λ r1 same1 e. agreed r1 (same1 ∙ g) e) q.0) body q.1 (visible_opened h _ shows) (grow.signatures ∙ g) ext q.3 in
+          let a = formed_all true (opened h) (head_scope text p all has wanted1 named s scope v (λ r1 same1 e. agreed r1 (same1 ∙ g) e) q.0) body q.1 (visible_opened h _ shows) (grow.kept ∙ g) ext q.3 in
           let whole = loop_formed text p all has wanted1 named s scope v (λ r1 same1 e. agreed r1 (same1 ∙ g) e) looped h (closed inner) q.0 q.1 fits (record { count = a.count; fit = a.fit }) in
           let keeps = loop_keeps text p all has wanted1 named s scope v (λ r1 same1 e. agreed r1 (same1 ∙ g) e) looped h q.0 q.1 fits in
           subst (λ (x : Sts). Whole looped s scope (closed inner) x) u.2
@@ -158,7 +164,7 @@ module _ (text : List ℕ) (p : Program) (all : List Site) (has : HasSites p all
           let q = map_some alone (returned r (seen text s es)) b is in
           subst (λ (x : Sts). Whole looped s scope s x) q.2 (one looped s s scope q.0 (return_formed text p all has wanted1 named looped s scope v (agreed s g ext.0) r goes es q.0 q.1))
 
-      formed_else : (looped : Bool) (s : Scope) (scope : List ℕ) (e : Els) (b : Sts) → Visible s scope → s.signatures ≡ sigs → Within p all (behind_else text s e) → alternative text r looped s e ≡ Some b
+      formed_else : (looped : Bool) (s : Scope) (scope : List ℕ) (e : Els) (b : Sts) → Visible s scope → package_of s ≡ own → Within p all (behind_else text s e) → alternative text r looped s e ≡ Some b
           → StsFormed text p all has wanted1 named looped s scope (behind_else text s e) b
       formed_else looped s scope tree.no_else b v g ext is = subst (λ (x : Sts). StsFormed text p all has wanted1 named looped s scope s x) (same_some is) (record { count = omega arith; fit = λ n le. tt })
       formed_else looped s scope (tree.else_block ms) b v g ext is =
@@ -170,11 +176,11 @@ module _ (text : List ℕ) (p : Program) (all : List Site) (has : HasSites p all
           let u = map_some alone (choice_of (guard_head text s g1) (statements text r looped (opened h) body) (alternative text r looped inner rest)) b is in
           let q = choice_some (guard_head text s g1) (statements text r looped (opened h) body) (alternative text r looped inner rest) u.0 u.1 in
           let f = choice_in looped s scope g1 body rest v g ext q.0 q.1 q.2 u.0 q.3 q.6
-          (λ sc sv se. formed_all looped (opened h) sc body q.1 (visible_opened h sc sv) ((grows_header text s g1.init).signatures ∙ g) se q.4)
-          (λ sc sv se. formed_else looped inner sc rest q.2 sv ((keeps_block text h body).signatures ∙ ((grows_header text s g1.init).signatures ∙ g)) se q.5) in
+          (λ sc sv se. formed_all looped (opened h) sc body q.1 (visible_opened h sc sv) ((grows_header text s g1.init).kept ∙ g) se q.4)
+          (λ sc sv se. formed_else looped inner sc rest q.2 sv ((keeps_block text h body).kept ∙ ((grows_header text s g1.init).kept ∙ g)) se q.5) in
           subst (λ (x : Sts). StsFormed text p all has wanted1 named looped s scope (closed last1) x) u.2 (kept looped s (closed last1) scope u.0 v (keeps_choice text s g1 body rest) f.0 f.1).0
 
-      pub formed_all : (looped : Bool) (s : Scope) (scope : List ℕ) (ms : Stms) (b : Sts) → Visible s scope → s.signatures ≡ sigs → Within p all (behind_all text s ms) → statements text r looped s ms ≡ Some b
+      pub formed_all : (looped : Bool) (s : Scope) (scope : List ℕ) (ms : Stms) (b : Sts) → Visible s scope → package_of s ≡ own → Within p all (behind_all text s ms) → statements text r looped s ms ≡ Some b
           → StsFormed text p all has wanted1 named looped s scope (behind_all text s ms) b
       formed_all looped s scope tree.nil b v g ext is = subst (λ (x : Sts). StsFormed text p all has wanted1 named looped s scope s x) (same_some is) (record { count = omega arith; fit = λ n le. tt })
       formed_all looped s scope (tree.cons m ms) b v g ext is =
@@ -184,7 +190,7 @@ module _ (text : List ℕ) (p : Program) (all : List Site) (has : HasSites p all
           let grow = grows text s m in
           let ext1 = within_before p all s1 (behind_all text s1 ms) (grows_all text s1 ms) ext in
           let first = formed looped s scope m q.0 v g ext1 q.1 in
-          let others = formed_all looped s1 (scope_behind_all scope q.0) ms k.0 first.1 (grow.signatures ∙ g) ext k.1 in
+          let others = formed_all looped s1 (scope_behind_all scope q.0) ms k.0 first.1 (grow.kept ∙ g) ext k.1 in
           let born = before_births q.0 k.0 in
           subst (λ (x : Sts). StsFormed text p all has wanted1 named looped s scope (behind_all text s1 ms) x) k.2
           (record {

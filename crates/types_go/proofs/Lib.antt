@@ -1,10 +1,12 @@
 mod Answering
 mod Growth
+mod InFormGlobals
 mod InFormHeads
 mod InFormProgram
 mod InFormStatements
 mod Inside
 mod Lines
+mod MemberLists
 mod Package
 mod Sequences
 mod SettledFunctions

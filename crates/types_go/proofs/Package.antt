@@ -1,46 +1,62 @@
--- The package block, where only functions and constants are declared.
+-- The package block, where functions, constants and variables are declared.
 use Rattle.std.proofs.Common.{◌≡◌, ℕ, zero, suc, ◌+◌, Bool, true, false, cond, List, [], ◌∷◌, ◌++◌, length, map, Option, Some, None, refl, sym, ap, ◌∙◌, arith, append-nil, append_assoc, length-append}
 use Rattle.std.specs.Prelude.{◌&&◌}
+use Rattle.std.proofs.lemmas.List.{map-append, length-map}
 use Rattle.syntax.specs.declared.expression.Name.{Name}
 use Rattle.syntax.specs.Expressions.{Ex as TreeEx, Exs as TreeExs, none, some, spelled}
 use Rattle.syntax.specs.Statements.{ValueSpec}
 use Rattle.syntax.specs.Declarations.{Function as TreeFunction, Declaration, constants, variables, types}
 use Rattle.syntax.specs.Declarations as tree
 use Rattle.value_types.proofs.Options.{map_some, none_some, same_some}
-use Rattle.names.specs.declared.scope.Declared.TheVariants.{Constant, Function, External}
-use Rattle.names.specs.Scope.{Scope, Signature, with_declaration, with_signature, with_constant, with_fixed}
-use Rattle.package_constants.specs.Constants.{Item, unvalued, paired, or_unvalued, items_of, items_in_specs, items_in, given, look, looks, settled}
-use Rattle.signatures.specs.Signatures.{declares_name, external_named, is_external, signature_in, with_constant_name, with_constant_names, with_constants, with_function, with_items}
+use Rattle.names.specs.declared.scope.Declared.TheVariants.{Constant, Global, Function, External}
+use Rattle.names.specs.Universe.{is_blank}
+use Rattle.names.specs.Scope.{Scope, Signature, with_declaration, with_signature, with_value, with_global, with_fixed}
+use Rattle.package_values.specs.declared.items.Role.{Role}
+use Rattle.package_values.specs.declared.items.Role.TheVariants as role
+use Rattle.package_values.specs.Values.{Item, unvalued, paired, or_unvalued, items_of, items_in_specs, items_in, given, look, looks, settled}
+use Rattle.signatures.specs.Signatures.{declares_name, external_named, is_external, signature_in, with_constant_name, with_constant_names, with_constants, with_variable_name, with_variable_names, with_package_variables, with_function, with_items}
 use Rattle.types_go.specs.Functions.{functions_in, is_supported, are_supported}
 
 pub both_second : (a b : Bool) → (a && b) ≡ true → b ≡ true
 both_second true b is = is
 both_second false b is = cc is
 
--- ---- as many constants as names
+-- ---- as many constants or variables as names
 
-unvalued_long : (t : Option TreeEx) (all : TreeExs) (ns : List Name) → length (unvalued t all ns) ≡ length ns
-unvalued_long t all [] = refl
-unvalued_long t all (n ∷ ns) = ap suc (unvalued_long t all ns)
+module _ (r : Role) (names : List Name) (t : Option TreeEx) (all : TreeExs) where
+  unvalued_named : (k : ℕ) (ns : List Name) → map (λ (i : Item). i.name) (unvalued r names t all k ns) ≡ ns
+  unvalued_named k [] = refl
+  unvalued_named k (n ∷ ns) = ap (λ l. n ∷ l) (unvalued_named (1 + k) ns)
 
-paired_long : (t : Option TreeEx) (all : TreeExs) (ns : List Name) (es : TreeExs) (is : List Item) → paired t all ns es ≡ Some is → length is ≡ length ns
-paired_long t all [] none is e = ap length (sym (same_some e))
-paired_long t all [] (some x xs) is e = absurd (none_some e)
-paired_long t all (n ∷ ns) none is e = absurd (none_some e)
-paired_long t all (n ∷ ns) (some x xs) is e =
-    let q = map_some (λ (l : List Item). record { name = n; type_expr = t; value = Some x; values = all } ∷ l) (paired t all ns xs) is e in
-    ap length (sym q.2) ∙ ap suc (paired_long t all ns xs q.0 q.1)
+  paired_named : (k : ℕ) (ns : List Name) (es : TreeExs) (is : List Item) → paired r names t all k ns es ≡ Some is → map (λ (i : Item). i.name) is ≡ ns
+  paired_named k [] none is e = ap (map (λ (i : Item). i.name)) (sym (same_some e))
+  paired_named k [] (some x xs) is e = absurd (none_some e)
+  paired_named k (n ∷ ns) none is e = absurd (none_some e)
+  paired_named k (n ∷ ns) (some x xs) is e =
+      let q = map_some (λ (l : List Item). record { role = r; name = n; names = names; place = k; type_expr = t; value = Some x; values = all } ∷ l) (paired r names t all (1 + k) ns xs) is e in
+      ap (map (λ (i : Item). i.name)) (sym q.2) ∙ ap (λ l. n ∷ l) (paired_named (1 + k) ns xs q.0 q.1)
 
-items_long : (v : ValueSpec) → length (items_of v) ≡ length v.names
-items_long v = by (paired v.type_expr v.values v.names v.values) refl
+-- they have the names of their declaration
+items_named : (r : Role) (v : ValueSpec) → map (λ (i : Item). i.name) (items_of r v) ≡ v.names
+items_named r v = by (paired r v.names v.type_expr v.values 0 v.names v.values) refl
   where
-    by : (o : Option (List Item)) → paired v.type_expr v.values v.names v.values ≡ o → length (or_unvalued o (unvalued v.type_expr v.values v.names)) ≡ length v.names
-    by None e = unvalued_long v.type_expr v.values v.names
-    by (Some is) e = paired_long v.type_expr v.values v.names v.values is e
+    by : (o : Option (List Item)) → paired r v.names v.type_expr v.values 0 v.names v.values ≡ o → map (λ (i : Item). i.name) (or_unvalued o (unvalued r v.names v.type_expr v.values 0 v.names)) ≡ v.names
+    by None e = unvalued_named r v.names v.type_expr v.values 0 v.names
+    by (Some is) e = paired_named r v.names v.type_expr v.values 0 v.names v.values is e
+
+items_long : (r : Role) (v : ValueSpec) → length (items_of r v) ≡ length v.names
+items_long r v = sym (length-map (items_of r v) (λ (i : Item). i.name)) ∙ ap length (items_named r v)
 
 -- one more constant, whether its name is declared
 abbrev pub constant_one : List ℕ → Scope → Name → (declares : Bool) → Scope
-constant_one text s n declares = with_constant (cond declares (with_declaration s (spelled text n) (Constant (record { 0 = length s.constants }))) s) None
+constant_one text s n declares = with_value (cond declares (with_declaration s (spelled text n) (Constant (record { 0 = length s.values }))) s) None
+
+-- one more package variable, whether its name is blank, and whether it is declared
+abbrev pub numbered_one : List ℕ → Scope → Name → (declares : Bool) → Scope
+numbered_one text s n declares = with_global (cond declares (with_declaration s (spelled text n) (Global (record { 0 = length s.values }) (record { 0 = length s.globals }))) s)
+
+abbrev pub variable_one : List ℕ → Scope → Name → (blank declares : Bool) → Scope
+variable_one text s n blank declares = with_value (cond blank s (numbered_one text s n declares)) None
 
 module _ (text : List ℕ) where
   one_signatures : (s : Scope) (n : Name) → (with_constant_name text s n).signatures ≡ s.signatures
@@ -50,18 +66,18 @@ module _ (text : List ℕ) where
       by true = refl
       by false = refl
 
-  one_long : (s : Scope) (n : Name) → length (with_constant_name text s n).constants ≡ length s.constants + 1
+  one_long : (s : Scope) (n : Name) → length (with_constant_name text s n).values ≡ length s.values + 1
   one_long s n = by (declares_name s (spelled text n))
     where
-      by : (b : Bool) → length (constant_one text s n b).constants ≡ length s.constants + 1
-      by true = length-append s.constants (None ∷ [])
-      by false = length-append s.constants (None ∷ [])
+      by : (b : Bool) → length (constant_one text s n b).values ≡ length s.values + 1
+      by true = length-append s.values (None ∷ [])
+      by false = length-append s.values (None ∷ [])
 
   names_signatures : (s : Scope) (ns : List Name) → (with_constant_names text s ns).signatures ≡ s.signatures
   names_signatures s [] = refl
   names_signatures s (n ∷ ns) = names_signatures (with_constant_name text s n) ns ∙ one_signatures s n
 
-  names_long : (s : Scope) (ns : List Name) → length (with_constant_names text s ns).constants ≡ length s.constants + length ns
+  names_long : (s : Scope) (ns : List Name) → length (with_constant_names text s ns).values ≡ length s.values + length ns
   names_long s [] = omega arith
   names_long s (n ∷ ns) =
       let one = one_long s n in
@@ -72,14 +88,122 @@ module _ (text : List ℕ) where
   specs_signatures s [] = refl
   specs_signatures s (v ∷ vs) = specs_signatures (with_constant_names text s v.names) vs ∙ names_signatures s v.names
 
-  specs_long : (s : Scope) (vs : List ValueSpec) → length (with_constants text s vs).constants ≡ length s.constants + length (items_in_specs vs)
+  specs_long : (s : Scope) (vs : List ValueSpec) → length (with_constants text s vs).values ≡ length s.values + length (items_in_specs role.Constant vs)
   specs_long s [] = omega arith
   specs_long s (v ∷ vs) =
       let one = names_long s v.names in
-      let many = items_long v in
-      let both1 = length-append (items_of v) (items_in_specs vs) in
+      let many = items_long role.Constant v in
+      let both1 = length-append (items_of role.Constant v) (items_in_specs role.Constant vs) in
       let rest = specs_long (with_constant_names text s v.names) vs in
       omega (arith, one, many, both1, rest)
+
+  -- and the same of package variables
+  variable_signatures : (s : Scope) (n : Name) → (with_variable_name text s n).signatures ≡ s.signatures
+  variable_signatures s n = by (is_blank (spelled text n)) (declares_name s (spelled text n))
+    where
+      by : (b c : Bool) → (variable_one text s n b c).signatures ≡ s.signatures
+      by true c = refl
+      by false true = refl
+      by false false = refl
+
+  variable_long : (s : Scope) (n : Name) → length (with_variable_name text s n).values ≡ length s.values + 1
+  variable_long s n = by (is_blank (spelled text n)) (declares_name s (spelled text n))
+    where
+      by : (b c : Bool) → length (variable_one text s n b c).values ≡ length s.values + 1
+      by true c = length-append s.values (None ∷ [])
+      by false true = length-append s.values (None ∷ [])
+      by false false = length-append s.values (None ∷ [])
+
+  variable_names_signatures : (s : Scope) (ns : List Name) → (with_variable_names text s ns).signatures ≡ s.signatures
+  variable_names_signatures s [] = refl
+  variable_names_signatures s (n ∷ ns) = variable_names_signatures (with_variable_name text s n) ns ∙ variable_signatures s n
+
+  variable_names_long : (s : Scope) (ns : List Name) → length (with_variable_names text s ns).values ≡ length s.values + length ns
+  variable_names_long s [] = omega arith
+  variable_names_long s (n ∷ ns) =
+      let one = variable_long s n in
+      let rest = variable_names_long (with_variable_name text s n) ns in
+      omega (arith, one, rest)
+
+  variables_signatures : (s : Scope) (vs : List ValueSpec) → (with_package_variables text s vs).signatures ≡ s.signatures
+  variables_signatures s [] = refl
+  variables_signatures s (v ∷ vs) = variables_signatures (with_variable_names text s v.names) vs ∙ variable_names_signatures s v.names
+
+  pub variables_long : (s : Scope) (vs : List ValueSpec) → length (with_package_variables text s vs).values ≡ length s.values + length (items_in_specs role.Variable vs)
+  variables_long s [] = omega arith
+  variables_long s (v ∷ vs) =
+      let one = variable_names_long s v.names in
+      let many = items_long role.Variable v in
+      let both1 = length-append (items_of role.Variable v) (items_in_specs role.Variable vs) in
+      let rest = variables_long (with_variable_names text s v.names) vs in
+      omega (arith, one, many, both1, rest)
+
+  -- ---- the numbers of the package variables with a name, from a number on
+
+  abbrev pub names_numbers : ℕ → List Name → List ℕ
+  names_numbers k [] = []
+  names_numbers k (n ∷ ns) = cond (is_blank (spelled text n)) (names_numbers (1 + k) ns) (k ∷ names_numbers (1 + k) ns)
+
+  names_apart : (k : ℕ) (ns ms : List Name) → names_numbers k (ns ++ ms) ≡ names_numbers k ns ++ names_numbers (k + length ns) ms
+  names_apart k [] ms = let e : k ≡ k + 0 = omega arith in ap (λ j. names_numbers j ms) e
+  names_apart k (n ∷ ns) ms = by (names_apart (1 + k) ns ms) (is_blank (spelled text n))
+    where
+      e : (1 + k) + length ns ≡ k + suc (length ns)
+      e = omega arith
+
+      by : names_numbers (1 + k) (ns ++ ms) ≡ names_numbers (1 + k) ns ++ names_numbers ((1 + k) + length ns) ms → (b : Bool)
+          → cond b (names_numbers (1 + k) (ns ++ ms)) (k ∷ names_numbers (1 + k) (ns ++ ms)) ≡ cond b (names_numbers (1 + k) ns) (k ∷ names_numbers (1 + k) ns) ++ names_numbers (k + suc (length ns)) ms
+      by later true = later ∙ ap (λ j. names_numbers (1 + k) ns ++ names_numbers j ms) e
+      by later false = ap (λ l. k ∷ l) (later ∙ ap (λ j. names_numbers (1 + k) ns ++ names_numbers j ms) e)
+
+  variable_globals : (s : Scope) (n : Name) → (with_variable_name text s n).globals ≡ s.globals ++ names_numbers (length s.values) (n ∷ [])
+  variable_globals s n = by (is_blank (spelled text n)) (declares_name s (spelled text n))
+    where
+      by : (b c : Bool) → (variable_one text s n b c).globals ≡ s.globals ++ cond b [] (length s.values ∷ [])
+      by true c = sym (append-nil s.globals)
+      by false true = refl
+      by false false = refl
+
+  variable_names_globals : (s : Scope) (ns : List Name) → (with_variable_names text s ns).globals ≡ s.globals ++ names_numbers (length s.values) ns
+  variable_names_globals s [] = sym (append-nil s.globals)
+  variable_names_globals s (n ∷ ns) =
+      let long : length (with_variable_name text s n).values ≡ length s.values + length (n ∷ []) = variable_long s n in
+      variable_names_globals (with_variable_name text s n) ns ∙ ap (λ l. l ++ names_numbers (length (with_variable_name text s n).values) ns) (variable_globals s n)
+      ∙ ap (λ j. (s.globals ++ names_numbers (length s.values) (n ∷ [])) ++ names_numbers j ns) long
+      ∙ append_assoc s.globals (names_numbers (length s.values) (n ∷ [])) (names_numbers (length s.values + length (n ∷ [])) ns)
+      ∙ ap (λ l. s.globals ++ l) (sym (names_apart (length s.values) (n ∷ []) ns))
+
+  abbrev pub all_names : List ValueSpec → List Name
+  all_names [] = []
+  all_names (v ∷ vs) = v.names ++ all_names vs
+
+  pub items_names : (r : Role) (vs : List ValueSpec) → map (λ (i : Item). i.name) (items_in_specs r vs) ≡ all_names vs
+  items_names r [] = refl
+  items_names r (v ∷ vs) = map-append (λ (i : Item). i.name) (items_of r v) (items_in_specs r vs) ∙ ap (λ l. l ++ map (λ (i : Item). i.name) (items_in_specs r vs)) (items_named r v) ∙ ap (λ l. v.names ++ l) (items_names r vs)
+
+  pub variables_globals : (s : Scope) (vs : List ValueSpec) → (with_package_variables text s vs).globals ≡ s.globals ++ names_numbers (length s.values) (all_names vs)
+  variables_globals s [] = sym (append-nil s.globals)
+  variables_globals s (v ∷ vs) =
+      let s1 = with_variable_names text s v.names in
+      variables_globals s1 vs ∙ ap (λ l. l ++ names_numbers (length s1.values) (all_names vs)) (variable_names_globals s v.names)
+      ∙ ap (λ j. (s.globals ++ names_numbers (length s.values) v.names) ++ names_numbers j (all_names vs)) (variable_names_long s v.names)
+      ∙ append_assoc s.globals (names_numbers (length s.values) v.names) (names_numbers (length s.values + length v.names) (all_names vs))
+      ∙ ap (λ l. s.globals ++ l) (sym (names_apart (length s.values) v.names (all_names vs)))
+
+  one_globals : (s : Scope) (n : Name) → (with_constant_name text s n).globals ≡ s.globals
+  one_globals s n = by (declares_name s (spelled text n))
+    where
+      by : (b : Bool) → (constant_one text s n b).globals ≡ s.globals
+      by true = refl
+      by false = refl
+
+  names_globals : (s : Scope) (ns : List Name) → (with_constant_names text s ns).globals ≡ s.globals
+  names_globals s [] = refl
+  names_globals s (n ∷ ns) = names_globals (with_constant_name text s n) ns ∙ one_globals s n
+
+  constants_globals : (s : Scope) (vs : List ValueSpec) → (with_constants text s vs).globals ≡ s.globals
+  constants_globals s [] = refl
+  constants_globals s (v ∷ vs) = constants_globals (with_constant_names text s v.names) vs ∙ names_globals s v.names
 
 -- ---- what the declarations keep
 
@@ -90,10 +214,10 @@ module _ (text : List ℕ) (heads : Scope) where
       cond external (cond declares (with_declaration s (spelled text g.name) (External (external_named (spelled text g.name)) g.name.pos)) s)
       (with_signature (cond declares (with_declaration s (spelled text g.name) (Function (record { 0 = length s.signatures }))) s) (signature_in text heads g))
 
-  function_long : (s : Scope) (g : TreeFunction) → length (with_function text heads s g).constants ≡ length s.constants
+  function_long : (s : Scope) (g : TreeFunction) → length (with_function text heads s g).values ≡ length s.values
   function_long s g = by (is_external text heads g) (declares_name s (spelled text g.name))
     where
-      by : (b c : Bool) → length (declared_one s g b c).constants ≡ length s.constants
+      by : (b c : Bool) → length (declared_one s g b c).values ≡ length s.values
       by true true = refl
       by true false = refl
       by false true = refl
@@ -103,19 +227,23 @@ module _ (text : List ℕ) (heads : Scope) where
     others_supported : (g : TreeFunction) (ds : List Declaration) → are_supported text heads r (tree.function g ∷ ds) ≡ true → are_supported text heads r ds ≡ true
     others_supported g ds is = both_second (is_supported text heads r (tree.function g)) (are_supported text heads r ds) is
 
-    -- the constants are as many as there are
-    pub constants_long : (s : Scope) (ds : List Declaration) → are_supported text heads r ds ≡ true → length (with_items text heads s ds).constants ≡ length s.constants + length (items_in ds)
-    constants_long s [] is = omega arith
-    constants_long s (constants at specs ∷ ds) is =
+    -- there are as many constants and variables as are declared
+    pub values_long : (s : Scope) (ds : List Declaration) → are_supported text heads r ds ≡ true → length (with_items text heads s ds).values ≡ length s.values + length (items_in ds)
+    values_long s [] is = omega arith
+    values_long s (constants at specs ∷ ds) is =
         let one = specs_long text s specs in
-        let both1 = length-append (items_in_specs specs) (items_in ds) in
-        let rest = constants_long (with_constants text s specs) ds is in
+        let both1 = length-append (items_in_specs role.Constant specs) (items_in ds) in
+        let rest = values_long (with_constants text s specs) ds is in
         omega (arith, one, both1, rest)
-    constants_long s (variables at specs ∷ ds) is = cc is
-    constants_long s (types at specs ∷ ds) is = cc is
-    constants_long s (tree.function g ∷ ds) is =
+    values_long s (variables at specs ∷ ds) is =
+        let one = variables_long text s specs in
+        let both1 = length-append (items_in_specs role.Variable specs) (items_in ds) in
+        let rest = values_long (with_package_variables text s specs) ds is in
+        omega (arith, one, both1, rest)
+    values_long s (types at specs ∷ ds) is = cc is
+    values_long s (tree.function g ∷ ds) is =
         let one = function_long s g in
-        let rest = constants_long (with_function text heads s g) ds (others_supported g ds is) in
+        let rest = values_long (with_function text heads s g) ds (others_supported g ds is) in
         omega (arith, one, rest)
 
     -- the signatures are those of the functions that have numbers
@@ -123,7 +251,8 @@ module _ (text : List ℕ) (heads : Scope) where
     signatures_are s [] is = sym (append-nil s.signatures)
     signatures_are s (constants at specs ∷ ds) is =
         signatures_are (with_constants text s specs) ds is ∙ ap (λ (l : List (Option Signature)). l ++ map (signature_in text heads) (functions_in text heads ds)) (specs_signatures text s specs)
-    signatures_are s (variables at specs ∷ ds) is = cc is
+    signatures_are s (variables at specs ∷ ds) is =
+        signatures_are (with_package_variables text s specs) ds is ∙ ap (λ (l : List (Option Signature)). l ++ map (signature_in text heads) (functions_in text heads ds)) (variables_signatures text s specs)
     signatures_are s (types at specs ∷ ds) is = cc is
     signatures_are s (tree.function g ∷ ds) is = by (λ v. signatures_are v ds (others_supported g ds is)) (is_external text heads g) (declares_name s (spelled text g.name))
       where
@@ -134,8 +263,41 @@ module _ (text : List ℕ) (heads : Scope) where
         by later false true = later (declared_one s g false true) ∙ append_assoc s.signatures (signature_in text heads g ∷ []) (map (signature_in text heads) (functions_in text heads ds))
         by later false false = later (declared_one s g false false) ∙ append_assoc s.signatures (signature_in text heads g ∷ []) (map (signature_in text heads) (functions_in text heads ds))
 
-    -- what one more constant keeps, and one more function, all of them keep
+    -- the package variables with a name have the numbers of their names
+    abbrev pub globals_numbers : ℕ → List Declaration → List ℕ
+    globals_numbers k [] = []
+    globals_numbers k (constants at specs ∷ ds) = globals_numbers (k + length (items_in_specs role.Constant specs)) ds
+    globals_numbers k (variables at specs ∷ ds) = names_numbers text k (all_names text specs) ++ globals_numbers (k + length (items_in_specs role.Variable specs)) ds
+    globals_numbers k (types at specs ∷ ds) = globals_numbers k ds
+    globals_numbers k (tree.function g ∷ ds) = globals_numbers k ds
+
+    function_globals : (s : Scope) (g : TreeFunction) → (with_function text heads s g).globals ≡ s.globals
+    function_globals s g = by (is_external text heads g) (declares_name s (spelled text g.name))
+      where
+        by : (b c : Bool) → (declared_one s g b c).globals ≡ s.globals
+        by true true = refl
+        by true false = refl
+        by false true = refl
+        by false false = refl
+
+    pub globals_are : (s : Scope) (ds : List Declaration) → are_supported text heads r ds ≡ true → (with_items text heads s ds).globals ≡ s.globals ++ globals_numbers (length s.values) ds
+    globals_are s [] is = sym (append-nil s.globals)
+    globals_are s (constants at specs ∷ ds) is =
+        let s1 = with_constants text s specs in
+        globals_are s1 ds is ∙ ap (λ l. l ++ globals_numbers (length s1.values) ds) (constants_globals text s specs) ∙ ap (λ k. s.globals ++ globals_numbers k ds) (specs_long text s specs)
+    globals_are s (variables at specs ∷ ds) is =
+        let s1 = with_package_variables text s specs in
+        globals_are s1 ds is ∙ ap (λ l. l ++ globals_numbers (length s1.values) ds) (variables_globals text s specs)
+        ∙ ap (λ k. (s.globals ++ names_numbers text (length s.values) (all_names text specs)) ++ globals_numbers k ds) (variables_long text s specs)
+        ∙ append_assoc s.globals (names_numbers text (length s.values) (all_names text specs)) (globals_numbers (length s.values + length (items_in_specs role.Variable specs)) ds)
+    globals_are s (types at specs ∷ ds) is = cc is
+    globals_are s (tree.function g ∷ ds) is =
+        let s1 = with_function text heads s g in
+        globals_are s1 ds (others_supported g ds is) ∙ ap (λ l. l ++ globals_numbers (length s1.values) ds) (function_globals s g) ∙ ap (λ k. s.globals ++ globals_numbers k ds) (function_long s g)
+
+    -- what one more constant keeps, one more variable, and one more function, all of them keep
     module _ (P : Scope → Type 0) (constant_kept : (s : Scope) (n : Name) (declares : Bool) → P s → P (constant_one text s n declares))
+        (variable_kept : (s : Scope) (n : Name) (blank declares : Bool) → P s → P (variable_one text s n blank declares))
         (function_kept : (s : Scope) (g : TreeFunction) (external declares : Bool) → P s → P (declared_one s g external declares)) where
       names_kept : (s : Scope) (ns : List Name) → P s → P (with_constant_names text s ns)
       names_kept s [] p = p
@@ -145,15 +307,23 @@ module _ (text : List ℕ) (heads : Scope) where
       specs_kept s [] p = p
       specs_kept s (v ∷ vs) p = specs_kept (with_constant_names text s v.names) vs (names_kept s v.names p)
 
+      variable_names_kept : (s : Scope) (ns : List Name) → P s → P (with_variable_names text s ns)
+      variable_names_kept s [] p = p
+      variable_names_kept s (n ∷ ns) p = variable_names_kept (with_variable_name text s n) ns (variable_kept s n (is_blank (spelled text n)) (declares_name s (spelled text n)) p)
+
+      variables_kept : (s : Scope) (vs : List ValueSpec) → P s → P (with_package_variables text s vs)
+      variables_kept s [] p = p
+      variables_kept s (v ∷ vs) p = variables_kept (with_variable_names text s v.names) vs (variable_names_kept s v.names p)
+
       pub items_kept : (s : Scope) (ds : List Declaration) → are_supported text heads r ds ≡ true → P s → P (with_items text heads s ds)
       items_kept s [] is p = p
       items_kept s (constants at specs ∷ ds) is p = items_kept (with_constants text s specs) ds is (specs_kept s specs p)
-      items_kept s (variables at specs ∷ ds) is p = cc is
+      items_kept s (variables at specs ∷ ds) is p = items_kept (with_package_variables text s specs) ds is (variables_kept s specs p)
       items_kept s (types at specs ∷ ds) is p = cc is
       items_kept s (tree.function g ∷ ds) is p =
           items_kept (with_function text heads s g) ds (others_supported g ds is) (function_kept s g (is_external text heads g) (declares_name s (spelled text g.name)) p)
 
--- what another value of a constant keeps, working out the constants keeps
+-- what another value of a constant or variable keeps, working them out keeps
 module _ (text : List ℕ) (P : Scope → Type 0) (kept : (s : Scope) (k : ℕ) (i : Item) → P s → P (with_fixed s k (given text s i))) where
   look_kept : (k : ℕ) (s : Scope) (is : List Item) → P s → P (look text k s is)
   look_kept k s [] p = p

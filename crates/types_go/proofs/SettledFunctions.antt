@@ -21,16 +21,17 @@ use Rattle.value_types.proofs.Decided.{Decided, Tested, further, same, mapped, a
 use Rattle.value_types.proofs.Options.{and_then_some, map_some, same_some}
 use Rattle.names.specs.Blocks.{lookup}
 use Rattle.names.specs.declared.scope.Declared.{Declared}
-use Rattle.names.specs.declared.scope.Declared.TheVariants.{Untyped, Constant, Function, External, TypeName}
+use Rattle.names.specs.declared.scope.Declared.TheVariants.{Untyped, Constant, Global, Function, External, TypeName}
 use Rattle.names.specs.declared.scope.Declared.TheVariants as declared
 use Rattle.names.specs.Universe.{is_blank}
-use Rattle.names.specs.Scope.{Scope, Signature, numbered as numbered_name, declaration, with_declaration, opened, beginning}
+use Rattle.names.specs.Scope.{Scope, Signature, numbered as numbered_name, declaration, fixed, with_declaration, with_site, opened, beginning}
 use Rattle.names.specs.Types.{declared_type, type_in}
 use Rattle.names.specs.Faults.{type_name_fault, FailsAsType}
 use Rattle.names.proofs.Settled.{HasSignature, IsSettled, predeclared_is}
-use Rattle.package_constants.specs.Constants.{items_in, settled}
-use Rattle.package_constants.specs.ConstantFaults.{ConstantsFail}
-use Rattle.package_constants.proofs.AllKnown.{IsTypedOnceKnown, is_settled}
+use Rattle.package_values.specs.declared.items.Role.TheVariants as role
+use Rattle.package_values.specs.Values.{Item, items_in_specs, items_in, settled}
+use Rattle.package_values.specs.ValueFaults.{ItemsFail}
+use Rattle.package_values.proofs.AllKnown.{IsTypedOnceKnown, is_settled}
 use Rattle.signatures.specs.declared.slots.Slot.{Slot}
 use Rattle.signatures.specs.declared.entries.Role.TheVariants.{Parameter, Result}
 use Rattle.signatures.specs.EntryFaults.{EntriesFail}
@@ -39,10 +40,10 @@ use Rattle.signatures.specs.Failing.{fault_where}
 use Rattle.signatures.specs.SignatureFaults.{function_name_fault, size_fault, TypesFail}
 use Rattle.signatures.proofs.SettledEntries.{where_not, one_more_declared, settled_opened, settled_closed, AllTyped, settled_entries, entries_decided}
 use Rattle.types_go.specs.Statements.{behind_all}
-use Rattle.types_go.specs.Functions.{functions_in, is_supported, are_supported, behind_params, body_scope, behind_body, behind_function, returns_of, may_end, func, param_entries, result_entries, body_of, parts, function_head, function_with, function, functions, declarations_in, heads_of, numbered_functions, package_scope, program_functions}
+use Rattle.types_go.specs.Functions.{Member, of_function, of_variable, numbered, functions_of, type_or_int, behind_variable, functions_in, members_in, is_supported, are_supported, behind_params, body_scope, behind_body, behind_function, returns_of, may_end, func, param_entries, result_entries, body_of, parts, function_head, function_with, function, functions, declarations_in, heads_of, members, package_scope, program_functions}
 use Rattle.types_go.specs.StatementFaults.{FailsInStatements}
 use Rattle.types_go.specs.FunctionFaults.{FailsInHead, FailsInTypes, FailsInParts, external_fault, FailsWith, FailsInFunction, FailsInFunctions, init_fault, external_name_fault, DeclarationFails, DeclarationsFail}
-use Rattle.types_go.proofs.Package.{both_second, constant_one, declared_one, constants_long, signatures_are, items_kept}
+use Rattle.types_go.proofs.Package.{both_second, constant_one, variable_one, declared_one, values_long, signatures_are, items_kept}
 use Rattle.types_go.proofs.SettledStatements.{settled_all, statements_decided}
 
 -- ---- the head and the types of a function
@@ -198,9 +199,17 @@ module _ (text : List ℕ) (heads : Scope) where
       (settled_closed (behind_all text (body_scope text heads s g) b.statements)
       (settled_all text (returns_of text heads g) false (body_scope text heads s g) b.statements made.3.2 (settled_body s g (small_signed (signature_in text heads g) made.1) settled) made.3.5))
 
-  functions_decided : (s : Scope) (i : ℕ) (gs : List TreeFunction) → NoTypes heads → IsSettled s → Decided (functions text heads s i gs) (FailsInFunctions text heads s i gs)
+  settled_named : (s : Scope) (t : ValueType) (at : Pos) (blank : Bool) → IsSettled s → IsSettled (cond blank s (with_site s t at))
+  settled_named s t at true settled = settled
+  settled_named s t at false settled = record { all = settled.all }
+
+  settled_variable : (s : Scope) (k : ℕ) (v : Item) → IsSettled s → IsSettled (behind_variable text s k v)
+  settled_variable s k v settled = settled_named s (type_or_int (fixed s k)) v.name.pos (is_blank (spelled text v.name)) settled
+
+  functions_decided : (s : Scope) (i : ℕ) (gs : List Member) → NoTypes heads → IsSettled s → Decided (functions text heads s i gs) (FailsInFunctions text heads s i gs)
   functions_decided s i [] no_types settled = λ f h. h
-  functions_decided s i (g ∷ gs) no_types settled =
+  functions_decided s i (of_variable k v ∷ gs) no_types settled = functions_decided (behind_variable text s k v) i gs no_types (settled_variable s k v settled)
+  functions_decided s i (of_function g ∷ gs) no_types settled =
       let r = behind_function text heads s g in
       after (function text heads s i g) (λ t. option_map (λ ts. t ∷ ts) (functions text heads r (1 + i) gs)) (FailsInFunction text heads s i g) (FailsInFunctions text heads r (1 + i) gs) (with_decided s i g g.body no_types settled)
       (λ t is. mapped (λ ts. t ∷ ts) (functions text heads r (1 + i) gs) (FailsInFunctions text heads r (1 + i) gs)
@@ -223,18 +232,19 @@ module _ (text : List ℕ) (heads : Scope) where
       by true = refl
       by false = refl
 
-  abbrev FailsOr : (s : Scope) (i : ℕ) (gs : List TreeFunction) → Type 0
-  FailsOr s i gs = AllSigned gs ⊎ ((functions text heads s i gs ≡ None) × ((f : Fault) × FailsInFunctions text heads s i gs f))
+  abbrev FailsOr : (s : Scope) (i : ℕ) (gs : List Member) → Type 0
+  FailsOr s i gs = AllSigned (functions_of gs) ⊎ ((functions text heads s i gs ≡ None) × ((f : Fault) × FailsInFunctions text heads s i gs f))
 
-  signed_or : (s : Scope) (i : ℕ) (gs : List TreeFunction) → NoTypes heads → FailsOr s i gs
+  signed_or : (s : Scope) (i : ℕ) (gs : List Member) → NoTypes heads → FailsOr s i gs
   signed_or s i [] no_types = inl tt
-  signed_or s i (g ∷ gs) no_types = by (signature_in text heads g) refl (signed_or (behind_function text heads s g) (1 + i) gs no_types)
+  signed_or s i (of_variable k v ∷ gs) no_types = signed_or (behind_variable text s k v) i gs no_types
+  signed_or s i (of_function g ∷ gs) no_types = by (signature_in text heads g) refl (signed_or (behind_function text heads s g) (1 + i) gs no_types)
     where
       whole : (o : Option Func) → functions text heads (behind_function text heads s g) (1 + i) gs ≡ None → option_and_then (λ t. option_map (λ ts. t ∷ ts) (functions text heads (behind_function text heads s g) (1 + i) gs)) o ≡ None
       whole None e = refl
       whole (Some t) e = ap (option_map (λ ts. t ∷ ts)) e
 
-      by : (sig : Option Signature) → signature_in text heads g ≡ sig → FailsOr (behind_function text heads s g) (1 + i) gs → FailsOr s i (g ∷ gs)
+      by : (sig : Option Signature) → signature_in text heads g ≡ sig → FailsOr (behind_function text heads s g) (1 + i) gs → FailsOr s i (of_function g ∷ gs)
       by None is rest =
           let u = unsigned_with s i g g.body no_types is in
           inr (ap (option_and_then (λ t. option_map (λ ts. t ∷ ts) (functions text heads (behind_function text heads s g) (1 + i) gs))) u.0, (u.1.0, inl u.1.1))
@@ -243,10 +253,11 @@ module _ (text : List ℕ) (heads : Scope) where
 
   -- ---- the package block
 
-  -- the declarations are functions and constants with numbers below two, or functions without a body
+  -- the declarations are functions, and constants and variables, with numbers below two, or functions without a body
   abbrev pub AreNumbered : ℕ → ℕ → Declared → Type 0
   AreNumbered n m (Function g) = g.0 < n
   AreNumbered n m (Constant k) = k.0 < m
+  AreNumbered n m (Global k g) = k.0 < m
   AreNumbered n m (External e at) = ⊤
   AreNumbered n m other = ⊥
 
@@ -254,11 +265,12 @@ module _ (text : List ℕ) (heads : Scope) where
   more_numbered n m i j le1 le2 [] all = tt
   more_numbered n m i j le1 le2 (Function g ∷ ds) all = (omega (arith, all.0, le1), more_numbered n m i j le1 le2 ds all.1)
   more_numbered n m i j le1 le2 (Constant k ∷ ds) all = (omega (arith, all.0, le2), more_numbered n m i j le1 le2 ds all.1)
+  more_numbered n m i j le1 le2 (Global k g ∷ ds) all = (omega (arith, all.0, le2), more_numbered n m i j le1 le2 ds all.1)
   more_numbered n m i j le1 le2 (External e at ∷ ds) all = (tt, more_numbered n m i j le1 le2 ds all.1)
   more_numbered n m i j le1 le2 (d ∷ ds) all = absurd all.0
 
   abbrev Numbered : Scope → Type 0
-  Numbered s = AllByRecursion (AreNumbered (length s.signatures) (length s.constants)) s.declared
+  Numbered s = AllByRecursion (AreNumbered (length s.signatures) (length s.values)) s.declared
 
   numbered_function : (s : Scope) (g : TreeFunction) (external declares : Bool) → Numbered s → Numbered (declared_one text heads s g external declares)
   numbered_function s g external declares all = by external declares
@@ -266,30 +278,44 @@ module _ (text : List ℕ) (heads : Scope) where
       long : length (s.signatures ++ signature_in text heads g ∷ []) ≡ length s.signatures + 1
       long = length-append s.signatures (signature_in text heads g ∷ [])
 
-      more : AllByRecursion (AreNumbered (length (s.signatures ++ signature_in text heads g ∷ [])) (length s.constants)) s.declared
-      more = more_numbered (length s.signatures) (length s.constants) (length (s.signatures ++ signature_in text heads g ∷ [])) (length s.constants) (omega (arith, long)) (omega arith) s.declared all
+      more : AllByRecursion (AreNumbered (length (s.signatures ++ signature_in text heads g ∷ [])) (length s.values)) s.declared
+      more = more_numbered (length s.signatures) (length s.values) (length (s.signatures ++ signature_in text heads g ∷ [])) (length s.values) (omega (arith, long)) (omega arith) s.declared all
 
       by : (b c : Bool) → Numbered (declared_one text heads s g b c)
       by true false = all
-      by true true = one_more_declared (AreNumbered (length s.signatures) (length s.constants)) s.declared (External (external_named (spelled text g.name)) g.name.pos) all tt
+      by true true = one_more_declared (AreNumbered (length s.signatures) (length s.values)) s.declared (External (external_named (spelled text g.name)) g.name.pos) all tt
       by false false = more
       by false true =
-          one_more_declared (AreNumbered (length (s.signatures ++ signature_in text heads g ∷ [])) (length s.constants)) s.declared (Function (record { 0 = length s.signatures })) more (omega (arith, long))
+          one_more_declared (AreNumbered (length (s.signatures ++ signature_in text heads g ∷ [])) (length s.values)) s.declared (Function (record { 0 = length s.signatures })) more (omega (arith, long))
 
   numbered_constant : (s : Scope) (n : Name) (declares : Bool) → Numbered s → Numbered (constant_one text s n declares)
   numbered_constant s n declares all = by declares
     where
-      long : length (s.constants ++ None ∷ []) ≡ length s.constants + 1
-      long = length-append s.constants (None ∷ [])
+      long : length (s.values ++ None ∷ []) ≡ length s.values + 1
+      long = length-append s.values (None ∷ [])
 
-      more : AllByRecursion (AreNumbered (length s.signatures) (length (s.constants ++ None ∷ []))) s.declared
-      more = more_numbered (length s.signatures) (length s.constants) (length s.signatures) (length (s.constants ++ None ∷ [])) (omega arith) (omega (arith, long)) s.declared all
+      more : AllByRecursion (AreNumbered (length s.signatures) (length (s.values ++ None ∷ []))) s.declared
+      more = more_numbered (length s.signatures) (length s.values) (length s.signatures) (length (s.values ++ None ∷ [])) (omega arith) (omega (arith, long)) s.declared all
 
       by : (b : Bool) → Numbered (constant_one text s n b)
       by false = more
-      by true = one_more_declared (AreNumbered (length s.signatures) (length (s.constants ++ None ∷ []))) s.declared (Constant (record { 0 = length s.constants })) more (omega (arith, long))
+      by true = one_more_declared (AreNumbered (length s.signatures) (length (s.values ++ None ∷ []))) s.declared (Constant (record { 0 = length s.values })) more (omega (arith, long))
 
-  -- a constant whose value isn't known yet
+  numbered_variable : (s : Scope) (n : Name) (blank declares : Bool) → Numbered s → Numbered (variable_one text s n blank declares)
+  numbered_variable s n blank declares all = by blank declares
+    where
+      long : length (s.values ++ None ∷ []) ≡ length s.values + 1
+      long = length-append s.values (None ∷ [])
+
+      more : AllByRecursion (AreNumbered (length s.signatures) (length (s.values ++ None ∷ []))) s.declared
+      more = more_numbered (length s.signatures) (length s.values) (length s.signatures) (length (s.values ++ None ∷ [])) (omega arith) (omega (arith, long)) s.declared all
+
+      by : (b c : Bool) → Numbered (variable_one text s n b c)
+      by true c = more
+      by false false = more
+      by false true = one_more_declared (AreNumbered (length s.signatures) (length (s.values ++ None ∷ []))) s.declared (Global (record { 0 = length s.values }) (record { 0 = length s.globals })) more (omega (arith, long))
+
+  -- a constant or variable of which nothing is known yet
   abbrev IsUnknown : Option Fixed → Type 0
   IsUnknown o = IsNone o
 
@@ -315,25 +341,31 @@ module _ (text : List ℕ) (heads : Scope) where
   all_waiting sigs m [] given all = tt
   all_waiting sigs m (Function g ∷ ds) given all = (signed_at sigs g.0 given all.0, all_waiting sigs m ds given all.1)
   all_waiting sigs m (Constant k ∷ ds) given all = (all.0, all_waiting sigs m ds given all.1)
+  all_waiting sigs m (Global k g ∷ ds) given all = (all.0, all_waiting sigs m ds given all.1)
   all_waiting sigs m (External e at ∷ ds) given all = (tt, all_waiting sigs m ds given all.1)
   all_waiting sigs m (d ∷ ds) given all = absurd all.0
 
-  -- where all functions have signatures and no rule of the constants fails, the block is settled
+  -- where all functions have signatures and no rule of the constants and variables fails, the block is settled
   package_settled : (r : Scope) (ds : List Declaration) → are_supported text heads r ds ≡ true → AllSigned (functions_in text heads ds)
-      → ((f : Fault) → ConstantsFail text (settled text (with_items text heads beginning ds) (items_in ds)) ds f → ⊥) → IsSettled (settled text (with_items text heads beginning ds) (items_in ds))
+      → ((f : Fault) → ItemsFail text (settled text (with_items text heads beginning ds) (items_in ds)) ds f → ⊥) → IsSettled (settled text (with_items text heads beginning ds) (items_in ds))
   package_settled r ds is signed sound =
       let s = with_items text heads beginning ds in
       let given = subst AllGiven (sym (signatures_are text heads r beginning ds is)) (given_all (functions_in text heads ds) signed) in
-      let waiting = all_waiting s.signatures (length s.constants) s.declared given (items_kept text heads r Numbered numbered_constant numbered_function beginning ds is tt) in
-      let unknown = items_kept text heads r (λ (v : Scope). AllByRecursion IsUnknown v.constants) unknown_constant unknown_function beginning ds is tt in
-      let many = constants_long text heads r beginning ds is in
+      let waiting = all_waiting s.signatures (length s.values) s.declared given (items_kept text heads r Numbered numbered_constant numbered_variable numbered_function beginning ds is tt) in
+      let unknown = items_kept text heads r (λ (v : Scope). AllByRecursion IsUnknown v.values) unknown_constant unknown_variable unknown_function beginning ds is tt in
+      let many = values_long text heads r beginning ds is in
       is_settled text s ds (record { as_many = omega (arith, many); unknown = unknown; typed = waiting; never = sound })
     where
-      unknown_constant : (s : Scope) (n : Name) (declares : Bool) → AllByRecursion IsUnknown s.constants → AllByRecursion IsUnknown (constant_one text s n declares).constants
-      unknown_constant s n true all = one_more_unknown s.constants all
-      unknown_constant s n false all = one_more_unknown s.constants all
+      unknown_constant : (s : Scope) (n : Name) (declares : Bool) → AllByRecursion IsUnknown s.values → AllByRecursion IsUnknown (constant_one text s n declares).values
+      unknown_constant s n true all = one_more_unknown s.values all
+      unknown_constant s n false all = one_more_unknown s.values all
 
-      unknown_function : (s : Scope) (g : TreeFunction) (external declares : Bool) → AllByRecursion IsUnknown s.constants → AllByRecursion IsUnknown (declared_one text heads s g external declares).constants
+      unknown_variable : (s : Scope) (n : Name) (blank declares : Bool) → AllByRecursion IsUnknown s.values → AllByRecursion IsUnknown (variable_one text s n blank declares).values
+      unknown_variable s n true declares all = one_more_unknown s.values all
+      unknown_variable s n false true all = one_more_unknown s.values all
+      unknown_variable s n false false all = one_more_unknown s.values all
+
+      unknown_function : (s : Scope) (g : TreeFunction) (external declares : Bool) → AllByRecursion IsUnknown s.values → AllByRecursion IsUnknown (declared_one text heads s g external declares).values
       unknown_function s g true true all = all
       unknown_function s g true false all = all
       unknown_function s g false true all = all
@@ -343,16 +375,34 @@ module _ (text : List ℕ) (heads : Scope) where
   decided_none None P is f h = (f, h)
   decided_none (Some x) P is f h = cc is
 
-  -- the functions of a package without a failing rule of its constants
+  functions_apart : (k : ℕ) (is : List Item) (ms : List Member) → functions_of (numbered k is ++ ms) ≡ functions_of ms
+  functions_apart k [] ms = refl
+  functions_apart k (i ∷ is) ms = functions_apart (1 + k) is ms
+
+  -- the functions among the members are those of the declarations
+  pub members_functions : (k : ℕ) (ds : List Declaration) → functions_of (members_in text heads k ds) ≡ functions_in text heads ds
+  members_functions k [] = refl
+  members_functions k (constants at specs ∷ ds) = members_functions (k + length (items_in_specs role.Constant specs)) ds
+  members_functions k (variables at specs ∷ ds) =
+      functions_apart k (items_in_specs role.Variable specs) (members_in text heads (k + length (items_in_specs role.Variable specs)) ds) ∙ members_functions (k + length (items_in_specs role.Variable specs)) ds
+  members_functions k (types at specs ∷ ds) = members_functions k ds
+  members_functions k (tree.function g ∷ ds) = by (members_functions k ds) (is_external text heads g)
+    where
+      by : functions_of (members_in text heads k ds) ≡ functions_in text heads ds → (b : Bool)
+          → functions_of (cond b (members_in text heads k ds) (of_function g ∷ members_in text heads k ds)) ≡ cond b (functions_in text heads ds) (g ∷ functions_in text heads ds)
+      by later true = later
+      by later false = ap (λ l. g ∷ l) later
+
+  -- the functions of a package without a failing rule of its constants and variables
   all_functions : NoTypes heads → (r : Scope) (ds : List Declaration) → are_supported text heads r ds ≡ true
-      → ((f : Fault) → ConstantsFail text (settled text (with_items text heads beginning ds) (items_in ds)) ds f → ⊥)
-      → Decided (functions text heads (settled text (with_items text heads beginning ds) (items_in ds)) 0 (functions_in text heads ds)) (FailsInFunctions text heads (settled text (with_items text heads beginning ds) (items_in ds)) 0 (functions_in text heads ds))
+      → ((f : Fault) → ItemsFail text (settled text (with_items text heads beginning ds) (items_in ds)) ds f → ⊥)
+      → Decided (functions text heads (settled text (with_items text heads beginning ds) (items_in ds)) 0 (members_in text heads 0 ds)) (FailsInFunctions text heads (settled text (with_items text heads beginning ds) (items_in ds)) 0 (members_in text heads 0 ds))
   all_functions no_types r ds is sound =
       let s = settled text (with_items text heads beginning ds) (items_in ds) in
-      let gs = functions_in text heads ds in
-      elim (signed_or s 0 gs no_types) [
-        | inl all ↦ functions_decided s 0 gs no_types (package_settled r ds is all sound)
-        | inr r ↦ decided_none (functions text heads s 0 gs) (FailsInFunctions text heads s 0 gs) r.0 r.1.0 r.1.1
+      let ms = members_in text heads 0 ds in
+      elim (signed_or s 0 ms no_types) [
+        | inl all ↦ functions_decided s 0 ms no_types (package_settled r ds is (subst AllSigned (members_functions 0 ds) all) sound)
+        | inr r ↦ decided_none (functions text heads s 0 ms) (FailsInFunctions text heads s 0 ms) r.0 r.1.0 r.1.1
       ]
 
   -- a declaration of a form that is left out fails, and one of `init`, and one of a function without a body behind another of its name
@@ -366,7 +416,7 @@ module _ (text : List ℕ) (heads : Scope) where
 
   form_tested : (s : Scope) (d : Declaration) → Tested (is_supported text heads s d) (DeclarationFails text heads s d)
   form_tested s (constants at specs) = λ f h. h
-  form_tested s (variables at specs) = (fault OutOfProfile at, refl)
+  form_tested s (variables at specs) = λ f h. h
   form_tested s (types at specs) = (fault OutOfProfile at, refl)
   form_tested s (tree.function g) =
       both_tested _ _ (not (is_init (spelled text g.name))) (not (is_external text heads g) || is_external_at g.name.pos (declaration s (spelled text g.name))) (init_tested (is_init (spelled text g.name)) g.place)
@@ -396,13 +446,13 @@ module _ (text : List ℕ) (heads r : Scope) where
   heads_no_types : (s : Scope) (ds : List Declaration) → are_supported text heads r ds ≡ true → NoTypes s → NoTypes (with_heads text s ds)
   heads_no_types s [] is all = all
   heads_no_types s (constants at specs ∷ ds) is all = heads_no_types (with_values text s specs) ds is (values_no_types s specs all)
-  heads_no_types s (variables at specs ∷ ds) is all = cc is
+  heads_no_types s (variables at specs ∷ ds) is all = heads_no_types (with_values text s specs) ds is (values_no_types s specs all)
   heads_no_types s (types at specs ∷ ds) is all = cc is
   heads_no_types s (tree.function g ∷ ds) is all =
       heads_no_types (with_name text Untyped s g.name) ds (both_second (is_supported text heads r (tree.function g)) (are_supported text heads r ds) is) (name_no_type s g.name all)
 
-pub all_decided : (t : Syntax) → ((f : Fault) → ConstantsFail t.text (package_scope t) (declarations_in t) f → ⊥)
-    → Decided (program_functions t) (λ f. DeclarationsFail t.text (heads_of t) (package_scope t) (declarations_in t) f ⊎ FailsInFunctions t.text (heads_of t) (package_scope t) 0 (numbered_functions t) f)
+pub all_decided : (t : Syntax) → ((f : Fault) → ItemsFail t.text (package_scope t) (declarations_in t) f → ⊥)
+    → Decided (program_functions t) (λ f. DeclarationsFail t.text (heads_of t) (package_scope t) (declarations_in t) f ⊎ FailsInFunctions t.text (heads_of t) (package_scope t) 0 (members t) f)
 all_decided t sound = by (are_supported t.text h s ds) refl (forms_tested t.text h s ds)
   where
     ds : List Declaration
@@ -414,8 +464,8 @@ all_decided t sound = by (are_supported t.text h s ds) refl (forms_tested t.text
     s : Scope
     s = package_scope t
 
-    gs : List TreeFunction
-    gs = numbered_functions t
+    gs : List Member
+    gs = members t
 
     by : (b : Bool) → are_supported t.text h s ds ≡ b → Tested b (DeclarationsFail t.text h s ds)
         → Decided (allowed b (functions t.text h s 0 gs)) (λ f. DeclarationsFail t.text h s ds f ⊎ FailsInFunctions t.text h s 0 gs f)

@@ -1,7 +1,8 @@
 -- What the checker of types answers.
-use Rattle.std.specs.Prelude.{◌≡◌, ℕ, List, [], map, Some, Result, Ok, Err}
+use Rattle.std.specs.Prelude.{◌≡◌, ℕ, List, map, Some, Result, Ok, Err}
 use Rattle.base.specs.declared.pos.Pos.{Pos}
 use Rattle.syntax.specs.Declarations.{Syntax}
+use Rattle.typed.specs.Value.{Value}
 use Rattle.typed.specs.Syntax.{Func, Program}
 use Rattle.typed.specs.View.{zero_values, program_of}
 use Rattle.typed.specs.declared.program.Site.{Site}
@@ -10,13 +11,13 @@ use Rattle.value_types.specs.declared.fault.TypeFault.{TypeFault}
 use Rattle.value_types.specs.declared.fault.TypeFault.TheVariants as type_fault
 use Rattle.value_types.specs.declared.fault.Fault.{Fault}
 use Rattle.value_types.specs.Least.{IsLeast}
-use Rattle.package_constants.specs.ConstantFaults.{ConstantsFail}
-use Rattle.types_go.specs.Functions.{behind_functions, declarations_in, heads_of, numbered_functions, package_scope, main_number, program_functions}
+use Rattle.package_values.specs.ValueFaults.{ItemsFail}
+use Rattle.types_go.specs.Functions.{behind_members, globals, members, declarations_in, heads_of, numbered_functions, package_scope, main_number, program_functions}
 use Rattle.types_go.specs.FunctionFaults.{FailsIn}
 
 -- the variables, in the order of the text, and their places
 abbrev pub sites_in : Syntax → List Site
-sites_in t = (behind_functions t.text (heads_of t) (package_scope t) (numbered_functions t)).sites
+sites_in t = (behind_members t.text (heads_of t) (package_scope t) (members t)).sites
 
 abbrev pub places_of : Syntax → List Pos
 places_of t = map (λ site. site.pos) (sites_in t)
@@ -27,11 +28,15 @@ function_places t = map (λ f. f.name.pos) (numbered_functions t)
 
 -- the strings of its statements
 abbrev pub strings_in : Syntax → List (List ℕ)
-strings_in t = (behind_functions t.text (heads_of t) (package_scope t) (numbered_functions t)).strings
+strings_in t = (behind_members t.text (heads_of t) (package_scope t) (members t)).strings
+
+-- its package variables with a name, in the order of the text
+abbrev pub globals_in : Syntax → List (ℕ × Value)
+globals_in t = globals t.text (heads_of t) (package_scope t) (members t)
 
 -- two types
 abbrev pub program_with : Syntax → List Func → ℕ → Program
-program_with t funcs main = record { funcs = funcs; zeros = zero_values; sites = map (λ site. site.type_id.0) (sites_in t); strings = strings_in t; globals = []; main = main }
+program_with t funcs main = record { funcs = funcs; zeros = zero_values; sites = map (λ site. site.type_id.0) (sites_in t); strings = strings_in t; globals = globals_in t; main = main }
 
 -- the rules give a tree this typed program
 pub record Types (t : Syntax) (p : Program) : Type 0 where
@@ -39,8 +44,8 @@ pub record Types (t : Syntax) (p : Program) : Type 0 where
   pub main : ℕ
   pub functions : program_functions t ≡ Some funcs
   pub main_is : main_number t ≡ Some main
-  -- no rule of the constants fails
-  pub constants : (f : Fault) → ConstantsFail t.text (package_scope t) (declarations_in t) f → ⊥
+  -- no rule of the constants and variables fails
+  pub values : (f : Fault) → ItemsFail t.text (package_scope t) (declarations_in t) f → ⊥
   pub is : p ≡ program_with t funcs main
 
 -- the fault that is reported: of the rules that fail, the one with the least offset, then with the least number

@@ -11,13 +11,13 @@ use Rattle.value_types.specs.Faults.{fault, IsFault, FormFails}
 use Rattle.names.specs.declared.scope.Declared.{Declared}
 use Rattle.names.specs.Universe.{is_blank}
 use Rattle.names.specs.Scope.{Scope, declaration, opened}
-use Rattle.package_constants.specs.ConstantFaults.{ConstantsFail}
+use Rattle.package_values.specs.ValueFaults.{ItemsFail}
 use Rattle.signatures.specs.declared.entries.Role.TheVariants.{Parameter as parameter, Result as result}
 use Rattle.signatures.specs.EntryFaults.{EntriesFail}
 use Rattle.signatures.specs.Signatures.{params_of, slots_of, is_external, is_external_at, is_init, signature_in}
 use Rattle.signatures.specs.Failing.{fault_where}
 use Rattle.signatures.specs.SignatureFaults.{function_name_fault, size_fault, TypesFail}
-use Rattle.types_go.specs.Functions.{behind_params, body_scope, behind_function, returns_of, may_end, declarations_in, heads_of, numbered_functions, package_scope, main_number}
+use Rattle.types_go.specs.Functions.{Member, of_function, of_variable, behind_variable, behind_params, body_scope, behind_function, returns_of, may_end, declarations_in, heads_of, members, package_scope, main_number}
 use Rattle.types_go.specs.StatementFaults.{FailsInStatements}
 
 -- no other function than `readInt` and `exit` has no body
@@ -48,9 +48,10 @@ module _ (text : List ℕ) (heads : Scope) where
   abbrev pub FailsInFunction : Scope → ℕ → TreeFunction → Fault → Type 0
   FailsInFunction s i g f = FailsWith s i g g.body f
 
-  abbrev pub FailsInFunctions : Scope → ℕ → List TreeFunction → Fault → Type 0
+  abbrev pub FailsInFunctions : Scope → ℕ → List Member → Fault → Type 0
   FailsInFunctions s i [] f = ⊥
-  FailsInFunctions s i (g ∷ gs) f = FailsInFunction s i g f ⊎ FailsInFunctions (behind_function text heads s g) (1 + i) gs f
+  FailsInFunctions s i (of_function g ∷ ms) f = FailsInFunction s i g f ⊎ FailsInFunctions (behind_function text heads s g) (1 + i) ms f
+  FailsInFunctions s i (of_variable k v ∷ ms) f = FailsInFunctions (behind_variable text s k v) i ms f
 
 -- the name of a function that may be one of the two without a body: the first declaration of a name stays
 abbrev pub external_name_fault : Bool → Option Declared → Pos → Option Fault
@@ -65,7 +66,7 @@ module _ (text : List ℕ) (heads : Scope) where
   -- a declaration of a form that is left out, or of a function without a body behind another of its name
   abbrev pub DeclarationFails : Scope → Declaration → Fault → Type 0
   DeclarationFails s (constants at specs) f = ⊥
-  DeclarationFails s (variables at specs) f = FormFails at f
+  DeclarationFails s (variables at specs) f = ⊥
   DeclarationFails s (types at specs) f = FormFails at f
   DeclarationFails s (tree.function g) f =
       IsFault (init_fault (is_init (spelled text g.name)) g.place) f ⊎ IsFault (external_name_fault (is_external text heads g) (declaration s (spelled text g.name)) g.name.pos) f
@@ -82,4 +83,4 @@ first_byte = record { offset = 0; line = 1; col = 1 }
 abbrev pub FailsIn : Syntax → Fault → Type 0
 FailsIn t f =
     IsFault (fault_where (not (is_some (main_number t))) (fault NoMain first_byte)) f
-    ⊎ ((DeclarationsFail t.text (heads_of t) (package_scope t) (declarations_in t) f ⊎ ConstantsFail t.text (package_scope t) (declarations_in t) f) ⊎ FailsInFunctions t.text (heads_of t) (package_scope t) 0 (numbered_functions t) f)
+    ⊎ ((DeclarationsFail t.text (heads_of t) (package_scope t) (declarations_in t) f ⊎ ItemsFail t.text (package_scope t) (declarations_in t) f) ⊎ FailsInFunctions t.text (heads_of t) (package_scope t) 0 (members t) f)

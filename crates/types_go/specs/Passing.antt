@@ -1,5 +1,5 @@
 -- What the checker's pass works out of what it knows of the parts.
-use Rattle.std.specs.Prelude.{◌≡◌, ⊤, ◌-◌, ℕ, List, ◌++◌, map, Option, Some, None, option_and_then}
+use Rattle.std.specs.Prelude.{◌≡◌, ⊤, ◌-◌, ℕ, List, [], ◌∷◌, ◌++◌, map, Option, Some, None, option_and_then, if◌then◌else◌}
 use Rattle.std.specs.Option.{option_map}
 use Rattle.base.specs.declared.pos.Pos.{Pos}
 use Rattle.typed.specs.Syntax.{Sts, Func}
@@ -11,7 +11,15 @@ use Rattle.types_go.specs.declared.heads.Choice.{Choice as ChoiceData}
 use Rattle.types_go.specs.declared.heads.Head.{Head as HeadData}
 use Rattle.types_go.specs.declared.heads.Head.TheVariants.{Repeated, Counted}
 use Rattle.types_go.specs.Statements.{Choice, Head, repeated, counted}
-use Rattle.types_go.specs.Functions.{slot_number}
+use Rattle.types_go.specs.declared.members.Member.{Member as MemberData}
+use Rattle.types_go.specs.declared.members.Member.TheVariants as member
+use Rattle.syntax.specs.Declarations.{function_of, Declaration, constants, variables, types, function}
+use Rattle.names.specs.Scope.{Scope}
+use Rattle.package_values.specs.declared.items.Role.TheVariants as role
+use Rattle.package_values.specs.Values.{items_in_specs}
+use Rattle.package_values.specs.Passing.{item_of}
+use Rattle.signatures.specs.Signatures.{is_external}
+use Rattle.types_go.specs.Functions.{slot_number, Member, of_function, of_variable, numbered}
 
 -- headers
 abbrev pub choice_view : ChoiceData → Choice
@@ -48,3 +56,19 @@ IsAt at (Some f) = f.pos ≡ at
 abbrev pub AreAt : List Pos → Option (List FuncData) → Type 0
 AreAt places None = ⊤
 AreAt places (Some fs) = map (λ f. f.pos) fs ≡ places
+
+-- ---- what a package has one after the other
+
+abbrev pub member_of : MemberData → Member
+member_of (member.Function f) = of_function (function_of f.now)
+member_of (member.Variable k i) = of_variable k.0 (item_of i)
+
+abbrev pub member_views : List MemberData → List Member
+member_views ms = map member_of ms
+
+-- what one declaration has
+abbrev pub members_of_decl : List ℕ → Scope → ℕ → Declaration → List Member
+members_of_decl text heads k (constants at specs) = []
+members_of_decl text heads k (variables at specs) = numbered k (items_in_specs role.Variable specs)
+members_of_decl text heads k (types at specs) = []
+members_of_decl text heads k (function f) = if is_external text heads f then [] else of_function f ∷ []

@@ -1,10 +1,10 @@
 //! A tree's typed program.
 
-ghost use Rattle.std.specs.Prelude.{◌≡◌, ◌⊎◌, Option, Some, None, IfOk, IfErr, map, length, not, slice_get, if◌then◌else◌, codes, ◌&&◌};
+ghost use Rattle.std.specs.Prelude.{◌≡◌, ◌⊎◌, ℕ, List, Option, Some, None, IfOk, IfErr, map, length, not, slice_get, if◌then◌else◌, codes, ◌&&◌};
 ghost use Rattle.std.specs.Option.{option_map};
 ghost use Rattle.syntax.specs.Expressions.{spelled};
 ghost use Rattle.syntax.specs.Declarations.{function as function_item, function_of, declaration_of, declarations_of, syntax_of};
-ghost use Rattle.typed.specs.View.{func_of, program_of};
+ghost use Rattle.typed.specs.View.{func_of, global_of, program_of};
 ghost use Rattle.typed.specs.Form.{IsInForm};
 ghost use Rattle.typed.specs.Syntax.{Program as ProgramOf};
 ghost use Rattle.value_types.specs.Least.{IsLeast};
@@ -12,25 +12,26 @@ ghost use Rattle.value_types.specs.Faults.{fault as fault_at, IsFault, FormFails
 ghost use Rattle.value_types.specs.declared.fault.FaultKind.TheVariants.{NoMain};
 ghost use Rattle.names.specs.Universe.{is_main};
 ghost use Rattle.names.specs.Scope.{scope_of, declaration, beginning};
-ghost use Rattle.package_constants.specs.Constants.{items_in, settled};
-ghost use Rattle.package_constants.specs.ConstantFaults.{ConstantsFail};
+ghost use Rattle.package_values.specs.Values.{items_in, settled};
+ghost use Rattle.package_values.specs.ValueFaults.{ItemsFail};
 ghost use Rattle.signatures.specs.Signatures.{is_init, is_external, with_items};
-ghost use Rattle.types_go.specs.Functions.{number_of, is_plain, plain_number, functions_in, functions, heads_of, numbered_functions, package_scope, main_number};
+ghost use Rattle.types_go.specs.Functions.{number_of, is_plain, plain_number, functions_in, functions, heads_of, members, package_scope, main_number};
 ghost use Rattle.signatures.specs.Failing.{fault_where};
 ghost use Rattle.types_go.specs.FunctionFaults.{init_fault, external_name_fault, DeclarationFails, DeclarationsFail, FailsIn, first_byte};
 ghost use Rattle.types_go.specs.Passing.{AreAt};
-ghost use Rattle.types_go.specs.Checked.{Types, Reports, OnlyProgram, sites_in, strings_in, function_places};
+ghost use Rattle.types_go.specs.Checked.{Types, Reports, OnlyProgram, sites_in, strings_in, globals_in, function_places};
 
-use crate::functions::check_functions;
+use crate::functions::check_members;
+use crate::members::members_in;
 use base::{FuncId, NoMemory, Pos};
 use names::{Declared, Scope, beginning, declaration, is_main, spelled};
-use package_constants::{constants_fault, settle};
+use package_values::{items_fault, settle};
 use signatures::{
     add_heads, add_items, fault_where, has_some, is_external, is_external_at, is_init,
 };
 use std::alloc::Global;
 use syntax::{Decl, Func, Name, Tree};
-use typed::{Program, Site};
+use typed::{PackageVariable, Program, Site};
 use value_types::{Fault, FaultKind, TypeFault, lesser};
 
 fn number_of(declared: Option<Declared>) -> Option<FuncId>
@@ -192,8 +193,7 @@ fn declaration_fault(
     ensures { IfOk result (λ r. IsLeast (DeclarationFails text.now (scope_of heads.now) (scope_of scope.now) (declaration_of decl.now)) r) }
 {
     match decl {
-        Decl::Const(_, _) => Ok(None),
-        Decl::Var(pos, _) => Ok(left_out(*pos)),
+        Decl::Const(_, _) | Decl::Var(_, _) => Ok(None),
         Decl::Type(pos, _) => Ok(left_out(*pos)),
         Decl::Func(f) => function_fault(alloc, text, heads, scope, f),
     }
@@ -217,7 +217,7 @@ fn declaration_faults(
     Ok(fault)
 }
 
-/// The fault of the package block: of the forms of its declarations, or of its constants.
+/// The fault of the package block: of the forms of its declarations, or of its constants and variables.
 fn package_fault(
     alloc: Global,
     text: &[u8],
@@ -225,11 +225,11 @@ fn package_fault(
     scope: &Scope,
     decls: &[Decl],
 ) -> Result<Option<Fault>, NoMemory>
-    ensures { IfOk result (λ r. IsLeast (λ f. DeclarationsFail text.now (scope_of heads.now) (scope_of scope.now) (declarations_of decls.now) f ⊎ ConstantsFail text.now (scope_of scope.now) (declarations_of decls.now) f) r) }
+    ensures { IfOk result (λ r. IsLeast (λ f. DeclarationsFail text.now (scope_of heads.now) (scope_of scope.now) (declarations_of decls.now) f ⊎ ItemsFail text.now (scope_of scope.now) (declarations_of decls.now) f) r) }
 {
     let forms = declaration_faults(alloc, text, heads, scope, decls)?;
-    let constants = constants_fault(alloc, text, scope, decls)?;
-    Ok(lesser(forms, constants))
+    let values = items_fault(alloc, text, scope, decls)?;
+    Ok(lesser(forms, values))
 }
 
 /// The fault of a package without a function `main`.
@@ -248,7 +248,7 @@ fn no_main_fault(is_absent: bool) -> Option<Fault>
     fault_where(is_absent, own)
 }
 
-/// The package block, where the constants are known that can be.
+/// The package block, where all is known of the constants and variables that can be.
 fn package_block(
     alloc: Global,
     text: &[u8],
@@ -264,22 +264,24 @@ fn package_block(
 }
 
 /// What the pass over a tree finds: the number of `main`, the typed functions, where all have a typed form, the sites, the strings,
-/// and the fault.
+/// the package variables with a name, and the fault.
 #[derive(Drop)]
 struct Passed {
     main: Option<FuncId>,
     funcs: Option<Vec<typed::Func>>,
     sites: Vec<Site>,
     strings: Vec<Vec<u8>>,
+    globals: Vec<PackageVariable>,
     fault: Option<Fault>,
 }
 
 /// The pass over a tree.
 fn pass(alloc: Global, tree: &Tree) -> Result<Passed, NoMemory>
     ensures main { IfOk result (λ r. option_map (λ f. f.0) r.main ≡ main_number (syntax_of tree.now)) }
-    ensures funcs { IfOk result (λ r. option_map (λ v. map func_of v.items) r.funcs ≡ functions (syntax_of tree.now).text (heads_of (syntax_of tree.now)) (package_scope (syntax_of tree.now)) 0 (numbered_functions (syntax_of tree.now))) }
+    ensures funcs { IfOk result (λ r. option_map (λ v. map func_of v.items) r.funcs ≡ functions (syntax_of tree.now).text (heads_of (syntax_of tree.now)) (package_scope (syntax_of tree.now)) 0 (members (syntax_of tree.now))) }
     ensures sites { IfOk result (λ r. r.sites.items ≡ sites_in (syntax_of tree.now)) }
     ensures strings { IfOk result (λ r. map (λ string. string.items) r.strings.items ≡ strings_in (syntax_of tree.now)) }
+    ensures globals { IfOk result (λ r. (types : List ℕ) → map (global_of types) r.globals.items ≡ globals_in (syntax_of tree.now)) }
     ensures places { IfOk result (λ r. AreAt (function_places (syntax_of tree.now)) (option_map (λ v. v.items) r.funcs)) }
     ensures fault { IfOk result (λ r. IsLeast (FailsIn (syntax_of tree.now)) r.fault) }
 {
@@ -290,7 +292,8 @@ fn pass(alloc: Global, tree: &Tree) -> Result<Passed, NoMemory>
     let mut scope = package_block(alloc, text, &heads, decls)?;
     let main = main_number(alloc, text, &heads, &scope, tree.package, decls)?;
     let declared = package_fault(alloc, text, &heads, &scope, decls)?;
-    let checked = check_functions(alloc, text, &heads, &mut scope, decls)?;
+    let members = members_in(alloc, text, &heads, decls)?;
+    let checked = check_members(alloc, text, &heads, &mut scope, &members)?;
     let main_fault = no_main_fault(main.is_none());
     let others = lesser(declared, checked.fault);
     Ok(Passed {
@@ -298,12 +301,13 @@ fn pass(alloc: Global, tree: &Tree) -> Result<Passed, NoMemory>
         funcs: checked.funcs,
         sites: scope.sites,
         strings: scope.strings,
+        globals: checked.globals,
         fault: lesser(main_fault, others),
     })
 }
 
 /// The typed program of a tree (Go specification, "Declarations and scope", "Constants", "Assignability", "Calls", "Statements"). A
-/// program of this part is one package of functions of ints and truth values.
+/// program of this part is one package of functions, constants and variables of ints and truth values.
 pub fn check(alloc: Global, tree: &Tree) -> Result<Program, TypeFault>
     // What is answered is the program that the rules give the tree.
     ensures typed { IfOk result (λ p. Types (syntax_of tree.now) (program_of p)) }
@@ -323,6 +327,7 @@ pub fn check(alloc: Global, tree: &Tree) -> Result<Program, TypeFault>
         funcs,
         sites,
         strings,
+        globals,
         fault,
     } = pass(alloc, tree)?;
     match fault {
@@ -335,6 +340,7 @@ pub fn check(alloc: Global, tree: &Tree) -> Result<Program, TypeFault>
                 main,
                 sites,
                 strings,
+                globals,
             })
         }
     }

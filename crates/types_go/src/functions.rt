@@ -1,40 +1,49 @@
-//! Functions: their heads, their parts, and the end of their bodies.
+//! Functions: their heads, their parts, and the end of their bodies; and the package variables between them.
 
-ghost use Rattle.std.specs.Prelude.{◌≡◌, ◌<◌, ◌⊎◌, Option, Some, None, IfOk, OnOk, List, map, length, is_some, not, ◌-◌, ◌++◌, ◌∷◌, [], ◌&&◌, ◌||◌, ◌==◌, nat_lt, option_and_then, if◌then◌else◌};
+ghost use Rattle.std.specs.Prelude.{◌≡◌, ◌<◌, ◌⊎◌, ℕ, Option, Some, None, IfOk, OnOk, List, map, length, is_some, not, ◌-◌, ◌++◌, ◌∷◌, [], ◌&&◌, ◌||◌, ◌==◌, nat_lt, option_and_then, if◌then◌else◌};
 ghost use Rattle.std.specs.Option.{option_map};
 ghost use Rattle.std.specs.Str.{bytes_eq};
 ghost use Rattle.base.specs.declared.pos.Pos.{Pos as Place};
-ghost use Rattle.syntax.specs.Expressions.{spelled};
-ghost use Rattle.syntax.specs.Declarations.{parameters_of, body_of, function_of, declarations_of};
-ghost use Rattle.typed.specs.View.{site_in, func_of, sts_of};
+ghost use Rattle.syntax.specs.Expressions.{ex_of, spelled};
+ghost use Rattle.syntax.specs.Declarations.{parameters_of, body_of, function_of};
+ghost use Rattle.typed.specs.View.{site_in, func_of, sts_of, value_of, global_of};
 ghost use Rattle.value_types.specs.Least.{IsLeast};
 ghost use Rattle.value_types.specs.Given.{allowed};
 ghost use Rattle.value_types.specs.Faults.{fault as fault_at, IsFault};
 ghost use Rattle.value_types.specs.declared.fault.FaultKind.TheVariants.{TooLarge};
 ghost use Rattle.names.specs.Universe.{is_blank};
-ghost use Rattle.names.specs.Scope.{scope_of, declaration, is_here};
+ghost use Rattle.names.specs.Scope.{scope_of, declaration, is_here, fixed, with_site};
 ghost use Rattle.value_types.specs.Given.{with_last};
-ghost use Rattle.types_go.specs.Passing.{assembled, IsAt, AreAt};
+ghost use Rattle.types_go.specs.Passing.{assembled, IsAt, AreAt, member_views};
+ghost use Rattle.package_values.specs.Passing.{item_of};
 ghost use Rattle.signatures.specs.Failing.{fault_where};
 ghost use Rattle.simple_statements.specs.SimpleStatements.{returns_view};
 ghost use Rattle.signatures.specs.Signatures.{may_be_named, is_named, is_external, params_of, signature_in, is_small};
-ghost use Rattle.types_go.specs.Functions.{number_or_int, slot_number, returns_of, may_end, function_head, functions_in, parts, function_with, function, functions, behind_body, behind_function, behind_functions};
+ghost use Rattle.types_go.specs.Functions.{number_or_int, slot_number, returns_of, may_end, function_head, parts, function_with, function, functions_of, type_or_int, int_in, truth_in, first_value, behind_variable, initial, globals_of, functions, globals, behind_body, behind_function, behind_members};
 ghost use Rattle.signatures.specs.SignatureFaults.{function_name_fault};
 ghost use Rattle.types_go.specs.FunctionFaults.{FailsInHead, FailsInTypes, FailsInParts, FailsWith, FailsInFunction, FailsInFunctions, external_fault};
 
 use crate::blocks::check_stmts;
+use crate::members::Member;
 use base::{NoMemory, Pos, SiteId, TypeId};
-use names::{Scope, close, declaration, is_blank, open, site_count, spelled, type_id};
+use expression_types::check_expr;
+use names::{
+    Scope, ValueId, add_site, close, declaration, fixed, is_blank, next_site, open, site_count,
+    spelled, type_id,
+};
+use package_values::{Item, constant_in};
 use signatures::{
     Role, Slot, check_entries, fault_where, function_name_fault, has_some, is_external, is_named,
     is_small, may_be_named, signature_in, sites_of, size_fault, slot_types, slots_of, types_fault,
 };
 use simple_statements::Returns;
 use std::alloc::Global;
-use syntax::{Body, Decl, Func, Name, Params};
+use syntax::{Body, Expr, Func, Name, Params};
 use terminating::ends_in_terminating;
-use typed::INT;
-use value_types::{Fault, FaultKind, ValueType, lesser};
+use typed::{Const, INT, PackageVariable};
+use value_types::{
+    Constant, Fault, FaultKind, Fixed, ValueType, constant_type, int_constant, lesser,
+};
 
 /// What is known of a part of a function: whether it is as it must be, and the fault.
 #[derive(Clone, Copy, Debug, PartialEq, Eq)]
@@ -50,10 +59,12 @@ pub struct Function {
     pub fault: Option<Fault>,
 }
 
-/// What is known of some functions: their typed forms, where all have one, and the fault.
+/// What is known of some functions and package variables: the typed forms of the functions, where all have one, the variables with a name,
+/// and the fault.
 #[derive(Drop)]
-pub struct Functions {
+pub struct Members {
     pub funcs: Option<Vec<typed::Func>>,
+    pub globals: Vec<PackageVariable>,
     pub fault: Option<Fault>,
 }
 
@@ -335,37 +346,143 @@ fn with_func(
     }
 }
 
-/// The functions of a package, one after the other.
-pub fn check_functions(
+/// The type of a package variable of which this is known.
+fn type_or_int(known: Option<Fixed>) -> ValueType
+    ensures { result ≡ type_or_int known }
+{
+    match known {
+        Some(known) => constant_type(known),
+        None => ValueType::Int,
+    }
+}
+
+fn int_in(constant: Constant) -> i64
+    ensures { result ≡ int_in constant }
+{
+    match constant {
+        Constant::Number(value) => match int_constant(value) {
+            Some(value) => value,
+            None => 0,
+        },
+        Constant::Truth(_) => 0,
+    }
+}
+
+fn truth_in(constant: Constant) -> bool
+    ensures { result ≡ truth_in constant }
+{
+    match constant {
+        Constant::Number(_) => false,
+        Constant::Truth(value) => value,
+    }
+}
+
+/// What a variable of a type begins with: the constant that its value gives, or else the zero value.
+fn first_value(value_type: ValueType, initial: Option<Fixed>) -> Const
+    ensures { value_of result ≡ first_value value_type initial }
+{
+    match (value_type, initial) {
+        (ValueType::Int, None) => Const::Int(0),
+        (ValueType::Int, Some(fixed)) => Const::Int(int_in(fixed.value)),
+        (ValueType::Bool, None) => Const::Bool(false),
+        (ValueType::Bool, Some(fixed)) => Const::Bool(truth_in(fixed.value)),
+    }
+}
+
+/// The constant that the value of a variable gives.
+fn initial(
+    alloc: Global,
+    text: &[u8],
+    scope: &Scope,
+    value: Option<&Expr>,
+) -> Result<Option<Fixed>, NoMemory>
+    ensures { IfOk result (λ r. r ≡ initial text.now (scope_of scope.now) (option_map (λ e. ex_of e.now) value.entry)) }
+{
+    match value {
+        Some(value) => {
+            let checked = check_expr(alloc, text, scope, value)?;
+            Ok(constant_in(&checked.gives))
+        }
+        None => Ok(None),
+    }
+}
+
+/// A package variable with a name, which has a site.
+fn check_named(
+    alloc: Global,
+    text: &[u8],
+    scope: &mut Scope,
+    number: ValueId,
+    item: &Item,
+) -> Result<PackageVariable, NoMemory>
+    ensures scope { OnOk result (scope_of scope.new ≡ with_site (scope_of scope.old) (type_or_int (fixed (scope_of scope.old) number.0)) item.now.name.pos) }
+    ensures global { IfOk result (λ g. (types : List ℕ) → global_of types g ≡ (length (scope_of scope.old).sites, first_value (type_or_int (fixed (scope_of scope.old) number.0)) (initial text.now (scope_of scope.old) (item_of item.now).value))) }
+{
+    let value_type = type_or_int(fixed(scope, number));
+    let initial = initial(alloc, text, scope, item.value)?;
+    let site = next_site(scope)?;
+    add_site(scope, value_type, item.name.pos)?;
+    Ok(PackageVariable {
+        site,
+        value: Some(first_value(value_type, initial)),
+    })
+}
+
+/// A package variable by its number, behind others.
+fn check_variable(
+    alloc: Global,
+    text: &[u8],
+    scope: &mut Scope,
+    globals: &mut Vec<PackageVariable>,
+    number: ValueId,
+    item: &Item,
+) -> Result<(), NoMemory>
+    ensures scope { OnOk result (scope_of scope.new ≡ behind_variable text.now (scope_of scope.old) number.0 (item_of item.now)) }
+    ensures globals { OnOk result ((types : List ℕ) → map (global_of types) globals.new.items ≡ map (global_of types) globals.old.items ++ globals_of text.now (scope_of scope.old) number.0 (item_of item.now)) }
+{
+    if is_blank(spelled(text, item.name)) {
+        return Ok(());
+    }
+    let global = check_named(alloc, text, scope, number, item)?;
+    globals.push(global)?;
+    Ok(())
+}
+
+/// The functions and the variables of a package, one after the other.
+pub fn check_members(
     alloc: Global,
     text: &[u8],
     heads: &Scope,
     scope: &mut Scope,
-    decls: &[Decl],
-) -> Result<Functions, NoMemory>
+    members: &[Member],
+) -> Result<Members, NoMemory>
     requires { 0 < length scope.old.names }
-    ensures funcs { IfOk result (λ r. option_map (λ v. map func_of v.items) r.funcs ≡ functions text.now (scope_of heads.now) (scope_of scope.old) 0 (functions_in text.now (scope_of heads.now) (declarations_of decls.now))) }
-    ensures places { IfOk result (λ r. AreAt (map (λ f. f.name.pos) (functions_in text.now (scope_of heads.now) (declarations_of decls.now))) (option_map (λ v. v.items) r.funcs)) }
-    ensures fault { IfOk result (λ r. IsLeast (FailsInFunctions text.now (scope_of heads.now) (scope_of scope.old) 0 (functions_in text.now (scope_of heads.now) (declarations_of decls.now))) r.fault) }
-    ensures scope { OnOk result (scope_of scope.new ≡ behind_functions text.now (scope_of heads.now) (scope_of scope.old) (functions_in text.now (scope_of heads.now) (declarations_of decls.now))) }
+    ensures funcs { IfOk result (λ r. option_map (λ v. map func_of v.items) r.funcs ≡ functions text.now (scope_of heads.now) (scope_of scope.old) 0 (member_views members.now)) }
+    ensures globals { IfOk result (λ r. (types : List ℕ) → map (global_of types) r.globals.items ≡ globals text.now (scope_of heads.now) (scope_of scope.old) (member_views members.now)) }
+    ensures places { IfOk result (λ r. AreAt (map (λ f. f.name.pos) (functions_of (member_views members.now))) (option_map (λ v. v.items) r.funcs)) }
+    ensures fault { IfOk result (λ r. IsLeast (FailsInFunctions text.now (scope_of heads.now) (scope_of scope.old) 0 (member_views members.now)) r.fault) }
+    ensures scope { OnOk result (scope_of scope.new ≡ behind_members text.now (scope_of heads.now) (scope_of scope.old) (member_views members.now)) }
 {
     let mut funcs = Some(Vec::new(alloc));
+    let mut globals = Vec::new(alloc);
     let mut fault = None;
     let mut number: usize = 0;
-    for decl in decls {
-        match decl {
-            Decl::Const(_, _) => {}
-            Decl::Var(_, _) => {}
-            Decl::Type(_, _) => {}
-            Decl::Func(f) => {
-                if !is_external(alloc, text, heads, f)? {
-                    let checked = check_function(alloc, text, heads, scope, number, f)?;
-                    funcs = with_func(funcs, checked.func)?;
-                    fault = lesser(fault, checked.fault);
-                    number += 1;
-                }
+    for member in members {
+        match member {
+            Member::Function(f) => {
+                let checked = check_function(alloc, text, heads, scope, number, f)?;
+                funcs = with_func(funcs, checked.func)?;
+                fault = lesser(fault, checked.fault);
+                number += 1;
+            }
+            Member::Variable(value, item) => {
+                check_variable(alloc, text, scope, &mut globals, *value, item)?;
             }
         }
     }
-    Ok(Functions { funcs, fault })
+    Ok(Members {
+        funcs,
+        globals,
+        fault,
+    })
 }

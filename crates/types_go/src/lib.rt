@@ -1,10 +1,10 @@
 //! The types of a tree: the typed program that the rules of the language give it, or the first rule that fails in it.
 //!
-//! First the names of the package are noted and its block is declared, and its constants get their values. Then each function is gone
-//! through once, in the order of the text; its statements are checked one after the other, each in the scope behind those before it. All
-//! rules are looked at, also behind one that failed, but never one whose operands gave nothing; of those that fail the one that stands
-//! first is reported. A form that is left out of the language fails at its first byte. `readInt` and `exit`, which have no body, are no
-//! functions of the typed program.
+//! First the names of the package are noted and its block is declared, its constants get their values and its variables their types. Then
+//! its functions and variables are gone through once, in the order of the text; the statements of a function are checked one after the other,
+//! each in the scope behind those before it. All rules are looked at, also behind one that failed, but never one whose operands gave nothing;
+//! of those that fail the one that stands first is reported. A form that is left out of the language fails at its first byte. `readInt` and
+//! `exit`, which have no body, are no functions of the typed program.
 //!
 //! `specs/Statements` and `specs/Functions` say what a tree gives; `specs/StatementFaults` and `specs/FunctionFaults` which rules fail in it,
 //! and where; heads and statements without statements in them have their own crates, as have expressions. Neither side is made from the
@@ -15,6 +15,7 @@ mod blocks;
 mod checking;
 mod functions;
 mod heads;
+mod members;
 
 pub use checking::check;
 pub use value_types::{Fault, FaultKind, TypeFault};

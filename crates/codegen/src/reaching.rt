@@ -1,0 +1,144 @@
+//! The code that reaches places: local variables in their slots, package variables by their addresses.
+ghost use Rattle.std.specs.Prelude.{◌≡◌, ◌<◌, ◌≤◌, ◌++◌, ◌∷◌, [], OnOk};
+ghost use Rattle.typed.specs.View.{place_of};
+ghost use Rattle.typed.specs.Frames.{far};
+ghost use Rattle.codegen.specs.Frame.{slots_in, IsSmall};
+ghost use Rattle.codegen.specs.Temps.{AddressFits, PlaceFits};
+ghost use Rattle.codegen.specs.Code.{address_code, fetch_code, land_code, read_code, write_code, global_address as address_of_global};
+
+use crate::jumps::put;
+use crate::slots::Frame;
+use base::NoMemory;
+use heap_bump::HEAP_LOW;
+use isa::Instr;
+use typed::Place;
+
+/// The number of instructions that put down the address of a place.
+pub fn address_len(place: Place) -> u32
+    ensures is { result ≡ far (place_of place) }
+    ensures few { result ≤ 1 }
+{
+    match place {
+        Place::Local(_) => 0,
+        Place::Global(_) => 1,
+    }
+}
+
+// The address of a package variable.
+fn global_address(number: u32) -> u64
+    ensures { result ≡ address_of_global number }
+{
+    HEAP_LOW + u64::from(number)
+}
+
+// The address of a place, where it is reached by one, goes to temp h.
+fn emit_address(code: &mut Vec<Instr>, frame: Frame, place: Place, h: u16) -> Result<(), NoMemory>
+    requires temp { AddressFits frame.temps h (place_of place) }
+    requires frame { IsSmall frame }
+    ensures { OnOk result (code.new.items ≡ code.old.items ++ address_code (slots_in frame) (place_of place) h) }
+{
+    match place {
+        Place::Local(_) => {}
+        Place::Global(number) => {
+            let a = frame.temp(h);
+            let word = global_address(number);
+            put(code, Instr::Const { a, word })?;
+        }
+    }
+    Ok(())
+}
+
+// The word of a place goes to temp h; its address, if there is one, is in temp `at`.
+fn emit_fetch(
+    code: &mut Vec<Instr>,
+    frame: Frame,
+    place: Place,
+    at: u16,
+    h: u16,
+) -> Result<(), NoMemory>
+    requires temp { h ≤ frame.temps }
+    requires address { AddressFits frame.temps at (place_of place) }
+    requires place { PlaceFits (slots_in frame) frame.sites (place_of place) }
+    requires frame { IsSmall frame }
+    ensures { OnOk result (code.new.items ≡ code.old.items ++ fetch_code (slots_in frame) (place_of place) at h ∷ []) }
+{
+    let a = frame.temp(h);
+    match place {
+        Place::Local(site) => {
+            let b = frame.of_site(site);
+            put(code, Instr::Move { a, b })?;
+        }
+        Place::Global(_) => {
+            let b = frame.temp(at);
+            put(code, Instr::Load { a, b, off: 0, n: 1 })?;
+        }
+    }
+    Ok(())
+}
+
+// A place gets the word of temp h; its address, if there is one, is in temp `at`.
+fn emit_land(
+    code: &mut Vec<Instr>,
+    frame: Frame,
+    place: Place,
+    at: u16,
+    h: u16,
+) -> Result<(), NoMemory>
+    requires temp { h ≤ frame.temps }
+    requires address { AddressFits frame.temps at (place_of place) }
+    requires place { PlaceFits (slots_in frame) frame.sites (place_of place) }
+    requires frame { IsSmall frame }
+    ensures { OnOk result (code.new.items ≡ code.old.items ++ land_code (slots_in frame) (place_of place) at h ∷ []) }
+{
+    let value = frame.temp(h);
+    match place {
+        Place::Local(site) => {
+            let a = frame.of_site(site);
+            put(code, Instr::Move { a, b: value })?;
+        }
+        Place::Global(_) => {
+            let a = frame.temp(at);
+            put(
+                code,
+                Instr::Store {
+                    a,
+                    off: 0,
+                    c: value,
+                    n: 1,
+                },
+            )?;
+        }
+    }
+    Ok(())
+}
+
+/// The value of a place goes to temp h.
+pub fn emit_read(code: &mut Vec<Instr>, frame: Frame, place: Place, h: u16) -> Result<(), NoMemory>
+    requires temp { h < frame.temps }
+    requires place { PlaceFits (slots_in frame) frame.sites (place_of place) }
+    requires frame { IsSmall frame }
+    ensures { OnOk result (code.new.items ≡ code.old.items ++ read_code (slots_in frame) (place_of place) h) }
+{
+    emit_address(code, frame, place, h)?;
+    emit_fetch(code, frame, place, h, h)?;
+    Ok(())
+}
+
+/// A place gets the value in temp h; its address, if there is one, goes to temp `at`.
+pub fn emit_write(
+    code: &mut Vec<Instr>,
+    frame: Frame,
+    place: Place,
+    at: u16,
+    h: u16,
+) -> Result<(), NoMemory>
+    requires temp { h ≤ frame.temps }
+    requires address { AddressFits frame.temps at (place_of place) }
+    requires place { PlaceFits (slots_in frame) frame.sites (place_of place) }
+    requires frame { IsSmall frame }
+    ensures { OnOk result (code.new.items ≡ code.old.items ++ write_code (slots_in frame) (place_of place) at h) }
+{
+    emit_address(code, frame, place, at)?;
+    emit_land(code, frame, place, at, h)?;
+    Ok(())
+}

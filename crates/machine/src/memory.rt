@@ -1,0 +1,188 @@
+//! Memory that is reached by addresses: the heap's words that are taken, and the stack from the running frame on.
+ghost use Rattle.std.specs.Prelude.{◌≡◌, ◌≢◌, ℕ, ◌+◌, ◌<◌, ◌≤◌, ◌^◌, ◌&&◌, nat_le, length, drop, slice_index, Some, None};
+ghost use Rattle.heap_bump.specs.Words.{Words};
+ghost use Rattle.machine.specs.Machine.{words_at, lie_within, address_behind, spot_of, loads_from, loads, stores_at, stores};
+ghost use Rattle.machine.specs.Inside.{Reached};
+ghost use Rattle.machine.specs.Answers.{Comes, StatusFits, state_of, touched};
+
+use crate::links::address;
+use crate::slots::{copy_slots, set_slots, slot, slots};
+use crate::{Ending, Next, Panic, Place};
+use heap_bump::{HEAP_LOW, Heap};
+
+/// Where words lie: in the heap from an index on, counted from its lowest word, in the stack from an index on, counted from
+/// the running frame's lowest word, or nowhere.
+#[derive(Clone, Copy, Debug, PartialEq, Eq)]
+pub enum Spot {
+    InHeap(usize),
+    InStack(usize),
+    Nowhere,
+}
+
+// Whether so many words from an address on lie from one address up to another.
+#[inline(always)]
+fn lie_within(low: u64, high: u64, at: u64, n: u64) -> bool
+    requires { low ≤ high }
+    ensures { result ≡ lie_within low high at n }
+{
+    low <= at && at <= high && n <= high - at
+}
+
+// Where so many words from an address on lie.
+#[inline(always)]
+fn find(heap: &Heap, words: &Vec<u64>, stack_max: u64, base: usize, at: u64, n: u16) -> Spot
+    requires { (base ≤ length words.now.items) × (length words.now.items ≤ stack_max) × (stack_max ≤ 2 ^ 32) }
+    ensures is { result ≡ spot_of stack_max heap.now.words (drop base words.now.items) at n }
+    ensures reached { Reached heap.now.words (length words.now.items) base at n result }
+{
+    if lie_within(HEAP_LOW, HEAP_LOW + heap.used(), at, n as u64) {
+        return Spot::InHeap((at - HEAP_LOW) as usize);
+    }
+    let low = address(stack_max, words.len() - base);
+    if lie_within(low, address(stack_max, 0), at, n as u64) {
+        return Spot::InStack((at - low) as usize);
+    }
+    Spot::Nowhere
+}
+
+// The address that lies so far behind the word of a slot, unless that is 0.
+#[inline(always)]
+fn address_behind(words: &Vec<u64>, base: usize, a: u16, off: u16) -> Option<u64>
+    requires { base + a < length words.now.items }
+    ensures { result ≡ address_behind (slice_index (drop base words.now.items) a) off }
+{
+    let word = slot(words, base, a as usize);
+    if word == 0 {
+        return None;
+    }
+    Some(word.wrapping_add(off as u64))
+}
+
+// The slots from a on get so many words from an address on, or they lie nowhere. It stands out of line, so that the other
+// instructions keep their registers.
+#[inline(never)]
+fn load_words(
+    words: &mut Vec<u64>,
+    stack_max: u64,
+    heap: &Heap,
+    base: usize,
+    a: u16,
+    at: u64,
+    n: u16,
+) -> bool
+    requires words { (length words.old.items ≤ stack_max) × (stack_max ≤ 2 ^ 32) }
+    requires slots { base + (a + n) ≤ length words.old.items }
+    ensures loads { (pc reads : ℕ) → loads_from (spot_of stack_max heap.now.words (drop base words.old.items) at n) (state_of words.old.items (record { pc = pc; base = base }) reads heap.now) a n at
+        ≡ touched result (state_of words.new.items (record { pc = pc + 1; base = base }) reads heap.now) at }
+    ensures length { length words.new.items ≡ length words.old.items }
+{
+    match find(heap, words, stack_max, base, at, n) {
+        Spot::InHeap(_) => {
+            set_slots(words, base, a as usize, heap.words(at, n as usize));
+            true
+        }
+        Spot::InStack(index) => {
+            copy_slots(words, base, index, a as usize, n as usize);
+            true
+        }
+        Spot::Nowhere => false,
+    }
+}
+
+// The words from an address on get those of so many slots from c on, or they lie nowhere.
+#[inline(never)]
+fn store_words(
+    words: &mut Vec<u64>,
+    stack_max: u64,
+    heap: &mut Heap,
+    base: usize,
+    at: u64,
+    c: u16,
+    n: u16,
+) -> bool
+    requires words { (length words.old.items ≤ stack_max) × (stack_max ≤ 2 ^ 32) }
+    requires slots { base + (c + n) ≤ length words.old.items }
+    ensures stores { (pc reads : ℕ) → stores_at (spot_of stack_max heap.old.words (drop base words.old.items) at n) (state_of words.old.items (record { pc = pc; base = base }) reads heap.old) (words_at (drop base words.old.items) c n) at
+        ≡ touched result (state_of words.new.items (record { pc = pc + 1; base = base }) reads heap.new) at }
+    ensures length { length words.new.items ≡ length words.old.items }
+{
+    match find(heap, words, stack_max, base, at, n) {
+        Spot::InHeap(_) => {
+            heap.put(at, slots(words, base, c as usize, n as usize));
+            true
+        }
+        Spot::InStack(index) => {
+            copy_slots(words, base, c as usize, index, n as usize);
+            true
+        }
+        Spot::Nowhere => false,
+    }
+}
+
+/// The slots from a on get the n words that lie off behind the word of slot b.
+#[inline(always)]
+pub fn load(
+    words: &mut Vec<u64>,
+    stack_max: u64,
+    heap: &Heap,
+    at: Place,
+    a: u16,
+    b: u16,
+    off: u16,
+    n: u16,
+) -> Next
+    requires words { (length words.old.items ≤ stack_max) × (stack_max ≤ 2 ^ 32) }
+    requires slots { (at.base + (a + n) ≤ length words.old.items) × (at.base + b < length words.old.items) }
+    requires place { at.pc < 2 ^ 40 }
+    ensures loads { (reads : ℕ) → Comes (loads stack_max (state_of words.old.items at reads heap.now) a b off n) (state_of words.new.items result.at reads heap.now) result.ending }
+    ensures on { result.ending ≡ None → result.at ≡ record { pc = at.pc + 1; base = at.base } }
+    ensures length { length words.new.items ≡ length words.old.items }
+    ensures status { StatusFits result.ending }
+    ensures memory { result.ending ≢ Some Ending.NoMemory }
+    ensures read { result.ending ≢ Some Ending.ReadFault }
+{
+    match address_behind(words, at.base, b, off) {
+        None => Next::ended(at, Ending::Panic(Panic::NilPointer)),
+        Some(address) => {
+            if load_words(words, stack_max, heap, at.base, a, address, n) {
+                Next::on(at)
+            } else {
+                Next::ended(at, Ending::WildAddress(address))
+            }
+        }
+    }
+}
+
+/// The n words that lie off behind the word of slot a get those of the slots from c on.
+#[inline(always)]
+pub fn store(
+    words: &mut Vec<u64>,
+    stack_max: u64,
+    heap: &mut Heap,
+    at: Place,
+    a: u16,
+    off: u16,
+    c: u16,
+    n: u16,
+) -> Next
+    requires words { (length words.old.items ≤ stack_max) × (stack_max ≤ 2 ^ 32) }
+    requires slots { (at.base + a < length words.old.items) × (at.base + (c + n) ≤ length words.old.items) }
+    requires place { at.pc < 2 ^ 40 }
+    ensures stores { (reads : ℕ) → Comes (stores stack_max (state_of words.old.items at reads heap.old) a off c n) (state_of words.new.items result.at reads heap.new) result.ending }
+    ensures on { result.ending ≡ None → result.at ≡ record { pc = at.pc + 1; base = at.base } }
+    ensures length { length words.new.items ≡ length words.old.items }
+    ensures status { StatusFits result.ending }
+    ensures memory { result.ending ≢ Some Ending.NoMemory }
+    ensures read { result.ending ≢ Some Ending.ReadFault }
+{
+    match address_behind(words, at.base, a, off) {
+        None => Next::ended(at, Ending::Panic(Panic::NilPointer)),
+        Some(address) => {
+            if store_words(words, stack_max, heap, at.base, address, c, n) {
+                Next::on(at)
+            } else {
+                Next::ended(at, Ending::WildAddress(address))
+            }
+        }
+    }
+}

@@ -1,9 +1,0 @@
-pub mod AllKnown
-pub mod Constants
-pub mod Giving
-pub mod Growth
-pub mod Leaving
-pub mod Least
-pub mod Rules
-pub mod Same
-pub mod Walks

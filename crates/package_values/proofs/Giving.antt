@@ -1,0 +1,277 @@
+-- What expressions, constants and variables give where more is known of these.
+use Rattle.std.proofs.Common.{◌≡◌, ℕ, zero, suc, ◌+◌, Bool, true, false, List, [], ◌∷◌, Option, Some, None, refl, sym, ap, ◌∙◌, subst, arith, length}
+use Rattle.std.specs.Prelude.{slice_get, slice_set, option_and_then, ◌==◌, ◌&&◌}
+use Rattle.std.proofs.lemmas.Bool.{eqb-true}
+use Rattle.std.specs.Option.{option_map}
+use Rattle.base.specs.declared.pos.Pos.{Pos}
+use Rattle.syntax.specs.declared.operator.BinOp.{BinOp}
+use Rattle.syntax.specs.declared.operator.UnOp.{UnOp}
+use Rattle.syntax.specs.FirstBytes.{first_place}
+use Rattle.syntax.specs.declared.expression.Name.{Name}
+use Rattle.syntax.specs.Expressions as tree
+use Rattle.syntax.specs.Expressions.{Ex as TreeEx, Exs as TreeExs, some, number, string, name, unary, binary, paren, call, selector, index, slice, array_type, slice_type, literal, elements, spelled}
+use Rattle.typed.specs.Syntax.{Exs}
+use Rattle.value_types.specs.declared.constant.Fixed.{Fixed}
+use Rattle.value_types.specs.declared.value_type.ValueType.{ValueType}
+use Rattle.value_types.specs.declared.value_type.ValueType.TheVariants.{Int, Bool as Boolean}
+use Rattle.value_types.specs.Given.{allowed}
+use Rattle.value_types.specs.Constants.{same_type, constant_type, is_held, holds}
+use Rattle.value_types.proofs.Options.{and_then_some, map_some, none_some, same_some}
+use Rattle.operators.specs.Operands.{Operand, constant, value, type_of}
+use Rattle.operators.specs.Operators.{has_rules}
+use Rattle.operators.proofs.Held.{IsHeld}
+use Rattle.names.specs.declared.scope.Declared.{Declared}
+use Rattle.names.specs.declared.scope.Declared.TheVariants as declared
+use Rattle.names.specs.Scope.{Scope, declaration}
+use Rattle.names.specs.Naming.{name_in}
+use Rattle.names.specs.Types.{type_in}
+use Rattle.expression_types.specs.Typing.{Gives, one, called, asking, printed, global_read, name_operand, prefix_gives, pair_gives, single, operand_in, value_in, part_in, Seen, listed, values, parts, type_in_one, Many, many_in, many, types_with, value_types, values_agree, each, fits_with, fits, all_values, taken, Callee, printer, panicker, reader, exiter, function, conversion, no_function, no_spread, no_text_spread, nothing, callee_value, callee_declared, exit_places, panicked_with, exited_with, called_with, spread_over, callee, gives, seen}
+use Rattle.expression_types.proofs.Held.{operand_held}
+use Rattle.package_values.specs.declared.items.Role.{Role}
+use Rattle.package_values.specs.declared.items.Role.TheVariants as role
+use Rattle.package_values.specs.Values.{Item, as_constant, constant_in, with_type, zero_of, accepted, given_by, initial_type, variable_type, given_as, given, look, looks}
+use Rattle.package_values.proofs.Growth.{known, Within, renewed, rounds}
+
+-- a scope with these constants
+abbrev pub holding : Scope → List (Option Fixed) → Scope
+holding s cs = record { blocks = s.blocks; declared = s.declared; sites = s.sites; signatures = s.signatures; values = cs; globals = s.globals; strings = s.strings }
+
+-- ---- what is given stays so where more is known
+
+-- an operand that is called gives nothing
+no_value_call : (at : Pos) (spread : Bool) (o : Option Operand) (os : List Seen) (g : Gives) → called_with at (spread_over spread (callee_value o)) os ≡ Some g → ⊥
+no_value_call at false None os g h = none_some h
+no_value_call at true None os g h = none_some h
+no_value_call at false (Some x) os g h = none_some h
+no_value_call at true (Some x) os g h = none_some h
+
+pub a_constant : (o : Option Operand) (f : Fixed) → option_and_then as_constant o ≡ Some f → o ≡ Some (constant f)
+a_constant None f h = absurd (none_some h)
+a_constant (Some (constant g)) f h = ap (λ (x : Fixed). Some (constant x)) (same_some h)
+a_constant (Some (value t x)) f h = absurd (none_some h)
+
+prefix_still : (op : UnOp) (b : Bool) (x y : Option Operand) → ((a : Operand) → x ≡ Some a → y ≡ Some a) → (g : Gives) → prefix_gives op b x ≡ Some g → prefix_gives op b y ≡ Some g
+prefix_still op false x y still g h = h
+prefix_still op true None y still g h = absurd (none_some h)
+prefix_still op true (Some a) y still g h = subst (λ (o : Option Operand). prefix_gives op true o ≡ Some g) (sym (still a refl)) h
+
+pair_still : (at : Pos) (op : BinOp) (x y u v : Option Operand) → ((a : Operand) → x ≡ Some a → u ≡ Some a) → ((a : Operand) → y ≡ Some a → v ≡ Some a) → (g : Gives) → pair_gives at op x y ≡ Some g → pair_gives at op u v ≡ Some g
+pair_still at op None y u v s1 s2 g h = absurd (none_some h)
+pair_still at op (Some a) None u v s1 s2 g h = absurd (none_some h)
+pair_still at op (Some a) (Some b) u v s1 s2 g h =
+    subst (λ (o : Option Operand). pair_gives at op o v ≡ Some g) (sym (s1 a refl)) (subst (λ (o : Option Operand). pair_gives at op (Some a) o ≡ Some g) (sym (s2 b refl)) h)
+
+-- ---- expressions that all give something
+
+abbrev AllGive : List Seen → Type 0
+AllGive [] = Unit {0}
+AllGive (o ∷ os) = ((g : Gives) × (o.gives ≡ Some g)) × AllGive os
+
+there_is : {A : Type 0} (k : Option Gives → Option A) → k None ≡ None → (o : Option Gives) (x : A) → k o ≡ Some x → (g : Gives) × (o ≡ Some g)
+there_is k none_is None x h = absurd (none_some (sym none_is ∙ h))
+there_is k none_is (Some g) x h = (g, refl)
+
+listed_give : {A : Type 0} (k : Option Gives → Option A) → k None ≡ None → (os : List Seen) (xs : List A) → listed k os ≡ Some xs → AllGive os
+listed_give k none_is [] xs h = tt
+listed_give k none_is (o ∷ os) xs h =
+    let p = and_then_some (λ x. option_map (λ ys. x ∷ ys) (listed k os)) (k o.gives) xs h in
+    let q = map_some (λ ys. p.0 ∷ ys) (listed k os) xs p.2 in
+    (there_is k none_is o.gives p.0 p.1, listed_give k none_is os q.0 q.1)
+
+many_give : (os : List Seen) (m : Many) → many os ≡ Some m → AllGive os
+many_give [] m h = tt
+many_give (o ∷ []) m h = (there_is many_in refl o.gives m h, tt)
+many_give (o ∷ q ∷ os) m h = absurd (none_some h)
+
+values_give : (os : List Seen) (o : Option Many) (x : Exs) → many os ≡ o → all_values os o ≡ Some x → AllGive os
+values_give os None x is h = let p = map_some each (values os) x h in listed_give value_in refl os p.0 p.1
+values_give os (Some m) x is h = many_give os m is
+
+types_give : (os : List Seen) (o : Option Many) (ts : List ValueType) → many os ≡ o → types_with os o ≡ Some ts → AllGive os
+types_give os None ts is h = listed_give type_in_one refl os ts h
+types_give os (Some m) ts is h = many_give os m is
+
+first_true : (a b : Bool) → (a && b) ≡ true → a ≡ true
+first_true true b h = refl
+first_true false b h = h
+
+no_places : (os : List Seen) (o : Option Many) → many os ≡ o → fits_with [] os o ≡ true → AllGive os
+no_places [] o is h = tt
+no_places (x ∷ os) None is h = let z = eqb-true (length (x ∷ os)) 0 (first_true (length (x ∷ os) == 0) (values_agree [] (x ∷ os)) h) in absurd (omega (arith, z))
+no_places os (Some m) is h = many_give os m is
+
+allowed_gives : {A : Type 0} (b : Bool) (o : Option A) (x : A) → allowed b o ≡ Some x → (b ≡ true) × (o ≡ Some x)
+allowed_gives true o x h = (refl, h)
+allowed_gives false o x h = absurd (none_some h)
+
+-- what a call gives rests on arguments that all give something
+call_gives : (at : Pos) (k : Callee) (os : List Seen) (g : Gives) → called_with at k os ≡ Some g → AllGive os
+call_gives at (printer line) os g h = let p = map_some (printed at line) (parts os) g h in listed_give part_in refl os p.0 p.1
+call_gives at panicker os g h = let p = and_then_some (panicked_with at) (parts os) g h in listed_give part_in refl os p.0 p.1
+call_gives at reader os g h = no_places os (many os) refl (allowed_gives (fits [] os) (Some (asking at)) g h).0
+call_gives at exiter os g h =
+    let p = and_then_some (exited_with at) (allowed (fits exit_places os) (values os)) g h in
+    let q = allowed_gives (fits exit_places os) (values os) p.0 p.1 in
+    listed_give value_in refl os p.0 q.1
+call_gives at (function f ps ts) os g h =
+    let p = map_some (called at ts f) (taken ps os) g h in
+    let q = allowed_gives (fits ps os) (all_values os (many os)) p.0 p.1 in
+    values_give os (many os) p.0 refl q.1
+call_gives at conversion os g h = absurd (none_some h)
+call_gives at no_function os g h = absurd (none_some h)
+call_gives at no_spread os g h = absurd (none_some h)
+call_gives at no_text_spread os g h = absurd (none_some h)
+call_gives at nothing os g h = absurd (none_some h)
+
+module _ (text : List ℕ) (s : Scope) where
+  abbrev pub give : List (Option Fixed) → Item → Option Fixed
+  give cs i = given text (holding s cs) i
+
+  pub type_same : (cs ds : List (Option Fixed)) (e : TreeEx) → type_in text (holding s cs) e ≡ type_in text (holding s ds) e
+  type_same cs ds (name n) = refl
+  type_same cs ds (paren at e) = type_same cs ds e
+  type_same cs ds e = refl
+
+  module _ (cs ds : List (Option Fixed)) (within : Within cs ds) where
+    known_still : {A : Type 0} (h : Fixed → A) (k : ℕ) (x : A) → option_map h (known cs k) ≡ Some x → option_map h (known ds k) ≡ Some x
+    known_still h k x is = let p = map_some h (known cs k) x is in ap (option_map h) (within k p.0 p.1) ∙ ap Some p.2
+
+    name_still : (d : Option Declared) (x : Operand) → name_operand (holding s cs) d ≡ Some x → name_operand (holding s ds) d ≡ Some x
+    name_still (Some (declared.Constant k)) x h = known_still constant k.0 x h
+    name_still (Some (declared.Global k g)) x h = known_still (global_read g.0) k.0 x h
+    name_still d x h = h
+
+    -- what is called is the same, where the call gives something
+    declared_still : (at : Pos) (spread : Bool) (d : Option Declared) (os : List Seen) (g : Gives) → called_with at (spread_over spread (callee_declared (holding s cs) d)) os ≡ Some g
+        → callee_declared (holding s cs) d ≡ callee_declared (holding s ds) d
+    declared_still at spread (Some (declared.Constant k)) os g h = absurd (no_value_call at spread (option_map constant (known cs k.0)) os g h)
+    declared_still at spread (Some (declared.Global k j)) os g h = absurd (no_value_call at spread (option_map (global_read j.0) (known cs k.0)) os g h)
+    declared_still at spread d os g h = refl
+
+    callee_still : (at : Pos) (spread : Bool) (o : Option Name) (x y : Option Gives) (os : List Seen) (g : Gives) → called_with at (spread_over spread (callee text (holding s cs) o x)) os ≡ Some g
+        → callee text (holding s cs) o x ≡ callee text (holding s ds) o y
+    callee_still at spread None x y os g h = absurd (no_value_call at spread (operand_in x) os g h)
+    callee_still at spread (Some n) x y os g h = declared_still at spread (declaration s (spelled text n)) os g h
+
+    mutual
+      pub gives_still : (e : TreeEx) (g : Gives) → gives text (holding s cs) e ≡ Some g → gives text (holding s ds) e ≡ Some g
+      gives_still (number at n) g h = h
+      gives_still (string at behind) g h = h
+      gives_still (name n) g h =
+          let d = declaration s (spelled text n) in
+          let p = map_some one (name_operand (holding s cs) d) g h in ap (option_map one) (name_still d p.0 p.1) ∙ ap Some p.2
+      gives_still (unary at op e) g h =
+          prefix_still op (has_rules op) (operand_in (gives text (holding s cs) e)) (operand_in (gives text (holding s ds) e))
+          (λ x k. let p = and_then_some single (gives text (holding s cs) e) x k in ap operand_in (gives_still e p.0 p.1) ∙ p.2) g h
+      gives_still (binary at op a b) g h =
+          pair_still (first_place a) op (operand_in (gives text (holding s cs) a)) (operand_in (gives text (holding s cs) b)) (operand_in (gives text (holding s ds) a)) (operand_in (gives text (holding s ds) b))
+          (λ x k. let p = and_then_some single (gives text (holding s cs) a) x k in ap operand_in (gives_still a p.0 p.1) ∙ p.2)
+          (λ x k. let p = and_then_some single (gives text (holding s cs) b) x k in ap operand_in (gives_still b p.0 p.1) ∙ p.2) g h
+      gives_still (paren at e) g h = gives_still e g h
+      gives_still (call f es spread) g h =
+          let k = callee text (holding s cs) (name_in f) (gives text (holding s cs) f) in
+          let os = seen text (holding s cs) es in
+          let k_is : k ≡ callee text (holding s ds) (name_in f) (gives text (holding s ds) f) =
+          callee_still (first_place f) spread (name_in f) (gives text (holding s cs) f) (gives text (holding s ds) f) os g h in
+          let os_is : os ≡ seen text (holding s ds) es = seen_still es (call_gives (first_place f) (spread_over spread k) os g h) in
+          sym (ap (λ (x : Callee). called_with (first_place f) (spread_over spread x) os) k_is
+          ∙ ap (λ (l : List Seen). called_with (first_place f) (spread_over spread (callee text (holding s ds) (name_in f) (gives text (holding s ds) f))) l) os_is) ∙ h
+      gives_still (selector e at n) g h = h
+      gives_still (index e at i) g h = h
+      gives_still (slice e at low high) g h = h
+      gives_still (array_type at len e) g h = h
+      gives_still (slice_type at e) g h = h
+      gives_still (literal e es) g h = h
+      gives_still (elements at es) g h = h
+
+      pub seen_still : (es : TreeExs) → AllGive (seen text (holding s cs) es) → seen text (holding s cs) es ≡ seen text (holding s ds) es
+      seen_still tree.none all = refl
+      seen_still (some e es) all =
+          ap (λ (o : Option Gives). record { at = first_place e; gives = o } ∷ seen text (holding s cs) es) (all.0.1 ∙ sym (gives_still e all.0.0 all.0.1))
+          ∙ ap (λ (os : List Seen). record { at = first_place e; gives = gives text (holding s ds) e } ∷ os) (seen_still es all.1)
+
+    operand_still : (e : TreeEx) (x : Operand) → operand_in (gives text (holding s cs) e) ≡ Some x → operand_in (gives text (holding s ds) e) ≡ Some x
+    operand_still e x h = let p = and_then_some single (gives text (holding s cs) e) x h in ap operand_in (gives_still e p.0 p.1) ∙ p.2
+
+    accepted_same : (t : Option TreeEx) (c : Fixed) → accepted text (holding s cs) t c ≡ accepted text (holding s ds) t c
+    accepted_same None c = refl
+    accepted_same (Some e) c = ap (option_and_then (λ t. with_type t c)) (type_same cs ds e)
+
+    given_still : (t v : Option TreeEx) (f : Fixed) → given_by text (holding s cs) t v ≡ Some f → given_by text (holding s ds) t v ≡ Some f
+    given_still t None f h = absurd (none_some h)
+    given_still t (Some e) f h =
+        let p = and_then_some (accepted text (holding s cs) t) (constant_in (gives text (holding s cs) e)) f h in
+        let q = and_then_some as_constant (operand_in (gives text (holding s cs) e)) p.0 p.1 in
+        ap (option_and_then (accepted text (holding s ds) t)) (ap (option_and_then as_constant) (operand_still e q.0 q.1) ∙ q.2) ∙ sym (accepted_same t p.0) ∙ p.2
+
+    initial_still : (v : Option TreeEx) (es : TreeExs) (k : ℕ) (t : ValueType) → initial_type text (holding s cs) v es k ≡ Some t → initial_type text (holding s ds) v es k ≡ Some t
+    initial_still (Some e) es k t h = let p = map_some type_of (operand_in (gives text (holding s cs) e)) t h in ap (option_map type_of) (operand_still e p.0 p.1) ∙ ap Some p.2
+    initial_still None es k t h =
+        let os = seen text (holding s cs) es in
+        let p = and_then_some (λ ts. slice_get ts k) (value_types os) t h in
+        ap (λ (l : List Seen). option_and_then (λ ts. slice_get ts k) (value_types l)) (sym (seen_still es (types_give os (many os) p.0 refl p.1))) ∙ h
+
+    variable_still : (t v : Option TreeEx) (es : TreeExs) (k : ℕ) (u : ValueType) → variable_type text (holding s cs) t v es k ≡ Some u → variable_type text (holding s ds) t v es k ≡ Some u
+    variable_still (Some e) v es k u h = sym (type_same cs ds e) ∙ h
+    variable_still None v es k u h = initial_still v es k u h
+
+    still_as : (r : Role) (i : Item) (f : Fixed) → given_as text r (holding s cs) i ≡ Some f → given_as text r (holding s ds) i ≡ Some f
+    still_as role.Constant i f h = given_still i.type_expr i.value f h
+    still_as role.Variable i f h =
+        let p = map_some zero_of (variable_type text (holding s cs) i.type_expr i.value i.values i.place) f h in
+        ap (option_map zero_of) (variable_still i.type_expr i.value i.values i.place p.0 p.1) ∙ ap Some p.2
+
+  pub monotone : (cs ds : List (Option Fixed)) → Within cs ds → (i : Item) (f : Fixed) → give cs i ≡ Some f → give ds i ≡ Some f
+  monotone cs ds within i f h = still_as cs ds within i.role i f h
+
+  -- ---- what is given is held by its type
+
+  abbrev AreHeld : List (Option Fixed) → Type 0
+  AreHeld cs = (k : ℕ) (f : Fixed) → known cs k ≡ Some f → is_held f.value_type f.value ≡ true
+
+  name_held : (cs : List (Option Fixed)) → AreHeld cs → (d : Option Declared) (x : Operand) → name_operand (holding s cs) d ≡ Some x → IsHeld x
+  name_held cs held (Some (declared.Constant k)) x is = let p = map_some constant (known cs k.0) x is in subst IsHeld p.2 (held k.0 p.0 p.1)
+  name_held cs held (Some (declared.Global k g)) x is = let p = map_some (global_read g.0) (known cs k.0) x is in subst IsHeld p.2 tt
+  name_held cs held (Some (declared.Variable site t)) x is = subst IsHeld (same_some is) tt
+  name_held cs held (Some (declared.Truth b)) x is = subst IsHeld (same_some is) refl
+  name_held cs held d x is = absurd (none_some is)
+
+  typed_held : (t : ValueType) (c f : Fixed) → with_type t c ≡ Some f → is_held f.value_type f.value ≡ true
+  typed_held t c f is = by (same_type t (constant_type c.value_type c.value)) (holds t c.value) refl is
+    where
+      by : (a h : Bool) → holds t c.value ≡ h → allowed (a && h) (Some (record { value_type = Some t; value = c.value })) ≡ Some f → is_held f.value_type f.value ≡ true
+      by true true e is1 = subst (λ (g : Fixed). is_held g.value_type g.value ≡ true) (same_some is1) e
+      by true false e is1 = absurd (none_some is1)
+      by false h e is1 = absurd (none_some is1)
+
+  accepted_held : (cs : List (Option Fixed)) (t : Option TreeEx) (c f : Fixed) → is_held c.value_type c.value ≡ true → accepted text (holding s cs) t c ≡ Some f → is_held f.value_type f.value ≡ true
+  accepted_held cs None c f held is = subst (λ (g : Fixed). is_held g.value_type g.value ≡ true) (same_some is) held
+  accepted_held cs (Some e) c f held is = let p = and_then_some (λ t. with_type t c) (type_in text (holding s cs) e) f is in typed_held p.0 c f p.2
+
+  by_value : (cs : List (Option Fixed)) → AreHeld cs → (t v : Option TreeEx) (f : Fixed) → given_by text (holding s cs) t v ≡ Some f → is_held f.value_type f.value ≡ true
+  by_value cs held t None f is = absurd (none_some is)
+  by_value cs held t (Some e) f is =
+      let p = and_then_some (accepted text (holding s cs) t) (constant_in (gives text (holding s cs) e)) f is in
+      accepted_held cs t p.0 f (operand_held text (holding s cs) (λ n x h. name_held cs held (declaration s n) x h) e (constant p.0) (a_constant (operand_in (gives text (holding s cs) e)) p.0 p.1)) p.2
+
+  zero_held : (t : ValueType) → is_held (zero_of t).value_type (zero_of t).value ≡ true
+  zero_held Int = refl
+  zero_held Boolean = refl
+
+  held_as : (cs : List (Option Fixed)) → AreHeld cs → (r : Role) (i : Item) (f : Fixed) → given_as text r (holding s cs) i ≡ Some f → is_held f.value_type f.value ≡ true
+  held_as cs held role.Constant i f is = by_value cs held i.type_expr i.value f is
+  held_as cs held role.Variable i f is =
+      let p = map_some zero_of (variable_type text (holding s cs) i.type_expr i.value i.values i.place) f is in
+      subst (λ (g : Fixed). is_held g.value_type g.value ≡ true) p.2 (zero_held p.0)
+
+  pub given_held : (cs : List (Option Fixed)) → AreHeld cs → (i : Item) (f : Fixed) → give cs i ≡ Some f → is_held f.value_type f.value ≡ true
+  given_held cs held i f is = held_as cs held i.role i f is
+
+  -- looks change the constants alone
+  pub look_is : (k : ℕ) (cs : List (Option Fixed)) (is : List Item) → look text k (holding s cs) is ≡ holding s (renewed give monotone k cs is)
+  look_is k cs [] = refl
+  look_is k cs (i ∷ is) = look_is (1 + k) (slice_set cs k (give cs i)) is
+
+  pub looks_are : (n : ℕ) (cs : List (Option Fixed)) (is : List Item) → looks text n (holding s cs) is ≡ holding s (rounds give monotone n cs is)
+  looks_are zero cs is = refl
+  looks_are (suc n) cs is = ap (λ (r : Scope). looks text n r is) (look_is 0 cs is) ∙ looks_are n (renewed give monotone 0 cs is) is

@@ -1,0 +1,9 @@
+pub mod AllKnown
+pub mod ItemLists
+pub mod Giving
+pub mod Growth
+pub mod Leaving
+pub mod Least
+pub mod Rules
+pub mod Same
+pub mod Walks

@@ -1,0 +1,37 @@
+use Rattle.std.proofs.Common.{◌≡◌, [], ◌∷◌, ◌+◌, List, drop, ◌⊎◌, subst, arith}
+use Rattle.syntax.specs.declared.declaration.Decl.{Decl}
+use Rattle.syntax.specs.Declarations.{declaration_of, declarations_of}
+use Rattle.value_types.proofs.Leasts.{Kept, kept_start, kept_more, kept_end}
+use Rattle.names.specs.Scope.{scope_of}
+use Rattle.value_types.proofs.Lists.{from_one, nothing_left}
+use Rattle.package_values.specs.ValueFaults.{DeclarationsFail}
+use Rattle.package_values.specs.Passing.{DeclarationFails}
+use Rattle.package_values.proofs.Rules.{kept_as, to_one, of_one}
+use Rattle.package_values.proofs.faults.declarations_fault.Goals as goal
+
+pub loop-decl-init : goal.loop-decl-init
+loop-decl-init c = kept_start _
+
+pub loop-decl-preserved : goal.loop-decl-preserved
+loop-decl-preserved c =
+    let text = c.args.text.now in
+    let s = scope_of c.args.scope.now in
+    let xs = c.args.decls.now in
+    let k = c.loop-decl.decl-index in
+    let x : Decl = c.decl-item.result in
+    let d = declaration_of x in
+    let rest = declarations_of (drop (k + 1) xs) in
+    let all = DeclarationsFail text s (declarations_of xs) in
+    let here : drop k xs ≡ x ∷ drop (k + 1) xs = from_one xs k x c.loop-decl-test.true c.decl-item.is in
+    let kept = subst (λ (l : List Decl). Kept all (DeclarationsFail text s (declarations_of l)) c.loop-decl.fault) here c.loop-decl.invariant in
+    let split = kept_as all (DeclarationsFail text s (declarations_of (x ∷ drop (k + 1) xs))) (λ g. DeclarationFails text s d g ⊎ DeclarationsFail text s rest g) c.loop-decl.fault (λ g h. to_one text s d rest g h) (λ g h. of_one text s d rest g h) kept in
+    rw (c.lesser-fault.ensures) (kept_more all (DeclarationFails text s d) (DeclarationsFail text s rest) c.loop-decl.fault c.in_ok-own.own split c.in_ok-own.ensures)
+
+pub returns : goal.returns
+returns c =
+    let text = c.args.text.now in
+    let s = scope_of c.args.scope.now in
+    let xs = c.args.decls.now in
+    let k = c.loop-decl.decl-index in
+    let none : drop k xs ≡ [] = nothing_left xs k (λ l. absurd (omega (arith, l, c.loop-decl-test.false))) in
+    kept_end (DeclarationsFail text s (declarations_of xs)) (DeclarationsFail text s (declarations_of (drop k xs))) c.loop-decl.fault (λ g h. subst (λ (l : List Decl). DeclarationsFail text s (declarations_of l) g) none h) c.loop-decl.invariant

@@ -1,0 +1,49 @@
+use Rattle.std.proofs.Common.{◌≡◌, ◌⊎◌, ◌+◌, ◌≤◌, Some, length, map, ap, ◌∙◌, subst, sym, arith}
+use Rattle.std.specs.Prelude.{slice_get}
+use Rattle.base.specs.declared.pos.Pos.{Pos}
+use Rattle.value_types.specs.Least.{IsLeast}
+use Rattle.value_types.proofs.Leasts.{kept_start, kept_more, kept_end}
+use Rattle.names.specs.Scope.{scope_of}
+use Rattle.package_values.specs.declared.items.Item.{Item as ItemData}
+use Rattle.package_values.specs.Needs.{needed}
+use Rattle.package_values.specs.ValueFaults.{Recurs}
+use Rattle.package_values.specs.Passing.{item_of, item_views, table_of, RecursAt}
+use Rattle.package_values.proofs.ItemLists.{many_views}
+use Rattle.package_values.proofs.Rules.{kept_as, place_of, RecursFrom, recurs_all, recurs_none, recurs_split, recurs_behind, item_there}
+use Rattle.package_values.proofs.faults.recursion_fault.Goals as goal
+
+pub loop-index-init : goal.loop-index-init
+loop-index-init c =
+    let text = c.args.text.now in
+    let s = scope_of c.args.scope.now in
+    let is = item_views c.args.items.now in
+    kept_as (Recurs text s is) (Recurs text s is) (RecursFrom text s is 0) _ (λ g h. recurs_all text s is g h) (λ g h. h.recurs) (kept_start (Recurs text s is))
+
+pub loop-index-preserved : goal.loop-index-preserved
+loop-index-preserved c =
+    let text = c.args.text.now in
+    let s = scope_of c.args.scope.now in
+    let xs = c.args.items.now in
+    let is = item_views xs in
+    let k = c.loop-index.index in
+    let x : ItemData = c.index-items-index.result in
+    let i = item_of x in
+    let t = table_of c.deref.result.now in
+    let own = c.in_ok-own.own in
+    let all = Recurs text s is in
+    let t_is : t ≡ map (needed text s) is = ap table_of c.deref.ensures.value ∙ c.in_ok-table.ensures in
+    let has : slice_get is k ≡ Some i = item_there xs k x c.loop-index-test.true c.index-items-index.is in
+    let at : c.cycle_pos.result ≡ place_of i = c.cycle_pos.ensures in
+    let here : IsLeast (RecursAt t k (place_of i)) own = subst (λ (q : Pos). IsLeast (RecursAt t k q) own) at c.in_ok-own.ensures in
+    let split = kept_as all (RecursFrom text s is k) (λ g. RecursAt t k (place_of i) g ⊎ RecursFrom text s is (k + 1) g) c.loop-index.fault (λ g h. recurs_split text s is t k i t_is has g h) (λ g h. recurs_behind text s is t k i t_is has g h) c.loop-index.invariant in
+    rw (c.lesser-fault.ensures) (kept_more all (RecursAt t k (place_of i)) (RecursFrom text s is (k + 1)) c.loop-index.fault own split here)
+
+pub returns : goal.returns
+returns c =
+    let text = c.args.text.now in
+    let s = scope_of c.args.scope.now in
+    let xs = c.args.items.now in
+    let is = item_views xs in
+    let k = c.loop-index.index in
+    let le : length is ≤ k = omega (arith, c.loop-index-test.false, many_views item_of xs) in
+    kept_end (Recurs text s is) (RecursFrom text s is k) c.loop-index.fault (λ g h. recurs_none text s is k g le h) c.loop-index.invariant

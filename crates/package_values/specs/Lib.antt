@@ -1,0 +1,5 @@
+pub mod Values
+pub mod Needs
+pub mod ValueFaults
+pub mod Passing
+pub mod Laws

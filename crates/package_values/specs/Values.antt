@@ -1,0 +1,125 @@
+-- The constants and the package variables of a package, and what is known of them: the values of constants and the types of variables (Go
+-- specification, "Constant declarations", "Constant expressions", "Representability", "Variable declarations"). Their order in the text is
+-- free: one may stand before those that its value names.
+use Rattle.std.specs.Prelude.{ℕ, zero, suc, ◌+◌, pos, false, slice_get, length, ◌&&◌, List, [], ◌∷◌, ◌++◌, Option, Some, None, option_and_then}
+use Rattle.std.specs.Option.{option_map}
+use Rattle.syntax.specs.declared.expression.Name.{Name}
+use Rattle.syntax.specs.Expressions.{Ex as TreeEx, Exs as TreeExs, none, some}
+use Rattle.syntax.specs.Statements.{ValueSpec}
+use Rattle.syntax.specs.Declarations.{Declaration, constants, variables, types, function}
+use Rattle.value_types.specs.declared.constant.Constant.TheVariants.{Number, Truth}
+use Rattle.value_types.specs.declared.constant.Fixed.{Fixed}
+use Rattle.value_types.specs.declared.value_type.ValueType.{ValueType}
+use Rattle.value_types.specs.declared.value_type.ValueType.TheVariants.{Int, Bool as Boolean}
+use Rattle.value_types.specs.Given.{allowed}
+use Rattle.value_types.specs.Constants.{same_type, constant_type, holds}
+use Rattle.operators.specs.Operands.{Operand, constant, value}
+use Rattle.names.specs.Scope.{Scope, with_fixed}
+use Rattle.names.specs.Types.{type_in}
+use Rattle.expression_types.specs.Typing.{Gives, operand_in, type_in_one, value_types, gives, seen}
+use Rattle.package_values.specs.declared.items.Role.{Role}
+use Rattle.package_values.specs.declared.items.Role.TheVariants as role
+
+-- one constant or package variable: its name, all names of its declaration, and which of them it is; the type that stands there, its own
+-- value, where there are as many values as names, and all values of its declaration
+pub record Item : Type 0 where
+  pub role : Role
+  pub name : Name
+  pub names : List Name
+  pub place : ℕ
+  pub type_expr : Option TreeEx
+  pub value : Option TreeEx
+  pub values : TreeExs
+
+-- the names from a place on, without values
+abbrev pub unvalued : Role → List Name → Option TreeEx → TreeExs → ℕ → List Name → List Item
+unvalued r names t all k [] = []
+unvalued r names t all k (n ∷ ns) = record { role = r; name = n; names = names; place = k; type_expr = t; value = None; values = all } ∷ unvalued r names t all (1 + k) ns
+
+-- and each with the value at its place, where there are as many
+abbrev pub paired : Role → List Name → Option TreeEx → TreeExs → ℕ → List Name → TreeExs → Option (List Item)
+paired r names t all k [] none = Some []
+paired r names t all k (n ∷ ns) (some e es) =
+    option_map (λ is. record { role = r; name = n; names = names; place = k; type_expr = t; value = Some e; values = all } ∷ is) (paired r names t all (1 + k) ns es)
+paired r names t all k ns es = None
+
+abbrev pub or_unvalued : Option (List Item) → List Item → List Item
+or_unvalued (Some is) others = is
+or_unvalued None others = others
+
+abbrev pub items_of : Role → ValueSpec → List Item
+items_of r v = or_unvalued (paired r v.names v.type_expr v.values 0 v.names v.values) (unvalued r v.names v.type_expr v.values 0 v.names)
+
+abbrev pub items_in_specs : Role → List ValueSpec → List Item
+items_in_specs r [] = []
+items_in_specs r (v ∷ vs) = items_of r v ++ items_in_specs r vs
+
+-- the constants and variables of a package, which have numbers in this order
+abbrev pub items_in : List Declaration → List Item
+items_in [] = []
+items_in (constants at specs ∷ ds) = items_in_specs role.Constant specs ++ items_in ds
+items_in (variables at specs ∷ ds) = items_in_specs role.Variable specs ++ items_in ds
+items_in (types at specs ∷ ds) = items_in ds
+items_in (function f ∷ ds) = items_in ds
+
+-- ---- values
+
+-- a variable of a type is known by the zero value of the type
+abbrev pub zero_of : ValueType → Fixed
+zero_of Int = record { value_type = Some Int; value = Number (pos 0) }
+zero_of Boolean = record { value_type = Some Boolean; value = Truth false }
+
+-- what gives a constant
+abbrev pub as_constant : Operand → Option Fixed
+as_constant (constant f) = Some f
+as_constant (value t x) = None
+
+abbrev pub constant_in : Option Gives → Option Fixed
+constant_in o = option_and_then as_constant (operand_in o)
+
+-- the constant of a declaration without a type, and of one with a type, which holds it
+abbrev pub with_type : ValueType → Fixed → Option Fixed
+with_type t f = allowed (same_type t (constant_type f.value_type f.value) && holds t f.value) (Some (record { value_type = Some t; value = f.value }))
+
+module _ (text : List ℕ) where
+  abbrev pub accepted : Scope → Option TreeEx → Fixed → Option Fixed
+  accepted s None f = Some f
+  accepted s (Some e) f = option_and_then (λ t. with_type t f) (type_in text s e)
+
+  -- the value of a constant, as far as the constants are known in a scope
+  abbrev pub given_by : Scope → Option TreeEx → Option TreeEx → Option Fixed
+  given_by s t None = None
+  given_by s t (Some e) = option_and_then (accepted s t) (constant_in (gives text s e))
+
+  -- the type that the values of a declaration give the variable at a place: that of its own value, or of a result of the call that stands alone
+  abbrev pub initial_type : Scope → Option TreeEx → TreeExs → ℕ → Option ValueType
+  initial_type s (Some e) es k = type_in_one (gives text s e)
+  initial_type s None es k = option_and_then (λ ts. slice_get ts k) (value_types (seen text s es))
+
+  -- the type of a variable, as far as the types of variables and the constants are known in a scope: a type that stands there holds whatever
+  -- the value
+  abbrev pub variable_type : Scope → Option TreeEx → Option TreeEx → TreeExs → ℕ → Option ValueType
+  variable_type s (Some t) v es k = type_in text s t
+  variable_type s None v es k = initial_type s v es k
+
+  -- what is known of one of them then
+  abbrev pub given_as : Role → Scope → Item → Option Fixed
+  given_as role.Constant s i = given_by s i.type_expr i.value
+  given_as role.Variable s i = option_map zero_of (variable_type s i.type_expr i.value i.values i.place)
+
+  abbrev pub given : Scope → Item → Option Fixed
+  given s i = given_as i.role s i
+
+  -- one look at all constants and variables in turn, from a number on
+  abbrev pub look : ℕ → Scope → List Item → Scope
+  look k s [] = s
+  look k s (i ∷ is) = look (1 + k) (with_fixed s k (given s i)) is
+
+  -- so many looks
+  abbrev pub looks : ℕ → Scope → List Item → Scope
+  looks zero s is = s
+  looks (suc n) s is = looks n (look 0 s is) is
+
+  -- a look makes at least one more known, where it makes any known: with as many looks as there are, all are known that can be
+  abbrev pub settled : Scope → List Item → Scope
+  settled s is = looks (length is) s is

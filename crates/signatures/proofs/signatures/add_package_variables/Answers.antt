@@ -1,0 +1,24 @@
+use Rattle.std.proofs.Common.{◌≡◌, [], ◌∷◌, ◌+◌, List, drop, sym, ap, ◌∙◌, arith}
+use Rattle.syntax.specs.declared.statement.ValueSpec.{ValueSpec}
+use Rattle.syntax.specs.Statements.{value_specs_of}
+use Rattle.names.specs.Scope.{scope_of}
+use Rattle.value_types.proofs.Lists.{from_one, nothing_left}
+use Rattle.signatures.proofs.signatures.add_package_variables.Goals as goal
+use Rattle.signatures.specs.Signatures.{with_package_variables}
+
+pub loop-spec-preserved : goal.loop-spec-preserved
+loop-spec-preserved c =
+    let text = c.args.text.now in
+    let xs = c.args.specs.now in
+    let k = c.loop-spec.spec-index in
+    let x : ValueSpec = c.spec-item.result in
+    let here : drop k xs ≡ x ∷ drop (k + 1) xs = from_one xs k x c.loop-spec-test.true c.spec-item.is in
+    rw (c.in_ok-add_variable_names.ensures, c.deref.ensures.value) (c.loop-spec.invariant ∙ ap (λ (l : List ValueSpec). with_package_variables text (scope_of c.loop-spec.scope) (value_specs_of l)) here)
+
+pub returns : goal.returns
+returns c =
+    let text = c.args.text.now in
+    let xs = c.args.specs.now in
+    let k = c.loop-spec.spec-index in
+    let none : drop k xs ≡ [] = nothing_left xs k (λ l. absurd (omega (arith, l, c.loop-spec-test.false))) in
+    sym (c.loop-spec.invariant ∙ ap (λ (l : List ValueSpec). with_package_variables text (scope_of c.loop-spec.scope) (value_specs_of l)) none)
