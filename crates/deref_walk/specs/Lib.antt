@@ -1,0 +1,4 @@
+pub mod Flow
+pub mod Found
+pub mod Locations
+pub mod Heights
