@@ -4,7 +4,7 @@
 //! dereferences lie between them, where -1 stands for taking the address. A walk from a root finds, for each location from
 //! which the root may get its value, the least number of dereferences on the way: -1 says that the root may hold the
 //! location's address. Dereferencing an address gives the value itself, so a number below 0 counts as 0 before the next edge is
-//! added; and a number above 1000 counts as 1000, since what lies so far away is as good as on the heap.
+//! added; and a number above 1000 counts as 1000, which bounds the walk, and is safe: a lesser number never keeps more in frames.
 //!
 //! The walk goes over all edges, again and again, and notes each location whose number falls; it ends when none does. What
 //! it notes is a list, in which each entry but the root's says by which earlier one it came, so that a path can be told for
