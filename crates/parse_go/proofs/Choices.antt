@@ -12,15 +12,15 @@ use Rattle.parse_expressions.proofs.Following as expressions
 use Rattle.parse_expressions.proofs.Quotient.{quotient as expression_quotient}
 use Rattle.parse_expressions.proofs.Viable.{valid_next as expression_valid}
 use Rattle.parse_expressions.proofs.TextEnds.{unfinished as expression_unfinished}
-use Rattle.parse_statements.specs.Grammar.{Declares}
-use Rattle.parse_statements.specs.ValueSpecs.{Specs}
-use Rattle.parse_statements.specs.ValueSpecs as value_specs
+use Rattle.parse_simple_statements.specs.Grammar.{Declares}
+use Rattle.parse_simple_statements.specs.ValueSpecs.{Specs}
+use Rattle.parse_simple_statements.specs.ValueSpecs as value_specs
 use Rattle.parse_statements.specs.Bodies as bodies
-use Rattle.parse_statements.proofs.ValueSpecsFollowing as values_following
+use Rattle.parse_simple_statements.proofs.ValueSpecsFollowing as values_following
 use Rattle.parse_statements.proofs.BodiesFollowing as bodies_following
-use Rattle.parse_statements.proofs.ValueSpecsQuotient.{quotient as values_quotient}
-use Rattle.parse_statements.proofs.ValueSpecsViable.{valid_next as values_valid_next}
-use Rattle.parse_statements.proofs.ValueSpecsBegins.{unfinished as values_unfinished}
+use Rattle.parse_simple_statements.proofs.ValueSpecsQuotient.{quotient as values_quotient}
+use Rattle.parse_simple_statements.proofs.ValueSpecsViable.{valid_next as values_valid_next}
+use Rattle.parse_simple_statements.proofs.ValueSpecsBegins.{unfinished as values_unfinished}
 use Rattle.parse_statements.proofs.BodiesQuotient.{quotient as bodies_quotient}
 use Rattle.parse_statements.proofs.BodiesViable.{valid_next as bodies_valid_next}
 use Rattle.parse_statements.proofs.BodiesBegins.{unfinished as bodies_unfinished}

@@ -6,10 +6,10 @@ use Rattle.parse_expressions.specs.declared.terminal.Terminal.{Terminal}
 use Rattle.parse_expressions.specs.declared.terminal.Terminal.TheVariants.{Identifier, Const, Var, «Type» as type_word, Func, Semicolon, LeftParen}
 use Rattle.parse_expressions.specs.Grammar.{Mark, inside}
 use Rattle.parse_expressions.proofs.Following.{Iff}
-use Rattle.parse_statements.specs.Grammar.{of_constants, of_variables}
-use Rattle.parse_statements.specs.ValueSpecs as value_specs
-use Rattle.parse_statements.proofs.Marks.{next_read, next_other, iff_trans}
-use Rattle.parse_statements.proofs.ValueSpecsFollowing as values_following
+use Rattle.parse_simple_statements.specs.Grammar.{of_constants, of_variables}
+use Rattle.parse_simple_statements.specs.ValueSpecs as value_specs
+use Rattle.parse_simple_statements.proofs.Marks.{next_read, next_other, iff_trans}
+use Rattle.parse_simple_statements.proofs.ValueSpecsFollowing as values_following
 use Rattle.parse_go.specs.Grammar.{IsDeclaration, AreDeclarations}
 use Rattle.parse_go.specs.TypeSpecs as type_specs
 use Rattle.parse_go.specs.Machine.{at_declaration, with_declaration, ends_declaration, step}

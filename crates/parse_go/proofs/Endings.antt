@@ -5,7 +5,7 @@ use Rattle.syntax.specs.Declarations.{Parameters, unnamed, Body, Declaration, co
 use Rattle.syntax.specs.Expressions.{none, some}
 use Rattle.parse_expressions.specs.Grammar.{Mark}
 use Rattle.parse_expressions.proofs.TextEnds.{unfinished as expression_unfinished}
-use Rattle.parse_statements.proofs.ValueSpecsBegins.{unfinished as values_unfinished}
+use Rattle.parse_simple_statements.proofs.ValueSpecsBegins.{unfinished as values_unfinished}
 use Rattle.parse_statements.proofs.BodiesBegins.{unfinished as bodies_unfinished}
 use Rattle.parse_go.specs.Grammar.{AreResults, no_results, one_result, results, ReadsBody, AreDeclarations}
 use Rattle.parse_go.specs.Machine.{Named, Signature, State, at_package, at_package_name, at_package_end, at_declaration, in_values, in_types, at_function, at_opening, in_params, at_results, in_result, in_results, at_body, in_body, at_end, with_declaration, with_results, with_function, values_declared, result_base}

@@ -7,8 +7,8 @@ use Rattle.parse_expressions.specs.declared.terminal.Terminal.{Terminal}
 use Rattle.parse_expressions.specs.declared.terminal.Terminal.TheVariants.{Identifier, Comma}
 use Rattle.parse_expressions.specs.Grammar.{Mark, inside}
 use Rattle.parse_expressions.proofs.Following.{Iff, After}
-use Rattle.parse_statements.proofs.Marks.{iff_trans}
-use Rattle.parse_statements.proofs.NameLists.{NamesThen, NameWanted, names_comma, names_other, names_end, name_joins, wanted_first, whole_names}
+use Rattle.parse_simple_statements.proofs.Marks.{iff_trans}
+use Rattle.parse_simple_statements.proofs.NameLists.{NamesThen, NameWanted, names_comma, names_other, names_end, name_joins, wanted_first, whole_names}
 use Rattle.parse_go.specs.Grammar.{ReadsField}
 use Rattle.parse_go.proofs.Types.{OneType, type_at, type_step, type_first, no_type, type_some}
 

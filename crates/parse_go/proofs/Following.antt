@@ -8,9 +8,9 @@ use Rattle.syntax.specs.Declarations.{Parameters, unnamed, TypeSpec, Body, Decla
 use Rattle.parse_expressions.specs.declared.terminal.Terminal.TheVariants.{Identifier, Package, Semicolon, LeftParen}
 use Rattle.parse_expressions.specs.Grammar.{Mark}
 use Rattle.parse_expressions.proofs.Following as expression
-use Rattle.parse_statements.specs.Grammar.{Declares}
-use Rattle.parse_statements.proofs.Marks.{Next, NextAt}
-use Rattle.parse_statements.proofs.ValueSpecsFollowing as value_specs
+use Rattle.parse_simple_statements.specs.Grammar.{Declares}
+use Rattle.parse_simple_statements.proofs.Marks.{Next, NextAt}
+use Rattle.parse_simple_statements.proofs.ValueSpecsFollowing as value_specs
 use Rattle.parse_statements.proofs.BodiesFollowing as bodies
 use Rattle.parse_go.specs.Grammar.{AreResults, ReadsBody, AreDeclarations}
 use Rattle.parse_go.specs.Parameters.{at_name_or_type}

@@ -12,8 +12,8 @@ use Rattle.parse_expressions.specs.Machine as expression
 use Rattle.parse_expressions.proofs.Following.{Iff, After as ExpressionAfter}
 use Rattle.parse_statements.specs.Outer.{around}
 use Rattle.parse_statements.specs.Bodies.{at_statement}
-use Rattle.parse_statements.proofs.Marks.{NextAt, next_at_read, next_at_other, iff_same, iff_trans, only_left, only_right, neither}
-use Rattle.parse_statements.proofs.Starts.{NeverEnds, type_starts}
+use Rattle.parse_simple_statements.proofs.Marks.{NextAt, next_at_read, next_at_other, iff_same, iff_trans, only_left, only_right, neither}
+use Rattle.parse_simple_statements.proofs.Starts.{NeverEnds, type_starts}
 use Rattle.parse_statements.proofs.BodiesFollowing as bodies_following
 use Rattle.parse_go.specs.Grammar.{IsBare, AreResults, no_results, one_result, results, ReadsBody}
 use Rattle.parse_go.specs.Parameters.{at_name_or_type}

@@ -17,8 +17,9 @@ use Rattle.parse_expressions.specs.declared.terminal.Terminal.TheVariants.{Comma
 use Rattle.parse_expressions.specs.Terminals.{terminal_at, terminal_of, terminals_of}
 use Rattle.parse_expressions.specs.Grammar.{Mark, inside, terminals_in, ClosesArguments, closing, comma_closing}
 use Rattle.parse_expressions.proofs.NameSpans.{HasSpan, HaveSpans, type_spans}
-use Rattle.parse_statements.specs.Grammar.{of_constants, of_variables}
-use Rattle.parse_statements.proofs.NameSpans.{names_spans, group_spans, value_specs_spans, body_spans}
+use Rattle.parse_simple_statements.specs.Grammar.{of_constants, of_variables}
+use Rattle.parse_simple_statements.proofs.NameSpans.{names_spans, group_spans, value_specs_spans}
+use Rattle.parse_statements.proofs.NameSpans.{body_spans}
 use Rattle.parse_go.specs.Grammar.{ReadsField, AreFields, fields_end, last_field, next_field, ReadsTypeSpec, ReadsMoreTypes, ReadsTypes, AreNamed, last_named, next_named, AreParameters, no_parameters, unnamed_parameters, named_parameters, AreResults, no_results, one_result, results, ReadsBody, IsFunction, IsDeclaration, AreDeclarations, IsMarked, IsProgram}
 
 module _ (n : ℕ) where

@@ -8,7 +8,7 @@ use Rattle.parse_expressions.specs.declared.terminal.Terminal.TheVariants.{Comma
 use Rattle.parse_expressions.specs.Grammar.{Mark, ClosesArguments}
 use Rattle.parse_expressions.proofs.Following.{ValidOpen}
 use Rattle.parse_expressions.proofs.Following as expression
-use Rattle.parse_statements.proofs.Marks.{Next}
+use Rattle.parse_simple_statements.proofs.Marks.{Next}
 use Rattle.parse_go.specs.Grammar.{ReadsMoreTypes, AreNamed}
 use Rattle.parse_go.specs.Parameters.{Params, at_name_or_type, at_names, at_next_type, in_type, at_field, at_next_name, at_field_names, in_field_type, Progress, fails, goes, ends, type_base, types_named, field_named}
 use Rattle.parse_go.proofs.Types.{OneType}

@@ -12,8 +12,8 @@ use Rattle.parse_expressions.specs.Machine.{Open}
 use Rattle.parse_expressions.specs.Machine as expression
 use Rattle.parse_expressions.proofs.Following.{Iff, After as ExpressionAfter}
 use Rattle.parse_expressions.proofs.Quotient.{quotient as expression_quotient}
-use Rattle.parse_statements.proofs.Marks.{next_read, next_other, iff_same, iff_trans, iff_never, only_left, only_right, neither}
-use Rattle.parse_statements.proofs.Starts.{NeverEnds, type_starts}
+use Rattle.parse_simple_statements.proofs.Marks.{next_read, next_other, iff_same, iff_trans, iff_never, only_left, only_right, neither}
+use Rattle.parse_simple_statements.proofs.Starts.{NeverEnds, type_starts}
 use Rattle.parse_go.specs.Grammar.{ReadsMoreTypes, ReadsField, AreNamed, last_named, next_named}
 use Rattle.parse_go.specs.Parameters.{Params, at_name_or_type, at_names, at_next_type, in_type, at_field, at_next_name, at_field_names, in_field_type, type_base, types_named, field_named, behind_type, after_type, behind_field, after_field, type_begins, step, nesting_in_parens, nesting_after, nesting}
 use Rattle.parse_go.proofs.Types.{type_apart, type_first, type_name, no_type}

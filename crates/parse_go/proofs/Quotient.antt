@@ -9,14 +9,14 @@ use Rattle.parse_expressions.specs.Grammar.{Mark, inside}
 use Rattle.parse_expressions.specs.Machine as expression
 use Rattle.parse_expressions.proofs.Following.{Iff}
 use Rattle.parse_expressions.proofs.Quotient.{quotient as expression_quotient}
-use Rattle.parse_statements.specs.Grammar.{Declares}
-use Rattle.parse_statements.specs.ValueSpecs.{Specs}
-use Rattle.parse_statements.specs.ValueSpecs as value_specs
+use Rattle.parse_simple_statements.specs.Grammar.{Declares}
+use Rattle.parse_simple_statements.specs.ValueSpecs.{Specs}
+use Rattle.parse_simple_statements.specs.ValueSpecs as value_specs
 use Rattle.parse_statements.specs.Bodies as bodies
-use Rattle.parse_statements.proofs.Marks.{next_read, next_other, next_at_read, next_at_other, iff_same, iff_trans}
-use Rattle.parse_statements.proofs.ValueSpecsFollowing as values_following
+use Rattle.parse_simple_statements.proofs.Marks.{next_read, next_other, next_at_read, next_at_other, iff_same, iff_trans}
+use Rattle.parse_simple_statements.proofs.ValueSpecsFollowing as values_following
 use Rattle.parse_statements.proofs.BodiesFollowing as bodies_following
-use Rattle.parse_statements.proofs.ValueSpecsQuotient.{quotient as values_quotient}
+use Rattle.parse_simple_statements.proofs.ValueSpecsQuotient.{quotient as values_quotient}
 use Rattle.parse_statements.proofs.BodiesQuotient.{quotient as bodies_quotient}
 use Rattle.parse_go.specs.TypeSpecs.{Types}
 use Rattle.parse_go.specs.TypeSpecs as type_specs

@@ -10,10 +10,10 @@ use Rattle.parse_expressions.specs.declared.terminal.Terminal.TheVariants.{Semic
 use Rattle.parse_expressions.specs.Machine.{Open, at_type_operand}
 use Rattle.parse_expressions.specs.Machine as expression
 use Rattle.parse_expressions.specs.States as expressions
-use Rattle.parse_statements.specs.Grammar.{Declares}
-use Rattle.parse_statements.specs.ValueSpecs.{Specs}
-use Rattle.parse_statements.specs.ValueSpecs as value_specs
-use Rattle.parse_statements.specs.SpecStates as spec_states
+use Rattle.parse_simple_statements.specs.Grammar.{Declares}
+use Rattle.parse_simple_statements.specs.ValueSpecs.{Specs}
+use Rattle.parse_simple_statements.specs.ValueSpecs as value_specs
+use Rattle.parse_simple_statements.specs.SpecStates as spec_states
 use Rattle.parse_statements.specs.Bodies as bodies
 use Rattle.parse_statements.specs.BodyStates as body_states
 use Rattle.parse_go.specs.declared.signature.File.{File as CodeFile}

@@ -4,8 +4,8 @@ use Rattle.syntax.specs.Declarations.{Field, TypeSpec}
 use Rattle.parse_expressions.specs.Grammar.{Mark}
 use Rattle.parse_expressions.proofs.Following.{Iff}
 use Rattle.parse_expressions.proofs.TextEnds.{unfinished as expression_unfinished}
-use Rattle.parse_statements.specs.Grammar.{AreGrouped, last_of_group, next_of_group, IsGroup, alone}
-use Rattle.parse_statements.proofs.NameLists.{names_some}
+use Rattle.parse_simple_statements.specs.Grammar.{AreGrouped, last_of_group, next_of_group, IsGroup, alone}
+use Rattle.parse_simple_statements.proofs.NameLists.{names_some}
 use Rattle.parse_go.specs.Grammar.{AreFields, last_field, next_field, ReadsTypeSpec}
 use Rattle.parse_go.specs.TypeSpecs.{Spot, alone_here, in_group, Types, at_first, at_spec, at_struct, at_brace, at_field, at_next_name, at_names, in_type, at_end, at_group_end, spot_depth, type_base}
 use Rattle.parse_go.proofs.Fields.{in_names_some, next_name_some}

@@ -8,8 +8,8 @@ use Rattle.parse_expressions.specs.declared.terminal.Terminal.TheVariants.{Semic
 use Rattle.parse_expressions.specs.Grammar.{Mark, inside}
 use Rattle.parse_expressions.proofs.Following.{ValidOpen}
 use Rattle.parse_expressions.proofs.Following as expression
-use Rattle.parse_statements.specs.Grammar.{AreGrouped, IsGroup}
-use Rattle.parse_statements.proofs.Marks.{Next, NextAt}
+use Rattle.parse_simple_statements.specs.Grammar.{AreGrouped, IsGroup}
+use Rattle.parse_simple_statements.proofs.Marks.{Next, NextAt}
 use Rattle.parse_go.specs.Grammar.{AreFields, ReadsTypeSpec}
 use Rattle.parse_go.specs.TypeSpecs.{Spot, alone_here, in_group, Fields, Types, at_first, at_spec, at_struct, at_brace, at_field, at_next_name, at_names, in_type, at_end, at_group_end, Progress, fails, goes, ends, spot_depth, type_base, with_field, spec_of}
 use Rattle.parse_go.proofs.Fields.{InNames, NextName}

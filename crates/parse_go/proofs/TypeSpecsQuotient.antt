@@ -11,9 +11,9 @@ use Rattle.parse_expressions.specs.Machine.{Open}
 use Rattle.parse_expressions.specs.Machine as expression
 use Rattle.parse_expressions.proofs.Following.{Iff, ValidOpen, After as ExpressionAfter}
 use Rattle.parse_expressions.proofs.Quotient.{quotient as expression_quotient}
-use Rattle.parse_statements.specs.Grammar.{AreGrouped, group_ends, last_of_group, next_of_group, IsGroup, alone, grouped}
-use Rattle.parse_statements.proofs.Marks.{Next, NextAt, next_read, next_other, next_at_read, next_at_other, iff_same, iff_trans, iff_never, only_left, only_right, neither}
-use Rattle.parse_statements.proofs.Starts.{NeverEnds, type_starts}
+use Rattle.parse_simple_statements.specs.Grammar.{AreGrouped, group_ends, last_of_group, next_of_group, IsGroup, alone, grouped}
+use Rattle.parse_simple_statements.proofs.Marks.{Next, NextAt, next_read, next_other, next_at_read, next_at_other, iff_same, iff_trans, iff_never, only_left, only_right, neither}
+use Rattle.parse_simple_statements.proofs.Starts.{NeverEnds, type_starts}
 use Rattle.parse_go.specs.Grammar.{ReadsField, AreFields, fields_end, last_field, next_field, ReadsTypeSpec}
 use Rattle.parse_go.specs.TypeSpecs.{Spot, alone_here, in_group, Fields, Types, at_first, at_spec, at_struct, at_brace, at_field, at_next_name, at_names, in_type, at_end, at_group_end, spot_depth, type_base, with_field, spec_of, behind_type, after_type, step, nesting_in_braces, nesting_after, nesting}
 use Rattle.parse_go.proofs.Types.{type_step, type_apart}

@@ -12,7 +12,7 @@ use Rattle.parse_expressions.specs.Machine.{at_type_operand}
 use Rattle.parse_expressions.specs.Machine as expression
 use Rattle.parse_expressions.proofs.Following as following
 use Rattle.parse_expressions.proofs.Viable.{valid_next as expression_valid, viable as expression_viable}
-use Rattle.parse_statements.specs.Grammar.{group_ends, grouped}
+use Rattle.parse_simple_statements.specs.Grammar.{group_ends, grouped}
 use Rattle.parse_go.specs.Grammar.{fields_end}
 use Rattle.parse_go.specs.TypeSpecs.{Spot, alone_here, in_group, Fields, Types, at_first, at_spec, at_struct, at_brace, at_field, at_next_name, at_names, in_type, at_end, at_group_end, spot_depth, type_base, with_field, spec_of, behind_type, after_type, spec_ends, step}
 use Rattle.parse_go.proofs.Types.{type_valid}

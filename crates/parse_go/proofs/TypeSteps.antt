@@ -9,7 +9,7 @@ use Rattle.parse_expressions.specs.declared.terminal.Terminal.TheVariants.{Comma
 use Rattle.parse_expressions.specs.Machine.{Open, at_type_operand}
 use Rattle.parse_expressions.specs.Machine as expression
 use Rattle.parse_expressions.specs.States as expressions
-use Rattle.parse_statements.proofs.Starts.{NeverEnds, type_starts}
+use Rattle.parse_simple_statements.proofs.Starts.{NeverEnds, type_starts}
 use Rattle.parse_go.specs.declared.type_specs.TypesProgress.{TypesProgress}
 use Rattle.parse_go.specs.declared.type_specs.TypesProgress.TheVariants as progress
 use Rattle.parse_go.specs.TypeSpecs.{Spot, alone_here, in_group, Fields, spot_depth, type_base, fails, at_names, in_type, after_type, nesting_after, step, nesting}

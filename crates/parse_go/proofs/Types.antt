@@ -12,7 +12,7 @@ use Rattle.parse_expressions.specs.Machine.{Base, at_type_operand, Progress, ste
 use Rattle.parse_expressions.proofs.Following.{Iff, Apart, ValidOpen, Rest, After}
 use Rattle.parse_expressions.proofs.Starts.{begins_type, begins_type_valid}
 use Rattle.parse_expressions.proofs.Quotient.{quotient}
-use Rattle.parse_statements.proofs.Marks.{iff_trans}
+use Rattle.parse_simple_statements.proofs.Marks.{iff_trans}
 use Rattle.parse_go.specs.Grammar.{IsBare}
 
 -- where a type stands

@@ -13,13 +13,13 @@ use Rattle.parse_expressions.specs.Machine.{Open, at_type_operand}
 use Rattle.parse_expressions.specs.Machine as expression
 use Rattle.parse_expressions.proofs.Following as expressions
 use Rattle.parse_expressions.proofs.Viable.{valid_next as expression_valid, viable as expression_viable}
-use Rattle.parse_statements.specs.Grammar.{Declares}
-use Rattle.parse_statements.specs.ValueSpecs.{Specs}
-use Rattle.parse_statements.specs.ValueSpecs as value_specs
+use Rattle.parse_simple_statements.specs.Grammar.{Declares}
+use Rattle.parse_simple_statements.specs.ValueSpecs.{Specs}
+use Rattle.parse_simple_statements.specs.ValueSpecs as value_specs
 use Rattle.parse_statements.specs.Bodies as bodies
-use Rattle.parse_statements.proofs.ValueSpecsFollowing as values_following
+use Rattle.parse_simple_statements.proofs.ValueSpecsFollowing as values_following
 use Rattle.parse_statements.proofs.BodiesFollowing as bodies_following
-use Rattle.parse_statements.proofs.ValueSpecsViable.{valid_next as values_valid_next, viable as values_viable}
+use Rattle.parse_simple_statements.proofs.ValueSpecsViable.{valid_next as values_valid_next, viable as values_viable}
 use Rattle.parse_statements.proofs.BodiesViable.{valid_next as bodies_valid_next, viable as bodies_viable}
 use Rattle.parse_go.specs.Grammar.{no_results}
 use Rattle.parse_go.specs.TypeSpecs.{Types}

@@ -10,7 +10,8 @@ use Rattle.parse_expressions.specs.declared.terminal.Terminal.{Terminal}
 use Rattle.parse_expressions.specs.declared.terminal.Terminal.TheVariants.{Identifier, Package, Const, Var, «Type» as type_word, Struct, Func, Comma, Semicolon, LeftParen, RightParen, LeftBrace, RightBrace}
 use Rattle.parse_expressions.specs.Terminals.{terminals_of}
 use Rattle.parse_expressions.specs.Grammar.{Mark, inside, nesting_of, terminals_in, ReadsType, ClosesArguments}
-use Rattle.parse_statements.specs.Grammar.{ReadsNames, of_constants, of_variables, ReadsValueSpec, IsGroup, IsBody}
+use Rattle.parse_simple_statements.specs.Grammar.{ReadsNames, of_constants, of_variables, ReadsValueSpec, IsGroup}
+use Rattle.parse_statements.specs.Grammar.{IsBody}
 
 -- ---- types with names
 

@@ -9,9 +9,9 @@ use Rattle.parse_expressions.specs.declared.terminal.Terminal.{Terminal}
 use Rattle.parse_expressions.specs.declared.terminal.Terminal.TheVariants.{Identifier, Package, Const, Var, «Type» as type_word, Func, Semicolon, LeftParen, LeftBrace}
 use Rattle.parse_expressions.specs.Machine.{Base, Open, at_type_operand}
 use Rattle.parse_expressions.specs.Machine as expression
-use Rattle.parse_statements.specs.Grammar.{Declares, of_constants, of_variables}
-use Rattle.parse_statements.specs.ValueSpecs.{Specs}
-use Rattle.parse_statements.specs.ValueSpecs as value_specs
+use Rattle.parse_simple_statements.specs.Grammar.{Declares, of_constants, of_variables}
+use Rattle.parse_simple_statements.specs.ValueSpecs.{Specs}
+use Rattle.parse_simple_statements.specs.ValueSpecs as value_specs
 use Rattle.parse_statements.specs.Outer.{around}
 use Rattle.parse_statements.specs.Bodies as bodies
 use Rattle.parse_go.specs.TypeSpecs.{Types}

@@ -6,8 +6,8 @@ use Rattle.parse_expressions.specs.declared.fault.StepFault.{StepFault}
 use Rattle.parse_expressions.specs.declared.fault.StepFault.TheVariants as fault
 use Rattle.parse_expressions.specs.declared.terminal.Terminal.{Terminal}
 use Rattle.parse_expressions.specs.States.{open_of}
-use Rattle.parse_statements.specs.Spots.{declares_of}
-use Rattle.parse_statements.specs.SpecStates.{specs_of}
+use Rattle.parse_simple_statements.specs.Spots.{declares_of}
+use Rattle.parse_simple_statements.specs.SpecStates.{specs_of}
 use Rattle.parse_statements.specs.BodyStates as bodies
 use Rattle.parse_go.specs.declared.fault.ParseFault.{ParseFault}
 use Rattle.parse_go.specs.declared.fault.ParseFault.TheVariants as parse_fault

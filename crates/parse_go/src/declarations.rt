@@ -3,8 +3,8 @@
 ghost use Rattle.std.specs.Prelude.{◌≡◌, IfOk};
 ghost use Rattle.syntax.specs.Statements.{value_specs_of};
 ghost use Rattle.syntax.specs.Declarations.{declaration_of};
-ghost use Rattle.parse_statements.specs.ValueSpecs.{at_first};
-ghost use Rattle.parse_statements.specs.Spots.{declares_of};
+ghost use Rattle.parse_simple_statements.specs.ValueSpecs.{at_first};
+ghost use Rattle.parse_simple_statements.specs.Spots.{declares_of};
 ghost use Rattle.parse_go.specs.TypeStates.{types_of};
 ghost use Rattle.parse_go.specs.Machine.{at_package, at_package_name, at_package_end, at_declaration, in_values, in_types, ends_declaration, values_declared, with_declaration, step, nesting};
 ghost use Rattle.parse_go.specs.Signatures.{file_in};
@@ -16,7 +16,7 @@ use crate::type_specs::{TypeSpecs, TypesProgress};
 use crate::type_steps::step_types;
 use base::Pos;
 use parse_expressions::{StepFault, Terminal};
-use parse_statements::{Declares, SpecsProgress, begin_specs, step_specs};
+use parse_simple_statements::{Declares, SpecsProgress, begin_specs, step_specs};
 use std::alloc::{AllocError, Global};
 use syntax::{Decl, Name, ValueSpec};
 

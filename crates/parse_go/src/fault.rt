@@ -8,17 +8,17 @@ use std::alloc::AllocError;
 use thiserror::Error;
 
 /// Why tokens have no tree. Where several tokens fail, it is the first of them.
+///
+/// A token is unexpected where no text of the grammar begins with it and those before it; an inserted semicolon stands at its
+/// line's end, and where the tokens end too early, the place is behind the last byte of the text. A token is too deep where
+/// its nesting reaches 201: the number of brackets, prefixes and else-ifs that are open around it; at a binary operator, a `.`,
+/// a `[` or a `(` behind an expression at least one more than the height of the tree to its left.
 #[derive(Clone, Copy, Debug, PartialEq, Eq, Error)]
 pub enum ParseFault {
     #[error("no memory")]
     NoMemory,
-    /// The first token with which no text of the grammar begins; an inserted semicolon stands at its line's end, and
-    /// where the tokens end too early, the place is behind the last byte of the text.
     #[error("unexpected token")]
     Unexpected(Pos),
-    /// The first token whose nesting reaches 201: the number of brackets, prefixes and else-ifs that are open around
-    /// it; at a binary operator, a `.`, a `[` or a `(` behind an expression at least one more than the height of the
-    /// tree to its left.
     #[error("nested too deeply")]
     TooDeep(Pos),
 }

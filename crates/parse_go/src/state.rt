@@ -2,7 +2,7 @@
 
 ghost use Rattle.std.specs.Prelude.{◌≡◌};
 ghost use Rattle.parse_expressions.specs.States.{base_of};
-ghost use Rattle.parse_statements.specs.SpecStates.{depth_of};
+ghost use Rattle.parse_simple_statements.specs.SpecStates.{depth_of};
 ghost use Rattle.parse_go.specs.Machine.{result_base};
 
 use crate::parameters::Parameters;
@@ -10,7 +10,8 @@ use crate::signature::{File, Named, Signature};
 use crate::type_specs::TypeSpecs;
 use base::Pos;
 use parse_expressions::Open;
-use parse_statements::{BodyState, Declares, ValueSpecs};
+use parse_simple_statements::{Declares, ValueSpecs};
+use parse_statements::BodyState;
 use syntax::{Name, Params};
 
 /// A declaration of constants or variables is read, with the place of its word, behind the declarations before it.

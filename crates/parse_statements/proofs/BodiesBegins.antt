@@ -9,15 +9,16 @@ use Rattle.parse_expressions.specs.Grammar.{Mark, inside}
 use Rattle.parse_expressions.specs.Machine.{Open, at_operand}
 use Rattle.parse_expressions.proofs.Following as following
 use Rattle.parse_expressions.proofs.Following.{Iff}
-use Rattle.parse_statements.specs.Grammar.{of_variables, IsStm, is_simple, IsElse, absent, IsBody, last, next}
-use Rattle.parse_statements.specs.Simples.{Simples, beginning}
+use Rattle.parse_simple_statements.specs.Grammar.{of_variables}
+use Rattle.parse_statements.specs.Grammar.{IsStm, is_simple, IsElse, absent, IsBody, last, next}
+use Rattle.parse_simple_statements.specs.Simples.{Simples, beginning}
 use Rattle.parse_statements.specs.Outer.{Branch, chain_depth, brace_depth, whole_if, Blocks, statement_depth, around, with_statement}
 use Rattle.parse_statements.specs.Bodies.{Spot, in_body, in_if, in_for, in_post, State, at_statement, in_var, in_simple, at_return, in_return, at_if, in_condition, at_for, at_second, in_second, at_post, in_range, at_then, at_else, at_stop, place_of, value_base, header_base}
 use Rattle.parse_expressions.proofs.TextEnds.{unfinished as open_unfinished}
-use Rattle.parse_statements.proofs.Marks.{next_some, next_at_some}
-use Rattle.parse_statements.proofs.ValueLists.{MoreValues, values_begin, values_end}
-use Rattle.parse_statements.proofs.ValueSpecsBegins as value_specs
-use Rattle.parse_statements.proofs.SimplesBegins as simples
+use Rattle.parse_simple_statements.proofs.Marks.{next_some, next_at_some}
+use Rattle.parse_simple_statements.proofs.ValueLists.{MoreValues, values_begin, values_end}
+use Rattle.parse_simple_statements.proofs.ValueSpecsBegins as value_specs
+use Rattle.parse_simple_statements.proofs.SimplesBegins as simples
 use Rattle.parse_statements.proofs.BodiesFollowing.{brace, semi, Up, BehindStm, InBody, IsCondition, BehindSimple, BehindRange, BehindFirst, Declared, Returned, WholeIf, Rest, Valid}
 use Rattle.parse_statements.proofs.BodiesEnds.{stop_some, stop_other}
 use Rattle.parse_statements.proofs.BodiesSimples.{InSimple}

@@ -9,7 +9,7 @@ use Rattle.parse_expressions.proofs.Following.{Iff}
 use Rattle.parse_statements.specs.Grammar.{ReadsGuard, IsElse, absent, otherwise, otherwise_if}
 use Rattle.parse_statements.specs.Outer.{Branch, in_else, chain_depth, whole_if, Blocks, statement_depth, with_statement, within}
 use Rattle.parse_statements.specs.Bodies.{at_then, at_else, step, nesting}
-use Rattle.parse_statements.proofs.Marks.{iff_trans}
+use Rattle.parse_simple_statements.proofs.Marks.{iff_trans}
 use Rattle.parse_statements.proofs.BodiesFollowing.{BehindStm, InBody, BehindIf, WholeIf, Rest, After}
 use Rattle.parse_statements.proofs.BodiesEnds.{stop_step, stop_other}
 

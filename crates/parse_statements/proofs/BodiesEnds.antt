@@ -9,7 +9,7 @@ use Rattle.parse_expressions.specs.Grammar.{Mark, inside}
 use Rattle.parse_expressions.proofs.Following.{Iff}
 use Rattle.parse_statements.specs.Outer.{Outer, in_block, in_loop, in_then, in_else, brace_depth, Blocks}
 use Rattle.parse_statements.specs.Bodies.{up, stop, nesting_at_stop}
-use Rattle.parse_statements.proofs.Marks.{iff_same, iff_trans}
+use Rattle.parse_simple_statements.proofs.Marks.{iff_same, iff_trans}
 use Rattle.parse_statements.proofs.BodiesFollowing.{Tail, brace, semi, StmEnds, StmBegins, Up, BehindStm, After}
 
 pub joined_none : (a : Stms) → joined a nil ≡ a

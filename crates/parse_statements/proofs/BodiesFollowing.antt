@@ -7,13 +7,14 @@ use Rattle.syntax.specs.Lists.{joined, one}
 use Rattle.parse_expressions.specs.declared.terminal.Terminal.TheVariants.{Else, Semicolon, LeftBrace, RightBrace}
 use Rattle.parse_expressions.specs.Grammar.{Mark, inside}
 use Rattle.parse_expressions.proofs.Following as expression
-use Rattle.parse_statements.specs.Grammar.{of_variables, ReadsOptionalValue, ReadsPost, ReadsGuard, ReadsClause, IsBody, IsElse}
+use Rattle.parse_simple_statements.specs.Grammar.{of_variables}
+use Rattle.parse_statements.specs.Grammar.{ReadsOptionalValue, ReadsPost, ReadsGuard, ReadsClause, IsBody, IsElse}
 use Rattle.parse_statements.specs.Outer.{Branch, Outer, in_block, in_loop, in_then, in_else, chain_depth, brace_depth, whole_if, Blocks, statement_depth, with_statement, opened_if, opened_for}
 use Rattle.parse_statements.specs.Bodies.{Spot, in_body, in_if, in_for, in_post, State, at_statement, in_var, in_simple, at_return, in_return, at_if, in_condition, at_for, at_second, in_second, at_post, in_range, at_then, at_else, at_stop, Progress, fails, goes, ends, place_of, value_base, header_base}
-use Rattle.parse_statements.proofs.Marks.{Next, NextAt}
-use Rattle.parse_statements.proofs.ValueLists.{OneValue, Values, MoreValues}
-use Rattle.parse_statements.proofs.ValueSpecsFollowing as value_specs
-use Rattle.parse_statements.proofs.SimplesFollowing as simples
+use Rattle.parse_simple_statements.proofs.Marks.{Next, NextAt}
+use Rattle.parse_simple_statements.proofs.ValueLists.{OneValue, Values, MoreValues}
+use Rattle.parse_simple_statements.proofs.ValueSpecsFollowing as value_specs
+use Rattle.parse_simple_statements.proofs.SimplesFollowing as simples
 
 -- ---- what may follow in the blocks that are open
 

@@ -7,14 +7,15 @@ use Rattle.parse_expressions.specs.declared.terminal.Terminal.{Terminal}
 use Rattle.parse_expressions.specs.declared.terminal.Terminal.TheVariants.{Range, Semicolon, LeftBrace}
 use Rattle.parse_expressions.specs.Grammar.{Mark, inside, ReadsValue}
 use Rattle.parse_expressions.proofs.Following.{Iff}
-use Rattle.parse_statements.specs.Grammar.{ReadsSimple, ReadsOptionalSimple, ReadsOptionalValue, ReadsPost, ReadsTargets, ReadsClause}
-use Rattle.parse_statements.specs.Simples.{beginning}
+use Rattle.parse_simple_statements.specs.Grammar.{ReadsSimple}
+use Rattle.parse_statements.specs.Grammar.{ReadsOptionalSimple, ReadsOptionalValue, ReadsPost, ReadsTargets, ReadsClause}
+use Rattle.parse_simple_statements.specs.Simples.{beginning}
 use Rattle.parse_statements.specs.Outer.{Blocks, statement_depth}
 use Rattle.parse_statements.specs.Bodies.{in_for, at_for, place_of, step}
-use Rattle.parse_statements.proofs.Marks.{Next, NextAt, next_read, next_other, next_at_read, next_at_other, iff_trans, and_then, only_left, only_right, neither}
-use Rattle.parse_statements.proofs.ValueLists.{value_begins}
-use Rattle.parse_statements.proofs.SimplesFollowing.{OneSimple, ReadsTarget, Ranged}
-use Rattle.parse_statements.proofs.SimplesBegins.{begins}
+use Rattle.parse_simple_statements.proofs.Marks.{Next, NextAt, next_read, next_other, next_at_read, next_at_other, iff_trans, and_then, only_left, only_right, neither}
+use Rattle.parse_simple_statements.proofs.ValueLists.{value_begins}
+use Rattle.parse_simple_statements.proofs.SimplesFollowing.{OneSimple, ReadsTarget, Ranged}
+use Rattle.parse_simple_statements.proofs.SimplesBegins.{begins}
 use Rattle.parse_statements.proofs.BodiesFollowing.{OpensFor, BehindFor, BehindFirst, IsCondition, BehindSimple, BehindRange, Rest, After}
 use Rattle.parse_statements.proofs.BodiesSimples.{InSimple, begins_step, begins_other}
 

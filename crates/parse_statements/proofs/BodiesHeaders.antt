@@ -10,16 +10,17 @@ use Rattle.parse_expressions.specs.Machine as expression
 use Rattle.parse_expressions.specs.Machine.{Base, Open, at_operand, operand}
 use Rattle.parse_expressions.proofs.Following as following
 use Rattle.parse_expressions.proofs.Following.{Iff}
-use Rattle.parse_statements.specs.Grammar.{ReadsSimple, ReadsInit, ReadsOptionalValue, ReadsPost}
-use Rattle.parse_statements.specs.Simples.{beginning}
+use Rattle.parse_simple_statements.specs.Grammar.{ReadsSimple}
+use Rattle.parse_statements.specs.Grammar.{ReadsInit, ReadsOptionalValue, ReadsPost}
+use Rattle.parse_simple_statements.specs.Simples.{beginning}
 use Rattle.parse_statements.specs.Outer.{Branch, chain_depth, Blocks, statement_depth, opened_if, opened_for}
 use Rattle.parse_statements.specs.Bodies.{in_if, in_post, at_if, in_condition, at_second, in_second, at_post, in_range, header_base, place_of, step, behind_condition, after_condition, behind_second, after_second, behind_range, after_range, nesting_after}
 use Rattle.parse_expressions.proofs.Quotient.{quotient as open_quotient}
 use Rattle.parse_expressions.proofs.Viable.{valid_next as open_valid}
-use Rattle.parse_statements.proofs.Marks.{Next, NextAt, next_read, next_other, next_at_read, next_at_other, iff_same, iff_trans, and_then, only_left, only_right}
-use Rattle.parse_statements.proofs.Starts.{NeverEnds, operand_starts}
-use Rattle.parse_statements.proofs.ValueLists.{OneValue, value_begins, value_valid}
-use Rattle.parse_statements.proofs.SimplesBegins.{begins}
+use Rattle.parse_simple_statements.proofs.Marks.{Next, NextAt, next_read, next_other, next_at_read, next_at_other, iff_same, iff_trans, and_then, only_left, only_right}
+use Rattle.parse_simple_statements.proofs.Starts.{NeverEnds, operand_starts}
+use Rattle.parse_simple_statements.proofs.ValueLists.{OneValue, value_begins, value_valid}
+use Rattle.parse_simple_statements.proofs.SimplesBegins.{begins}
 use Rattle.parse_statements.proofs.BodiesFollowing.{InBody, OpensIf, OpensFor, BehindIf, BehindFirst, BehindSecond, IsCondition, BehindSimple, BehindRange, Rest, After}
 use Rattle.parse_statements.proofs.BodiesSimples.{InSimple, begins_step, begins_other}
 

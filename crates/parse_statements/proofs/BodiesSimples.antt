@@ -9,16 +9,16 @@ use Rattle.parse_expressions.specs.Grammar.{Mark, inside}
 use Rattle.parse_expressions.specs.Machine as expression
 use Rattle.parse_expressions.specs.Machine.{at_operand, operand}
 use Rattle.parse_expressions.proofs.Following.{Iff}
-use Rattle.parse_statements.specs.Simples as simples
-use Rattle.parse_statements.specs.Simples.{Simples, beginning}
+use Rattle.parse_simple_statements.specs.Simples as simples
+use Rattle.parse_simple_statements.specs.Simples.{Simples, beginning}
 use Rattle.parse_statements.specs.Outer.{chain_depth, Blocks, statement_depth, with_statement}
 use Rattle.parse_statements.specs.Bodies.{Spot, in_body, in_if, in_for, in_post, place_of, behind_simple, ranges_at, after_simple, simple_begins, nesting_behind, nesting_simple}
-use Rattle.parse_statements.proofs.Marks.{next_read, next_other, next_at_read, next_at_other, iff_same, iff_trans, and_then, only_left, only_right, neither}
-use Rattle.parse_statements.proofs.Starts.{NeverEnds, operand_starts}
-use Rattle.parse_statements.proofs.ValueLists.{value_begins}
-use Rattle.parse_statements.proofs.SimplesFollowing as following
-use Rattle.parse_statements.proofs.SimplesBegins.{begins_valid}
-use Rattle.parse_statements.proofs.SimplesQuotient.{quotient}
+use Rattle.parse_simple_statements.proofs.Marks.{next_read, next_other, next_at_read, next_at_other, iff_same, iff_trans, and_then, only_left, only_right, neither}
+use Rattle.parse_simple_statements.proofs.Starts.{NeverEnds, operand_starts}
+use Rattle.parse_simple_statements.proofs.ValueLists.{value_begins}
+use Rattle.parse_simple_statements.proofs.SimplesFollowing as following
+use Rattle.parse_simple_statements.proofs.SimplesBegins.{begins_valid}
+use Rattle.parse_simple_statements.proofs.SimplesQuotient.{quotient}
 use Rattle.parse_statements.proofs.BodiesFollowing.{IsCondition, BehindSimple, BehindRange, After}
 use Rattle.parse_statements.proofs.BodiesEnds.{stop_step, stop_other}
 

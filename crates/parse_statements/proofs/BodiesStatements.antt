@@ -10,13 +10,14 @@ use Rattle.parse_expressions.specs.Grammar.{Mark, inside}
 use Rattle.parse_expressions.specs.Machine as expression
 use Rattle.parse_expressions.specs.Machine.{at_operand, operand}
 use Rattle.parse_expressions.proofs.Following.{Iff}
-use Rattle.parse_statements.specs.Grammar.{of_variables, ReadsSimple, ReadsGuard, ReadsClause, IsStm, declares, is_simple, breaks, continues, returns, returns_values, chooses, repeats, blocks, IsBody, close, empty, last, next}
-use Rattle.parse_statements.specs.Simples.{beginning}
+use Rattle.parse_simple_statements.specs.Grammar.{of_variables, ReadsSimple}
+use Rattle.parse_statements.specs.Grammar.{ReadsGuard, ReadsClause, IsStm, declares, is_simple, breaks, continues, returns, returns_values, chooses, repeats, blocks, IsBody, close, empty, last, next}
+use Rattle.parse_simple_statements.specs.Simples.{beginning}
 use Rattle.parse_statements.specs.Outer.{in_block, brace_depth, Blocks, statement_depth, with_statement, within}
 use Rattle.parse_statements.specs.Bodies.{in_body, at_statement, at_return, place_of, step, nesting_at_stop}
-use Rattle.parse_statements.proofs.Marks.{iff_trans}
-use Rattle.parse_statements.proofs.ValueSpecsFollowing as value_specs
-use Rattle.parse_statements.proofs.SimplesBegins.{begins}
+use Rattle.parse_simple_statements.proofs.Marks.{iff_trans}
+use Rattle.parse_simple_statements.proofs.ValueSpecsFollowing as value_specs
+use Rattle.parse_simple_statements.proofs.SimplesBegins.{begins}
 use Rattle.parse_statements.proofs.BodiesFollowing.{Tail, brace, semi, Up, BehindStm, InBody, BehindIf, BehindFor, BehindSimple, BehindRange, Declared, Rest, After}
 use Rattle.parse_statements.proofs.BodiesEnds.{closes_block, joined_none}
 use Rattle.parse_statements.proofs.BodiesSimples.{InSimple, begins_step, begins_other}

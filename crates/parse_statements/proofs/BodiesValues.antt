@@ -11,18 +11,18 @@ use Rattle.parse_expressions.specs.Machine as expression
 use Rattle.parse_expressions.specs.Machine.{Open, at_operand, operand}
 use Rattle.parse_expressions.proofs.Following as following
 use Rattle.parse_expressions.proofs.Following.{Iff}
-use Rattle.parse_statements.specs.Grammar.{of_variables}
-use Rattle.parse_statements.specs.ValueSpecs as value_specs
-use Rattle.parse_statements.specs.ValueSpecs.{Specs}
+use Rattle.parse_simple_statements.specs.Grammar.{of_variables}
+use Rattle.parse_simple_statements.specs.ValueSpecs as value_specs
+use Rattle.parse_simple_statements.specs.ValueSpecs.{Specs}
 use Rattle.parse_statements.specs.Outer.{Blocks, statement_depth, with_statement}
 use Rattle.parse_statements.specs.Bodies.{in_var, at_return, in_return, value_base, after_var, behind_returned, after_returned, step, nesting_at_stop, nesting_after, nesting_var}
 use Rattle.parse_expressions.proofs.Quotient.{quotient as open_quotient}
 use Rattle.parse_expressions.proofs.Viable.{valid_next as open_valid}
-use Rattle.parse_statements.proofs.Marks.{iff_same, iff_trans, only_left, only_right}
-use Rattle.parse_statements.proofs.Starts.{NeverEnds, operand_starts}
-use Rattle.parse_statements.proofs.ValueLists.{Values, MoreValues, values_begin, values_comma, values_other, values_apart, value_valid}
-use Rattle.parse_statements.proofs.ValueSpecsFollowing as specs_following
-use Rattle.parse_statements.proofs.ValueSpecsQuotient.{quotient}
+use Rattle.parse_simple_statements.proofs.Marks.{iff_same, iff_trans, only_left, only_right}
+use Rattle.parse_simple_statements.proofs.Starts.{NeverEnds, operand_starts}
+use Rattle.parse_simple_statements.proofs.ValueLists.{Values, MoreValues, values_begin, values_comma, values_other, values_apart, value_valid}
+use Rattle.parse_simple_statements.proofs.ValueSpecsFollowing as specs_following
+use Rattle.parse_simple_statements.proofs.ValueSpecsQuotient.{quotient}
 use Rattle.parse_statements.proofs.BodiesFollowing.{Declared, Returned, Rest, After}
 use Rattle.parse_statements.proofs.BodiesEnds.{stop_step, stop_other}
 

@@ -10,20 +10,21 @@ use Rattle.parse_expressions.specs.Grammar.{Mark, inside}
 use Rattle.parse_expressions.specs.Machine as expression
 use Rattle.parse_expressions.specs.Machine.{at_operand}
 use Rattle.parse_expressions.proofs.Following as following
-use Rattle.parse_statements.specs.Grammar.{of_variables, absent, otherwise, close}
-use Rattle.parse_statements.specs.ValueSpecs as value_specs
-use Rattle.parse_statements.specs.Simples as simples
-use Rattle.parse_statements.specs.Simples.{beginning}
+use Rattle.parse_simple_statements.specs.Grammar.{of_variables}
+use Rattle.parse_statements.specs.Grammar.{absent, otherwise, close}
+use Rattle.parse_simple_statements.specs.ValueSpecs as value_specs
+use Rattle.parse_simple_statements.specs.Simples as simples
+use Rattle.parse_simple_statements.specs.Simples.{beginning}
 use Rattle.parse_statements.specs.Outer.{Branch, Outer, in_block, in_loop, in_then, in_else, chain_depth, brace_depth, whole_if, Blocks, statement_depth, with_statement, opened_if, opened_for}
 use Rattle.parse_statements.specs.Bodies.{Spot, in_body, in_if, in_for, in_post, State, at_statement, in_var, in_simple, at_return, in_return, at_if, in_condition, at_for, at_second, in_second, at_post, in_range, at_then, at_else, at_stop, goes, place_of, value_base, header_base, up, stop, behind_simple, ranges_at, after_simple, simple_begins, after_var, behind_returned, after_returned, behind_condition, after_condition, behind_second, after_second, behind_range, after_range, step}
 use Rattle.parse_expressions.proofs.Viable.{valid_next as open_valid, viable as open_viable}
-use Rattle.parse_statements.proofs.Shortest.{origin, zero_at_origin}
-use Rattle.parse_statements.proofs.ValueLists.{value_valid}
-use Rattle.parse_statements.proofs.ValueSpecsFollowing as specs_following
-use Rattle.parse_statements.proofs.ValueSpecsViable as specs_viable
-use Rattle.parse_statements.proofs.SimplesFollowing as simples_following
-use Rattle.parse_statements.proofs.SimplesBegins.{begins_valid}
-use Rattle.parse_statements.proofs.SimplesViable as simples_viable
+use Rattle.parse_simple_statements.proofs.Shortest.{origin, zero_at_origin}
+use Rattle.parse_simple_statements.proofs.ValueLists.{value_valid}
+use Rattle.parse_simple_statements.proofs.ValueSpecsFollowing as specs_following
+use Rattle.parse_simple_statements.proofs.ValueSpecsViable as specs_viable
+use Rattle.parse_simple_statements.proofs.SimplesFollowing as simples_following
+use Rattle.parse_simple_statements.proofs.SimplesBegins.{begins_valid}
+use Rattle.parse_simple_statements.proofs.SimplesViable as simples_viable
 use Rattle.parse_statements.proofs.BodiesFollowing.{brace, Up, BehindStm, InBody, OpensIf, OpensFor, BehindSimple, BehindRange, Declared, Rest, Valid, ValidNext}
 
 -- ---- what each state keeps

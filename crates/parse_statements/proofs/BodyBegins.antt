@@ -12,11 +12,11 @@ use Rattle.parse_expressions.specs.Machine as expression
 use Rattle.parse_statements.specs.declared.state.BodyProgress.{BodyProgress}
 use Rattle.parse_statements.specs.declared.state.BodyProgress.TheVariants as progress
 use Rattle.parse_statements.specs.Outer.{Branch, Blocks, statement_depth, chain_depth}
-use Rattle.parse_statements.specs.Simples.{Simples, beginning}
-use Rattle.parse_statements.specs.Simples as simples
+use Rattle.parse_simple_statements.specs.Simples.{Simples, beginning}
+use Rattle.parse_simple_statements.specs.Simples as simples
 use Rattle.parse_statements.specs.Bodies.{Spot, in_body, in_if, in_for, in_post, State, in_simple, at_return, in_return, at_if, at_for, at_second, in_second, at_post, Progress, place_of, value_base, header_base, spot_depth, simple_begins, after_simple, step, nesting, nesting_after, nesting_simple}
 use Rattle.parse_statements.specs.BodyStates.{GoesOn, Steps}
-use Rattle.parse_statements.proofs.Begins.{operand_not_ends}
+use Rattle.parse_simple_statements.proofs.Begins.{operand_not_ends}
 
 -- the nesting matters only where the machine takes the terminal
 pub body_nesting : (r : Result BodyProgress StepFault) (then : Progress) (m n : ℕ) → (GoesOn then → m ≡ n) → Steps r then m → Steps r then n

@@ -11,8 +11,8 @@ use Rattle.parse_expressions.specs.declared.terminal.Terminal.TheVariants.{Range
 use Rattle.parse_expressions.specs.Machine.{at_operand}
 use Rattle.parse_expressions.specs.Machine as expression
 use Rattle.parse_statements.specs.declared.state.BodyProgress.{BodyProgress}
-use Rattle.parse_statements.specs.Simples.{Place, Listed, Simples, in_left, at_value, in_value, at_end}
-use Rattle.parse_statements.specs.Simples as simples
+use Rattle.parse_simple_statements.specs.Simples.{Place, Listed, Simples, in_left, at_value, in_value, at_end}
+use Rattle.parse_simple_statements.specs.Simples as simples
 use Rattle.parse_statements.specs.Outer.{Blocks, statement_depth}
 use Rattle.parse_statements.specs.Bodies.{Spot, in_body, in_if, in_for, in_post, place_of, in_simple, after_simple, nesting_simple, ranges_at, step, nesting}
 use Rattle.parse_statements.specs.BodyStates.{GoesOn, Steps}

@@ -8,11 +8,11 @@ use Rattle.parse_expressions.specs.declared.terminal.Terminal.{Terminal}
 use Rattle.parse_expressions.specs.declared.terminal.Terminal.TheVariants.{Var, If, Else, For, Range, Break, Continue, Return, Comma, Semicolon, LeftBrace, RightBrace}
 use Rattle.parse_expressions.specs.Machine.{Base, Open, at_operand}
 use Rattle.parse_expressions.specs.Machine as expression
-use Rattle.parse_statements.specs.Grammar.{of_variables}
-use Rattle.parse_statements.specs.ValueSpecs.{Specs, at_first}
-use Rattle.parse_statements.specs.ValueSpecs as value_specs
-use Rattle.parse_statements.specs.Simples.{Place, Simples, beginning}
-use Rattle.parse_statements.specs.Simples as simples
+use Rattle.parse_simple_statements.specs.Grammar.{of_variables}
+use Rattle.parse_simple_statements.specs.ValueSpecs.{Specs, at_first}
+use Rattle.parse_simple_statements.specs.ValueSpecs as value_specs
+use Rattle.parse_simple_statements.specs.Simples.{Place, Simples, beginning}
+use Rattle.parse_simple_statements.specs.Simples as simples
 use Rattle.parse_statements.specs.Outer.{Branch, Outer, in_block, in_loop, in_then, in_else, chain_depth, brace_depth, whole_if, Blocks, statement_depth, around, with_statement, within, opened_if, opened_for}
 
 -- where a simple statement stands

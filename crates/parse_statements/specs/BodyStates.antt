@@ -11,8 +11,8 @@ use Rattle.parse_statements.specs.declared.state.BodyProgress.{BodyProgress}
 use Rattle.parse_statements.specs.declared.state.BodyProgress.TheVariants as progress
 use Rattle.parse_statements.specs.Outers.{branch_of, branches_of}
 use Rattle.parse_statements.specs.BlocksInMemory.{blocks_of, blocks_at, spot_at}
-use Rattle.parse_statements.specs.SpecStates.{specs_of}
-use Rattle.parse_statements.specs.SimpleStates.{simples_of}
+use Rattle.parse_simple_statements.specs.SpecStates.{specs_of}
+use Rattle.parse_simple_statements.specs.SimpleStates.{simples_of}
 use Rattle.parse_statements.specs.Bodies.{State, at_statement, in_var, in_simple, at_return, in_return, at_if, in_condition, at_for, at_second, in_second, at_post, in_range, at_then, at_else, at_stop, Progress, fails, goes, ends}
 
 abbrev pub state_of : BodyState → State

@@ -1,12 +1,6 @@
 pub mod Grammar
-pub mod ValueSpecs
-pub mod Simples
 pub mod Outer
 pub mod Bodies
-pub mod Spots
-pub mod SpecStates
-pub mod Places
-pub mod SimpleStates
 pub mod Outers
 pub mod BlocksInMemory
 pub mod BodyStates

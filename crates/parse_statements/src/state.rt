@@ -6,15 +6,14 @@ ghost use Rattle.parse_statements.specs.Outer.{chain_depth, statement_depth};
 ghost use Rattle.parse_statements.specs.Outers.{branches_of};
 ghost use Rattle.parse_statements.specs.Bodies.{place_of, header_base, value_base};
 ghost use Rattle.parse_statements.specs.BlocksInMemory.{blocks_of, blocks_at, spot_at};
-ghost use Rattle.parse_statements.specs.SpecStates.{depth_of};
-ghost use Rattle.parse_statements.specs.SimpleStates.{place_at};
+ghost use Rattle.parse_simple_statements.specs.SpecStates.{depth_of};
+ghost use Rattle.parse_simple_statements.specs.SimpleStates.{place_at};
 
 use crate::blocks::{Blocks, IfHeader, SimpleSpot};
 use crate::outer::Branch;
-use crate::simples::Simples;
-use crate::value_specs::ValueSpecs;
 use base::Pos;
 use parse_expressions::Open;
+use parse_simple_statements::{Simples, ValueSpecs};
 use syntax::{Body, Expr, Simple, Targets};
 
 /// A declaration of variables is read, with the place of its word.

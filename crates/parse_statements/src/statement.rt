@@ -5,31 +5,28 @@ ghost use Rattle.syntax.specs.Expressions.{none, exs_of};
 ghost use Rattle.syntax.specs.Statements.{simple_of};
 ghost use Rattle.parse_expressions.specs.Machine as expression;
 ghost use Rattle.parse_expressions.specs.States.{open_of, base_of};
-ghost use Rattle.parse_statements.specs.Grammar.{of_variables};
+ghost use Rattle.parse_simple_statements.specs.Grammar.{of_variables};
 ghost use Rattle.parse_statements.specs.Outer.{statement_depth};
-ghost use Rattle.parse_statements.specs.ValueSpecs as value_specs;
-ghost use Rattle.parse_statements.specs.Simples as simples;
+ghost use Rattle.parse_simple_statements.specs.ValueSpecs as value_specs;
+ghost use Rattle.parse_simple_statements.specs.Simples as simples;
 ghost use Rattle.parse_statements.specs.Bodies.{at_statement, in_var, in_simple, at_return, in_return, place_of, simple_begins, behind_returned, spot_depth, step, nesting, nesting_at_stop};
-ghost use Rattle.parse_statements.specs.Places as places;
+ghost use Rattle.parse_simple_statements.specs.Places as places;
 ghost use Rattle.parse_statements.specs.BlocksInMemory.{blocks_of, blocks_at, spot_at};
-ghost use Rattle.parse_statements.specs.SpecStates.{specs_of, depth_of};
-ghost use Rattle.parse_statements.specs.SimpleStates.{simples_of, place_at};
+ghost use Rattle.parse_simple_statements.specs.SpecStates.{specs_of, depth_of};
+ghost use Rattle.parse_simple_statements.specs.SimpleStates.{simples_of, place_at};
 ghost use Rattle.parse_statements.specs.BodyStates.{state_of, Steps};
 
 use crate::block::{ends, enter, limited, stop, with_statement};
 use crate::blocks::{Blocks, IfHeader, SimpleSpot};
-use crate::declaration::{begin_specs, step_specs};
 use crate::header::{behind_simple, ranges};
-use crate::nodes::with_value;
 use crate::outer::Outer;
-use crate::place::Place;
-use crate::simple::{begin_simple, step_simple};
-use crate::simples::{SimpleProgress, Simples};
-use crate::spot::Declares;
 use crate::state::{BodyProgress, BodyState, InReturn, InSimple, InVar};
-use crate::value_specs::{SpecsProgress, ValueSpecs};
 use base::Pos;
 use parse_expressions::{Open, Progress, StepFault, Terminal, expression, step};
+use parse_simple_statements::{
+    Declares, Place, SimpleProgress, Simples, SpecsProgress, ValueSpecs, begin_simple, begin_specs,
+    step_simple, step_specs, with_value,
+};
 use std::alloc::Global;
 use syntax::{Expr, Stmt};
 

@@ -1,8 +1,8 @@
 use Rattle.std.proofs.Common.{◌≡◌}
 use Rattle.syntax.specs.Statements.{targets_of}
-use Rattle.parse_statements.specs.Simples as simples
+use Rattle.parse_simple_statements.specs.Simples as simples
 use Rattle.parse_statements.specs.BlocksInMemory.{blocks_at, spot_at}
-use Rattle.parse_statements.specs.SimpleStates.{simples_of, place_at}
+use Rattle.parse_simple_statements.specs.SimpleStates.{simples_of, place_at}
 use Rattle.parse_statements.proofs.Failures.{simple_statement_fails}
 use Rattle.parse_statements.proofs.Ranges.{range_steps}
 use Rattle.parse_statements.proofs.statement.in_simple.Goals as goal

@@ -1,5 +1,5 @@
 use Rattle.parse_statements.specs.BlocksInMemory.{blocks_of}
-use Rattle.parse_statements.specs.SpecStates.{specs_of}
+use Rattle.parse_simple_statements.specs.SpecStates.{specs_of}
 use Rattle.parse_statements.proofs.Failures.{var_fails}
 use Rattle.parse_statements.proofs.statement.in_var.Goals as goal
 

@@ -1,5 +1,5 @@
 use Rattle.parse_statements.specs.BlocksInMemory.{blocks_at, spot_at}
-use Rattle.parse_statements.specs.SimpleStates.{simples_of}
+use Rattle.parse_simple_statements.specs.SimpleStates.{simples_of}
 use Rattle.parse_statements.proofs.BodyBegins.{first_of_simple}
 use Rattle.parse_statements.proofs.statement.simple_begins.Goals as goal
 

@@ -1,0 +1,25 @@
+//! The part of the parser that reads declarations of constants and variables, and simple statements, as machines that take
+//! one token at a time.
+//!
+//! One machine reads a declaration, and one a simple statement or what stands before a `range`. A token inside an expression
+//! goes to the machine of expressions first; where the expression ended before it, to what stands around that. Left sides
+//! are read as expressions until a `:=` tells that they are names. Nothing is ever taken back, nothing is read ahead, and no
+//! step calls itself.
+#![tactic(auto)]
+
+mod declaration;
+mod depth;
+mod nodes;
+mod place;
+mod simple;
+mod simples;
+mod spot;
+mod value_specs;
+
+pub use declaration::{begin_specs, step_specs};
+pub use nodes::with_value;
+pub use place::Place;
+pub use simple::{begin_simple, step_simple};
+pub use simples::{SimpleProgress, Simples};
+pub use spot::Declares;
+pub use value_specs::{SpecsProgress, ValueSpecs};
