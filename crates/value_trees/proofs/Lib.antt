@@ -1,0 +1,5 @@
+pub mod Lists
+pub mod Parts
+pub mod Zeros
+pub mod Equal
+pub mod Table
