@@ -3,7 +3,7 @@ use Rattle.std.proofs.Common.{◌≡◌, ◌≢◌, ◌⊎◌, inl, inr, ℕ, ze
 use Rattle.std.proofs.lemmas.List.{length-map}
 use Rattle.value_trees.specs.Types.{ValueType, PartTypes, ints, bools, struct_of, array_of, no_types, more_types, width, widths, repeated, part_types, types_in, nth_type, widths_before, part_count, part_type, part_offset}
 use Rattle.value_trees.specs.Value.{Value, Values, int, bool, composite, no_values, more_values, words, words_in, IsOf, AreOf, FitsWords, FitWords}
-use Rattle.value_trees.specs.Paths.{nth_value, with_nth, part, with_part, at_path, with_path, Leads, offset, Apart}
+use Rattle.value_trees.specs.Paths.{nth_value, with_nth, part, with_part, at_path, with_path, Leads, type_at, offset, Apart}
 use Rattle.value_trees.specs.Words.{Content, contents, contents_in, word_of, Hold, slice, with_slice}
 use Rattle.value_trees.specs.Laws.{Counted, Sliced, Replaced, PartWords, HeldParts, Element, Typed, Fits, ReadBack, Joined, JoinedTypes}
 use Rattle.value_trees.proofs.Lists
@@ -144,6 +144,10 @@ split_at t s v (i ∷ path) is leads =
     regroup : (a p b c d e : List Content) → p ≡ b ++ (c ++ d) → a ++ (p ++ e) ≡ (a ++ b) ++ (c ++ (d ++ e))
     regroup a p b c d e h =
         ap (λ l. a ++ (l ++ e)) h ∙ ap (λ l. a ++ l) (append_assoc b (c ++ d) e) ∙ ap (λ l. a ++ (b ++ l)) (append_assoc c d e) ∙ sym (append_assoc a b (c ++ (d ++ e)))
+
+pub leads_to : (t s : ValueType) (path : List ℕ) → Leads t path s → type_at t path ≡ s
+leads_to t s [] leads = leads
+leads_to t s (i ∷ path) leads = leads_to (part_type t i) s path leads.1
 
 pub at_is : (t s : ValueType) (v : Value) (path : List ℕ) → IsOf t v → Leads t path s → IsOf s (at_path v path)
 at_is t s v [] is leads = subst (λ r. IsOf r v) leads is

@@ -2,7 +2,7 @@
 use Rattle.std.specs.Prelude.{◌≡◌, ◌⊎◌, ◌↔◌, ℕ, ◌+◌, ◌*◌, ◌<◌, ◌≤◌, Bool, List, ◌∷◌, ◌++◌, length, replicate, get_or, slice_get, Some, IsTrue, Decides}
 use Rattle.value_trees.specs.Types.{ValueType, array_of, width, TypeEntry, entry_type, types_of, PartsBefore}
 use Rattle.value_trees.specs.Value.{Value, words, IsOf, FitsWords, zero_of, same}
-use Rattle.value_trees.specs.Paths.{at_path, with_path, Leads, offset, Apart}
+use Rattle.value_trees.specs.Paths.{at_path, with_path, Leads, type_at, offset, Apart}
 use Rattle.value_trees.specs.Words.{Content, contents, words_of, IsZero, AreAlike, Hold, all_equal, slice, with_slice}
 
 -- ---- words
@@ -70,6 +70,10 @@ abbrev pub ElementsAreEven : Type 0
 ElementsAreEven = (n : ℕ) (t s : ValueType) (i : ℕ) (path : List ℕ) → i < n → Element n t s i path
 
 -- ---- parts
+
+-- a path leads to one type
+abbrev pub PathsLeadOnce : Type 0
+PathsLeadOnce = (t s : ValueType) (path : List ℕ) → Leads t path s → type_at t path ≡ s
 
 -- a part is of its type, and so is the whole with another such part
 pub record Typed (t s : ValueType) (v x : Value) (path : List ℕ) : Type 0 where

@@ -44,6 +44,11 @@ abbrev pub Leads : ValueType → List ℕ → ValueType → Type 0
 Leads t [] s = t ≡ s
 Leads t (i ∷ path) s = (i < part_count t) × Leads (part_type t i) path s
 
+-- that type, where the path leads anywhere
+abbrev pub type_at : ValueType → List ℕ → ValueType
+type_at t [] = t
+type_at t (i ∷ path) = type_at (part_type t i) path
+
 -- the words before the part at a path
 abbrev pub offset : ValueType → List ℕ → ℕ
 offset t [] = 0

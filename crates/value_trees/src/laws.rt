@@ -1,6 +1,6 @@
 //! Laws of types, values and paths. Each function carries one as its clause, and does nothing.
 
-ghost use Rattle.value_trees.specs.Laws.{ComparedByWords, ElementsAreEven, EqualWordsAreEqual, OtherPartsStay, PartsAreHeld, PartsAreSlices, PartsAreTyped, PartsFit, PartsLieApart, PathsJoin, ReplacedPartsAreRead, ReplacedPartsAreSlices, SameIsEqual, TableGivesTypes, TypedPathsJoin, TypesCountWords, WordsOfParts, ZerosAreHeld, ZerosAreZeros};
+ghost use Rattle.value_trees.specs.Laws.{ComparedByWords, ElementsAreEven, EqualWordsAreEqual, OtherPartsStay, PartsAreHeld, PartsAreSlices, PartsAreTyped, PartsFit, PartsLieApart, PathsJoin, PathsLeadOnce, ReplacedPartsAreRead, ReplacedPartsAreSlices, SameIsEqual, TableGivesTypes, TypedPathsJoin, PathsLeadOnce, TypesCountWords, WordsOfParts, ZerosAreHeld, ZerosAreZeros};
 
 /// Each value of a type has as many words as the type says.
 pub fn types_count_words()
@@ -95,4 +95,9 @@ pub fn compared_by_words()
 /// In a table in which each type stands behind those of its parts, each is made of the types that its entry names.
 pub fn table_gives_types()
     ensures { TableGivesTypes }
+{}
+
+/// A path leads from a type to one type.
+pub fn paths_lead_once()
+    ensures { PathsLeadOnce }
 {}
