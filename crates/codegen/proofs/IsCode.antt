@@ -6,7 +6,7 @@ use Rattle.isa.specs.Code.{Tables, CanCall, Fits as FitsAt, FitsPlace, IsCode, I
 use Rattle.isa.specs.declared.func.Func.{Func as Entry}
 use Rattle.isa.specs.declared.instr.Instr.{Instr}
 use Rattle.isa.specs.declared.instr.BinOp.TheVariants as Word
-use Rattle.isa.specs.declared.instr.Instr.TheVariants.{Const, Move, MoveWords, Bin, Un, Jump, JumpZero, Call, Argument, SetResults, Load, Store, ReadInt, PrintInt, PrintBool, PrintText, PrintSpace, PrintLine, Return, Exit, PanicText, PanicInt, PanicBool}
+use Rattle.isa.specs.declared.instr.Instr.TheVariants.{Const, Zero, Move, MoveWords, Same, Differ, Bin, Un, Jump, JumpZero, Call, Argument, ArgumentWords, SetResults, Load, Store, Address, Offset, ReadInt, PrintInt, PrintBool, PrintText, PrintSpace, PrintLine, Return, Exit, PanicText, PanicInt, PanicBool}
 use Rattle.machine.specs.Inside.{Inside}
 use Rattle.typed.specs.declared.operators.UnOp.{UnOp}
 use Rattle.typed.specs.declared.operators.UnOp.TheVariants as One
@@ -25,17 +25,23 @@ use Rattle.codegen.proofs.Within.{PiecesWithin, StWithin, StsWithin, sts_within}
 module _ (fns : List Entry) (strings slots incoming start end : ℕ) where
   abbrev Ok : Instr → Type 0
   Ok (Const a w) = a < slots
+  Ok (Zero a n) = (1 ≤ n) × (a + n ≤ slots)
   Ok (Move a b) = (a < slots) × (b < slots)
   Ok (MoveWords a b n) = (1 ≤ n) × (a + n ≤ slots) × (b + n ≤ slots)
+  Ok (Same a b c n) = (1 ≤ n) × (a < slots) × (b + n ≤ slots) × (c + n ≤ slots)
+  Ok (Differ a b c n) = (1 ≤ n) × (a < slots) × (b + n ≤ slots) × (c + n ≤ slots)
   Ok (Bin o a b c) = (a < slots) × (b < slots) × (c < slots)
   Ok (Un o a b) = (a < slots) × (b < slots)
   Ok (Jump goal) = (start ≤ goal) × (goal < end)
   Ok (JumpZero a goal) = (a < slots) × ((start ≤ goal) × (goal < end))
   Ok (Call g) = CanCall fns slots g
   Ok (Argument a b) = (a < slots) × (b < incoming)
+  Ok (ArgumentWords a b n) = (1 ≤ n) × (a + n ≤ slots) × (b + n ≤ incoming)
   Ok (SetResults a b n) = (1 ≤ n) × (a + n ≤ slots) × (b + n ≤ incoming)
   Ok (Load a b off n) = (1 ≤ n) × (a + n ≤ slots) × (b < slots)
   Ok (Store a off c n) = (1 ≤ n) × (a < slots) × (c + n ≤ slots)
+  Ok (Address a b) = (a < slots) × (b < slots)
+  Ok (Offset a b off) = (a < slots) × (b < slots)
   Ok (PrintInt a) = a < slots
   Ok (PrintBool a) = a < slots
   Ok (PrintText number) = number < strings
@@ -336,17 +342,23 @@ module _ (owners : List ℕ) (f start end : ℕ) (own : (p : ℕ) → start ≤ 
   fits_at : (place slots incoming : ℕ) (i : Instr) → Ok fns strings slots incoming start end i → (i ≡ Return) ⊎ (slice_get owners (place + 1) ≡ Some f) → FitsAt owners fns strings place f slots incoming i
   fits_at place slots incoming i k (inl e) = subst (λ j. FitsAt owners fns strings place f slots incoming j) (sym e) tt
   fits_at place slots incoming (Const a w) k (inr g) = (k, g)
+  fits_at place slots incoming (Zero a n) k (inr g) = (k.0, k.1, g)
   fits_at place slots incoming (Move a b) k (inr g) = (k.0, k.1, g)
   fits_at place slots incoming (MoveWords a b n) k (inr g) = (k.0, k.1, k.2, g)
+  fits_at place slots incoming (Same a b c n) k (inr g) = (k.0, k.1, k.2, k.3, g)
+  fits_at place slots incoming (Differ a b c n) k (inr g) = (k.0, k.1, k.2, k.3, g)
   fits_at place slots incoming (Bin o a b c) k (inr g) = (k.0, k.1, k.2, g)
   fits_at place slots incoming (Un o a b) k (inr g) = (k.0, k.1, g)
   fits_at place slots incoming (Jump goal) k (inr g) = own goal k.0 k.1
   fits_at place slots incoming (JumpZero a goal) k (inr g) = (k.0, own goal k.1.0 k.1.1, g)
   fits_at place slots incoming (Call c) k (inr g) = (k, g)
   fits_at place slots incoming (Argument a b) k (inr g) = (k.0, k.1, g)
+  fits_at place slots incoming (ArgumentWords a b n) k (inr g) = (k.0, k.1, k.2, g)
   fits_at place slots incoming (SetResults a b n) k (inr g) = (k.0, k.1, k.2, g)
   fits_at place slots incoming (Load a b off n) k (inr g) = (k.0, k.1, k.2, g)
   fits_at place slots incoming (Store a off c n) k (inr g) = (k.0, k.1, k.2, g)
+  fits_at place slots incoming (Address a b) k (inr g) = (k.0, k.1, g)
+  fits_at place slots incoming (Offset a b off) k (inr g) = (k.0, k.1, g)
   fits_at place slots incoming (PrintInt a) k (inr g) = (k, g)
   fits_at place slots incoming (PrintBool a) k (inr g) = (k, g)
   fits_at place slots incoming (PrintText number) k (inr g) = (k, g)

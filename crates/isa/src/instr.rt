@@ -49,10 +49,16 @@ pub enum BinFault {
 pub enum Instr {
     /// The slot gets this word.
     Const { a: u16, word: u64 },
+    /// The n slots from a on get zeros.
+    Zero { a: u16, n: u16 },
     /// The slot a gets the word of b.
     Move { a: u16, b: u16 },
     /// The n slots from a on get the words of the slots from b on, as through a copy.
     MoveWords { a: u16, b: u16, n: u16 },
+    /// The slot a gets 1 where the n slots from b on have the words of those from c on, else 0.
+    Same { a: u16, b: u16, c: u16, n: u16 },
+    /// The slot a gets 0 where the n slots from b on have the words of those from c on, else 1.
+    Differ { a: u16, b: u16, c: u16, n: u16 },
     /// The slot a gets what the operation gives of the words of b and c; where it gives nothing, the program panics.
     Bin { op: BinOp, a: u16, b: u16, c: u16 },
     /// The slot a gets what the operation gives of the word of b.
@@ -65,6 +71,8 @@ pub enum Instr {
     Call { func: u16 },
     /// The slot a gets the incoming word b.
     Argument { a: u16, b: u16 },
+    /// The n slots from a on get the incoming words from b on.
+    ArgumentWords { a: u16, b: u16, n: u16 },
     /// The n incoming words from b on get the words of the slots from a on.
     SetResults { a: u16, b: u16, n: u16 },
     /// The n slots from a on get the n words from the address on that lies off behind the word of b, as through a copy. Where
@@ -73,6 +81,10 @@ pub enum Instr {
     /// The n words from the address on that lies off behind the word of a get the n words of the slots from c on, as through
     /// a copy. Where the word of a is 0, the program panics.
     Store { a: u16, off: u16, c: u16, n: u16 },
+    /// The slot a gets the address of slot b.
+    Address { a: u16, b: u16 },
+    /// The slot a gets the address that lies off behind the word of b, modulo 2^64. Where that word is 0, the program panics.
+    Offset { a: u16, b: u16, off: u16 },
     /// Prints the slot's number in decimal.
     PrintInt { a: u16 },
     /// Prints `true` or `false`; every word but 0 is true.
@@ -96,8 +108,9 @@ pub enum Instr {
     PanicBool { a: u16 },
 }
 
+/// 1 where it holds, else 0.
 #[inline(always)]
-fn bit(holds: bool) -> u64
+pub fn bit(holds: bool) -> u64
     ensures { result ≡ bit_of holds }
 {
     if holds { 1 } else { 0 }

@@ -3,7 +3,7 @@ use Rattle.std.specs.Prelude.{◌≡◌, ℕ, ◌+◌, ◌-◌, ◌<◌, ◌≤�
 use Rattle.heap_bump.specs.Words.{AreTaken, first_address}
 use Rattle.isa.specs.Code.{Tables}
 use Rattle.isa.specs.declared.instr.Instr.{Instr}
-use Rattle.isa.specs.declared.instr.Instr.TheVariants.{Const, Move, MoveWords, Bin, Un, Jump, JumpZero, Call, Argument, SetResults, Load, Store, PrintInt, PrintBool, PrintText, ReadInt, Return, Exit, PanicText, PanicInt, PanicBool}
+use Rattle.isa.specs.declared.instr.Instr.TheVariants.{Const, Zero, Move, MoveWords, Same, Differ, Bin, Un, Jump, JumpZero, Call, Argument, ArgumentWords, SetResults, Load, Store, Address, Offset, PrintInt, PrintBool, PrintText, ReadInt, Return, Exit, PanicText, PanicInt, PanicBool}
 use Rattle.isa.specs.declared.func.Func.{Func}
 use Rattle.machine.specs.declared.memory.Spot.{Spot}
 use Rattle.machine.specs.declared.memory.Spot.TheVariants.{InHeap, InStack, Nowhere}
@@ -39,16 +39,22 @@ pub record Callable (t : Tables) (long base g : ℕ) : Type 0 where
 -- prints is there
 abbrev pub Touches : Tables → ℕ → ℕ → Instr → Type 0
 Touches t long base (Const a word) = base + a < long
+Touches t long base (Zero a n) = base + (a + n) ≤ long
 Touches t long base (Move a b) = (base + a < long) × (base + b < long)
 Touches t long base (MoveWords a b n) = (base + (a + n) ≤ long) × (base + (b + n) ≤ long)
+Touches t long base (Same a b c n) = (base + a < long) × (base + (b + n) ≤ long) × (base + (c + n) ≤ long)
+Touches t long base (Differ a b c n) = (base + a < long) × (base + (b + n) ≤ long) × (base + (c + n) ≤ long)
 Touches t long base (Bin op a b c) = (base + a < long) × (base + b < long) × (base + c < long)
 Touches t long base (Un op a b) = (base + a < long) × (base + b < long)
 Touches t long base (JumpZero a to) = base + a < long
 Touches t long base (Call g) = Callable t long base g
 Touches t long base (Argument a b) = base + a < long
+Touches t long base (ArgumentWords a b n) = base + (a + n) ≤ long
 Touches t long base (SetResults a b n) = base + (a + n) ≤ long
 Touches t long base (Load a b off n) = (base + (a + n) ≤ long) × (base + b < long)
 Touches t long base (Store a off c n) = (base + a < long) × (base + (c + n) ≤ long)
+Touches t long base (Address a b) = (base + a < long) × (base + b < long)
+Touches t long base (Offset a b off) = (base + a < long) × (base + b < long)
 Touches t long base (PrintInt a) = base + a < long
 Touches t long base (PrintBool a) = base + a < long
 Touches t long base (PrintText text) = text < length t.strings

@@ -1,12 +1,12 @@
 //! Memory that is reached by addresses: the heap's words that are taken, and the stack from the running frame on.
-ghost use Rattle.std.specs.Prelude.{◌≡◌, ◌≢◌, ℕ, ◌+◌, ◌<◌, ◌≤◌, ◌^◌, ◌&&◌, nat_le, length, drop, slice_index, Some, None};
+ghost use Rattle.std.specs.Prelude.{◌≡◌, ◌≢◌, ℕ, ◌+◌, ◌-◌, ◌<◌, ◌≤◌, ◌^◌, ◌&&◌, nat_le, length, drop, slice_index, Some, None};
 ghost use Rattle.heap_bump.specs.Words.{Words};
-ghost use Rattle.machine.specs.Machine.{words_at, lie_within, address_behind, spot_of, loads_from, loads, stores_at, stores};
+ghost use Rattle.machine.specs.Machine.{words_at, lie_within, address_of, address_behind, spot_of, loads_from, loads, stores_at, stores, offsets};
 ghost use Rattle.machine.specs.Inside.{Reached};
 ghost use Rattle.machine.specs.Answers.{Comes, StatusFits, state_of, touched};
 
 use crate::links::address;
-use crate::slots::{copy_slots, set_slots, slot, slots};
+use crate::slots::{copy_slots, set_slot, set_slots, slot, slots};
 use crate::{Ending, Next, Panic, Place};
 use heap_bump::{HEAP_LOW, Heap};
 
@@ -116,6 +116,37 @@ fn store_words(
             true
         }
         Spot::Nowhere => false,
+    }
+}
+
+/// The address of a slot.
+#[inline(always)]
+pub fn slot_address(words: &Vec<u64>, stack_max: u64, base: usize, a: u16) -> u64
+    requires words { (length words.now.items ≤ stack_max) × (stack_max ≤ 2 ^ 32) }
+    requires slot { base + a < length words.now.items }
+    ensures { result ≡ address_of stack_max (length (drop base words.now.items) - a) }
+{
+    address(stack_max, words.len() - base - a as usize)
+}
+
+/// The slot a gets the address that lies off behind the word of slot b.
+#[inline(always)]
+pub fn offset(words: &mut Vec<u64>, at: Place, a: u16, b: u16, off: u16) -> Next
+    requires slots { (at.base + a < length words.old.items) × (at.base + b < length words.old.items) }
+    requires place { at.pc < 2 ^ 40 }
+    ensures offsets { (reads : ℕ) (heap : Words) → Comes (offsets (state_of words.old.items at reads heap) a b off) (state_of words.new.items result.at reads heap) result.ending }
+    ensures on { result.ending ≡ None → result.at ≡ record { pc = at.pc + 1; base = at.base } }
+    ensures length { length words.new.items ≡ length words.old.items }
+    ensures status { StatusFits result.ending }
+    ensures memory { result.ending ≢ Some Ending.NoMemory }
+    ensures read { result.ending ≢ Some Ending.ReadFault }
+{
+    match address_behind(words, at.base, b, off) {
+        None => Next::ended(at, Ending::Panic(Panic::NilPointer)),
+        Some(address) => {
+            set_slot(words, at.base, a as usize, address);
+            Next::on(at)
+        }
     }
 }
 

@@ -1,6 +1,6 @@
 //! Slots of the running frame, in the block of words.
 ghost use Rattle.std.specs.Prelude.{◌≡◌, ◌+◌, ◌-◌, ◌<◌, ◌≤◌, ◌++◌, length, take, drop, replicate, slice_index, slice_set};
-ghost use Rattle.machine.specs.Machine.{put_words, words_at, zeroed};
+ghost use Rattle.machine.specs.Machine.{put_words, same_words, words_at, zeroed};
 
 /// The word of a slot.
 #[inline(always)]
@@ -33,6 +33,16 @@ pub fn slots(words: &Vec<u64>, base: usize, a: usize, count: usize) -> &[u64]
 {
     let from = base + a;
     &words[from..from + count]
+}
+
+/// Whether so many slots from one on have the words of the slots from another one on. It stands out of line, so that the
+/// other instructions keep their registers.
+#[inline(never)]
+pub fn same_slots(words: &Vec<u64>, base: usize, a: usize, b: usize, count: usize) -> bool
+    requires { (base + (a + count) ≤ length words.now.items) × (base + (b + count) ≤ length words.now.items) }
+    ensures { result ≡ same_words (drop base words.now.items) a b count }
+{
+    slots(words, base, a, count) == slots(words, base, b, count)
 }
 
 // The words from an index on are replaced by these.

@@ -15,11 +15,11 @@ ghost use Rattle.machine.specs.Answers.{Answers, Comes, StatusFits, CallFits, No
 
 use crate::functions::{callee, own_frame, string};
 use crate::links::{address, call, leave};
-use crate::memory::{load, store};
-use crate::slots::{copy_slots, set_slot, slot};
+use crate::memory::{load, offset, slot_address, store};
+use crate::slots::{copy_slots, same_slots, set_slot, slot, zero_slots};
 use crate::{Ending, Next, Panic, Place};
 use heap_bump::Heap;
-use isa::{BinFault, Func, Instr, bin, un};
+use isa::{BinFault, Func, Instr, bin, bit, un};
 use outside::{IntReader, ReadFault, Sink, Source, WriteFault, put_bool, put_bytes, put_int};
 use std::alloc::Global;
 
@@ -259,6 +259,10 @@ pub fn step<I: Source, O: Sink>(
             set_slot(words, base, a as usize, word);
             Next::on(at)
         }
+        Instr::Zero { a, n } => {
+            zero_slots(words, base, a as usize, n as usize);
+            Next::on(at)
+        }
         Instr::Move { a, b } => {
             let word = slot(words, base, b as usize);
             set_slot(words, base, a as usize, word);
@@ -266,6 +270,16 @@ pub fn step<I: Source, O: Sink>(
         }
         Instr::MoveWords { a, b, n } => {
             copy_slots(words, base, b as usize, a as usize, n as usize);
+            Next::on(at)
+        }
+        Instr::Same { a, b, c, n } => {
+            let same = same_slots(words, base, b as usize, c as usize, n as usize);
+            set_slot(words, base, a as usize, bit(same));
+            Next::on(at)
+        }
+        Instr::Differ { a, b, c, n } => {
+            let same = same_slots(words, base, b as usize, c as usize, n as usize);
+            set_slot(words, base, a as usize, bit(!same));
             Next::on(at)
         }
         Instr::Bin { op, a, b, c } => {
@@ -311,6 +325,16 @@ pub fn step<I: Source, O: Sink>(
                 Err(ending) => Next::ended(at, ending),
             }
         }
+        Instr::ArgumentWords { a, b, n } => {
+            let frame = own_frame(instrs, owners, funcs, strings, words, at);
+            match incoming(words, stack_max, base, frame, b, n) {
+                Ok(index) => {
+                    copy_slots(words, base, index, a as usize, n as usize);
+                    Next::on(at)
+                }
+                Err(ending) => Next::ended(at, ending),
+            }
+        }
         Instr::SetResults { a, b, n } => {
             let frame = own_frame(instrs, owners, funcs, strings, words, at);
             match incoming(words, stack_max, base, frame, b, n) {
@@ -323,6 +347,12 @@ pub fn step<I: Source, O: Sink>(
         }
         Instr::Load { a, b, off, n } => load(words, stack_max, heap, at, a, b, off, n),
         Instr::Store { a, off, c, n } => store(words, stack_max, heap, at, a, off, c, n),
+        Instr::Address { a, b } => {
+            let word = slot_address(words, stack_max, base, b);
+            set_slot(words, base, a as usize, word);
+            Next::on(at)
+        }
+        Instr::Offset { a, b, off } => offset(words, at, a, b, off),
         Instr::PrintInt { a } => print_int(words, at, a, out),
         Instr::PrintBool { a } => print_bool(words, at, a, out),
         Instr::PrintText { text } => print(words, at, string(strings, text), out),

@@ -6,11 +6,20 @@ use Rattle.machine.proofs.steps.step.Goals as goal
 pub returns-in-Const-clause-step : goal.returns-in-Const-clause-step
 returns-in-Const-clause-step g c = nothing_read _ _ _ _ (search rules) (refl, refl) (λ items reads. let more : reads + 0 ≡ reads = omega arith in rw more (search rules))
 
+pub returns-in-Zero-clause-step : goal.returns-in-Zero-clause-step
+returns-in-Zero-clause-step g c = nothing_read _ _ _ _ (search rules) (refl, refl) (λ items reads. let more : reads + 0 ≡ reads = omega arith in rw more (search rules))
+
 pub returns-in-Move-clause-step : goal.returns-in-Move-clause-step
 returns-in-Move-clause-step g c = nothing_read _ _ _ _ (search rules) (refl, refl) (λ items reads. let more : reads + 0 ≡ reads = omega arith in rw more (search rules))
 
 pub returns-in-MoveWords-clause-step : goal.returns-in-MoveWords-clause-step
 returns-in-MoveWords-clause-step g c = nothing_read _ _ _ _ (search rules) (refl, refl) (λ items reads. let more : reads + 0 ≡ reads = omega arith in rw more (search rules))
+
+pub returns-in-Same-clause-step : goal.returns-in-Same-clause-step
+returns-in-Same-clause-step g c = nothing_read _ _ _ _ (search rules) (refl, refl) (λ items reads. let more : reads + 0 ≡ reads = omega arith in rw more (search rules))
+
+pub returns-in-Differ-clause-step : goal.returns-in-Differ-clause-step
+returns-in-Differ-clause-step g c = nothing_read _ _ _ _ (search rules) (refl, refl) (λ items reads. let more : reads + 0 ≡ reads = omega arith in rw more (search rules))
 
 pub returns-in-Ok-clause-step : goal.returns-in-Ok-clause-step
 returns-in-Ok-clause-step g c = nothing_read _ _ _ _ (search rules) (refl, refl) (λ items reads. let more : reads + 0 ≡ reads = omega arith in rw more (search rules))
@@ -41,6 +50,15 @@ returns-in-Ok-incoming-2-clause-step g c = nothing_read _ _ _ _ (search rules) (
 
 pub returns-in-Err-incoming-2-clause-step : goal.returns-in-Err-incoming-2-clause-step
 returns-in-Err-incoming-2-clause-step g c = nothing_read _ _ _ _ (search rules) (refl, refl) (λ items reads. let more : reads + 0 ≡ reads = omega arith in rw more (grind (arith, common_steps)))
+
+pub returns-in-Ok-incoming-3-clause-step : goal.returns-in-Ok-incoming-3-clause-step
+returns-in-Ok-incoming-3-clause-step g c = nothing_read _ _ _ _ (search rules) (refl, refl) (λ items reads. let more : reads + 0 ≡ reads = omega arith in rw more (grind (arith, common_steps)))
+
+pub returns-in-Err-incoming-3-clause-step : goal.returns-in-Err-incoming-3-clause-step
+returns-in-Err-incoming-3-clause-step g c = nothing_read _ _ _ _ (search rules) (refl, refl) (λ items reads. let more : reads + 0 ≡ reads = omega arith in rw more (grind (arith, common_steps)))
+
+pub returns-in-Address-clause-step : goal.returns-in-Address-clause-step
+returns-in-Address-clause-step g c = nothing_read _ _ _ _ (search rules) (refl, refl) (λ items reads. let more : reads + 0 ≡ reads = omega arith in rw more (search rules))
 
 pub returns-in-PrintInt-clause-step : goal.returns-in-PrintInt-clause-step
 returns-in-PrintInt-clause-step g c = nothing_read _ _ _ _ (search rules) (refl, refl) (λ items reads. let more : reads + 0 ≡ reads = omega arith in rw more (search rules))
@@ -90,3 +108,8 @@ pub returns-in-Store-clause-step : goal.returns-in-Store-clause-step
 returns-in-Store-clause-step g c =
     nothing_read _ _ _ _ c.store.ensures.read (refl, refl)
     (λ items reads. let more : reads + 0 ≡ reads = omega arith in rw (more, c.in-Store.ensures.is) (told_nothing _ _ _ _ _ (c.store.ensures.stores reads)))
+
+pub returns-in-Offset-clause-step : goal.returns-in-Offset-clause-step
+returns-in-Offset-clause-step g c =
+    nothing_read _ _ _ _ c.offset.ensures.read (refl, refl)
+    (λ items reads. let more : reads + 0 ≡ reads = omega arith in rw (more, c.in-Offset.ensures.is) (told_nothing _ _ _ _ _ (c.offset.ensures.offsets reads c.args.heap.now)))
