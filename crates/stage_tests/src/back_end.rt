@@ -17,7 +17,7 @@ const TEXT: &str =
 /// The most words of the stack, and the address of its upper end.
 const MOST: u64 = 100;
 
-const END: u64 = (1 << 40) + MOST;
+pub(crate) const END: u64 = (1 << 40) + MOST;
 
 /// Whether a frame lies inside so many words.
 fn is_inside(code: &Code, long: usize, at: Place) -> bool
@@ -33,7 +33,7 @@ fn is_inside(code: &Code, long: usize, at: Place) -> bool
 }
 
 /// Runs so many steps from a place, with an empty heap, and with nothing to read.
-fn run_from(
+pub(crate) fn run_from(
     rt: &impl Abort,
     alloc: Global,
     code: &Code,

@@ -10,6 +10,8 @@ mod back_end;
 #[cfg(test)]
 mod checker;
 #[cfg(test)]
+mod instructions;
+#[cfg(test)]
 mod parser;
 #[cfg(test)]
 mod programs;

@@ -1,0 +1,38 @@
+-- One instruction before the return of the only function.
+use Rattle.std.proofs.Common.{◌≡◌, ℕ, zero, suc, ◌+◌, ◌-◌, ◌≤◌, [], ◌∷◌, refl, subst, Some}
+use Rattle.std.specs.Prelude.{None, slice_get}
+use Rattle.isa.specs.Code.{Fits, FitsPlace, IsCode, IsLinked}
+use Rattle.isa.specs.declared.func.Func.{Func}
+use Rattle.isa.specs.declared.instr.Instr.{Instr}
+use Rattle.isa.specs.declared.instr.Instr.TheVariants.{Return}
+
+same_some : {A : Type 0} {x y : A} → Some x ≡ Some y → x ≡ y
+same_some e = cc
+
+none : {A : Type 0} {x : A} → None ≡ Some x → ⊥
+none e = cc
+
+module _ (i : Instr) (fn : Func) (two : 2 ≤ fn.frame) (start : fn.start ≡ 0) (fits : Fits (0 ∷ (0 ∷ [])) (fn ∷ []) 0 0 0 (fn.frame - 2) (fn.arguments + fn.results) i) where
+  each : (place : ℕ) (j : Instr) → slice_get (i ∷ (Return ∷ [])) place ≡ Some j → FitsPlace (0 ∷ (0 ∷ [])) (fn ∷ []) 0 place j
+  each zero j is = record {
+    f = 0;
+    fn = fn;
+    owner = refl;
+    is = refl;
+    fits = subst (λ (k : Instr). Fits (0 ∷ (0 ∷ [])) (fn ∷ []) 0 0 0 (fn.frame - 2) (fn.arguments + fn.results) k) (same_some is) fits;
+  }
+  each (suc zero) j is = record {
+    f = 0;
+    fn = fn;
+    owner = refl;
+    is = refl;
+    fits = subst (λ (k : Instr). Fits (0 ∷ (0 ∷ [])) (fn ∷ []) 0 1 0 (fn.frame - 2) (fn.arguments + fn.results) k) (same_some is) tt;
+  }
+  each (suc (suc n)) j is = absurd (none is)
+
+  linked : (f : ℕ) (g : Func) → slice_get (fn ∷ []) f ≡ Some g → IsLinked (0 ∷ (0 ∷ [])) f g
+  linked zero g is = subst (λ (h : Func). IsLinked (0 ∷ (0 ∷ [])) 0 h) (same_some is) (record { frame = two; start = rw start refl })
+  linked (suc n) g is = absurd (none is)
+
+  pub alone : IsCode (record { instrs = i ∷ (Return ∷ []); owners = 0 ∷ (0 ∷ []); funcs = fn ∷ []; strings = [] })
+  alone = record { same = refl; fits = each; linked = linked }
