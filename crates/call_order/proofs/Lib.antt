@@ -1,0 +1,9 @@
+pub mod Chained
+pub mod Opened
+pub mod Searched
+pub mod Listed
+pub mod Counted
+pub mod Leaders
+pub mod Ranked
+pub mod Members
+pub mod Whole

@@ -1,0 +1,64 @@
+-- Which functions a function calls: a call counts wherever it stands in the text of the body.
+use Rattle.std.specs.Prelude.{◌≡◌, ◌⊎◌, ℕ, List, [], ◌∷◌, Option, Some, None, slice_get}
+use Rattle.typed.specs.Syntax.{Ex, Exs, Piece, Over, St, Sts, Func, Program, constant, read, unary, binary, both, either, call, none, more, results, asked, text, shown, over_int, declare, assign, update, bump, discard, block, choose, loop, range, break_off, go_on, give_back, print, raise, quit, done, next}
+
+-- an expression, or some expressions, have a call of a function
+abbrev mutual
+  pub ExCalls : Ex → ℕ → Type 0
+  ExCalls (constant v) g = ⊥
+  ExCalls (read q) g = ⊥
+  ExCalls (unary op e) g = ExCalls e g
+  ExCalls (binary at op a b) g = ExCalls a g ⊎ ExCalls b g
+  ExCalls (both a b) g = ExCalls a g ⊎ ExCalls b g
+  ExCalls (either a b) g = ExCalls a g ⊎ ExCalls b g
+  ExCalls (call f es) g = (f ≡ g) ⊎ ExsCall es g
+
+  pub ExsCall : Exs → ℕ → Type 0
+  ExsCall none g = ⊥
+  ExsCall (more e es) g = ExCalls e g ⊎ ExsCall es g
+  ExsCall (results f es) g = (f ≡ g) ⊎ ExsCall es g
+  ExsCall asked g = ⊥
+
+-- an operand of `print`, `println` or `panic`
+abbrev pub PieceCalls : Piece → ℕ → Type 0
+PieceCalls (text number) g = ⊥
+PieceCalls (shown t e) g = ExCalls e g
+
+abbrev pub PiecesCall : List Piece → ℕ → Type 0
+PiecesCall [] g = ⊥
+PiecesCall (p ∷ ps) g = PieceCalls p g ⊎ PiecesCall ps g
+
+-- a condition, if there is one
+abbrev pub TestCalls : Option Ex → ℕ → Type 0
+TestCalls None g = ⊥
+TestCalls (Some e) g = ExCalls e g
+
+abbrev pub OverCalls : Over → ℕ → Type 0
+OverCalls (over_int e) g = ExCalls e g
+
+-- a statement, or some statements
+abbrev mutual
+  pub StCalls : St → ℕ → Type 0
+  StCalls (declare sites) g = ⊥
+  StCalls (assign ls es) g = ExsCall es g
+  StCalls (update at q op e) g = ExCalls e g
+  StCalls (bump q op) g = ⊥
+  StCalls (discard es) g = ExsCall es g
+  StCalls (block ss) g = StsCall ss g
+  StCalls (choose e a b) g = ExCalls e g ⊎ (StsCall a g ⊎ StsCall b g)
+  StCalls (loop sites test post body) g = TestCalls test g ⊎ (StsCall post g ⊎ StsCall body g)
+  StCalls (range over key value body) g = OverCalls over g ⊎ StsCall body g
+  StCalls break_off g = ⊥
+  StCalls go_on g = ⊥
+  StCalls (give_back es) g = ExsCall es g
+  StCalls (print ln ps) g = PiecesCall ps g
+  StCalls (raise at p) g = PieceCalls p g
+  StCalls (quit at e) g = ExCalls e g
+
+  pub StsCall : Sts → ℕ → Type 0
+  StsCall done g = ⊥
+  StsCall (next s ss) g = StCalls s g ⊎ StsCall ss g
+
+-- a function of a program, by its number, calls another one
+abbrev pub Calls : Program → ℕ → ℕ → Type 0
+Calls p f g = (func : Func) × (slice_get p.funcs f ≡ Some func) × StsCall func.body g
