@@ -1,3 +1,4 @@
+pub mod Value
 pub mod Syntax
 pub mod View
 pub mod Form
