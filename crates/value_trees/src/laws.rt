@@ -1,6 +1,6 @@
 //! Laws of types, values and paths. Each function carries one as its clause, and does nothing.
 
-ghost use Rattle.value_trees.specs.Laws.{ComparedByWords, ElementsAreEven, EqualWordsAreEqual, OtherPartsStay, PartsAreHeld, PartsAreSlices, PartsAreTyped, PartsFit, PartsLieApart, PathsJoin, PathsLeadOnce, ReplacedPartsAreRead, ReplacedPartsAreSlices, SameIsEqual, TableGivesTypes, TypedPathsJoin, PathsLeadOnce, TypesCountWords, WordsOfParts, ZerosAreHeld, ZerosAreZeros};
+ghost use Rattle.value_trees.specs.Laws.{ComparedByWords, ElementsAreEven, EqualWordsAreEqual, OtherPartsStay, PartsAreHeld, PartsAreSlices, PartsAreTyped, PartsFit, PartsLieApart, PathsJoin, PathsLeadOnce, ReplacedPartsAreRead, ReplacedPartsAreSlices, SameIsEqual, TableGivesTypes, TypedPathsJoin, TypesCountWords, WordsOfParts, ZerosAreHeld, ZerosAreZeros};
 
 /// Each value of a type has as many words as the type says.
 pub fn types_count_words()
