@@ -4,9 +4,9 @@ use Rattle.std.specs.Prelude.{⊤, option_and_then, is_some, is_none, nat_le, �
 use Rattle.std.specs.Option.{option_map}
 use Rattle.std.proofs.lemmas.Bool.{eqb-true, leb-true}
 use Rattle.base.specs.declared.pos.Pos.{Pos}
-use Rattle.typed.specs.Value.{int}
 use Rattle.typed.specs.Syntax.{Ex, Exs}
 use Rattle.typed.specs.Syntax as typed
+use Rattle.value_trees.specs.Value.{int}
 use Rattle.value_types.specs.declared.fault.Fault.{Fault}
 use Rattle.value_types.specs.declared.fault.FaultKind.TheVariants.{ConstRange, Mismatch}
 use Rattle.value_types.specs.declared.constant.Constant.{Constant}
@@ -19,7 +19,7 @@ use Rattle.value_types.specs.Faults.{fault, IsFault, constant_range_fault}
 use Rattle.value_types.proofs.Decided.{Decided, Tested, further, mapped, after, both_tested, same, turned}
 use Rattle.value_types.proofs.Options.{and_then_some, map_some, none_some, same_some}
 use Rattle.operators.specs.Operands.{Operand, constant, value, type_of, constant_value, as_value}
-use Rattle.names.specs.Scope.{type_number}
+use Rattle.names.specs.Scope.{type_tree}
 use Rattle.expression_types.specs.Typing.{Part, valued, Gives, one, called, asking, quoted, printed, panicked, exited, Seen, Many, single, operand_in, value_in, as_part, part_in, is_part, listed, values, parts, are_single, are_parts, part_count, many_in, many, count_of, count, each, types_agree, values_agree, fits_with, fits, all_values, taken, types_with, value_types, single_types, taken_types, panicked_with, exit_places, exited_with}
 use Rattle.expression_types.specs.Faults.{single_fault, part_fault, SinglesFail, PartsFail, ValuesFail, range_fault, RangeFails, TypesFail, results_fault, MismatchFails, CountFails, TakeFails, refused_fault}
 use Rattle.value_types.proofs.Lists.{and_true}
@@ -177,7 +177,7 @@ value_form = record {
 
 -- operands of `print`, `println` or `panic`
 as_part_decided : (at : Pos) (x : Operand) → Decided (as_part x) (IsFault (range_fault at (Some x)))
-as_part_decided at x = mapped (valued (type_number (type_of x))) (as_value x) (IsFault (range_fault at (Some x))) (as_value_decided at x)
+as_part_decided at x = mapped (valued (type_tree (type_of x))) (as_value x) (IsFault (range_fault at (Some x))) (as_value_decided at x)
 
 part_decided : (at : Pos) (o : Option Gives) → is_part o ≡ true → Decided (part_in o) (IsFault (range_fault at (operand_in o)))
 part_decided at None is = cc is

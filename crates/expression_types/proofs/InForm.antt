@@ -1,6 +1,6 @@
 -- What expressions give is in form: what they read is in scope and has its type, constants are words, and operators and calls have operands
 -- of the types that they take.
-use Rattle.std.proofs.Common.{◌≡◌, ◌<◌, ℕ, ◌^◌, ℤ, pos, Bool, true, false, cond, List, [], ◌∷◌, Option, Some, None, Result, refl, sym, ap, ◌∙◌, subst, arith, length}
+use Rattle.std.proofs.Common.{◌≡◌, ◌<◌, ℕ, ◌^◌, ℤ, pos, Bool, true, false, cond, List, [], ◌∷◌, inl, inr, Option, Some, None, Result, refl, sym, ap, ◌∙◌, subst, arith, length}
 use Rattle.std.specs.Prelude.{option_and_then, nat_lt, nat_le, slice_get, ◌==◌, ◌&&◌}
 use Rattle.std.specs.Option.{option_map}
 use Rattle.std.proofs.lemmas.Int.{ints as int_lemmas}
@@ -21,10 +21,12 @@ use Rattle.syntax.specs.Expressions.{Ex as TreeEx, Exs as TreeExs, number, strin
 use Rattle.syntax.specs.Expressions as tree
 use Rattle.typed.specs.declared.operators.UnOp.{UnOp as TypedPrefix}
 use Rattle.typed.specs.declared.program.Site.{Site}
-use Rattle.typed.specs.Value.{int}
-use Rattle.typed.specs.Syntax.{Ex, Exs, Func, Program, more, none, int_type, bool_type}
+use Rattle.typed.specs.Syntax.{Ex, Exs, Func, Program, more, none, site_type, global_type}
 use Rattle.typed.specs.Syntax as typed
-use Rattle.typed.specs.Form.{InScope, IsWord, TakesOne, site_type, global_type, ExFits, ExsFit}
+use Rattle.typed.specs.View.{type_of as tree_of}
+use Rattle.typed.specs.Form.{IsPlain, InScope, IsWord, TakesOne, PlFits, ExFits, ExsFit}
+use Rattle.value_trees.specs.Types.{ValueType as TypeTree, ints, bools}
+use Rattle.value_trees.specs.Value.{int}
 use Rattle.value_types.specs.declared.constant.Constant.{Constant}
 use Rattle.value_types.specs.declared.constant.Constant.TheVariants.{Number, Truth}
 use Rattle.value_types.specs.declared.constant.Fixed.{Fixed}
@@ -44,8 +46,9 @@ use Rattle.names.specs.declared.scope.ValueId.{ValueId}
 use Rattle.names.specs.declared.scope.GlobalId.{GlobalId}
 use Rattle.names.specs.declared.scope.Declared.TheVariants as declared
 use Rattle.names.specs.declared.scope.External.TheVariants.{ReadInt, Exit}
-use Rattle.names.specs.Scope.{Scope, Signature, type_number, type_numbers, declaration, signature, fixed}
+use Rattle.names.specs.Scope.{Scope, Signature, type_number, type_tree, type_trees, declaration, signature, fixed}
 use Rattle.names.specs.Naming.{name_in}
+use Rattle.names.proofs.Trees.{number_tree, tree_plain, tree_solid}
 use Rattle.expression_types.specs.Typing.{Part, said, valued, Gives, one, called, asking, quoted, printed, panicked, exited, known_type, global_read, name_operand, prefix_gives, pair_gives, single, operand_in, value_in, as_part, part_in, Seen, values, parts, type_in_one, single_types, Many, many_in, many, types_with, value_types, accepts, types_agree, operand_agrees, values_agree, each, fits_with, fits, all_values, taken, asked, Callee, printer, panicker, reader, exiter, function, conversion, no_function, no_spread, no_text_spread, nothing, function_with, callee_declared, callee_value, spread_over, panicked_with, exit_places, exited_with, called_with, as_condition, callee, gives, seen, condition, test}
 use Rattle.expression_types.proofs.DecidedValues.{many_single}
 
@@ -55,10 +58,10 @@ is_word z h = grind (arith, int_lemmas)
 -- what a program has at the sites, functions and package variables of a scope: sites of these types, functions with these signatures, and
 -- package variables of these types
 pub record Agrees (s : Scope) (p : Program) : Type 0 where
-  pub sites : (k : ℕ) (site : Site) → slice_get s.sites k ≡ Some site → site_type p k ≡ site.type_id.0
+  pub sites : (k : ℕ) (site : Site) → slice_get s.sites k ≡ Some site → site_type p k ≡ tree_of site.type_id.0
   pub functions : (f : ℕ) (sig : Signature) → signature s f ≡ Some sig
-      → (func : Func) × (slice_get p.funcs f ≡ Some func) × (func.param_types ≡ type_numbers sig.params) × (func.results ≡ type_numbers sig.results)
-  pub globals : (g k : ℕ) (f : Fixed) → slice_get s.globals g ≡ Some k → fixed s k ≡ Some f → (g < length p.globals) × (global_type p g ≡ type_number (known_type f))
+      → (func : Func) × (slice_get p.funcs f ≡ Some func) × (func.param_types ≡ type_trees sig.params) × (func.results ≡ type_trees sig.results)
+  pub globals : (g k : ℕ) (f : Fixed) → slice_get s.globals g ≡ Some k → fixed s k ≡ Some f → (g < length p.globals) × (global_type p g ≡ type_tree (known_type f))
 
 -- the package variables that names stand for have their numbers
 abbrev pub AreNumbered : Scope → Type 0
@@ -104,45 +107,45 @@ accepted_all (Some s ∷ ps) (t ∷ ts) long is =
 -- ---- the types of operators
 
 takes_fits : (op : BinOp) (s t : ValueType) → takes op s t ≡ true → (at : Pos) (x y : Ex) (p : Program) (scope : List ℕ)
-    → ExFits p scope (type_number s) x → ExFits p scope (type_number t) y → ExFits p scope (type_number (result_type op)) (typed_pair at op x y)
+    → ExFits p scope (type_tree s) x → ExFits p scope (type_tree t) y → ExFits p scope (type_tree (result_type op)) (typed_pair at op x y)
 takes_fits (Arithmetic op) Int Int is at x y p scope f g = by op
   where
-    by : (k : ArithmeticOp) → ExFits p scope 0 (typed.binary at (arithmetic_of k) x y)
-    by Add = (0, (refl, refl), f, g)
-    by Sub = (0, (refl, refl), f, g)
-    by Mul = (0, (refl, refl), f, g)
-    by Div = (0, (refl, refl), f, g)
-    by Rem = (0, (refl, refl), f, g)
-    by And = (0, (refl, refl), f, g)
-    by Or = (0, (refl, refl), f, g)
-    by Xor = (0, (refl, refl), f, g)
-    by AndNot = (0, (refl, refl), f, g)
-    by ShiftLeft = (0, (refl, refl), f, g)
-    by ShiftRight = (0, (refl, refl), f, g)
+    by : (k : ArithmeticOp) → ExFits p scope ints (typed.binary at (arithmetic_of k) x y)
+    by Add = (ints, (refl, refl), f, g)
+    by Sub = (ints, (refl, refl), f, g)
+    by Mul = (ints, (refl, refl), f, g)
+    by Div = (ints, (refl, refl), f, g)
+    by Rem = (ints, (refl, refl), f, g)
+    by And = (ints, (refl, refl), f, g)
+    by Or = (ints, (refl, refl), f, g)
+    by Xor = (ints, (refl, refl), f, g)
+    by AndNot = (ints, (refl, refl), f, g)
+    by ShiftLeft = (ints, (refl, refl), f, g)
+    by ShiftRight = (ints, (refl, refl), f, g)
 takes_fits (Arithmetic op) Int Boolean is at x y p scope f g = cc is
 takes_fits (Arithmetic op) Boolean Int is at x y p scope f g = cc is
 takes_fits (Arithmetic op) Boolean Boolean is at x y p scope f g = cc is
 takes_fits (Compare op) Int Int is at x y p scope f g = by op
   where
-    by : (k : CompareOp) → ExFits p scope 1 (typed.binary at (compare_of k) x y)
-    by Equal = (0, refl, f, g)
-    by NotEqual = (0, refl, f, g)
-    by Less = (0, (refl, refl), f, g)
-    by LessEqual = (0, (refl, refl), f, g)
-    by Greater = (0, (refl, refl), f, g)
-    by GreaterEqual = (0, (refl, refl), f, g)
+    by : (k : CompareOp) → ExFits p scope bools (typed.binary at (compare_of k) x y)
+    by Equal = (ints, (inl refl, refl), f, g)
+    by NotEqual = (ints, (inl refl, refl), f, g)
+    by Less = (ints, (refl, refl), f, g)
+    by LessEqual = (ints, (refl, refl), f, g)
+    by Greater = (ints, (refl, refl), f, g)
+    by GreaterEqual = (ints, (refl, refl), f, g)
 takes_fits (Compare op) Boolean Boolean is at x y p scope f g = by op is
   where
-    by : (k : CompareOp) → takes (Compare k) Boolean Boolean ≡ true → ExFits p scope 1 (typed.binary at (compare_of k) x y)
-    by Equal h = (1, refl, f, g)
-    by NotEqual h = (1, refl, f, g)
+    by : (k : CompareOp) → takes (Compare k) Boolean Boolean ≡ true → ExFits p scope bools (typed.binary at (compare_of k) x y)
+    by Equal h = (bools, (inr refl, refl), f, g)
+    by NotEqual h = (bools, (inr refl, refl), f, g)
     by Less h = cc h
     by LessEqual h = cc h
     by Greater h = cc h
     by GreaterEqual h = cc h
 takes_fits (Compare op) Int Boolean is at x y p scope f g = by op is
   where
-    by : (k : CompareOp) → takes (Compare k) Int Boolean ≡ true → ExFits p scope 1 (typed.binary at (compare_of k) x y)
+    by : (k : CompareOp) → takes (Compare k) Int Boolean ≡ true → ExFits p scope bools (typed.binary at (compare_of k) x y)
     by Equal h = cc h
     by NotEqual h = cc h
     by Less h = cc h
@@ -151,7 +154,7 @@ takes_fits (Compare op) Int Boolean is at x y p scope f g = by op is
     by GreaterEqual h = cc h
 takes_fits (Compare op) Boolean Int is at x y p scope f g = by op is
   where
-    by : (k : CompareOp) → takes (Compare k) Boolean Int ≡ true → ExFits p scope 1 (typed.binary at (compare_of k) x y)
+    by : (k : CompareOp) → takes (Compare k) Boolean Int ≡ true → ExFits p scope bools (typed.binary at (compare_of k) x y)
     by Equal h = cc h
     by NotEqual h = cc h
     by Less h = cc h
@@ -167,11 +170,11 @@ takes_fits Either Int Int is at x y p scope f g = cc is
 takes_fits Either Int Boolean is at x y p scope f g = cc is
 takes_fits Either Boolean Int is at x y p scope f g = cc is
 
-takes_prefix : (op : UnOp) (t : ValueType) (g : TypedPrefix) → takes_one op t ≡ true → prefix_of op ≡ Some g → TakesOne g (type_number t)
-takes_prefix Plus Int g is found = subst (λ (k : TypedPrefix). TakesOne k 0) (same_some found) refl
-takes_prefix Negate Int g is found = subst (λ (k : TypedPrefix). TakesOne k 0) (same_some found) refl
-takes_prefix Complement Int g is found = subst (λ (k : TypedPrefix). TakesOne k 0) (same_some found) refl
-takes_prefix Not Boolean g is found = subst (λ (k : TypedPrefix). TakesOne k 1) (same_some found) refl
+takes_prefix : (op : UnOp) (t : ValueType) (g : TypedPrefix) → takes_one op t ≡ true → prefix_of op ≡ Some g → TakesOne g (type_tree t)
+takes_prefix Plus Int g is found = subst (λ (k : TypedPrefix). TakesOne k ints) (same_some found) refl
+takes_prefix Negate Int g is found = subst (λ (k : TypedPrefix). TakesOne k ints) (same_some found) refl
+takes_prefix Complement Int g is found = subst (λ (k : TypedPrefix). TakesOne k ints) (same_some found) refl
+takes_prefix Not Boolean g is found = subst (λ (k : TypedPrefix). TakesOne k bools) (same_some found) refl
 takes_prefix Plus Boolean g is found = cc is
 takes_prefix Negate Boolean g is found = cc is
 takes_prefix Complement Boolean g is found = cc is
@@ -184,16 +187,16 @@ takes_prefix Address Boolean g is found = cc is
 module _ (p : Program) (scope : List ℕ) where
   abbrev pub OperandFits : Operand → Type 0
   OperandFits (constant f) = is_held f.value_type f.value ≡ true
-  OperandFits (value t x) = ExFits p scope (type_number t) x
+  OperandFits (value t x) = ExFits p scope (type_tree t) x
 
   -- a call of a function with these results
   abbrev pub CallFits : List ValueType → ℕ → Exs → Type 0
-  CallFits ts f es = (func : Func) × (slice_get p.funcs f ≡ Some func) × (func.results ≡ type_numbers ts) × ExsFit p scope func.param_types es
+  CallFits ts f es = (func : Func) × (slice_get p.funcs f ≡ Some func) × (func.results ≡ type_trees ts) × ExsFit p scope func.param_types es
 
   -- an operand of `print`, `println` or `panic`
   abbrev pub PartFits : Part → Type 0
   PartFits (said bytes) = Unit {0}
-  PartFits (valued t e) = ExFits p scope t e
+  PartFits (valued t e) = IsPlain t × ExFits p scope t e
 
   abbrev pub PartsFit : List Part → Type 0
   PartsFit [] = Unit {0}
@@ -206,7 +209,7 @@ module _ (p : Program) (scope : List ℕ) where
   GivesFit (quoted at bytes) = Unit {0}
   GivesFit (printed at line ps) = PartsFit ps
   GivesFit (panicked at q) = PartFits q
-  GivesFit (exited at e) = ExFits p scope int_type e
+  GivesFit (exited at e) = ExFits p scope ints e
 
   abbrev MaybeFits : Option Gives → Type 0
   MaybeFits None = Unit {0}
@@ -224,18 +227,18 @@ module _ (p : Program) (scope : List ℕ) where
   some_fits x y fits is = subst OperandFits (same_some is) fits
 
   -- a constant as a value of the type that it has by itself
-  constant_fits : (c : Constant) (e : Ex) → constant_value c ≡ Some e → ExFits p scope (type_number (constant_type None c)) e
-  constant_fits (Truth b) e is = subst (ExFits p scope 1) (same_some is) (refl, tt)
+  constant_fits : (c : Constant) (e : Ex) → constant_value c ≡ Some e → ExFits p scope (type_tree (constant_type None c)) e
+  constant_fits (Truth b) e is = subst (ExFits p scope bools) (same_some is) (tt, tt)
   constant_fits (Number z) e is = by (is_int z) refl is
     where
-      by : (b : Bool) → is_int z ≡ b → cond b (Some (typed.constant (int z))) None ≡ Some e → ExFits p scope 0 e
-      by true h is1 = subst (ExFits p scope 0) (same_some is1) (refl, is_word z h)
+      by : (b : Bool) → is_int z ≡ b → cond b (Some (typed.constant (int z))) None ≡ Some e → ExFits p scope ints e
+      by true h is1 = subst (ExFits p scope ints) (same_some is1) (tt, is_word z h)
       by false h is1 = absurd (none_some is1)
 
   -- an operand as a value of its type
-  pub value_fits : (x : Operand) (e : Ex) → OperandFits x → as_value x ≡ Some e → ExFits p scope (type_number (type_of x)) e
-  value_fits (value t x) e fits is = subst (ExFits p scope (type_number t)) (same_some is) fits
-  value_fits (constant f) e fits is = subst (λ (t : ValueType). ExFits p scope (type_number t) e) (sym (held_type f.value_type f.value fits)) (constant_fits f.value e is)
+  pub value_fits : (x : Operand) (e : Ex) → OperandFits x → as_value x ≡ Some e → ExFits p scope (type_tree (type_of x)) e
+  value_fits (value t x) e fits is = subst (ExFits p scope (type_tree t)) (same_some is) fits
+  value_fits (constant f) e fits is = subst (λ (t : ValueType). ExFits p scope (type_tree t) e) (sym (held_type f.value_type f.value fits)) (constant_fits f.value e is)
 
   single_fits : (g : Gives) (x : Operand) → GivesFit g → single g ≡ Some x → OperandFits x
   single_fits (one y) x fits is = some_fits y x fits is
@@ -259,7 +262,7 @@ module _ (p : Program) (scope : List ℕ) where
     types : List ValueType
     found : single_types os ≡ Some types
     accepted : AreAccepted ps types
-    fit : ExsFit p scope (type_numbers types) (each xs)
+    fit : ExsFit p scope (type_trees types) (each xs)
 
   accepted_one : (q : Option ValueType) (t : ValueType) (ps : List (Option ValueType)) (ts : List ValueType) → accepts q t ≡ true → AreAccepted ps ts → AreAccepted (q ∷ ps) (t ∷ ts)
   accepted_one None t ps ts is all = all
@@ -289,7 +292,7 @@ module _ (p : Program) (scope : List ℕ) where
       })
 
   as_part_fits : (x : Operand) (q : Part) → OperandFits x → as_part x ≡ Some q → PartFits q
-  as_part_fits x q fits is = let v = map_some (valued (type_number (type_of x))) (as_value x) q is in subst PartFits v.2 (value_fits x v.0 fits v.1)
+  as_part_fits x q fits is = let v = map_some (valued (type_tree (type_of x))) (as_value x) q is in subst PartFits v.2 (tree_plain (type_of x), value_fits x v.0 fits v.1)
 
   part_fits : (o : Option Gives) (q : Part) → MaybeFits o → part_in o ≡ Some q → PartFits q
   part_fits None q fits is = absurd (none_some is)
@@ -315,14 +318,14 @@ module _ (p : Program) (scope : List ℕ) where
     pub types : List ValueType
     pub found : value_types os ≡ Some types
     pub accepted : AreAccepted ps types
-    pub fit : ExsFit p scope (type_numbers types) es
+    pub fit : ExsFit p scope (type_trees types) es
 
-  results_fit : (ts : List ValueType) (f : ℕ) (es : Exs) → CallFits ts f es → ExsFit p scope (type_numbers ts) (typed.results f es)
+  results_fit : (ts : List ValueType) (f : ℕ) (es : Exs) → CallFits ts f es → ExsFit p scope (type_trees ts) (typed.results f es)
   results_fit [] f es fits = fits
   results_fit (t ∷ ts) f es fits = fits
 
   abbrev ManyFit : Many → Type 0
-  ManyFit m = ExsFit p scope (type_numbers m.types) m.values
+  ManyFit m = ExsFit p scope (type_trees m.types) m.values
 
   many_fits : (o : Option Gives) (m : Many) → MaybeFits o → many_in o ≡ Some m → ManyFit m
   many_fits None m fits is = absurd (none_some is)
@@ -380,7 +383,7 @@ module _ (p : Program) (scope : List ℕ) where
 
   -- ---- operators
 
-  both_fit : (at : Pos) (op : BinOp) (s t : ValueType) (a b : Option Ex) (x : Operand) → takes op s t ≡ true → ((e : Ex) → a ≡ Some e → ExFits p scope (type_number s) e) → ((e : Ex) → b ≡ Some e → ExFits p scope (type_number t) e)
+  both_fit : (at : Pos) (op : BinOp) (s t : ValueType) (a b : Option Ex) (x : Operand) → takes op s t ≡ true → ((e : Ex) → a ≡ Some e → ExFits p scope (type_tree s) e) → ((e : Ex) → b ≡ Some e → ExFits p scope (type_tree t) e)
       → both_values at op a b ≡ Some x → OperandFits x
   both_fit at op s t None b x k f g is = absurd (none_some is)
   both_fit at op s t (Some y) None x k f g is = absurd (none_some is)
@@ -410,14 +413,14 @@ module _ (p : Program) (scope : List ℕ) where
       let r = map_some (λ g. value t (typed.unary g x)) (prefix_of op) y a.1 in
       subst OperandFits r.2 (takes_prefix op t r.0 a.0 r.1, fits)
 
-  condition_value_fits : (x : Operand) (e : Ex) → OperandFits x → as_condition x ≡ Some e → ExFits p scope bool_type e
+  condition_value_fits : (x : Operand) (e : Ex) → OperandFits x → as_condition x ≡ Some e → ExFits p scope bools e
   condition_value_fits x e fits is =
       let a = allowed_some (same_type Boolean (type_of x)) (as_value x) e is in
-      subst (λ (t : ValueType). ExFits p scope (type_number t) e) (sym (same_type_same Boolean (type_of x) a.0)) (value_fits x e fits a.1)
+      subst (λ (t : ValueType). ExFits p scope (type_tree t) e) (sym (same_type_same Boolean (type_of x) a.0)) (value_fits x e fits a.1)
 
   abbrev pub OptionalFits : Option Ex → Type 0
   OptionalFits None = Unit {0}
-  OptionalFits (Some e) = ExFits p scope bool_type e
+  OptionalFits (Some e) = ExFits p scope bools e
 
   panicked_fits : (at : Pos) (qs : List Part) (g : Gives) → PartsFit qs → panicked_with at qs ≡ Some g → GivesFit g
   panicked_fits at [] g all is = absurd (none_some is)
@@ -425,10 +428,10 @@ module _ (p : Program) (scope : List ℕ) where
   panicked_fits at (q ∷ r ∷ qs) g all is = absurd (none_some is)
 
   -- the one argument of `exit` is an int
-  exited_fits : (at : Pos) (ts : List ValueType) (xs : List Ex) (g : Gives) → AreAccepted exit_places ts → ExsFit p scope (type_numbers ts) (each xs) → exited_with at xs ≡ Some g → GivesFit g
+  exited_fits : (at : Pos) (ts : List ValueType) (xs : List Ex) (g : Gives) → AreAccepted exit_places ts → ExsFit p scope (type_trees ts) (each xs) → exited_with at xs ≡ Some g → GivesFit g
   exited_fits at ts [] g all fit is = absurd (none_some is)
   exited_fits at [] (x ∷ []) g all fit is = absurd all
-  exited_fits at (t ∷ []) (x ∷ []) g all fit is = subst GivesFit (same_some is) (subst (λ (u : ValueType). ExFits p scope (type_number u) x) (sym all.0) fit.0)
+  exited_fits at (t ∷ []) (x ∷ []) g all fit is = subst GivesFit (same_some is) (subst (λ (u : ValueType). ExFits p scope (type_tree u) x) (sym all.0) fit.0)
   exited_fits at (t ∷ u ∷ ts) (x ∷ []) g all fit is = absurd all.1
   exited_fits at ts (x ∷ y ∷ xs) g all fit is = absurd (none_some is)
 
@@ -452,7 +455,7 @@ module _ (p : Program) (scope : List ℕ) where
 
   -- a function that is called has parameters and results of these types
   abbrev CalleeFits : Callee → Type 0
-  CalleeFits (function f ps ts) = (func : Func) × (us : List ValueType) × (ps ≡ asked us) × (slice_get p.funcs f ≡ Some func) × (func.param_types ≡ type_numbers us) × (func.results ≡ type_numbers ts)
+  CalleeFits (function f ps ts) = (func : Func) × (us : List ValueType) × (ps ≡ asked us) × (slice_get p.funcs f ≡ Some func) × (func.param_types ≡ type_trees us) × (func.results ≡ type_trees ts)
   CalleeFits (printer line) = Unit {0}
   CalleeFits panicker = Unit {0}
   CalleeFits reader = Unit {0}
@@ -472,7 +475,7 @@ module _ (p : Program) (scope : List ℕ) where
       let r = map_some (called at ts f) (taken ps os) g is in
       let t = taken_fits ps os r.0 all r.1 in
       let same1 : k.1 ≡ t.types = asked_types k.1 t.types (subst (λ (l : List (Option ValueType)). AreAccepted l t.types) k.2 t.accepted) in
-      subst GivesFit r.2 (k.0, k.3, k.5, subst (λ (l : List ℕ). ExsFit p scope l r.0) (ap type_numbers (sym same1) ∙ sym k.4) t.fit)
+      subst GivesFit r.2 (k.0, k.3, k.5, subst (λ (l : List TypeTree). ExsFit p scope l r.0) (ap type_trees (sym same1) ∙ sym k.4) t.fit)
   call_fits at conversion os g k all is = absurd (none_some is)
   call_fits at no_function os g k all is = absurd (none_some is)
   call_fits at no_spread os g k all is = absurd (none_some is)
@@ -480,8 +483,8 @@ module _ (p : Program) (scope : List ℕ) where
   call_fits at nothing os g k all is = absurd (none_some is)
 
   module _ (text : List ℕ) (s : Scope) (are_shown : AreShown s scope) (are_numbered : AreNumbered s) (held : AreHeld s.values) (agrees : Agrees s p) where
-    variable_fits : (n : List ℕ) (site : SiteId) (t : ValueType) → declaration s n ≡ Some (declared.Variable site t) → InScope site.0 scope × (site_type p site.0 ≡ type_number t)
-    variable_fits n site t is = let k = are_shown n site t is in (k.0, agrees.sites site.0 k.1.0 k.1.1 ∙ k.1.2)
+    variable_fits : (n : List ℕ) (site : SiteId) (t : ValueType) → declaration s n ≡ Some (declared.Variable site t) → PlFits p scope (type_tree t) (typed.local site.0 typed.here)
+    variable_fits n site t is = let k = are_shown n site t is in (k.0, agrees.sites site.0 k.1.0 k.1.1 ∙ ap tree_of k.1.2 ∙ number_tree t, tree_solid t)
 
     constant_fits_name : (o : Option Fixed) (g : Gives) → ((f : Fixed) → o ≡ Some f → is_held f.value_type f.value ≡ true) → option_map one (option_map constant o) ≡ Some g → GivesFit g
     constant_fits_name None g known is = absurd (none_some is)
@@ -491,7 +494,7 @@ module _ (p : Program) (scope : List ℕ) where
     global_fits g k None x known at is = absurd (none_some is)
     global_fits g k (Some f) x known at is = subst GivesFit (same_some is) (agrees.globals g k f at known)
 
-    name_fits : (d : Option Declared) (g : Gives) → ((site : SiteId) (t : ValueType) → d ≡ Some (declared.Variable site t) → InScope site.0 scope × (site_type p site.0 ≡ type_number t))
+    name_fits : (d : Option Declared) (g : Gives) → ((site : SiteId) (t : ValueType) → d ≡ Some (declared.Variable site t) → PlFits p scope (type_tree t) (typed.local site.0 typed.here))
         → ((k : ValueId) (h : GlobalId) → d ≡ Some (declared.Global k h) → slice_get s.globals h.0 ≡ Some k.0) → option_map one (name_operand s d) ≡ Some g → GivesFit g
     name_fits None g has at is = absurd (none_some is)
     name_fits (Some (declared.Variable site t)) g has at is = subst GivesFit (same_some is) (has site t refl)
@@ -593,7 +596,7 @@ module _ (p : Program) (scope : List ℕ) where
       seen_fit tree.none = tt
       seen_fit (some e es) = (maybe_fits (gives text s e) (λ h i. gives_fit e h i), seen_fit es)
 
-    pub condition_fits : (e : TreeEx) (x : Ex) → condition text s e ≡ Some x → ExFits p scope bool_type x
+    pub condition_fits : (e : TreeEx) (x : Ex) → condition text s e ≡ Some x → ExFits p scope bools x
     condition_fits e x is =
         let q = and_then_some as_condition (operand_in (gives text s e)) x is in
         condition_value_fits q.0 x (operand_fits (gives text s e) q.0 (maybe_fits (gives text s e) (λ h i. gives_fit e h i)) q.1) q.2

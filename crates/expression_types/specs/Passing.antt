@@ -2,7 +2,7 @@
 use Rattle.std.specs.Prelude.{ℕ, ◌^◌, pos, List, [], ◌∷◌, ◌++◌, map, nat_lt, Option, Some, None, if◌then◌else◌}
 use Rattle.std.specs.Option.{option_map}
 use Rattle.typed.specs.Syntax.{Exs}
-use Rattle.typed.specs.View.{ex_of, exs_of_values}
+use Rattle.typed.specs.View.{type_of, ex_of, exs_of_values}
 use Rattle.value_types.specs.declared.constant.Constant.TheVariants.{Number}
 use Rattle.value_types.specs.Constants.{untyped}
 use Rattle.operators.specs.Operands.{constant}
@@ -18,7 +18,7 @@ use Rattle.expression_types.specs.Typing.{Part, said, valued, Gives, one, called
 
 abbrev pub part_view : PartData → Part
 part_view (Said bytes) = said bytes.items
-part_view (Valued t e) = valued t.0 (ex_of e)
+part_view (Valued t e) = valued (type_of t.0) (ex_of e)
 
 abbrev pub gives_of : GivesData → Gives
 gives_of (One x) = one (operand_of x)

@@ -11,6 +11,7 @@ use Rattle.syntax.specs.Expressions as tree
 use Rattle.syntax.specs.Statements.{Clause, forever, while_true, counting, ranging}
 use Rattle.typed.specs.Syntax.{Ex, Exs, read, local, global, here, none, more, results, asked as items}
 use Rattle.typed.specs.Syntax as typed
+use Rattle.value_trees.specs.Types.{ValueType as TypeTree}
 use Rattle.value_types.specs.declared.constant.Constant.TheVariants.{Number, Truth}
 use Rattle.value_types.specs.declared.constant.Fixed.{Fixed}
 use Rattle.value_types.specs.declared.value_type.ValueType.{ValueType}
@@ -24,13 +25,13 @@ use Rattle.names.specs.declared.scope.Declared.{Declared}
 use Rattle.names.specs.declared.scope.Declared.TheVariants as declared
 use Rattle.names.specs.declared.scope.External.{External as ExternalFunction}
 use Rattle.names.specs.declared.scope.External.TheVariants as external
-use Rattle.names.specs.Scope.{type_number, Scope, Signature, declaration, signature, fixed}
+use Rattle.names.specs.Scope.{type_tree, Scope, Signature, declaration, signature, fixed}
 use Rattle.names.specs.Naming.{name_in, between}
 
 -- an operand of `print`, `println` or `panic`: the bytes of a string, or a value and its type
 pub data Part : Type 0 where
   said : List ℕ → Part
-  valued : ℕ → Ex → Part
+  valued : TypeTree → Ex → Part
 
 -- what an expression gives: one value, a string, or what a call gives
 pub data Gives : Type 0 where
@@ -107,7 +108,7 @@ value_in o = option_and_then as_value (operand_in o)
 
 -- an operand of `print`, `println` or `panic`
 abbrev pub as_part : Operand → Option Part
-as_part x = option_map (valued (type_number (type_of x))) (as_value x)
+as_part x = option_map (valued (type_tree (type_of x))) (as_value x)
 
 abbrev pub part_of : Gives → Option Part
 part_of (quoted at bytes) = Some (said bytes)

@@ -1,6 +1,6 @@
 -- A family of relations of two traces that runs of programs keep.
 use Rattle.std.proofs.Common.{◌≡◌, ℕ, ◌-◌, ◌≤◌, List, arith}
-use Rattle.typed.specs.Value.{Value}
+use Rattle.value_trees.specs.Value.{Value}
 use Rattle.base.specs.declared.pos.Pos.{Pos}
 use Rattle.meaning.specs.Trace.{Entry, Fault, Ending, World, Mark, state, Trace, Turn, Note, Seen, End, Cut}
 use Rattle.meaning.specs.Meaning.{Go, Then, Env, Ways, Calls, holding, holding_all}

@@ -2,8 +2,8 @@
 use Rattle.std.proofs.Common.{◌≡◌, refl, ℕ, zero, suc, ◌+◌, ◌-◌, ◌≤◌, List, [], ◌∷◌, ◌++◌, Option, Some, None, Result, Ok, Err, Bool, true, false, ℤ, pos, negsuc, subst, arith}
 use Rattle.std.specs.Prelude.{length, slice_get, nat_lt}
 use Rattle.base.specs.declared.pos.Pos.{Pos}
-use Rattle.typed.specs.Value.{Value, int}
-use Rattle.typed.specs.Syntax.{Ex, Exs, Pl, Steps, Left, Piece, Over, St, Sts, Func, Program, constant, read, unary, binary, both, either, call, none, more, results, asked, local, global, here, blank, new, to, text, shown, over_int, declare, assign, update, bump, discard, block, choose, loop, range, break_off, go_on, give_back, print, raise, quit, done, next}
+use Rattle.value_trees.specs.Value.{Value, int}
+use Rattle.typed.specs.Syntax.{Ex, Exs, Pl, Steps, Left, Piece, Over, St, Sts, Func, Program, constant, read, unary, binary, both, either, call, none, more, results, asked, local, global, here, inner, blank, new, to, text, shown, over_int, declare, assign, update, bump, discard, block, choose, loop, range, break_off, go_on, give_back, print, raise, quit, done, next}
 use Rattle.meaning.specs.Trace.{Return, Fault, Exit, Panic, World, Mark, entered, ended, copied, Trace, Turn, Seen, Cut}
 use Rattle.meaning.specs.Store.{written, born, read_at}
 use Rattle.meaning.specs.Operators.{binary_of}
@@ -55,6 +55,7 @@ module _ (F : Family) where
 
     walk_holds : (steps : Steps) {b : ℕ} (p : Pair F (suc n) b) (env : Env) (k j : Then (List Step)) → ((r : List Step) (w : World) → F.Holds b w (k r w) (j r w)) → (w : World) → F.Holds b w (Meaning.walk around calls steps p.left env k w) (Meaning.walk around dalls steps p.right env j w)
     walk_holds here p env k j h w = h [] w
+    walk_holds (inner i steps) p env k j h w = walk_holds steps p env _ _ (λ r. h (fixed i ∷ r)) w
 
     aim_holds : (q : Pl) {b : ℕ} (p : Pair F (suc n) b) (env : Env) (k j : Then Aim) → ((a : Aim) (w : World) → F.Holds b w (k a w) (j a w)) → (w : World) → F.Holds b w (Meaning.aim around calls q p.left env k w) (Meaning.aim around dalls q p.right env j w)
     aim_holds (local site steps) p env k j h w = walk_holds steps p env _ _ (λ r. h _) w

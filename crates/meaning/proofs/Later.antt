@@ -2,7 +2,7 @@
 use Rattle.std.proofs.Common.{◌≡◌, ℕ, zero, suc, List, [], ◌∷◌, ◌++◌, refl, ap, ◌∙◌}
 use Rattle.std.specs.Prelude.{map}
 use Rattle.std.proofs.lemmas.List.{append_assoc}
-use Rattle.typed.specs.Value.{Value}
+use Rattle.value_trees.specs.Value.{Value}
 use Rattle.meaning.specs.Trace.{World, Cell}
 use Rattle.meaning.specs.Store.{change, written, born}
 use Rattle.meaning.specs.Laws.{Later, sites_in}

@@ -2,10 +2,12 @@
 use Rattle.std.specs.Prelude.{ℕ, zero, suc, ◌-◌, ℤ, pos, negsuc, Bool, true, false, List, [], ◌∷◌, ◌++◌, length, Option, Some, None, Result, Ok, Err, get_or, slice_get, if◌then◌else◌, nat_eq, nat_lt}
 use Rattle.std.specs.Fmt.{signed_decimal}
 use Rattle.base.specs.declared.pos.Pos.{Pos}
-use Rattle.typed.specs.Value.{Value, int, bool, words}
-use Rattle.typed.specs.Syntax.{Ex, Exs, Pl, Steps, Left, Piece, Over, St, Sts, Func, Program, constant, read, unary, binary, both, either, call, none, more, results, asked, local, global, here, blank, new, to, text, shown, over_int, declare, assign, update, bump, discard, block, choose, loop, range, break_off, go_on, give_back, print, raise, quit, done, next}
+use Rattle.value_trees.specs.Types.{ValueType, ints}
+use Rattle.value_trees.specs.Value.{Value, int, bool, composite, words, zero_of as zero_value}
+use Rattle.value_trees.specs.Paths.{no_value}
+use Rattle.typed.specs.Syntax.{Ex, Exs, Pl, Steps, Left, Piece, Over, St, Sts, Func, Program, constant, read, unary, binary, both, either, call, none, more, results, asked, local, global, here, inner, blank, new, to, text, shown, over_int, declare, assign, update, bump, discard, block, choose, loop, range, break_off, go_on, give_back, print, raise, quit, done, next}
 use Rattle.meaning.specs.Trace.{Entry, Call, Return, Born, Read, Write, Print, Asked, Fault, exit_code, raised_text, raised, Ending, Exit, Panic, World, Cell, Mark, state, entered, ended, copied, Trace, Turn, Note, Seen, End, Cut}
-use Rattle.meaning.specs.Store.{no_value, read_at, written, born}
+use Rattle.meaning.specs.Store.{read_at, written, born}
 use Rattle.meaning.specs.Operators.{unary_of, binary_of}
 
 -- what goes on from a state, and what goes on with something
@@ -44,11 +46,10 @@ Calls = ℕ → List Value → Ways → Env → Then (List Value) → Go
 abbrev pub Item : Type 0
 Item = Option ℤ
 
--- what a run takes from around the function: the zero value of each type, the type of each site, the bytes of each string,
--- and the items of the input in order, without an end
+-- what a run takes from around the function: the type of each site, the bytes of each string, and the items of the input in
+-- order, without an end
 pub record Setting : Type 0 where
-  pub zeros : List Value
-  pub sites : List ℕ
+  pub sites : List ValueType
   pub strings : List (List ℕ)
   pub items : ℕ → Item
 
@@ -87,7 +88,7 @@ abbrev pub write_part : ℕ → List ℕ → Value → Go → Go
 write_part v path x g w = Note (Write v path (words x)) (g (written w v path x))
 
 abbrev pub new_cell : Setting → (entry site : ℕ) → Value → Cell
-new_cell around entry site x = record { site = site; call = entry; type = get_or around.sites site 0; value = x }
+new_cell around entry site x = record { site = site; call = entry; type = get_or around.sites site ints; value = x }
 
 -- a new variable of a site, in the call with this number
 abbrev pub bear : Setting → (entry site : ℕ) → Value → Then ℕ → Go
@@ -169,6 +170,7 @@ settle a k = turn (settle_steps a.steps (base_spot a.base).variable (base_spot a
 module _ (around : Setting) (calls : Calls) where
   abbrev pub walk : Steps → Ways → Env → Then (List Step) → Go
   walk here ws env k = k []
+  walk (inner i steps) ws env k = walk steps ws env (λ r. k (fixed i ∷ r))
 
   abbrev pub aim : Pl → Ways → Env → Then Aim → Go
   aim (local site steps) ws env k = walk steps ws env (λ r. k (record { base = variable (home env site); steps = r }))
@@ -230,7 +232,7 @@ module _ (around : Setting) where
 
 -- new variables with the zero values of their types
 abbrev pub zero_of : Setting → ℕ → Value
-zero_of around site = get_or around.zeros (get_or around.sites site 0) no_value
+zero_of around site = zero_value (get_or around.sites site ints)
 
 abbrev pub bear_zeros : Setting → (entry : ℕ) → List ℕ → Env → (Env → Go) → Go
 bear_zeros around entry [] env k = k env
@@ -241,6 +243,7 @@ abbrev pub shown_bytes : Value → List ℕ
 shown_bytes (int z) = signed_decimal z
 shown_bytes (bool true) = 116 ∷ 114 ∷ 117 ∷ 101 ∷ []
 shown_bytes (bool false) = 102 ∷ 97 ∷ 108 ∷ 115 ∷ 101 ∷ []
+shown_bytes (composite vs) = []
 
 -- the first has no space before it, and without a newline there is none at all
 abbrev pub emit_more : List (List ℕ) → Go → Go
@@ -310,7 +313,7 @@ count_of v = 0
 
 abbrev pub int_of : Value → ℤ
 int_of (int z) = z
-int_of (bool b) = pos 0
+int_of v = pos 0
 
 -- `exit`: a status from 0 to 125
 abbrev pub quit_with : Ways → Env → Pos → ℤ → Go
@@ -404,7 +407,7 @@ bear_globals around [] g = g
 bear_globals around ((site, v) ∷ gs) g = bear around 0 site v (λ x. bear_globals around gs g)
 
 abbrev pub setting_of : (ℕ → Item) → Program → Setting
-setting_of items p = record { zeros = p.zeros; sites = p.sites; strings = p.strings; items = items }
+setting_of items p = record { sites = p.sites; strings = p.strings; items = items }
 
 -- around `main`: a panic ends the run
 abbrev pub at_top : Ways

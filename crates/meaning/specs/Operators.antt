@@ -6,7 +6,7 @@ use Rattle.typed.specs.declared.operators.BinOp.{BinOp}
 use Rattle.typed.specs.declared.operators.BinOp.TheVariants.{Add, Sub, Mul, Div, Rem, And, Or, Xor, AndNot, ShiftLeft, ShiftRight, Equal, NotEqual, Less, LessEqual, Greater, GreaterEqual}
 use Rattle.typed.specs.declared.operators.UnOp.{UnOp}
 use Rattle.typed.specs.declared.operators.UnOp.TheVariants.{Plus, Negate, Complement, Not}
-use Rattle.typed.specs.Value.{Value, int, bool}
+use Rattle.value_trees.specs.Value.{Value, int, bool, composite, same_truth}
 use Rattle.meaning.specs.Trace.{Fault, divide_by_zero, shift_count}
 
 -- a quotient or a remainder, truncated towards zero; the least number divided by -1 is itself
@@ -39,10 +39,6 @@ of_ints LessEqual a b = Ok (bool (int_le a b))
 of_ints Greater a b = Ok (bool (int_lt b a))
 of_ints GreaterEqual a b = Ok (bool (int_le b a))
 
-abbrev pub same_truth : Bool → Bool → Bool
-same_truth true b = b
-same_truth false b = not b
-
 -- two truth values
 abbrev pub of_bools : BinOp → Bool → Bool → Result Value Fault
 of_bools Equal a b = Ok (bool (same_truth a b))
@@ -67,3 +63,4 @@ unary_bool op b = b
 abbrev pub unary_of : UnOp → Value → Value
 unary_of op (int a) = int (unary_int op a)
 unary_of op (bool b) = bool (unary_bool op b)
+unary_of op (composite vs) = composite vs

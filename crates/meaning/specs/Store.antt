@@ -1,24 +1,12 @@
 -- Variables, and the parts of their values by paths.
-use Rattle.std.specs.Prelude.{ℕ, zero, suc, pos, List, [], ◌∷◌, ◌++◌, get_or}
-use Rattle.typed.specs.Value.{Value, int}
+use Rattle.std.specs.Prelude.{ℕ, zero, suc, List, [], ◌∷◌, ◌++◌, get_or}
+use Rattle.value_trees.specs.Types.{ints}
+use Rattle.value_trees.specs.Value.{Value}
+use Rattle.value_trees.specs.Paths.{no_value, at_path, with_path}
 use Rattle.meaning.specs.Trace.{World, Cell}
 
--- in the place of what is not there
-abbrev pub no_value : Value
-no_value = int (pos 0)
-
--- the part at a path; whole numbers and truth values have none
-abbrev pub at_path : Value → List ℕ → Value
-at_path v [] = v
-at_path v (i ∷ path) = no_value
-
--- the value with another part at a path
-abbrev pub with_path : Value → List ℕ → Value → Value
-with_path v [] x = x
-with_path v (i ∷ path) x = v
-
 abbrev pub no_cell : Cell
-no_cell = record { site = 0; call = 0; type = 0; value = no_value }
+no_cell = record { site = 0; call = 0; type = ints; value = no_value }
 
 abbrev pub value_of : World → ℕ → Value
 value_of w v = (get_or w.store v no_cell).value

@@ -1,7 +1,8 @@
 -- What a run gives: turns, entries of the journal, states and an end.
 use Rattle.std.specs.Prelude.{ℕ, ℤ, List}
 use Rattle.base.specs.declared.pos.Pos.{Pos}
-use Rattle.typed.specs.Value.{Value}
+use Rattle.value_trees.specs.Types.{ValueType}
+use Rattle.value_trees.specs.Value.{Value}
 
 -- an entry of the journal
 pub data Entry : Type 0 where
@@ -37,7 +38,7 @@ pub data Ending : Type 0 where
 pub record Cell : Type 0 where
   pub site : ℕ
   pub call : ℕ
-  pub type : ℕ
+  pub type : ValueType
   pub value : Value
 
 -- the variables by birth, none of which dies or moves, and how many items of the input were read

@@ -3,7 +3,7 @@ use Rattle.std.specs.Prelude.{ℕ, Bool, List, map, [], ◌∷◌, ◌++◌, len
 use Rattle.std.specs.Option.{option_map}
 use Rattle.base.specs.declared.pos.Pos.{Pos}
 use Rattle.typed.specs.declared.program.Site.{Site}
-use Rattle.typed.specs.Syntax.{int_type, bool_type}
+use Rattle.value_trees.specs.Types.{ValueType as TypeTree, ints, bools}
 use Rattle.value_types.specs.declared.value_type.ValueType.{ValueType}
 use Rattle.value_types.specs.declared.value_type.ValueType.TheVariants.{Int, Bool as Truth}
 use Rattle.value_types.specs.declared.constant.Fixed.{Fixed}
@@ -16,11 +16,16 @@ use Rattle.names.specs.Universe.{predeclared}
 
 -- the number of a type in a typed program
 abbrev pub type_number : ValueType → ℕ
-type_number Int = int_type
-type_number Truth = bool_type
+type_number Int = 0
+type_number Truth = 1
 
-abbrev pub type_numbers : List ValueType → List ℕ
-type_numbers ts = map type_number ts
+-- a type as those of values are given
+abbrev pub type_tree : ValueType → TypeTree
+type_tree Int = ints
+type_tree Truth = bools
+
+abbrev pub type_trees : List ValueType → List TypeTree
+type_trees ts = map type_tree ts
 
 -- the types of a function's parameters and of its results
 pub record Signature : Type 0 where

@@ -13,6 +13,7 @@ use Rattle.syntax.specs.declared.operator.UnOp.TheVariants.{Plus, Negate, Comple
 use Rattle.typed.specs.declared.operators.UnOp.{UnOp as TypedPrefix}
 use Rattle.typed.specs.Syntax.{Ex}
 use Rattle.typed.specs.Syntax as typed
+use Rattle.value_trees.specs.Value.{int}
 use Rattle.value_types.specs.declared.fault.Fault.{Fault}
 use Rattle.value_types.specs.declared.fault.FaultKind.TheVariants.{ConstRange, BadOperand, ConstZeroDivisor}
 use Rattle.value_types.specs.declared.constant.Constant.{Constant}
@@ -139,7 +140,7 @@ left_decided : (at : Pos) (op : BinOp) (c : Constant) (x : Ex) → Decided (both
 left_decided at op (Truth b) x = λ f h. h
 left_decided at op (Number z) x = by (is_int z)
   where
-    by : (b : Bool) → Decided (both_values at op (cond b (Some (typed.constant (Rattle.typed.specs.Value.int z))) None) (Some x)) (IsFault (cond b None (Some (fault ConstRange at))))
+    by : (b : Bool) → Decided (both_values at op (cond b (Some (typed.constant (int z))) None) (Some x)) (IsFault (cond b None (Some (fault ConstRange at))))
     by true = λ f h. h
     by false = (_, refl)
 
@@ -147,7 +148,7 @@ right_value_decided : (at right : Pos) (op : BinOp) (x : Ex) (c : Constant) → 
 right_value_decided at right op x (Truth b) = λ f h. h
 right_value_decided at right op x (Number z) = by (is_int z)
   where
-    by : (b : Bool) → Decided (both_values at op (Some x) (cond b (Some (typed.constant (Rattle.typed.specs.Value.int z))) None)) (IsFault (cond b None (Some (fault ConstRange right))))
+    by : (b : Bool) → Decided (both_values at op (Some x) (cond b (Some (typed.constant (int z))) None)) (IsFault (cond b None (Some (fault ConstRange right))))
     by true = λ f h. h
     by false = (_, refl)
 

@@ -1,6 +1,6 @@
 -- What an expression gives as one value, and constants as operands (Go specification, "Constant expressions").
 use Rattle.std.specs.Prelude.{Option, Some, None, Result, Ok, Err, if◌then◌else◌}
-use Rattle.typed.specs.Value.{int, bool}
+use Rattle.value_trees.specs.Value.{int, bool}
 use Rattle.typed.specs.Syntax.{Ex}
 use Rattle.typed.specs.Syntax as typed
 use Rattle.value_types.specs.declared.constant.Constant.{Constant}

@@ -5,12 +5,15 @@ use Rattle.std.specs.Option.{option_map}
 use Rattle.syntax.specs.declared.expression.Name.{Name}
 use Rattle.syntax.specs.Expressions.{spelled}
 use Rattle.typed.specs.declared.program.Site.{Site}
-use Rattle.typed.specs.Syntax.{Program, int_type}
-use Rattle.typed.specs.Form.{site_type, LeftsFit, new_sites, scope_behind, scope_with, SitesNext, ParamsFit, NamedFit, named_params as with_sites, params_scope}
+use Rattle.typed.specs.Syntax.{Program, site_type}
+use Rattle.typed.specs.View.{type_of, site_types}
+use Rattle.typed.specs.Form.{LeftsFit, new_sites, scope_behind, scope_with, SitesNext, ParamsFit, NamedFit, named_params as with_sites, params_scope}
+use Rattle.value_trees.specs.Types.{ValueType as TypeTree, ints}
 use Rattle.value_types.specs.declared.value_type.ValueType.{ValueType}
 use Rattle.value_types.proofs.Options.{and_then_some, map_some, none_some, same_some}
 use Rattle.names.specs.Universe.{is_blank}
-use Rattle.names.specs.Scope.{Scope, type_number, type_numbers, is_here, with_variable}
+use Rattle.names.specs.Scope.{Scope, type_number, type_tree, type_trees, is_here, with_variable}
+use Rattle.names.proofs.Trees.{number_tree}
 use Rattle.signatures.specs.declared.slots.Slot.{Slot}
 use Rattle.signatures.specs.declared.entries.Role.{Role}
 use Rattle.signatures.specs.declared.entries.Role.TheVariants.{Parameter, Result}
@@ -20,17 +23,17 @@ use Rattle.signatures.proofs.Visible.{HasSite, has_longer, Visible, visible_with
 
 -- ---- the sites of a program
 
-pub get_mapped : (sites : List Site) (k : ℕ) (x : Site) → slice_get sites k ≡ Some x → get_or (map (λ (site : Site). site.type_id.0) sites) k int_type ≡ x.type_id.0
+pub get_mapped : (sites : List Site) (k : ℕ) (x : Site) → slice_get sites k ≡ Some x → get_or (site_types sites) k ints ≡ type_of x.type_id.0
 get_mapped [] k x is = absurd (none_some is)
-get_mapped (y ∷ sites) zero x is = ap (λ (site : Site). site.type_id.0) (same_some is)
+get_mapped (y ∷ sites) zero x is = ap (λ (site : Site). type_of site.type_id.0) (same_some is)
 get_mapped (y ∷ sites) (suc k) x is = get_mapped sites k x is
 
 -- a program with the types of these sites
 abbrev pub HasSites : Program → List Site → Type 0
-HasSites p all = p.sites ≡ map (λ (site : Site). site.type_id.0) all
+HasSites p all = p.sites ≡ site_types all
 
-pub site_is : (p : Program) (all : List Site) → HasSites p all → (site : ℕ) (t : ValueType) → HasSite all site t → site_type p site ≡ type_number t
-site_is p all has site t h = ap (λ (l : List ℕ). get_or l site int_type) has ∙ get_mapped all site h.0 h.1 ∙ h.2
+pub site_is : (p : Program) (all : List Site) → HasSites p all → (site : ℕ) (t : ValueType) → HasSite all site t → site_type p site ≡ type_tree t
+site_is p all has site t h = ap (λ (l : List TypeTree). get_or l site ints) has ∙ get_mapped all site h.0 h.1 ∙ ap type_of h.2 ∙ number_tree t
 
 -- a scope before the end: its sites are the first ones of the program, which has its strings
 abbrev pub Within : Program → List Site → Scope → Type 0
@@ -79,21 +82,21 @@ named_scope_of scope (None ∷ es) = named_scope_of scope es
 named_scope_of scope (Some site ∷ es) = named_scope_of (site ∷ scope) es
 
 module _ (p : Program) where
-  pub lefts_of_params : (scope : List ℕ) (m n : ℕ) (ts : List ℕ) (es : List (Option ℕ)) → ParamsFit p m ts es → m + with_sites es ≤ n → LeftsFit p scope m n ts (map entry_left es)
+  pub lefts_of_params : (scope : List ℕ) (m n : ℕ) (ts : List TypeTree) (es : List (Option ℕ)) → ParamsFit p m ts es → m + with_sites es ≤ n → LeftsFit p scope m n ts (map entry_left es)
   lefts_of_params scope m n [] [] fit le = tt
   lefts_of_params scope m n (t ∷ ts) (None ∷ es) fit le = lefts_of_params scope m n ts es fit le
   lefts_of_params scope m n (t ∷ ts) (Some site ∷ es) fit le = (fit.0, omega (arith, le), fit.1, lefts_of_params scope (suc m) n ts es fit.2 (omega (arith, le)))
   lefts_of_params scope m n [] (e ∷ es) fit le = absurd fit
   lefts_of_params scope m n (t ∷ ts) [] fit le = absurd fit
 
-  pub next_of_params : (m n : ℕ) (ts : List ℕ) (es : List (Option ℕ)) → ParamsFit p m ts es → m + with_sites es ≤ n → SitesNext m n (sites_of es)
+  pub next_of_params : (m n : ℕ) (ts : List TypeTree) (es : List (Option ℕ)) → ParamsFit p m ts es → m + with_sites es ≤ n → SitesNext m n (sites_of es)
   next_of_params m n [] [] fit le = tt
   next_of_params m n (t ∷ ts) (None ∷ es) fit le = next_of_params m n ts es fit le
   next_of_params m n (t ∷ ts) (Some site ∷ es) fit le = (fit.0, omega (arith, le), next_of_params (suc m) n ts es fit.2 (omega (arith, le)))
   next_of_params m n [] (e ∷ es) fit le = absurd fit
   next_of_params m n (t ∷ ts) [] fit le = absurd fit
 
-  pub named_of_params : (m : ℕ) (ts : List ℕ) (es : List (Option ℕ)) → ParamsFit p m ts es → NamedFit p m (sites_of es)
+  pub named_of_params : (m : ℕ) (ts : List TypeTree) (es : List (Option ℕ)) → ParamsFit p m ts es → NamedFit p m (sites_of es)
   named_of_params m [] [] fit = tt
   named_of_params m (t ∷ ts) (None ∷ es) fit = named_of_params m ts es fit
   named_of_params m (t ∷ ts) (Some site ∷ es) fit = (fit.0, named_of_params (suc m) ts es fit.2)
@@ -103,7 +106,7 @@ module _ (p : Program) where
 -- ---- entries are in form
 
 pub record EntriesFit (text : List ℕ) (p : Program) (s : Scope) (scope : List ℕ) (ps : List Slot) (ts : List ValueType) (es : List (Option ℕ)) : Type 0 where
-  pub fit : ParamsFit p (length s.sites) (type_numbers ts) es
+  pub fit : ParamsFit p (length s.sites) (type_trees ts) es
   pub visible : Visible (behind_entries text s ps) (params_scope scope es)
   pub count : length s.sites + with_sites es ≡ length (behind_entries text s ps).sites
   pub long : length es ≡ length ps
@@ -136,7 +139,7 @@ module _ (text : List ℕ) (p : Program) (all : List Site) (has : HasSites p all
       Later = (s1 : Scope) (scope1 : List ℕ) (xs : List (Option ℕ)) → Visible s1 scope1 → entries text role s1 ps ≡ Some xs → Extends (behind_entries text s1 ps).sites all → EntriesFit text p s1 scope1 ps ts xs
 
       Whole : Scope → List (Option ℕ) → Type 0
-      Whole s1 xs = (ParamsFit p (length s.sites) (type_number t ∷ type_numbers ts) xs) × (Visible (behind_entries text s1 ps) (params_scope scope xs)) × (length s.sites + with_sites xs ≡ length (behind_entries text s1 ps).sites) × (length xs ≡ suc (length ps))
+      Whole s1 xs = (ParamsFit p (length s.sites) (type_tree t ∷ type_trees ts) xs) × (Visible (behind_entries text s1 ps) (params_scope scope xs)) × (length s.sites + with_sites xs ≡ length (behind_entries text s1 ps).sites) × (length xs ≡ suc (length ps))
 
       as_fit : (n : Option Name) → q.name ≡ n → (xs : List (Option ℕ)) → Whole (behind_entry_name text (Some t) s n) xs → EntriesFit text p s scope (q ∷ ps) (t ∷ ts) xs
       as_fit n n_is xs w =
@@ -154,7 +157,7 @@ module _ (text : List ℕ) (p : Program) (all : List Site) (has : HasSites p all
           let next1 : length s1.sites ≡ suc (length s.sites) = omega (arith, one1) in
           let here1 : HasSite s1.sites (length s.sites) t = newest n in
           let type_is = site_is p all has (length s.sites) t (has_longer s1.sites all (length s.sites) t (extends_twice s1.sites (behind_entries text s1 ps).sites all (grows_entries text s1 ps).sites x) here1) in
-          ((refl, type_is, subst (λ j. ParamsFit p j (type_numbers ts) xs) next1 f.fit), f.visible, omega (arith, f.count, one1), ap suc f.long)
+          ((refl, type_is, subst (λ j. ParamsFit p j (type_trees ts) xs) next1 f.fit), f.visible, omega (arith, f.count, one1), ap suc f.long)
         where
           last_site : (sites : List Site) (x1 : Site) → slice_get (sites ++ x1 ∷ []) (length sites) ≡ Some x1
           last_site [] x1 = refl

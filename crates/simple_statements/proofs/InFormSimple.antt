@@ -17,8 +17,9 @@ use Rattle.syntax.specs.Statements as tree
 use Rattle.typed.specs.declared.operators.BinOp.{BinOp as TypedOp}
 use Rattle.typed.specs.declared.operators.BinOp.TheVariants as op
 use Rattle.typed.specs.declared.program.Site.{Site}
-use Rattle.typed.specs.Syntax.{Exs, Left, Pl, St, Program, read, local, here, none, more, results, asked as asked_two, blank, new, to, update, give_back, int_type, bool_type}
+use Rattle.typed.specs.Syntax.{Exs, Left, Pl, St, Program, read, local, here, none, more, results, asked as asked_two, blank, new, to, update, give_back}
 use Rattle.typed.specs.Form.{IsArithmetic, IsStep, PlFits, LeftsFit, new_sites, births, scope_behind, scope_after, ExFits, ExsFit, PieceFits, PiecesFit, ReturnFits, StFits}
+use Rattle.value_trees.specs.Types.{ValueType as TypeTree, ints, bools}
 use Rattle.value_types.specs.declared.constant.Fixed.{Fixed}
 use Rattle.value_types.specs.declared.value_type.ValueType.{ValueType}
 use Rattle.value_types.specs.declared.value_type.ValueType.TheVariants.{Int, Bool as Truth}
@@ -29,8 +30,9 @@ use Rattle.operators.specs.Operators.{arithmetic_of, combined}
 use Rattle.names.specs.declared.scope.Declared.{Declared}
 use Rattle.names.specs.declared.scope.Declared.TheVariants as declared
 use Rattle.names.specs.Universe.{is_blank}
-use Rattle.names.specs.Scope.{Scope, type_number, type_numbers, declaration, is_here, fixed, with_variable, with_strings}
+use Rattle.names.specs.Scope.{Scope, type_number, type_tree, type_trees, declaration, is_here, fixed, with_variable, with_strings}
 use Rattle.names.specs.Naming.{name_in}
+use Rattle.names.proofs.Trees.{tree_solid}
 use Rattle.expression_types.specs.Typing.{Part, said, valued, Gives, one, called, asking, quoted, printed, panicked, exited, operand_in, Seen, value_types, asked, taken, gives, seen}
 use Rattle.expression_types.proofs.InForm.{Agrees, AreAccepted, PartFits, PartsFit, GivesFit, AllFit, OperandFits, CallFits, value_fits, operand_fits, taken_fits, asked_types, gives_fit, seen_fit, maybe_fits}
 use Rattle.signatures.specs.declared.slots.Slot.{Slot}
@@ -43,10 +45,10 @@ use Rattle.simple_statements.proofs.SettledSimple.{assignment_some, where_some, 
 use Rattle.simple_statements.proofs.Growth.{grows_variables}
 
 -- what a `return` may give goes together with the results of a function, and the names for them
-pub record ReturnsFit (r : Returns) (results1 : List ℕ) (named : ℕ) : Type 0 where
+pub record ReturnsFit (r : Returns) (results1 : List TypeTree) (named : ℕ) : Type 0 where
   pub types : List ValueType
   pub wanted : r.wanted ≡ asked types
-  pub numbers : type_numbers types ≡ results1
+  pub trees : type_trees types ≡ results1
   pub bare : r.may_be_bare ≡ true → length results1 ≡ named
   pub no_values : results1 ≡ [] → named ≡ 0
 
@@ -89,7 +91,7 @@ arithmetic_is arithmetic.ShiftRight = tt
 
 module _ (p : Program) where
   -- all results of a call as values
-  results_fit : (scope : List ℕ) (ts : List ValueType) (f : ℕ) (es : Exs) → CallFits p scope ts f es → ExsFit p scope (type_numbers ts) (results f es)
+  results_fit : (scope : List ℕ) (ts : List ValueType) (f : ℕ) (es : Exs) → CallFits p scope ts f es → ExsFit p scope (type_trees ts) (results f es)
   results_fit scope [] f es fits = fits
   results_fit scope (t ∷ ts) f es fits = fits
 
@@ -97,14 +99,14 @@ module _ (p : Program) where
 
   -- a left side that is no new variable: blank, or a variable of the type that the value has
   abbrev IsOld : List ℕ → ValueType → Left → Type 0
-  IsOld scope t l = (l ≡ blank) ⊎ ((q : Pl) × (l ≡ to q) × PlFits p scope (type_number t) q)
+  IsOld scope t l = (l ≡ blank) ⊎ ((q : Pl) × (l ≡ to q) × PlFits p scope (type_tree t) q)
 
   abbrev Known : List ℕ → Option Variable → Type 0
-  Known scope o = (v : Variable) → o ≡ Some v → PlFits p scope (type_number v.value_type) v.place
+  Known scope o = (v : Variable) → o ≡ Some v → PlFits p scope (type_tree v.value_type) v.place
 
   target_old : (scope : List ℕ) (o : Option Variable) (t : ValueType) (l : Left) → Known scope o → ((u : ValueType) → variable_type o ≡ Some u → u ≡ t) → target o ≡ Some l → IsOld scope t l
   target_old scope None t l has wants is = absurd (none_some is)
-  target_old scope (Some v) t l has wants is = inr (v.place, sym (same_some is), subst (λ (u : ValueType). PlFits p scope (type_number u) v.place) (wants v.value_type refl) (has v refl))
+  target_old scope (Some v) t l has wants is = inr (v.place, sym (same_some is), subst (λ (u : ValueType). PlFits p scope (type_tree u) v.place) (wants v.value_type refl) (has v refl))
 
   left_old : (scope : List ℕ) (b : Bool) (o : Option Variable) (t : ValueType) (l : Left) → Known scope o → ((u : ValueType) → wanted_of b o ≡ Some u → u ≡ t) → left_of b o ≡ Some l → IsOld scope t l
   left_old scope true o t l has wants is = inl (sym (same_some is))
@@ -112,7 +114,7 @@ module _ (p : Program) where
 
   -- left sides without new variables
   pub record OldFit (scope : List ℕ) (ts : List ValueType) (ls : List Left) : Type 0 where
-    pub fit : (m n : ℕ) → LeftsFit p scope m n (type_numbers ts) ls
+    pub fit : (m n : ℕ) → LeftsFit p scope m n (type_trees ts) ls
     pub sites : new_sites ls ≡ 0
     pub behind : (wide : List ℕ) → scope_behind wide ls ≡ wide
 
@@ -141,7 +143,7 @@ module _ (p : Program) where
 
     -- left sides in a scope, some of which are new variables, behind others
     record NewFit (scope0 : List ℕ) (s : Scope) (scope : List ℕ) (vs : List Slot) (ts : List ValueType) (ls : List Left) (n : ℕ) : Type 0 where
-      fit : LeftsFit p scope0 (length s.sites) n (type_numbers ts) ls
+      fit : LeftsFit p scope0 (length s.sites) n (type_trees ts) ls
       visible : Visible (with_variables text s vs) (scope_behind scope ls)
       count : length s.sites + new_sites ls ≡ length (with_variables text s vs).sites
 
@@ -160,7 +162,7 @@ module _ (p : Program) where
           let next1 : length s1.sites ≡ suc (length s.sites) = omega (arith, one1) in
           let type_is = site_is p all has (length s.sites) t (has_longer s1.sites all (length s.sites) t (extends_twice s1.sites (with_variables text s1 vs).sites all (grows_variables text s1 vs).sites ext) (site, last_site s.sites site, refl)) in
           record {
-            fit = (refl, omega (arith, le, k.count, one1), type_is, subst (λ j. LeftsFit p scope0 j n (type_numbers ts) ls) next1 k.fit);
+            fit = (refl, omega (arith, le, k.count, one1), type_is, subst (λ j. LeftsFit p scope0 j n (type_trees ts) ls) next1 k.fit);
             visible = k.visible;
             count = omega (arith, k.count, one1);
           }
@@ -217,16 +219,16 @@ module _ (text : List ℕ) (p : Program) (all : List Site) (has : HasSites p all
     where
       global_known : (k g : ℕ) (o : Option Fixed) → fixed s k ≡ o → slice_get s.globals g ≡ Some k → Known p scope (option_map (global_variable g) o)
       global_known k g None known at v is = absurd (none_some is)
-      global_known k g (Some f) known at v is = subst (λ (x : Variable). PlFits p scope (type_number x.value_type) x.place) (same_some is) (agrees.globals g k f at known)
+      global_known k g (Some f) known at v is = subst (λ (x : Variable). PlFits p scope (type_tree x.value_type) x.place) (same_some is) (agrees.globals g k f at known)
 
       by : (d : Option Declared) → declaration s n ≡ d → Known p scope (variable_of s d)
       by (Some (declared.Variable site u)) found v is =
           let k = shown_site s scope visible n site u found in
-          subst (λ (x : Variable). PlFits p scope (type_number x.value_type) x.place) (same_some is) (k.0, site_is p all has site.0 u (has_longer s.sites all site.0 u ext k.1))
+          subst (λ (x : Variable). PlFits p scope (type_tree x.value_type) x.place) (same_some is) (k.0, site_is p all has site.0 u (has_longer s.sites all site.0 u ext k.1), tree_solid u)
       by (Some (declared.Global k g)) found v is = global_known k.0 g.0 (fixed s k.0) refl (shown_number s scope visible n k g found) v is
       by other found v is = absurd (none_some is)
 
-  module _ (wanted1 : List ℕ) (named : ℕ) where
+  module _ (wanted1 : List TypeTree) (named : ℕ) where
     abbrev pub StFormed : (looped : Bool) → Scope → List ℕ → Scope → St → Type 0
     StFormed looped s scope after t = Formed s after (births t) (λ m n. StFits p wanted1 named looped scope m n t)
 
@@ -244,10 +246,10 @@ module _ (text : List ℕ) (p : Program) (all : List Site) (has : HasSites p all
         let q = map_some give_back (taken r.wanted (o ∷ os)) t is in
         let f = taken_fits p scope r.wanted (o ∷ os) q.0 fits q.1 in
         let same1 = asked_types p scope goes.types f.types (subst (λ (l : List (Option ValueType)). AreAccepted l f.types) goes.wanted f.accepted) in
-        let whole : ExsFit p scope wanted1 q.0 = subst (λ (l : List ℕ). ExsFit p scope l q.0) (ap type_numbers (sym same1) ∙ goes.numbers) f.fit in
+        let whole : ExsFit p scope wanted1 q.0 = subst (λ (l : List TypeTree). ExsFit p scope l q.0) (ap type_trees (sym same1) ∙ goes.trees) f.fit in
         subst (λ (x : St). Still looped scope x) q.2 (refl, λ m n. by wanted1 goes.no_values q.0 whole, refl)
       where
-        by : (l : List ℕ) → (l ≡ [] → named ≡ 0) → (es : Exs) → ExsFit p scope l es → ReturnFits p scope l named es
+        by : (l : List TypeTree) → (l ≡ [] → named ≡ 0) → (es : Exs) → ExsFit p scope l es → ReturnFits p scope l named es
         by [] no_values none fit = sym (no_values refl)
         by (t1 ∷ ts) no_values none fit = absurd fit
         by l no_values (more e es) fit = fit
@@ -266,8 +268,8 @@ module _ (text : List ℕ) (p : Program) (all : List Site) (has : HasSites p all
 
     express_still : (looped : Bool) (scope : List ℕ) (k : ℕ) (g : Gives) (t : St) → GivesFit p scope g → k + length (strings_in_call g) ≤ length p.strings → expressed k g ≡ Some t → Still looped scope t
     express_still looped scope k (one x) t fits le is = absurd (none_some is)
-    express_still looped scope k (called at ts f es) t fits le is = subst (λ (x : St). Still looped scope x) (same_some is) (refl, λ m n. (type_numbers ts, results_fit p scope ts f es fits), refl)
-    express_still looped scope k (asking at) t fits le is = subst (λ (x : St). Still looped scope x) (same_some is) (refl, λ m n. (int_type ∷ bool_type ∷ [], refl), refl)
+    express_still looped scope k (called at ts f es) t fits le is = subst (λ (x : St). Still looped scope x) (same_some is) (refl, λ m n. (type_trees ts, results_fit p scope ts f es fits), refl)
+    express_still looped scope k (asking at) t fits le is = subst (λ (x : St). Still looped scope x) (same_some is) (refl, λ m n. (ints ∷ bools ∷ [], refl), refl)
     express_still looped scope k (quoted at bytes) t fits le is = absurd (none_some is)
     express_still looped scope k (printed at line ps) t fits le is = subst (λ (x : St). Still looped scope x) (same_some is) (refl, λ m n. pieces_fit scope k ps fits le, refl)
     express_still looped scope k (panicked at q) t fits le is = subst (λ (x : St). Still looped scope x) (same_some is) (refl, λ m n. piece_fits scope k q fits le, refl)
@@ -279,7 +281,7 @@ module _ (text : List ℕ) (p : Program) (all : List Site) (has : HasSites p all
           let a = assignment_some (lefts text s ls) (taken (all_wanted text s ls) (seen text s es)) t is in
           let values = taken_fits p scope (all_wanted text s ls) (seen text s es) a.1 (seen_fit p scope text s (shown_site s scope visible) (shown_number s scope visible) visible.held agrees es) a.3 in
           let left1 = lefts_fit p text s scope (known_all s scope visible agrees ext) ls values.types a.0 values.accepted a.2 in
-          subst (λ (x : St). Still looped scope x) a.4 (left1.sites, λ m n. (type_numbers values.types, left1.fit m n, values.fit), left1.behind scope)
+          subst (λ (x : St). Still looped scope x) a.4 (left1.sites, λ m n. (type_trees values.types, left1.fit m n, values.fit), left1.behind scope)
 
       define_formed : (ns : List Name) (at : Pos) (es : TreeExs) (t : St) → Extends (behind_simple text s (tree.define ns at es)).sites all → Extends s.sites all → simple_statement text s (tree.define ns at es) ≡ Some t
           → StFormed looped s scope (behind_simple text s (tree.define ns at es)) t × Visible (behind_simple text s (tree.define ns at es)) (scope_after scope t)
@@ -297,22 +299,22 @@ module _ (text : List ℕ) (p : Program) (all : List Site) (has : HasSites p all
           let whole = fits (length after.sites) (omega arith) in
           subst (λ (o : Option (List ValueType)). StFormed looped s scope (with_variables text s (new_slots text s (slots_each o ns))) t × Visible (with_variables text s (new_slots text s (slots_each o ns))) (scope_after scope t)) (sym types_are)
           (subst (λ (x : St). StFormed looped s scope after x × Visible after (scope_after scope x)) a.4
-          (record { count = whole.count; fit = λ n le. (type_numbers values.types, (fits n le).fit, values.fit) }, whole.visible))
+          (record { count = whole.count; fit = λ n le. (type_trees values.types, (fits n le).fit, values.fit) }, whole.visible))
 
       -- the value of a variable is one of its type
-      own_fits : Extends s.sites all → (o : Option Name) (t : ValueType) (q : Pl) → own_value text s o ≡ Some (value t (read q)) → PlFits p scope (type_number t) q
+      own_fits : Extends s.sites all → (o : Option Name) (t : ValueType) (q : Pl) → own_value text s o ≡ Some (value t (read q)) → PlFits p scope (type_tree t) q
       own_fits ext None t q is = absurd (none_some is)
       own_fits ext (Some n) t q is = by (is_blank (spelled text n)) is
         where
-          of_variable : (o : Option Variable) → Known p scope o → variable_value o ≡ Some (value t (read q)) → PlFits p scope (type_number t) q
+          of_variable : (o : Option Variable) → Known p scope o → variable_value o ≡ Some (value t (read q)) → PlFits p scope (type_tree t) q
           of_variable None known is1 = absurd (none_some is1)
           of_variable (Some v) known is1 =
               let read_is : value v.value_type (read v.place) ≡ value t (read q) = same_some is1 in
               let type_is : v.value_type ≡ t = cc in
               let place_is : v.place ≡ q = cc in
-              subst (λ (u : ValueType). PlFits p scope (type_number u) q) type_is (subst (λ (l : Pl). PlFits p scope (type_number v.value_type) l) place_is (known v refl))
+              subst (λ (u : ValueType). PlFits p scope (type_tree u) q) type_is (subst (λ (l : Pl). PlFits p scope (type_tree v.value_type) l) place_is (known v refl))
 
-          by : (b : Bool) → cond b None (variable_value (variable_named text s n)) ≡ Some (value t (read q)) → PlFits p scope (type_number t) q
+          by : (b : Bool) → cond b None (variable_value (variable_named text s n)) ≡ Some (value t (read q)) → PlFits p scope (type_tree t) q
           by true is1 = absurd (none_some is1)
           by false is1 = of_variable (variable_named text s n) (known_all s scope visible agrees ext (spelled text n)) is1
 
@@ -323,9 +325,9 @@ module _ (text : List ℕ) (p : Program) (all : List Site) (has : HasSites p all
           let q = and_then_some updated (both (combined (first_place e) (Arithmetic tree_op)) a b) t is in
           let u = update_some (first_place e) tree_op a b q.0 (λ x x_is. own_read text s (name_in e) x x_is) q.1 in
           let form = u.5 in
-          let place1 : PlFits p scope int_type u.1 = subst (λ (k : ValueType). PlFits p scope (type_number k) u.1) form.2 (own_fits ext (name_in e) u.0 u.1 u.3) in
+          let place1 : PlFits p scope ints u.1 = subst (λ (k : ValueType). PlFits p scope (type_tree k) u.1) form.2 (own_fits ext (name_in e) u.0 u.1 u.3) in
           let right : OperandFits p scope u.2 = operand_fits p scope (gives text s v) u.2 (maybe_fits p scope (gives text s v) (λ g g_is. gives_fit p scope text s (shown_site s scope visible) (shown_number s scope visible) visible.held agrees v g g_is)) u.4 in
-          let right1 : ExFits p scope int_type form.0 = subst (λ (k : ValueType). ExFits p scope (type_number k) form.0) form.1 (value_fits p scope u.2 form.0 right form.3) in
+          let right1 : ExFits p scope ints form.0 = subst (λ (k : ValueType). ExFits p scope (type_tree k) form.0) form.1 (value_fits p scope u.2 form.0 right form.3) in
           let whole : update (first_place e) u.1 (arithmetic_of tree_op) form.0 ≡ t = same_some (ap updated (sym form.4) ∙ q.2) in
           subst (λ (x : St). Still looped scope x) whole (refl, λ m n. (arithmetic_is tree_op, place1, right1), refl)
 

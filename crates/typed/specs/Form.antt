@@ -5,41 +5,27 @@ use Rattle.typed.specs.declared.operators.BinOp.{BinOp}
 use Rattle.typed.specs.declared.operators.BinOp.TheVariants.{Add, Sub, Equal, NotEqual, Less, LessEqual, Greater, GreaterEqual}
 use Rattle.typed.specs.declared.operators.UnOp.{UnOp}
 use Rattle.typed.specs.declared.operators.UnOp.TheVariants.{Not}
-use Rattle.typed.specs.Value.{Value, int, bool}
-use Rattle.typed.specs.Syntax.{Ex, Exs, Pl, Left, Piece, St, Sts, Func, Program, constant, read, unary, binary, both, either, call, local, global, none, more, results, asked, blank, new, to, text, shown, over_int, declare, assign, update, bump, discard, block, choose, loop, range, break_off, go_on, give_back, print, raise, quit, done, next, int_type, bool_type, argument_words, result_words}
-use Rattle.typed.specs.View.{zero_values}
+use Rattle.value_trees.specs.Types.{ValueType, ints, bools, width}
+use Rattle.value_trees.specs.Value.{Value, int, bool, composite, IsOf}
+use Rattle.value_trees.specs.Paths.{Leads as LeadsTo}
+use Rattle.typed.specs.Syntax.{Ex, Exs, Pl, Left, Piece, St, Sts, Func, Program, constant, read, unary, binary, both, either, call, local, global, none, more, results, asked, blank, new, to, text, shown, over_int, declare, assign, update, bump, discard, block, choose, loop, range, break_off, go_on, give_back, print, raise, quit, done, next, here, inner, argument_words, result_words, site_type, global_type, path_of}
 
 -- ---- types
 
--- a value of a type
-abbrev pub IsOf : ℕ → Value → Type 0
-IsOf t (int z) = t ≡ int_type
-IsOf t (bool b) = t ≡ bool_type
-
 -- values side by side
-abbrev pub AreOf : List ℕ → List Value → Type 0
+abbrev pub AreOf : List ValueType → List Value → Type 0
 AreOf [] [] = Unit {0}
 AreOf (t ∷ ts) (v ∷ vs) = IsOf t v × AreOf ts vs
 AreOf ts vs = ⊥
 
-abbrev pub IsPlain : ℕ → Type 0
-IsPlain t = (t ≡ int_type) ⊎ (t ≡ bool_type)
-
--- the type of a site
-abbrev pub site_type : Program → ℕ → ℕ
-site_type p site = get_or p.sites site int_type
-
--- the site of a package variable, and its type
-abbrev pub global_site : Program → ℕ → ℕ
-global_site p g = (get_or p.globals g (0, int (pos 0))).0
-
-abbrev pub global_type : Program → ℕ → ℕ
-global_type p g = site_type p (global_site p g)
+abbrev pub IsPlain : ValueType → Type 0
+IsPlain t = (t ≡ ints) ⊎ (t ≡ bools)
 
 -- a constant is a number of 64 bits with a sign, or a truth value
 abbrev pub IsWord : Value → Type 0
 IsWord (int z) = FitsSigned w64 z
 IsWord (bool b) = ⊤
+IsWord (composite vs) = ⊥
 
 -- an operator on two numbers that gives one
 abbrev pub IsArithmetic : BinOp → Type 0
@@ -52,18 +38,18 @@ IsArithmetic GreaterEqual = ⊥
 IsArithmetic op = ⊤
 
 -- the type of an operator's operands, and of what it gives
-abbrev pub Takes : BinOp → (operands result : ℕ) → Type 0
-Takes Equal s t = t ≡ bool_type
-Takes NotEqual s t = t ≡ bool_type
-Takes Less s t = (s ≡ int_type) × (t ≡ bool_type)
-Takes LessEqual s t = (s ≡ int_type) × (t ≡ bool_type)
-Takes Greater s t = (s ≡ int_type) × (t ≡ bool_type)
-Takes GreaterEqual s t = (s ≡ int_type) × (t ≡ bool_type)
-Takes op s t = (s ≡ int_type) × (t ≡ int_type)
+abbrev pub Takes : BinOp → (operands result : ValueType) → Type 0
+Takes Equal s t = IsPlain s × (t ≡ bools)
+Takes NotEqual s t = IsPlain s × (t ≡ bools)
+Takes Less s t = (s ≡ ints) × (t ≡ bools)
+Takes LessEqual s t = (s ≡ ints) × (t ≡ bools)
+Takes Greater s t = (s ≡ ints) × (t ≡ bools)
+Takes GreaterEqual s t = (s ≡ ints) × (t ≡ bools)
+Takes op s t = (s ≡ ints) × (t ≡ ints)
 
-abbrev pub TakesOne : UnOp → ℕ → Type 0
-TakesOne Not t = t ≡ bool_type
-TakesOne op t = t ≡ int_type
+abbrev pub TakesOne : UnOp → ValueType → Type 0
+TakesOne Not t = t ≡ bools
+TakesOne op t = t ≡ ints
 
 -- the operators of `++` and `--`
 abbrev pub IsStep : BinOp → Type 0
@@ -163,12 +149,14 @@ abbrev mutual
 -- ---- what fits in a program
 
 module _ (p : Program) where
-  abbrev pub PlFits : List ℕ → ℕ → Pl → Type 0
-  PlFits scope t (local site steps) = InScope site scope × (site_type p site ≡ t)
-  PlFits scope t (global g steps) = (g < length p.globals) × (global_type p g ≡ t)
+  -- a place whose part is of a type, which has a word at least
+  abbrev pub PlFits : List ℕ → ValueType → Pl → Type 0
+  PlFits scope t (local site steps) = InScope site scope × LeadsTo (site_type p site) (path_of steps) t × (0 < width t)
+  PlFits scope t (global g here) = (g < length p.globals) × (global_type p g ≡ t)
+  PlFits scope t (global g (inner i steps)) = ⊥
 
   -- left sides for values of these types
-  abbrev pub LeftsFit : List ℕ → (m n : ℕ) → List ℕ → List Left → Type 0
+  abbrev pub LeftsFit : List ℕ → (m n : ℕ) → List ValueType → List Left → Type 0
   LeftsFit scope m n [] [] = Unit {0}
   LeftsFit scope m n (t ∷ ts) (blank ∷ ls) = LeftsFit scope m n ts ls
   LeftsFit scope m n (t ∷ ts) (new site ∷ ls) = (site ≡ m) × (m < n) × (site_type p site ≡ t) × LeftsFit scope (suc m) n ts ls
@@ -177,62 +165,62 @@ module _ (p : Program) where
 
   -- an expression with a value of a type, and expressions with values of these types
   abbrev mutual
-    pub ExFits : List ℕ → ℕ → Ex → Type 0
+    pub ExFits : List ℕ → ValueType → Ex → Type 0
     ExFits scope t (constant v) = IsOf t v × IsWord v
     ExFits scope t (read q) = PlFits scope t q
     ExFits scope t (unary op e) = TakesOne op t × ExFits scope t e
-    ExFits scope t (binary at op a b) = (s : ℕ) × Takes op s t × ExFits scope s a × ExFits scope s b
-    ExFits scope t (both a b) = (t ≡ bool_type) × ExFits scope bool_type a × ExFits scope bool_type b
-    ExFits scope t (either a b) = (t ≡ bool_type) × ExFits scope bool_type a × ExFits scope bool_type b
+    ExFits scope t (binary at op a b) = (s : ValueType) × Takes op s t × ExFits scope s a × ExFits scope s b
+    ExFits scope t (both a b) = (t ≡ bools) × ExFits scope bools a × ExFits scope bools b
+    ExFits scope t (either a b) = (t ≡ bools) × ExFits scope bools a × ExFits scope bools b
     ExFits scope t (call f es) = (func : Func) × (slice_get p.funcs f ≡ Some func) × (func.results ≡ t ∷ []) × ExsFit scope func.param_types es
 
-    pub ExsFit : List ℕ → List ℕ → Exs → Type 0
+    pub ExsFit : List ℕ → List ValueType → Exs → Type 0
     ExsFit scope [] none = Unit {0}
     ExsFit scope (t ∷ ts) (more e es) = ExFits scope t e × ExsFit scope ts es
     ExsFit scope ts (results f es) = (func : Func) × (slice_get p.funcs f ≡ Some func) × (func.results ≡ ts) × ExsFit scope func.param_types es
-    ExsFit scope ts asked = ts ≡ int_type ∷ bool_type ∷ []
+    ExsFit scope ts asked = ts ≡ ints ∷ bools ∷ []
     ExsFit scope ts es = ⊥
 
   abbrev pub TestFits : List ℕ → Option Ex → Type 0
   TestFits scope None = Unit {0}
-  TestFits scope (Some e) = ExFits scope bool_type e
+  TestFits scope (Some e) = ExFits scope bools e
 
   -- an operand of `print`, `println` or `panic`
   abbrev pub PieceFits : List ℕ → Piece → Type 0
   PieceFits scope (text number) = number < length p.strings
-  PieceFits scope (shown t e) = ExFits scope t e
+  PieceFits scope (shown t e) = IsPlain t × ExFits scope t e
 
   abbrev pub PiecesFit : List ℕ → List Piece → Type 0
   PiecesFit scope [] = Unit {0}
   PiecesFit scope (q ∷ ps) = PieceFits scope q × PiecesFit scope ps
 
   -- what a function with these results and so many names for them returns: a value of each type, or none where they have names
-  abbrev pub ReturnFits : List ℕ → List ℕ → (named : ℕ) → Exs → Type 0
+  abbrev pub ReturnFits : List ℕ → List ValueType → (named : ℕ) → Exs → Type 0
   ReturnFits scope wanted named none = length wanted ≡ named
   ReturnFits scope wanted named es = ExsFit scope wanted es
 
   -- the statements of a function with these results and so many names for them; `looped` where a loop is around them
-  module _ (wanted : List ℕ) (named : ℕ) where
+  module _ (wanted : List ValueType) (named : ℕ) where
     abbrev mutual
       pub StFits : (looped : Bool) → List ℕ → (m n : ℕ) → St → Type 0
       StFits looped scope m n (declare sites) = SitesNext m n sites
-      StFits looped scope m n (assign ls es) = (ts : List ℕ) × LeftsFit scope m n ts ls × ExsFit scope ts es
-      StFits looped scope m n (update at q op e) = IsArithmetic op × PlFits scope int_type q × ExFits scope int_type e
-      StFits looped scope m n (bump q op) = IsStep op × PlFits scope int_type q
-      StFits looped scope m n (discard (results f es)) = (ts : List ℕ) × ExsFit scope ts (results f es)
-      StFits looped scope m n (discard asked) = (ts : List ℕ) × ExsFit scope ts asked
+      StFits looped scope m n (assign ls es) = (ts : List ValueType) × LeftsFit scope m n ts ls × ExsFit scope ts es
+      StFits looped scope m n (update at q op e) = IsArithmetic op × PlFits scope ints q × ExFits scope ints e
+      StFits looped scope m n (bump q op) = IsStep op × PlFits scope ints q
+      StFits looped scope m n (discard (results f es)) = (ts : List ValueType) × ExsFit scope ts (results f es)
+      StFits looped scope m n (discard asked) = (ts : List ValueType) × ExsFit scope ts asked
       StFits looped scope m n (block ss) = StsFit looped scope m n ss
-      StFits looped scope m n (choose e a b) = ExFits scope bool_type e × StsFit looped scope m n a × StsFit looped scope (m + births_all a) n b
+      StFits looped scope m n (choose e a b) = ExFits scope bools e × StsFit looped scope m n a × StsFit looped scope (m + births_all a) n b
       StFits looped scope m n (loop sites test post body) =
           AllInScope scope sites × TestFits scope test × StsFit false scope m n post × StsFit true scope (m + births_all post) n body
       StFits looped scope m n (range (over_int e) key blank body) =
-          ExFits scope int_type e × LeftsFit scope m n (int_type ∷ []) (key ∷ []) × StsFit true (scope_behind scope (key ∷ [])) (m + new_sites (key ∷ [])) n body
+          ExFits scope ints e × LeftsFit scope m n (ints ∷ []) (key ∷ []) × StsFit true (scope_behind scope (key ∷ [])) (m + new_sites (key ∷ [])) n body
       StFits looped scope m n break_off = looped ≡ true
       StFits looped scope m n go_on = looped ≡ true
       StFits looped scope m n (give_back es) = ReturnFits scope wanted named es
       StFits looped scope m n (print ln ps) = PiecesFit scope ps
       StFits looped scope m n (raise at q) = PieceFits scope q
-      StFits looped scope m n (quit at e) = ExFits scope int_type e
+      StFits looped scope m n (quit at e) = ExFits scope ints e
       StFits looped scope m n s = ⊥
 
       pub StsFit : (looped : Bool) → List ℕ → (m n : ℕ) → Sts → Type 0
@@ -240,7 +228,7 @@ module _ (p : Program) where
       StsFit looped scope m n (next s ss) = StFits looped scope m n s × StsFit looped (scope_after scope s) (m + births s) n ss
 
   -- the sites of parameters from m on, and of results with names, in the order of the text, and their types
-  abbrev pub ParamsFit : ℕ → List ℕ → List (Option ℕ) → Type 0
+  abbrev pub ParamsFit : ℕ → List ValueType → List (Option ℕ) → Type 0
   ParamsFit m [] [] = Unit {0}
   ParamsFit m (t ∷ ts) (None ∷ ps) = ParamsFit m ts ps
   ParamsFit m (t ∷ ts) (Some site ∷ ps) = (site ≡ m) × (site_type p site ≡ t) × ParamsFit (suc m) ts ps
@@ -276,21 +264,21 @@ pub record FuncFits (p : Program) (f : Func) : Type 0 where
   pub names : (f.named ≡ []) ⊎ (map (site_type p) f.named ≡ f.results)
   pub count : f.count ≡ named_params f.params + length f.named + births_all f.body
   pub body : StsFit p f.results (length f.named) false (scope_in f) (body_first f) (f.first + f.count) f.body
-  pub end : (result_words f ≡ 0) ⊎ (ends_all f.body ≡ true)
+  pub end : (f.results ≡ []) ⊎ (ends_all f.body ≡ true)
   -- arguments and results have at most 65,535 words
   pub small : argument_words f + result_words f ≤ 65535
 
 -- package variables: each begins with a value of its type, and its site is none of a function
 pub record GlobalFits (p : Program) (g : ℕ × Value) : Type 0 where
   pub value : IsOf (site_type p g.0) g.1 × IsWord g.1
+  pub plain : IsPlain (site_type p g.0)
   pub apart : (f : ℕ) (func : Func) → slice_get p.funcs f ≡ Some func → (g.0 < func.first) ⊎ (func.first + func.count ≤ g.0)
 
--- each function fits; `main` is one without parameters and results; there are at most 4,096; each variable is a number or a
--- truth value
+-- each function fits; `main` is one without parameters and results; there are at most 4,096; each variable has a word at
+-- least
 pub record IsInForm (p : Program) : Type 0 where
   pub fits : (f : ℕ) (func : Func) → slice_get p.funcs f ≡ Some func → FuncFits p func
   pub few : length p.funcs ≤ 4096
   pub main : (func : Func) × (slice_get p.funcs p.main ≡ Some func) × (func.params ≡ []) × (func.results ≡ []) × (func.named ≡ [])
-  pub plain : (site : ℕ) → IsPlain (site_type p site)
-  pub zeros : p.zeros ≡ zero_values
+  pub solid : (site : ℕ) → 0 < width (site_type p site)
   pub globals : (i : ℕ) (g : ℕ × Value) → slice_get p.globals i ≡ Some g → GlobalFits p g

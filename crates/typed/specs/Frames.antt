@@ -1,8 +1,9 @@
 -- The words of a frame, from its lowest address: the outgoing area, in which the arguments of a call stand and then its
--- results; the temps that values are worked out in; a word for each site; the link and the return place.
-use Rattle.std.specs.Prelude.{ℕ, zero, suc, ◌+◌, List, [], ◌∷◌, Option, Some, None, length, max, slice_get}
-use Rattle.typed.specs.Value.{words}
-use Rattle.typed.specs.Syntax.{Ex, Exs, Pl, Left, Piece, Over, St, Sts, Func, Program, constant, read, unary, binary, both, either, call, local, global, none, more, results, asked, blank, new, to, text, shown, over_int, declare, assign, update, bump, discard, block, choose, loop, range, break_off, go_on, give_back, print, raise, quit, done, next, arguments_of, results_of}
+-- results; the temps that values are worked out in; the words of each site; the link and the return place.
+use Rattle.std.specs.Prelude.{ℕ, zero, suc, ◌+◌, List, [], ◌∷◌, Option, Some, None, length, max, get_or, slice_get}
+use Rattle.value_trees.specs.Types.{ValueType, ints, width}
+use Rattle.value_trees.specs.Value.{words}
+use Rattle.typed.specs.Syntax.{Ex, Exs, Pl, Left, Piece, Over, St, Sts, Func, Program, constant, read, unary, binary, both, either, call, local, global, none, more, results, asked, blank, new, to, text, shown, over_int, declare, assign, update, bump, discard, block, choose, loop, range, break_off, go_on, give_back, print, raise, quit, done, next, arguments_of, results_of, site_width, place_width, wide, all_wide}
 
 -- the words of the address of a place, where it is reached by one
 abbrev pub far : Pl → ℕ
@@ -19,27 +20,32 @@ abbrev pub lefts_far : List Left → ℕ
 lefts_far [] = 0
 lefts_far (l ∷ ls) = max (left_far l) (lefts_far ls)
 
--- so many values, and behind them an address, if there is one
+-- the words of so many sites from one on
+abbrev pub words_between : List ValueType → (from count : ℕ) → ℕ
+words_between sites from zero = 0
+words_between sites from (suc n) = width (get_or sites from ints) + words_between sites (suc from) n
+
+-- so many words of values, and behind them an address, if there is one
 abbrev pub behind_values : (values address : ℕ) → ℕ
 behind_values values zero = 0
 behind_values values (suc address) = values + suc address
 
-module _ (fs : List Func) where
+module _ (p : Program) where
   -- temps from the one on in which the value lands, and those of values side by side
   abbrev mutual
     pub need : Ex → ℕ
     need (constant v) = words v
-    need (read p) = 1
+    need (read q) = max (far q) (place_width p q)
     need (unary op e) = need e
     need (binary at op a b) = max (need a) (1 + need b)
     need (both a b) = max (need a) (need b)
     need (either a b) = max (need a) (need b)
-    need (call f es) = max (need_all es) (results_of fs f)
+    need (call f es) = max (need_all es) (results_of p f)
 
     pub need_all : Exs → ℕ
     need_all none = 0
-    need_all (more e es) = max (need e) (1 + need_all es)
-    need_all (results f es) = max (need_all es) (results_of fs f)
+    need_all (more e es) = max (need e) (wide p e + need_all es)
+    need_all (results f es) = max (need_all es) (results_of p f)
     need_all asked = 2
 
   -- a string is no value
@@ -60,17 +66,17 @@ module _ (fs : List Func) where
   abbrev mutual
     pub reach : Ex → ℕ
     reach (constant v) = 0
-    reach (read p) = 0
+    reach (read q) = 0
     reach (unary op e) = reach e
     reach (binary at op a b) = max (reach a) (reach b)
     reach (both a b) = max (reach a) (reach b)
     reach (either a b) = max (reach a) (reach b)
-    reach (call f es) = max (reach_all es) (arguments_of fs f + results_of fs f)
+    reach (call f es) = max (reach_all es) (arguments_of p f + results_of p f)
 
     pub reach_all : Exs → ℕ
     reach_all none = 0
     reach_all (more e es) = max (reach e) (reach_all es)
-    reach_all (results f es) = max (reach_all es) (arguments_of fs f + results_of fs f)
+    reach_all (results f es) = max (reach_all es) (arguments_of p f + results_of p f)
     reach_all asked = 0
 
   abbrev pub piece_reach : Piece → ℕ
@@ -89,15 +95,11 @@ module _ (fs : List Func) where
   abbrev pub over_reach : Over → ℕ
   over_reach (over_int e) = reach e
 
-  -- a new round's variables are moved through temps
-  abbrev pub renewal_need : List ℕ → ℕ
-  renewal_need [] = 0
-  renewal_need (site ∷ sites) = 1
-
-  -- a function's results with names are moved through a temp
-  abbrev pub named_need : ℕ → ℕ
-  named_need zero = 0
-  named_need (suc named) = 1
+  -- the words of the widest of some sites: a new round's variables are moved through temps, and so are a function's results
+  -- with names
+  abbrev pub widest : List ℕ → ℕ
+  widest [] = 0
+  widest (site ∷ sites) = max (site_width p site) (widest sites)
 
   -- `range`: the words that it keeps, and what it works with above them
   abbrev pub over_need : Over → ℕ
@@ -113,24 +115,24 @@ module _ (fs : List Func) where
   key_need (to q) = 1 + far q
 
   abbrev mutual
-    pub st_need : (named : ℕ) → St → ℕ
+    pub st_need : (named : List ℕ) → St → ℕ
     st_need named (declare sites) = 0
-    st_need named (assign ls es) = max (need_all es) (behind_values (length ls) (lefts_far ls))
+    st_need named (assign ls es) = max (need_all es) (behind_values (all_wide p es) (lefts_far ls))
     st_need named (update at q op e) = far q + 1 + need e
     st_need named (bump q op) = far q + 2
     st_need named (discard es) = need_all es
     st_need named (block ss) = sts_need named ss
     st_need named (choose e a b) = max (need e) (max (sts_need named a) (sts_need named b))
-    st_need named (loop sites test post body) = max (max (test_need test) (renewal_need sites)) (max (sts_need named post) (sts_need named body))
+    st_need named (loop sites test post body) = max (max (test_need test) (widest sites)) (max (sts_need named post) (sts_need named body))
     st_need named (range over key value body) = max (over_need over) (max (hidden over + 2) (max (hidden over + key_need key) (hidden over + sts_need named body)))
     st_need named break_off = 0
     st_need named go_on = 0
-    st_need named (give_back es) = max (need_all es) (named_need named)
+    st_need named (give_back es) = max (need_all es) (widest named)
     st_need named (print ln ps) = need_pieces ps
     st_need named (raise at q) = piece_need q
     st_need named (quit at e) = need e
 
-    pub sts_need : (named : ℕ) → Sts → ℕ
+    pub sts_need : (named : List ℕ) → Sts → ℕ
     sts_need named done = 0
     sts_need named (next s ss) = max (st_need named s) (sts_need named ss)
 
@@ -161,11 +163,11 @@ module _ (fs : List Func) where
   outgoing_of f = sts_reach f.body
 
   abbrev pub temps_of : Func → ℕ
-  temps_of f = sts_need (length f.named) f.body
+  temps_of f = sts_need f.named f.body
 
   -- the words of its frame
   abbrev pub frame_of : Func → ℕ
-  frame_of f = 2 + f.count + temps_of f + outgoing_of f
+  frame_of f = 2 + words_between p.sites f.first f.count + temps_of f + outgoing_of f
 
   abbrev pub frame_in : Option Func → ℕ
   frame_in None = 0
@@ -173,4 +175,4 @@ module _ (fs : List Func) where
 
 -- the words of the frame of a program's function, by its number
 abbrev pub frame_words : Program → ℕ → ℕ
-frame_words p f = frame_in p.funcs (slice_get p.funcs f)
+frame_words p f = frame_in p (slice_get p.funcs f)

@@ -1,4 +1,3 @@
-pub mod Value
 pub mod Syntax
 pub mod View
 pub mod Form

@@ -1,6 +1,6 @@
 -- Which variables live on the heap: those of the package.
 use Rattle.std.specs.Prelude.{ℕ, Bool, false, ◌==◌, ◌||◌, List, [], ◌∷◌}
-use Rattle.typed.specs.Value.{Value}
+use Rattle.value_trees.specs.Value.{Value}
 use Rattle.typed.specs.Syntax.{Program}
 
 -- whether one of these package variables has a site

@@ -1,13 +1,17 @@
 -- The typed program as abstract syntax, without vectors and pointers.
-use Rattle.std.specs.Prelude.{ℕ, Bool, List, length, Option, Some, None, slice_get}
+use Rattle.std.specs.Prelude.{ℕ, zero, suc, pos, ◌+◌, Bool, List, [], ◌∷◌, Option, Some, None, get_or, slice_get}
 use Rattle.base.specs.declared.pos.Pos.{Pos}
-use Rattle.typed.specs.Value.{Value}
+use Rattle.value_trees.specs.Types.{ValueType, ints, width}
+use Rattle.value_trees.specs.Value.{Value, int}
+use Rattle.value_trees.specs.Paths.{type_at}
 use Rattle.typed.specs.declared.operators.BinOp.{BinOp}
 use Rattle.typed.specs.declared.operators.UnOp.{UnOp}
 
 -- the steps from the beginning of a place to the part that it names
 pub data Steps : Type 0 where
   here : Steps
+  -- a field or an element, by its number
+  inner : ℕ → Steps → Steps
 
 -- a place: where it begins, and the steps from there
 pub data Pl : Type 0 where
@@ -47,7 +51,7 @@ pub data Left : Type 0 where
 -- an operand of `print`, `println` or `panic`: a string by its number, or a value and its type
 pub data Piece : Type 0 where
   text : ℕ → Piece
-  shown : ℕ → Ex → Piece
+  shown : ValueType → Ex → Piece
 
 -- what `range` goes over
 pub data Over : Type 0 where
@@ -90,34 +94,31 @@ pub record Func : Type 0 where
   pub first : ℕ
   pub count : ℕ
   pub params : List (Option ℕ)
-  pub param_types : List ℕ
-  pub results : List ℕ
+  pub param_types : List ValueType
+  pub results : List ValueType
   pub named : List ℕ
   pub body : Sts
 
--- the functions, the zero value of each type, the type of each site, the bytes of each string, the package variables with
--- their first values, and the number of `main`
+-- the functions, the type of each site, the bytes of each string, the package variables with their sites and their first
+-- values, and the number of `main`
 pub record Program : Type 0 where
   pub funcs : List Func
-  pub zeros : List Value
-  pub sites : List ℕ
+  pub sites : List ValueType
   pub strings : List (List ℕ)
   pub globals : List (ℕ × Value)
   pub main : ℕ
 
--- the types of whole numbers and of truth values
-abbrev pub int_type : ℕ
-int_type = 0
-
-abbrev pub bool_type : ℕ
-bool_type = 1
+-- the words of values side by side, by their types
+abbrev pub all_width : List ValueType → ℕ
+all_width [] = 0
+all_width (t ∷ ts) = width t + all_width ts
 
 -- the words of a function's arguments, and of its results
 abbrev pub argument_words : Func → ℕ
-argument_words f = length f.params
+argument_words f = all_width f.param_types
 
 abbrev pub result_words : Func → ℕ
-result_words f = length f.results
+result_words f = all_width f.results
 
 -- those of a function by its number
 abbrev pub arguments_in : Option Func → ℕ
@@ -128,8 +129,63 @@ abbrev pub results_in : Option Func → ℕ
 results_in None = 0
 results_in (Some f) = result_words f
 
-abbrev pub arguments_of : List Func → ℕ → ℕ
-arguments_of fs f = arguments_in (slice_get fs f)
+abbrev pub arguments_of : Program → ℕ → ℕ
+arguments_of p f = arguments_in (slice_get p.funcs f)
 
-abbrev pub results_of : List Func → ℕ → ℕ
-results_of fs f = results_in (slice_get fs f)
+abbrev pub results_of : Program → ℕ → ℕ
+results_of p f = results_in (slice_get p.funcs f)
+
+-- the type of a site
+abbrev pub site_type : Program → ℕ → ValueType
+site_type p site = get_or p.sites site ints
+
+-- the site of a package variable, and its type
+abbrev pub global_site : Program → ℕ → ℕ
+global_site p g = (get_or p.globals g (0, int (pos 0))).0
+
+abbrev pub global_type : Program → ℕ → ValueType
+global_type p g = site_type p (global_site p g)
+
+-- the words of a site's variables
+abbrev pub site_width : Program → ℕ → ℕ
+site_width p site = width (site_type p site)
+
+-- the path of steps
+abbrev pub path_of : Steps → List ℕ
+path_of here = []
+path_of (inner i steps) = i ∷ path_of steps
+
+-- the type of a place, and its words
+abbrev pub place_type : Program → Pl → ValueType
+place_type p (local site steps) = type_at (site_type p site) (path_of steps)
+place_type p (global g steps) = type_at (global_type p g) (path_of steps)
+
+abbrev pub place_width : Program → Pl → ℕ
+place_width p q = width (place_type p q)
+
+-- the words of an expression's value, and of values side by side
+abbrev pub wide : Program → Ex → ℕ
+wide p (read q) = place_width p q
+wide p (call f es) = results_of p f
+wide p e = 1
+
+abbrev pub all_wide : Program → Exs → ℕ
+all_wide p none = 0
+all_wide p (more e es) = wide p e + all_wide p es
+all_wide p (results f es) = results_of p f
+all_wide p asked = 2
+
+-- the words of each of the values
+abbrev pub each_width : List ValueType → List ℕ
+each_width [] = []
+each_width (t ∷ ts) = width t ∷ each_width ts
+
+abbrev pub result_widths : Option Func → List ℕ
+result_widths None = []
+result_widths (Some f) = each_width f.results
+
+abbrev pub value_widths : Program → Exs → List ℕ
+value_widths p none = []
+value_widths p (more e es) = wide p e ∷ value_widths p es
+value_widths p (results f es) = result_widths (slice_get p.funcs f)
+value_widths p asked = 1 ∷ 1 ∷ []

@@ -1,5 +1,5 @@
 -- The abstract syntax of typed programs.
-use Rattle.std.specs.Prelude.{ℕ, pos, false, List, [], ◌∷◌, Option, Some, None, map, get_or}
+use Rattle.std.specs.Prelude.{ℕ, zero, suc, List, [], ◌∷◌, Option, Some, None, map, get_or}
 use Rattle.base.specs.declared.ids.SiteId.{SiteId}
 use Rattle.typed.specs.declared.expr.Const.{Const}
 use Rattle.typed.specs.declared.expr.Const.TheVariants.{Int, Bool}
@@ -16,8 +16,14 @@ use Rattle.typed.specs.declared.program.Func.{Func as FuncData}
 use Rattle.typed.specs.declared.program.PackageVariable.{PackageVariable}
 use Rattle.typed.specs.declared.program.Site.{Site}
 use Rattle.typed.specs.declared.program.Program.{Program as ProgramData}
-use Rattle.typed.specs.Value.{Value, int, bool}
+use Rattle.value_trees.specs.Types.{ValueType, ints, bools}
+use Rattle.value_trees.specs.Value.{Value, int, bool, zero_of}
 use Rattle.typed.specs.Syntax.{Ex, Exs, Pl, Left, Piece, St, Sts, Func, Program, constant, read, unary, binary, both, either, call, local, global, here, none, more, results, asked, blank, new, to, text, shown, over_int, declare, assign, update, bump, discard, block, choose, loop, range, break_off, go_on, give_back, print, raise, quit, done, next}
+
+-- the types of whole numbers and of truth values, by their numbers
+abbrev pub type_of : ℕ → ValueType
+type_of (suc zero) = bools
+type_of t = ints
 
 abbrev pub value_of : Const → Value
 value_of (Int z) = int z
@@ -58,7 +64,7 @@ left_of (To q) = to (place_of q)
 
 abbrev pub piece_of : PieceData → Piece
 piece_of (Text number) = text number
-piece_of (Shown t e) = shown t.0 (ex_of e)
+piece_of (Shown t e) = shown (type_of t.0) (ex_of e)
 
 abbrev pub site_numbers : List SiteId → List ℕ
 site_numbers sites = map (λ site. site.0) sites
@@ -104,31 +110,26 @@ func_of f = record {
   first = f.first_site;
   count = f.sites;
   params = map site_in f.params.items;
-  param_types = map (λ t. t.0) f.param_types.items;
-  results = map (λ t. t.0) f.results.items;
+  param_types = map (λ t. type_of t.0) f.param_types.items;
+  results = map (λ t. type_of t.0) f.results.items;
   named = map (λ site. site.0) f.named.items;
   body = sts_of f.body.items;
 }
 
--- two types: whole numbers and truth values
-abbrev pub zero_values : List Value
-zero_values = int (pos 0) ∷ bool false ∷ []
-
 -- the value that a package variable of a type begins with
-abbrev pub first_value : ℕ → Option Const → Value
-first_value t None = get_or zero_values t (int (pos 0))
+abbrev pub first_value : ValueType → Option Const → Value
+first_value t None = zero_of t
 first_value t (Some c) = value_of c
 
-abbrev pub site_types : List Site → List ℕ
-site_types sites = map (λ site. site.type_id.0) sites
+abbrev pub site_types : List Site → List ValueType
+site_types sites = map (λ site. type_of site.type_id.0) sites
 
-abbrev pub global_of : List ℕ → PackageVariable → ℕ × Value
-global_of types g = (g.site.0, first_value (get_or types g.site.0 0) g.value)
+abbrev pub global_of : List ValueType → PackageVariable → ℕ × Value
+global_of types g = (g.site.0, first_value (get_or types g.site.0 ints) g.value)
 
 abbrev pub program_of : ProgramData → Program
 program_of p = record {
   funcs = map func_of p.funcs.items;
-  zeros = zero_values;
   sites = site_types p.sites.items;
   strings = map (λ bytes. bytes.items) p.strings.items;
   globals = map (global_of (site_types p.sites.items)) p.globals.items;

@@ -12,10 +12,11 @@ use Rattle.syntax.specs.Statements.{ValueSpec}
 use Rattle.syntax.specs.Declarations.{TypeSpec, Function as TreeFunction, Declaration, constants, variables, types, Syntax, declarations_of, syntax_of}
 use Rattle.syntax.specs.Declarations as tree
 use Rattle.typed.specs.Syntax.{Func, Program}
-use Rattle.typed.specs.View.{zero_values, func_of, global_of, site_types, program_of}
-use Rattle.typed.specs.Value.{Value}
+use Rattle.typed.specs.View.{func_of, global_of, site_types, program_of}
 use Rattle.typed.specs.declared.program.Program.{Program as ProgramData}
 use Rattle.typed.specs.declared.program.Site.{Site}
+use Rattle.value_trees.specs.Types.{ValueType as TypeTree}
+use Rattle.value_trees.specs.Value.{Value}
 use Rattle.std.specs.Global.{Vec}
 use Rattle.value_types.specs.declared.fault.FaultKind.TheVariants.{NoMain}
 use Rattle.value_types.specs.Least.{IsLeast, lesser}
@@ -105,7 +106,7 @@ pub sound : (t : Syntax) → IsLeast (FailsIn t) None → Sound t
 sound t least f h = least f (inr (inl (inr h)))
 
 pub typed : (t : Syntax) (p : ProgramData) → Sound t → program_functions t ≡ Some (map func_of p.funcs.items) → main_number t ≡ Some p.main.0 → p.sites.items ≡ sites_in t
-    → map (λ (bytes : Vec ℕ). bytes.items) p.strings.items ≡ strings_in t → ((types : List ℕ) → map (global_of types) p.globals.items ≡ globals_in t) → Types t (program_of p)
+    → map (λ (bytes : Vec ℕ). bytes.items) p.strings.items ≡ strings_in t → ((types : List TypeTree) → map (global_of types) p.globals.items ≡ globals_in t) → Types t (program_of p)
 typed t p values_sound funcs main sites strings globals1 = record {
   funcs = map func_of p.funcs.items;
   main = p.main.0;
@@ -114,22 +115,19 @@ typed t p values_sound funcs main sites strings globals1 = record {
   values = values_sound;
   is = ap (λ (l : List (ℕ × Value)). record {
     funcs = map func_of p.funcs.items;
-    zeros = zero_values;
-    sites = map (λ (site : Site). site.type_id.0) p.sites.items;
+    sites = site_types p.sites.items;
     strings = map (λ (bytes : Vec ℕ). bytes.items) p.strings.items;
     globals = l;
     main = p.main.0;
   }) (globals1 (site_types p.sites.items)) ∙ ap (λ (l : List Site). record {
     funcs = map func_of p.funcs.items;
-    zeros = zero_values;
-    sites = map (λ (site : Site). site.type_id.0) l;
+    sites = site_types l;
     strings = map (λ (bytes : Vec ℕ). bytes.items) p.strings.items;
     globals = globals_in t;
     main = p.main.0;
   }) sites ∙ ap (λ (l : List (List ℕ)). record {
     funcs = map func_of p.funcs.items;
-    zeros = zero_values;
-    sites = map (λ (site : Site). site.type_id.0) (sites_in t);
+    sites = site_types (sites_in t);
     strings = l;
     globals = globals_in t;
     main = p.main.0;

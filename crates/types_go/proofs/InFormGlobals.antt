@@ -10,9 +10,10 @@ use Rattle.syntax.specs.Declarations as tree
 use Rattle.syntax.specs.declared.expression.Name.{Name}
 use Rattle.base.specs.declared.pos.Pos.{Pos}
 use Rattle.typed.specs.declared.program.Site.{Site}
-use Rattle.typed.specs.Value.{Value, int, bool}
-use Rattle.typed.specs.Syntax.{Func, Program}
-use Rattle.typed.specs.Form.{IsOf, IsWord, site_type, global_type, GlobalFits}
+use Rattle.typed.specs.Syntax.{Func, Program, site_type, global_type}
+use Rattle.typed.specs.Form.{IsPlain, IsWord, GlobalFits}
+use Rattle.value_trees.specs.Types.{ValueType as TypeTree}
+use Rattle.value_trees.specs.Value.{Value, int, bool, IsOf}
 use Rattle.value_types.specs.declared.constant.Constant.{Constant}
 use Rattle.value_types.specs.declared.constant.Constant.TheVariants.{Number, Truth}
 use Rattle.value_types.specs.declared.constant.Fixed.{Fixed}
@@ -21,7 +22,8 @@ use Rattle.value_types.specs.declared.value_type.ValueType.TheVariants.{Int, Boo
 use Rattle.value_types.specs.Constants.{is_int}
 use Rattle.value_types.proofs.Options.{and_then_some, map_some, none_some, same_some}
 use Rattle.names.specs.Universe.{is_blank}
-use Rattle.names.specs.Scope.{Scope, type_number, fixed, with_site}
+use Rattle.names.specs.Scope.{Scope, type_number, type_tree, fixed, with_site}
+use Rattle.names.proofs.Trees.{tree_plain}
 use Rattle.expression_types.specs.Typing.{known_type}
 use Rattle.package_values.specs.declared.items.Role.TheVariants as role
 use Rattle.package_values.specs.Values.{Item, items_in_specs}
@@ -48,11 +50,11 @@ int_word : (c : Constant) → IsWord (int (int_in c))
 int_word (Number z) = word_by z (is_int z) refl
 int_word (Truth b) = is_word (pos 0) refl
 
-first_fits : (t : ValueType) (c : Option Fixed) → IsOf (type_number t) (first_value t c) × IsWord (first_value t c)
-first_fits Int None = (refl, is_word (pos 0) refl)
-first_fits Int (Some f) = (refl, int_word f.value)
-first_fits Boolean None = (refl, tt)
-first_fits Boolean (Some f) = (refl, tt)
+first_fits : (t : ValueType) (c : Option Fixed) → IsOf (type_tree t) (first_value t c) × IsWord (first_value t c)
+first_fits Int None = (tt, is_word (pos 0) refl)
+first_fits Int (Some f) = (tt, int_word f.value)
+first_fits Boolean None = (tt, tt)
+first_fits Boolean (Some f) = (tt, tt)
 
 extends_length : (a b : List Site) → Extends a b → length a ≤ length b
 extends_length a b e = let whole = ap length e.1 ∙ length-append a e.0 in omega (arith, whole)
@@ -272,17 +274,18 @@ module _ (text : List ℕ) (heads : Scope) where
         let found = global_at s ms g k (ap (λ l. slice_get l g) (sym numbers) ∙ at) in
         let here = got p.globals g found.0 (0, int (pos 0)) (ap (λ (l : List (ℕ × Value)). slice_get l g) globals1 ∙ found.1) in
         let typed1 : HasSite all found.0.0 (type_or_int (fixed s k)) = subst (λ (l : List Site). HasSite l found.0.0 (type_or_int (fixed s k))) sites found.2 in
-        let type_is : site_type p found.0.0 ≡ type_number (type_or_int (fixed s k)) = site_is p all has found.0.0 (type_or_int (fixed s k)) typed1 in
-        (here.0, ap (λ (y : ℕ × Value). site_type p y.0) here.1 ∙ type_is ∙ ap (λ (o : Option Fixed). type_number (type_or_int o)) known)
+        let type_is : site_type p found.0.0 ≡ type_tree (type_or_int (fixed s k)) = site_is p all has found.0.0 (type_or_int (fixed s k)) typed1 in
+        (here.0, ap (λ (y : ℕ × Value). site_type p y.0) here.1 ∙ type_is ∙ ap (λ (o : Option Fixed). type_tree (type_or_int o)) known)
 
     pub globals_fit : (fs : List Func) → functions text heads s 0 ms ≡ Some fs → p.funcs ≡ fs → (behind_members text heads s ms).sites ≡ all → (j : ℕ) (entry : ℕ × Value) → slice_get (globals text heads s ms) j ≡ Some entry → GlobalFits p entry
     globals_fit fs is funcs sites j entry at =
         let begins = (global_begins s ms j entry at).1 in
         let t = begins.0 in
         let typed1 : HasSite all entry.0 t = subst (λ (l : List Site). HasSite l entry.0 t) sites begins.1.1.0 in
-        let type_is : site_type p entry.0 ≡ type_number t = site_is p all has entry.0 t typed1 in
+        let type_is : site_type p entry.0 ≡ type_tree t = site_is p all has entry.0 t typed1 in
         let fits = first_fits t begins.1.0 in
         record {
-          value = subst (λ (v : Value). IsOf (site_type p entry.0) v × IsWord v) (sym begins.1.1.1) (subst (λ (m : ℕ). IsOf m (first_value t begins.1.0)) (sym type_is) fits.0, fits.1);
+          value = subst (λ (v : Value). IsOf (site_type p entry.0) v × IsWord v) (sym begins.1.1.1) (subst (λ (u : TypeTree). IsOf u (first_value t begins.1.0)) (sym type_is) fits.0, fits.1);
+          plain = subst IsPlain (sym type_is) (tree_plain t);
           apart = λ k f found. globals_apart s 0 ms fs is j entry at k f (ap (λ (l : List Func). slice_get l k) (sym funcs) ∙ found);
         }

@@ -8,14 +8,15 @@ use Rattle.syntax.specs.Expressions.{Ex as TreeEx, Exs as TreeExs}
 use Rattle.syntax.specs.Statements.{Simple, ValueSpec, Guard, Targets, no_targets, targets_assigned, targets_defined, Clause, forever, while_true, counting, ranging}
 use Rattle.syntax.specs.Statements as tree
 use Rattle.typed.specs.declared.program.Site.{Site}
-use Rattle.typed.specs.Syntax.{Ex, Left, St, Sts, Program, blank, new, to, declare, assign, update, bump, discard, block, choose, loop, range, break_off, go_on, give_back, print, raise, quit, done, int_type, bool_type}
+use Rattle.typed.specs.Syntax.{Ex, Left, St, Sts, Program, blank, new, to, declare, assign, update, bump, discard, block, choose, loop, range, break_off, go_on, give_back, print, raise, quit, done}
+use Rattle.value_trees.specs.Types.{ValueType as TypeTree, ints, bools}
 use Rattle.typed.specs.Form.{InScope, AllInScope, LeftsFit, new_sites, births, births_all, scope_behind, scope_after, TestFits, ExFits, StFits, StsFit, named_params as with_sites}
 use Rattle.value_types.specs.declared.value_type.ValueType.{ValueType}
 use Rattle.value_types.specs.declared.value_type.ValueType.TheVariants.{Int}
 use Rattle.value_types.specs.Constants.{same_type}
 use Rattle.value_types.proofs.Options.{and_then_some, map_some, none_some, same_some}
 use Rattle.operators.specs.Operands.{type_of, as_value}
-use Rattle.names.specs.Scope.{Scope, type_number, type_numbers, opened}
+use Rattle.names.specs.Scope.{Scope, type_tree, type_trees, opened}
 use Rattle.names.specs.Types.{type_in}
 use Rattle.expression_types.specs.Typing.{operand_in, taken, value_types, gives, seen, condition, test}
 use Rattle.expression_types.proofs.InForm.{Agrees, AreAccepted, OptionalFits, same_type_same, value_fits, operand_fits, maybe_fits, taken_fits, gives_fit, seen_fit, condition_fits, test_fits}
@@ -98,7 +99,7 @@ accepted_same t [] (u ∷ ts) all = absurd all
 accepted_same t (n ∷ ns) [] all = absurd all
 accepted_same t (n ∷ ns) (u ∷ ts) all = ap (λ l. t ∷ l) (accepted_same t ns ts all.1) ∙ ap (λ (x : ValueType). x ∷ ts) all.0
 
-module _ (text : List ℕ) (p : Program) (all : List Site) (has : HasSites p all) (wanted1 : List ℕ) (named : ℕ) where
+module _ (text : List ℕ) (p : Program) (all : List Site) (has : HasSites p all) (wanted1 : List TypeTree) (named : ℕ) where
   abbrev pub Formed1 : (looped : Bool) → Scope → List ℕ → Scope → St → Type 0
   Formed1 looped s scope after t = StFormed text p all has wanted1 named looped s scope after t
 
@@ -142,7 +143,7 @@ module _ (text : List ℕ) (p : Program) (all : List Site) (has : HasSites p all
 
     -- its header in form
     abbrev pub ChoiceFits : (looped : Bool) → Scope → Choice → Type 0
-    ChoiceFits looped h c = InitFits looped s scope h c.init × ExFits p (init_scope scope c.init) bool_type c.condition
+    ChoiceFits looped h c = InitFits looped s scope h c.init × ExFits p (init_scope scope c.init) bools c.condition
 
     pub guard_fits : (looped : Bool) (g : Guard) (c : Choice) → guard_head text s g ≡ Some c → Within p all (header text s g.init) → package_of (header text s g.init) ≡ package_of s → ChoiceFits looped (header text s g.init) c
     guard_fits looped g c is ext signed =
@@ -168,8 +169,8 @@ module _ (text : List ℕ) (p : Program) (all : List Site) (has : HasSites p all
     HeadFits looped h (repeated init test1 post) =
         InitFits looped s scope h init × TestFits p (init_scope scope init) test1 × (births_all post ≡ 0) × ((m n : ℕ) → StsFit p wanted1 named false (init_scope scope init) m n post)
     HeadFits looped h (counted e key) =
-        Visible h (scope_behind scope (key ∷ [])) × ExFits p scope int_type e × (length s.sites + new_sites (key ∷ []) ≡ length h.sites)
-        × ((n : ℕ) → length h.sites ≤ n → LeftsFit p scope (length s.sites) n (int_type ∷ []) (key ∷ []))
+        Visible h (scope_behind scope (key ∷ [])) × ExFits p scope ints e × (length s.sites + new_sites (key ∷ []) ≡ length h.sites)
+        × ((n : ℕ) → length h.sites ≤ n → LeftsFit p scope (length s.sites) n (ints ∷ []) (key ∷ []))
 
     abbrev pub head_scope : Head → List ℕ
     head_scope (repeated init test1 post) = init_scope scope init
@@ -245,7 +246,7 @@ module _ (text : List ℕ) (p : Program) (all : List Site) (has : HasSites p all
     record KeyFits (h : Scope) (key : Left) : Type 0 where
       shows : Visible h (scope_behind scope (key ∷ []))
       count : length s.sites + new_sites (key ∷ []) ≡ length h.sites
-      fit : (n : ℕ) → length h.sites ≤ n → LeftsFit p scope (length s.sites) n (int_type ∷ []) (key ∷ [])
+      fit : (n : ℕ) → length h.sites ≤ n → LeftsFit p scope (length s.sites) n (ints ∷ []) (key ∷ [])
 
     nothing_fits : KeyFits (opened s) blank
     nothing_fits = record { shows = visible_opened s scope visible; count = omega arith; fit = λ n le. tt }
@@ -273,16 +274,16 @@ module _ (text : List ℕ) (p : Program) (all : List Site) (has : HasSites p all
         by (to q) = refl
     key_scope wide other key is = absurd (none_some is)
 
-    first_fits : (m n : ℕ) (ts : List ℕ) (x : Left) (ls : List Left) → LeftsFit p scope m n (int_type ∷ ts) (x ∷ ls) → LeftsFit p scope m n (int_type ∷ []) (x ∷ [])
+    first_fits : (m n : ℕ) (ts : List TypeTree) (x : Left) (ls : List Left) → LeftsFit p scope m n (ints ∷ ts) (x ∷ ls) → LeftsFit p scope m n (ints ∷ []) (x ∷ [])
     first_fits m n ts blank ls fit = tt
     first_fits m n ts (new site) ls fit = (fit.0, fit.1, fit.2, tt)
     first_fits m n ts (to q) ls fit = (fit.0, tt)
 
-    key_fits : {A : Type 0} (m n : ℕ) (xs : List A) (l : List Left) (key : Left) → key_of l ≡ Some key → LeftsFit p scope m n (type_numbers (map (λ (x : A). Int) xs)) l → LeftsFit p scope m n (int_type ∷ []) (key ∷ [])
-    key_fits m n xs [] key is fit = subst (λ (k : Left). LeftsFit p scope m n (int_type ∷ []) (k ∷ [])) (same_some is) tt
+    key_fits : {A : Type 0} (m n : ℕ) (xs : List A) (l : List Left) (key : Left) → key_of l ≡ Some key → LeftsFit p scope m n (type_trees (map (λ (x : A). Int) xs)) l → LeftsFit p scope m n (ints ∷ []) (key ∷ [])
+    key_fits m n xs [] key is fit = subst (λ (k : Left). LeftsFit p scope m n (ints ∷ []) (k ∷ [])) (same_some is) tt
     key_fits m n [] (x ∷ l) key is fit = absurd fit
-    key_fits m n (a ∷ xs) (x ∷ []) key is fit = subst (λ (k : Left). LeftsFit p scope m n (int_type ∷ []) (k ∷ [])) (same_some is) (first_fits m n (type_numbers (map (λ (y : _). Int) xs)) x [] fit)
-    key_fits m n (a ∷ xs) (x ∷ blank ∷ []) key is fit = subst (λ (k : Left). LeftsFit p scope m n (int_type ∷ []) (k ∷ [])) (same_some is) (first_fits m n (type_numbers (map (λ (y : _). Int) xs)) x (blank ∷ []) fit)
+    key_fits m n (a ∷ xs) (x ∷ []) key is fit = subst (λ (k : Left). LeftsFit p scope m n (ints ∷ []) (k ∷ [])) (same_some is) (first_fits m n (type_trees (map (λ (y : _). Int) xs)) x [] fit)
+    key_fits m n (a ∷ xs) (x ∷ blank ∷ []) key is fit = subst (λ (k : Left). LeftsFit p scope m n (ints ∷ []) (k ∷ [])) (same_some is) (first_fits m n (type_trees (map (λ (y : _). Int) xs)) x (blank ∷ []) fit)
     key_fits m n (a ∷ xs) other key is fit = absurd (none_some is)
 
     assigned_fits : (ls : TreeExs) (l : List Left) (key : Left) → Extends s.sites all → lefts text (opened s) ls ≡ Some l → all_accept (Some Int) (all_wanted text (opened s) ls) ≡ true → key_of l ≡ Some key → KeyFits (opened s) key
@@ -305,7 +306,7 @@ module _ (text : List ℕ) (p : Program) (all : List Site) (has : HasSites p all
         record {
           shows = subst (λ (w : List ℕ). Visible h w) (sym (left_scope scope es) ∙ key_scope scope (map entry_left es) key is) f.visible;
           count = omega (arith, sites_are, f.count);
-          fit = λ n le. key_fits (length s.sites) n ns (map entry_left es) key is (lefts_of_params p scope (length s.sites) n (type_numbers (map (λ (m : Name). Int) ns)) es f.fit (omega (arith, le, f.count)));
+          fit = λ n le. key_fits (length s.sites) n ns (map entry_left es) key is (lefts_of_params p scope (length s.sites) n (type_trees (map (λ (m : Name). Int) ns)) es f.fit (omega (arith, le, f.count)));
         }
 
     keys_fit : (t : Targets) (l : List Left) (key : Left) → Extends s.sites all → Extends (behind_entries text (opened s) (target_slots (Some Int) t)).sites all → target_lefts text (opened s) (Some Int) t ≡ Some l → key_of l ≡ Some key
@@ -319,13 +320,13 @@ module _ (text : List ℕ) (p : Program) (all : List Site) (has : HasSites p all
         let q = map_some (map entry_left) (entries text Parameter (opened s) (map (slot_with (Some Int)) ns)) l a.1 in
         defined_fits ns q.0 key ext q.1 (ap key_of q.2 ∙ is)
 
-    over_fits : (e : TreeEx) (x : Ex) → Extends s.sites all → over text s e ≡ Some x → ExFits p scope int_type x
+    over_fits : (e : TreeEx) (x : Ex) → Extends s.sites all → over text s e ≡ Some x → ExFits p scope ints x
     over_fits e x ext is =
         let q = and_then_some as_int (operand_in (gives text s e)) x is in
         let a = allowed_is (same_type Int (type_of q.0)) (as_value q.0) x q.2 in
         let agrees = agreed s refl ext in
         let fits = operand_fits p scope (gives text s e) q.0 (maybe_fits p scope (gives text s e) (λ g g_is. gives_fit p scope text s (shown_site s scope visible) (shown_number s scope visible) visible.held agrees e g g_is)) q.1 in
-        subst (λ (t : ValueType). ExFits p scope (type_number t) x) (sym (same_type_same Int (type_of q.0) a.0)) (value_fits p scope q.0 x fits a.1)
+        subst (λ (t : ValueType). ExFits p scope (type_tree t) x) (sym (same_type_same Int (type_of q.0) a.0)) (value_fits p scope q.0 x fits a.1)
 
     pub clause_fits : (looped : Bool) (c : Clause) (k : Head) → clause_head text s c ≡ Some k → Within p all (clause_scope text s c) → HeadFits looped (clause_scope text s c) k
     clause_fits looped forever k is ext = subst (λ (x : Head). HeadFits looped (opened s) x) (same_some is) (no_init looped s scope visible, tt, refl, λ m n. tt)
@@ -367,7 +368,7 @@ module _ (text : List ℕ) (p : Program) (all : List Site) (has : HasSites p all
         let after = behind_spec text s v in
         let long = sites_long q.0 in
         subst (λ (x : St). Formed1 looped s scope after x × Visible after (scope_after scope x)) q.2 (
-          record { count = omega (arith, f.count, long); fit = λ n le. next_of_params p (length s.sites) n (type_numbers ts) q.0 f.fit (omega (arith, le, f.count)) },
+          record { count = omega (arith, f.count, long); fit = λ n le. next_of_params p (length s.sites) n (type_trees ts) q.0 f.fit (omega (arith, le, f.count)) },
           subst (λ (w : List ℕ). Visible after w) (named_scope_of scope q.0) f.visible,
         )
 
@@ -383,7 +384,7 @@ module _ (text : List ℕ) (p : Program) (all : List Site) (has : HasSites p all
         let f = entries_fit text p all has Parameter s scope (spec_slots text s v) values.types q.0 visible (have values.types types_are values.accepted) q.1 ext in
         let born = left_sites q.0 in
         subst (λ (x : St). Formed1 looped s scope after x × Visible after (scope_after scope x)) (ap (λ (l : List Left). assign l a.1) q.2 ∙ a.4) (
-          record { count = omega (arith, f.count, born); fit = λ n le. (type_numbers values.types, lefts_of_params p scope (length s.sites) n (type_numbers values.types) q.0 f.fit (omega (arith, le, f.count)), values.fit) },
+          record { count = omega (arith, f.count, born); fit = λ n le. (type_trees values.types, lefts_of_params p scope (length s.sites) n (type_trees values.types) q.0 f.fit (omega (arith, le, f.count)), values.fit) },
           subst (λ (w : List ℕ). Visible after w) (sym (left_scope scope q.0)) f.visible,
         )
 

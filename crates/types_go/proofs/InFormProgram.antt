@@ -1,5 +1,5 @@
 -- A typed program is in form.
-use Rattle.std.proofs.Common.{◌≡◌, ℕ, zero, suc, ◌+◌, ◌≤◌, Bool, true, false, cond, List, [], ◌∷◌, ◌++◌, ◌⊎◌, inl, inr, map, get_or, Option, Some, None, refl, sym, ap, ◌∙◌, subst, arith, length, append-nil}
+use Rattle.std.proofs.Common.{◌≡◌, ℕ, zero, suc, ◌+◌, ◌<◌, ◌≤◌, Bool, true, false, cond, List, [], ◌∷◌, ◌++◌, ◌⊎◌, inl, inr, map, get_or, Option, Some, None, refl, sym, ap, ◌∙◌, subst, arith, length, append-nil}
 use Rattle.std.specs.Prelude.{option_and_then, ◌&&◌, ◌||◌, ◌==◌, nat_lt, slice_get, codes}
 use Rattle.std.specs.Option.{option_map}
 use Rattle.std.specs.List.{AllByRecursion}
@@ -10,13 +10,15 @@ use Rattle.syntax.specs.Expressions.{Ex as TreeEx, Exs as TreeExs, some, spelled
 use Rattle.syntax.specs.Expressions as expressions
 use Rattle.syntax.specs.Declarations.{Field, Parameters, unnamed, named, Body, Function as TreeFunction, Declaration, Syntax}
 use Rattle.typed.specs.declared.program.Site.{Site}
-use Rattle.typed.specs.Syntax.{Sts, Func, Program, argument_words, result_words, int_type}
-use Rattle.typed.specs.Form.{IsPlain, site_type, ends_all, ParamsFit, NamedFit, named_params as with_sites, params_scope, scope_in, body_first, StsFit, FuncFits, IsInForm}
+use Rattle.typed.specs.Syntax.{Sts, Func, Program, all_width, argument_words, result_words, site_type}
+use Rattle.typed.specs.View.{type_of, site_types}
+use Rattle.typed.specs.Form.{ends_all, ParamsFit, NamedFit, named_params as with_sites, params_scope, scope_in, body_first, StsFit, FuncFits, IsInForm}
+use Rattle.value_trees.specs.Types.{ValueType as TypeTree, ints, width}
 use Rattle.value_types.specs.declared.value_type.ValueType.{ValueType}
-use Rattle.value_types.specs.declared.value_type.ValueType.TheVariants.{Int, Bool as Truth}
 use Rattle.value_types.proofs.Options.{and_then_some, map_some, none_some, same_some}
 use Rattle.names.specs.Universe.{is_blank, is_main}
-use Rattle.names.specs.Scope.{Scope, Signature, type_number, type_numbers, declaration, is_here, opened, beginning}
+use Rattle.names.specs.Scope.{Scope, Signature, type_tree, type_trees, declaration, is_here, opened, beginning}
+use Rattle.names.proofs.Trees.{number_tree, tree_width, tree_solid}
 use Rattle.expression_types.specs.Typing.{asked}
 use Rattle.package_values.specs.Values.{items_in, settled}
 use Rattle.signatures.specs.declared.slots.Slot.{Slot}
@@ -30,7 +32,7 @@ use Rattle.signatures.proofs.InFormEntries.{HasSites, Within, within_before, Slo
 use Rattle.simple_statements.proofs.InFormSimple.{ReturnsFit}
 use Rattle.terminating.specs.Terminating.{ends_after}
 use Rattle.types_go.specs.Statements.{behind_all}
-use Rattle.types_go.specs.Functions.{is_plain, number_of, plain_number, number_or_int, slot_number, Member, of_function, of_variable, functions_of, behind_variable, functions_in, members_in, are_supported, behind_params, body_scope, behind_body, behind_function, behind_members, returns_of, func, function, functions, declarations_in, heads_of, numbered_functions, members, package_scope, main_number}
+use Rattle.types_go.specs.Functions.{is_plain, number_of, plain_number, tree_or_ints, slot_tree, Member, of_function, of_variable, functions_of, behind_variable, functions_in, members_in, are_supported, behind_params, body_scope, behind_body, behind_function, behind_members, returns_of, func, function, functions, declarations_in, heads_of, numbered_functions, members, package_scope, main_number}
 use Rattle.types_go.specs.Checked.{Types, program_with}
 use Rattle.types_go.proofs.SettledFunctions.{allowed_some, signature_parts, small_signed, function_some, members_functions}
 use Rattle.types_go.proofs.Package.{constant_one, variable_one, declared_one, signatures_are, globals_are, items_kept, settled_kept}
@@ -65,11 +67,19 @@ slots_have (p ∷ ps) ts is =
     let q = map_some (λ us. r.0 ∷ us) (types_of ps) ts r.2 in
     subst (λ (l : List ValueType). SlotsHave (p ∷ ps) l) q.2 (r.1, slots_have ps q.0 q.1)
 
-numbers_are : (ps : List Slot) (ts : List ValueType) → SlotsHave ps ts → map slot_number ps ≡ type_numbers ts
-numbers_are [] [] have = refl
-numbers_are (p ∷ ps) (t ∷ ts) have = ap (λ (o : Option ValueType). number_or_int o ∷ map slot_number ps) have.0 ∙ ap (λ l. type_number t ∷ l) (numbers_are ps ts have.1)
-numbers_are [] (t ∷ ts) have = absurd have
-numbers_are (p ∷ ps) [] have = absurd have
+trees_are : (ps : List Slot) (ts : List ValueType) → SlotsHave ps ts → map slot_tree ps ≡ type_trees ts
+trees_are [] [] have = refl
+trees_are (p ∷ ps) (t ∷ ts) have = ap (λ (o : Option ValueType). tree_or_ints o ∷ map slot_tree ps) have.0 ∙ ap (λ l. type_tree t ∷ l) (trees_are ps ts have.1)
+trees_are [] (t ∷ ts) have = absurd have
+trees_are (p ∷ ps) [] have = absurd have
+
+slot_width : (o : Option ValueType) → width (tree_or_ints o) ≡ 1
+slot_width None = refl
+slot_width (Some t) = tree_width t
+
+slots_width : (ps : List Slot) → all_width (map slot_tree ps) ≡ length ps
+slots_width [] = refl
+slots_width (p ∷ ps) = let one = slot_width p.value_type in let rest = slots_width ps in omega (arith, one, rest)
 
 wanted_are : (ps : List Slot) (ts : List ValueType) → SlotsHave ps ts → map (λ (p : Slot). p.value_type) ps ≡ asked ts
 wanted_are [] [] have = refl
@@ -102,7 +112,7 @@ all_long [] every = refl
 all_long (None ∷ es) every = absurd every
 all_long (Some site ∷ es) every = ap suc (all_long es every)
 
-all_types : (p : Program) (m : ℕ) (ts : List ℕ) (es : List (Option ℕ)) → AllSites es → ParamsFit p m ts es → map (site_type p) (sites_of es) ≡ ts
+all_types : (p : Program) (m : ℕ) (ts : List TypeTree) (es : List (Option ℕ)) → AllSites es → ParamsFit p m ts es → map (site_type p) (sites_of es) ≡ ts
 all_types p m [] [] every fit = refl
 all_types p m (t ∷ ts) (Some site ∷ es) every fit = ap (λ x. x ∷ map (site_type p) (sites_of es)) fit.1 ∙ ap (λ l. t ∷ l) (all_types p (suc m) ts es every fit.2)
 all_types p m (t ∷ ts) (None ∷ es) every fit = absurd every
@@ -168,22 +178,24 @@ module _ (text : List ℕ) (heads : Scope) where
         ap (λ (x : Signature). length x.results) (sym q.2) ∙ types_long (slots_of text heads g.results) q.0 q.1 ∙ slots_long g.results,
       )
 
-  numbers_long : (ps : Parameters) → length (map slot_number (slots_of text heads ps)) ≡ length (params_of ps)
-  numbers_long ps = length-map (slots_of text heads ps) slot_number ∙ slots_long ps
+  trees_long : (ps : Parameters) → length (map slot_tree (slots_of text heads ps)) ≡ length (params_of ps)
+  trees_long ps = length-map (slots_of text heads ps) slot_tree ∙ slots_long ps
 
-  function_counts : (s : Scope) (i : ℕ) (g : TreeFunction) (t : Func) → function text heads s i g ≡ Some t → (argument_words t ≡ length (params_of g.params)) × (result_words t ≡ length (params_of g.results))
-  function_counts s i g t is =
-      let p = (function_some text heads s i g t is).1.1 in
-      (ap argument_words (sym p.3.6) ∙ entries_long Parameter (opened s) (slots_of text heads g.params) p.3.0 p.3.3 ∙ slots_long g.params, ap result_words (sym p.3.6) ∙ numbers_long g.results)
+  -- each has one word
+  words_long : (ps : Parameters) → all_width (map slot_tree (slots_of text heads ps)) ≡ length (params_of ps)
+  words_long ps = slots_width (slots_of text heads ps) ∙ slots_long ps
+
+  results_long : (s : Scope) (i : ℕ) (g : TreeFunction) (t : Func) → function text heads s i g ≡ Some t → length t.results ≡ length (params_of g.results)
+  results_long s i g t is = let p = (function_some text heads s i g t is).1.1 in ap (λ (x : Func). length x.results) (sym p.3.6) ∙ trees_long g.results
 
   -- a function has the types that its signature says
-  function_types : (s : Scope) (i : ℕ) (g : TreeFunction) (t : Func) (sig : Signature) → function text heads s i g ≡ Some t → signature_in text heads g ≡ Some sig → (t.param_types ≡ type_numbers sig.params) × (t.results ≡ type_numbers sig.results)
+  function_types : (s : Scope) (i : ℕ) (g : TreeFunction) (t : Func) (sig : Signature) → function text heads s i g ≡ Some t → signature_in text heads g ≡ Some sig → (t.param_types ≡ type_trees sig.params) × (t.results ≡ type_trees sig.results)
   function_types s i g t sig is signed =
       let p = (function_some text heads s i g t is).1.1 in
       let r = and_then_some (λ ps. option_map (λ rs. record { params = ps; results = rs }) (types_of (slots_of text heads g.results))) (types_of (slots_of text heads g.params)) sig signed in
       let q = map_some (λ rs. record { params = r.0; results = rs }) (types_of (slots_of text heads g.results)) sig r.2 in (
-        ap (λ (x : Func). x.param_types) (sym p.3.6) ∙ numbers_are (slots_of text heads g.params) r.0 (slots_have (slots_of text heads g.params) r.0 r.1) ∙ ap (λ (x : Signature). type_numbers x.params) q.2,
-        ap (λ (x : Func). x.results) (sym p.3.6) ∙ numbers_are (slots_of text heads g.results) q.0 (slots_have (slots_of text heads g.results) q.0 q.1) ∙ ap (λ (x : Signature). type_numbers x.results) q.2,
+        ap (λ (x : Func). x.param_types) (sym p.3.6) ∙ trees_are (slots_of text heads g.params) r.0 (slots_have (slots_of text heads g.params) r.0 r.1) ∙ ap (λ (x : Signature). type_trees x.params) q.2,
+        ap (λ (x : Func). x.results) (sym p.3.6) ∙ trees_are (slots_of text heads g.results) q.0 (slots_have (slots_of text heads g.results) q.0 q.1) ∙ ap (λ (x : Signature). type_trees x.results) q.2,
       )
 
   small_words : (g : TreeFunction) → is_small (signature_in text heads g) ≡ true → length (params_of g.params) + length (params_of g.results) ≤ 65535
@@ -196,7 +208,7 @@ module _ (text : List ℕ) (heads : Scope) where
   -- ---- one function
 
   -- all results have a variable of their type, or none has
-  names_of : (p : Program) (m : ℕ) (s : Scope) (ps : Parameters) (ts : List ℕ) (rs : List (Option ℕ)) → entries text Result s (slots_of text heads ps) ≡ Some rs → ParamsFit p m ts rs → (sites_of rs ≡ []) ⊎ (map (site_type p) (sites_of rs) ≡ ts)
+  names_of : (p : Program) (m : ℕ) (s : Scope) (ps : Parameters) (ts : List TypeTree) (rs : List (Option ℕ)) → entries text Result s (slots_of text heads ps) ≡ Some rs → ParamsFit p m ts rs → (sites_of rs ≡ []) ⊎ (map (site_type p) (sites_of rs) ≡ ts)
   names_of p m s (unnamed us) ts rs is fit = inl (entries_unnamed Result s (slots_of text heads (unnamed us)) rs (no_names us) is)
   names_of p m s (named fs) ts rs is fit = inr (all_types p m ts rs (entries_named s (slots_of text heads (named fs)) rs (all_names fs) is) fit)
 
@@ -207,13 +219,13 @@ module _ (text : List ℕ) (heads : Scope) where
   bare_of s (named fs) rs found long false zero1 is = sym (all_long rs (entries_named s (slots_of text heads (named fs)) rs (all_names fs) found) ∙ long)
 
   returns_fit : (s : Scope) (g : TreeFunction) (ts : List ValueType) (rs : List (Option ℕ)) → SlotsHave (slots_of text heads g.results) ts → entries text Result s (slots_of text heads g.results) ≡ Some rs → length rs ≡ length (params_of g.results)
-      → ReturnsFit (returns_of text heads g) (map slot_number (slots_of text heads g.results)) (length (sites_of rs))
+      → ReturnsFit (returns_of text heads g) (map slot_tree (slots_of text heads g.results)) (length (sites_of rs))
   returns_fit s g ts rs have found long = record {
     types = ts;
     wanted = wanted_are (slots_of text heads g.results) ts have;
-    numbers = sym (numbers_are (slots_of text heads g.results) ts have);
-    bare = λ is. numbers_long g.results ∙ bare_of s g.results rs found long (length (params_of g.results) == 0) refl is;
-    no_values = λ is. ap (λ l. length (sites_of l)) (empty_list rs (long ∙ (sym (numbers_long g.results) ∙ ap length is)));
+    trees = sym (trees_are (slots_of text heads g.results) ts have);
+    bare = λ is. trees_long g.results ∙ bare_of s g.results rs found long (length (params_of g.results) == 0) refl is;
+    no_values = λ is. ap (λ l. length (sites_of l)) (empty_list rs (long ∙ (sym (trees_long g.results) ∙ ap length is)));
   }
 
   module _ (p : Program) (all : List Site) (has : HasSites p all) (own : Package) (agrees : AreSigned own.signatures p.funcs) (numbered : AreGlobals own p) where
@@ -225,7 +237,7 @@ module _ (text : List ℕ) (heads : Scope) where
         let ps = k.3.0 in
         let rs = k.3.1 in
         let body = k.3.2 in
-        let results1 = map slot_number (slots_of text heads g.results) in
+        let results1 = map slot_tree (slots_of text heads g.results) in
         let types = signature_parts text heads g (small_signed (signature_in text heads g) k.1) in
         let have_params = slots_have (slots_of text heads g.params) types.0 types.2 in
         let have_results = slots_have (slots_of text heads g.results) types.1 types.3 in
@@ -241,9 +253,10 @@ module _ (text : List ℕ) (heads : Scope) where
         let formed = formed_all text p all has own agrees numbered (returns_of text heads g) results1 (length (sites_of rs)) goes false inner (params_scope (params_scope [] ps) rs) b.statements body two1.visible ((grows_body text heads s g).kept ∙ signed) ext k.3.5 in
         let t0 = func text heads s g b ps rs body in
         let named_long = sites_long rs in
-        let words_are : result_words t0 ≡ length (params_of g.results) = numbers_long g.results in
-        let param_types_are = numbers_are (slots_of text heads g.params) types.0 have_params in
-        let result_types_are = numbers_are (slots_of text heads g.results) types.1 have_results in
+        let words_are : result_words t0 ≡ length (params_of g.results) = words_long g.results in
+        let arguments_are : argument_words t0 ≡ length (params_of g.params) = words_long g.params in
+        let param_types_are = trees_are (slots_of text heads g.params) types.0 have_params in
+        let result_types_are = trees_are (slots_of text heads g.results) types.1 have_results in
         let first_is : t0.first + with_sites ps ≡ length (behind_params text heads s g).sites = one1.count in
         let body_is : body_first t0 ≡ length inner.sites = omega (arith, one1.count, two1.count, named_long) in
         let whole : t0.first + t0.count ≡ length last1.sites = omega (arith, one1.count, two1.count, formed.count) in
@@ -251,20 +264,20 @@ module _ (text : List ℕ) (heads : Scope) where
         subst (FuncFits p) k.3.6
         (record {
           params = subst (λ l. ParamsFit p (length s.sites) l ps) (sym param_types_are) one1.fit;
-          named = subst (λ m. NamedFit p m (sites_of rs)) (sym first_is) (named_of_params p (length (behind_params text heads s g).sites) (type_numbers types.1) rs two1.fit);
+          named = subst (λ m. NamedFit p m (sites_of rs)) (sym first_is) (named_of_params p (length (behind_params text heads s g).sites) (type_trees types.1) rs two1.fit);
           names = names_of p (length (behind_params text heads s g).sites) (behind_params text heads s g) g.results results1 rs k.3.4 (subst (λ l. ParamsFit p (length (behind_params text heads s g).sites) l rs) (sym result_types_are) two1.fit);
           count = omega (arith, one1.count, two1.count, formed.count, named_long);
           body = subst (λ n. StsFit p results1 (length (sites_of rs)) false (scope_in t0) (body_first t0) n body) (sym whole)
               (subst (λ m. StsFit p results1 (length (sites_of rs)) false (scope_in t0) m (length last1.sites) body) (sym body_is)
               (subst (λ (l : List ℕ). StsFit p results1 (length (sites_of rs)) false l (length inner.sites) (length last1.sites) body) (named_scope_of (params_scope [] ps) rs) statements1));
-          end = finish b body (result_words t0) (length (params_of g.results) == 0) refl k.2 (λ ending. sym (ends_same body) ∙ ends_list text (returns_of text heads g) s false inner (inside_grows s (opened s) inner (inside_start s) (grows_body text heads s g)) b.statements body k.3.5 false ending) words_are;
-          small = omega (arith, small_words g k.1, words_are, one1.long, slots_long g.params);
+          end = finish b body results1 (length (params_of g.results) == 0) refl k.2 (λ ending. sym (ends_same body) ∙ ends_list text (returns_of text heads g) s false inner (inside_grows s (opened s) inner (inside_start s) (grows_body text heads s g)) b.statements body k.3.5 false ending) (trees_long g.results);
+          small = omega (arith, small_words g k.1, words_are, arguments_are);
         })
       where
-        finish : (b : Body) (body : Sts) (w : ℕ) (none1 : Bool) → (length (params_of g.results) == 0) ≡ none1 → (none1 || ends_after text s false b.statements) ≡ true → (ends_after text s false b.statements ≡ true → ends_all body ≡ true) → w ≡ length (params_of g.results)
-            → (w ≡ 0) ⊎ (ends_all body ≡ true)
-        finish b body w true zero1 is1 same w_is = inl (w_is ∙ eqb-true (length (params_of g.results)) 0 zero1)
-        finish b body w false zero1 is1 same w_is = inr (same is1)
+        finish : (b : Body) (body : Sts) (ts : List TypeTree) (none1 : Bool) → (length (params_of g.results) == 0) ≡ none1 → (none1 || ends_after text s false b.statements) ≡ true → (ends_after text s false b.statements ≡ true → ends_all body ≡ true) → length ts ≡ length (params_of g.results)
+            → (ts ≡ []) ⊎ (ends_all body ≡ true)
+        finish b body ts true zero1 is1 same long1 = inl (empty_list ts (long1 ∙ eqb-true (length (params_of g.results)) 0 zero1))
+        finish b body ts false zero1 is1 same long1 = inr (same is1)
 
   -- ---- the functions of a program
 
@@ -360,14 +373,10 @@ module _ (text : List ℕ) (heads : Scope) where
 
 -- ---- the sites of a program
 
-type_plain : (t : ValueType) → IsPlain (type_number t)
-type_plain Int = inl refl
-type_plain Truth = inr refl
-
-sites_plain : (sites : List Site) → AllByRecursion IsSite sites → (k : ℕ) → IsPlain (get_or (map (λ (site : Site). site.type_id.0) sites) k int_type)
-sites_plain [] all k = inl refl
-sites_plain (site ∷ sites) all zero = subst IsPlain (sym all.0.1) (type_plain all.0.0)
-sites_plain (site ∷ sites) all (suc k) = sites_plain sites all.1 k
+sites_solid : (sites : List Site) → AllByRecursion IsSite sites → (k : ℕ) → 0 < width (get_or (site_types sites) k ints)
+sites_solid [] all k = omega arith
+sites_solid (site ∷ sites) all zero = subst (λ (t : TypeTree). 0 < width t) (sym (ap type_of all.0.1 ∙ number_tree all.0.0)) (tree_solid all.0.0)
+sites_solid (site ∷ sites) all (suc k) = sites_solid sites all.1 k
 
 -- a function without parameters and results
 abbrev PlainAt : List TreeFunction → ℕ → Type 0
@@ -404,7 +413,7 @@ plain_function text heads s i g t is no_params no_results =
     let ps : p.3.0 ≡ [] = empty_list p.3.0 (entries_long text heads Parameter (opened s) (slots_of text heads g.params) p.3.0 p.3.3 ∙ slots_long text heads g.params ∙ no_params) in
     let rs : p.3.1 ≡ [] = empty_list p.3.1 (entries_long text heads Result (behind_params text heads s g) (slots_of text heads g.results) p.3.1 p.3.4 ∙ slots_long text heads g.results ∙ no_results) in (
       ap (λ (x : Func). x.params) (sym p.3.6) ∙ ps,
-      (empty_list t.results ((function_counts text heads s i g t is).1 ∙ no_results), ap (λ (x : Func). x.named) (sym p.3.6) ∙ ap sites_of rs),
+      (empty_list t.results (results_long text heads s i g t is ∙ no_results), ap (λ (x : Func). x.named) (sym p.3.6) ∙ ap sites_of rs),
     )
 
 pub in_form : (t : Syntax) (p : Program) → Types t p → IsInForm p
@@ -435,7 +444,6 @@ in_form t p a =
       fits = λ k f got. all_fit t.text h p0 all has (package_of s) agrees numbered1 s 0 gs a.funcs (visible_package t.text h s ds w.0) refl within found k f got;
       few = few;
       main = (at.1.1.0, at.1.1.1.0, plain.0, plain.1.0, plain.1.1);
-      plain = λ site. subst (λ (l : List ℕ). IsPlain (get_or l site int_type)) (sym has) (sites_plain all every site);
-      zeros = refl;
+      solid = λ site. subst (λ (l : List TypeTree). 0 < width (get_or l site ints)) (sym has) (sites_solid all every site);
       globals = λ i g got. globals_fit t.text h p0 all has s gs a.funcs found refl refl i g got;
     })

@@ -5,12 +5,13 @@ use Rattle.std.specs.Option.{option_map}
 use Rattle.syntax.specs.Statements.{ValueSpec, Guard, Stm, Stms, Els}
 use Rattle.syntax.specs.Statements as tree
 use Rattle.typed.specs.declared.program.Site.{Site}
-use Rattle.typed.specs.Syntax.{St, Sts, Func, Program, int_type, block, choose, break_off, go_on, done, next}
-use Rattle.typed.specs.Form.{global_type, births, births_all, scope_after, StFits, StsFit}
+use Rattle.typed.specs.Syntax.{St, Sts, Func, Program, block, choose, break_off, go_on, done, next, global_type}
+use Rattle.value_trees.specs.Types.{ValueType as TypeTree, ints}
+use Rattle.typed.specs.Form.{births, births_all, scope_after, StFits, StsFit}
 use Rattle.value_types.specs.declared.constant.Fixed.{Fixed}
 use Rattle.value_types.specs.Given.{allowed}
 use Rattle.value_types.proofs.Options.{and_then_some, map_some, same_some}
-use Rattle.names.specs.Scope.{Scope, Signature, type_number, type_numbers, opened, closed}
+use Rattle.names.specs.Scope.{Scope, Signature, type_tree, type_trees, opened, closed}
 use Rattle.expression_types.specs.Typing.{known_type, seen}
 use Rattle.expression_types.proofs.InForm.{Agrees}
 use Rattle.signatures.proofs.Growth.{Extends, Package, package_of, extends_twice, Keeps, keeps_grows, grows_entries}
@@ -28,11 +29,11 @@ use Rattle.types_go.proofs.InFormHeads.{Formed1, StsFormed, init_scope, head_sco
 -- the functions of a program have the parameters and results that these signatures say
 abbrev pub AreSigned : List (Option Signature) → List Func → Type 0
 AreSigned sigs fs = (f : ℕ) (sig : Signature) → option_and_then (λ o. o) (slice_get sigs f) ≡ Some sig
-    → (func : Func) × (slice_get fs f ≡ Some func) × (func.param_types ≡ type_numbers sig.params) × (func.results ≡ type_numbers sig.results)
+    → (func : Func) × (slice_get fs f ≡ Some func) × (func.param_types ≡ type_trees sig.params) × (func.results ≡ type_trees sig.results)
 
 -- the package variables of a program have the types that are known of them
 abbrev pub AreGlobals : Package → Program → Type 0
-AreGlobals own p = (g k : ℕ) (f : Fixed) → slice_get own.globals g ≡ Some k → option_and_then (λ o. o) (slice_get own.values k) ≡ Some f → (g < length p.globals) × (global_type p g ≡ type_number (known_type f))
+AreGlobals own p = (g k : ℕ) (f : Fixed) → slice_get own.globals g ≡ Some k → option_and_then (λ o. o) (slice_get own.values k) ≡ Some f → (g < length p.globals) × (global_type p g ≡ type_tree (known_type f))
 
 -- the scope behind statements
 abbrev pub scope_behind_all : List ℕ → Sts → List ℕ
@@ -43,7 +44,7 @@ before_births : (a b : Sts) → births_all (before a b) ≡ births_all a + birth
 before_births done b = omega arith
 before_births (next t a) b = let rest = before_births a b in omega (arith, rest)
 
-module _ (p : Program) (wanted1 : List ℕ) (named : ℕ) where
+module _ (p : Program) (wanted1 : List TypeTree) (named : ℕ) where
   before_fits : (looped : Bool) (scope : List ℕ) (m n : ℕ) (a b : Sts) → StsFit p wanted1 named looped scope m n a → StsFit p wanted1 named looped (scope_behind_all scope a) (m + births_all a) n b → StsFit p wanted1 named looped scope m n (before a b)
   before_fits looped scope m n done b fa fb = let e : m + births_all done ≡ m = omega arith in subst (λ j. StsFit p wanted1 named looped scope j n b) e fb
   before_fits looped scope m n (next t a) b fa fb =
@@ -54,12 +55,12 @@ module _ (text : List ℕ) (p : Program) (all : List Site) (has : HasSites p all
   -- a scope before the end has what the program has
   pub agreed : (s : Scope) → package_of s ≡ own → Extends s.sites all → Agrees s p
   agreed s g e = record {
-    sites = λ k site is. ap (λ (l : List ℕ). get_or l k int_type) has ∙ get_mapped all k site (ap (λ (l : List Site). slice_get l k) e.1 ∙ got_longer s.sites e.0 k site is);
+    sites = λ k site is. ap (λ (l : List TypeTree). get_or l k ints) has ∙ get_mapped all k site (ap (λ (l : List Site). slice_get l k) e.1 ∙ got_longer s.sites e.0 k site is);
     functions = λ f sig is. signed f sig (ap (λ (q : Package). option_and_then (λ o. o) (slice_get q.signatures f)) (sym g) ∙ is);
     globals = λ j k f at known. numbered j k f (ap (λ (q : Package). slice_get q.globals j) (sym g) ∙ at) (ap (λ (q : Package). option_and_then (λ o. o) (slice_get q.values k)) (sym g) ∙ known);
   }
 
-  module _ (r : Returns) (wanted1 : List ℕ) (named : ℕ) (goes : ReturnsFit r wanted1 named) where
+  module _ (r : Returns) (wanted1 : List TypeTree) (named : ℕ) (goes : ReturnsFit r wanted1 named) where
     -- statements in form, and what is shown behind them
     abbrev Whole : (looped : Bool) → Scope → List ℕ → Scope → Sts → Type 0
     Whole looped s scope after b = StsFormed text p all has wanted1 named looped s scope after b × Visible after (scope_behind_all scope b)

@@ -1,13 +1,20 @@
--- The new sites of an init statement, one after the other, and the places and the numbers of functions.
-use Rattle.std.proofs.Common.{◌≡◌, ℕ, List, [], ◌∷◌, ◌++◌, map, Option, Some, None, sym, ap, ◌∙◌, append-nil, append_assoc}
+-- The new sites of an init statement, one after the other, the places and the numbers of functions, and the types of their parameters and
+-- results.
+use Rattle.std.proofs.Common.{◌≡◌, ℕ, List, [], ◌∷◌, ◌++◌, map, Option, Some, None, refl, sym, ap, ◌∙◌, append-nil, append_assoc}
 use Rattle.std.specs.Prelude.{⊤}
 use Rattle.std.proofs.lemmas.List.{map-append}
 use Rattle.base.specs.declared.pos.Pos.{Pos}
 use Rattle.base.specs.declared.ids.TypeId.{TypeId}
 use Rattle.typed.specs.declared.program.Func.{Func as FuncData}
 use Rattle.typed.specs.Syntax.{Left, blank, new, to}
+use Rattle.typed.specs.View.{type_of}
+use Rattle.value_trees.specs.Types.{ValueType as TypeTree}
+use Rattle.value_types.specs.declared.value_type.ValueType.{ValueType}
 use Rattle.value_types.specs.Given.{with_last}
+use Rattle.names.proofs.Trees.{number_tree}
+use Rattle.signatures.specs.declared.slots.Slot.{Slot}
 use Rattle.types_go.specs.Statements.{new_in}
+use Rattle.types_go.specs.Functions.{number_or_int, slot_number, tree_or_ints, slot_tree}
 use Rattle.types_go.specs.Passing.{IsAt, AreAt}
 
 pub new_more : (so_far : List ℕ) (l : Left) (ls : List Left) → so_far ++ new_in (l ∷ ls) ≡ (so_far ++ new_in (l ∷ [])) ++ new_in ls
@@ -33,3 +40,20 @@ places_all all (Some fs) kept = sym (kept ∙ append-nil (map (λ (g : FuncData)
 pub number_more : (items : List TypeId) (t : TypeId) (n : ℕ) (rest : List ℕ) → t.0 ≡ n → map (λ (x : TypeId). x.0) items ++ (n ∷ rest) ≡ map (λ (x : TypeId). x.0) (items ++ t ∷ []) ++ rest
 number_more items t n rest is =
     ap (λ k. map (λ (x : TypeId). x.0) items ++ (k ∷ rest)) (sym is) ∙ sym (append_assoc (map (λ (x : TypeId). x.0) items) (t.0 ∷ []) rest) ∙ ap (λ l. l ++ rest) (sym (map-append (λ (x : TypeId). x.0) items (t ∷ [])))
+
+-- ---- types by their numbers
+
+number_tree_or_ints : (o : Option ValueType) → type_of (number_or_int o) ≡ tree_or_ints o
+number_tree_or_ints None = refl
+number_tree_or_ints (Some t) = number_tree t
+
+slot_trees : (ps : List Slot) → map type_of (map slot_number ps) ≡ map slot_tree ps
+slot_trees [] = refl
+slot_trees (p ∷ ps) = ap (λ (t : TypeTree). t ∷ map type_of (map slot_number ps)) (number_tree_or_ints p.value_type) ∙ ap (λ l. slot_tree p ∷ l) (slot_trees ps)
+
+types_of_numbers : (items : List TypeId) → map (λ (x : TypeId). type_of x.0) items ≡ map type_of (map (λ (x : TypeId). x.0) items)
+types_of_numbers [] = refl
+types_of_numbers (x ∷ items) = ap (λ l. type_of x.0 ∷ l) (types_of_numbers items)
+
+pub trees_of : (items : List TypeId) (ps : List Slot) → map (λ (x : TypeId). x.0) items ≡ map slot_number ps → map (λ (x : TypeId). type_of x.0) items ≡ map slot_tree ps
+trees_of items ps is = types_of_numbers items ∙ ap (map type_of) is ∙ slot_trees ps

@@ -9,6 +9,7 @@ use Rattle.base.specs.declared.pos.Pos.{Pos}
 use Rattle.syntax.specs.Declarations.{Function as TreeFunction}
 use Rattle.typed.specs.Syntax.{Func}
 use Rattle.typed.specs.View.{func_of, global_of}
+use Rattle.value_trees.specs.Types.{ValueType as TypeTree}
 use Rattle.typed.specs.declared.program.Func.{Func as FuncData}
 use Rattle.typed.specs.declared.program.PackageVariable.{PackageVariable}
 use Rattle.package_values.specs.Values.{Item}
@@ -39,7 +40,7 @@ pub record MembersKept (text : List ℕ) (heads start : Scope) (all rest : List 
 
 -- the package variables so far, and those still ahead, whatever the types of sites
 abbrev pub GlobalsKept : List ℕ → (heads start : Scope) → (all rest : List Member) → Scope → List PackageVariable → Type 0
-GlobalsKept text heads start all rest s gs = (types : List ℕ) → globals text heads start all ≡ map (global_of types) gs ++ globals text heads s rest
+GlobalsKept text heads start all rest s gs = (types : List TypeTree) → globals text heads start all ≡ map (global_of types) gs ++ globals text heads s rest
 
 views_more : (funcs : Option (List FuncData)) (f : Option FuncData) → views (with_last funcs f) ≡ with_last (views funcs) (option_map func_of f)
 views_more None f = refl
@@ -75,12 +76,12 @@ module _ (text : List ℕ) (heads start : Scope) (all : List Member) where
       record { given = k.given; kept = k.kept; scope = k.scope; places = k.places; inside = omega (arith, depth, k.inside) }
 
   pub globals_more : (v : ℕ) (x : Item) (ms : List Member) (s : Scope) (gs hs : List PackageVariable) → GlobalsKept text heads start all (of_variable v x ∷ ms) s gs
-      → ((types : List ℕ) → map (global_of types) hs ≡ map (global_of types) gs ++ globals_of text s v x) → GlobalsKept text heads start all ms (behind_variable text s v x) hs
+      → ((types : List TypeTree) → map (global_of types) hs ≡ map (global_of types) gs ++ globals_of text s v x) → GlobalsKept text heads start all ms (behind_variable text s v x) hs
   globals_more v x ms s gs hs k is types =
       let rest = globals text heads (behind_variable text s v x) ms in
       k types ∙ sym (append_assoc (map (global_of types) gs) (globals_of text s v x) rest) ∙ ap (λ l. l ++ rest) (sym (is types))
 
-  pub globals_all : (s : Scope) (gs : List PackageVariable) → GlobalsKept text heads start all [] s gs → (types : List ℕ) → map (global_of types) gs ≡ globals text heads start all
+  pub globals_all : (s : Scope) (gs : List PackageVariable) → GlobalsKept text heads start all [] s gs → (types : List TypeTree) → map (global_of types) gs ≡ globals text heads start all
   globals_all s gs k types = sym (k types ∙ append-nil (map (global_of types) gs))
 
   views_of : (funcs : Option (Vec FuncData)) → option_map (λ (v : Vec FuncData). map func_of v.items) funcs ≡ views (option_map (λ (v : Vec FuncData). v.items) funcs)

@@ -2,11 +2,11 @@
 use Rattle.std.specs.Prelude.{◌≡◌, ℕ, List, map, Some, Result, Ok, Err}
 use Rattle.base.specs.declared.pos.Pos.{Pos}
 use Rattle.syntax.specs.Declarations.{Syntax}
-use Rattle.typed.specs.Value.{Value}
 use Rattle.typed.specs.Syntax.{Func, Program}
-use Rattle.typed.specs.View.{zero_values, program_of}
+use Rattle.typed.specs.View.{site_types, program_of}
 use Rattle.typed.specs.declared.program.Site.{Site}
 use Rattle.typed.specs.declared.program.Program.{Program as ProgramData}
+use Rattle.value_trees.specs.Value.{Value}
 use Rattle.value_types.specs.declared.fault.TypeFault.{TypeFault}
 use Rattle.value_types.specs.declared.fault.TypeFault.TheVariants as type_fault
 use Rattle.value_types.specs.declared.fault.Fault.{Fault}
@@ -34,9 +34,9 @@ strings_in t = (behind_members t.text (heads_of t) (package_scope t) (members t)
 abbrev pub globals_in : Syntax → List (ℕ × Value)
 globals_in t = globals t.text (heads_of t) (package_scope t) (members t)
 
--- two types
+-- the program of these functions with this one as `main`
 abbrev pub program_with : Syntax → List Func → ℕ → Program
-program_with t funcs main = record { funcs = funcs; zeros = zero_values; sites = map (λ site. site.type_id.0) (sites_in t); strings = strings_in t; globals = globals_in t; main = main }
+program_with t funcs main = record { funcs = funcs; sites = site_types (sites_in t); strings = strings_in t; globals = globals_in t; main = main }
 
 -- the rules give a tree this typed program
 pub record Types (t : Syntax) (p : Program) : Type 0 where

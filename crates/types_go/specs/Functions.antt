@@ -5,8 +5,9 @@ use Rattle.std.specs.Option.{option_map}
 use Rattle.syntax.specs.Expressions.{Ex as TreeEx, spelled}
 use Rattle.syntax.specs.Declarations.{named, Body, Function as TreeFunction, Declaration, constants, variables, types, Syntax}
 use Rattle.syntax.specs.Declarations as tree
-use Rattle.typed.specs.Value.{Value, int, bool}
-use Rattle.typed.specs.Syntax.{Sts, Func, int_type}
+use Rattle.typed.specs.Syntax.{Sts, Func}
+use Rattle.value_trees.specs.Types.{ValueType as TypeTree, ints}
+use Rattle.value_trees.specs.Value.{Value, int, bool}
 use Rattle.value_types.specs.declared.constant.Constant.{Constant}
 use Rattle.value_types.specs.declared.constant.Constant.TheVariants.{Number, Truth}
 use Rattle.value_types.specs.declared.constant.Fixed.{Fixed}
@@ -17,7 +18,7 @@ use Rattle.value_types.specs.Given.{allowed}
 use Rattle.names.specs.declared.scope.Declared.{Declared}
 use Rattle.names.specs.declared.scope.Declared.TheVariants.{Function}
 use Rattle.names.specs.Universe.{is_blank, is_main}
-use Rattle.names.specs.Scope.{Scope, type_number, declaration, fixed, with_site, opened, closed, beginning}
+use Rattle.names.specs.Scope.{Scope, type_number, type_tree, declaration, fixed, with_site, opened, closed, beginning}
 use Rattle.expression_types.specs.Typing.{known_type, gives}
 use Rattle.package_values.specs.declared.items.Role.TheVariants as role
 use Rattle.package_values.specs.Values.{Item, items_in_specs, items_in, constant_in, settled}
@@ -39,11 +40,19 @@ is_plain (Some f) = (length (params_of f.params) == 0) && (length (params_of f.r
 
 -- the number of a type, where that is known
 abbrev pub number_or_int : Option ValueType → ℕ
-number_or_int None = int_type
+number_or_int None = 0
 number_or_int (Some t) = type_number t
 
 abbrev pub slot_number : Slot → ℕ
 slot_number p = number_or_int p.value_type
+
+-- the same type as those of values are given
+abbrev pub tree_or_ints : Option ValueType → TypeTree
+tree_or_ints None = ints
+tree_or_ints (Some t) = type_tree t
+
+abbrev pub slot_tree : Slot → TypeTree
+slot_tree p = tree_or_ints p.value_type
 
 module _ (text : List ℕ) where
   -- the name and the number of a function, in the package block
@@ -159,8 +168,8 @@ module _ (text : List ℕ) (heads : Scope) where
     first = length s.sites;
     count = length (behind_body s f (Some b)).sites - length s.sites;
     params = params;
-    param_types = map slot_number (slots_of text heads f.params);
-    results = map slot_number (slots_of text heads f.results);
+    param_types = map slot_tree (slots_of text heads f.params);
+    results = map slot_tree (slots_of text heads f.results);
     named = sites_of results;
     body = body;
   }

@@ -19,7 +19,7 @@ use Rattle.package_values.specs.declared.items.Role.TheVariants as role
 use Rattle.package_values.specs.Values.{items_in_specs}
 use Rattle.package_values.specs.Passing.{item_of}
 use Rattle.signatures.specs.Signatures.{is_external}
-use Rattle.types_go.specs.Functions.{slot_number, Member, of_function, of_variable, numbered}
+use Rattle.types_go.specs.Functions.{slot_tree, Member, of_function, of_variable, numbered}
 
 -- headers
 abbrev pub choice_view : ChoiceData → Choice
@@ -36,8 +36,8 @@ assembled param_slots result_slots first behind ps rs body =
       first = first;
       count = behind - first;
       params = params;
-      param_types = map slot_number param_slots;
-      results = map slot_number result_slots;
+      param_types = map slot_tree param_slots;
+      results = map slot_tree result_slots;
       named = sites_of results;
       body = b;
     }) body) rs) ps

@@ -7,6 +7,7 @@ ghost use Rattle.syntax.specs.Declarations.{function as function_item, function_
 ghost use Rattle.typed.specs.View.{func_of, global_of, program_of};
 ghost use Rattle.typed.specs.Form.{IsInForm};
 ghost use Rattle.typed.specs.Syntax.{Program as ProgramOf};
+ghost use Rattle.value_trees.specs.Types.{ValueType as TypeTree};
 ghost use Rattle.value_types.specs.Least.{IsLeast};
 ghost use Rattle.value_types.specs.Faults.{fault as fault_at, IsFault, FormFails};
 ghost use Rattle.value_types.specs.declared.fault.FaultKind.TheVariants.{NoMain};
@@ -281,7 +282,7 @@ fn pass(alloc: Global, tree: &Tree) -> Result<Passed, NoMemory>
     ensures funcs { IfOk result (λ r. option_map (λ v. map func_of v.items) r.funcs ≡ functions (syntax_of tree.now).text (heads_of (syntax_of tree.now)) (package_scope (syntax_of tree.now)) 0 (members (syntax_of tree.now))) }
     ensures sites { IfOk result (λ r. r.sites.items ≡ sites_in (syntax_of tree.now)) }
     ensures strings { IfOk result (λ r. map (λ string. string.items) r.strings.items ≡ strings_in (syntax_of tree.now)) }
-    ensures globals { IfOk result (λ r. (types : List ℕ) → map (global_of types) r.globals.items ≡ globals_in (syntax_of tree.now)) }
+    ensures globals { IfOk result (λ r. (types : List TypeTree) → map (global_of types) r.globals.items ≡ globals_in (syntax_of tree.now)) }
     ensures places { IfOk result (λ r. AreAt (function_places (syntax_of tree.now)) (option_map (λ v. v.items) r.funcs)) }
     ensures fault { IfOk result (λ r. IsLeast (FailsIn (syntax_of tree.now)) r.fault) }
 {

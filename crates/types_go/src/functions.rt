@@ -6,7 +6,8 @@ ghost use Rattle.std.specs.Str.{bytes_eq};
 ghost use Rattle.base.specs.declared.pos.Pos.{Pos as Place};
 ghost use Rattle.syntax.specs.Expressions.{ex_of, spelled};
 ghost use Rattle.syntax.specs.Declarations.{parameters_of, body_of, function_of};
-ghost use Rattle.typed.specs.View.{site_in, func_of, sts_of, value_of, global_of};
+ghost use Rattle.typed.specs.View.{type_of, site_in, func_of, sts_of, value_of, global_of};
+ghost use Rattle.value_trees.specs.Types.{ValueType as TypeTree};
 ghost use Rattle.value_types.specs.Least.{IsLeast};
 ghost use Rattle.value_types.specs.Given.{allowed};
 ghost use Rattle.value_types.specs.Faults.{fault as fault_at, IsFault};
@@ -19,7 +20,7 @@ ghost use Rattle.package_values.specs.Passing.{item_of};
 ghost use Rattle.signatures.specs.Failing.{fault_where};
 ghost use Rattle.simple_statements.specs.SimpleStatements.{returns_view};
 ghost use Rattle.signatures.specs.Signatures.{may_be_named, is_named, is_external, params_of, signature_in, is_small};
-ghost use Rattle.types_go.specs.Functions.{number_or_int, slot_number, returns_of, may_end, function_head, parts, function_with, function, functions_of, type_or_int, int_in, truth_in, first_value, behind_variable, initial, globals_of, functions, globals, behind_body, behind_function, behind_members};
+ghost use Rattle.types_go.specs.Functions.{number_or_int, slot_number, slot_tree, returns_of, may_end, function_head, parts, function_with, function, functions_of, type_or_int, int_in, truth_in, first_value, behind_variable, initial, globals_of, functions, globals, behind_body, behind_function, behind_members};
 ghost use Rattle.signatures.specs.SignatureFaults.{function_name_fault};
 ghost use Rattle.types_go.specs.FunctionFaults.{FailsInHead, FailsInTypes, FailsInParts, FailsWith, FailsInFunction, FailsInFunctions, external_fault};
 
@@ -154,7 +155,8 @@ fn number_or_int(value_type: Option<ValueType>) -> TypeId
 
 /// The numbers of the types of parameters or results.
 fn type_numbers(alloc: Global, slots: &[Slot]) -> Result<Vec<TypeId>, NoMemory>
-    ensures { IfOk result (λ v. map (λ t. t.0) v.items ≡ map slot_number slots.now) }
+    ensures numbers { IfOk result (λ v. map (λ t. t.0) v.items ≡ map slot_number slots.now) }
+    ensures trees { IfOk result (λ v. map (λ t. type_of t.0) v.items ≡ map slot_tree slots.now) }
 {
     let mut types = Vec::new(alloc);
     for slot in slots {
@@ -416,7 +418,7 @@ fn check_named(
     item: &Item,
 ) -> Result<PackageVariable, NoMemory>
     ensures scope { OnOk result (scope_of scope.new ≡ with_site (scope_of scope.old) (type_or_int (fixed (scope_of scope.old) number.0)) item.now.name.pos) }
-    ensures global { IfOk result (λ g. (types : List ℕ) → global_of types g ≡ (length (scope_of scope.old).sites, first_value (type_or_int (fixed (scope_of scope.old) number.0)) (initial text.now (scope_of scope.old) (item_of item.now).value))) }
+    ensures global { IfOk result (λ g. (types : List TypeTree) → global_of types g ≡ (length (scope_of scope.old).sites, first_value (type_or_int (fixed (scope_of scope.old) number.0)) (initial text.now (scope_of scope.old) (item_of item.now).value))) }
 {
     let value_type = type_or_int(fixed(scope, number));
     let initial = initial(alloc, text, scope, item.value)?;
@@ -438,7 +440,7 @@ fn check_variable(
     item: &Item,
 ) -> Result<(), NoMemory>
     ensures scope { OnOk result (scope_of scope.new ≡ behind_variable text.now (scope_of scope.old) number.0 (item_of item.now)) }
-    ensures globals { OnOk result ((types : List ℕ) → map (global_of types) globals.new.items ≡ map (global_of types) globals.old.items ++ globals_of text.now (scope_of scope.old) number.0 (item_of item.now)) }
+    ensures globals { OnOk result ((types : List TypeTree) → map (global_of types) globals.new.items ≡ map (global_of types) globals.old.items ++ globals_of text.now (scope_of scope.old) number.0 (item_of item.now)) }
 {
     if is_blank(spelled(text, item.name)) {
         return Ok(());
@@ -458,7 +460,7 @@ pub fn check_members(
 ) -> Result<Members, NoMemory>
     requires { 0 < length scope.old.names }
     ensures funcs { IfOk result (λ r. option_map (λ v. map func_of v.items) r.funcs ≡ functions text.now (scope_of heads.now) (scope_of scope.old) 0 (member_views members.now)) }
-    ensures globals { IfOk result (λ r. (types : List ℕ) → map (global_of types) r.globals.items ≡ globals text.now (scope_of heads.now) (scope_of scope.old) (member_views members.now)) }
+    ensures globals { IfOk result (λ r. (types : List TypeTree) → map (global_of types) r.globals.items ≡ globals text.now (scope_of heads.now) (scope_of scope.old) (member_views members.now)) }
     ensures places { IfOk result (λ r. AreAt (map (λ f. f.name.pos) (functions_of (member_views members.now))) (option_map (λ v. v.items) r.funcs)) }
     ensures fault { IfOk result (λ r. IsLeast (FailsInFunctions text.now (scope_of heads.now) (scope_of scope.old) 0 (member_views members.now)) r.fault) }
     ensures scope { OnOk result (scope_of scope.new ≡ behind_members text.now (scope_of heads.now) (scope_of scope.old) (member_views members.now)) }

@@ -1,6 +1,6 @@
 use Rattle.std.proofs.Common.{◌≡◌, ℕ, length, Option, ap, ◌∙◌}
-use Rattle.typed.specs.Value.{Value}
 use Rattle.typed.specs.View.{value_of}
+use Rattle.value_trees.specs.Value.{Value}
 use Rattle.value_types.specs.declared.constant.Fixed.{Fixed}
 use Rattle.value_types.specs.declared.value_type.ValueType.{ValueType}
 use Rattle.names.specs.Scope.{scope_of, fixed}

@@ -5,7 +5,7 @@ use Rattle.types_go.proofs.functions.type_numbers.Goals as goal
 use Rattle.signatures.specs.declared.slots.Slot.{Slot}
 use Rattle.signatures.proofs.Items.{no_slot}
 use Rattle.types_go.specs.Functions.{slot_number}
-use Rattle.types_go.proofs.Sites.{number_more}
+use Rattle.types_go.proofs.Sites.{number_more, trees_of}
 
 pub loop-slot-init : goal.loop-slot-init
 loop-slot-init c = rw (c.new-types.ensures.items) refl
@@ -20,10 +20,18 @@ loop-slot-preserved c =
     rw (c.in_ok-push.ensures.items)
     (c.loop-slot.invariant ∙ ap (λ (l : List Slot). so_far ++ map slot_number l) here ∙ number_more c.loop-slot.types.items c.number_or_int.result (slot_number p) (map slot_number (drop (k + 1) xs)) c.number_or_int.ensures)
 
-pub returns : goal.returns
-returns c =
+pub returns-clause-numbers : goal.returns-clause-numbers
+returns-clause-numbers c =
     let xs = c.args.slots.now in
     let k = c.loop-slot.slot-index in
     let so_far = map (λ (t : TypeId). t.0) c.loop-slot.types.items in
     let none : drop k xs ≡ [] = nothing_left xs k (λ l. absurd (omega (arith, l, c.loop-slot-test.false))) in
     sym (c.loop-slot.invariant ∙ ap (λ (l : List Slot). so_far ++ map slot_number l) none ∙ append-nil so_far)
+
+pub returns-clause-trees : goal.returns-clause-trees
+returns-clause-trees c =
+    let xs = c.args.slots.now in
+    let k = c.loop-slot.slot-index in
+    let so_far = map (λ (t : TypeId). t.0) c.loop-slot.types.items in
+    let none : drop k xs ≡ [] = nothing_left xs k (λ l. absurd (omega (arith, l, c.loop-slot-test.false))) in
+    trees_of c.loop-slot.types.items xs (sym (c.loop-slot.invariant ∙ ap (λ (l : List Slot). so_far ++ map slot_number l) none ∙ append-nil so_far))

@@ -1,0 +1,219 @@
+-- The code of forms: its length.
+use Rattle.std.proofs.Common.{◌≡◌, ℕ, zero, suc, ◌+◌, Bool, true, false, List, [], ◌∷◌, ◌++◌, length, Some, None, refl, ap, arith, length-append}
+use Rattle.std.specs.Prelude.{Option}
+use Rattle.isa.specs.declared.instr.Instr.{Instr}
+use Rattle.isa.specs.declared.instr.Instr.TheVariants.{Const, Bin, Call, Jump, JumpZero, Return, Exit}
+use Rattle.isa.specs.declared.instr.BinOp.TheVariants as Word
+use Rattle.typed.specs.Frames.{far}
+use Rattle.typed.specs.Syntax.{Ex, Exs, Pl, Left, Piece, St, Sts, Func, Program, constant, read, unary, binary, both, either, call, local, global, none, more, results, asked, blank, new, to, text, shown, over_int, declare, assign, update, bump, discard, block, choose, loop, range, break_off, go_on, give_back, print, raise, quit, done, next, argument_words, arguments_of, results_of, wide, all_wide, each_width, value_widths}
+use Rattle.simulated_code.specs.Code.{Slots, site_words, first_width, other_widths, temp, operation, unary_code, address_code, fetch_code, land_code, read_code, write_code, move_code, move_size, result_code, call_code, call_size, ex_code, exs_code, pieces_code, test_code, test_size, size, exs_size, pieces_size, raised_code, show_more, show_plain, show_code, more_size, shown_size, lefts_code, lefts_size, named_write_code, named_read_code, named_read_size, leave_code, leave_size, values_code, values_size, params_code, params_size, zeros_code, renew_code, renew_size, st_code, sts_code, st_size, sts_size, slots_of, entry_code, entry_size, func_code, func_size}
+
+pub length_move : (n a b : ℕ) → length (move_code n a b) ≡ move_size n
+length_move zero a b = refl
+length_move (suc n) a b = refl
+
+pub length_result : (n a b : ℕ) → length (result_code n a b) ≡ move_size n
+length_result zero a b = refl
+length_result (suc n) a b = refl
+
+pub length_address : (s : Slots) (p : Pl) (h : ℕ) → length (address_code s p h) ≡ far p
+length_address s (local site steps) h = refl
+length_address s (global g steps) h = refl
+
+pub length_read : (s : Slots) (p : Pl) (h : ℕ) → length (read_code s p h) ≡ far p + 1
+length_read s p h = let one : length (fetch_code s p h h ∷ []) ≡ 1 = refl in omega (arith, one, length-append (address_code s p h) (fetch_code s p h h ∷ []), length_address s p h)
+
+pub length_write : (s : Slots) (p : Pl) (at h : ℕ) → length (write_code s p at h) ≡ far p + 1
+length_write s p at h = let one : length (land_code s p at h ∷ []) ≡ 1 = refl in omega (arith, one, length-append (address_code s p at) (land_code s p at h ∷ []), length_address s p at)
+
+pub length_lefts : (s : Slots) (ns : List ℕ) (ls : List Left) (at h : ℕ) → length (lefts_code s ns ls at h) ≡ lefts_size ls
+length_lefts s ns [] at h = refl
+length_lefts s ns (blank ∷ ls) at h = length_lefts s (other_widths ns) ls at (h + first_width ns)
+length_lefts s ns (new site ∷ ls) at h = ap suc (length_lefts s (other_widths ns) ls at (h + first_width ns))
+length_lefts s ns (to p ∷ ls) at h = omega (arith, length-append (write_code s p at h) (lefts_code s (other_widths ns) ls at (h + first_width ns)), length_write s p at h, length_lefts s (other_widths ns) ls at (h + first_width ns))
+
+pub length_named_write : (s : Slots) (sites : List ℕ) (h : ℕ) → length (named_write_code s sites h) ≡ length sites
+length_named_write s [] h = refl
+length_named_write s (site ∷ sites) h = ap suc (length_named_write s sites (h + site_words s site))
+
+pub length_named_read : (s : Slots) (sites : List ℕ) (i : ℕ) → length (named_read_code s sites i) ≡ named_read_size sites
+length_named_read s [] i = refl
+length_named_read s (site ∷ sites) i = ap (λ l. suc (suc l)) (length_named_read s sites (i + site_words s site))
+
+pub length_leave : (s : Slots) (arguments : ℕ) (named : List ℕ) → length (leave_code s arguments named) ≡ leave_size named
+length_leave s arguments named =
+    let one : length (Return ∷ []) ≡ 1 = refl in
+    omega (arith, one, length-append (named_read_code s named arguments) (Return ∷ []), length_named_read s named arguments)
+
+pub length_values : (s : Slots) (arguments n : ℕ) (named : List ℕ) (h : ℕ) → length (values_code s arguments n named h) ≡ values_size n named
+length_values s arguments n [] h = length_result n (temp s h) arguments
+length_values s arguments zero (site ∷ sites) h = refl
+length_values s arguments (suc n) (site ∷ sites) h = length_named_write s (site ∷ sites) h
+
+pub length_params : (s : Slots) (ns : List ℕ) (ps : List (Option ℕ)) (i : ℕ) → length (params_code s ns ps i) ≡ params_size ps
+length_params s ns [] i = refl
+length_params s ns (None ∷ ps) i = length_params s (other_widths ns) ps (i + first_width ns)
+length_params s ns (Some site ∷ ps) i = ap suc (length_params s (other_widths ns) ps (i + first_width ns))
+
+pub length_zeros : (s : Slots) (sites : List ℕ) → length (zeros_code s sites) ≡ length sites
+length_zeros s [] = refl
+length_zeros s (site ∷ sites) = ap suc (length_zeros s sites)
+
+pub length_renew : (s : Slots) (sites : List ℕ) (h : ℕ) → length (renew_code s sites h) ≡ renew_size sites
+length_renew s [] h = refl
+length_renew s (site ∷ sites) h = ap (λ l. suc (suc l)) (length_renew s sites h)
+
+pub length_more : (s : Slots) (ps : List Piece) (h : ℕ) → length (show_more s ps h) ≡ more_size ps
+length_more s [] h = refl
+length_more s (text number ∷ ps) h = ap (λ l. suc (suc l)) (length_more s ps h)
+length_more s (shown t e ∷ ps) h = ap (λ l. suc (suc l)) (length_more s ps (h + 1))
+
+pub length_plain : (s : Slots) (ps : List Piece) (h : ℕ) → length (show_plain s ps h) ≡ length ps
+length_plain s [] h = refl
+length_plain s (text number ∷ ps) h = ap suc (length_plain s ps h)
+length_plain s (shown t e ∷ ps) h = ap suc (length_plain s ps (h + 1))
+
+pub length_shown : (s : Slots) (line : Bool) (ps : List Piece) (h : ℕ) → length (show_code s line ps h) ≡ shown_size line ps
+length_shown s true [] h = refl
+length_shown s true (text number ∷ ps) h = ap suc (length_more s ps h)
+length_shown s true (shown t e ∷ ps) h = ap suc (length_more s ps (h + 1))
+length_shown s false ps h = length_plain s ps h
+
+-- one instruction behind a code
+pub length_last : (is : List Instr) (i : Instr) → length (is ++ i ∷ []) ≡ length is + 1
+length_last is i = let one : length (i ∷ []) ≡ 1 = refl in omega (arith, one, length-append is (i ∷ []))
+
+module _ (fs : Program) where
+  pub length_call : (s : Slots) (f h : ℕ) → length (call_code fs s f h) ≡ call_size fs f
+  length_call s f h =
+      let m = arguments_of fs f in let n = results_of fs f in
+      let before = move_code m 0 (temp s h) in let behind = move_code n (temp s h) m in
+      let one : length (Call f ∷ behind) ≡ suc (length behind) = refl in
+      omega (arith, one, length-append before (Call f ∷ behind), length_move m 0 (temp s h), length_move n (temp s h) m)
+
+  mutual
+    pub length_code : (s : Slots) (e : Ex) (h pc : ℕ) → length (ex_code fs s e h pc) ≡ size fs e
+    length_code s (constant v) h pc = refl
+    length_code s (read p) h pc = length_read s p h
+    length_code s (unary op a) h pc =
+        omega (arith, length_last (ex_code fs s a h pc) (unary_code op (temp s h)), length_code s a h pc)
+    length_code s (binary at o a b) h pc =
+        let pb = pc + size fs a in
+        let ca = ex_code fs s a h pc in let cb = ex_code fs s b (h + 1) pb in let i = Bin (operation o) (temp s h) (temp s h) (temp s (h + 1)) in
+        omega (arith, length-append ca (cb ++ i ∷ []), length_last cb i, length_code s a h pc, length_code s b (h + 1) pb)
+    length_code s (both a b) h pc =
+        let pb = pc + size fs a + 1 in
+        let ca = ex_code fs s a h pc in let cb = ex_code fs s b h pb in let z = JumpZero (temp s h) (pb + size fs b) in
+        let one : length (z ∷ cb) ≡ suc (length cb) = refl in
+        omega (arith, one, length-append ca (z ∷ cb), length_code s a h pc, length_code s b h pb)
+    length_code s (either a b) h pc =
+        let pb = pc + size fs a + 2 in
+        let ca = ex_code fs s a h pc in let cb = ex_code fs s b h pb in let z = JumpZero (temp s h) pb in let j = Jump (pb + size fs b) in
+        let one : length (z ∷ j ∷ cb) ≡ suc (suc (length cb)) = refl in
+        omega (arith, one, length-append ca (z ∷ j ∷ cb), length_code s a h pc, length_code s b h pb)
+    length_code s (call f es) h pc = omega (arith, length-append (exs_code fs s es h pc) (call_code fs s f h), length_exs s es h pc, length_call s f h)
+
+    pub length_exs : (s : Slots) (es : Exs) (h pc : ℕ) → length (exs_code fs s es h pc) ≡ exs_size fs es
+    length_exs s none h pc = refl
+    length_exs s (more e es) h pc =
+        let pb = pc + size fs e in
+        omega (arith, length-append (ex_code fs s e h pc) (exs_code fs s es (h + wide fs e) pb), length_code s e h pc, length_exs s es (h + wide fs e) pb)
+    length_exs s (results f es) h pc = omega (arith, length-append (exs_code fs s es h pc) (call_code fs s f h), length_exs s es h pc, length_call s f h)
+    length_exs s asked h pc = refl
+
+  pub length_pieces : (s : Slots) (ps : List Piece) (h pc : ℕ) → length (pieces_code fs s ps h pc) ≡ pieces_size fs ps
+  length_pieces s [] h pc = refl
+  length_pieces s (text number ∷ ps) h pc = omega (arith, length_pieces s ps h pc)
+  length_pieces s (shown t e ∷ ps) h pc =
+      let pb = pc + size fs e in
+      omega (arith, length-append (ex_code fs s e h pc) (pieces_code fs s ps (h + 1) pb), length_code s e h pc, length_pieces s ps (h + 1) pb)
+
+  pub length_test : (s : Slots) (test : Option Ex) (h pc goal : ℕ) → length (test_code fs s test h pc goal) ≡ test_size fs test
+  length_test s None h pc goal = refl
+  length_test s (Some e) h pc goal = omega (arith, length_last (ex_code fs s e h pc) (JumpZero (temp s h) goal), length_code s e h pc)
+
+  -- the statements of a function with these results and so many argument words
+  module _ (arguments : ℕ) (named : List ℕ) where
+    mutual
+      pub length_st : (s : Slots) (t : St) (h out again pc : ℕ) → length (st_code fs arguments named s t h out again pc) ≡ st_size fs arguments named t
+      length_st s (declare sites) h out again pc = length_zeros s sites
+      length_st s (assign ls es) h out again pc = omega (arith, length-append (exs_code fs s es h pc) (lefts_code s (value_widths fs es) ls (h + all_wide fs es) h), length_exs s es h pc, length_lefts s (value_widths fs es) ls (h + all_wide fs es) h)
+      length_st s (update at p o e) h out again pc =
+          let ce = ex_code fs s e (h + 1) (pc + (far p + 1)) in let i = Bin (operation o) (temp s h) (temp s h) (temp s (h + 1)) in let w = write_code s p (h + 1) h in
+          let one : length (i ∷ w) ≡ suc (length w) = refl in
+          omega (arith, one, length-append (read_code s p h) (ce ++ i ∷ w), length_read s p h, length-append ce (i ∷ w), length_code s e (h + 1) (pc + (far p + 1)), length_write s p (h + 1) h)
+      length_st s (bump p o) h out again pc =
+          let w = write_code s p (h + 1) h in
+          let rest : List Instr = Const (temp s (h + 1)) 1 ∷ Bin (operation o) (temp s h) (temp s h) (temp s (h + 1)) ∷ w in
+          let two : length rest ≡ suc (suc (length w)) = refl in
+          omega (arith, two, length-append (read_code s p h) rest, length_read s p h, length_write s p (h + 1) h)
+      length_st s (discard es) h out again pc = length_exs s es h pc
+      length_st s (block ss) h out again pc = length_sts s ss h out again pc
+      length_st s (choose e a b) h out again pc =
+          let p1 = pc + size fs e + 1 in let p2 = p1 + sts_size fs arguments named a + 1 in
+          let ca = sts_code fs arguments named s a h out again p1 in let cb = sts_code fs arguments named s b h out again p2 in
+          let j = Jump (p2 + sts_size fs arguments named b) in let z = JumpZero (temp s h) p2 in
+          let one : length (j ∷ cb) ≡ suc (length cb) = refl in
+          let two : length (z ∷ (ca ++ j ∷ cb)) ≡ suc (length (ca ++ j ∷ cb)) = refl in
+          omega (arith, one, two, length-append (ex_code fs s e h pc) (z ∷ (ca ++ j ∷ cb)), length-append ca (j ∷ cb), length_code s e h pc, length_sts s a h out again p1, length_sts s b h out again p2)
+      length_st s (loop sites test post body) h out again pc =
+          let inside = pc + test_size fs test in
+          let turn = inside + sts_size fs arguments named body in
+          let behind = turn + renew_size sites + sts_size fs arguments named post + 1 in
+          let cb = sts_code fs arguments named s body h behind turn inside in
+          let cr = renew_code s sites h in
+          let cp = sts_code fs arguments named s post h behind turn (turn + renew_size sites) in
+          let ct = test_code fs s test h pc behind in
+          omega (
+            arith,
+            length-append ct (cb ++ (cr ++ (cp ++ Jump pc ∷ []))),
+            length-append cb (cr ++ (cp ++ Jump pc ∷ [])),
+            length-append cr (cp ++ Jump pc ∷ []),
+            length_last cp (Jump pc),
+            length_test s test h pc behind,
+            length_sts s body h behind turn inside,
+            length_renew s sites h,
+            length_sts s post h behind turn (turn + renew_size sites),
+          )
+      length_st s (range (over_int e) key value body) h out again pc =
+          let test = pc + size fs e + 1 in
+          let inside = test + 2 + lefts_size (key ∷ []) in
+          let turn = inside + sts_size fs arguments named body in
+          let behind = turn + 3 in
+          let ce = ex_code fs s e h pc in
+          let cl = lefts_code s (1 ∷ []) (key ∷ []) (h + 2) (h + 1) in
+          let cb = sts_code fs arguments named s body (h + 2) behind turn inside in
+          let last : List Instr = Const (temp s (h + 2)) 1 ∷ Bin Word.Add (temp s (h + 1)) (temp s (h + 1)) (temp s (h + 2)) ∷ Jump test ∷ [] in
+          let round : List Instr = Const (temp s (h + 1)) 0 ∷ Bin Word.Less (temp s (h + 2)) (temp s (h + 1)) (temp s h) ∷ JumpZero (temp s (h + 2)) behind ∷ (cl ++ (cb ++ last)) in
+          let three : length last ≡ 3 = refl in
+          let one : length round ≡ suc (suc (suc (length (cl ++ (cb ++ last))))) = refl in
+          let whole : length (ce ++ round) ≡ length ce + length round = length-append ce round in
+          let tail : length (cl ++ (cb ++ last)) ≡ length cl + length (cb ++ last) = length-append cl (cb ++ last) in
+          let end : length (cb ++ last) ≡ length cb + length last = length-append cb last in
+          omega (arith, one, three, whole, tail, end, length_code s e h pc, length_lefts s (1 ∷ []) (key ∷ []) (h + 2) (h + 1), length_sts s body (h + 2) behind turn inside)
+      length_st s break_off h out again pc = refl
+      length_st s go_on h out again pc = refl
+      length_st s (give_back es) h out again pc =
+          let values = values_code s arguments (all_wide fs es) named h in let leave = leave_code s arguments named in
+          omega (arith, length-append (exs_code fs s es h pc) (values ++ leave), length-append values leave, length_exs s es h pc, length_values s arguments (all_wide fs es) named h, length_leave s arguments named)
+      length_st s (print line ps) h out again pc = omega (arith, length-append (pieces_code fs s ps h pc) (show_code s line ps h), length_pieces s ps h pc, length_shown s line ps h)
+      length_st s (raise at (text number)) h out again pc = refl
+      length_st s (raise at (shown t e)) h out again pc = omega (arith, length_last (ex_code fs s e h pc) (raised_code t (temp s h)), length_code s e h pc)
+      length_st s (quit at e) h out again pc = omega (arith, length_last (ex_code fs s e h pc) (Exit (temp s h)), length_code s e h pc)
+
+      pub length_sts : (s : Slots) (ss : Sts) (h out again pc : ℕ) → length (sts_code fs arguments named s ss h out again pc) ≡ sts_size fs arguments named ss
+      length_sts s done h out again pc = refl
+      length_sts s (next x xs) h out again pc =
+          let behind = pc + st_size fs arguments named x in
+          omega (arith, length-append (st_code fs arguments named s x h out again pc) (sts_code fs arguments named s xs h out again behind), length_st s x h out again pc, length_sts s xs h out again behind)
+
+  pub length_entry : (f : Func) → length (entry_code fs f) ≡ entry_size fs f
+  length_entry f =
+      let s = slots_of fs f in
+      omega (arith, length-append (params_code s (each_width f.param_types) f.params 0) (zeros_code s f.named), length_params s (each_width f.param_types) f.params 0, length_zeros s f.named)
+
+  pub length_func : (f : Func) (pc : ℕ) → length (func_code fs f pc) ≡ func_size fs f
+  length_func f pc =
+      let s = slots_of fs f in let m = argument_words f in
+      let body = sts_code fs m f.named s f.body 0 0 0 (pc + entry_size fs f) in let leave = leave_code s m f.named in
+      omega (arith, length-append (entry_code fs f) (body ++ leave), length-append body leave, length_entry f, length_sts m f.named s f.body 0 0 0 (pc + entry_size fs f), length_leave s m f.named)

@@ -1,0 +1,108 @@
+-- How many words expressions have.
+use Rattle.std.proofs.Common.{◌≡◌, ◌⊎◌, inl, inr, ℕ, ◌+◌, ◌<◌, List, [], ◌∷◌, length, refl, sym, ap, ◌∙◌, arith, ap₂}
+use Rattle.typed.specs.declared.operators.BinOp.{BinOp}
+use Rattle.typed.specs.declared.operators.BinOp.TheVariants.{Add, Sub, Mul, Div, Rem, And, Or, Xor, AndNot, ShiftLeft, ShiftRight, Equal, NotEqual, Less, LessEqual, Greater, GreaterEqual}
+use Rattle.typed.specs.declared.operators.UnOp.{UnOp}
+use Rattle.typed.specs.declared.operators.UnOp.TheVariants.{Plus, Negate, Complement, Not}
+use Rattle.value_trees.specs.Types.{ValueType, width}
+use Rattle.value_trees.specs.Value.{Value, int, bool, composite, IsOf}
+use Rattle.value_trees.specs.Words.{contents}
+use Rattle.value_trees.proofs.Parts.{count_of, leads_to}
+use Rattle.typed.specs.Syntax.{Ex, Exs, Pl, Program, constant, read, unary, binary, both, either, call, local, global, here, inner, none, more, results, asked, results_in, result_widths, each_width, all_width, site_type, path_of, place_type, wide, all_wide, value_widths}
+use Rattle.typed.specs.Form.{IsPlain, Takes, TakesOne, PlFits, ExFits, ExsFit}
+
+pub plain_one : (t : ValueType) → IsPlain t → width t ≡ 1
+plain_one t (inl e) = ap width e
+plain_one t (inr e) = ap width e
+
+-- a number or a truth value has one word
+pub plain_value : (t : ValueType) (v : Value) → IsPlain t → IsOf t v → length (contents v) ≡ 1
+plain_value t v plain is = count_of t v is ∙ plain_one t plain
+
+abbrev pub AllPlain : List ValueType → Type 0
+AllPlain [] = Unit {0}
+AllPlain (t ∷ ts) = IsPlain t × AllPlain ts
+
+pub takes_left : (o : BinOp) (s t : ValueType) → Takes o s t → IsPlain s
+takes_left Equal s t is = is.0
+takes_left NotEqual s t is = is.0
+takes_left Less s t is = inl is.0
+takes_left LessEqual s t is = inl is.0
+takes_left Greater s t is = inl is.0
+takes_left GreaterEqual s t is = inl is.0
+takes_left Add s t is = inl is.0
+takes_left Sub s t is = inl is.0
+takes_left Mul s t is = inl is.0
+takes_left Div s t is = inl is.0
+takes_left Rem s t is = inl is.0
+takes_left And s t is = inl is.0
+takes_left Or s t is = inl is.0
+takes_left Xor s t is = inl is.0
+takes_left AndNot s t is = inl is.0
+takes_left ShiftLeft s t is = inl is.0
+takes_left ShiftRight s t is = inl is.0
+
+pub takes_gives : (o : BinOp) (s t : ValueType) → Takes o s t → IsPlain t
+takes_gives Equal s t is = inr is.1
+takes_gives NotEqual s t is = inr is.1
+takes_gives Less s t is = inr is.1
+takes_gives LessEqual s t is = inr is.1
+takes_gives Greater s t is = inr is.1
+takes_gives GreaterEqual s t is = inr is.1
+takes_gives Add s t is = inl is.1
+takes_gives Sub s t is = inl is.1
+takes_gives Mul s t is = inl is.1
+takes_gives Div s t is = inl is.1
+takes_gives Rem s t is = inl is.1
+takes_gives And s t is = inl is.1
+takes_gives Or s t is = inl is.1
+takes_gives Xor s t is = inl is.1
+takes_gives AndNot s t is = inl is.1
+takes_gives ShiftLeft s t is = inl is.1
+takes_gives ShiftRight s t is = inl is.1
+
+pub takes_one : (o : UnOp) (t : ValueType) → TakesOne o t → IsPlain t
+takes_one Not t is = inr is
+takes_one Plus t is = inl is
+takes_one Negate t is = inl is
+takes_one Complement t is = inl is
+
+module _ (p : Program) where
+  pub place_is_of : (scope : List ℕ) (t : ValueType) (q : Pl) → PlFits p scope t q → place_type p q ≡ t
+  place_is_of scope t (local site steps) fit = leads_to (site_type p site) t (path_of steps) fit.1
+  place_is_of scope t (global g here) fit = fit.1
+  place_is_of scope t (global g (inner i steps)) fit = absurd fit
+
+  one_of : (ts : List ValueType) (t : ValueType) → ts ≡ t ∷ [] → all_width ts ≡ width t
+  one_of ts t e = let q = ap all_width e in omega (arith, q)
+
+  pub wide_is : (scope : List ℕ) (t : ValueType) (e : Ex) → ExFits p scope t e → wide p e ≡ width t
+  wide_is scope t (constant (int z)) fit = count_of t (int z) fit.0
+  wide_is scope t (constant (bool b)) fit = count_of t (bool b) fit.0
+  wide_is scope t (constant (composite vs)) fit = absurd fit.1
+  wide_is scope t (read q) fit = ap width (place_is_of scope t q fit)
+  wide_is scope t (unary o e) fit = sym (plain_one t (takes_one o t fit.0))
+  wide_is scope t (binary at o a b) fit = sym (plain_one t (takes_gives o fit.0 t fit.1))
+  wide_is scope t (both a b) fit = sym (ap width fit.0)
+  wide_is scope t (either a b) fit = sym (ap width fit.0)
+  wide_is scope t (call f es) fit = ap results_in fit.1 ∙ one_of fit.0.results t fit.2
+
+  pub all_wide_is : (scope : List ℕ) (ts : List ValueType) (es : Exs) → ExsFit p scope ts es → all_wide p es ≡ all_width ts
+  all_wide_is scope [] none fit = refl
+  all_wide_is scope (t ∷ ts) none fit = absurd fit
+  all_wide_is scope [] (more e es) fit = absurd fit
+  all_wide_is scope (t ∷ ts) (more e es) fit = omega (arith, wide_is scope t e fit.0, all_wide_is scope ts es fit.1)
+  all_wide_is scope [] (results f es) fit = ap results_in fit.1 ∙ ap all_width fit.2
+  all_wide_is scope (t ∷ ts) (results f es) fit = ap results_in fit.1 ∙ ap all_width fit.2
+  all_wide_is scope [] asked fit = sym (ap all_width fit)
+  all_wide_is scope (t ∷ ts) asked fit = sym (ap all_width fit)
+
+  pub widths_are : (scope : List ℕ) (ts : List ValueType) (es : Exs) → ExsFit p scope ts es → value_widths p es ≡ each_width ts
+  widths_are scope [] none fit = refl
+  widths_are scope (t ∷ ts) none fit = absurd fit
+  widths_are scope [] (more e es) fit = absurd fit
+  widths_are scope (t ∷ ts) (more e es) fit = ap₂ (λ n ns. n ∷ ns) (wide_is scope t e fit.0) (widths_are scope ts es fit.1)
+  widths_are scope [] (results f es) fit = ap result_widths fit.1 ∙ ap each_width fit.2
+  widths_are scope (t ∷ ts) (results f es) fit = ap result_widths fit.1 ∙ ap each_width fit.2
+  widths_are scope [] asked fit = sym (ap each_width fit)
+  widths_are scope (t ∷ ts) asked fit = sym (ap each_width fit)

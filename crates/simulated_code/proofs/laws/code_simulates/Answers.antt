@@ -1,0 +1,8 @@
+use Rattle.std.proofs.Common.{refl}
+use Rattle.simulated_code.specs.Code.{code_of}
+use Rattle.simulated_code.proofs.Stands.{compiled}
+use Rattle.simulated_code.proofs.Follows.{simulated}
+use Rattle.simulated_code.proofs.laws.code_simulates.Goals as goal
+
+pub returns : goal.returns
+returns c = λ p form. simulated p (code_of p) (compiled p) form refl

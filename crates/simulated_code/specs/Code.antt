@@ -1,0 +1,424 @@
+-- The code of a program: a table of each function's instructions, one function behind the other.
+use Rattle.std.specs.Prelude.{ℕ, zero, suc, ◌+◌, ◌-◌, Bool, true, false, List, [], ◌∷◌, ◌++◌, Option, Some, None, length, replicate, get_or}
+use Rattle.std.specs.Int.{w64, cast_unsigned}
+use Rattle.isa.specs.Bin.{bit_of}
+use Rattle.isa.specs.Code.{Tables}
+use Rattle.isa.specs.declared.instr.BinOp.{BinOp}
+use Rattle.isa.specs.declared.instr.BinOp.TheVariants as Word
+use Rattle.isa.specs.declared.instr.UnOp.TheVariants as WordOne
+use Rattle.isa.specs.declared.instr.Instr.{Instr}
+use Rattle.isa.specs.declared.instr.Instr.TheVariants.{Const, Zero, Move, Bin, Un, Jump, JumpZero, MoveWords, Call, ArgumentWords, SetResults, Load, Store, ReadInt, PrintInt, PrintBool, PrintText, PrintSpace, PrintLine, Return, Exit, PanicText, PanicInt, PanicBool}
+use Rattle.isa.specs.declared.func.Func.{Func as Entry}
+use Rattle.typed.specs.declared.operators.BinOp.{BinOp as Operator}
+use Rattle.typed.specs.declared.operators.BinOp.TheVariants.{Add, Sub, Mul, Div, Rem, And, Or, Xor, AndNot, ShiftLeft, ShiftRight, Equal, NotEqual, Less, LessEqual, Greater, GreaterEqual}
+use Rattle.typed.specs.declared.operators.UnOp.{UnOp}
+use Rattle.typed.specs.declared.operators.UnOp.TheVariants as One
+use Rattle.value_trees.specs.Types.{ValueType, ints, bools, width}
+use Rattle.value_trees.specs.Value.{Value, int, bool, composite}
+use Rattle.value_trees.specs.Paths.{type_at, offset}
+use Rattle.typed.specs.Syntax.{Ex, Exs, Pl, Left, Piece, St, Sts, Func, Program, constant, read, unary, binary, both, either, call, local, global, none, more, results, asked, blank, new, to, text, shown, over_int, declare, assign, update, bump, discard, block, choose, loop, range, break_off, go_on, give_back, print, raise, quit, done, next, argument_words, result_words, arguments_of, results_of, path_of, wide, all_wide, each_width, value_widths}
+use Rattle.typed.specs.Frames.{far, words_between, outgoing_of, temps_of, frame_of}
+use Rattle.heap_bump.specs.Words.{first_address}
+
+abbrev pub operation : Operator → BinOp
+operation Add = Word.Add
+operation Sub = Word.Sub
+operation Mul = Word.Mul
+operation Div = Word.Div
+operation Rem = Word.Rem
+operation And = Word.And
+operation Or = Word.Or
+operation Xor = Word.Xor
+operation AndNot = Word.AndNot
+operation ShiftLeft = Word.ShiftLeft
+operation ShiftRight = Word.ShiftRight
+operation Equal = Word.Equal
+operation NotEqual = Word.NotEqual
+operation Less = Word.Less
+operation LessEqual = Word.LessEqual
+operation Greater = Word.Greater
+operation GreaterEqual = Word.GreaterEqual
+
+abbrev pub unary_code : UnOp → ℕ → Instr
+unary_code One.Plus a = Move a a
+unary_code One.Negate a = Un WordOne.Negate a a
+unary_code One.Complement a = Un WordOne.Complement a a
+unary_code One.Not a = Un WordOne.IsZero a a
+
+-- the word of a number or a truth value
+abbrev pub word_of : Value → ℕ
+word_of (int z) = cast_unsigned w64 z
+word_of (bool b) = bit_of b
+word_of (composite vs) = 0
+
+-- The slots of a frame, from its lowest word: the outgoing area, the temps, the sites from this one on, each with the words of
+-- its type; above them the link and the return place.
+pub record Slots : Type 0 where
+  pub outgoing : ℕ
+  pub temps : ℕ
+  pub first : ℕ
+  pub sites : List ValueType
+
+abbrev pub temp : Slots → ℕ → ℕ
+temp s h = s.outgoing + h
+
+abbrev pub site_slot : Slots → ℕ → ℕ
+site_slot s site = s.outgoing + s.temps + words_between s.sites s.first (site - s.first)
+
+abbrev pub site_type : Slots → ℕ → ValueType
+site_type s site = get_or s.sites site ints
+
+abbrev pub site_words : Slots → ℕ → ℕ
+site_words s site = width (site_type s site)
+
+-- the first slot of a part of a site, and its words
+abbrev pub part_slot : Slots → ℕ → List ℕ → ℕ
+part_slot s site path = site_slot s site + offset (site_type s site) path
+
+abbrev pub part_words : Slots → ℕ → List ℕ → ℕ
+part_words s site path = width (type_at (site_type s site) path)
+
+-- some words go from slots from b on to slots from a on, and slots from a on get zeros
+abbrev pub moves : (n a b : ℕ) → Instr
+moves (suc zero) a b = Move a b
+moves n a b = MoveWords a b n
+
+abbrev pub zeros : (n a : ℕ) → Instr
+zeros (suc zero) a = Const a 0
+zeros n a = Zero a n
+
+-- package variables stand one behind the other from the heap's first word on
+abbrev pub global_address : ℕ → ℕ
+global_address g = first_address + g
+
+-- the address of a place, where it is reached by one, goes to temp h
+abbrev pub address_code : Slots → Pl → (h : ℕ) → List Instr
+address_code s (local site steps) h = []
+address_code s (global g steps) h = Const (temp s h) (global_address g) ∷ []
+
+-- the words of a place go to temps from h on; its address, if there is one, is in temp `at`
+abbrev pub fetch_code : Slots → Pl → (at h : ℕ) → Instr
+fetch_code s (local site steps) at h = moves (part_words s site (path_of steps)) (temp s h) (part_slot s site (path_of steps))
+fetch_code s (global g steps) at h = Load (temp s h) (temp s at) 0 1
+
+-- a place gets the words of temps from h on
+abbrev pub land_code : Slots → Pl → (at h : ℕ) → Instr
+land_code s (local site steps) at h = moves (part_words s site (path_of steps)) (part_slot s site (path_of steps)) (temp s h)
+land_code s (global g steps) at h = Store (temp s at) 0 (temp s h) 1
+
+abbrev pub read_code : Slots → Pl → (h : ℕ) → List Instr
+read_code s p h = address_code s p h ++ fetch_code s p h h ∷ []
+
+-- temp `at` is free for the address
+abbrev pub write_code : Slots → Pl → (at h : ℕ) → List Instr
+write_code s p at h = address_code s p at ++ land_code s p at h ∷ []
+
+-- n words go from slots from b on to slots from a on
+abbrev pub move_code : (n a b : ℕ) → List Instr
+move_code zero a b = []
+move_code (suc n) a b = MoveWords a b (suc n) ∷ []
+
+abbrev pub move_size : ℕ → ℕ
+move_size zero = 0
+move_size (suc n) = 1
+
+-- n values in slots from a on are the results from incoming word b on
+abbrev pub result_code : (n a b : ℕ) → List Instr
+result_code zero a b = []
+result_code (suc n) a b = SetResults a b (suc n) ∷ []
+
+-- a value of a type in a slot is shown, and a panic with it
+abbrev pub shown_code : ValueType → (a : ℕ) → Instr
+shown_code bools a = PrintBool a
+shown_code t a = PrintInt a
+
+abbrev pub raised_code : ValueType → (a : ℕ) → Instr
+raised_code bools a = PanicBool a
+raised_code t a = PanicInt a
+
+-- the operands, those that are values in temps from h on, are shown, each with a space before it
+abbrev pub show_more : Slots → List Piece → ℕ → List Instr
+show_more s [] h = PrintLine ∷ []
+show_more s (text number ∷ ps) h = PrintSpace ∷ PrintText number ∷ show_more s ps h
+show_more s (shown t e ∷ ps) h = PrintSpace ∷ shown_code t (temp s h) ∷ show_more s ps (h + 1)
+
+-- a line of them
+abbrev pub show_line : Slots → List Piece → ℕ → List Instr
+show_line s [] h = PrintLine ∷ []
+show_line s (text number ∷ ps) h = PrintText number ∷ show_more s ps h
+show_line s (shown t e ∷ ps) h = shown_code t (temp s h) ∷ show_more s ps (h + 1)
+
+-- without spaces and a newline
+abbrev pub show_plain : Slots → List Piece → ℕ → List Instr
+show_plain s [] h = []
+show_plain s (text number ∷ ps) h = PrintText number ∷ show_plain s ps h
+show_plain s (shown t e ∷ ps) h = shown_code t (temp s h) ∷ show_plain s ps (h + 1)
+
+abbrev pub show_code : Slots → Bool → List Piece → ℕ → List Instr
+show_code s true ps h = show_line s ps h
+show_code s false ps h = show_plain s ps h
+
+-- the first of some numbers of words, and the others
+abbrev pub first_width : List ℕ → ℕ
+first_width [] = 0
+first_width (n ∷ ns) = n
+
+abbrev pub other_widths : List ℕ → List ℕ
+other_widths [] = []
+other_widths (n ∷ ns) = ns
+
+-- left sides get the values, of so many words each, in temps from h on; an address goes to temp `at`
+abbrev pub lefts_code : Slots → (each : List ℕ) → List Left → (at h : ℕ) → List Instr
+lefts_code s ns [] at h = []
+lefts_code s ns (blank ∷ ls) at h = lefts_code s (other_widths ns) ls at (h + first_width ns)
+lefts_code s ns (new site ∷ ls) at h = moves (site_words s site) (site_slot s site) (temp s h) ∷ lefts_code s (other_widths ns) ls at (h + first_width ns)
+lefts_code s ns (to p ∷ ls) at h = write_code s p at h ++ lefts_code s (other_widths ns) ls at (h + first_width ns)
+
+abbrev pub lefts_size : List Left → ℕ
+lefts_size [] = 0
+lefts_size (blank ∷ ls) = lefts_size ls
+lefts_size (new site ∷ ls) = suc (lefts_size ls)
+lefts_size (to p ∷ ls) = far p + 1 + lefts_size ls
+
+-- results with names: they get the values in temps from h on, and are the results from incoming word i on
+abbrev pub named_write_code : Slots → List ℕ → (h : ℕ) → List Instr
+named_write_code s [] h = []
+named_write_code s (site ∷ sites) h = moves (site_words s site) (site_slot s site) (temp s h) ∷ named_write_code s sites (h + site_words s site)
+
+abbrev pub named_read_code : Slots → List ℕ → (i : ℕ) → List Instr
+named_read_code s [] i = []
+named_read_code s (site ∷ sites) i = moves (site_words s site) (temp s 0) (site_slot s site) ∷ SetResults (temp s 0) i (site_words s site) ∷ named_read_code s sites (i + site_words s site)
+
+abbrev pub named_read_size : List ℕ → ℕ
+named_read_size [] = 0
+named_read_size (site ∷ sites) = suc (suc (named_read_size sites))
+
+-- the end of a body, and what stands before it where there are n words of values in temps from h on
+abbrev pub leave_code : Slots → (arguments : ℕ) → List ℕ → List Instr
+leave_code s arguments named = named_read_code s named arguments ++ Return ∷ []
+
+abbrev pub leave_size : List ℕ → ℕ
+leave_size named = named_read_size named + 1
+
+abbrev pub values_code : Slots → (arguments n : ℕ) → List ℕ → (h : ℕ) → List Instr
+values_code s arguments n [] h = result_code n (temp s h) arguments
+values_code s arguments zero (site ∷ sites) h = []
+values_code s arguments (suc n) (site ∷ sites) h = named_write_code s (site ∷ sites) h
+
+abbrev pub values_size : (n : ℕ) → List ℕ → ℕ
+values_size n [] = move_size n
+values_size zero (site ∷ sites) = 0
+values_size (suc n) (site ∷ sites) = length (site ∷ sites)
+
+-- parameters of so many words each, those with sites, get the incoming words from i on, and results with names are 0
+abbrev pub params_code : Slots → (each : List ℕ) → List (Option ℕ) → (i : ℕ) → List Instr
+params_code s ns [] i = []
+params_code s ns (None ∷ ps) i = params_code s (other_widths ns) ps (i + first_width ns)
+params_code s ns (Some site ∷ ps) i = ArgumentWords (site_slot s site) i (first_width ns) ∷ params_code s (other_widths ns) ps (i + first_width ns)
+
+abbrev pub zeros_code : Slots → List ℕ → List Instr
+zeros_code s [] = []
+zeros_code s (site ∷ sites) = zeros (site_words s site) (site_slot s site) ∷ zeros_code s sites
+
+-- a new round's variables get the words of the old ones, through temps from h on
+abbrev pub renew_code : Slots → List ℕ → (h : ℕ) → List Instr
+renew_code s [] h = []
+renew_code s (site ∷ sites) h = moves (site_words s site) (temp s h) (site_slot s site) ∷ moves (site_words s site) (site_slot s site) (temp s h) ∷ renew_code s sites h
+
+abbrev pub renew_size : List ℕ → ℕ
+renew_size [] = 0
+renew_size (site ∷ sites) = suc (suc (renew_size sites))
+
+abbrev pub params_size : List (Option ℕ) → ℕ
+params_size [] = 0
+params_size (None ∷ ps) = params_size ps
+params_size (Some site ∷ ps) = suc (params_size ps)
+
+-- how many instructions show operands
+abbrev pub more_size : List Piece → ℕ
+more_size [] = 1
+more_size (p ∷ ps) = suc (suc (more_size ps))
+
+abbrev pub shown_size : Bool → List Piece → ℕ
+shown_size true [] = 1
+shown_size true (p ∷ ps) = suc (more_size ps)
+shown_size false ps = length ps
+
+module _ (p : Program) where
+  -- a call whose arguments are in temps from h on; its results land there
+  abbrev pub call_code : Slots → (f h : ℕ) → List Instr
+  call_code s f h = move_code (arguments_of p f) 0 (temp s h) ++ Call f ∷ move_code (results_of p f) (temp s h) (arguments_of p f)
+
+  abbrev pub call_size : ℕ → ℕ
+  call_size f = move_size (arguments_of p f) + suc (move_size (results_of p f))
+
+  -- the numbers of instructions
+  abbrev mutual
+    pub size : Ex → ℕ
+    size (constant v) = 1
+    size (read q) = far q + 1
+    size (unary op a) = size a + 1
+    size (binary at op a b) = size a + size b + 1
+    size (both a b) = size a + 1 + size b
+    size (either a b) = size a + 2 + size b
+    size (call f es) = exs_size es + call_size f
+
+    pub exs_size : Exs → ℕ
+    exs_size none = 0
+    exs_size (more e es) = size e + exs_size es
+    exs_size (results f es) = exs_size es + call_size f
+    exs_size asked = 1
+
+  abbrev pub piece_size : Piece → ℕ
+  piece_size (text number) = 0
+  piece_size (shown t e) = size e
+
+  abbrev pub pieces_size : List Piece → ℕ
+  pieces_size [] = 0
+  pieces_size (q ∷ ps) = piece_size q + pieces_size ps
+
+  -- a condition, where there is one, and the jump behind it
+  abbrev pub test_size : Option Ex → ℕ
+  test_size None = 0
+  test_size (Some e) = size e + 1
+
+  -- at a place the value lands in temp h, values in temps from h on. The second operand of `&&` and `||` is passed over where the
+  -- first, which is then in the temp, decides.
+  abbrev mutual
+    pub ex_code : Slots → Ex → (h pc : ℕ) → List Instr
+    ex_code s (constant v) h pc = Const (temp s h) (word_of v) ∷ []
+    ex_code s (read q) h pc = read_code s q h
+    ex_code s (unary op e) h pc = ex_code s e h pc ++ unary_code op (temp s h) ∷ []
+    ex_code s (binary at op a b) h pc = ex_code s a h pc ++ (ex_code s b (h + 1) (pc + size a) ++ Bin (operation op) (temp s h) (temp s h) (temp s (h + 1)) ∷ [])
+    ex_code s (both a b) h pc = ex_code s a h pc ++ JumpZero (temp s h) (pc + size a + 1 + size b) ∷ ex_code s b h (pc + size a + 1)
+    ex_code s (either a b) h pc =
+        ex_code s a h pc ++ JumpZero (temp s h) (pc + size a + 2) ∷ (Jump (pc + size a + 2 + size b) ∷ ex_code s b h (pc + size a + 2))
+    ex_code s (call f es) h pc = exs_code s es h pc ++ call_code s f h
+
+    pub exs_code : Slots → Exs → (h pc : ℕ) → List Instr
+    exs_code s none h pc = []
+    exs_code s (more e es) h pc = ex_code s e h pc ++ exs_code s es (h + wide p e) (pc + size e)
+    exs_code s (results f es) h pc = exs_code s es h pc ++ call_code s f h
+    exs_code s asked h pc = ReadInt (temp s h) ∷ []
+
+  abbrev pub pieces_code : Slots → List Piece → (h pc : ℕ) → List Instr
+  pieces_code s [] h pc = []
+  pieces_code s (text number ∷ ps) h pc = pieces_code s ps h pc
+  pieces_code s (shown t e ∷ ps) h pc = ex_code s e h pc ++ pieces_code s ps (h + 1) (pc + size e)
+
+  abbrev pub test_code : Slots → Option Ex → (h pc goal : ℕ) → List Instr
+  test_code s None h pc goal = []
+  test_code s (Some e) h pc goal = ex_code s e h pc ++ JumpZero (temp s h) goal ∷ []
+
+  -- the statements of a function with these results and so many argument words
+  module _ (arguments : ℕ) (named : List ℕ) where
+    abbrev mutual
+      pub st_size : St → ℕ
+      st_size (declare sites) = length sites
+      st_size (assign ls es) = exs_size es + lefts_size ls
+      st_size (update at q op e) = far q + 1 + size e + 1 + (far q + 1)
+      st_size (bump q op) = far q + 1 + 2 + (far q + 1)
+      st_size (discard es) = exs_size es
+      st_size (block ss) = sts_size ss
+      st_size (choose e a b) = size e + 1 + sts_size a + 1 + sts_size b
+      st_size (loop sites test post body) = test_size test + sts_size body + renew_size sites + sts_size post + 1
+      st_size (range (over_int e) key value body) = size e + 1 + 2 + lefts_size (key ∷ []) + sts_size body + 3
+      st_size break_off = 1
+      st_size go_on = 1
+      st_size (give_back es) = exs_size es + (values_size (all_wide p es) named + leave_size named)
+      st_size (print ln ps) = pieces_size ps + shown_size ln ps
+      st_size (raise at q) = piece_size q + 1
+      st_size (quit at e) = size e + 1
+
+      pub sts_size : Sts → ℕ
+      sts_size done = 0
+      sts_size (next s ss) = st_size s + sts_size ss
+
+    -- At a place, with temps from h on. A `break` goes on at `out`, and a `continue` at `again`. A round of `for` is its test, its body,
+    -- the new round's variables, the post statement and a jump back. `range` over a number keeps that in temp h, and the index above it.
+    abbrev mutual
+      pub st_code : Slots → St → (h out again pc : ℕ) → List Instr
+      st_code s (declare sites) h out again pc = zeros_code s sites
+      st_code s (assign ls es) h out again pc = exs_code s es h pc ++ lefts_code s (value_widths p es) ls (h + all_wide p es) h
+      st_code s (update at q op e) h out again pc =
+          read_code s q h ++ (ex_code s e (h + 1) (pc + (far q + 1)) ++ Bin (operation op) (temp s h) (temp s h) (temp s (h + 1)) ∷ write_code s q (h + 1) h)
+      st_code s (bump q op) h out again pc =
+          read_code s q h ++ (Const (temp s (h + 1)) 1 ∷ Bin (operation op) (temp s h) (temp s h) (temp s (h + 1)) ∷ write_code s q (h + 1) h)
+      st_code s (discard es) h out again pc = exs_code s es h pc
+      st_code s (block ss) h out again pc = sts_code s ss h out again pc
+      st_code s (choose e a b) h out again pc =
+          ex_code s e h pc
+          ++ (JumpZero (temp s h) (pc + size e + 1 + sts_size a + 1)
+          ∷ (sts_code s a h out again (pc + size e + 1) ++ (Jump (pc + size e + 1 + sts_size a + 1 + sts_size b) ∷ sts_code s b h out again (pc + size e + 1 + sts_size a + 1))))
+      st_code s (loop sites test post body) h out again pc =
+          let inside = pc + test_size test in
+          let turn = inside + sts_size body in
+          let behind = turn + renew_size sites + sts_size post + 1 in
+          test_code s test h pc behind
+          ++ (sts_code s body h behind turn inside ++ (renew_code s sites h ++ (sts_code s post h behind turn (turn + renew_size sites) ++ Jump pc ∷ [])))
+      st_code s (range (over_int e) key value body) h out again pc =
+          let test = pc + size e + 1 in
+          let inside = test + 2 + lefts_size (key ∷ []) in
+          let turn = inside + sts_size body in
+          let behind = turn + 3 in
+          ex_code s e h pc
+          ++ (Const (temp s (h + 1)) 0
+          ∷ (Bin Word.Less (temp s (h + 2)) (temp s (h + 1)) (temp s h)
+          ∷ (JumpZero (temp s (h + 2)) behind
+          ∷ (lefts_code s (1 ∷ []) (key ∷ []) (h + 2) (h + 1)
+          ++ (sts_code s body (h + 2) behind turn inside
+          ++ (Const (temp s (h + 2)) 1 ∷ Bin Word.Add (temp s (h + 1)) (temp s (h + 1)) (temp s (h + 2)) ∷ Jump test ∷ []))))))
+      st_code s break_off h out again pc = Jump out ∷ []
+      st_code s go_on h out again pc = Jump again ∷ []
+      st_code s (give_back es) h out again pc = exs_code s es h pc ++ (values_code s arguments (all_wide p es) named h ++ leave_code s arguments named)
+      st_code s (print ln ps) h out again pc = pieces_code s ps h pc ++ show_code s ln ps h
+      st_code s (raise at (text number)) h out again pc = PanicText number ∷ []
+      st_code s (raise at (shown t e)) h out again pc = ex_code s e h pc ++ raised_code t (temp s h) ∷ []
+      st_code s (quit at e) h out again pc = ex_code s e h pc ++ Exit (temp s h) ∷ []
+
+      pub sts_code : Slots → Sts → (h out again pc : ℕ) → List Instr
+      sts_code s done h out again pc = []
+      sts_code s (next x xs) h out again pc = st_code s x h out again pc ++ sts_code s xs h out again (pc + st_size x)
+
+  abbrev pub slots_of : Func → Slots
+  slots_of f = record { outgoing = outgoing_of p f; temps = temps_of p f; first = f.first; sites = p.sites }
+
+  -- what stands before a function's body
+  abbrev pub entry_code : Func → List Instr
+  entry_code f = params_code (slots_of f) (each_width f.param_types) f.params 0 ++ zeros_code (slots_of f) f.named
+
+  abbrev pub entry_size : Func → ℕ
+  entry_size f = params_size f.params + length f.named
+
+  -- the instructions of a function at a place; nothing is around its body that a `break` leaves
+  abbrev pub func_code : Func → ℕ → List Instr
+  func_code f pc =
+      entry_code f ++ (sts_code (argument_words f) f.named (slots_of f) f.body 0 0 0 (pc + entry_size f) ++ leave_code (slots_of f) (argument_words f) f.named)
+
+  abbrev pub func_size : Func → ℕ
+  func_size f = entry_size f + (sts_size (argument_words f) f.named f.body + leave_size f.named)
+
+  abbrev pub entry_of : Func → ℕ → Entry
+  entry_of f pc = record { frame = frame_of p f; arguments = argument_words f; results = result_words f; start = pc }
+
+  -- functions one behind the other, from a place and a number on
+  abbrev pub funcs_code : List Func → (pc : ℕ) → List Instr
+  funcs_code [] pc = []
+  funcs_code (f ∷ gs) pc = func_code f pc ++ funcs_code gs (pc + func_size f)
+
+  abbrev pub funcs_owners : List Func → (number : ℕ) → List ℕ
+  funcs_owners [] number = []
+  funcs_owners (f ∷ gs) number = replicate (func_size f) number ++ funcs_owners gs (number + 1)
+
+  abbrev pub funcs_entries : List Func → (pc : ℕ) → List Entry
+  funcs_entries [] pc = []
+  funcs_entries (f ∷ gs) pc = entry_of f pc ∷ funcs_entries gs (pc + func_size f)
+
+-- the code of a program
+abbrev pub code_of : Program → Tables
+code_of p = record {
+  instrs = funcs_code p p.funcs 0;
+  owners = funcs_owners p p.funcs 0;
+  funcs = funcs_entries p p.funcs 0;
+  strings = p.strings;
+}

@@ -1,0 +1,93 @@
+-- What the code of a program does, against what the program means.
+use Rattle.std.specs.Prelude.{◌≡◌, ◌≢◌, ⊤, ℕ, zero, suc, ◌*◌, ◌^◌, ◌≤◌, List, [], ◌∷◌, ◌++◌, length, replicate, get_or, slice_get, Option, Some, None, Result, Ok, Err, nat_le, if◌then◌else◌, IfSome, FitsSigned}
+use Rattle.std.specs.Int.{w64}
+use Rattle.base.specs.declared.pos.Pos.{Pos}
+use Rattle.typed.specs.declared.expr.Const.{Const}
+use Rattle.value_trees.specs.Value.{Value, int, bool}
+use Rattle.typed.specs.Syntax.{Program}
+use Rattle.typed.specs.View.{value_of}
+use Rattle.typed.specs.Frames.{frame_words}
+use Rattle.typed.specs.Placement.{on_heap}
+use Rattle.meaning.specs.Trace.{Ending, Exit, Panic, StackLimit, HeapLimit, Fault, divide_by_zero, shift_count, exit_code, raised_text, raised}
+use Rattle.meaning.specs.Meaning.{Item}
+use Rattle.meaning.specs.Output.{Limits, Sight, printing, asking, source, output}
+use Rattle.simulation.specs.Outcome.{Outcome, Gives, Ends, Unfinished, Below, ending_in}
+use Rattle.simulation.specs.Steps.{exec}
+use Rattle.heap_bump.specs.Words.{Words}
+use Rattle.isa.specs.Code.{Tables}
+use Rattle.isa.specs.declared.func.Func.{Func as Entry}
+use Rattle.machine.specs.Machine.{State, Event, Printed, Asked, act}
+use Rattle.machine.specs.declared.place.Ending.{Ending as Stop}
+use Rattle.machine.specs.declared.place.Ending.TheVariants as Machine
+use Rattle.machine.specs.declared.place.Panic.{Panic as MachinePanic}
+use Rattle.machine.specs.declared.place.Panic.TheVariants as machine_panic
+use Rattle.simulated_code.specs.Code.{word_of, code_of}
+use Rattle.typed.specs.Form.{IsInForm}
+
+abbrev pub same_event : Sight → Event → Type 0
+same_event (printing bytes) e = e ≡ Printed bytes
+same_event asking e = e ≡ Asked
+
+-- each number among the items of the input is one of 64 bits with a sign
+abbrev pub AreNumbers : (ℕ → Item) → Type 0
+AreNumbers items = (k : ℕ) → IfSome (items k) (FitsSigned w64)
+
+-- a panic of the source, and one of the machine, which names a string by its number in a table
+abbrev pub same_fault : List (List ℕ) → Fault → MachinePanic → Type 0
+same_fault strings divide_by_zero machine_panic.DivideByZero = ⊤
+same_fault strings (shift_count z) (machine_panic.ShiftCount y) = z ≡ y
+same_fault strings (exit_code z) (machine_panic.ExitCode y) = z ≡ y
+same_fault strings (raised_text bytes) (machine_panic.Text number) = bytes ≡ get_or strings number []
+same_fault strings (raised (int z)) (machine_panic.Int y) = z ≡ y
+same_fault strings (raised (bool b)) (machine_panic.Bool c) = b ≡ c
+same_fault strings f x = ⊥
+
+abbrev pub same_end : List (List ℕ) → Ending → Stop → Type 0
+same_end strings (Exit n) (Machine.Exit m) = n ≡ m
+same_end strings (Panic at f) (Machine.Panic x) = same_fault strings f x
+same_end strings (StackLimit used asked max) (Machine.StackLimit u a m) = (used ≡ u) × (asked ≡ a) × (max ≡ m)
+same_end strings (HeapLimit used asked max) (Machine.HeapLimit u a m) = (used ≡ u) × (asked ≡ a) × (max ≡ m)
+same_end strings e f = ⊥
+
+-- the limits under which a program's source is taken: the most words of the stack and of the heap
+abbrev pub limits : Program → (stack_max heap_max : ℕ) → Limits
+limits p stack_max heap_max = record { frame = frame_words p; on_heap = on_heap p; stack_max = stack_max; heap_max = heap_max }
+
+-- the words that package variables begin with
+abbrev pub first_words : List (ℕ × Value) → List ℕ
+first_words [] = []
+first_words (g ∷ gs) = word_of g.1 ∷ first_words gs
+
+-- the same of data: the zero value of each type stands as 0
+abbrev pub begun_word : Option Const → ℕ
+begun_word None = 0
+begun_word (Some c) = word_of (value_of c)
+
+-- a function is entered, with no words of the stack in use before, and with a heap
+abbrev pub first_state : Entry → Words → State
+first_state f heap = record { pc = f.start; words = replicate f.frame 0; reads = 0; heap = heap }
+
+abbrev pub entered : Tables → (ℕ → Item) → (stack_max : ℕ) → Words → Option Entry → ℕ → Outcome Event Stop
+entered code items stack_max heap None k = Unfinished
+entered code items stack_max heap (Some f) k =
+    if nat_le f.frame stack_max then exec (act code stack_max items) k (first_state f heap) else Ends (Machine.StackLimit 0 f.frame stack_max)
+
+-- What the code shows in at most k instructions from the entry of the function `main`, where these are the items of the
+-- input, and the stack and the heap have at most so many words. The package variables come first: each takes a word of the
+-- heap, so the first that has no room finds the heap full.
+abbrev pub target : Tables → (ℕ → Item) → (globals : List ℕ) → (main stack_max heap_max : ℕ) → ℕ → Outcome Event Stop
+target code items globals main stack_max heap_max k =
+    if nat_le (length globals) heap_max then entered code items stack_max (record { words = globals; max = heap_max }) (slice_get code.funcs main) k
+    else Ends (Machine.HeapLimit heap_max 1 heap_max)
+
+-- a turn is 1 to 16 instructions: what n turns show is shown by 16 * n instructions, and what k instructions show is
+-- shown by k turns
+pub record Simulated (p : Program) (code : Tables) : Type 0 where
+  pub at_least : (items : ℕ → Item) → AreNumbers items → (stack_max heap_max n k : ℕ) → heap_max ≤ 2 ^ 32 → 16 * n ≤ k
+      → Below same_event (same_end p.strings) (source items p (limits p stack_max heap_max) n) (target code items (first_words p.globals) p.main stack_max heap_max k)
+  pub at_most : (items : ℕ → Item) → AreNumbers items → (stack_max heap_max k : ℕ) → heap_max ≤ 2 ^ 32
+      → Below (λ d e. same_event e d) (λ d e. same_end p.strings e d) (target code items (first_words p.globals) p.main stack_max heap_max k) (source items p (limits p stack_max heap_max) k)
+
+-- the code of a program in form does what the program means
+abbrev pub CodeSimulates : Type 0
+CodeSimulates = (p : Program) → IsInForm p → Simulated p (code_of p)
