@@ -20,7 +20,8 @@ use Rattle.machine.specs.Answers.{Answers, ReadInOrder, ReadsUpTo, WithAnswers, 
 use Rattle.machine.specs.declared.place.Panic.{Panic as MachinePanic}
 use Rattle.machine.specs.declared.place.Ending.{Ending as Stop}
 use Rattle.machine.specs.declared.place.Ending.TheVariants.{Exit as Stopped, Panic as Panicked, ReadFault, WriteFault, NoMemory, StackLimit as Limit, HeapLimit as Full, WildReturn, WildLink, WildAddress}
-use Rattle.codegen.specs.Correct.{same_event, same_fault, same_end, limits, first_words, target, entered, first_state, Simulated, AreNumbers, asks_of, AsksFor, Ran, ReadBy, answer_to}
+use Rattle.simulated_code.specs.Correct.{same_event, same_fault, same_end, limits, first_words, target, entered, first_state, Simulated, AreNumbers}
+use Rattle.codegen.specs.Runs.{asks_of, AsksFor, Ran, ReadBy, answer_to}
 use Rattle.codegen.specs.declared.running.RunFault.{RunFault}
 use Rattle.codegen.specs.declared.running.RunFault.TheVariants as fault
 

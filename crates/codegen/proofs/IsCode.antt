@@ -1,6 +1,6 @@
 -- The code of a program is a code.
 use Rattle.std.proofs.Common.{◌≡◌, ◌⊎◌, inl, inr, ℕ, zero, suc, ◌+◌, ◌-◌, ◌<◌, ◌≤◌, Bool, true, false, List, [], ◌∷◌, ◌++◌, length, Some, refl, sym, ap, ◌∙◌, subst, arith, length-append, append_assoc}
-use Rattle.std.specs.Prelude.{Option, None, slice_get, ⊤, ◌==◌, if◌then◌else◌}
+use Rattle.std.specs.Prelude.{Option, None, slice_get, ⊤}
 use Rattle.std.proofs.lemmas.Option.{slice_get_within}
 use Rattle.isa.specs.Code.{Tables, CanCall, Fits as FitsAt, FitsPlace, IsCode, IsLinked}
 use Rattle.isa.specs.declared.func.Func.{Func as Entry}
@@ -10,13 +10,15 @@ use Rattle.isa.specs.declared.instr.Instr.TheVariants.{Const, Zero, Move, MoveWo
 use Rattle.machine.specs.Inside.{Inside}
 use Rattle.typed.specs.declared.operators.UnOp.{UnOp}
 use Rattle.typed.specs.declared.operators.UnOp.TheVariants as One
-use Rattle.typed.specs.Syntax.{Ex, Exs, Pl, Left, Piece, St, Sts, Func, Program, constant, read, unary, binary, both, either, call, local, global, here, none, more, results, asked, blank, new, to, text, shown, over_int, declare, assign, update, bump, discard, block, choose, loop, range, break_off, go_on, give_back, print, raise, quit, done, next, bool_type, arguments_in, results_in, argument_words, result_words, arguments_of, results_of}
+use Rattle.value_trees.specs.Types.{ValueType, ints, bools, struct_of, array_of, width}
+use Rattle.typed.specs.Syntax.{Ex, Exs, Steps, Pl, Left, Piece, St, Sts, Func, Program, constant, read, unary, binary, both, either, call, local, global, none, more, results, asked, blank, new, to, text, shown, over_int, declare, assign, update, bump, discard, block, choose, loop, range, break_off, go_on, give_back, print, raise, quit, done, next, all_width, each_width, arguments_in, results_in, argument_words, result_words, arguments_of, results_of, site_width, path_of, wide, all_wide, value_widths}
 use Rattle.typed.specs.Form.{scope_in, body_first, IsInForm}
-use Rattle.typed.specs.Frames.{far, frame_of}
-use Rattle.codegen.specs.Temps.{SiteFits, PlaceFits, AddressFits, SitesFit, ParamsFitIn, LeftsFitIn, ValuesFit, RenewFits, CallFits, Fits, ExsFitIn, PiecesFitIn, TestFitsIn, StFitsIn, StsFitIn, FuncFitsIn}
-use Rattle.codegen.specs.Code.{Slots, temp, site_slot, operation, unary_code, address_code, fetch_code, land_code, read_code, write_code, move_code, result_code, call_code, count_of, ex_code, exs_code, pieces_code, test_code, shown_code, raised_code, show_more, show_plain, show_code, lefts_code, lefts_size, named_write_code, named_read_code, leave_code, values_code, params_code, zeros_code, renew_code, renew_size, size, exs_size, pieces_size, test_size, st_size, sts_size, st_code, sts_code, slots_of, entry_code, entry_size, func_code, func_size, entry_of, funcs_code, funcs_owners, funcs_entries, code_of}
-use Rattle.codegen.proofs.Sizes.{length_func}
-use Rattle.codegen.proofs.Stands.{same_some, start_of, some_size, length_owners, stands, located, entered_from, exists}
+use Rattle.typed.specs.Frames.{far, words_between, frame_of}
+use Rattle.codegen.specs.Temps.{SiteFits, PlaceFits, AddressFits, SitesFit, sites_words, reached, ParamsFitIn, LeftsFitIn, ValuesFit, RenewFits, CallFits, Fits, ExsFitIn, PiecesFitIn, TestFitsIn, StFitsIn, StsFitIn, FuncFitsIn}
+use Rattle.simulated_code.specs.Code.{Slots, temp, site_slot, part_slot, part_words, moves, zeros, first_width, other_widths, operation, unary_code, address_code, fetch_code, land_code, read_code, write_code, move_code, result_code, call_code, ex_code, exs_code, pieces_code, test_code, shown_code, raised_code, show_more, show_plain, show_code, lefts_code, lefts_size, named_write_code, named_read_code, leave_code, values_code, params_code, zeros_code, renew_code, renew_size, size, exs_size, pieces_size, test_size, st_size, sts_size, st_code, sts_code, slots_of, entry_code, entry_size, func_code, func_size, entry_of, funcs_code, funcs_owners, funcs_entries, code_of}
+use Rattle.simulated_code.proofs.Sizes.{length_func}
+use Rattle.simulated_code.proofs.Stands.{same_some, start_of, some_size, length_owners, stands, located, entered_from, exists}
+use Rattle.codegen.proofs.InSlots.{site_within}
 use Rattle.codegen.proofs.Suffice.{func_fits}
 use Rattle.codegen.proofs.Within.{PiecesWithin, StWithin, StsWithin, sts_within}
 
@@ -58,10 +60,17 @@ module _ (fns : List Entry) (strings slots incoming start end : ℕ) where
   All [] = ⊤
   All (i ∷ is) = Ok i × All is
 
-module _ (fs : List Func) (s : Slots) (n : ℕ) (fns : List Entry) (strings arguments wanted start end : ℕ)
-    (can : (f : ℕ) → f < length fs → arguments_of fs f + results_of fs f ≤ s.outgoing → CanCall fns (s.outgoing + s.temps + n) f) where
+-- the code of a function of which these are the slots
+module _ (p : Program) (solid : (site : ℕ) → 0 < site_width p site) (outgoing temps first n : ℕ) (fns : List Entry) (strings arguments wanted start end : ℕ)
+    (can : (f : ℕ) → f < length p.funcs → arguments_of p f + results_of p f ≤ outgoing → CanCall fns (outgoing + temps + words_between p.sites first n) f) where
+  abbrev s : Slots
+  s = record { outgoing = outgoing; temps = temps; first = first; sites = p.sites }
+
+  abbrev room : ℕ
+  room = outgoing + temps + words_between p.sites first n
+
   abbrev Are : List Instr → Type 0
-  Are is = All fns strings (s.outgoing + s.temps + n) (arguments + wanted) start end is
+  Are is = All fns strings room (arguments + wanted) start end is
 
   -- a place of the function
   abbrev Here : ℕ → Type 0
@@ -71,231 +80,259 @@ module _ (fs : List Func) (s : Slots) (n : ℕ) (fns : List Entry) (strings argu
   join [] b f g = g
   join (i ∷ a) b f g = (f.0, join a b f.1 g)
 
-  site_in : (site : ℕ) → SiteFits s n site → site_slot s site < s.outgoing + s.temps + n
-  site_in site f = let a = f.0 in let b = f.1 in omega (arith, a, b)
+  site_in : (site : ℕ) → SiteFits s n site → site_slot s site + site_width p site ≤ room
+  site_in site f = let l = site_within s n site f in omega (arith, l)
 
-  temp_in : (site : ℕ) → SiteFits s n site → temp s 0 < s.outgoing + s.temps + n
-  temp_in site f = let a = f.0 in let b = f.1 in omega (arith, a, b)
+  temp_in : (site : ℕ) → SiteFits s n site → temp s 0 + site_width p site ≤ room
+  temp_in site f = let l = site_within s n site f in omega (arith, l)
 
-  move_ok : (m a b : ℕ) → a + m ≤ s.outgoing + s.temps + n → b + m ≤ s.outgoing + s.temps + n → Are (move_code m a b)
+  moves_ok : (m a b : ℕ) (is : List Instr) → 0 < m → a + m ≤ room → b + m ≤ room → Are is → Are (moves m a b ∷ is)
+  moves_ok zero a b is some f g k = absurd (omega (arith, some))
+  moves_ok (suc zero) a b is some f g k = ((omega (arith, f), omega (arith, g)), k)
+  moves_ok (suc (suc m)) a b is some f g k = ((omega arith, f, g), k)
+
+  zeroed_ok : (m a : ℕ) (is : List Instr) → 0 < m → a + m ≤ room → Are is → Are (zeros m a ∷ is)
+  zeroed_ok zero a is some f k = absurd (omega (arith, some))
+  zeroed_ok (suc zero) a is some f k = (omega (arith, f), k)
+  zeroed_ok (suc (suc m)) a is some f k = ((omega arith, f), k)
+
+  move_ok : (m a b : ℕ) → a + m ≤ room → b + m ≤ room → Are (move_code m a b)
   move_ok zero a b f g = tt
   move_ok (suc m) a b f g = ((omega arith, f, g), tt)
 
-  result_ok : (m a b : ℕ) → a + m ≤ s.outgoing + s.temps + n → b + m ≤ arguments + wanted → Are (result_code m a b)
+  result_ok : (m a b : ℕ) → a + m ≤ room → b + m ≤ arguments + wanted → Are (result_code m a b)
   result_ok zero a b f g = tt
   result_ok (suc m) a b f g = ((omega arith, f, g), tt)
 
-  call_ok : (f h : ℕ) → CallFits fs s n h f → Are (call_code fs s f h)
-  call_ok f h (there, few, room, ins, outs) =
-      let given = arguments_of fs f in let gets = results_of fs f in
+  call_ok : (f h : ℕ) → CallFits p s n h f → Are (call_code p s f h)
+  call_ok f h (there, few, calls, ins, outs) =
+      let given = arguments_of p f in let gets = results_of p f in
       join (move_code given 0 (temp s h)) (Call f ∷ move_code gets (temp s h) given) (move_ok given 0 (temp s h) (omega arith) (omega arith))
-      (can f there room, move_ok gets (temp s h) given (omega arith) (omega arith))
+      (can f there calls, move_ok gets (temp s h) given (omega arith) (omega arith))
 
-  unary_ok : (op : UnOp) (h : ℕ) → h < s.temps → Are (unary_code op (temp s h) ∷ [])
+  unary_ok : (op : UnOp) (h : ℕ) → h < temps → Are (unary_code op (temp s h) ∷ [])
   unary_ok One.Plus h l = ((omega arith, omega arith), tt)
   unary_ok One.Negate h l = ((omega arith, omega arith), tt)
   unary_ok One.Complement h l = ((omega arith, omega arith), tt)
   unary_ok One.Not h l = ((omega arith, omega arith), tt)
 
-  address_ok : (q : Pl) (at : ℕ) (is : List Instr) → AddressFits s.temps at q → Are is → Are (address_code s q at ++ is)
-  address_ok (local site here) at is a g = g
-  address_ok (global number here) at is a g = ((omega arith), g)
+  address_ok : (q : Pl) (at : ℕ) (is : List Instr) → AddressFits temps at q → Are is → Are (address_code s q at ++ is)
+  address_ok (local site steps) at is a g = g
+  address_ok (global number steps) at is a g = (omega arith, g)
 
-  fetch_ok : (q : Pl) (at h : ℕ) (is : List Instr) → h < s.temps → PlaceFits s n q → AddressFits s.temps at q → Are is → Are (fetch_code s q at h ∷ is)
-  fetch_ok (local site here) at h is l f a g = (((omega arith), site_in site f), g)
-  fetch_ok (global number here) at h is l f a g = ((omega arith, omega arith, omega arith), g)
+  -- a part of a variable is in its slots
+  part_in : (site : ℕ) (steps : Steps) → PlaceFits s n (local site steps) → part_slot s site (path_of steps) + part_words s site (path_of steps) ≤ room
+  part_in site steps f = let l = site_in site f.0 in let k = f.2 in omega (arith, l, k)
 
-  land_ok : (q : Pl) (at h : ℕ) (is : List Instr) → h < s.temps → PlaceFits s n q → AddressFits s.temps at q → Are is → Are (land_code s q at h ∷ is)
-  land_ok (local site here) at h is l f a g = ((site_in site f, (omega arith)), g)
-  land_ok (global number here) at h is l f a g = ((omega arith, omega arith, omega arith), g)
+  fetch_ok : (q : Pl) (at h : ℕ) (is : List Instr) → h + reached s q ≤ temps → PlaceFits s n q → AddressFits temps at q → Are is → Are (fetch_code s q at h ∷ is)
+  fetch_ok (local site steps) at h is l f a g = moves_ok (part_words s site (path_of steps)) (temp s h) (part_slot s site (path_of steps)) is f.1 (omega (arith, l)) (part_in site steps f) g
+  fetch_ok (global number steps) at h is l f a g = ((omega arith, omega arith, omega arith), g)
+
+  land_ok : (q : Pl) (at h : ℕ) (is : List Instr) → h + reached s q ≤ temps → PlaceFits s n q → AddressFits temps at q → Are is → Are (land_code s q at h ∷ is)
+  land_ok (local site steps) at h is l f a g = moves_ok (part_words s site (path_of steps)) (part_slot s site (path_of steps)) (temp s h) is f.1 (part_in site steps f) (omega (arith, l)) g
+  land_ok (global number steps) at h is l f a g = ((omega arith, omega arith, omega arith), g)
 
   -- a temp can have an address
-  room_at : (q : Pl) (h : ℕ) → h < s.temps → AddressFits s.temps h q
-  room_at (local site here) h l = tt
-  room_at (global number here) h l = l
+  room_at : (q : Pl) (h : ℕ) → h + reached s q ≤ temps → AddressFits temps h q
+  room_at (local site steps) h l = tt
+  room_at (global number steps) h l = omega arith
 
-  read_ok : (q : Pl) (h : ℕ) → h < s.temps → PlaceFits s n q → Are (read_code s q h)
+  read_ok : (q : Pl) (h : ℕ) → h + reached s q ≤ temps → PlaceFits s n q → Are (read_code s q h)
   read_ok q h l f = address_ok q h (fetch_code s q h h ∷ []) (room_at q h l) (fetch_ok q h h [] l f (room_at q h l) tt)
 
-  write_ok : (q : Pl) (at h : ℕ) → h < s.temps → PlaceFits s n q → AddressFits s.temps at q → Are (write_code s q at h)
+  write_ok : (q : Pl) (at h : ℕ) → h + reached s q ≤ temps → PlaceFits s n q → AddressFits temps at q → Are (write_code s q at h)
   write_ok q at h l f a = address_ok q at (land_code s q at h ∷ []) a (land_ok q at h [] l f a tt)
 
+  -- an address in a temp above a word
+  above_ok : (q : Pl) (h : ℕ) → h < temps → AddressFits temps h q
+  above_ok (local site steps) h l = tt
+  above_ok (global number steps) h l = l
+
   mutual
-    ex_ok : (e : Ex) (h pc : ℕ) → Fits fs s n h e → start ≤ pc → pc + size fs e < end → Are (ex_code fs s e h pc)
+    ex_ok : (e : Ex) (h pc : ℕ) → Fits p s n h e → start ≤ pc → pc + size p e < end → Are (ex_code p s e h pc)
     ex_ok (constant v) h pc f a l = (omega arith, tt)
     ex_ok (read q) h pc f a l = read_ok q h f.0 f.1
-    ex_ok (unary op e) h pc f a l = join (ex_code fs s e h pc) (unary_code op (temp s h) ∷ []) (ex_ok e h pc f.1 a (omega arith)) (unary_ok op h f.0)
+    ex_ok (unary op e) h pc f a l = join (ex_code p s e h pc) (unary_code op (temp s h) ∷ []) (ex_ok e h pc f.1 a (omega arith)) (unary_ok op h f.0)
     ex_ok (binary at o x y) h pc f a l =
-        let k = f.0 in let i = Bin (operation o) (temp s h) (temp s h) (temp s (h + 1)) in let py = pc + size fs x in
-        join (ex_code fs s x h pc) (ex_code fs s y (h + 1) py ++ i ∷ []) (ex_ok x h pc f.1 a (omega arith))
-        (join (ex_code fs s y (h + 1) py) (i ∷ []) (ex_ok y (h + 1) py f.2 (omega arith) (omega arith)) ((omega arith, omega arith, omega arith), tt))
+        let k = f.0 in let i = Bin (operation o) (temp s h) (temp s h) (temp s (h + 1)) in let py = pc + size p x in
+        join (ex_code p s x h pc) (ex_code p s y (h + 1) py ++ i ∷ []) (ex_ok x h pc f.1 a (omega arith))
+        (join (ex_code p s y (h + 1) py) (i ∷ []) (ex_ok y (h + 1) py f.2 (omega arith) (omega arith)) ((omega arith, omega arith, omega arith), tt))
     ex_ok (both x y) h pc f a l =
-        let k = f.0 in let py = pc + size fs x + 1 in
-        join (ex_code fs s x h pc) (JumpZero (temp s h) (py + size fs y) ∷ ex_code fs s y h py) (ex_ok x h pc f.1 a (omega arith))
+        let k = f.0 in let py = pc + size p x + 1 in
+        join (ex_code p s x h pc) (JumpZero (temp s h) (py + size p y) ∷ ex_code p s y h py) (ex_ok x h pc f.1 a (omega arith))
         ((omega arith, (omega arith, omega arith)), ex_ok y h py f.2 (omega arith) (omega arith))
     ex_ok (either x y) h pc f a l =
-        let k = f.0 in let py = pc + size fs x + 2 in
-        join (ex_code fs s x h pc) (JumpZero (temp s h) py ∷ Jump (py + size fs y) ∷ ex_code fs s y h py) (ex_ok x h pc f.1 a (omega arith))
+        let k = f.0 in let py = pc + size p x + 2 in
+        join (ex_code p s x h pc) (JumpZero (temp s h) py ∷ Jump (py + size p y) ∷ ex_code p s y h py) (ex_ok x h pc f.1 a (omega arith))
         ((omega arith, (omega arith, omega arith)), ((omega arith, omega arith), ex_ok y h py f.2 (omega arith) (omega arith)))
-    ex_ok (call g es) h pc f a l = join (exs_code fs s es h pc) (call_code fs s g h) (exs_ok es h pc f.1 a (omega arith)) (call_ok g h f.0)
+    ex_ok (call g es) h pc f a l = join (exs_code p s es h pc) (call_code p s g h) (exs_ok es h pc f.1 a (omega arith)) (call_ok g h f.0)
 
-    exs_ok : (es : Exs) (h pc : ℕ) → ExsFitIn fs s n h es → start ≤ pc → pc + exs_size fs es < end → Are (exs_code fs s es h pc)
+    exs_ok : (es : Exs) (h pc : ℕ) → ExsFitIn p s n h es → start ≤ pc → pc + exs_size p es < end → Are (exs_code p s es h pc)
     exs_ok none h pc f a l = tt
     exs_ok (more e es) h pc f a l =
-        join (ex_code fs s e h pc) (exs_code fs s es (h + 1) (pc + size fs e)) (ex_ok e h pc f.1 a (omega arith)) (exs_ok es (h + 1) (pc + size fs e) f.2 (omega arith) (omega arith))
-    exs_ok (results g es) h pc f a l = join (exs_code fs s es h pc) (call_code fs s g h) (exs_ok es h pc f.1 a (omega arith)) (call_ok g h f.0)
+        join (ex_code p s e h pc) (exs_code p s es (h + wide p e) (pc + size p e)) (ex_ok e h pc f.1 a (omega arith)) (exs_ok es (h + wide p e) (pc + size p e) f.2 (omega arith) (omega arith))
+    exs_ok (results g es) h pc f a l = join (exs_code p s es h pc) (call_code p s g h) (exs_ok es h pc f.1 a (omega arith)) (call_ok g h f.0)
     exs_ok asked h pc f a l = (omega arith, tt)
 
-  pieces_ok : (ps : List Piece) (h pc : ℕ) → PiecesFitIn fs s n h ps → start ≤ pc → pc + pieces_size fs ps < end → Are (pieces_code fs s ps h pc)
+  pieces_ok : (ps : List Piece) (h pc : ℕ) → PiecesFitIn p s n h ps → start ≤ pc → pc + pieces_size p ps < end → Are (pieces_code p s ps h pc)
   pieces_ok [] h pc f a l = tt
   pieces_ok (text number ∷ ps) h pc f a l = pieces_ok ps h pc f a (omega arith)
   pieces_ok (shown t e ∷ ps) h pc f a l =
-      join (ex_code fs s e h pc) (pieces_code fs s ps (h + 1) (pc + size fs e)) (ex_ok e h pc f.1 a (omega arith)) (pieces_ok ps (h + 1) (pc + size fs e) f.2 (omega arith) (omega arith))
+      join (ex_code p s e h pc) (pieces_code p s ps (h + 1) (pc + size p e)) (ex_ok e h pc f.1 a (omega arith)) (pieces_ok ps (h + 1) (pc + size p e) f.2 (omega arith) (omega arith))
 
-  test_ok : (test : Option Ex) (h pc goal : ℕ) → TestFitsIn fs s n h test → start ≤ pc → pc + test_size fs test < end → Here goal → Are (test_code fs s test h pc goal)
+  test_ok : (test : Option Ex) (h pc goal : ℕ) → TestFitsIn p s n h test → start ≤ pc → pc + test_size p test < end → Here goal → Are (test_code p s test h pc goal)
   test_ok None h pc goal f a l g = tt
   test_ok (Some e) h pc goal f a l g =
-      let k = f.0 in join (ex_code fs s e h pc) (JumpZero (temp s h) goal ∷ []) (ex_ok e h pc f.1 a (omega arith)) ((omega arith, g), tt)
+      let k = f.0 in join (ex_code p s e h pc) (JumpZero (temp s h) goal ∷ []) (ex_ok e h pc f.1 a (omega arith)) ((omega arith, g), tt)
 
   -- a value of any type
-  value_ok : (t h : ℕ) (is : List Instr) → h < s.temps → Are is → Are (shown_code t (temp s h) ∷ is)
-  value_ok t h is l g = by (t == bool_type)
-    where
-      by : (b : Bool) → Are ((if b then PrintBool (temp s h) else PrintInt (temp s h)) ∷ is)
-      by true = (omega arith, g)
-      by false = (omega arith, g)
+  value_ok : (t : ValueType) (h : ℕ) (is : List Instr) → h < temps → Are is → Are (shown_code t (temp s h) ∷ is)
+  value_ok ints h is l g = (omega arith, g)
+  value_ok bools h is l g = (omega arith, g)
+  value_ok (struct_of ts) h is l g = (omega arith, g)
+  value_ok (array_of m t) h is l g = (omega arith, g)
 
-  raised_ok : (t h : ℕ) → h < s.temps → Are (raised_code t (temp s h) ∷ [])
-  raised_ok t h l = by (t == bool_type)
-    where
-      by : (b : Bool) → Are ((if b then PanicBool (temp s h) else PanicInt (temp s h)) ∷ [])
-      by true = (omega arith, tt)
-      by false = (omega arith, tt)
+  raised_ok : (t : ValueType) (h : ℕ) → h < temps → Are (raised_code t (temp s h) ∷ [])
+  raised_ok ints h l = (omega arith, tt)
+  raised_ok bools h l = (omega arith, tt)
+  raised_ok (struct_of ts) h l = (omega arith, tt)
+  raised_ok (array_of m t) h l = (omega arith, tt)
 
-  more_ok : (ps : List Piece) (h : ℕ) → PiecesFitIn fs s n h ps → PiecesWithin strings ps → Are (show_more s ps h)
+  more_ok : (ps : List Piece) (h : ℕ) → PiecesFitIn p s n h ps → PiecesWithin strings ps → Are (show_more s ps h)
   more_ok [] h f w = (tt, tt)
   more_ok (text number ∷ ps) h f w = (tt, (w.0, more_ok ps h f w.1))
   more_ok (shown t e ∷ ps) h f w = (tt, value_ok t h (show_more s ps (h + 1)) f.0 (more_ok ps (h + 1) f.2 w.1))
 
-  plain_ok : (ps : List Piece) (h : ℕ) → PiecesFitIn fs s n h ps → PiecesWithin strings ps → Are (show_plain s ps h)
+  plain_ok : (ps : List Piece) (h : ℕ) → PiecesFitIn p s n h ps → PiecesWithin strings ps → Are (show_plain s ps h)
   plain_ok [] h f w = tt
   plain_ok (text number ∷ ps) h f w = (w.0, plain_ok ps h f w.1)
   plain_ok (shown t e ∷ ps) h f w = value_ok t h (show_plain s ps (h + 1)) f.0 (plain_ok ps (h + 1) f.2 w.1)
 
-  shown_ok : (line : Bool) (ps : List Piece) (h : ℕ) → PiecesFitIn fs s n h ps → PiecesWithin strings ps → Are (show_code s line ps h)
+  shown_ok : (line : Bool) (ps : List Piece) (h : ℕ) → PiecesFitIn p s n h ps → PiecesWithin strings ps → Are (show_code s line ps h)
   shown_ok true [] h f w = (tt, tt)
   shown_ok true (text number ∷ ps) h f w = (w.0, more_ok ps h f w.1)
   shown_ok true (shown t e ∷ ps) h f w = value_ok t h (show_more s ps (h + 1)) f.0 (more_ok ps (h + 1) f.2 w.1)
   shown_ok false ps h f w = plain_ok ps h f w
 
-  lefts_ok : (ls : List Left) (at h : ℕ) → LeftsFitIn s n at h ls → Are (lefts_code s ls at h)
-  lefts_ok [] at h f = tt
-  lefts_ok (blank ∷ ls) at h f = lefts_ok ls at (h + 1) f.1
-  lefts_ok (new site ∷ ls) at h f = ((site_in site f.1, (let k = f.0 in omega arith)), lefts_ok ls at (h + 1) f.2)
-  lefts_ok (to q ∷ ls) at h f = join (write_code s q at h) (lefts_code s ls at (h + 1)) (write_ok q at h f.0 f.1 f.2) (lefts_ok ls at (h + 1) f.3)
+  lefts_ok : (ns : List ℕ) (ls : List Left) (at h : ℕ) → LeftsFitIn s n at h ns ls → Are (lefts_code s ns ls at h)
+  lefts_ok ns [] at h f = tt
+  lefts_ok ns (blank ∷ ls) at h f = lefts_ok (other_widths ns) ls at (h + first_width ns) f.3
+  lefts_ok ns (new site ∷ ls) at h f =
+      let l = f.0 in let k = f.2 in
+      moves_ok (site_width p site) (site_slot s site) (temp s h) (lefts_code s (other_widths ns) ls at (h + first_width ns)) (solid site) (site_in site f.1) (omega (arith, l, k)) (lefts_ok (other_widths ns) ls at (h + first_width ns) f.3)
+  lefts_ok ns (to q ∷ ls) at h f =
+      let l = f.0 in let k = f.2 in
+      join (write_code s q at h) (lefts_code s (other_widths ns) ls at (h + first_width ns)) (write_ok q at h (omega (arith, l, k)) f.1.0 f.1.1) (lefts_ok (other_widths ns) ls at (h + first_width ns) f.3)
 
-  named_write_ok : (sites : List ℕ) (h : ℕ) → SitesFit s n sites → h + length sites ≤ s.temps → Are (named_write_code s sites h)
+  named_write_ok : (sites : List ℕ) (h : ℕ) → SitesFit s n sites → h + sites_words s sites ≤ temps → Are (named_write_code s sites h)
   named_write_ok [] h f l = tt
-  named_write_ok (site ∷ sites) h f l = ((site_in site f.0, omega arith), named_write_ok sites (h + 1) f.1 (omega arith))
+  named_write_ok (site ∷ sites) h f l =
+      moves_ok (site_width p site) (site_slot s site) (temp s h) (named_write_code s sites (h + site_width p site)) (solid site) (site_in site f.0) (omega (arith, l)) (named_write_ok sites (h + site_width p site) f.1 (omega (arith, l)))
 
-  named_read_ok : (sites : List ℕ) (i : ℕ) → SitesFit s n sites → i + length sites ≤ arguments + wanted → Are (named_read_code s sites i)
+  named_read_ok : (sites : List ℕ) (i : ℕ) → SitesFit s n sites → i + sites_words s sites ≤ arguments + wanted → Are (named_read_code s sites i)
   named_read_ok [] i f l = tt
   named_read_ok (site ∷ sites) i f l =
-      let t = temp_in site f.0 in
-      ((t, site_in site f.0), ((omega arith, omega (arith, t), omega arith), named_read_ok sites (i + 1) f.1 (omega arith)))
+      let w = site_width p site in let rest = named_read_code s sites (i + w) in
+      moves_ok w (temp s 0) (site_slot s site) (SetResults (temp s 0) i w ∷ rest) (solid site) (temp_in site f.0) (site_in site f.0)
+      ((solid site, temp_in site f.0, omega (arith, l)), named_read_ok sites (i + w) f.1 (omega (arith, l)))
 
-  leave_ok : (named : List ℕ) → SitesFit s n named → length named ≤ wanted → Are (leave_code s arguments named)
+  leave_ok : (named : List ℕ) → SitesFit s n named → sites_words s named ≤ wanted → Are (leave_code s arguments named)
   leave_ok named f l = join (named_read_code s named arguments) (Return ∷ []) (named_read_ok named arguments f (omega arith)) (tt, tt)
 
-  values_ok : (named : List ℕ) (k h : ℕ) → SitesFit s n named → ValuesFit s.temps wanted h k named → Are (values_code s arguments k named h)
-  values_ok [] k h f v = let a = v.0 in let b = v.1 in result_ok k (temp s h) arguments (omega arith) (omega arith)
+  values_ok : (named : List ℕ) (k h : ℕ) → SitesFit s n named → ValuesFit s wanted h k named → Are (values_code s arguments k named h)
+  values_ok [] k h f v = let a = v.0 in let b = v.1 in result_ok k (temp s h) arguments (omega (arith, a)) (omega (arith, b))
   values_ok (site ∷ sites) zero h f v = tt
-  values_ok (site ∷ sites) (suc k) h f v = named_write_ok (site ∷ sites) h f (omega (arith, v))
+  values_ok (site ∷ sites) (suc k) h f v = named_write_ok (site ∷ sites) h f v
 
-  params_ok : (ps : List (Option ℕ)) (i : ℕ) → ParamsFitIn s n ps → i + length ps ≤ arguments → Are (params_code s ps i)
-  params_ok [] i f l = tt
-  params_ok (None ∷ ps) i f l = params_ok ps (i + 1) f (omega arith)
-  params_ok (Some site ∷ ps) i f l = ((site_in site f.0, omega arith), params_ok ps (i + 1) f.1 (omega arith))
+  params_ok : (ts : List ValueType) (ps : List (Option ℕ)) (i : ℕ) → ParamsFitIn s n (each_width ts) ps → i + all_width ts ≤ arguments → Are (params_code s (each_width ts) ps i)
+  params_ok ts [] i f l = tt
+  params_ok [] (None ∷ ps) i f l = params_ok [] ps (i + 0) f.2 (omega (arith, l))
+  params_ok [] (Some site ∷ ps) i f l = absurd (let some = solid site in let none = f.1 in omega (arith, some, none))
+  params_ok (t ∷ ts) (None ∷ ps) i f l = params_ok ts ps (i + width t) f.2 (omega (arith, l))
+  params_ok (t ∷ ts) (Some site ∷ ps) i f l =
+      let some = solid site in let same = f.1 in let k = site_in site f.0 in
+      ((omega (arith, some, same), omega (arith, same, k), omega (arith, l)), params_ok ts ps (i + width t) f.2 (omega (arith, l)))
 
   zeros_ok : (sites : List ℕ) → SitesFit s n sites → Are (zeros_code s sites)
   zeros_ok [] f = tt
-  zeros_ok (site ∷ sites) f = (site_in site f.0, zeros_ok sites f.1)
+  zeros_ok (site ∷ sites) f = zeroed_ok (site_width p site) (site_slot s site) (zeros_code s sites) (solid site) (site_in site f.0) (zeros_ok sites f.1)
 
-  renew_ok : (sites : List ℕ) (h : ℕ) → SitesFit s n sites → h < s.temps → Are (renew_code s sites h)
-  renew_ok [] h f l = tt
-  renew_ok (site ∷ sites) h f l = ((omega arith, site_in site f.0), ((site_in site f.0, omega arith), renew_ok sites h f.1 l))
-
-  renewal_ok : (sites : List ℕ) (h : ℕ) → SitesFit s n sites → RenewFits s.temps h sites → Are (renew_code s sites h)
+  renewal_ok : (sites : List ℕ) (h : ℕ) → SitesFit s n sites → RenewFits s h sites → Are (renew_code s sites h)
   renewal_ok [] h f r = tt
-  renewal_ok (site ∷ sites) h f r = renew_ok (site ∷ sites) h f r
+  renewal_ok (site ∷ sites) h f r =
+      let w = site_width p site in let k = r.0 in let rest = renew_code s sites h in
+      moves_ok w (temp s h) (site_slot s site) (moves w (site_slot s site) (temp s h) ∷ rest) (solid site) (omega (arith, k)) (site_in site f.0)
+      (moves_ok w (site_slot s site) (temp s h) rest (solid site) (site_in site f.0) (omega (arith, k)) (renewal_ok sites h f.1 r.1))
 
-  module _ (named : List ℕ) (sites : SitesFit s n named) (names : length named ≤ wanted) where
+  module _ (named : List ℕ) (sites : SitesFit s n named) (names : sites_words s named ≤ wanted) where
     abbrev st_len : St → ℕ
-    st_len t = st_size fs arguments named t
+    st_len t = st_size p arguments named t
 
     abbrev sts_len : Sts → ℕ
-    sts_len ss = sts_size fs arguments named ss
+    sts_len ss = sts_size p arguments named ss
 
     abbrev code : Sts → (h out again pc : ℕ) → List Instr
-    code ss h out again pc = sts_code fs arguments named s ss h out again pc
+    code ss h out again pc = sts_code p arguments named s ss h out again pc
 
     -- inside a loop, `break` and `continue` have places to go to
     abbrev Around : (looped : Bool) (out again : ℕ) → Type 0
     Around looped out again = looped ≡ true → Here out × Here again
 
     mutual
-      st_ok : (looped : Bool) (t : St) (h out again pc : ℕ) → StFitsIn fs s n wanted named h t → StWithin strings looped t → Around looped out again → start ≤ pc → pc + st_len t < end → Are (st_code fs arguments named s t h out again pc)
+      st_ok : (looped : Bool) (t : St) (h out again pc : ℕ) → StFitsIn p s n wanted named h t → StWithin strings looped t → Around looped out again → start ≤ pc → pc + st_len t < end → Are (st_code p arguments named s t h out again pc)
       st_ok looped (declare births) h out again pc f w r a l = zeros_ok births f
-      st_ok looped (assign ls es) h out again pc f w r a l = join (exs_code fs s es h pc) (lefts_code s ls (h + length ls) h) (exs_ok es h pc f.1 a (omega arith)) (lefts_ok ls (h + length ls) h f.2)
+      st_ok looped (assign ls es) h out again pc f w r a l =
+          let ns = value_widths p es in let at = h + all_wide p es in
+          join (exs_code p s es h pc) (lefts_code s ns ls at h) (exs_ok es h pc f.1 a (omega arith)) (lefts_ok ns ls at h f.2)
       st_ok looped (update at q o e) h out again pc f w r a l =
-          let k = f.0 in
-          let i = Bin (operation o) (temp s h) (temp s h) (temp s (h + 1)) in let ce = ex_code fs s e (h + 1) (pc + (far q + 1)) in let cw = write_code s q (h + 1) h in
-          join (read_code s q h) (ce ++ i ∷ cw) (read_ok q h (omega arith) f.1)
-          (join ce (i ∷ cw) (ex_ok e (h + 1) (pc + (far q + 1)) f.2 (omega arith) (omega arith)) ((omega arith, omega arith, omega arith), write_ok q (h + 1) h (omega arith) f.1 (room_at q (h + 1) k)))
+          let k = f.0 in let one = f.2 in
+          let i = Bin (operation o) (temp s h) (temp s h) (temp s (h + 1)) in let ce = ex_code p s e (h + 1) (pc + (far q + 1)) in let cw = write_code s q (h + 1) h in
+          join (read_code s q h) (ce ++ i ∷ cw) (read_ok q h (omega (arith, k, one)) f.1)
+          (join ce (i ∷ cw) (ex_ok e (h + 1) (pc + (far q + 1)) f.3 (omega arith) (omega arith)) ((omega arith, omega arith, omega arith), write_ok q (h + 1) h (omega (arith, k, one)) f.1 (above_ok q (h + 1) k)))
       st_ok looped (bump q o) h out again pc f w r a l =
-          let k = f.0 in
+          let k = f.0 in let one = f.2 in
           let i = Bin (operation o) (temp s h) (temp s h) (temp s (h + 1)) in let cw = write_code s q (h + 1) h in
-          join (read_code s q h) (Const (temp s (h + 1)) 1 ∷ i ∷ cw) (read_ok q h (omega arith) f.1)
-          (omega arith, ((omega arith, omega arith, omega arith), write_ok q (h + 1) h (omega arith) f.1 (room_at q (h + 1) k)))
+          join (read_code s q h) (Const (temp s (h + 1)) 1 ∷ i ∷ cw) (read_ok q h (omega (arith, k, one)) f.1)
+          (omega arith, ((omega arith, omega arith, omega arith), write_ok q (h + 1) h (omega (arith, k, one)) f.1 (above_ok q (h + 1) k)))
       st_ok looped (discard es) h out again pc f w r a l = exs_ok es h pc f a l
       st_ok looped (block ss) h out again pc f w r a l = sts_ok looped ss h out again pc f w r a l
       st_ok looped (choose e x y) h out again pc f w r a l =
-          let k = f.0 in let pa = pc + size fs e + 1 in let pb = pa + sts_len x + 1 in
-          join (ex_code fs s e h pc) (JumpZero (temp s h) pb ∷ (code x h out again pa ++ Jump (pb + sts_len y) ∷ code y h out again pb)) (ex_ok e h pc f.1 a (omega arith)) (
+          let k = f.0 in let pa = pc + size p e + 1 in let pb = pa + sts_len x + 1 in
+          join (ex_code p s e h pc) (JumpZero (temp s h) pb ∷ (code x h out again pa ++ Jump (pb + sts_len y) ∷ code y h out again pb)) (ex_ok e h pc f.1 a (omega arith)) (
             (omega arith, (omega arith, omega arith)),
             join (code x h out again pa) (Jump (pb + sts_len y) ∷ code y h out again pb) (sts_ok looped x h out again pa f.2 w.0 r (omega arith) (omega arith))
                 ((omega arith, omega arith), sts_ok looped y h out again pb f.3 w.1 r (omega arith) (omega arith)),
           )
       st_ok looped (loop births test post body) h out again pc f w r a l =
-          let inside = pc + test_size fs test in
+          let inside = pc + test_size p test in
           let turn = inside + sts_len body in
           let last = turn + renew_size births in
           let behind = last + sts_len post + 1 in
           let here_behind : Here behind = (omega arith, omega arith) in
           let here_turn : Here turn = (omega arith, omega arith) in
           let cb = code body h behind turn inside in let cr = renew_code s births h in let cp = code post h behind turn last in
-          join (test_code fs s test h pc behind) (cb ++ (cr ++ (cp ++ Jump pc ∷ []))) (test_ok test h pc behind f.0 a (omega arith) here_behind)
+          join (test_code p s test h pc behind) (cb ++ (cr ++ (cp ++ Jump pc ∷ []))) (test_ok test h pc behind f.0 a (omega arith) here_behind)
           (join cb (cr ++ (cp ++ Jump pc ∷ [])) (sts_ok true body h behind turn inside f.4 w.1 (λ e. (here_behind, here_turn)) (omega arith) (omega arith))
           (join cr (cp ++ Jump pc ∷ []) (renewal_ok births h f.1 f.2)
           (join cp (Jump pc ∷ []) (sts_ok false post h behind turn last f.3 w.0 (λ e. (here_behind, here_turn)) (omega arith) (omega arith)) ((omega arith, omega arith), tt))))
       st_ok looped (range (over_int e) key value body) h out again pc f w r a l =
           let k = f.0 in
-          let test = pc + size fs e + 1 in
+          let test = pc + size p e + 1 in
           let inside = test + 2 + lefts_size (key ∷ []) in
           let turn = inside + sts_len body in
           let behind = turn + 3 in
           let here_behind : Here behind = (omega arith, omega arith) in
           let here_turn : Here turn = (omega arith, omega arith) in
-          let cl = lefts_code s (key ∷ []) (h + 2) (h + 1) in let cb = code body (h + 2) behind turn inside in
+          let cl = lefts_code s (1 ∷ []) (key ∷ []) (h + 2) (h + 1) in let cb = code body (h + 2) behind turn inside in
           let last : List Instr = Const (temp s (h + 2)) 1 ∷ Bin Word.Add (temp s (h + 1)) (temp s (h + 1)) (temp s (h + 2)) ∷ Jump test ∷ [] in
-          join (ex_code fs s e h pc) (Const (temp s (h + 1)) 0 ∷ Bin Word.Less (temp s (h + 2)) (temp s (h + 1)) (temp s h) ∷ JumpZero (temp s (h + 2)) behind ∷ (cl ++ (cb ++ last))) (ex_ok e h pc f.1 a (omega arith)) (
+          join (ex_code p s e h pc) (Const (temp s (h + 1)) 0 ∷ Bin Word.Less (temp s (h + 2)) (temp s (h + 1)) (temp s h) ∷ JumpZero (temp s (h + 2)) behind ∷ (cl ++ (cb ++ last))) (ex_ok e h pc f.1 a (omega arith)) (
             omega arith,
             (
               (omega arith, omega arith, omega arith),
               (
                 (omega arith, here_behind),
-                join cl (cb ++ last) (lefts_ok (key ∷ []) (h + 2) (h + 1) f.2)
-                    (join cb last (sts_ok true body (h + 2) behind turn inside f.3 w (λ e. (here_behind, here_turn)) (omega arith) (omega arith))
+                join cl (cb ++ last) (lefts_ok (1 ∷ []) (key ∷ []) (h + 2) (h + 1) (omega arith, f.2, f.3, tt))
+                    (join cb last (sts_ok true body (h + 2) behind turn inside f.4 w (λ e. (here_behind, here_turn)) (omega arith) (omega arith))
                     (omega arith, ((omega arith, omega arith, omega arith), ((omega arith, omega arith), tt)))),
               ),
             ),
@@ -303,17 +340,17 @@ module _ (fs : List Func) (s : Slots) (n : ℕ) (fns : List Entry) (strings argu
       st_ok looped break_off h out again pc f w r a l = ((r w).0, tt)
       st_ok looped go_on h out again pc f w r a l = ((r w).1, tt)
       st_ok looped (give_back es) h out again pc f w r a l =
-          let values = values_code s arguments (count_of fs es) named h in let leave = leave_code s arguments named in
-          join (exs_code fs s es h pc) (values ++ leave) (exs_ok es h pc f.0 a (omega arith)) (join values leave (values_ok named (count_of fs es) h sites f.1) (leave_ok named sites names))
-      st_ok looped (print line ps) h out again pc f w r a l = join (pieces_code fs s ps h pc) (show_code s line ps h) (pieces_ok ps h pc f a (omega arith)) (shown_ok line ps h f w)
+          let values = values_code s arguments (all_wide p es) named h in let leave = leave_code s arguments named in
+          join (exs_code p s es h pc) (values ++ leave) (exs_ok es h pc f.0 a (omega arith)) (join values leave (values_ok named (all_wide p es) h sites f.1) (leave_ok named sites names))
+      st_ok looped (print line ps) h out again pc f w r a l = join (pieces_code p s ps h pc) (show_code s line ps h) (pieces_ok ps h pc f a (omega arith)) (shown_ok line ps h f w)
       st_ok looped (raise at (text number)) h out again pc f w r a l = (w, tt)
-      st_ok looped (raise at (shown t e)) h out again pc f w r a l = join (ex_code fs s e h pc) (raised_code t (temp s h) ∷ []) (ex_ok e h pc f.1 a (omega arith)) (raised_ok t h f.0)
-      st_ok looped (quit at e) h out again pc f w r a l = let k = f.0 in join (ex_code fs s e h pc) (Exit (temp s h) ∷ []) (ex_ok e h pc f.1 a (omega arith)) (omega arith, tt)
+      st_ok looped (raise at (shown t e)) h out again pc f w r a l = join (ex_code p s e h pc) (raised_code t (temp s h) ∷ []) (ex_ok e h pc f.1 a (omega arith)) (raised_ok t h f.0)
+      st_ok looped (quit at e) h out again pc f w r a l = let k = f.0 in join (ex_code p s e h pc) (Exit (temp s h) ∷ []) (ex_ok e h pc f.1 a (omega arith)) (omega arith, tt)
 
-      sts_ok : (looped : Bool) (ss : Sts) (h out again pc : ℕ) → StsFitIn fs s n wanted named h ss → StsWithin strings looped ss → Around looped out again → start ≤ pc → pc + sts_len ss < end → Are (code ss h out again pc)
+      sts_ok : (looped : Bool) (ss : Sts) (h out again pc : ℕ) → StsFitIn p s n wanted named h ss → StsWithin strings looped ss → Around looped out again → start ≤ pc → pc + sts_len ss < end → Are (code ss h out again pc)
       sts_ok looped done h out again pc f w r a l = tt
       sts_ok looped (next x xs) h out again pc f w r a l =
-          join (st_code fs arguments named s x h out again pc) (code xs h out again (pc + st_len x)) (st_ok looped x h out again pc f.0 w.0 r a (omega arith)) (sts_ok looped xs h out again (pc + st_len x) f.1 w.1 r (omega arith) (omega arith))
+          join (st_code p arguments named s x h out again pc) (code xs h out again (pc + st_len x)) (st_ok looped x h out again pc f.0 w.0 r a (omega arith)) (sts_ok looped xs h out again (pc + st_len x) f.1 w.1 r (omega arith) (omega arith))
 
 all_at : (fns : List Entry) (strings slots incoming start end : ℕ) (xs : List Instr) (p : ℕ) (i : Instr) → All fns strings slots incoming start end xs → slice_get xs p ≡ Some i → Ok fns strings slots incoming start end i
 all_at fns strings slots incoming start end [] p i f h = absurd (no h)
@@ -371,97 +408,95 @@ module _ (owners : List ℕ) (f start end : ℕ) (own : (p : ℕ) → start ≤ 
   fits_at place slots incoming (PanicInt a) k (inr g) = k
   fits_at place slots incoming (PanicBool a) k (inr g) = k
 
-pub all_fit : (p : Program) → IsInForm p → (f : ℕ) (func : Func) → slice_get p.funcs f ≡ Some func → FuncFitsIn p.funcs func
+pub all_fit : (p : Program) → IsInForm p → (f : ℕ) (func : Func) → slice_get p.funcs f ≡ Some func → FuncFitsIn p func
 all_fit p form f func is = func_fits p func form (form.fits f func is)
 
 unlike : false ≡ true → ⊥
 unlike e = cc
 
 module _ (p : Program) (form : IsInForm p) where
-  abbrev fs : List Func
-  fs = p.funcs
-
   abbrev strings : ℕ
   strings = length p.strings
 
   abbrev instrs : List Instr
-  instrs = funcs_code fs fs 0
+  instrs = funcs_code p p.funcs 0
 
   abbrev owners : List ℕ
-  owners = funcs_owners fs fs 0
+  owners = funcs_owners p p.funcs 0
 
   abbrev fns : List Entry
-  fns = funcs_entries fs fs 0
+  fns = funcs_entries p p.funcs 0
 
-  can : (slots outgoing : ℕ) → outgoing ≤ slots → (f : ℕ) → f < length fs → arguments_of fs f + results_of fs f ≤ outgoing → CanCall fns slots f
+  can : (slots outgoing : ℕ) → outgoing ≤ slots → (f : ℕ) → f < length p.funcs → arguments_of p f + results_of p f ≤ outgoing → CanCall fns slots f
   can slots outgoing wide f there room =
-      let (func, is) = exists fs fs f there in
-      let r = stands fs fs 0 0 f func is in
-      let a : arguments_of fs f ≡ argument_words func = ap arguments_in is in
-      let b : results_of fs f ≡ result_words func = ap results_in is in
-      record { fn = entry_of fs func (0 + start_of fs fs f); is = r.entry; room = omega (arith, a, b, room, wide) }
+      let (func, is) = exists p p.funcs f there in
+      let r = stands p p.funcs 0 0 f func is in
+      let a : arguments_of p f ≡ argument_words func = ap arguments_in is in
+      let b : results_of p f ≡ result_words func = ap results_in is in
+      record { fn = entry_of p func (0 + start_of p p.funcs f); is = r.entry; room = omega (arith, a, b, room, wide) }
 
-  func_ok : (func : Func) (pc : ℕ) → FuncFitsIn fs func → StsWithin strings false func.body → All fns strings (frame_of fs func - 2) (argument_words func + result_words func) pc (pc + func_size fs func) (func_code fs func pc)
+  func_ok : (func : Func) (pc : ℕ) → FuncFitsIn p func → StsWithin strings false func.body → All fns strings (frame_of p func - 2) (argument_words func + result_words func) pc (pc + func_size p func) (func_code p func pc)
   func_ok func pc ok within =
-      let s = slots_of fs func in let n = func.count in let m = argument_words func in
-      let slots : s.outgoing + s.temps + n ≡ frame_of fs func - 2 = omega arith in
-      let end = pc + func_size fs func in
-      let can_call = can (s.outgoing + s.temps + n) s.outgoing (omega arith) in
-      let body = sts_code fs m func.named s func.body 0 0 0 (pc + entry_size fs func) in let leave = leave_code s m func.named in
-      let params = params_code s func.params 0 in let zeros = zeros_code s func.named in
-      let entry = join fs s n fns strings m (result_words func) pc end can_call params zeros
-      (params_ok fs s n fns strings m (result_words func) pc end can_call func.params 0 ok.params (omega arith))
-      (zeros_ok fs s n fns strings m (result_words func) pc end can_call func.named ok.named) in
-      let inner = sts_ok fs s n fns strings m (result_words func) pc end can_call func.named ok.named ok.names false func.body 0 0 0 (pc + entry_size fs func) ok.body within (λ e. absurd (unlike e)) (omega arith) (omega arith) in
-      let last = leave_ok fs s n fns strings m (result_words func) pc end can_call func.named ok.named ok.names in
-      subst (λ k. All fns strings k (m + result_words func) pc end (func_code fs func pc)) slots
-      (join fs s n fns strings m (result_words func) pc end can_call (params ++ zeros) (body ++ leave) entry (join fs s n fns strings m (result_words func) pc end can_call body leave inner last))
+      let s = slots_of p func in let n = func.count in let m = argument_words func in let long = words_between p.sites func.first func.count in
+      let slots : s.outgoing + s.temps + long ≡ frame_of p func - 2 = omega arith in
+      let end = pc + func_size p func in
+      let can_call = can (s.outgoing + s.temps + long) s.outgoing (omega arith) in
+      let body = sts_code p m func.named s func.body 0 0 0 (pc + entry_size p func) in let leave = leave_code s m func.named in
+      let params = params_code s (each_width func.param_types) func.params 0 in let zeros = zeros_code s func.named in
+      let entry = join p form.solid s.outgoing s.temps func.first n fns strings m (result_words func) pc end can_call params zeros
+      (params_ok p form.solid s.outgoing s.temps func.first n fns strings m (result_words func) pc end can_call func.param_types func.params 0 ok.params (omega arith))
+      (zeros_ok p form.solid s.outgoing s.temps func.first n fns strings m (result_words func) pc end can_call func.named ok.named) in
+      let inner = sts_ok p form.solid s.outgoing s.temps func.first n fns strings m (result_words func) pc end can_call func.named ok.named ok.names false func.body 0 0 0 (pc + entry_size p func) ok.body within (λ e. absurd (unlike e)) (omega arith) (omega arith) in
+      let last = leave_ok p form.solid s.outgoing s.temps func.first n fns strings m (result_words func) pc end can_call func.named ok.named ok.names in
+      subst (λ k. All fns strings k (m + result_words func) pc end (func_code p func pc)) slots
+      (join p form.solid s.outgoing s.temps func.first n fns strings m (result_words func) pc end can_call (params ++ zeros) (body ++ leave) entry
+      (join p form.solid s.outgoing s.temps func.first n fns strings m (result_words func) pc end can_call body leave inner last))
 
-  within : (f : ℕ) (func : Func) → slice_get fs f ≡ Some func → StsWithin strings false func.body
+  within : (f : ℕ) (func : Func) → slice_get p.funcs f ≡ Some func → StsWithin strings false func.body
   within f func is = sts_within p func.results (length func.named) false (scope_in func) (body_first func) (func.first + func.count) func.body (form.fits f func is).body
 
-  own : (f : ℕ) (func : Func) → slice_get fs f ≡ Some func → (p : ℕ) → start_of fs fs f ≤ p → p < start_of fs fs f + func_size fs func → slice_get owners p ≡ Some f
-  own f func is p a b =
-      let r = stands fs fs 0 0 f func is in
-      let z : start_of fs fs f + (p - start_of fs fs f) ≡ p = omega (arith, a) in
+  own : (f : ℕ) (func : Func) → slice_get p.funcs f ≡ Some func → (place : ℕ) → start_of p p.funcs f ≤ place → place < start_of p p.funcs f + func_size p func → slice_get owners place ≡ Some f
+  own f func is place a b =
+      let r = stands p p.funcs 0 0 f func is in
+      let z : start_of p p.funcs f + (place - start_of p p.funcs f) ≡ place = omega (arith, a) in
       let y : 0 + f ≡ f = omega arith in
-      ap (λ q. slice_get owners q) (sym z) ∙ r.owned (p - start_of fs fs f) (omega (arith, a, b)) ∙ ap (λ q. Some q) y
+      ap (λ q. slice_get owners q) (sym z) ∙ r.owned (place - start_of p p.funcs f) (omega (arith, a, b)) ∙ ap (λ q. Some q) y
 
   fits_place : (place : ℕ) (i : Instr) → slice_get instrs place ≡ Some i → FitsPlace owners fns strings place i
   fits_place place i h =
-      let r = located fs fs 0 place (slice_get_within instrs place i h) in
-      let start = start_of fs fs r.k in
-      let st = stands fs fs 0 0 r.k r.func r.is in
+      let r = located p p.funcs 0 place (slice_get_within instrs place i h) in
+      let start = start_of p p.funcs r.k in
+      let st = stands p p.funcs 0 0 r.k r.func r.is in
       let z : 0 + start ≡ start = omega arith in
-      let there : slice_get (func_code fs r.func start) r.p ≡ Some i =
-      ap (λ q. slice_get (func_code fs r.func q) r.p) (sym z) ∙ sym (st.code r.p r.within) ∙ ap (λ q. slice_get instrs q) (sym r.at) ∙ h in
-      let s = slots_of fs r.func in
-      let next = ends_so (entry_code fs r.func) (sts_code fs (argument_words r.func) r.func.named s r.func.body 0 0 0 (start + entry_size fs r.func)) (named_read_code s r.func.named (argument_words r.func)) r.p i there in
+      let there : slice_get (func_code p r.func start) r.p ≡ Some i =
+      ap (λ q. slice_get (func_code p r.func q) r.p) (sym z) ∙ sym (st.code r.p r.within) ∙ ap (λ q. slice_get instrs q) (sym r.at) ∙ h in
+      let s = slots_of p r.func in
+      let next = ends_so (entry_code p r.func) (sts_code p (argument_words r.func) r.func.named s r.func.body 0 0 0 (start + entry_size p r.func)) (named_read_code s r.func.named (argument_words r.func)) r.p i there in
       record {
         f = r.k;
-        fn = entry_of fs r.func start;
+        fn = entry_of p r.func start;
         owner = own r.k r.func r.is place (let e = r.at in omega (arith, e)) (let e = r.at in let w = r.within in omega (arith, e, w));
-        is = st.entry ∙ ap (λ q. Some (entry_of fs r.func q)) z;
-        fits = fits_at owners r.k start (start + func_size fs r.func) (own r.k r.func r.is) fns strings place (frame_of fs r.func - 2) (argument_words r.func + result_words r.func) i
-            (all_at fns strings (frame_of fs r.func - 2) (argument_words r.func + result_words r.func) start (start + func_size fs r.func) (func_code fs r.func start) r.p i (func_ok r.func start (all_fit p form r.k r.func r.is) (within r.k r.func r.is)) there)
+        is = st.entry ∙ ap (λ q. Some (entry_of p r.func q)) z;
+        fits = fits_at owners r.k start (start + func_size p r.func) (own r.k r.func r.is) fns strings place (frame_of p r.func - 2) (argument_words r.func + result_words r.func) i
+            (all_at fns strings (frame_of p r.func - 2) (argument_words r.func + result_words r.func) start (start + func_size p r.func) (func_code p r.func start) r.p i (func_ok r.func start (all_fit p form r.k r.func r.is) (within r.k r.func r.is)) there)
             (elim next [
               | inl e ↦ inl e
-              | inr l ↦ inr (own r.k r.func r.is (place + 1) (let e = r.at in omega (arith, e)) (let e = r.at in omega (arith, e, l, length_func fs r.func start)))
+              | inr l ↦ inr (own r.k r.func r.is (place + 1) (let e = r.at in omega (arith, e)) (let e = r.at in omega (arith, e, l, length_func p r.func start)))
             ]);
       }
 
   linked : (f : ℕ) (fn : Entry) → slice_get fns f ≡ Some fn → IsLinked owners f fn
   linked f fn e =
-      let (func, is) = entered_from fs fs 0 f fn e in
-      let start = start_of fs fs f in
-      let r = stands fs fs 0 0 f func is in
+      let (func, is) = entered_from p p.funcs 0 f fn e in
+      let start = start_of p p.funcs f in
+      let r = stands p p.funcs 0 0 f func is in
       let z : 0 + start ≡ start = omega arith in
-      let same : entry_of fs func start ≡ fn = same_some (ap (λ q. Some (entry_of fs func q)) (sym z) ∙ sym r.entry ∙ e) in
+      let same : entry_of p func start ≡ fn = same_some (ap (λ q. Some (entry_of p func q)) (sym z) ∙ sym r.entry ∙ e) in
       subst (λ (g : Entry). IsLinked owners f g) same
-      (record { frame = omega arith; start = own f func is start (omega arith) (let l = some_size fs func in omega (arith, l)) })
+      (record { frame = omega arith; start = own f func is start (omega arith) (let l = some_size p func in omega (arith, l)) })
 
   pub is_code : IsCode (code_of p)
-  is_code = record { same = length_owners fs fs 0 0; fits = fits_place; linked = linked }
+  is_code = record { same = length_owners p p.funcs 0 0; fits = fits_place; linked = linked }
 
 -- the frame of a function lies inside its words where it is entered
 pub begins : (t : Tables) → IsCode t → (f : ℕ) (fn : Entry) → slice_get t.funcs f ≡ Some fn → Inside t fn.frame fn.start 0

@@ -1,18 +1,14 @@
--- Values side by side, and the operands that are shown.
-use Rattle.std.proofs.Common.{◌≡◌, ℕ, ◌+◌, ◌<◌, true, List, [], ◌∷◌, length, map, refl, arith}
+-- The operands that are shown.
+use Rattle.std.proofs.Common.{◌≡◌, ◌≢◌, ℕ, zero, suc, ◌+◌, ◌<◌, true, List, [], ◌∷◌, length, map, refl, ap, arith}
 use Rattle.base.specs.declared.ids.SiteId.{SiteId}
 use Rattle.isa.specs.declared.instr.Instr.TheVariants.{PrintSpace}
-use Rattle.typed.specs.declared.expr.Expr.{Expr}
 use Rattle.typed.specs.declared.stmt.Piece.{Piece as PieceData}
-use Rattle.typed.specs.Syntax.{Func, Piece, text, shown}
-use Rattle.typed.specs.View.{exs_of, piece_of}
-use Rattle.codegen.specs.Code.{Slots, count_of, more_size, shown_size, named_read_size, renew_size, show_line, show_more, show_plain}
+use Rattle.value_trees.specs.Types.{ints, bools}
+use Rattle.typed.specs.Syntax.{Piece, Program, text, shown}
+use Rattle.typed.specs.View.{piece_of, type_of}
+use Rattle.simulated_code.specs.Code.{Slots, more_size, shown_size, named_read_size, renew_size, show_line, show_more, show_plain}
 use Rattle.codegen.specs.Frame.{show_piece, temp_behind, ShownFit}
 use Rattle.codegen.specs.Temps.{PiecesFitIn}
-
-pub counts : (fs : List Func) (es : List Expr) → count_of fs (exs_of es) ≡ length es
-counts fs [] = refl
-counts fs (e ∷ es) = omega (arith, counts fs es)
 
 more_twice : (ps : List PieceData) → more_size (map piece_of ps) ≡ length ps + length ps + 1
 more_twice [] = refl
@@ -33,10 +29,19 @@ renewed_twice [] = refl
 renewed_twice (site ∷ sites) = omega (arith, renewed_twice sites)
 
 -- operands whose values have temps can be shown
-pub shown_fit : (fs : List Func) (s : Slots) (n h : ℕ) (ps : List Piece) → PiecesFitIn fs s n h ps → ShownFit s h ps
-shown_fit fs s n h [] f = tt
-shown_fit fs s n h (text number ∷ ps) f = shown_fit fs s n h ps f
-shown_fit fs s n h (shown t e ∷ ps) f = (f.0, shown_fit fs s n (h + 1) ps f.2)
+pub shown_fit : (p : Program) (s : Slots) (n h : ℕ) (ps : List Piece) → PiecesFitIn p s n h ps → ShownFit s h ps
+shown_fit p s n h [] f = tt
+shown_fit p s n h (text number ∷ ps) f = shown_fit p s n h ps f
+shown_fit p s n h (shown t e ∷ ps) f = (f.0, shown_fit p s n (h + 1) ps f.2)
+
+-- the type of truth values, and the others
+pub is_bool : (t : ℕ) → t ≡ 1 → type_of t ≡ bools
+is_bool t e = ap type_of e
+
+pub is_int : (t : ℕ) → t ≢ 1 → type_of t ≡ ints
+is_int zero other = refl
+is_int (suc zero) other = absurd (other refl)
+is_int (suc (suc t)) other = refl
 
 -- the first operand and the others
 pub more_first : (s : Slots) (q : Piece) (ps : List Piece) (h : ℕ) → show_more s (q ∷ ps) h ≡ PrintSpace ∷ show_piece s q h ∷ show_more s ps (temp_behind q h)

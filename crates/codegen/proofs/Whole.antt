@@ -9,98 +9,96 @@ use Rattle.isa.specs.declared.func.Func.{Func as Entry}
 use Rattle.isa.specs.declared.instr.Instr.{Instr}
 use Rattle.typed.specs.declared.program.Func.{Func as FuncData}
 use Rattle.typed.specs.declared.program.Program.{Program as ProgramData}
-use Rattle.typed.specs.Syntax.{Func, Program, argument_words}
+use Rattle.typed.specs.Syntax.{Func, Program, argument_words, each_width}
 use Rattle.typed.specs.View.{func_of, program_of}
 use Rattle.typed.specs.Form.{IsInForm}
 use Rattle.frame_layout.specs.declared.layout.FrameLayout.{FrameLayout}
 use Rattle.frame_layout.specs.Layout.{layout_in, layouts}
 use Rattle.codegen.specs.Temps.{FuncFitsIn}
-use Rattle.codegen.specs.Code.{Slots, slots_of, params_code, zeros_code, sts_code, leave_code, entry_size, func_code, func_size, entry_of, funcs_code, funcs_owners, funcs_entries, code_of}
-use Rattle.codegen.proofs.Sizes.{length_entry, length_func}
+use Rattle.simulated_code.specs.Code.{Slots, slots_of, params_code, zeros_code, sts_code, leave_code, entry_size, func_code, func_size, entry_of, funcs_code, funcs_owners, funcs_entries, code_of}
+use Rattle.simulated_code.proofs.Sizes.{length_entry, length_func}
 use Rattle.codegen.proofs.IsCode.{all_fit}
 
 -- a function's parts, one behind the other
-pub func_emitted : (fs : List Func) (f : Func) (s : Slots) (old c1 c2 c3 c4 : List Instr) → s ≡ slots_of fs f → c1 ≡ old ++ params_code s f.params 0 → c2 ≡ c1 ++ zeros_code s f.named
-    → c3 ≡ c2 ++ sts_code fs (argument_words f) f.named s f.body 0 0 0 (length c2) → c4 ≡ c3 ++ leave_code s (argument_words f) f.named → c4 ≡ old ++ func_code fs f (length old)
-func_emitted fs f s old c1 c2 c3 c4 same e1 e2 e3 e4 =
+pub func_emitted : (p : Program) (f : Func) (s : Slots) (old c1 c2 c3 c4 : List Instr) → s ≡ slots_of p f → c1 ≡ old ++ params_code s (each_width f.param_types) f.params 0 → c2 ≡ c1 ++ zeros_code s f.named
+    → c3 ≡ c2 ++ sts_code p (argument_words f) f.named s f.body 0 0 0 (length c2) → c4 ≡ c3 ++ leave_code s (argument_words f) f.named → c4 ≡ old ++ func_code p f (length old)
+func_emitted p f s old c1 c2 c3 c4 same e1 e2 e3 e4 =
     let m = argument_words f in
-    let params = params_code s f.params 0 in let zeros = zeros_code s f.named in let leave = leave_code s m f.named in
-    let here = length old + entry_size fs f in
-    let body = sts_code fs m f.named s f.body 0 0 0 here in
+    let params = params_code s (each_width f.param_types) f.params 0 in let zeros = zeros_code s f.named in let leave = leave_code s m f.named in
+    let here = length old + entry_size p f in
+    let body = sts_code p m f.named s f.body 0 0 0 here in
     let f2 : c2 ≡ old ++ (params ++ zeros) = e2 ∙ ap (λ c. c ++ zeros) e1 ∙ append_assoc old params zeros in
-    let entry : length (params ++ zeros) ≡ entry_size fs f = ap (λ (x : Slots). length (params_code x f.params 0 ++ zeros_code x f.named)) same ∙ length_entry fs f in
+    let entry : length (params ++ zeros) ≡ entry_size p f = ap (λ (x : Slots). length (params_code x (each_width f.param_types) f.params 0 ++ zeros_code x f.named)) same ∙ length_entry p f in
     let n : length c2 ≡ here = ap length f2 ∙ omega (arith, length-append old (params ++ zeros), entry) in
-    let f3 : c3 ≡ c2 ++ body = e3 ∙ ap (λ p. c2 ++ sts_code fs m f.named s f.body 0 0 0 p) n in
+    let f3 : c3 ≡ c2 ++ body = e3 ∙ ap (λ place. c2 ++ sts_code p m f.named s f.body 0 0 0 place) n in
     let all : c4 ≡ old ++ ((params ++ zeros) ++ (body ++ leave)) =
     e4 ∙ ap (λ c. c ++ leave) (f3 ∙ ap (λ c. c ++ body) f2)
     ∙ append_assoc (old ++ (params ++ zeros)) body leave
     ∙ append_assoc old (params ++ zeros) (body ++ leave) in
-    all ∙ ap (λ (x : Slots). old ++ ((params_code x f.params 0 ++ zeros_code x f.named) ++ (sts_code fs m f.named x f.body 0 0 0 here ++ leave_code x m f.named))) same
+    all ∙ ap (λ (x : Slots). old ++ ((params_code x (each_width f.param_types) f.params 0 ++ zeros_code x f.named) ++ (sts_code p m f.named x f.body 0 0 0 here ++ leave_code x m f.named))) same
 
 split : (gs : List FuncData) (i : ℕ) (g : FuncData) → i < length gs → g ≡ get_or gs i g → map func_of (drop i gs) ≡ func_of g ∷ map func_of (drop (i + 1) gs)
 split gs i g l is =
     let one : suc i ≡ i + 1 = omega arith in
     ap (map func_of) (drop-cons gs i g l) ∙ ap (λ (y : FuncData). func_of y ∷ map func_of (drop (suc i) gs)) (sym is) ∙ ap (λ j. func_of g ∷ map func_of (drop j gs)) one
 
-module _ (fs : List Func) (gs : List FuncData) (i : ℕ) (g : FuncData) (l : i < length gs) (is : g ≡ get_or gs i g) where
+module _ (p : Program) (gs : List FuncData) (i : ℕ) (g : FuncData) (l : i < length gs) (is : g ≡ get_or gs i g) where
   abbrev now : List Func
   now = map func_of (drop i gs)
 
   abbrev rest : List Func
   rest = map func_of (drop (i + 1) gs)
 
-  pub longer : (code more : List Instr) → more ≡ code ++ func_code fs (func_of g) (length code) → length code + func_size fs (func_of g) ≡ length more
-  longer code more e = omega (arith, length-append code (func_code fs (func_of g) (length code)), length_func fs (func_of g) (length code), ap length e)
+  pub longer : (code more : List Instr) → more ≡ code ++ func_code p (func_of g) (length code) → length code + func_size p (func_of g) ≡ length more
+  longer code more e = omega (arith, length-append code (func_code p (func_of g) (length code)), length_func p (func_of g) (length code), ap length e)
 
-  pub code_next : (whole code more : List Instr) → whole ≡ code ++ funcs_code fs now (length code) → more ≡ code ++ func_code fs (func_of g) (length code) → whole ≡ more ++ funcs_code fs rest (length more)
+  pub code_next : (whole code more : List Instr) → whole ≡ code ++ funcs_code p now (length code) → more ≡ code ++ func_code p (func_of g) (length code) → whole ≡ more ++ funcs_code p rest (length more)
   code_next whole code more e1 e2 =
-      let c = func_code fs (func_of g) (length code) in
-      e1 ∙ ap (λ y. code ++ funcs_code fs y (length code)) (split gs i g l is)
-      ∙ sym (append_assoc code c (funcs_code fs rest (length code + func_size fs (func_of g))))
-      ∙ ap (λ p. (code ++ c) ++ funcs_code fs rest p) (longer code more e2)
-      ∙ ap (λ x. x ++ funcs_code fs rest (length more)) (sym e2)
+      let c = func_code p (func_of g) (length code) in
+      e1 ∙ ap (λ y. code ++ funcs_code p y (length code)) (split gs i g l is)
+      ∙ sym (append_assoc code c (funcs_code p rest (length code + func_size p (func_of g))))
+      ∙ ap (λ place. (code ++ c) ++ funcs_code p rest place) (longer code more e2)
+      ∙ ap (λ x. x ++ funcs_code p rest (length more)) (sym e2)
 
-  pub owners_next : (whole code more : List ℕ) (number after : ℕ) → whole ≡ code ++ funcs_owners fs now number → more ≡ code ++ replicate (func_size fs (func_of g)) number → after ≡ number + 1 → whole ≡ more ++ funcs_owners fs rest after
+  pub owners_next : (whole code more : List ℕ) (number after : ℕ) → whole ≡ code ++ funcs_owners p now number → more ≡ code ++ replicate (func_size p (func_of g)) number → after ≡ number + 1 → whole ≡ more ++ funcs_owners p rest after
   owners_next whole code more number after e1 e2 e3 =
-      let c : List ℕ = replicate (func_size fs (func_of g)) number in
-      e1 ∙ ap (λ y. code ++ funcs_owners fs y number) (split gs i g l is)
-      ∙ sym (append_assoc code c (funcs_owners fs rest (number + 1)))
-      ∙ ap (λ p. (code ++ c) ++ funcs_owners fs rest p) (sym e3)
-      ∙ ap (λ x. x ++ funcs_owners fs rest after) (sym e2)
+      let c : List ℕ = replicate (func_size p (func_of g)) number in
+      e1 ∙ ap (λ y. code ++ funcs_owners p y number) (split gs i g l is)
+      ∙ sym (append_assoc code c (funcs_owners p rest (number + 1)))
+      ∙ ap (λ place. (code ++ c) ++ funcs_owners p rest place) (sym e3)
+      ∙ ap (λ x. x ++ funcs_owners p rest after) (sym e2)
 
-  pub entries_next : (whole code more : List Entry) (pc after : ℕ) → whole ≡ code ++ funcs_entries fs now pc → more ≡ code ++ entry_of fs (func_of g) pc ∷ [] → pc + func_size fs (func_of g) ≡ after → whole ≡ more ++ funcs_entries fs rest after
+  pub entries_next : (whole code more : List Entry) (pc after : ℕ) → whole ≡ code ++ funcs_entries p now pc → more ≡ code ++ entry_of p (func_of g) pc ∷ [] → pc + func_size p (func_of g) ≡ after → whole ≡ more ++ funcs_entries p rest after
   entries_next whole code more pc after e1 e2 e3 =
-      let c : List Entry = entry_of fs (func_of g) pc ∷ [] in
-      e1 ∙ ap (λ y. code ++ funcs_entries fs y pc) (split gs i g l is)
-      ∙ sym (append_assoc code c (funcs_entries fs rest (pc + func_size fs (func_of g))))
-      ∙ ap (λ p. (code ++ c) ++ funcs_entries fs rest p) e3
-      ∙ ap (λ x. x ++ funcs_entries fs rest after) (sym e2)
+      let c : List Entry = entry_of p (func_of g) pc ∷ [] in
+      e1 ∙ ap (λ y. code ++ funcs_entries p y pc) (split gs i g l is)
+      ∙ sym (append_assoc code c (funcs_entries p rest (pc + func_size p (func_of g))))
+      ∙ ap (λ place. (code ++ c) ++ funcs_entries p rest place) e3
+      ∙ ap (λ x. x ++ funcs_entries p rest after) (sym e2)
 
 -- a function by its number
 pub there : (gs : List FuncData) (i : ℕ) (g : FuncData) → i < length gs → g ≡ get_or gs i g → slice_get (map func_of gs) i ≡ Some (func_of g)
 there gs i g l is = slice_get-map func_of gs i ∙ ap (option_map func_of) (slice_get_read gs (length gs) i g refl l is)
 
 module _ (p : ProgramData) (gs : List FuncData) (same : gs ≡ p.funcs.items) (i : ℕ) (g : FuncData) (l : i < length gs) (is : g ≡ get_or gs i g) where
-  pub fits : IsInForm (program_of p) → FuncFitsIn (map func_of gs) (func_of g)
-  fits form =
-      let at : slice_get (map func_of p.funcs.items) i ≡ Some (func_of g) = subst (λ hs. slice_get (map func_of hs) i ≡ Some (func_of g)) same (there gs i g l is) in
-      subst (λ hs. FuncFitsIn (map func_of hs) (func_of g)) (sym same) (all_fit (program_of p) form i (func_of g) at)
+  pub fits : IsInForm (program_of p) → FuncFitsIn (program_of p) (func_of g)
+  fits form = all_fit (program_of p) form i (func_of g) (subst (λ hs. slice_get (map func_of hs) i ≡ Some (func_of g)) same (there gs i g l is))
 
-  pub layout_at : (frames : List FrameLayout) (number : ℕ) (d : FrameLayout) → frames ≡ layouts (program_of p) → number ≡ i → slice_index_or frames number d ≡ layout_in (map func_of gs) (func_of g)
+  pub layout_at : (frames : List FrameLayout) (number : ℕ) (d : FrameLayout) → frames ≡ layouts (program_of p) → number ≡ i → slice_index_or frames number d ≡ layout_in (program_of p) (func_of g)
   layout_at frames number d laid n =
-      let fs = map func_of gs in
-      let all : frames ≡ map (layout_in fs) fs = laid ∙ ap (λ hs. map (layout_in (map func_of hs)) (map func_of hs)) (sym same) in
-      get_or_from_slice_get frames number (layout_in fs (func_of g)) d
-      (ap (slice_get frames) n ∙ ap (λ (x : List FrameLayout). slice_get x i) all ∙ slice_get-map (layout_in fs) fs i ∙ ap (option_map (layout_in fs)) (there gs i g l is))
+      let lay = layout_in (program_of p) in let fs = map func_of gs in
+      let all : frames ≡ map lay fs = laid ∙ ap (λ hs. map (layout_in (program_of p)) (map func_of hs)) (sym same) in
+      get_or_from_slice_get frames number (lay (func_of g)) d
+      (ap (slice_get frames) n ∙ ap (λ (x : List FrameLayout). slice_get x i) all ∙ slice_get-map lay fs i ∙ ap (option_map lay) (there gs i g l is))
 
-pub length_entries : (fs gs : List Func) (pc : ℕ) → length (funcs_entries fs gs pc) ≡ length gs
-length_entries fs [] pc = refl
-length_entries fs (g ∷ gs) pc = ap suc (length_entries fs gs (pc + func_size fs g))
+pub length_entries : (p : Program) (gs : List Func) (pc : ℕ) → length (funcs_entries p gs pc) ≡ length gs
+length_entries p [] pc = refl
+length_entries p (g ∷ gs) pc = ap suc (length_entries p gs (pc + func_size p g))
 
 pub main_there : (p : Program) → IsInForm p → p.main < length (code_of p).funcs
 main_there p form =
     let l : p.main < length p.funcs = slice_get_within p.funcs p.main form.main.0 form.main.1 in
-    omega (arith, l, length_entries p.funcs p.funcs 0)
+    omega (arith, l, length_entries p p.funcs 0)
 
 -- one place less belongs to the function
 pub own_next : (whole owners more : List ℕ) (left number : ℕ) → 0 < left → whole ≡ owners ++ replicate left number → more ≡ owners ++ number ∷ [] → whole ≡ more ++ replicate (left - 1) number
@@ -110,13 +108,13 @@ own_next whole owners more (suc left) number l e1 e2 =
     e1 ∙ sym (append_assoc owners (number ∷ []) (replicate left number)) ∙ ap (λ k. (owners ++ number ∷ []) ++ replicate k number) n ∙ ap (λ x. x ++ replicate (suc left - 1) number) (sym e2)
 
 -- tables by their parts
-tables_are : (p : Program) (instrs : List Instr) (owners : List ℕ) (funcs : List Entry) (strings : List (List ℕ)) → instrs ≡ funcs_code p.funcs p.funcs 0 → owners ≡ funcs_owners p.funcs p.funcs 0 → funcs ≡ funcs_entries p.funcs p.funcs 0 → strings ≡ p.strings
+tables_are : (p : Program) (instrs : List Instr) (owners : List ℕ) (funcs : List Entry) (strings : List (List ℕ)) → instrs ≡ funcs_code p p.funcs 0 → owners ≡ funcs_owners p p.funcs 0 → funcs ≡ funcs_entries p p.funcs 0 → strings ≡ p.strings
     → (let r : Tables = record { instrs = instrs; owners = owners; funcs = funcs; strings = strings } in r) ≡ code_of p
 tables_are p instrs owners funcs strings a b c d =
     ap (λ (t : List (List ℕ)). let r : Tables = record { instrs = instrs; owners = owners; funcs = funcs; strings = t } in r) d
     ∙ ap (λ (f : List Entry). let r : Tables = record { instrs = instrs; owners = owners; funcs = f; strings = p.strings } in r) c
-    ∙ ap (λ (o : List ℕ). let r : Tables = record { instrs = instrs; owners = o; funcs = funcs_entries p.funcs p.funcs 0; strings = p.strings } in r) b
-    ∙ ap (λ (i : List Instr). let r : Tables = record { instrs = i; owners = funcs_owners p.funcs p.funcs 0; funcs = funcs_entries p.funcs p.funcs 0; strings = p.strings } in r) a
+    ∙ ap (λ (o : List ℕ). let r : Tables = record { instrs = instrs; owners = o; funcs = funcs_entries p p.funcs 0; strings = p.strings } in r) b
+    ∙ ap (λ (i : List Instr). let r : Tables = record { instrs = i; owners = funcs_owners p p.funcs 0; funcs = funcs_entries p p.funcs 0; strings = p.strings } in r) a
 
 past : (gs : List FuncData) (i : ℕ) → length gs ≤ i → drop i gs ≡ []
 past [] zero l = refl
@@ -126,15 +124,15 @@ past (g ∷ gs) (suc i) l = past gs i (omega arith)
 
 -- behind the last function the tables are the program's
 pub finished : (p : ProgramData) (gs : List FuncData) (i number : ℕ) (instrs : List Instr) (owners : List ℕ) (entries : List Entry) (strings : List (List ℕ)) → gs ≡ p.funcs.items → length gs ≤ i
-    → funcs_code (map func_of gs) (map func_of gs) 0 ≡ instrs ++ funcs_code (map func_of gs) (map func_of (drop i gs)) (length instrs)
-    → funcs_owners (map func_of gs) (map func_of gs) 0 ≡ owners ++ funcs_owners (map func_of gs) (map func_of (drop i gs)) number
-    → funcs_entries (map func_of gs) (map func_of gs) 0 ≡ entries ++ funcs_entries (map func_of gs) (map func_of (drop i gs)) (length instrs)
+    → funcs_code (program_of p) (map func_of gs) 0 ≡ instrs ++ funcs_code (program_of p) (map func_of (drop i gs)) (length instrs)
+    → funcs_owners (program_of p) (map func_of gs) 0 ≡ owners ++ funcs_owners (program_of p) (map func_of (drop i gs)) number
+    → funcs_entries (program_of p) (map func_of gs) 0 ≡ entries ++ funcs_entries (program_of p) (map func_of (drop i gs)) (length instrs)
     → strings ≡ map (λ bytes. bytes.items) p.strings.items → (let r : Tables = record { instrs = instrs; owners = owners; funcs = entries; strings = strings } in r) ≡ code_of (program_of p)
 finished p gs i number instrs owners entries strings same l a b c d =
-    let fs = map func_of gs in
+    let fs = map func_of gs in let whole = program_of p in
     let none : map func_of (drop i gs) ≡ [] = ap (map func_of) (past gs i l) in
     let all : fs ≡ map func_of p.funcs.items = ap (map func_of) same in
-    let x : instrs ≡ funcs_code fs fs 0 = sym (a ∙ ap (λ hs. instrs ++ funcs_code fs hs (length instrs)) none ∙ append-nil instrs) in
-    let y : owners ≡ funcs_owners fs fs 0 = sym (b ∙ ap (λ hs. owners ++ funcs_owners fs hs number) none ∙ append-nil owners) in
-    let z : entries ≡ funcs_entries fs fs 0 = sym (c ∙ ap (λ hs. entries ++ funcs_entries fs hs (length instrs)) none ∙ append-nil entries) in
-    tables_are (program_of p) instrs owners entries strings (x ∙ ap (λ hs. funcs_code hs hs 0) all) (y ∙ ap (λ hs. funcs_owners hs hs 0) all) (z ∙ ap (λ hs. funcs_entries hs hs 0) all) d
+    let x : instrs ≡ funcs_code whole fs 0 = sym (a ∙ ap (λ hs. instrs ++ funcs_code whole hs (length instrs)) none ∙ append-nil instrs) in
+    let y : owners ≡ funcs_owners whole fs 0 = sym (b ∙ ap (λ hs. owners ++ funcs_owners whole hs number) none ∙ append-nil owners) in
+    let z : entries ≡ funcs_entries whole fs 0 = sym (c ∙ ap (λ hs. entries ++ funcs_entries whole hs (length instrs)) none ∙ append-nil entries) in
+    tables_are whole instrs owners entries strings (x ∙ ap (λ hs. funcs_code whole hs 0) all) (y ∙ ap (λ hs. funcs_owners whole hs 0) all) (z ∙ ap (λ hs. funcs_entries whole hs 0) all) d

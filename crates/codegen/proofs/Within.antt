@@ -1,5 +1,6 @@
 -- Strings that there are, and `break` and `continue` inside loops alone.
 use Rattle.std.specs.Prelude.{◌≡◌, ℕ, ◌+◌, ◌<◌, ⊤, Bool, true, false, List, [], ◌∷◌, length}
+use Rattle.value_trees.specs.Types.{ValueType}
 use Rattle.typed.specs.Syntax.{Piece, St, Sts, Program, blank, new, to, text, shown, over_int, declare, assign, update, bump, discard, block, choose, loop, range, break_off, go_on, give_back, print, raise, quit, done, next}
 use Rattle.typed.specs.Form.{births, births_all, new_sites, scope_behind, scope_after, PieceFits, PiecesFit, StFits, StsFit}
 
@@ -34,7 +35,7 @@ abbrev mutual
   StsWithin strings looped done = ⊤
   StsWithin strings looped (next x xs) = StWithin strings looped x × StsWithin strings looped xs
 
-module _ (p : Program) (wanted : List ℕ) (named : ℕ) where
+module _ (p : Program) (wanted : List ValueType) (named : ℕ) where
   piece_within : (scope : List ℕ) (q : Piece) → PieceFits p scope q → PieceWithin (length p.strings) q
   piece_within scope (text number) f = f
   piece_within scope (shown t e) f = tt

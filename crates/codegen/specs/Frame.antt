@@ -1,22 +1,36 @@
 -- A frame as data.
-use Rattle.std.specs.Prelude.{ℕ, ◌+◌, ◌<◌, ◌≤◌, List, [], ◌∷◌, length}
+use Rattle.std.specs.Prelude.{ℕ, ◌+◌, ◌<◌, ◌≤◌, List, [], ◌∷◌, Option, Some, None}
 use Rattle.isa.specs.declared.instr.Instr.{Instr}
-use Rattle.isa.specs.declared.instr.Instr.TheVariants.{PrintText}
-use Rattle.typed.specs.Syntax.{Func, Piece, text, shown, argument_words, result_words}
-use Rattle.codegen.specs.Code.{Slots, temp, shown_code}
-use Rattle.codegen.specs.Temps.{SitesFit}
+use Rattle.isa.specs.declared.instr.Instr.TheVariants.{ArgumentWords, PrintText}
+use Rattle.typed.specs.Syntax.{Func, Left, Piece, blank, new, to, text, shown, argument_words, result_words}
+use Rattle.typed.specs.Frames.{words_between}
+use Rattle.typed.specs.View.{site_types}
+use Rattle.typed.specs.declared.program.Program.{Program}
+use Rattle.simulated_code.specs.Code.{Slots, temp, site_slot, site_words, moves, shown_code, write_code}
+use Rattle.codegen.specs.Temps.{SitesFit, sites_words}
 use Rattle.codegen.specs.declared.slots.Frame.{Frame}
 
-abbrev pub slots_in : Frame → Slots
-slots_in f = record { outgoing = f.outgoing; temps = f.temps; first = f.first }
+abbrev pub slots_in : Program → Frame → Slots
+slots_in p f = record { outgoing = f.outgoing; temps = f.temps; first = f.first; sites = site_types p.sites.items }
 
 -- its slots are numbers of 16 bits
-abbrev pub IsSmall : Frame → Type 0
-IsSmall f = f.outgoing + f.temps + f.sites ≤ 65535
+abbrev pub IsSmall : Program → Frame → Type 0
+IsSmall p f = f.outgoing + f.temps + words_between (site_types p.sites.items) f.first f.sites ≤ 65535
 
 -- a function's results can be given back from a frame
-abbrev pub Returns : Frame → Func → Type 0
-Returns frame f = SitesFit (slots_in frame) frame.sites f.named × (length f.named ≤ result_words f) × (argument_words f + result_words f ≤ 65535)
+abbrev pub Returns : Program → Frame → Func → Type 0
+Returns p frame f = SitesFit (slots_in p frame) frame.sites f.named × (sites_words (slots_in p frame) f.named ≤ result_words f) × (argument_words f + result_words f ≤ 65535)
+
+-- a left side gets the words of temps from h on
+abbrev pub left_code : Slots → Left → (at h : ℕ) → List Instr
+left_code s blank at h = []
+left_code s (new site) at h = moves (site_words s site) (site_slot s site) (temp s h) ∷ []
+left_code s (to p) at h = write_code s p at h
+
+-- a parameter gets n incoming words from one on
+abbrev pub param_code : Slots → Option ℕ → (n i : ℕ) → List Instr
+param_code s None n i = []
+param_code s (Some site) n i = ArgumentWords (site_slot s site) i n ∷ []
 
 -- what shows an operand, one that is a value in temp h, and the temp of the next value
 abbrev pub show_piece : Slots → Piece → (h : ℕ) → Instr

@@ -1,4 +1,3 @@
 pub mod Temps
 pub mod Frame
-pub mod Code
-pub mod Correct
+pub mod Runs

@@ -1,15 +1,23 @@
 -- That the slots of a frame suffice.
-use Rattle.std.specs.Prelude.{ℕ, zero, suc, ◌+◌, ◌<◌, ◌≤◌, List, [], ◌∷◌, Option, Some, None, length}
-use Rattle.typed.specs.Syntax.{Ex, Exs, Pl, Left, Piece, St, Sts, Func, constant, read, unary, binary, both, either, call, local, global, none, more, results, asked, blank, new, to, text, shown, over_int, declare, assign, update, bump, discard, block, choose, loop, range, break_off, go_on, give_back, print, raise, quit, done, next, argument_words, result_words, arguments_of, results_of}
-use Rattle.codegen.specs.Code.{Slots, count_of, slots_of}
+use Rattle.std.specs.Prelude.{◌≡◌, ℕ, zero, suc, ◌+◌, ◌<◌, ◌≤◌, List, [], ◌∷◌, Option, Some, None, length}
+use Rattle.value_trees.specs.Paths.{offset}
+use Rattle.typed.specs.Syntax.{Ex, Exs, Pl, Left, Piece, St, Sts, Func, Program, constant, read, unary, binary, both, either, call, local, global, none, more, results, asked, blank, new, to, text, shown, over_int, declare, assign, update, bump, discard, block, choose, loop, range, break_off, go_on, give_back, print, raise, quit, done, next, argument_words, result_words, arguments_of, results_of, path_of, wide, all_wide, each_width, value_widths}
+use Rattle.simulated_code.specs.Code.{Slots, site_type, site_words, part_words, first_width, other_widths, slots_of}
 
 -- the site is among the n of a frame
 abbrev pub SiteFits : Slots → (n site : ℕ) → Type 0
 SiteFits s n site = (s.first ≤ site) × (site < s.first + n)
 
+-- a part of it has words, and these are within its own
 abbrev pub PlaceFits : Slots → (n : ℕ) → Pl → Type 0
-PlaceFits s n (local site steps) = SiteFits s n site
+PlaceFits s n (local site steps) =
+    SiteFits s n site × (0 < part_words s site (path_of steps)) × (offset (site_type s site) (path_of steps) + part_words s site (path_of steps) ≤ site_words s site)
 PlaceFits s n (global g steps) = Unit {0}
+
+-- the words of a place; a package variable has one
+abbrev pub reached : Slots → Pl → ℕ
+reached s (local site steps) = part_words s site (path_of steps)
+reached s (global g steps) = 1
 
 -- there is a temp for the address of a place, if it has one
 abbrev pub AddressFits : (temps at : ℕ) → Pl → Type 0
@@ -20,39 +28,63 @@ abbrev pub SitesFit : Slots → (n : ℕ) → List ℕ → Type 0
 SitesFit s n [] = Unit {0}
 SitesFit s n (site ∷ sites) = SiteFits s n site × SitesFit s n sites
 
-abbrev pub ParamsFitIn : Slots → (n : ℕ) → List (Option ℕ) → Type 0
-ParamsFitIn s n [] = Unit {0}
-ParamsFitIn s n (None ∷ ps) = ParamsFitIn s n ps
-ParamsFitIn s n (Some site ∷ ps) = SiteFits s n site × ParamsFitIn s n ps
+-- the words of sites
+abbrev pub sites_words : Slots → List ℕ → ℕ
+sites_words s [] = 0
+sites_words s (site ∷ sites) = site_words s site + sites_words s sites
 
--- left sides, the temps from h on whose words they get, and the one for an address
-abbrev pub LeftsFitIn : Slots → (n at h : ℕ) → List Left → Type 0
-LeftsFitIn s n at h [] = Unit {0}
-LeftsFitIn s n at h (blank ∷ ls) = (h < s.temps) × LeftsFitIn s n at (h + 1) ls
-LeftsFitIn s n at h (new site ∷ ls) = (h < s.temps) × SiteFits s n site × LeftsFitIn s n at (h + 1) ls
-LeftsFitIn s n at h (to p ∷ ls) = (h < s.temps) × PlaceFits s n p × AddressFits s.temps at p × LeftsFitIn s n at (h + 1) ls
+abbrev pub ParamFits : Slots → (n : ℕ) → Option ℕ → Type 0
+ParamFits s n None = Unit {0}
+ParamFits s n (Some site) = SiteFits s n site
 
--- n values in temps from h on, for so many results with these names or none; these are moved through temp 0
-abbrev pub ValuesFit : (temps wanted h n : ℕ) → List ℕ → Type 0
-ValuesFit temps wanted h n [] = (h + n ≤ temps) × (n ≤ wanted)
-ValuesFit temps wanted h zero (site ∷ sites) = 0 < temps
-ValuesFit temps wanted h (suc n) (site ∷ sites) = h + length (site ∷ sites) ≤ temps
+-- a parameter has so many words
+abbrev pub HasWords : Slots → (words : ℕ) → Option ℕ → Type 0
+HasWords s words None = Unit {0}
+HasWords s words (Some site) = site_words s site ≡ words
 
--- a new round's variables are moved through temp h
-abbrev pub RenewFits : (temps h : ℕ) → List ℕ → Type 0
-RenewFits temps h [] = Unit {0}
-RenewFits temps h (site ∷ sites) = h < temps
+-- parameters of so many words each
+abbrev pub ParamsFitIn : Slots → (n : ℕ) → (each : List ℕ) → List (Option ℕ) → Type 0
+ParamsFitIn s n ns [] = Unit {0}
+ParamsFitIn s n ns (q ∷ ps) = ParamFits s n q × HasWords s (first_width ns) q × ParamsFitIn s n (other_widths ns) ps
 
-module _ (fs : List Func) (s : Slots) (n : ℕ) where
+-- a left side, and the temp for an address
+abbrev pub LeftFits : Slots → (n at : ℕ) → Left → Type 0
+LeftFits s n at blank = Unit {0}
+LeftFits s n at (new site) = SiteFits s n site
+LeftFits s n at (to p) = PlaceFits s n p × AddressFits s.temps at p
+
+-- the words that it takes
+abbrev pub left_words : Slots → Left → ℕ
+left_words s blank = 0
+left_words s (new site) = site_words s site
+left_words s (to p) = reached s p
+
+-- left sides, the temps from h on whose words they get, so many each
+abbrev pub LeftsFitIn : Slots → (n at h : ℕ) → (each : List ℕ) → List Left → Type 0
+LeftsFitIn s n at h ns [] = Unit {0}
+LeftsFitIn s n at h ns (l ∷ ls) = (h + first_width ns ≤ s.temps) × LeftFits s n at l × (left_words s l ≤ first_width ns) × LeftsFitIn s n at (h + first_width ns) (other_widths ns) ls
+
+-- n words of values in temps from h on, for so many words of results with these names or none
+abbrev pub ValuesFit : Slots → (wanted h n : ℕ) → List ℕ → Type 0
+ValuesFit s wanted h n [] = (h + n ≤ s.temps) × (n ≤ wanted)
+ValuesFit s wanted h zero (site ∷ sites) = Unit {0}
+ValuesFit s wanted h (suc n) (site ∷ sites) = h + sites_words s (site ∷ sites) ≤ s.temps
+
+-- a new round's variables are moved through temps from h on
+abbrev pub RenewFits : Slots → (h : ℕ) → List ℕ → Type 0
+RenewFits s h [] = Unit {0}
+RenewFits s h (site ∷ sites) = (h + site_words s site ≤ s.temps) × RenewFits s h sites
+
+module _ (p : Program) (s : Slots) (n : ℕ) where
   -- there is the function, its words have room, and those in temps from h on too
   abbrev pub CallFits : (h f : ℕ) → Type 0
-  CallFits h f = (f < length fs) × (f ≤ 65535) × (arguments_of fs f + results_of fs f ≤ s.outgoing) × (h + arguments_of fs f ≤ s.temps) × (h + results_of fs f ≤ s.temps)
+  CallFits h f = (f < length p.funcs) × (f ≤ 65535) × (arguments_of p f + results_of p f ≤ s.outgoing) × (h + arguments_of p f ≤ s.temps) × (h + results_of p f ≤ s.temps)
 
   -- the sites are among n, and there are temps from h on
   abbrev mutual
     pub Fits : (h : ℕ) → Ex → Type 0
     Fits h (constant v) = h < s.temps
-    Fits h (read p) = (h < s.temps) × PlaceFits s n p
+    Fits h (read q) = (h + reached s q ≤ s.temps) × PlaceFits s n q
     Fits h (unary op e) = (h < s.temps) × Fits h e
     Fits h (binary at op a b) = (h + 1 < s.temps) × Fits h a × Fits (h + 1) b
     Fits h (both a b) = (h < s.temps) × Fits h a × Fits h b
@@ -61,7 +93,7 @@ module _ (fs : List Func) (s : Slots) (n : ℕ) where
 
     pub ExsFitIn : (h : ℕ) → Exs → Type 0
     ExsFitIn h none = Unit {0}
-    ExsFitIn h (more e es) = (h < s.temps) × Fits h e × ExsFitIn (h + 1) es
+    ExsFitIn h (more e es) = (h + wide p e ≤ s.temps) × Fits h e × ExsFitIn (h + wide p e) es
     ExsFitIn h (results f es) = CallFits h f × ExsFitIn h es
     ExsFitIn h asked = h + 2 ≤ s.temps
 
@@ -74,22 +106,22 @@ module _ (fs : List Func) (s : Slots) (n : ℕ) where
   TestFitsIn h None = Unit {0}
   TestFitsIn h (Some e) = (h < s.temps) × Fits h e
 
-  -- the statements of a function with so many results, and these names for them, with temps from h on
+  -- the statements of a function with so many words of results, and these names for them, with temps from h on
   module _ (wanted : ℕ) (named : List ℕ) where
     abbrev mutual
       pub StFitsIn : (h : ℕ) → St → Type 0
       StFitsIn h (declare sites) = SitesFit s n sites
-      StFitsIn h (assign ls es) = (h + length ls ≤ s.temps) × ExsFitIn h es × LeftsFitIn s n (h + length ls) h ls
-      StFitsIn h (update at p op e) = (h + 1 < s.temps) × PlaceFits s n p × Fits (h + 1) e
-      StFitsIn h (bump p op) = (h + 1 < s.temps) × PlaceFits s n p
+      StFitsIn h (assign ls es) = (h + all_wide p es ≤ s.temps) × ExsFitIn h es × LeftsFitIn s n (h + all_wide p es) h (value_widths p es) ls
+      StFitsIn h (update at q op e) = (h + 1 < s.temps) × PlaceFits s n q × (reached s q ≤ 1) × Fits (h + 1) e
+      StFitsIn h (bump q op) = (h + 1 < s.temps) × PlaceFits s n q × (reached s q ≤ 1)
       StFitsIn h (discard es) = ExsFitIn h es
       StFitsIn h (block ss) = StsFitIn h ss
       StFitsIn h (choose e a b) = (h < s.temps) × Fits h e × StsFitIn h a × StsFitIn h b
-      StFitsIn h (loop sites test post body) = TestFitsIn h test × SitesFit s n sites × RenewFits s.temps h sites × StsFitIn h post × StsFitIn h body
-      StFitsIn h (range (over_int e) key value body) = (h + 2 < s.temps) × Fits h e × LeftsFitIn s n (h + 2) (h + 1) (key ∷ []) × StsFitIn (h + 2) body
+      StFitsIn h (loop sites test post body) = TestFitsIn h test × SitesFit s n sites × RenewFits s h sites × StsFitIn h post × StsFitIn h body
+      StFitsIn h (range (over_int e) key value body) = (h + 2 < s.temps) × Fits h e × LeftFits s n (h + 2) key × (left_words s key ≤ 1) × StsFitIn (h + 2) body
       StFitsIn h break_off = Unit {0}
       StFitsIn h go_on = Unit {0}
-      StFitsIn h (give_back es) = ExsFitIn h es × ValuesFit s.temps wanted h (count_of fs es) named
+      StFitsIn h (give_back es) = ExsFitIn h es × ValuesFit s wanted h (all_wide p es) named
       StFitsIn h (print ln ps) = PiecesFitIn h ps
       StFitsIn h (raise at (text number)) = Unit {0}
       StFitsIn h (raise at (shown t e)) = (h < s.temps) × Fits h e
@@ -100,9 +132,9 @@ module _ (fs : List Func) (s : Slots) (n : ℕ) where
       StsFitIn h (next x xs) = StFitsIn h x × StsFitIn h xs
 
 -- a function in its frame
-pub record FuncFitsIn (fs : List Func) (f : Func) : Type 0 where
-  pub params : ParamsFitIn (slots_of fs f) f.count f.params
-  pub named : SitesFit (slots_of fs f) f.count f.named
-  pub names : length f.named ≤ result_words f
-  pub body : StsFitIn fs (slots_of fs f) f.count (result_words f) f.named 0 f.body
+pub record FuncFitsIn (p : Program) (f : Func) : Type 0 where
+  pub params : ParamsFitIn (slots_of p f) f.count (each_width f.param_types) f.params
+  pub named : SitesFit (slots_of p f) f.count f.named
+  pub names : sites_words (slots_of p f) f.named ≤ result_words f
+  pub body : StsFitIn p (slots_of p f) f.count (result_words f) f.named 0 f.body
   pub small : argument_words f + result_words f ≤ 65535

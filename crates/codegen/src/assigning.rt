@@ -1,72 +1,68 @@
 //! The code of declarations and assignments.
 ghost use Rattle.std.specs.Prelude.{◌≡◌, ◌+◌, ◌<◌, ◌≤◌, ◌++◌, ◌∷◌, [], OnOk, length, map};
 ghost use Rattle.isa.specs.declared.instr.Instr.{Instr};
-ghost use Rattle.typed.specs.View.{ex_of, exs_of_values, func_of, left_of, place_of};
+ghost use Rattle.typed.specs.View.{ex_of, exs_of_values, left_of, place_of, program_of};
+ghost use Rattle.typed.specs.Syntax.{all_wide, value_widths};
 ghost use Rattle.typed.specs.Frames.{far};
-ghost use Rattle.codegen.specs.Frame.{slots_in, IsSmall};
-ghost use Rattle.codegen.specs.Temps.{ExsFitIn, Fits, LeftsFitIn, PlaceFits, SiteFits};
-ghost use Rattle.codegen.specs.Code.{ex_code, exs_code, lefts_code, operation, read_code, site_slot, temp, write_code};
+ghost use Rattle.codegen.specs.Frame.{slots_in, left_code, IsSmall};
+ghost use Rattle.codegen.specs.Temps.{ExsFitIn, Fits, LeftFits, LeftsFitIn, PlaceFits, reached};
+ghost use Rattle.simulated_code.specs.Code.{ex_code, exs_code, lefts_code, operation, read_code, temp, write_code};
 
 use crate::jumps::put;
+use crate::moving::moves;
 use crate::reaching::{emit_read, emit_write};
 use crate::slots::Frame;
 use crate::values::{emit_expr, emit_operation, emit_values};
-use base::{NoMemory, SiteId};
+use crate::widths::value_words;
+use base::NoMemory;
+use frame_layout::values_words;
 use isa::Instr;
-use typed::{BinOp, Expr, Func, Left, Place, Values};
+use typed::{BinOp, Expr, Left, Place, Program, Values};
 
-// A new variable gets the value in temp h.
-fn emit_birth(code: &mut Vec<Instr>, frame: Frame, site: SiteId, h: u16) -> Result<(), NoMemory>
-    requires temp { h ≤ frame.temps }
-    requires site { SiteFits (slots_in frame) frame.sites site.0 }
-    requires frame { IsSmall frame }
-    ensures { OnOk result (code.new.items ≡ code.old.items ++ Instr.Move (site_slot (slots_in frame) site.0) (temp (slots_in frame) h) ∷ []) }
-{
-    let (a, b) = (frame.of_site(site), frame.temp(h));
-    put(code, Instr::Move { a, b })?;
-    Ok(())
-}
-
-/// The left sides get the values in temps from h on; an address goes to temp `at`.
-pub fn emit_lefts(
-    code: &mut Vec<Instr>,
-    frame: Frame,
-    ls: &[Left],
-    at: u16,
-    h: u16,
-) -> Result<(), NoMemory>
-    requires fits { LeftsFitIn (slots_in frame) frame.sites at h (map left_of ls.now) }
-    requires frame { IsSmall frame }
-    ensures { OnOk result (code.new.items ≡ code.old.items ++ lefts_code (slots_in frame) (map left_of ls.now) at h) }
-{
-    let mut next = h;
-    for left in ls {
-        match left {
-            Left::Blank => {}
-            Left::New(site) => emit_birth(code, frame, *site, next)?,
-            Left::To(place) => emit_write(code, frame, *place, at, next)?,
-        }
-        next += 1;
-    }
-    Ok(())
-}
-
-/// The left side gets the value in temp h; its address, if there is one, goes to temp `at`.
+/// The left side gets the value in temps from h on; its address, if there is one, goes to temp `at`.
 pub fn emit_left(
     code: &mut Vec<Instr>,
+    program: &Program,
     frame: Frame,
     left: Left,
     at: u16,
     h: u16,
 ) -> Result<(), NoMemory>
-    requires fits { LeftsFitIn (slots_in frame) frame.sites at h (left_of left ∷ []) }
-    requires frame { IsSmall frame }
-    ensures { OnOk result (code.new.items ≡ code.old.items ++ lefts_code (slots_in frame) (left_of left ∷ []) at h) }
+    requires temp { h ≤ frame.temps }
+    requires fits { LeftFits (slots_in program.now frame) frame.sites at (left_of left) }
+    requires frame { IsSmall program.now frame }
+    ensures { OnOk result (code.new.items ≡ code.old.items ++ left_code (slots_in program.now frame) (left_of left) at h) }
 {
     match left {
         Left::Blank => {}
-        Left::New(site) => emit_birth(code, frame, site, h)?,
-        Left::To(place) => emit_write(code, frame, place, at, h)?,
+        Left::New(site) => {
+            let (a, b) = (frame.of_site(program, site), frame.temp(h));
+            put(code, moves(frame.width_of(program, site), a, b))?;
+        }
+        Left::To(place) => emit_write(code, program, frame, place, at, h)?,
+    }
+    Ok(())
+}
+
+// The left sides get the values, which stand in temps from h on; an address goes to temp `at`.
+fn emit_lefts(
+    code: &mut Vec<Instr>,
+    program: &Program,
+    frame: Frame,
+    ls: &[Left],
+    values: &Values,
+    at: u16,
+    h: u16,
+) -> Result<(), NoMemory>
+    requires fits { LeftsFitIn (slots_in program.now frame) frame.sites at h (value_widths (program_of program.now) (exs_of_values values.now)) (map left_of ls.now) }
+    requires frame { IsSmall program.now frame }
+    ensures { OnOk result (code.new.items ≡ code.old.items
+        ++ lefts_code (slots_in program.now frame) (value_widths (program_of program.now) (exs_of_values values.now)) (map left_of ls.now) at h) }
+{
+    let mut next = h;
+    for (i, left) in ls.iter().enumerate() {
+        emit_left(code, program, frame, *left, at, next)?;
+        next += value_words(program, values, i)? as u16;
     }
     Ok(())
 }
@@ -74,20 +70,22 @@ pub fn emit_left(
 /// All values are there before the first left side gets its own; an address goes behind them.
 pub fn emit_assign(
     code: &mut Vec<Instr>,
-    funcs: &[Func],
+    program: &Program,
     frame: Frame,
     ls: &[Left],
     values: &Values,
     h: u16,
 ) -> Result<(), NoMemory>
-    requires room { h + length ls.now ≤ frame.temps }
-    requires fits { ExsFitIn (map func_of funcs.now) (slots_in frame) frame.sites h (exs_of_values values.now) × LeftsFitIn (slots_in frame) frame.sites (h + length ls.now) h (map left_of ls.now) }
-    requires frame { IsSmall frame }
+    requires room { h + all_wide (program_of program.now) (exs_of_values values.now) ≤ frame.temps }
+    requires fits { ExsFitIn (program_of program.now) (slots_in program.now frame) frame.sites h (exs_of_values values.now) × LeftsFitIn (slots_in program.now frame) frame.sites (h + all_wide (program_of program.now) (exs_of_values values.now)) h (value_widths (program_of program.now) (exs_of_values values.now)) (map left_of ls.now) }
+    requires frame { IsSmall program.now frame }
     ensures { OnOk result (code.new.items ≡ code.old.items
-        ++ (exs_code (map func_of funcs.now) (slots_in frame) (exs_of_values values.now) h (length code.old.items) ++ lefts_code (slots_in frame) (map left_of ls.now) (h + length ls.now) h)) }
+        ++ (exs_code (program_of program.now) (slots_in program.now frame) (exs_of_values values.now) h (length code.old.items)
+        ++ lefts_code (slots_in program.now frame) (value_widths (program_of program.now) (exs_of_values values.now)) (map left_of ls.now) (h + all_wide (program_of program.now) (exs_of_values values.now)) h)) }
 {
-    emit_values(code, funcs, frame, values, h)?;
-    emit_lefts(code, frame, ls, h + ls.len() as u16, h)?;
+    emit_values(code, program, frame, values, h)?;
+    let behind = h + values_words(program, values)? as u16;
+    emit_lefts(code, program, frame, ls, values, behind, h)?;
     Ok(())
 }
 
@@ -95,48 +93,49 @@ pub fn emit_assign(
 #[tactic(auto, using(crate::proofs::Emitted::update_emitted))]
 pub fn emit_update(
     code: &mut Vec<Instr>,
-    funcs: &[Func],
+    program: &Program,
     frame: Frame,
     place: Place,
     op: BinOp,
     e: &Expr,
     h: u16,
 ) -> Result<(), NoMemory>
-    requires fits { (h + 1 < frame.temps) × PlaceFits (slots_in frame) frame.sites (place_of place) × Fits (map func_of funcs.now) (slots_in frame) frame.sites (h + 1) (ex_of e.now) }
-    requires frame { IsSmall frame }
+    requires fits { (h + 1 < frame.temps) × PlaceFits (slots_in program.now frame) frame.sites (place_of place) × (reached (slots_in program.now frame) (place_of place) ≤ 1) × Fits (program_of program.now) (slots_in program.now frame) frame.sites (h + 1) (ex_of e.now) }
+    requires frame { IsSmall program.now frame }
     ensures { OnOk result (code.new.items ≡ code.old.items
-        ++ (read_code (slots_in frame) (place_of place) h
-        ++ (ex_code (map func_of funcs.now) (slots_in frame) (ex_of e.now) (h + 1) (length code.old.items + (far (place_of place) + 1))
-        ++ Instr.Bin (operation op) (temp (slots_in frame) h) (temp (slots_in frame) h) (temp (slots_in frame) (h + 1))
-        ∷ write_code (slots_in frame) (place_of place) (h + 1) h))) }
+        ++ (read_code (slots_in program.now frame) (place_of place) h
+        ++ (ex_code (program_of program.now) (slots_in program.now frame) (ex_of e.now) (h + 1) (length code.old.items + (far (place_of place) + 1))
+        ++ Instr.Bin (operation op) (temp (slots_in program.now frame) h) (temp (slots_in program.now frame) h) (temp (slots_in program.now frame) (h + 1))
+        ∷ write_code (slots_in program.now frame) (place_of place) (h + 1) h))) }
 {
-    emit_read(code, frame, place, h)?;
-    emit_expr(code, funcs, frame, e, h + 1)?;
-    emit_operation(code, frame, op, h)?;
-    emit_write(code, frame, place, h + 1, h)?;
+    emit_read(code, program, frame, place, h)?;
+    emit_expr(code, program, frame, e, h + 1)?;
+    emit_operation(code, program, frame, op, h)?;
+    emit_write(code, program, frame, place, h + 1, h)?;
     Ok(())
 }
 
 /// `++` or `--`.
 pub fn emit_bump(
     code: &mut Vec<Instr>,
+    program: &Program,
     frame: Frame,
     place: Place,
     op: BinOp,
     h: u16,
 ) -> Result<(), NoMemory>
-    requires fits { (h + 1 < frame.temps) × PlaceFits (slots_in frame) frame.sites (place_of place) }
-    requires frame { IsSmall frame }
+    requires fits { (h + 1 < frame.temps) × PlaceFits (slots_in program.now frame) frame.sites (place_of place) × (reached (slots_in program.now frame) (place_of place) ≤ 1) }
+    requires frame { IsSmall program.now frame }
     ensures { OnOk result (code.new.items ≡ code.old.items
-        ++ (read_code (slots_in frame) (place_of place) h
-        ++ (Instr.Const (temp (slots_in frame) (h + 1)) 1
-        ∷ Instr.Bin (operation op) (temp (slots_in frame) h) (temp (slots_in frame) h) (temp (slots_in frame) (h + 1))
-        ∷ write_code (slots_in frame) (place_of place) (h + 1) h))) }
+        ++ (read_code (slots_in program.now frame) (place_of place) h
+        ++ (Instr.Const (temp (slots_in program.now frame) (h + 1)) 1
+        ∷ Instr.Bin (operation op) (temp (slots_in program.now frame) h) (temp (slots_in program.now frame) h) (temp (slots_in program.now frame) (h + 1))
+        ∷ write_code (slots_in program.now frame) (place_of place) (h + 1) h))) }
 {
-    emit_read(code, frame, place, h)?;
+    emit_read(code, program, frame, place, h)?;
     let a = frame.temp(h + 1);
     put(code, Instr::Const { a, word: 1 })?;
-    emit_operation(code, frame, op, h)?;
-    emit_write(code, frame, place, h + 1, h)?;
+    emit_operation(code, program, frame, op, h)?;
+    emit_write(code, program, frame, place, h + 1, h)?;
     Ok(())
 }

@@ -1,6 +1,6 @@
 //! The heap with which a run begins: a word for each package variable, in their order.
 ghost use Rattle.std.specs.Prelude.{◌≡◌, ◌⊎◌, ℕ, ◌+◌, ◌<◌, ◌≤◌, ◌^◌, ◌++◌, ◌∷◌, [], length, map, Err, IfOk, IfErr, OnOk};
-ghost use Rattle.codegen.specs.Correct.{begun_word};
+ghost use Rattle.simulated_code.specs.Correct.{begun_word};
 ghost use Rattle.codegen.specs.declared.running.RunFault.{RunFault};
 
 use crate::RunFault;

@@ -1,10 +1,10 @@
 //! The code of statements.
-ghost use Rattle.std.specs.Prelude.{◌≡◌, ◌++◌, OnOk, length, map};
+ghost use Rattle.std.specs.Prelude.{◌≡◌, ◌++◌, OnOk, length};
 ghost use Rattle.typed.specs.Syntax.{argument_words, result_words};
-ghost use Rattle.typed.specs.View.{func_of, st_of, sts_of};
+ghost use Rattle.typed.specs.View.{func_of, program_of, st_of, sts_of};
 ghost use Rattle.codegen.specs.Frame.{slots_in, IsSmall, Returns};
 ghost use Rattle.codegen.specs.Temps.{StFitsIn, StsFitIn};
-ghost use Rattle.codegen.specs.Code.{st_code, sts_code};
+ghost use Rattle.simulated_code.specs.Code.{st_code, sts_code};
 
 use crate::assigning::{emit_assign, emit_bump, emit_update};
 use crate::jumps::{Goals, here, jump, pass_unless, put};
@@ -19,65 +19,65 @@ use crate::stmt_lengths::stmts_len;
 use crate::values::{emit_expr, emit_values};
 use base::NoMemory;
 use isa::Instr;
-use typed::{Func, Piece, Stmt};
+use typed::{Func, Piece, Program, Stmt};
 
 // With temps from h on.
 #[cycle(emit)]
 #[tactic(auto, using(typed::proofs::Rows::stmt_rows))]
 fn emit_stmt(
     code: &mut Vec<Instr>,
-    funcs: &[Func],
+    program: &Program,
     frame: Frame,
     func: &Func,
     s: &Stmt,
     h: u16,
     goals: Goals,
 ) -> Result<(), NoMemory>
-    requires fits { StFitsIn (map func_of funcs.now) (slots_in frame) frame.sites (result_words (func_of func.now)) (func_of func.now).named h (st_of s.now) }
-    requires returns { Returns frame (func_of func.now) }
-    requires frame { IsSmall frame }
+    requires fits { StFitsIn (program_of program.now) (slots_in program.now frame) frame.sites (result_words (func_of func.now)) (func_of func.now).named h (st_of s.now) }
+    requires returns { Returns program.now frame (func_of func.now) }
+    requires frame { IsSmall program.now frame }
     ensures { OnOk result (code.new.items ≡ code.old.items
-        ++ st_code (map func_of funcs.now) (argument_words (func_of func.now)) (func_of func.now).named (slots_in frame) (st_of s.now) h goals.out goals.again (length code.old.items)) }
+        ++ st_code (program_of program.now) (argument_words (func_of func.now)) (func_of func.now).named (slots_in program.now frame) (st_of s.now) h goals.out goals.again (length code.old.items)) }
 {
     let start = here(code)?;
     match s {
-        Stmt::Declare(sites) => emit_zeros(code, frame, sites)?,
-        Stmt::Assign(ls, values) => emit_assign(code, funcs, frame, ls, values, h)?,
-        Stmt::Update(_, place, op, e) => emit_update(code, funcs, frame, *place, *op, e, h)?,
-        Stmt::Bump(place, op) => emit_bump(code, frame, *place, *op, h)?,
-        Stmt::Discard(values) => emit_values(code, funcs, frame, values, h)?,
-        Stmt::Block(ss) => emit_stmts(code, funcs, frame, func, ss, h, goals)?,
+        Stmt::Declare(sites) => emit_zeros(code, program, frame, sites)?,
+        Stmt::Assign(ls, values) => emit_assign(code, program, frame, ls, values, h)?,
+        Stmt::Update(_, place, op, e) => emit_update(code, program, frame, *place, *op, e, h)?,
+        Stmt::Bump(place, op) => emit_bump(code, program, frame, *place, *op, h)?,
+        Stmt::Discard(values) => emit_values(code, program, frame, values, h)?,
+        Stmt::Block(ss) => emit_stmts(code, program, frame, func, ss, h, goals)?,
         Stmt::If(e, a, b) => {
-            let (yes, no) = (stmts_len(funcs, func, a)?, stmts_len(funcs, func, b)?);
-            emit_expr(code, funcs, frame, e, h)?;
-            pass_unless(code, frame, h, yes)?;
-            emit_stmts(code, funcs, frame, func, a, h, goals)?;
+            let (yes, no) = (stmts_len(program, func, a)?, stmts_len(program, func, b)?);
+            emit_expr(code, program, frame, e, h)?;
+            pass_unless(code, program, frame, h, yes)?;
+            emit_stmts(code, program, frame, func, a, h, goals)?;
             jump(code, no, 1)?;
-            emit_stmts(code, funcs, frame, func, b, h, goals)?;
+            emit_stmts(code, program, frame, func, b, h, goals)?;
         }
         Stmt::Loop(sites, test, post, body) => {
-            let inner = loop_goals(funcs, func, start, sites, test, post, body)?;
-            emit_test(code, funcs, frame, test, h, inner.out)?;
-            emit_stmts(code, funcs, frame, func, body, h, inner)?;
-            emit_renewal(code, frame, sites, h)?;
-            emit_stmts(code, funcs, frame, func, post, h, inner)?;
+            let inner = loop_goals(program, func, start, sites, test, post, body)?;
+            emit_test(code, program, frame, test, h, inner.out)?;
+            emit_stmts(code, program, frame, func, body, h, inner)?;
+            emit_renewal(code, program, frame, sites, h)?;
+            emit_stmts(code, program, frame, func, post, h, inner)?;
             put(code, Instr::Jump { to: start })?;
         }
         Stmt::Count(e, key, body) => {
-            let test = count_test(funcs, start, e)?;
-            let inner = count_goals(funcs, func, test, *key, body)?;
-            emit_count_start(code, funcs, frame, e, h)?;
-            emit_count_test(code, frame, *key, h, inner.out)?;
-            emit_stmts(code, funcs, frame, func, body, h + 2, inner)?;
-            emit_count_turn(code, frame, h, test)?;
+            let test = count_test(program, start, e)?;
+            let inner = count_goals(program, func, test, *key, body)?;
+            emit_count_start(code, program, frame, e, h)?;
+            emit_count_test(code, program, frame, *key, h, inner.out)?;
+            emit_stmts(code, program, frame, func, body, h + 2, inner)?;
+            emit_count_turn(code, program, frame, h, test)?;
         }
         Stmt::Break => put(code, Instr::Jump { to: goals.out })?,
         Stmt::Continue => put(code, Instr::Jump { to: goals.again })?,
-        Stmt::Return(values) => emit_return(code, funcs, frame, func, values, h)?,
-        Stmt::Print(line, ps) => emit_print(code, funcs, frame, *line, ps, h)?,
+        Stmt::Return(values) => emit_return(code, program, frame, func, values, h)?,
+        Stmt::Print(line, ps) => emit_print(code, program, frame, *line, ps, h)?,
         Stmt::Panic(_, Piece::Text(text)) => put(code, Instr::PanicText { text: *text })?,
-        Stmt::Panic(_, Piece::Shown(t, e)) => emit_raised(code, funcs, frame, *t, e, h)?,
-        Stmt::Exit(_, e) => emit_exit(code, funcs, frame, e, h)?,
+        Stmt::Panic(_, Piece::Shown(t, e)) => emit_raised(code, program, frame, *t, e, h)?,
+        Stmt::Exit(_, e) => emit_exit(code, program, frame, e, h)?,
     }
     Ok(())
 }
@@ -86,21 +86,21 @@ fn emit_stmt(
 #[cycle(emit)]
 pub fn emit_stmts(
     code: &mut Vec<Instr>,
-    funcs: &[Func],
+    program: &Program,
     frame: Frame,
     func: &Func,
     ss: &[Stmt],
     h: u16,
     goals: Goals,
 ) -> Result<(), NoMemory>
-    requires fits { StsFitIn (map func_of funcs.now) (slots_in frame) frame.sites (result_words (func_of func.now)) (func_of func.now).named h (sts_of ss.now) }
-    requires returns { Returns frame (func_of func.now) }
-    requires frame { IsSmall frame }
+    requires fits { StsFitIn (program_of program.now) (slots_in program.now frame) frame.sites (result_words (func_of func.now)) (func_of func.now).named h (sts_of ss.now) }
+    requires returns { Returns program.now frame (func_of func.now) }
+    requires frame { IsSmall program.now frame }
     ensures { OnOk result (code.new.items ≡ code.old.items
-        ++ sts_code (map func_of funcs.now) (argument_words (func_of func.now)) (func_of func.now).named (slots_in frame) (sts_of ss.now) h goals.out goals.again (length code.old.items)) }
+        ++ sts_code (program_of program.now) (argument_words (func_of func.now)) (func_of func.now).named (slots_in program.now frame) (sts_of ss.now) h goals.out goals.again (length code.old.items)) }
 {
     for s in ss {
-        emit_stmt(code, funcs, frame, func, s, h, goals)?;
+        emit_stmt(code, program, frame, func, s, h, goals)?;
     }
     Ok(())
 }

@@ -1,13 +1,14 @@
 //! Places in the code, and jumps to them.
 ghost use Rattle.std.specs.Prelude.{◌≡◌, ◌+◌, ◌≤◌, ◌++◌, ◌∷◌, [], length, IfOk, OnOk};
 ghost use Rattle.isa.specs.declared.instr.Instr.{Instr};
-ghost use Rattle.codegen.specs.Code.{temp};
+ghost use Rattle.simulated_code.specs.Code.{temp};
 ghost use Rattle.codegen.specs.Frame.{slots_in, IsSmall};
 
 use crate::lengths::{number, plus};
 use crate::slots::Frame;
 use base::NoMemory;
 use isa::Instr;
+use typed::Program;
 
 /// The places where `break` and `continue` go on.
 #[derive(Clone, Copy, Debug, PartialEq, Eq)]
@@ -58,10 +59,16 @@ pub fn jump(code: &mut Vec<Instr>, some: u32, more: u32) -> Result<(), NoMemory>
 }
 
 /// Where the condition in temp h is false, so many instructions and the jump behind them are passed over.
-pub fn pass_unless(code: &mut Vec<Instr>, frame: Frame, h: u16, len: u32) -> Result<(), NoMemory>
+pub fn pass_unless(
+    code: &mut Vec<Instr>,
+    program: &Program,
+    frame: Frame,
+    h: u16,
+    len: u32,
+) -> Result<(), NoMemory>
     requires temp { h ≤ frame.temps }
-    requires frame { IsSmall frame }
-    ensures { OnOk result (code.new.items ≡ code.old.items ++ Instr.JumpZero (temp (slots_in frame) h) (length code.old.items + len + 2) ∷ []) }
+    requires frame { IsSmall program.now frame }
+    ensures { OnOk result (code.new.items ≡ code.old.items ++ Instr.JumpZero (temp (slots_in program.now frame) h) (length code.old.items + len + 2) ∷ []) }
 {
     jump_if_zero(code, frame.temp(h), len, 2)?;
     Ok(())

@@ -1,12 +1,12 @@
 //! The numbers of instructions of expressions, which jumps go by.
-ghost use Rattle.std.specs.Prelude.{◌≡◌, ◌+◌, IfOk, map};
-ghost use Rattle.typed.specs.View.{ex_of, exs_of, exs_of_values, func_of, test_of};
-ghost use Rattle.codegen.specs.Code.{call_size, count_of, exs_size, move_size, size, test_size};
+ghost use Rattle.std.specs.Prelude.{◌≡◌, ◌+◌, ◌≤◌, IfOk};
+ghost use Rattle.typed.specs.View.{ex_of, exs_of, exs_of_values, program_of, test_of};
+ghost use Rattle.simulated_code.specs.Code.{call_size, exs_size, move_size, size, test_size};
 
 use crate::reaching::address_len;
 use base::{FuncId, NoMemory};
 use frame_layout::{arguments_of, results_of};
-use typed::{Expr, Func, Values};
+use typed::{Expr, Program, Values};
 
 /// The sum, where it is a number of 32 bits: a code has no more instructions.
 pub fn plus(a: u32, b: u32) -> Result<u32, NoMemory>
@@ -30,53 +30,56 @@ pub fn number(n: usize) -> Result<u32, NoMemory>
 
 /// The move of so many words.
 pub fn move_len(n: u64) -> u32
-    ensures { result ≡ move_size n }
+    ensures is { result ≡ move_size n }
+    ensures few { result ≤ 1 }
 {
     if n == 0 { 0 } else { 1 }
 }
 
-fn call_len(funcs: &[Func], f: FuncId) -> u32
-    ensures { result ≡ call_size (map func_of funcs.now) f.0 }
+fn call_len(program: &Program, f: FuncId) -> Result<u32, NoMemory>
+    ensures { IfOk result (λ n. n ≡ call_size (program_of program.now) f.0) }
 {
-    move_len(arguments_of(funcs, f)) + 1 + move_len(results_of(funcs, f))
+    let arguments = move_len(arguments_of(program, f)?);
+    let results = move_len(results_of(program, f)?);
+    Ok(arguments + 1 + results)
 }
 
 /// An expression.
 #[cycle(values)]
-pub fn expr_len(funcs: &[Func], e: &Expr) -> Result<u32, NoMemory>
-    ensures { IfOk result (λ n. n ≡ size (map func_of funcs.now) (ex_of e.now)) }
+pub fn expr_len(program: &Program, e: &Expr) -> Result<u32, NoMemory>
+    ensures { IfOk result (λ n. n ≡ size (program_of program.now) (ex_of e.now)) }
 {
     match e {
         Expr::Constant(_) => Ok(1),
         Expr::Read(place) => Ok(address_len(*place) + 1),
         Expr::Unary(_, a) => {
-            let n = expr_len(funcs, a)?;
+            let n = expr_len(program, a)?;
             plus(n, 1)
         }
         Expr::Binary(_, _, a, b) => {
-            let m = expr_len(funcs, a)?;
-            let n = expr_len(funcs, b)?;
+            let m = expr_len(program, a)?;
+            let n = expr_len(program, b)?;
             let both = plus(m, n)?;
             plus(both, 1)
         }
         // A jump stands between the operands.
         Expr::Both(a, b) => {
-            let m = expr_len(funcs, a)?;
-            let n = expr_len(funcs, b)?;
+            let m = expr_len(program, a)?;
+            let n = expr_len(program, b)?;
             let first = plus(m, 1)?;
             plus(first, n)
         }
         // Two do.
         Expr::Either(a, b) => {
-            let m = expr_len(funcs, a)?;
-            let n = expr_len(funcs, b)?;
+            let m = expr_len(program, a)?;
+            let n = expr_len(program, b)?;
             let first = plus(m, 2)?;
             plus(first, n)
         }
         Expr::Call(f, arguments) => {
             let arguments: &Values = arguments;
-            let n = values_len(funcs, arguments)?;
-            plus(n, call_len(funcs, *f))
+            let n = values_len(program, arguments)?;
+            plus(n, call_len(program, *f)?)
         }
     }
 }
@@ -84,58 +87,46 @@ pub fn expr_len(funcs: &[Func], e: &Expr) -> Result<u32, NoMemory>
 /// Values.
 #[cycle(values)]
 #[tactic(auto, using(typed::proofs::Rows::expr_rows))]
-pub fn values_len(funcs: &[Func], values: &Values) -> Result<u32, NoMemory>
-    ensures { IfOk result (λ n. n ≡ exs_size (map func_of funcs.now) (exs_of_values values.now)) }
+pub fn values_len(program: &Program, values: &Values) -> Result<u32, NoMemory>
+    ensures { IfOk result (λ n. n ≡ exs_size (program_of program.now) (exs_of_values values.now)) }
 {
     match values {
-        Values::Each(es) => row_len(funcs, es),
+        Values::Each(es) => row_len(program, es),
         Values::Results(f, arguments) => {
             let arguments: &Values = arguments;
-            let n = values_len(funcs, arguments)?;
-            plus(n, call_len(funcs, *f))
+            let n = values_len(program, arguments)?;
+            plus(n, call_len(program, *f)?)
         }
         Values::ReadInt => Ok(1),
     }
 }
 
 #[cycle(values)]
-fn row_len(funcs: &[Func], es: &[Expr]) -> Result<u32, NoMemory>
-    ensures { IfOk result (λ n. n ≡ exs_size (map func_of funcs.now) (exs_of es.now)) }
+fn row_len(program: &Program, es: &[Expr]) -> Result<u32, NoMemory>
+    ensures { IfOk result (λ n. n ≡ exs_size (program_of program.now) (exs_of es.now)) }
 {
     let mut total = 0;
     for e in es {
-        let n = expr_len(funcs, e)?;
+        let n = expr_len(program, e)?;
         total = plus(total, n)?;
     }
     Ok(total)
 }
 
 /// An expression and an instruction behind it.
-pub fn last_len(funcs: &[Func], e: &Expr) -> Result<u32, NoMemory>
-    ensures { IfOk result (λ n. n ≡ size (map func_of funcs.now) (ex_of e.now) + 1) }
+pub fn last_len(program: &Program, e: &Expr) -> Result<u32, NoMemory>
+    ensures { IfOk result (λ n. n ≡ size (program_of program.now) (ex_of e.now) + 1) }
 {
-    let n = expr_len(funcs, e)?;
+    let n = expr_len(program, e)?;
     plus(n, 1)
 }
 
 /// A condition, where there is one, and the jump behind it.
-pub fn test_len(funcs: &[Func], test: &Option<Expr>) -> Result<u32, NoMemory>
-    ensures { IfOk result (λ n. n ≡ test_size (map func_of funcs.now) (test_of test.now)) }
+pub fn test_len(program: &Program, test: &Option<Expr>) -> Result<u32, NoMemory>
+    ensures { IfOk result (λ n. n ≡ test_size (program_of program.now) (test_of test.now)) }
 {
     match test {
         None => Ok(0),
-        Some(e) => last_len(funcs, e),
-    }
-}
-
-/// How many values there are.
-#[tactic(auto, using(typed::proofs::Rows::expr_rows, crate::proofs::Pieces::counts))]
-pub fn count(funcs: &[Func], values: &Values) -> u64
-    ensures { result ≡ count_of (map func_of funcs.now) (exs_of_values values.now) }
-{
-    match values {
-        Values::Each(es) => es.len() as u64,
-        Values::Results(f, _) => results_of(funcs, *f),
-        Values::ReadInt => 2,
+        Some(e) => last_len(program, e),
     }
 }

@@ -3,20 +3,21 @@ ghost use Rattle.std.specs.Prelude.{◌≡◌, ◌+◌, ◌<◌, ◌≤◌, ◌+
 ghost use Rattle.isa.specs.declared.instr.Instr.{Instr};
 ghost use Rattle.isa.specs.declared.instr.BinOp.{BinOp};
 ghost use Rattle.typed.specs.Syntax.{argument_words};
-ghost use Rattle.typed.specs.View.{ex_of, func_of, left_of, site_numbers, sts_of, test_of};
-ghost use Rattle.codegen.specs.Frame.{slots_in, IsSmall};
-ghost use Rattle.codegen.specs.Temps.{Fits, LeftsFitIn, RenewFits, SitesFit, TestFitsIn};
-ghost use Rattle.codegen.specs.Code.{ex_code, lefts_code, lefts_size, renew_code, renew_size, size, sts_size, temp, test_code, test_size};
+ghost use Rattle.typed.specs.View.{ex_of, func_of, left_of, program_of, site_numbers, sts_of, test_of};
+ghost use Rattle.codegen.specs.Frame.{slots_in, left_code, IsSmall};
+ghost use Rattle.codegen.specs.Temps.{Fits, LeftFits, RenewFits, SitesFit, TestFitsIn};
+ghost use Rattle.simulated_code.specs.Code.{ex_code, lefts_size, renew_code, renew_size, size, sts_size, temp, test_code, test_size};
 
 use crate::assigning::emit_left;
 use crate::jumps::{Goals, put};
 use crate::lengths::{last_len, plus, test_len};
+use crate::moving::moves;
 use crate::slots::Frame;
 use crate::stmt_lengths::{key_len, renew_len, stmts_len};
 use crate::values::emit_expr;
 use base::{NoMemory, SiteId};
 use isa::Instr;
-use typed::{Expr, Func, Left, Stmt};
+use typed::{Expr, Func, Left, Program, Stmt};
 
 /// The test of a `range` over a number, and its jump.
 const TEST: u32 = 2;
@@ -27,20 +28,20 @@ const TURN: u32 = 3;
 /// Where the condition is false, goes on at a place.
 pub fn emit_test(
     code: &mut Vec<Instr>,
-    funcs: &[Func],
+    program: &Program,
     frame: Frame,
     test: &Option<Expr>,
     h: u16,
     goal: u32,
 ) -> Result<(), NoMemory>
-    requires fits { TestFitsIn (map func_of funcs.now) (slots_in frame) frame.sites h (test_of test.now) }
-    requires frame { IsSmall frame }
-    ensures { OnOk result (code.new.items ≡ code.old.items ++ test_code (map func_of funcs.now) (slots_in frame) (test_of test.now) h (length code.old.items) goal) }
+    requires fits { TestFitsIn (program_of program.now) (slots_in program.now frame) frame.sites h (test_of test.now) }
+    requires frame { IsSmall program.now frame }
+    ensures { OnOk result (code.new.items ≡ code.old.items ++ test_code (program_of program.now) (slots_in program.now frame) (test_of test.now) h (length code.old.items) goal) }
 {
     match test {
         None => {}
         Some(e) => {
-            emit_expr(code, funcs, frame, e, h)?;
+            emit_expr(code, program, frame, e, h)?;
             let a = frame.temp(h);
             put(code, Instr::JumpZero { a, to: goal })?;
         }
@@ -48,29 +49,31 @@ pub fn emit_test(
     Ok(())
 }
 
-/// A new round's variables get the words of the old ones, through temp h.
+/// A new round's variables get the words of the old ones, through temps from h on.
 pub fn emit_renewal(
     code: &mut Vec<Instr>,
+    program: &Program,
     frame: Frame,
     sites: &[SiteId],
     h: u16,
 ) -> Result<(), NoMemory>
-    requires fits { SitesFit (slots_in frame) frame.sites (site_numbers sites.now) }
-    requires temp { RenewFits frame.temps h (site_numbers sites.now) }
-    requires frame { IsSmall frame }
-    ensures { OnOk result (code.new.items ≡ code.old.items ++ renew_code (slots_in frame) (site_numbers sites.now) h) }
+    requires fits { SitesFit (slots_in program.now frame) frame.sites (site_numbers sites.now) }
+    requires temps { RenewFits (slots_in program.now frame) h (site_numbers sites.now) }
+    requires frame { IsSmall program.now frame }
+    ensures { OnOk result (code.new.items ≡ code.old.items ++ renew_code (slots_in program.now frame) (site_numbers sites.now) h) }
 {
     for site in sites {
-        let (old, moved) = (frame.of_site(*site), frame.temp(h));
-        put(code, Instr::Move { a: moved, b: old })?;
-        put(code, Instr::Move { a: old, b: moved })?;
+        let (old, moved) = (frame.of_site(program, *site), frame.temp(h));
+        let n = frame.width_of(program, *site);
+        put(code, moves(n, moved, old))?;
+        put(code, moves(n, old, moved))?;
     }
     Ok(())
 }
 
 /// Where `break` and `continue` go from the body of a loop that begins at a place.
 pub fn loop_goals(
-    funcs: &[Func],
+    program: &Program,
     func: &Func,
     start: u32,
     sites: &[SiteId],
@@ -78,40 +81,40 @@ pub fn loop_goals(
     post: &[Stmt],
     body: &[Stmt],
 ) -> Result<Goals, NoMemory>
-    ensures again { IfOk result (λ g. g.again ≡ start + test_size (map func_of funcs.now) (test_of test.now)
-        + sts_size (map func_of funcs.now) (argument_words (func_of func.now)) (func_of func.now).named (sts_of body.now)) }
+    ensures again { IfOk result (λ g. g.again ≡ start + test_size (program_of program.now) (test_of test.now)
+        + sts_size (program_of program.now) (argument_words (func_of func.now)) (func_of func.now).named (sts_of body.now)) }
     ensures out { IfOk result (λ g. g.out ≡ g.again + renew_size (site_numbers sites.now)
-        + sts_size (map func_of funcs.now) (argument_words (func_of func.now)) (func_of func.now).named (sts_of post.now) + 1) }
+        + sts_size (program_of program.now) (argument_words (func_of func.now)) (func_of func.now).named (sts_of post.now) + 1) }
 {
-    let inside = plus(start, test_len(funcs, test)?)?;
-    let again = plus(inside, stmts_len(funcs, func, body)?)?;
+    let inside = plus(start, test_len(program, test)?)?;
+    let again = plus(inside, stmts_len(program, func, body)?)?;
     let last = plus(again, renew_len(sites)?)?;
-    let jump = plus(last, stmts_len(funcs, func, post)?)?;
+    let jump = plus(last, stmts_len(program, func, post)?)?;
     let out = plus(jump, 1)?;
     Ok(Goals { out, again })
 }
 
 /// Where the test of a `range` stands that begins at a place.
-pub fn count_test(funcs: &[Func], start: u32, e: &Expr) -> Result<u32, NoMemory>
-    ensures { IfOk result (λ n. n ≡ start + size (map func_of funcs.now) (ex_of e.now) + 1) }
+pub fn count_test(program: &Program, start: u32, e: &Expr) -> Result<u32, NoMemory>
+    ensures { IfOk result (λ n. n ≡ start + size (program_of program.now) (ex_of e.now) + 1) }
 {
-    plus(start, last_len(funcs, e)?)
+    plus(start, last_len(program, e)?)
 }
 
 /// Where `break` and `continue` go from the body of a `range` whose test stands at a place.
 pub fn count_goals(
-    funcs: &[Func],
+    program: &Program,
     func: &Func,
     test: u32,
     key: Left,
     body: &[Stmt],
 ) -> Result<Goals, NoMemory>
     ensures again { IfOk result (λ g. g.again ≡ test + 2 + lefts_size (left_of key ∷ [])
-        + sts_size (map func_of funcs.now) (argument_words (func_of func.now)) (func_of func.now).named (sts_of body.now)) }
+        + sts_size (program_of program.now) (argument_words (func_of func.now)) (func_of func.now).named (sts_of body.now)) }
     ensures out { IfOk result (λ g. g.out ≡ g.again + 3) }
 {
     let inside = plus(test, TEST + key_len(key))?;
-    let again = plus(inside, stmts_len(funcs, func, body)?)?;
+    let again = plus(inside, stmts_len(program, func, body)?)?;
     let out = plus(again, TURN)?;
     Ok(Goals { out, again })
 }
@@ -119,18 +122,18 @@ pub fn count_goals(
 /// The number of a `range` lands in temp h, and its index, 0, above it.
 pub fn emit_count_start(
     code: &mut Vec<Instr>,
-    funcs: &[Func],
+    program: &Program,
     frame: Frame,
     e: &Expr,
     h: u16,
 ) -> Result<(), NoMemory>
-    requires fits { Fits (map func_of funcs.now) (slots_in frame) frame.sites h (ex_of e.now) }
+    requires fits { Fits (program_of program.now) (slots_in program.now frame) frame.sites h (ex_of e.now) }
     requires temps { h + 1 < frame.temps }
-    requires frame { IsSmall frame }
+    requires frame { IsSmall program.now frame }
     ensures { OnOk result (code.new.items ≡ code.old.items
-        ++ (ex_code (map func_of funcs.now) (slots_in frame) (ex_of e.now) h (length code.old.items) ++ Instr.Const (temp (slots_in frame) (h + 1)) 0 ∷ [])) }
+        ++ (ex_code (program_of program.now) (slots_in program.now frame) (ex_of e.now) h (length code.old.items) ++ Instr.Const (temp (slots_in program.now frame) (h + 1)) 0 ∷ [])) }
 {
-    emit_expr(code, funcs, frame, e, h)?;
+    emit_expr(code, program, frame, e, h)?;
     let a = frame.temp(h + 1);
     put(code, Instr::Const { a, word: 0 })?;
     Ok(())
@@ -139,18 +142,19 @@ pub fn emit_count_start(
 /// A round begins: where the index is not below the number, goes on at a place; else the left side gets the index.
 pub fn emit_count_test(
     code: &mut Vec<Instr>,
+    program: &Program,
     frame: Frame,
     key: Left,
     h: u16,
     out: u32,
 ) -> Result<(), NoMemory>
     requires temps { h + 2 < frame.temps }
-    requires key { LeftsFitIn (slots_in frame) frame.sites (h + 2) (h + 1) (left_of key ∷ []) }
-    requires frame { IsSmall frame }
+    requires key { LeftFits (slots_in program.now frame) frame.sites (h + 2) (left_of key) }
+    requires frame { IsSmall program.now frame }
     ensures { OnOk result (code.new.items ≡ code.old.items
-        ++ Instr.Bin BinOp.Less (temp (slots_in frame) (h + 2)) (temp (slots_in frame) (h + 1)) (temp (slots_in frame) h)
-        ∷ Instr.JumpZero (temp (slots_in frame) (h + 2)) out
-        ∷ lefts_code (slots_in frame) (left_of key ∷ []) (h + 2) (h + 1)) }
+        ++ Instr.Bin BinOp.Less (temp (slots_in program.now frame) (h + 2)) (temp (slots_in program.now frame) (h + 1)) (temp (slots_in program.now frame) h)
+        ∷ Instr.JumpZero (temp (slots_in program.now frame) (h + 2)) out
+        ∷ left_code (slots_in program.now frame) (left_of key) (h + 2) (h + 1)) }
 {
     let (number, index, below) = (frame.temp(h), frame.temp(h + 1), frame.temp(h + 2));
     let op = isa::BinOp::Less;
@@ -164,22 +168,23 @@ pub fn emit_count_test(
         },
     )?;
     put(code, Instr::JumpZero { a: below, to: out })?;
-    emit_left(code, frame, key, h + 2, h + 1)?;
+    emit_left(code, program, frame, key, h + 2, h + 1)?;
     Ok(())
 }
 
 /// A round ends: the index grows by 1, and the test comes again.
 pub fn emit_count_turn(
     code: &mut Vec<Instr>,
+    program: &Program,
     frame: Frame,
     h: u16,
     test: u32,
 ) -> Result<(), NoMemory>
     requires temps { h + 2 < frame.temps }
-    requires frame { IsSmall frame }
+    requires frame { IsSmall program.now frame }
     ensures { OnOk result (code.new.items ≡ code.old.items
-        ++ Instr.Const (temp (slots_in frame) (h + 2)) 1
-        ∷ Instr.Bin BinOp.Add (temp (slots_in frame) (h + 1)) (temp (slots_in frame) (h + 1)) (temp (slots_in frame) (h + 2))
+        ++ Instr.Const (temp (slots_in program.now frame) (h + 2)) 1
+        ∷ Instr.Bin BinOp.Add (temp (slots_in program.now frame) (h + 1)) (temp (slots_in program.now frame) (h + 1)) (temp (slots_in program.now frame) (h + 2))
         ∷ Instr.Jump test ∷ []) }
 {
     let (index, one) = (frame.temp(h + 1), frame.temp(h + 2));

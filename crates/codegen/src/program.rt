@@ -1,19 +1,19 @@
 //! The code of a program: its tables, function by function.
 ghost use Rattle.std.specs.Prelude.{◌≡◌, ◌+◌, ◌<◌, ◌≤◌, ◌^◌, ◌++◌, ◌∷◌, [], IfOk, OnOk, length, map, replicate};
-ghost use Rattle.typed.specs.View.{func_of, program_of, site_in};
+ghost use Rattle.typed.specs.View.{func_of, program_of};
 ghost use Rattle.typed.specs.Form.{IsInForm};
 ghost use Rattle.frame_layout.specs.Layout.{layout_in, layouts as layouts_of};
-ghost use Rattle.codegen.specs.Frame.{slots_in, IsSmall, Returns};
-ghost use Rattle.codegen.specs.Temps.{FuncFitsIn, ParamsFitIn, SitesFit};
-ghost use Rattle.codegen.specs.Code.{code_of, entry_of, func_code, func_size, params_code, slots_of, zeros_code};
-ghost use Rattle.codegen.specs.Correct.{Simulated};
+ghost use Rattle.codegen.specs.Frame.{slots_in, IsSmall};
+ghost use Rattle.codegen.specs.Temps.{FuncFitsIn};
+ghost use Rattle.simulated_code.specs.Code.{code_of, entry_of, func_code, func_size, slots_of};
+ghost use Rattle.simulated_code.specs.Correct.{Simulated};
 
 use crate::emitting::emit_stmts;
 use crate::jumps::{Goals, here};
 use crate::returning::{emit_leave, emit_params, emit_zeros};
 use crate::slots::Frame;
 use base::NoMemory;
-use frame_layout::{FrameLayout, Layouts};
+use frame_layout::{FrameLayout, Layouts, all_words};
 use isa::{Code, Instr};
 use std::alloc::Global;
 use typed::{Func, Program};
@@ -29,22 +29,22 @@ struct Parts {
 // A function's code stands behind the others'.
 fn emit_func(
     code: &mut Vec<Instr>,
-    funcs: &[Func],
+    program: &Program,
     frame: Frame,
     func: &Func,
 ) -> Result<(), NoMemory>
-    requires slots { slots_in frame ≡ slots_of (map func_of funcs.now) (func_of func.now) }
+    requires slots { slots_in program.now frame ≡ slots_of (program_of program.now) (func_of func.now) }
     requires sites { frame.sites ≡ func.now.sites }
-    requires fits { FuncFitsIn (map func_of funcs.now) (func_of func.now) }
-    requires frame { IsSmall frame }
-    ensures { OnOk result (code.new.items ≡ code.old.items ++ func_code (map func_of funcs.now) (func_of func.now) (length code.old.items)) }
+    requires fits { FuncFitsIn (program_of program.now) (func_of func.now) }
+    requires frame { IsSmall program.now frame }
+    ensures { OnOk result (code.new.items ≡ code.old.items ++ func_code (program_of program.now) (func_of func.now) (length code.old.items)) }
 {
-    emit_params(code, frame, &func.params)?;
-    emit_zeros(code, frame, &func.named)?;
+    emit_params(code, program, frame, &func.params, &func.param_types)?;
+    emit_zeros(code, program, frame, &func.named)?;
     // No loop is around the body.
     let goals = Goals { out: 0, again: 0 };
-    emit_stmts(code, funcs, frame, func, &func.body, 0, goals)?;
-    emit_leave(code, frame, func)?;
+    emit_stmts(code, program, frame, func, &func.body, 0, goals)?;
+    emit_leave(code, program, frame, func)?;
     Ok(())
 }
 
@@ -91,31 +91,33 @@ fn copied(alloc: Global, strings: &[Vec<u8>]) -> Result<Vec<Vec<u8>>, NoMemory>
 // A function comes behind the others, with this number.
 fn add(
     parts: &mut Parts,
-    funcs: &[Func],
+    program: &Program,
     func: &Func,
     layout: FrameLayout,
     number: u16,
 ) -> Result<(), NoMemory>
-    requires fits { FuncFitsIn (map func_of funcs.now) (func_of func.now) }
-    requires layout { layout ≡ layout_in (map func_of funcs.now) (func_of func.now) }
-    ensures instrs { OnOk result (parts.new.instrs.items ≡ parts.old.instrs.items ++ func_code (map func_of funcs.now) (func_of func.now) (length parts.old.instrs.items)) }
-    ensures owners { OnOk result (parts.new.owners.items ≡ parts.old.owners.items ++ replicate (func_size (map func_of funcs.now) (func_of func.now)) number) }
-    ensures funcs { OnOk result (parts.new.funcs.items ≡ parts.old.funcs.items ++ entry_of (map func_of funcs.now) (func_of func.now) (length parts.old.instrs.items) ∷ []) }
+    requires fits { FuncFitsIn (program_of program.now) (func_of func.now) }
+    requires layout { layout ≡ layout_in (program_of program.now) (func_of func.now) }
+    ensures instrs { OnOk result (parts.new.instrs.items ≡ parts.old.instrs.items ++ func_code (program_of program.now) (func_of func.now) (length parts.old.instrs.items)) }
+    ensures owners { OnOk result (parts.new.owners.items ≡ parts.old.owners.items ++ replicate (func_size (program_of program.now) (func_of func.now)) number) }
+    ensures funcs { OnOk result (parts.new.funcs.items ≡ parts.old.funcs.items ++ entry_of (program_of program.now) (func_of func.now) (length parts.old.instrs.items) ∷ []) }
 {
     let start = here(&parts.instrs)?;
     let frame = Frame {
         outgoing: layout.outgoing,
         temps: layout.temps,
         first: func.first_site,
-        sites: func.sites as u16,
+        sites: func.sites,
     };
-    emit_func(&mut parts.instrs, funcs, frame, func)?;
+    emit_func(&mut parts.instrs, program, frame, func)?;
     let places = parts.instrs.len() - start as usize;
     own(&mut parts.owners, number, places)?;
+    let arguments = all_words(&func.param_types)? as u16;
+    let results = all_words(&func.results)? as u16;
     let entry = isa::Func {
         frame: layout.frame,
-        arguments: func.params.len() as u16,
-        results: func.results.len() as u16,
+        arguments,
+        results,
         start,
     };
     put_entry(&mut parts.funcs, entry)?;
@@ -141,7 +143,7 @@ pub fn emit(alloc: Global, program: &Program, layouts: &Layouts) -> Result<Code,
     };
     let mut number: u16 = 0;
     for func in funcs {
-        add(&mut parts, funcs, func, frames[number as usize], number)?;
+        add(&mut parts, program, func, frames[number as usize], number)?;
         number += 1;
     }
     here(&parts.instrs)?;

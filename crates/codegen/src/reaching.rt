@@ -1,17 +1,18 @@
 //! The code that reaches places: local variables in their slots, package variables by their addresses.
-ghost use Rattle.std.specs.Prelude.{◌≡◌, ◌<◌, ◌≤◌, ◌++◌, ◌∷◌, [], OnOk};
+ghost use Rattle.std.specs.Prelude.{◌≡◌, ◌+◌, ◌≤◌, ◌++◌, ◌∷◌, [], OnOk};
 ghost use Rattle.typed.specs.View.{place_of};
 ghost use Rattle.typed.specs.Frames.{far};
 ghost use Rattle.codegen.specs.Frame.{slots_in, IsSmall};
-ghost use Rattle.codegen.specs.Temps.{AddressFits, PlaceFits};
-ghost use Rattle.codegen.specs.Code.{address_code, fetch_code, land_code, read_code, write_code, global_address as address_of_global};
+ghost use Rattle.codegen.specs.Temps.{AddressFits, PlaceFits, reached};
+ghost use Rattle.simulated_code.specs.Code.{address_code, fetch_code, land_code, read_code, write_code, global_address as address_of_global};
 
 use crate::jumps::put;
+use crate::moving::moves;
 use crate::slots::Frame;
 use base::NoMemory;
 use heap_bump::HEAP_LOW;
 use isa::Instr;
-use typed::Place;
+use typed::{Place, Program};
 
 /// The number of instructions that put down the address of a place.
 pub fn address_len(place: Place) -> u32
@@ -32,10 +33,16 @@ fn global_address(number: u32) -> u64
 }
 
 // The address of a place, where it is reached by one, goes to temp h.
-fn emit_address(code: &mut Vec<Instr>, frame: Frame, place: Place, h: u16) -> Result<(), NoMemory>
+fn emit_address(
+    code: &mut Vec<Instr>,
+    program: &Program,
+    frame: Frame,
+    place: Place,
+    h: u16,
+) -> Result<(), NoMemory>
     requires temp { AddressFits frame.temps h (place_of place) }
-    requires frame { IsSmall frame }
-    ensures { OnOk result (code.new.items ≡ code.old.items ++ address_code (slots_in frame) (place_of place) h) }
+    requires frame { IsSmall program.now frame }
+    ensures { OnOk result (code.new.items ≡ code.old.items ++ address_code (slots_in program.now frame) (place_of place) h) }
 {
     match place {
         Place::Local(_) => {}
@@ -48,9 +55,11 @@ fn emit_address(code: &mut Vec<Instr>, frame: Frame, place: Place, h: u16) -> Re
     Ok(())
 }
 
-// The word of a place goes to temp h; its address, if there is one, is in temp `at`.
+// The words of a place go to temps from h on; its address, if there is one, is in temp `at`.
+#[tactic(auto, using(crate::proofs::InSlots::fetch_whole))]
 fn emit_fetch(
     code: &mut Vec<Instr>,
+    program: &Program,
     frame: Frame,
     place: Place,
     at: u16,
@@ -58,15 +67,15 @@ fn emit_fetch(
 ) -> Result<(), NoMemory>
     requires temp { h ≤ frame.temps }
     requires address { AddressFits frame.temps at (place_of place) }
-    requires place { PlaceFits (slots_in frame) frame.sites (place_of place) }
-    requires frame { IsSmall frame }
-    ensures { OnOk result (code.new.items ≡ code.old.items ++ fetch_code (slots_in frame) (place_of place) at h ∷ []) }
+    requires place { PlaceFits (slots_in program.now frame) frame.sites (place_of place) }
+    requires frame { IsSmall program.now frame }
+    ensures { OnOk result (code.new.items ≡ code.old.items ++ fetch_code (slots_in program.now frame) (place_of place) at h ∷ []) }
 {
     let a = frame.temp(h);
     match place {
         Place::Local(site) => {
-            let b = frame.of_site(site);
-            put(code, Instr::Move { a, b })?;
+            let (b, n) = (frame.of_site(program, site), frame.width_of(program, site));
+            put(code, moves(n, a, b))?;
         }
         Place::Global(_) => {
             let b = frame.temp(at);
@@ -76,9 +85,11 @@ fn emit_fetch(
     Ok(())
 }
 
-// A place gets the word of temp h; its address, if there is one, is in temp `at`.
+// A place gets the words of temps from h on; its address, if there is one, is in temp `at`.
+#[tactic(auto, using(crate::proofs::InSlots::land_whole))]
 fn emit_land(
     code: &mut Vec<Instr>,
+    program: &Program,
     frame: Frame,
     place: Place,
     at: u16,
@@ -86,15 +97,15 @@ fn emit_land(
 ) -> Result<(), NoMemory>
     requires temp { h ≤ frame.temps }
     requires address { AddressFits frame.temps at (place_of place) }
-    requires place { PlaceFits (slots_in frame) frame.sites (place_of place) }
-    requires frame { IsSmall frame }
-    ensures { OnOk result (code.new.items ≡ code.old.items ++ land_code (slots_in frame) (place_of place) at h ∷ []) }
+    requires place { PlaceFits (slots_in program.now frame) frame.sites (place_of place) }
+    requires frame { IsSmall program.now frame }
+    ensures { OnOk result (code.new.items ≡ code.old.items ++ land_code (slots_in program.now frame) (place_of place) at h ∷ []) }
 {
     let value = frame.temp(h);
     match place {
         Place::Local(site) => {
-            let a = frame.of_site(site);
-            put(code, Instr::Move { a, b: value })?;
+            let (a, n) = (frame.of_site(program, site), frame.width_of(program, site));
+            put(code, moves(n, a, value))?;
         }
         Place::Global(_) => {
             let a = frame.temp(at);
@@ -112,21 +123,28 @@ fn emit_land(
     Ok(())
 }
 
-/// The value of a place goes to temp h.
-pub fn emit_read(code: &mut Vec<Instr>, frame: Frame, place: Place, h: u16) -> Result<(), NoMemory>
-    requires temp { h < frame.temps }
-    requires place { PlaceFits (slots_in frame) frame.sites (place_of place) }
-    requires frame { IsSmall frame }
-    ensures { OnOk result (code.new.items ≡ code.old.items ++ read_code (slots_in frame) (place_of place) h) }
+/// The value of a place goes to temps from h on.
+pub fn emit_read(
+    code: &mut Vec<Instr>,
+    program: &Program,
+    frame: Frame,
+    place: Place,
+    h: u16,
+) -> Result<(), NoMemory>
+    requires temp { h + reached (slots_in program.now frame) (place_of place) ≤ frame.temps }
+    requires place { PlaceFits (slots_in program.now frame) frame.sites (place_of place) }
+    requires frame { IsSmall program.now frame }
+    ensures { OnOk result (code.new.items ≡ code.old.items ++ read_code (slots_in program.now frame) (place_of place) h) }
 {
-    emit_address(code, frame, place, h)?;
-    emit_fetch(code, frame, place, h, h)?;
+    emit_address(code, program, frame, place, h)?;
+    emit_fetch(code, program, frame, place, h, h)?;
     Ok(())
 }
 
-/// A place gets the value in temp h; its address, if there is one, goes to temp `at`.
+/// A place gets the value in temps from h on; its address, if there is one, goes to temp `at`.
 pub fn emit_write(
     code: &mut Vec<Instr>,
+    program: &Program,
     frame: Frame,
     place: Place,
     at: u16,
@@ -134,11 +152,11 @@ pub fn emit_write(
 ) -> Result<(), NoMemory>
     requires temp { h ≤ frame.temps }
     requires address { AddressFits frame.temps at (place_of place) }
-    requires place { PlaceFits (slots_in frame) frame.sites (place_of place) }
-    requires frame { IsSmall frame }
-    ensures { OnOk result (code.new.items ≡ code.old.items ++ write_code (slots_in frame) (place_of place) at h) }
+    requires place { PlaceFits (slots_in program.now frame) frame.sites (place_of place) }
+    requires frame { IsSmall program.now frame }
+    ensures { OnOk result (code.new.items ≡ code.old.items ++ write_code (slots_in program.now frame) (place_of place) at h) }
 {
-    emit_address(code, frame, place, at)?;
-    emit_land(code, frame, place, at, h)?;
+    emit_address(code, program, frame, place, at)?;
+    emit_land(code, program, frame, place, at, h)?;
     Ok(())
 }

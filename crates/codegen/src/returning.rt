@@ -1,50 +1,80 @@
 //! The code at both ends of a function: what it takes, and what it gives back.
 ghost use Rattle.std.specs.Prelude.{◌≡◌, ◌+◌, ◌≤◌, ◌++◌, ◌∷◌, [], length, map, OnOk};
-ghost use Rattle.typed.specs.Syntax.{argument_words, result_words};
-ghost use Rattle.typed.specs.View.{exs_of_values, func_of, site_in};
-ghost use Rattle.codegen.specs.Frame.{slots_in, IsSmall, Returns};
-ghost use Rattle.codegen.specs.Temps.{ExsFitIn, ParamsFitIn, SitesFit, ValuesFit};
-ghost use Rattle.codegen.specs.Code.{count_of, exs_code, leave_code, named_read_code, named_write_code, params_code, result_code, values_code, zeros_code};
+ghost use Rattle.typed.specs.Syntax.{all_wide, all_width, argument_words, each_width, result_words};
+ghost use Rattle.typed.specs.View.{exs_of_values, func_of, program_of, site_in, site_numbers, type_of};
+ghost use Rattle.codegen.specs.Frame.{slots_in, param_code, IsSmall, Returns};
+ghost use Rattle.codegen.specs.Temps.{ExsFitIn, ParamFits, ParamsFitIn, SitesFit, ValuesFit, sites_words};
+ghost use Rattle.simulated_code.specs.Code.{exs_code, leave_code, named_read_code, named_write_code, params_code, result_code, values_code, zeros_code};
 
 use crate::jumps::put;
-use crate::lengths::count;
+use crate::moving::{moves, zeros};
 use crate::slots::Frame;
 use crate::values::emit_values;
-use base::{NoMemory, SiteId};
+use crate::widths::nth_words;
+use base::{NoMemory, SiteId, TypeId};
+use frame_layout::{all_words, values_words};
 use isa::Instr;
-use typed::{Func, Values};
+use typed::{Func, Program, Values};
 
-/// Parameters with sites get the incoming words.
+// A parameter with a site gets so many incoming words from one on.
+fn emit_param(
+    code: &mut Vec<Instr>,
+    program: &Program,
+    frame: Frame,
+    param: Option<SiteId>,
+    n: u16,
+    word: u16,
+) -> Result<(), NoMemory>
+    requires fits { ParamFits (slots_in program.now frame) frame.sites (site_in param) }
+    requires frame { IsSmall program.now frame }
+    ensures { OnOk result (code.new.items ≡ code.old.items ++ param_code (slots_in program.now frame) (site_in param) n word) }
+{
+    if let Some(site) = param {
+        let a = frame.of_site(program, site);
+        put(code, Instr::ArgumentWords { a, b: word, n })?;
+    }
+    Ok(())
+}
+
+/// Parameters of these types, those with sites, get the incoming words.
 pub fn emit_params(
     code: &mut Vec<Instr>,
+    program: &Program,
     frame: Frame,
     params: &[Option<SiteId>],
+    types: &[TypeId],
 ) -> Result<(), NoMemory>
-    requires fits { ParamsFitIn (slots_in frame) frame.sites (map site_in params.now) }
-    requires small { length params.now ≤ 65535 }
-    requires frame { IsSmall frame }
-    ensures { OnOk result (code.new.items ≡ code.old.items ++ params_code (slots_in frame) (map site_in params.now) 0) }
+    requires fits { ParamsFitIn (slots_in program.now frame) frame.sites (each_width (map (λ t. type_of t.0) types.now)) (map site_in params.now) }
+    requires small { all_width (map (λ t. type_of t.0) types.now) ≤ 65535 }
+    requires frame { IsSmall program.now frame }
+    ensures { OnOk result (code.new.items ≡ code.old.items ++ params_code (slots_in program.now frame) (each_width (map (λ t. type_of t.0) types.now)) (map site_in params.now) 0) }
 {
-    let mut word: u32 = 0;
-    for param in params {
-        if let Some(site) = param {
-            let (a, b) = (frame.of_site(*site), word as u16);
-            put(code, Instr::Argument { a, b })?;
-        }
-        word += 1;
+    let mut word: u16 = 0;
+    for (i, param) in params.iter().enumerate() {
+        let n = nth_words(types, i) as u16;
+        emit_param(code, program, frame, *param, n, word)?;
+        word += n;
     }
     Ok(())
 }
 
 /// New variables are 0.
-pub fn emit_zeros(code: &mut Vec<Instr>, frame: Frame, sites: &[SiteId]) -> Result<(), NoMemory>
-    requires fits { SitesFit (slots_in frame) frame.sites (map (λ site. site.0) sites.now) }
-    requires frame { IsSmall frame }
-    ensures { OnOk result (code.new.items ≡ code.old.items ++ zeros_code (slots_in frame) (map (λ site. site.0) sites.now)) }
+pub fn emit_zeros(
+    code: &mut Vec<Instr>,
+    program: &Program,
+    frame: Frame,
+    sites: &[SiteId],
+) -> Result<(), NoMemory>
+    requires fits { SitesFit (slots_in program.now frame) frame.sites (site_numbers sites.now) }
+    requires frame { IsSmall program.now frame }
+    ensures { OnOk result (code.new.items ≡ code.old.items ++ zeros_code (slots_in program.now frame) (site_numbers sites.now)) }
 {
     for site in sites {
-        let a = frame.of_site(*site);
-        put(code, Instr::Const { a, word: 0 })?;
+        let (a, n) = (
+            frame.of_site(program, *site),
+            frame.width_of(program, *site),
+        );
+        put(code, zeros(n, a))?;
     }
     Ok(())
 }
@@ -52,25 +82,29 @@ pub fn emit_zeros(code: &mut Vec<Instr>, frame: Frame, sites: &[SiteId]) -> Resu
 // Results with names get the values in temps from h on.
 fn emit_named_writes(
     code: &mut Vec<Instr>,
+    program: &Program,
     frame: Frame,
     sites: &[SiteId],
     h: u16,
 ) -> Result<(), NoMemory>
-    requires fits { SitesFit (slots_in frame) frame.sites (map (λ site. site.0) sites.now) }
-    requires temps { h + length sites.now ≤ frame.temps }
-    requires frame { IsSmall frame }
-    ensures { OnOk result (code.new.items ≡ code.old.items ++ named_write_code (slots_in frame) (map (λ site. site.0) sites.now) h) }
+    requires fits { SitesFit (slots_in program.now frame) frame.sites (site_numbers sites.now) }
+    requires temps { h + sites_words (slots_in program.now frame) (site_numbers sites.now) ≤ frame.temps }
+    requires frame { IsSmall program.now frame }
+    ensures { OnOk result (code.new.items ≡ code.old.items ++ named_write_code (slots_in program.now frame) (site_numbers sites.now) h) }
 {
     let mut next = h;
     for site in sites {
-        let (a, b) = (frame.of_site(*site), frame.temp(next));
-        put(code, Instr::Move { a, b })?;
-        next += 1;
+        let (a, n) = (
+            frame.of_site(program, *site),
+            frame.width_of(program, *site),
+        );
+        put(code, moves(n, a, frame.temp(next)))?;
+        next += n;
     }
     Ok(())
 }
 
-// The n values in slots from a on are the results from an incoming word on.
+// The n words in slots from a on are the results from an incoming word on.
 fn emit_results(code: &mut Vec<Instr>, n: u16, a: u16, word: u16) -> Result<(), NoMemory>
     ensures { OnOk result (code.new.items ≡ code.old.items ++ result_code n a word) }
 {
@@ -83,63 +117,67 @@ fn emit_results(code: &mut Vec<Instr>, n: u16, a: u16, word: u16) -> Result<(), 
 // Results with names are given back, from an incoming word on.
 fn emit_named_reads(
     code: &mut Vec<Instr>,
+    program: &Program,
     frame: Frame,
     sites: &[SiteId],
     first: u16,
 ) -> Result<(), NoMemory>
-    requires fits { SitesFit (slots_in frame) frame.sites (map (λ site. site.0) sites.now) }
-    requires small { first + length sites.now ≤ 65535 }
-    requires frame { IsSmall frame }
-    ensures { OnOk result (code.new.items ≡ code.old.items ++ named_read_code (slots_in frame) (map (λ site. site.0) sites.now) first) }
+    requires fits { SitesFit (slots_in program.now frame) frame.sites (site_numbers sites.now) }
+    requires small { first + sites_words (slots_in program.now frame) (site_numbers sites.now) ≤ 65535 }
+    requires frame { IsSmall program.now frame }
+    ensures { OnOk result (code.new.items ≡ code.old.items ++ named_read_code (slots_in program.now frame) (site_numbers sites.now) first) }
 {
     let temp = frame.temp(0);
-    let mut word: u32 = first as u32;
+    let mut word = first;
     for site in sites {
-        let b = frame.of_site(*site);
-        put(code, Instr::Move { a: temp, b })?;
-        put(
-            code,
-            Instr::SetResults {
-                a: temp,
-                b: word as u16,
-                n: 1,
-            },
-        )?;
-        word += 1;
+        let (slot, n) = (
+            frame.of_site(program, *site),
+            frame.width_of(program, *site),
+        );
+        put(code, moves(n, temp, slot))?;
+        let (a, b) = (temp, word);
+        put(code, Instr::SetResults { a, b, n })?;
+        word += n;
     }
     Ok(())
 }
 
 /// The function returns; what stands in results with names is given back.
-pub fn emit_leave(code: &mut Vec<Instr>, frame: Frame, func: &Func) -> Result<(), NoMemory>
-    requires returns { Returns frame (func_of func.now) }
-    requires frame { IsSmall frame }
-    ensures { OnOk result (code.new.items ≡ code.old.items ++ leave_code (slots_in frame) (argument_words (func_of func.now)) (func_of func.now).named) }
+pub fn emit_leave(
+    code: &mut Vec<Instr>,
+    program: &Program,
+    frame: Frame,
+    func: &Func,
+) -> Result<(), NoMemory>
+    requires returns { Returns program.now frame (func_of func.now) }
+    requires frame { IsSmall program.now frame }
+    ensures { OnOk result (code.new.items ≡ code.old.items ++ leave_code (slots_in program.now frame) (argument_words (func_of func.now)) (func_of func.now).named) }
 {
-    let arguments = func.params.len() as u16;
-    emit_named_reads(code, frame, &func.named, arguments)?;
+    let arguments = all_words(&func.param_types)? as u16;
+    emit_named_reads(code, program, frame, &func.named, arguments)?;
     put(code, Instr::Return)?;
     Ok(())
 }
 
-// So many values in temps from h on become the results.
+// So many words of values in temps from h on become the results.
 fn emit_given(
     code: &mut Vec<Instr>,
+    program: &Program,
     frame: Frame,
     func: &Func,
-    count: u64,
+    words: u64,
     h: u16,
 ) -> Result<(), NoMemory>
-    requires fits { ValuesFit frame.temps (result_words (func_of func.now)) h count (func_of func.now).named }
-    requires returns { Returns frame (func_of func.now) }
-    requires frame { IsSmall frame }
-    ensures { OnOk result (code.new.items ≡ code.old.items ++ values_code (slots_in frame) (argument_words (func_of func.now)) count (func_of func.now).named h) }
+    requires fits { ValuesFit (slots_in program.now frame) (result_words (func_of func.now)) h words (func_of func.now).named }
+    requires returns { Returns program.now frame (func_of func.now) }
+    requires frame { IsSmall program.now frame }
+    ensures { OnOk result (code.new.items ≡ code.old.items ++ values_code (slots_in program.now frame) (argument_words (func_of func.now)) words (func_of func.now).named h) }
 {
     if func.named.is_empty() {
-        let arguments = func.params.len() as u16;
-        emit_results(code, count as u16, frame.temp(h), arguments)?;
-    } else if count > 0 {
-        emit_named_writes(code, frame, &func.named, h)?;
+        let arguments = all_words(&func.param_types)? as u16;
+        emit_results(code, words as u16, frame.temp(h), arguments)?;
+    } else if words > 0 {
+        emit_named_writes(code, program, frame, &func.named, h)?;
     }
     Ok(())
 }
@@ -147,22 +185,29 @@ fn emit_given(
 /// The function returns with values.
 pub fn emit_return(
     code: &mut Vec<Instr>,
-    funcs: &[Func],
+    program: &Program,
     frame: Frame,
     func: &Func,
     values: &Values,
     h: u16,
 ) -> Result<(), NoMemory>
-    requires fits { ExsFitIn (map func_of funcs.now) (slots_in frame) frame.sites h (exs_of_values values.now)
-        × ValuesFit frame.temps (result_words (func_of func.now)) h (count_of (map func_of funcs.now) (exs_of_values values.now)) (func_of func.now).named }
-    requires returns { Returns frame (func_of func.now) }
-    requires frame { IsSmall frame }
-    ensures { OnOk result (code.new.items ≡ code.old.items ++ (exs_code (map func_of funcs.now) (slots_in frame) (exs_of_values values.now) h (length code.old.items)
-        ++ (values_code (slots_in frame) (argument_words (func_of func.now)) (count_of (map func_of funcs.now) (exs_of_values values.now)) (func_of func.now).named h
-        ++ leave_code (slots_in frame) (argument_words (func_of func.now)) (func_of func.now).named))) }
+    requires fits { ExsFitIn (program_of program.now) (slots_in program.now frame) frame.sites h (exs_of_values values.now)
+        × ValuesFit (slots_in program.now frame) (result_words (func_of func.now)) h (all_wide (program_of program.now) (exs_of_values values.now)) (func_of func.now).named }
+    requires returns { Returns program.now frame (func_of func.now) }
+    requires frame { IsSmall program.now frame }
+    ensures { OnOk result (code.new.items ≡ code.old.items ++ (exs_code (program_of program.now) (slots_in program.now frame) (exs_of_values values.now) h (length code.old.items)
+        ++ (values_code (slots_in program.now frame) (argument_words (func_of func.now)) (all_wide (program_of program.now) (exs_of_values values.now)) (func_of func.now).named h
+        ++ leave_code (slots_in program.now frame) (argument_words (func_of func.now)) (func_of func.now).named))) }
 {
-    emit_values(code, funcs, frame, values, h)?;
-    emit_given(code, frame, func, count(funcs, values), h)?;
-    emit_leave(code, frame, func)?;
+    emit_values(code, program, frame, values, h)?;
+    emit_given(
+        code,
+        program,
+        frame,
+        func,
+        values_words(program, values)?,
+        h,
+    )?;
+    emit_leave(code, program, frame, func)?;
     Ok(())
 }

@@ -5,7 +5,8 @@ ghost use Rattle.machine.specs.Answers.{StatusFits};
 ghost use Rattle.typed.specs.View.{program_of};
 ghost use Rattle.meaning.specs.Output.{source};
 ghost use Rattle.outside.specs.Causes.{Rose};
-ghost use Rattle.codegen.specs.Correct.{Simulated, Ran, ReadBy, answer_to, limits};
+ghost use Rattle.simulated_code.specs.Correct.{Simulated, limits};
+ghost use Rattle.codegen.specs.Runs.{Ran, ReadBy, answer_to};
 ghost use Rattle.codegen.specs.declared.running.RunFault.{RunFault};
 
 use crate::beginning::first_heap;

@@ -1,14 +1,15 @@
 //! The numbers of instructions of statements.
 ghost use Rattle.std.specs.Prelude.{◌≡◌, ◌+◌, ◌≤◌, IfOk, ◌∷◌, [], map};
-ghost use Rattle.typed.specs.Syntax.{argument_words};
-ghost use Rattle.typed.specs.View.{ex_of, exs_of_values, func_of, left_of, piece_of, place_of, site_numbers, st_of, sts_of, test_of};
+ghost use Rattle.typed.specs.Syntax.{all_wide, argument_words};
+ghost use Rattle.typed.specs.View.{ex_of, exs_of_values, func_of, left_of, piece_of, place_of, program_of, site_numbers, st_of, sts_of, test_of};
 ghost use Rattle.typed.specs.Frames.{far};
-ghost use Rattle.codegen.specs.Code.{count_of, exs_size, leave_size, lefts_size, piece_size, pieces_size, renew_size, shown_size, size, st_size, sts_size, test_size, values_size};
+ghost use Rattle.simulated_code.specs.Code.{exs_size, leave_size, lefts_size, piece_size, pieces_size, renew_size, shown_size, size, st_size, sts_size, test_size, values_size};
 
-use crate::lengths::{count, expr_len, last_len, move_len, number, plus, test_len, values_len};
+use crate::lengths::{expr_len, last_len, move_len, number, plus, test_len, values_len};
 use crate::reaching::address_len;
 use base::{NoMemory, SiteId};
-use typed::{Expr, Func, Left, Piece, Place, Stmt, Values};
+use frame_layout::values_words;
+use typed::{Expr, Func, Left, Piece, Place, Program, Stmt, Values};
 
 /// A bump: a read, a constant, the operation and a write, without their addresses.
 const BUMP: u32 = 4;
@@ -19,21 +20,21 @@ const COUNT_HEAD: u32 = 3;
 /// The instructions at a round's end: a constant, the sum and a jump.
 const COUNT_TURN: u32 = 3;
 
-fn piece_len(funcs: &[Func], p: &Piece) -> Result<u32, NoMemory>
-    ensures { IfOk result (λ n. n ≡ piece_size (map func_of funcs.now) (piece_of p.now)) }
+fn piece_len(program: &Program, p: &Piece) -> Result<u32, NoMemory>
+    ensures { IfOk result (λ n. n ≡ piece_size (program_of program.now) (piece_of p.now)) }
 {
     match p {
         Piece::Text(_) => Ok(0),
-        Piece::Shown(_, e) => expr_len(funcs, e),
+        Piece::Shown(_, e) => expr_len(program, e),
     }
 }
 
-fn pieces_len(funcs: &[Func], ps: &[Piece]) -> Result<u32, NoMemory>
-    ensures { IfOk result (λ n. n ≡ pieces_size (map func_of funcs.now) (map piece_of ps.now)) }
+fn pieces_len(program: &Program, ps: &[Piece]) -> Result<u32, NoMemory>
+    ensures { IfOk result (λ n. n ≡ pieces_size (program_of program.now) (map piece_of ps.now)) }
 {
     let mut total = 0;
     for p in ps {
-        let n = piece_len(funcs, p)?;
+        let n = piece_len(program, p)?;
         total = plus(total, n)?;
     }
     Ok(total)
@@ -54,18 +55,18 @@ fn shown_len(line: bool, ps: &[Piece]) -> Result<u32, NoMemory>
     plus(n, n)
 }
 
-fn print_len(funcs: &[Func], line: bool, ps: &[Piece]) -> Result<u32, NoMemory>
-    ensures { IfOk result (λ n. n ≡ pieces_size (map func_of funcs.now) (map piece_of ps.now) + shown_size line (map piece_of ps.now)) }
+fn print_len(program: &Program, line: bool, ps: &[Piece]) -> Result<u32, NoMemory>
+    ensures { IfOk result (λ n. n ≡ pieces_size (program_of program.now) (map piece_of ps.now) + shown_size line (map piece_of ps.now)) }
 {
-    let operands = pieces_len(funcs, ps)?;
+    let operands = pieces_len(program, ps)?;
     let shown = shown_len(line, ps)?;
     plus(operands, shown)
 }
 
-fn panic_len(funcs: &[Func], p: &Piece) -> Result<u32, NoMemory>
-    ensures { IfOk result (λ n. n ≡ piece_size (map func_of funcs.now) (piece_of p.now) + 1) }
+fn panic_len(program: &Program, p: &Piece) -> Result<u32, NoMemory>
+    ensures { IfOk result (λ n. n ≡ piece_size (program_of program.now) (piece_of p.now) + 1) }
 {
-    let n = piece_len(funcs, p)?;
+    let n = piece_len(program, p)?;
     plus(n, 1)
 }
 
@@ -83,30 +84,30 @@ fn lefts_len(ls: &[Left]) -> Result<u32, NoMemory>
     Ok(total)
 }
 
-fn assign_len(funcs: &[Func], ls: &[Left], values: &Values) -> Result<u32, NoMemory>
-    ensures { IfOk result (λ n. n ≡ exs_size (map func_of funcs.now) (exs_of_values values.now) + lefts_size (map left_of ls.now)) }
+fn assign_len(program: &Program, ls: &[Left], values: &Values) -> Result<u32, NoMemory>
+    ensures { IfOk result (λ n. n ≡ exs_size (program_of program.now) (exs_of_values values.now) + lefts_size (map left_of ls.now)) }
 {
-    let m = values_len(funcs, values)?;
+    let m = values_len(program, values)?;
     let n = lefts_len(ls)?;
     plus(m, n)
 }
 
 // A read stands before the operand, the operation and a write behind it, each with an address, if there is one.
-fn update_len(funcs: &[Func], place: Place, e: &Expr) -> Result<u32, NoMemory>
-    ensures { IfOk result (λ n. n ≡ far (place_of place) + 1 + size (map func_of funcs.now) (ex_of e.now) + 1 + (far (place_of place) + 1)) }
+fn update_len(program: &Program, place: Place, e: &Expr) -> Result<u32, NoMemory>
+    ensures { IfOk result (λ n. n ≡ far (place_of place) + 1 + size (program_of program.now) (ex_of e.now) + 1 + (far (place_of place) + 1)) }
 {
-    let n = expr_len(funcs, e)?;
+    let n = expr_len(program, e)?;
     plus(n, 2 * address_len(place) + 3)
 }
 
-// So many values become the results, which have these names or none.
-fn given_len(count: u64, named: &[SiteId]) -> Result<u32, NoMemory>
-    ensures { IfOk result (λ n. n ≡ values_size count (map (λ site. site.0) named.now)) }
+// So many words of values become the results, which have these names or none.
+fn given_len(words: u64, named: &[SiteId]) -> Result<u32, NoMemory>
+    ensures { IfOk result (λ n. n ≡ values_size words (map (λ site. site.0) named.now)) }
 {
     if named.is_empty() {
-        return Ok(move_len(count));
+        return Ok(move_len(words));
     }
-    if count == 0 {
+    if words == 0 {
         return Ok(0);
     }
     number(named.len())
@@ -122,22 +123,22 @@ fn leave_len(named: &[SiteId]) -> Result<u32, NoMemory>
     plus(twice, 1)
 }
 
-fn return_len(funcs: &[Func], func: &Func, values: &Values) -> Result<u32, NoMemory>
-    ensures { IfOk result (λ n. n ≡ exs_size (map func_of funcs.now) (exs_of_values values.now)
-        + (values_size (count_of (map func_of funcs.now) (exs_of_values values.now)) (func_of func.now).named + leave_size (func_of func.now).named)) }
+fn return_len(program: &Program, func: &Func, values: &Values) -> Result<u32, NoMemory>
+    ensures { IfOk result (λ n. n ≡ exs_size (program_of program.now) (exs_of_values values.now)
+        + (values_size (all_wide (program_of program.now) (exs_of_values values.now)) (func_of func.now).named + leave_size (func_of func.now).named)) }
 {
-    let n = values_len(funcs, values)?;
-    let given = given_len(count(funcs, values), &func.named)?;
+    let n = values_len(program, values)?;
+    let given = given_len(values_words(program, values)?, &func.named)?;
     let leave = leave_len(&func.named)?;
     let end = plus(given, leave)?;
     plus(n, end)
 }
 
 // An `if` whose condition and branches have so many.
-fn choice_len(funcs: &[Func], e: &Expr, yes: u32, no: u32) -> Result<u32, NoMemory>
-    ensures { IfOk result (λ n. n ≡ size (map func_of funcs.now) (ex_of e.now) + 1 + yes + 1 + no) }
+fn choice_len(program: &Program, e: &Expr, yes: u32, no: u32) -> Result<u32, NoMemory>
+    ensures { IfOk result (λ n. n ≡ size (program_of program.now) (ex_of e.now) + 1 + yes + 1 + no) }
 {
-    let test = last_len(funcs, e)?;
+    let test = last_len(program, e)?;
     let first = plus(test, yes)?;
     let second = plus(first, 1)?;
     plus(second, no)
@@ -154,15 +155,15 @@ pub fn renew_len(sites: &[SiteId]) -> Result<u32, NoMemory>
 
 // A loop whose body and post statement have so many.
 fn loop_len(
-    funcs: &[Func],
+    program: &Program,
     test: &Option<Expr>,
     sites: &[SiteId],
     body: u32,
     post: u32,
 ) -> Result<u32, NoMemory>
-    ensures { IfOk result (λ n. n ≡ test_size (map func_of funcs.now) (test_of test.now) + body + renew_size (site_numbers sites.now) + post + 1) }
+    ensures { IfOk result (λ n. n ≡ test_size (program_of program.now) (test_of test.now) + body + renew_size (site_numbers sites.now) + post + 1) }
 {
-    let header = test_len(funcs, test)?;
+    let header = test_len(program, test)?;
     let renewal = renew_len(sites)?;
     let first = plus(header, body)?;
     let second = plus(first, renewal)?;
@@ -183,10 +184,10 @@ pub fn key_len(key: Left) -> u32
 }
 
 // A `range` over a number whose body has so many.
-fn count_len(funcs: &[Func], e: &Expr, key: Left, body: u32) -> Result<u32, NoMemory>
-    ensures { IfOk result (λ n. n ≡ size (map func_of funcs.now) (ex_of e.now) + 1 + 2 + lefts_size (left_of key ∷ []) + body + 3) }
+fn count_len(program: &Program, e: &Expr, key: Left, body: u32) -> Result<u32, NoMemory>
+    ensures { IfOk result (λ n. n ≡ size (program_of program.now) (ex_of e.now) + 1 + 2 + lefts_size (left_of key ∷ []) + body + 3) }
 {
-    let operand = expr_len(funcs, e)?;
+    let operand = expr_len(program, e)?;
     let head = plus(operand, COUNT_HEAD + key_len(key))?;
     let round = plus(head, body)?;
     plus(round, COUNT_TURN)
@@ -194,47 +195,47 @@ fn count_len(funcs: &[Func], e: &Expr, key: Left, body: u32) -> Result<u32, NoMe
 
 #[cycle(lengths)]
 #[tactic(auto, using(typed::proofs::Rows::stmt_rows))]
-fn stmt_len(funcs: &[Func], func: &Func, s: &Stmt) -> Result<u32, NoMemory>
-    ensures { IfOk result (λ n. n ≡ st_size (map func_of funcs.now) (argument_words (func_of func.now)) (func_of func.now).named (st_of s.now)) }
+fn stmt_len(program: &Program, func: &Func, s: &Stmt) -> Result<u32, NoMemory>
+    ensures { IfOk result (λ n. n ≡ st_size (program_of program.now) (argument_words (func_of func.now)) (func_of func.now).named (st_of s.now)) }
 {
     match s {
         Stmt::Declare(sites) => number(sites.len()),
-        Stmt::Assign(ls, values) => assign_len(funcs, ls, values),
-        Stmt::Update(_, place, _, e) => update_len(funcs, *place, e),
+        Stmt::Assign(ls, values) => assign_len(program, ls, values),
+        Stmt::Update(_, place, _, e) => update_len(program, *place, e),
         Stmt::Bump(place, _) => Ok(2 * address_len(*place) + BUMP),
-        Stmt::Discard(values) => values_len(funcs, values),
-        Stmt::Block(ss) => stmts_len(funcs, func, ss),
+        Stmt::Discard(values) => values_len(program, values),
+        Stmt::Block(ss) => stmts_len(program, func, ss),
         Stmt::If(e, a, b) => {
-            let yes = stmts_len(funcs, func, a)?;
-            let no = stmts_len(funcs, func, b)?;
-            choice_len(funcs, e, yes, no)
+            let yes = stmts_len(program, func, a)?;
+            let no = stmts_len(program, func, b)?;
+            choice_len(program, e, yes, no)
         }
         Stmt::Loop(sites, test, post, body) => {
-            let inside = stmts_len(funcs, func, body)?;
-            let behind = stmts_len(funcs, func, post)?;
-            loop_len(funcs, test, sites, inside, behind)
+            let inside = stmts_len(program, func, body)?;
+            let behind = stmts_len(program, func, post)?;
+            loop_len(program, test, sites, inside, behind)
         }
         Stmt::Count(e, key, body) => {
-            let inside = stmts_len(funcs, func, body)?;
-            count_len(funcs, e, *key, inside)
+            let inside = stmts_len(program, func, body)?;
+            count_len(program, e, *key, inside)
         }
         Stmt::Break => Ok(1),
         Stmt::Continue => Ok(1),
-        Stmt::Return(values) => return_len(funcs, func, values),
-        Stmt::Print(line, ps) => print_len(funcs, *line, ps),
-        Stmt::Panic(_, p) => panic_len(funcs, p),
-        Stmt::Exit(_, e) => last_len(funcs, e),
+        Stmt::Return(values) => return_len(program, func, values),
+        Stmt::Print(line, ps) => print_len(program, *line, ps),
+        Stmt::Panic(_, p) => panic_len(program, p),
+        Stmt::Exit(_, e) => last_len(program, e),
     }
 }
 
 /// Statements.
 #[cycle(lengths)]
-pub fn stmts_len(funcs: &[Func], func: &Func, ss: &[Stmt]) -> Result<u32, NoMemory>
-    ensures { IfOk result (λ n. n ≡ sts_size (map func_of funcs.now) (argument_words (func_of func.now)) (func_of func.now).named (sts_of ss.now)) }
+pub fn stmts_len(program: &Program, func: &Func, ss: &[Stmt]) -> Result<u32, NoMemory>
+    ensures { IfOk result (λ n. n ≡ sts_size (program_of program.now) (argument_words (func_of func.now)) (func_of func.now).named (sts_of ss.now)) }
 {
     let mut total = 0;
     for s in ss {
-        let n = stmt_len(funcs, func, s)?;
+        let n = stmt_len(program, func, s)?;
         total = plus(total, n)?;
     }
     Ok(total)

@@ -1,19 +1,20 @@
 //! The code of expressions and calls.
-ghost use Rattle.std.specs.Prelude.{◌≡◌, ◌+◌, ◌≤◌, ◌++◌, ◌∷◌, [], length, map, OnOk};
+ghost use Rattle.std.specs.Prelude.{◌≡◌, ◌+◌, ◌≤◌, ◌++◌, ◌∷◌, [], length, OnOk};
 ghost use Rattle.isa.specs.declared.instr.Instr.{Instr};
-ghost use Rattle.typed.specs.View.{ex_of, exs_of, exs_of_values, func_of, value_of};
+ghost use Rattle.typed.specs.View.{ex_of, exs_of, exs_of_values, program_of, value_of};
 ghost use Rattle.codegen.specs.Frame.{slots_in, IsSmall};
 ghost use Rattle.codegen.specs.Temps.{CallFits, Fits, ExsFitIn};
-ghost use Rattle.codegen.specs.Code.{call_code, ex_code, exs_code, move_code, operation as operation_of, size, temp, unary_code, word_of};
+ghost use Rattle.simulated_code.specs.Code.{call_code, ex_code, exs_code, operation as operation_of, size, temp, unary_code, word_of};
 
 use crate::jumps::{jump, jump_if_zero, put};
 use crate::lengths::expr_len;
+use crate::moving::emit_move;
 use crate::reaching::emit_read;
 use crate::slots::Frame;
 use base::{FuncId, NoMemory};
-use frame_layout::{arguments_of, results_of};
+use frame_layout::{arguments_of, expr_words, results_of};
 use isa::Instr;
-use typed::{BinOp, Const, Expr, Func, UnOp, Values};
+use typed::{BinOp, Const, Expr, Program, UnOp, Values};
 
 /// The instruction's operation.
 pub fn operation(op: BinOp) -> isa::BinOp
@@ -74,30 +75,20 @@ fn unary(op: UnOp, a: u16) -> Instr
     }
 }
 
-// n words go from slots from b on to slots from a on.
-fn emit_move(code: &mut Vec<Instr>, n: u16, a: u16, b: u16) -> Result<(), NoMemory>
-    ensures { OnOk result (code.new.items ≡ code.old.items ++ move_code n a b) }
-{
-    if n > 0 {
-        put(code, Instr::MoveWords { a, b, n })?;
-    }
-    Ok(())
-}
-
 // A call whose arguments are in temps from h on; its results land there.
 fn emit_call(
     code: &mut Vec<Instr>,
-    funcs: &[Func],
+    program: &Program,
     frame: Frame,
     f: FuncId,
     h: u16,
 ) -> Result<(), NoMemory>
-    requires fits { CallFits (map func_of funcs.now) (slots_in frame) frame.sites h f.0 }
-    requires frame { IsSmall frame }
-    ensures { OnOk result (code.new.items ≡ code.old.items ++ call_code (map func_of funcs.now) (slots_in frame) f.0 h) }
+    requires fits { CallFits (program_of program.now) (slots_in program.now frame) frame.sites h f.0 }
+    requires frame { IsSmall program.now frame }
+    ensures { OnOk result (code.new.items ≡ code.old.items ++ call_code (program_of program.now) (slots_in program.now frame) f.0 h) }
 {
-    let arguments = arguments_of(funcs, f) as u16;
-    let results = results_of(funcs, f) as u16;
+    let arguments = arguments_of(program, f)? as u16;
+    let results = results_of(program, f)? as u16;
     let first = frame.temp(h);
     emit_move(code, arguments, 0, first)?;
     put(code, Instr::Call { func: f.0 as u16 })?;
@@ -108,17 +99,17 @@ fn emit_call(
 // Where the first operand of `&&`, in temp h, is false, the second is passed over.
 fn pass_both(
     code: &mut Vec<Instr>,
-    funcs: &[Func],
+    program: &Program,
     frame: Frame,
     second: &Expr,
     h: u16,
 ) -> Result<(), NoMemory>
     requires temp { h ≤ frame.temps }
-    requires frame { IsSmall frame }
+    requires frame { IsSmall program.now frame }
     ensures { OnOk result (code.new.items ≡ code.old.items
-        ++ Instr.JumpZero (temp (slots_in frame) h) (length code.old.items + 1 + size (map func_of funcs.now) (ex_of second.now)) ∷ []) }
+        ++ Instr.JumpZero (temp (slots_in program.now frame) h) (length code.old.items + 1 + size (program_of program.now) (ex_of second.now)) ∷ []) }
 {
-    let len = expr_len(funcs, second)?;
+    let len = expr_len(program, second)?;
     jump_if_zero(code, frame.temp(h), 1, len)?;
     Ok(())
 }
@@ -126,18 +117,18 @@ fn pass_both(
 // Where the first operand of `||`, in temp h, is true, the second is passed over.
 fn pass_either(
     code: &mut Vec<Instr>,
-    funcs: &[Func],
+    program: &Program,
     frame: Frame,
     second: &Expr,
     h: u16,
 ) -> Result<(), NoMemory>
     requires temp { h ≤ frame.temps }
-    requires frame { IsSmall frame }
+    requires frame { IsSmall program.now frame }
     ensures { OnOk result (code.new.items ≡ code.old.items
-        ++ Instr.JumpZero (temp (slots_in frame) h) (length code.old.items + 2)
-        ∷ Instr.Jump (length code.old.items + 2 + size (map func_of funcs.now) (ex_of second.now)) ∷ []) }
+        ++ Instr.JumpZero (temp (slots_in program.now frame) h) (length code.old.items + 2)
+        ∷ Instr.Jump (length code.old.items + 2 + size (program_of program.now) (ex_of second.now)) ∷ []) }
 {
-    let len = expr_len(funcs, second)?;
+    let len = expr_len(program, second)?;
     // The second operand stands behind both jumps.
     jump_if_zero(code, frame.temp(h), 2, 0)?;
     jump(code, 1, len)?;
@@ -147,32 +138,33 @@ fn pass_either(
 /// The operation on temps h and h + 1, to temp h.
 pub fn emit_operation(
     code: &mut Vec<Instr>,
+    program: &Program,
     frame: Frame,
     op: BinOp,
     h: u16,
 ) -> Result<(), NoMemory>
     requires temp { h + 1 ≤ frame.temps }
-    requires frame { IsSmall frame }
+    requires frame { IsSmall program.now frame }
     ensures { OnOk result (code.new.items ≡ code.old.items
-        ++ Instr.Bin (operation_of op) (temp (slots_in frame) h) (temp (slots_in frame) h) (temp (slots_in frame) (h + 1)) ∷ []) }
+        ++ Instr.Bin (operation_of op) (temp (slots_in program.now frame) h) (temp (slots_in program.now frame) h) (temp (slots_in program.now frame) (h + 1)) ∷ []) }
 {
     let (op, a, c) = (operation(op), frame.temp(h), frame.temp(h + 1));
     put(code, Instr::Bin { op, a, b: a, c })?;
     Ok(())
 }
 
-/// The value lands in temp h.
+/// The value lands in temps from h on.
 #[cycle(values)]
 pub fn emit_expr(
     code: &mut Vec<Instr>,
-    funcs: &[Func],
+    program: &Program,
     frame: Frame,
     e: &Expr,
     h: u16,
 ) -> Result<(), NoMemory>
-    requires fits { Fits (map func_of funcs.now) (slots_in frame) frame.sites h (ex_of e.now) }
-    requires frame { IsSmall frame }
-    ensures { OnOk result (code.new.items ≡ code.old.items ++ ex_code (map func_of funcs.now) (slots_in frame) (ex_of e.now) h (length code.old.items)) }
+    requires fits { Fits (program_of program.now) (slots_in program.now frame) frame.sites h (ex_of e.now) }
+    requires frame { IsSmall program.now frame }
+    ensures { OnOk result (code.new.items ≡ code.old.items ++ ex_code (program_of program.now) (slots_in program.now frame) (ex_of e.now) h (length code.old.items)) }
 {
     match e {
         Expr::Constant(c) => {
@@ -180,38 +172,38 @@ pub fn emit_expr(
             put(code, Instr::Const { a, word })?;
         }
         Expr::Read(place) => {
-            emit_read(code, frame, *place, h)?;
+            emit_read(code, program, frame, *place, h)?;
         }
         Expr::Unary(op, a) => {
             let a: &Expr = a;
-            emit_expr(code, funcs, frame, a, h)?;
+            emit_expr(code, program, frame, a, h)?;
             put(code, unary(*op, frame.temp(h)))?;
         }
         Expr::Binary(_, op, a, b) => {
             let a: &Expr = a;
             let b: &Expr = b;
-            emit_expr(code, funcs, frame, a, h)?;
-            emit_expr(code, funcs, frame, b, h + 1)?;
-            emit_operation(code, frame, *op, h)?;
+            emit_expr(code, program, frame, a, h)?;
+            emit_expr(code, program, frame, b, h + 1)?;
+            emit_operation(code, program, frame, *op, h)?;
         }
         Expr::Both(a, b) => {
             let a: &Expr = a;
             let b: &Expr = b;
-            emit_expr(code, funcs, frame, a, h)?;
-            pass_both(code, funcs, frame, b, h)?;
-            emit_expr(code, funcs, frame, b, h)?;
+            emit_expr(code, program, frame, a, h)?;
+            pass_both(code, program, frame, b, h)?;
+            emit_expr(code, program, frame, b, h)?;
         }
         Expr::Either(a, b) => {
             let a: &Expr = a;
             let b: &Expr = b;
-            emit_expr(code, funcs, frame, a, h)?;
-            pass_either(code, funcs, frame, b, h)?;
-            emit_expr(code, funcs, frame, b, h)?;
+            emit_expr(code, program, frame, a, h)?;
+            pass_either(code, program, frame, b, h)?;
+            emit_expr(code, program, frame, b, h)?;
         }
         Expr::Call(f, arguments) => {
             let arguments: &Values = arguments;
-            emit_values(code, funcs, frame, arguments, h)?;
-            emit_call(code, funcs, frame, *f, h)?;
+            emit_values(code, program, frame, arguments, h)?;
+            emit_call(code, program, frame, *f, h)?;
         }
     }
     Ok(())
@@ -222,21 +214,21 @@ pub fn emit_expr(
 #[tactic(auto, using(typed::proofs::Rows::expr_rows))]
 pub fn emit_values(
     code: &mut Vec<Instr>,
-    funcs: &[Func],
+    program: &Program,
     frame: Frame,
     values: &Values,
     h: u16,
 ) -> Result<(), NoMemory>
-    requires fits { ExsFitIn (map func_of funcs.now) (slots_in frame) frame.sites h (exs_of_values values.now) }
-    requires frame { IsSmall frame }
-    ensures { OnOk result (code.new.items ≡ code.old.items ++ exs_code (map func_of funcs.now) (slots_in frame) (exs_of_values values.now) h (length code.old.items)) }
+    requires fits { ExsFitIn (program_of program.now) (slots_in program.now frame) frame.sites h (exs_of_values values.now) }
+    requires frame { IsSmall program.now frame }
+    ensures { OnOk result (code.new.items ≡ code.old.items ++ exs_code (program_of program.now) (slots_in program.now frame) (exs_of_values values.now) h (length code.old.items)) }
 {
     match values {
-        Values::Each(es) => emit_row(code, funcs, frame, es, h)?,
+        Values::Each(es) => emit_row(code, program, frame, es, h)?,
         Values::Results(f, arguments) => {
             let arguments: &Values = arguments;
-            emit_values(code, funcs, frame, arguments, h)?;
-            emit_call(code, funcs, frame, *f, h)?;
+            emit_values(code, program, frame, arguments, h)?;
+            emit_call(code, program, frame, *f, h)?;
         }
         Values::ReadInt => {
             let a = frame.temp(h);
@@ -250,19 +242,19 @@ pub fn emit_values(
 #[cycle(values)]
 fn emit_row(
     code: &mut Vec<Instr>,
-    funcs: &[Func],
+    program: &Program,
     frame: Frame,
     es: &[Expr],
     h: u16,
 ) -> Result<(), NoMemory>
-    requires fits { ExsFitIn (map func_of funcs.now) (slots_in frame) frame.sites h (exs_of es.now) }
-    requires frame { IsSmall frame }
-    ensures { OnOk result (code.new.items ≡ code.old.items ++ exs_code (map func_of funcs.now) (slots_in frame) (exs_of es.now) h (length code.old.items)) }
+    requires fits { ExsFitIn (program_of program.now) (slots_in program.now frame) frame.sites h (exs_of es.now) }
+    requires frame { IsSmall program.now frame }
+    ensures { OnOk result (code.new.items ≡ code.old.items ++ exs_code (program_of program.now) (slots_in program.now frame) (exs_of es.now) h (length code.old.items)) }
 {
     let mut next = h;
     for e in es {
-        emit_expr(code, funcs, frame, e, next)?;
-        next += 1;
+        emit_expr(code, program, frame, e, next)?;
+        next += expr_words(program, e)? as u16;
     }
     Ok(())
 }

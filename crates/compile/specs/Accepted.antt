@@ -35,7 +35,7 @@ pub record HasProgram (text : List ℕ) (p : Program) : Type 0 where
 -- a text is accepted with this program: its tokens have a tree, the tree has this typed program, and no frame is too large
 pub record Accepted (text : List ℕ) (p : Program) : Type 0 where
   pub program : HasProgram text p
-  pub fits : (f : ℕ) (func : Func) → slice_get p.funcs f ≡ Some func → frame_of p.funcs func ≤ 65535
+  pub fits : (f : ℕ) (func : Func) → slice_get p.funcs f ≡ Some func → frame_of p func ≤ 65535
 
 -- each function of a program stands where its name stands in the tree
 abbrev pub StandAtNames : ProgramData → Syntax → Type 0
@@ -62,7 +62,7 @@ pub record HasLayoutFault (text : List ℕ) (f : Rattle.frame_layout.specs.decla
   pub program : ProgramData
   pub types : Types tree (program_of program)
   pub names : StandAtNames program tree
-  pub large : IsTooLarge (first_too_large (program_of program).funcs program.funcs.items) f
+  pub large : IsTooLarge (first_too_large (program_of program) program.funcs.items) f
   pub fault : f ≢ layout.NoMemory
 
 -- what a text is refused for: the fault of the first stage that refuses it

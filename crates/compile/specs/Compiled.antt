@@ -3,7 +3,7 @@ use Rattle.std.specs.Prelude.{◌≡◌, ◌<◌, ◌^◌, length, Result, Ok, E
 use Rattle.typed.specs.Syntax.{Program}
 use Rattle.typed.specs.View.{program_of}
 use Rattle.frame_layout.specs.Layout.{layouts}
-use Rattle.codegen.specs.Correct.{Simulated}
+use Rattle.simulated_code.specs.Correct.{Simulated}
 use Rattle.compile.specs.declared.compiling.Compiled.{Compiled}
 use Rattle.compile.specs.declared.fault.CompileFault.{CompileFault}
 use Rattle.compile.specs.declared.fault.CompileFault.TheVariants.{NoMemory}

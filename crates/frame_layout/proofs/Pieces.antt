@@ -1,8 +1,8 @@
 -- The first operand of a line and the others.
 use Rattle.std.proofs.Common.{◌≡◌, max, List, ◌∷◌, refl, arith}
-use Rattle.typed.specs.Syntax.{Func, Piece, text, shown}
+use Rattle.typed.specs.Syntax.{Piece, Program, text, shown}
 use Rattle.typed.specs.Frames.{piece_reach, reach_pieces}
 
-pub reaches_first : (fs : List Func) (q : Piece) (ps : List Piece) → reach_pieces fs (q ∷ ps) ≡ max (piece_reach fs q) (reach_pieces fs ps)
-reaches_first fs (text number) ps = omega arith
-reaches_first fs (shown t e) ps = refl
+pub reaches_first : (p : Program) (q : Piece) (ps : List Piece) → reach_pieces p (q ∷ ps) ≡ max (piece_reach p q) (reach_pieces p ps)
+reaches_first p (text number) ps = omega arith
+reaches_first p (shown t e) ps = refl

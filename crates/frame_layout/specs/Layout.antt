@@ -9,29 +9,29 @@ use Rattle.frame_layout.specs.declared.layout.FrameLayout.{FrameLayout}
 use Rattle.frame_layout.specs.declared.fault.LayoutFault.{LayoutFault}
 use Rattle.frame_layout.specs.declared.fault.LayoutFault.TheVariants as fault
 
-abbrev pub layout_in : List Func → Func → FrameLayout
-layout_in fs f = record { outgoing = outgoing_of fs f; temps = temps_of fs f; frame = frame_of fs f }
+abbrev pub layout_in : Program → Func → FrameLayout
+layout_in p f = record { outgoing = outgoing_of p f; temps = temps_of p f; frame = frame_of p f }
 
 -- the frames of a program's functions, by their numbers
 abbrev pub layouts : Program → List FrameLayout
-layouts p = map (layout_in p.funcs) p.funcs
+layouts p = map (layout_in p) p.funcs
 
 -- a frame that has more words than a frame may have: the place of the function's name, and the words
 pub record Large : Type 0 where
   pub pos : Pos
   pub words : ℕ
 
-abbrev pub is_large : List Func → FuncData → Option Large
-is_large fs f = if nat_lt 65535 (frame_of fs (func_of f)) then Some (record { pos = f.pos; words = frame_of fs (func_of f) }) else None
+abbrev pub is_large : Program → FuncData → Option Large
+is_large p f = if nat_lt 65535 (frame_of p (func_of f)) then Some (record { pos = f.pos; words = frame_of p (func_of f) }) else None
 
 abbrev pub or_else : Option Large → Option Large → Option Large
 or_else None l = l
 or_else (Some k) l = Some k
 
 -- the first of some functions whose frame is one
-abbrev pub first_too_large : List Func → List FuncData → Option Large
-first_too_large fs [] = None
-first_too_large fs (f ∷ gs) = or_else (is_large fs f) (first_too_large fs gs)
+abbrev pub first_too_large : Program → List FuncData → Option Large
+first_too_large p [] = None
+first_too_large p (f ∷ gs) = or_else (is_large p f) (first_too_large p gs)
 
 abbrev pub IsTooLarge : Option Large → LayoutFault → Type 0
 IsTooLarge large fault.NoMemory = Unit {0}

@@ -1,13 +1,13 @@
 //! The layout of each function's frame.
 
-ghost use Rattle.std.specs.Prelude.{◌≡◌, ◌+◌, map, IfOk, IfErr, None};
+ghost use Rattle.std.specs.Prelude.{◌≡◌, ◌+◌, IfOk, IfErr, None};
 ghost use Rattle.typed.specs.View.{func_of, program_of};
-ghost use Rattle.typed.specs.Frames.{outgoing_of, temps_of};
 ghost use Rattle.frame_layout.specs.Layout.{first_too_large, is_large, layout_in, layouts, IsTooLarge};
 
 use crate::fault::LayoutFault;
 use crate::outgoing::body_reach;
 use crate::temps::body_temps;
+use crate::words::sites_words;
 use base::NoMemory;
 use std::alloc::Global;
 use std::marker::Model;
@@ -48,23 +48,25 @@ impl Layouts {
 /// The most words of a frame.
 const MOST_WORDS: u64 = 65_535;
 
-/// The words of a frame with so much outgoing area, so many temps and sites.
-fn words_of(outgoing: u64, temps: u64, sites: u32) -> Result<u64, NoMemory>
+/// The words of a frame with so much outgoing area, so many temps and so many words of sites.
+fn words_of(outgoing: u64, temps: u64, sites: u64) -> Result<u64, NoMemory>
     ensures { IfOk result (λ n. n ≡ 2 + sites + temps + outgoing) }
 {
     let below = temps.checked_add(outgoing).ok_or(NoMemory)?;
-    below.checked_add(2 + sites as u64).ok_or(NoMemory)
+    let inside = sites.checked_add(below).ok_or(NoMemory)?;
+    inside.checked_add(2).ok_or(NoMemory)
 }
 
-/// The layout of a function's frame.
-fn frame_layout(funcs: &[Func], func: &Func) -> Result<FrameLayout, LayoutFault>
-    ensures layout { IfOk result (λ l. l ≡ layout_in (map func_of funcs.now) (func_of func.now)) }
-    ensures small { IfOk result (λ l. is_large (map func_of funcs.now) func.now ≡ None) }
-    ensures fault { IfErr result (IsTooLarge (is_large (map func_of funcs.now) func.now)) }
+/// The layout of the frame of one of a program's functions.
+fn frame_layout(program: &Program, func: &Func) -> Result<FrameLayout, LayoutFault>
+    ensures layout { IfOk result (λ l. l ≡ layout_in (program_of program.now) (func_of func.now)) }
+    ensures small { IfOk result (λ l. is_large (program_of program.now) func.now ≡ None) }
+    ensures fault { IfErr result (IsTooLarge (is_large (program_of program.now) func.now)) }
 {
-    let outgoing = body_reach(funcs, &func.body)?;
-    let temps = body_temps(funcs, func.named.len() as u64, &func.body)?;
-    let words = words_of(outgoing, temps, func.sites)?;
+    let outgoing = body_reach(program, &func.body)?;
+    let temps = body_temps(program, &func.named, &func.body)?;
+    let sites = sites_words(program, func.first_site, func.sites)?;
+    let words = words_of(outgoing, temps, sites)?;
     if words > MOST_WORDS {
         return Err(LayoutFault::FrameTooLarge {
             pos: func.pos,
@@ -82,15 +84,15 @@ fn frame_layout(funcs: &[Func], func: &Func) -> Result<FrameLayout, LayoutFault>
 pub fn layout_of(alloc: Global, program: &Program) -> Result<Layouts, LayoutFault>
     // Each function's words are the definition's, and none has a frame of more than 65,535.
     ensures layouts { IfOk result (λ l. l ≡ layouts (program_of program.now)) }
-    ensures small { IfOk result (λ l. first_too_large (program_of program.now).funcs program.now.funcs.items ≡ None) }
+    ensures small { IfOk result (λ l. first_too_large (program_of program.now) program.now.funcs.items ≡ None) }
 
     // Refused is the first function whose frame has more, with the words and the place of its name.
-    ensures fault { IfErr result (IsTooLarge (first_too_large (program_of program.now).funcs program.now.funcs.items)) }
+    ensures fault { IfErr result (IsTooLarge (first_too_large (program_of program.now) program.now.funcs.items)) }
 {
     let funcs = program.funcs.as_slice();
     let mut frames = Vec::new(alloc);
     for func in funcs {
-        let layout = frame_layout(funcs, func)?;
+        let layout = frame_layout(program, func)?;
         frames.push(layout)?;
     }
     Ok(Layouts { frames })

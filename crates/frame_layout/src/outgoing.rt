@@ -1,59 +1,59 @@
 //! The words that calls want in the outgoing area. A number that passes 64 bits counts as want of memory.
 
-ghost use Rattle.std.specs.Prelude.{◌≡◌, ◌+◌, max, map, IfOk};
+ghost use Rattle.std.specs.Prelude.{◌≡◌, ◌+◌, map, IfOk};
 ghost use Rattle.typed.specs.Syntax.{arguments_of as arguments, results_of as results};
-ghost use Rattle.typed.specs.View.{ex_of, exs_of, exs_of_values, piece_of, test_of, st_of, sts_of, func_of};
+ghost use Rattle.typed.specs.View.{ex_of, exs_of, exs_of_values, piece_of, test_of, st_of, sts_of, program_of};
 ghost use Rattle.typed.specs.Frames.{reach, reach_all, piece_reach as reach_in, reach_pieces, test_reach, st_reach, sts_reach};
 
 use crate::words::{arguments_of, results_of};
 use base::{FuncId, NoMemory};
-use typed::{Expr, Func, Piece, Stmt, Values};
+use typed::{Expr, Piece, Program, Stmt, Values};
 
 /// The words of the arguments and results of a call.
-fn call_reach(funcs: &[Func], f: FuncId) -> Result<u64, NoMemory>
-    ensures { IfOk result (λ n. n ≡ arguments (map func_of funcs.now) f.0 + results (map func_of funcs.now) f.0) }
+fn call_reach(program: &Program, f: FuncId) -> Result<u64, NoMemory>
+    ensures { IfOk result (λ n. n ≡ arguments (program_of program.now) f.0 + results (program_of program.now) f.0) }
 {
-    let words = arguments_of(funcs, f);
-    words.checked_add(results_of(funcs, f)).ok_or(NoMemory)
+    let words = arguments_of(program, f)?;
+    words.checked_add(results_of(program, f)?).ok_or(NoMemory)
 }
 
 /// The most words that a call inside of an expression wants.
 #[cycle(values)]
-pub fn expr_reach(funcs: &[Func], e: &Expr) -> Result<u64, NoMemory>
-    ensures { IfOk result (λ n. n ≡ reach (map func_of funcs.now) (ex_of e.now)) }
+pub fn expr_reach(program: &Program, e: &Expr) -> Result<u64, NoMemory>
+    ensures { IfOk result (λ n. n ≡ reach (program_of program.now) (ex_of e.now)) }
 {
     match e {
         Expr::Constant(_) => Ok(0),
         Expr::Read(_) => Ok(0),
         Expr::Unary(_, a) => {
             let a: &Expr = a;
-            expr_reach(funcs, a)
+            expr_reach(program, a)
         }
         Expr::Binary(_, _, a, b) => {
             let a: &Expr = a;
             let b: &Expr = b;
-            let first = expr_reach(funcs, a)?;
-            let second = expr_reach(funcs, b)?;
+            let first = expr_reach(program, a)?;
+            let second = expr_reach(program, b)?;
             Ok(first.max(second))
         }
         Expr::Both(a, b) => {
             let a: &Expr = a;
             let b: &Expr = b;
-            let first = expr_reach(funcs, a)?;
-            let second = expr_reach(funcs, b)?;
+            let first = expr_reach(program, a)?;
+            let second = expr_reach(program, b)?;
             Ok(first.max(second))
         }
         Expr::Either(a, b) => {
             let a: &Expr = a;
             let b: &Expr = b;
-            let first = expr_reach(funcs, a)?;
-            let second = expr_reach(funcs, b)?;
+            let first = expr_reach(program, a)?;
+            let second = expr_reach(program, b)?;
             Ok(first.max(second))
         }
         Expr::Call(f, inner) => {
             let inner: &Values = inner;
-            let words = values_reach(funcs, inner)?;
-            let own = call_reach(funcs, *f)?;
+            let words = values_reach(program, inner)?;
+            let own = call_reach(program, *f)?;
             Ok(words.max(own))
         }
     }
@@ -62,15 +62,15 @@ pub fn expr_reach(funcs: &[Func], e: &Expr) -> Result<u64, NoMemory>
 /// The most words that a call inside of values wants.
 #[cycle(values)]
 #[tactic(auto, using(typed::proofs::Rows::expr_rows))]
-pub fn values_reach(funcs: &[Func], values: &Values) -> Result<u64, NoMemory>
-    ensures { IfOk result (λ n. n ≡ reach_all (map func_of funcs.now) (exs_of_values values.now)) }
+pub fn values_reach(program: &Program, values: &Values) -> Result<u64, NoMemory>
+    ensures { IfOk result (λ n. n ≡ reach_all (program_of program.now) (exs_of_values values.now)) }
 {
     match values {
-        Values::Each(es) => row_reach(funcs, es),
+        Values::Each(es) => row_reach(program, es),
         Values::Results(f, inner) => {
             let inner: &Values = inner;
-            let words = values_reach(funcs, inner)?;
-            let own = call_reach(funcs, *f)?;
+            let words = values_reach(program, inner)?;
+            let own = call_reach(program, *f)?;
             Ok(words.max(own))
         }
         Values::ReadInt => Ok(0),
@@ -79,95 +79,95 @@ pub fn values_reach(funcs: &[Func], values: &Values) -> Result<u64, NoMemory>
 
 /// The most words that a call inside of some expressions wants.
 #[cycle(values)]
-fn row_reach(funcs: &[Func], es: &[Expr]) -> Result<u64, NoMemory>
-    ensures { IfOk result (λ n. n ≡ reach_all (map func_of funcs.now) (exs_of es.now)) }
+fn row_reach(program: &Program, es: &[Expr]) -> Result<u64, NoMemory>
+    ensures { IfOk result (λ n. n ≡ reach_all (program_of program.now) (exs_of es.now)) }
 {
     let mut words: u64 = 0;
     for e in es {
-        words = words.max(expr_reach(funcs, e)?);
+        words = words.max(expr_reach(program, e)?);
     }
     Ok(words)
 }
 
 /// The most words that a call inside of an operand of `panic` wants.
-fn piece_reach(funcs: &[Func], p: &Piece) -> Result<u64, NoMemory>
-    ensures { IfOk result (λ n. n ≡ reach_in (map func_of funcs.now) (piece_of p.now)) }
+fn piece_reach(program: &Program, p: &Piece) -> Result<u64, NoMemory>
+    ensures { IfOk result (λ n. n ≡ reach_in (program_of program.now) (piece_of p.now)) }
 {
     match p {
         Piece::Text(_) => Ok(0),
-        Piece::Shown(_, e) => expr_reach(funcs, e),
+        Piece::Shown(_, e) => expr_reach(program, e),
     }
 }
 
 /// The most words that a call inside of operands that are shown wants.
 #[tactic(auto, using(crate::proofs::Pieces::reaches_first))]
-fn line_reach(funcs: &[Func], ps: &[Piece]) -> Result<u64, NoMemory>
-    ensures { IfOk result (λ n. n ≡ reach_pieces (map func_of funcs.now) (map piece_of ps.now)) }
+fn line_reach(program: &Program, ps: &[Piece]) -> Result<u64, NoMemory>
+    ensures { IfOk result (λ n. n ≡ reach_pieces (program_of program.now) (map piece_of ps.now)) }
 {
     let mut words: u64 = 0;
     for p in ps {
-        words = words.max(piece_reach(funcs, p)?);
+        words = words.max(piece_reach(program, p)?);
     }
     Ok(words)
 }
 
 /// The most words that a call inside of a condition wants, where there is one.
-fn test_words(funcs: &[Func], test: &Option<Expr>) -> Result<u64, NoMemory>
-    ensures { IfOk result (λ n. n ≡ test_reach (map func_of funcs.now) (test_of test.now)) }
+fn test_words(program: &Program, test: &Option<Expr>) -> Result<u64, NoMemory>
+    ensures { IfOk result (λ n. n ≡ test_reach (program_of program.now) (test_of test.now)) }
 {
     match test {
         None => Ok(0),
-        Some(e) => expr_reach(funcs, e),
+        Some(e) => expr_reach(program, e),
     }
 }
 
 /// The most words that a call inside of a statement wants.
 #[cycle(reach)]
 #[tactic(auto, using(typed::proofs::Rows::stmt_rows))]
-pub fn stmt_reach(funcs: &[Func], s: &Stmt) -> Result<u64, NoMemory>
-    ensures { IfOk result (λ n. n ≡ st_reach (map func_of funcs.now) (st_of s.now)) }
+pub fn stmt_reach(program: &Program, s: &Stmt) -> Result<u64, NoMemory>
+    ensures { IfOk result (λ n. n ≡ st_reach (program_of program.now) (st_of s.now)) }
 {
     match s {
         Stmt::Declare(_) => Ok(0),
-        Stmt::Assign(_, values) => values_reach(funcs, values),
-        Stmt::Update(_, _, _, e) => expr_reach(funcs, e),
+        Stmt::Assign(_, values) => values_reach(program, values),
+        Stmt::Update(_, _, _, e) => expr_reach(program, e),
         Stmt::Bump(_, _) => Ok(0),
-        Stmt::Discard(values) => values_reach(funcs, values),
-        Stmt::Block(ss) => body_reach(funcs, ss),
+        Stmt::Discard(values) => values_reach(program, values),
+        Stmt::Block(ss) => body_reach(program, ss),
         Stmt::If(e, a, b) => {
-            let test = expr_reach(funcs, e)?;
-            let first = body_reach(funcs, a)?;
-            let second = body_reach(funcs, b)?;
+            let test = expr_reach(program, e)?;
+            let first = body_reach(program, a)?;
+            let second = body_reach(program, b)?;
             Ok(test.max(first.max(second)))
         }
         Stmt::Loop(_, test, post, body) => {
-            let header = test_words(funcs, test)?;
-            let behind = body_reach(funcs, post)?;
-            let round = body_reach(funcs, body)?;
+            let header = test_words(program, test)?;
+            let behind = body_reach(program, post)?;
+            let round = body_reach(program, body)?;
             Ok(header.max(behind.max(round)))
         }
         Stmt::Count(e, _, body) => {
-            let operand = expr_reach(funcs, e)?;
-            let round = body_reach(funcs, body)?;
+            let operand = expr_reach(program, e)?;
+            let round = body_reach(program, body)?;
             Ok(operand.max(round))
         }
         Stmt::Break => Ok(0),
         Stmt::Continue => Ok(0),
-        Stmt::Return(values) => values_reach(funcs, values),
-        Stmt::Print(_, ps) => line_reach(funcs, ps),
-        Stmt::Panic(_, p) => piece_reach(funcs, p),
-        Stmt::Exit(_, e) => expr_reach(funcs, e),
+        Stmt::Return(values) => values_reach(program, values),
+        Stmt::Print(_, ps) => line_reach(program, ps),
+        Stmt::Panic(_, p) => piece_reach(program, p),
+        Stmt::Exit(_, e) => expr_reach(program, e),
     }
 }
 
 /// The most words that a call inside of a body wants.
 #[cycle(reach)]
-pub fn body_reach(funcs: &[Func], body: &[Stmt]) -> Result<u64, NoMemory>
-    ensures { IfOk result (λ n. n ≡ sts_reach (map func_of funcs.now) (sts_of body.now)) }
+pub fn body_reach(program: &Program, body: &[Stmt]) -> Result<u64, NoMemory>
+    ensures { IfOk result (λ n. n ≡ sts_reach (program_of program.now) (sts_of body.now)) }
 {
     let mut words: u64 = 0;
     for s in body {
-        words = words.max(stmt_reach(funcs, s)?);
+        words = words.max(stmt_reach(program, s)?);
     }
     Ok(words)
 }

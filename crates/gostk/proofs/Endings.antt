@@ -3,14 +3,14 @@ use Rattle.std.proofs.Common.{◌≡◌, refl, ℕ, zero, suc, ◌+◌, ◌≤�
 use Rattle.std.specs.Prelude.{⊤, nat_lt}
 use Rattle.std.proofs.lemmas.Bool.{ltb-true}
 use Rattle.base.specs.declared.pos.Pos.{Pos}
-use Rattle.typed.specs.Value.{Value, int}
-use Rattle.typed.specs.Syntax.{Ex, Exs, Left, Piece, St, Sts, Func, Program, constant, read, unary, binary, both, either, call, none, more, results, asked, local, global, here, blank, new, to, text, shown, over_int, declare, assign, update, bump, discard, block, choose, loop, range, break_off, go_on, give_back, print, raise, quit, done, next}
+use Rattle.value_trees.specs.Value.{Value, int}
+use Rattle.typed.specs.Syntax.{Ex, Exs, Pl, Steps, Left, Piece, St, Sts, Func, Program, constant, read, unary, binary, both, either, call, none, more, results, asked, local, global, here, inner, blank, new, to, text, shown, over_int, declare, assign, update, bump, discard, block, choose, loop, range, break_off, go_on, give_back, print, raise, quit, done, next}
 use Rattle.simulation.specs.Outcome as Run
 use Rattle.simulation.specs.Outcome.{Outcome, Gives, Ends, Unfinished, upto, ending_in}
 use Rattle.meaning.specs.Trace.{World, Call, Return, Born, Read, Write, Print, Fault, exit_code, Ending, Turns, Exit, Panic, StackLimit, HeapLimit, Trace, Turn, Note, Seen, End, Cut, Asked}
 use Rattle.meaning.specs.Store.{read_at, written}
 use Rattle.meaning.specs.Operators.{unary_of, binary_of}
-use Rattle.meaning.specs.Meaning.{Go, Then, Env, Ways, Calls, stop, write_part, no_pos, Item, Setting, counted, count_of, int_of, quit_with, give, or_panic, holding, holding_all, when, is_true, Step, fixed, Aim, Spot, settle_steps, settle, ev, evs, Landing, nowhere, birth, on, landing_values, ready, ready_all, land, land_all, shown_bytes, emit_more, emit_plain, emit, pieces, test_of, renew, rounds, to_next, exec, exec_all, bear_params, bear_zeros, write_results, read_results, leave, leave_with, run_body, call_at, bear_globals, setting_of, at_top, beginning, trace}
+use Rattle.meaning.specs.Meaning.{Go, Then, Env, Ways, Calls, stop, write_part, no_pos, Item, Setting, counted, count_of, int_of, quit_with, give, or_panic, holding, holding_all, when, is_true, Step, fixed, Aim, Spot, settle_steps, settle, walk, aim, ev, evs, Landing, nowhere, birth, on, landing_values, ready, ready_all, land, land_all, shown_bytes, emit_more, emit_plain, emit, pieces, test_of, renew, rounds, to_next, exec, exec_all, bear_params, bear_zeros, write_results, read_results, leave, leave_with, run_body, call_at, bear_globals, setting_of, at_top, beginning, trace}
 use Rattle.meaning.specs.Output.{Limits, Sight, out, source, used_by, tail_of}
 
 abbrev IsGood : Ending → Type 0
@@ -66,11 +66,18 @@ record GoodCalls (calls : Calls) : Type 0 where
   by : (f : ℕ) (vs : List Value) (ws : Ways) (env : Env) (k : Then (List Value)) → GoodWays ws → GoodThen k → Good (calls f vs ws env k)
 
 module _ (around : Setting) (calls : Calls) (gc : GoodCalls calls) where
+  good_walk : (steps : Steps) (ws : Ways) (env : Env) (k : Then (List Step)) → GoodThen k → Good (walk around calls steps ws env k)
+  good_walk here ws env k h = h []
+  good_walk (inner i steps) ws env k h = good_walk steps ws env _ (λ r. h (fixed i ∷ r))
+
+  good_aim : (q : Pl) (ws : Ways) (env : Env) (k : Then Aim) → GoodThen k → Good (aim around calls q ws env k)
+  good_aim (local site steps) ws env k h = good_walk steps ws env _ (λ r. h _)
+  good_aim (global g steps) ws env k h = good_walk steps ws env _ (λ r. h _)
+
   mutual
     good_ev : (e : Ex) (ws : Ways) (env : Env) (k : Then Value) → GoodWays ws → GoodThen k → Good (ev around calls e ws env k)
     good_ev (constant v) ws env k s h = λ w. h v w
-    good_ev (read (local site here)) ws env k s h = λ w. h _ w
-    good_ev (read (global g here)) ws env k s h = λ w. h _ w
+    good_ev (read q) ws env k s h = good_aim q ws env _ (λ a. good_settle a _ (λ spot w. h _ w))
     good_ev (unary op e) ws env k s h = good_ev e ws env _ s (λ v w. h (unary_of op v) w)
     good_ev (binary at op a b) ws env k s h =
         good_ev a ws env _ s (λ v. good_ev b (holding ws v) env _ (good_holding ws v s) (λ u w. good_or_panic ws env at (binary_of op v u) (give ws k) s (λ x y. h x y) w))
@@ -87,8 +94,7 @@ module _ (around : Setting) (calls : Calls) (gc : GoodCalls calls) where
   good_ready : (l : Left) (ws : Ways) (env : Env) (k : Then Landing) → GoodWays ws → GoodThen k → Good (ready around calls l ws env k)
   good_ready blank ws env k s h = h nowhere
   good_ready (new site) ws env k s h = h (birth site)
-  good_ready (to (local site here)) ws env k s h = h _
-  good_ready (to (global g here)) ws env k s h = h _
+  good_ready (to q) ws env k s h = good_aim q ws env _ (λ a. h (on a))
 
   good_ready_all : (ls : List Left) (ws : Ways) (env : Env) (k : List Landing → Ways → Go) → GoodWays ws
       → ((xs : List Landing) (ws1 : Ways) → GoodWays ws1 → Good (k xs ws1)) → Good (ready_all around calls ls ws env k)
@@ -189,14 +195,12 @@ module _ (around : Setting) (calls : Calls) (gc : GoodCalls calls) (fuel : ℕ) 
         (good_next around ws n1 sites (exec_all around calls fuel post) j (λ env3 k3 h3. good_exec_all post ws env3 k3 s h3) g))
         (λ n1 env1 w1. h env1 w1) (length w.store - length sites) env w
     good_exec (declare sites) ws env k s h = good_zeros around ws.call sites env k h
-    good_exec (update at (local site here) op e) ws env k s h =
-        λ w. good_ev around calls gc e (holding ws _) env _ (good_holding ws _ s) (λ u. good_or_panic ws env at (binary_of op _ u) _ s (λ x w1. h env _)) w
-    good_exec (update at (global g here) op e) ws env k s h =
-        λ w. good_ev around calls gc e (holding ws _) env _ (good_holding ws _ s) (λ u. good_or_panic ws env at (binary_of op _ u) _ s (λ x w1. h env _)) w
-    good_exec (bump (local site here) op) ws env k s h =
-        λ w. good_or_panic ws env no_pos (binary_of op (read_at w (env site) []) (int (pos 1))) (λ x. write_part (env site) [] x (k env)) s (λ x w1. h env (written w1 (env site) [] x)) w
-    good_exec (bump (global g here) op) ws env k s h =
-        λ w. good_or_panic ws env no_pos (binary_of op (read_at w g []) (int (pos 1))) (λ x. write_part g [] x (k env)) s (λ x w1. h env (written w1 g [] x)) w
+    good_exec (update at q op e) ws env k s h =
+        good_aim around calls gc q ws env _ (λ a. good_settle a _ (λ spot w. good_ev around calls gc e (holding ws _) env _ (good_holding ws _ s)
+        (λ u. good_or_panic ws env at (binary_of op (read_at w spot.variable spot.path) u) (λ x. write_part spot.variable spot.path x (k env)) s (λ x w1. h env (written w1 spot.variable spot.path x))) w))
+    good_exec (bump q op) ws env k s h =
+        good_aim around calls gc q ws env _ (λ a. good_settle a _ (λ spot w.
+        good_or_panic ws env no_pos (binary_of op (read_at w spot.variable spot.path) (int (pos 1))) (λ x. write_part spot.variable spot.path x (k env)) s (λ x w1. h env (written w1 spot.variable spot.path x)) w))
     good_exec (range (over_int e) key value body) ws env k s h =
         good_ev around calls gc e ws env _ s (λ v w. good_counted fuel 0 (count_of v) _ _
         (λ i n1 env1 j g. good_ready around calls gc key (holding ws v) env1 _ (good_holding ws v s) (λ a. good_land around a _ (holding ws v) env1 _ (λ env2. good_exec_all body _ env2 _

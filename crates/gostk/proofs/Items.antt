@@ -7,7 +7,7 @@ use Rattle.meaning.specs.Trace.{Ending}
 use Rattle.meaning.specs.Meaning.{Item}
 use Rattle.meaning.specs.Output.{Sight, printing, asking}
 use Rattle.machine.specs.Answers.{AllNumbers, HasFrom}
-use Rattle.codegen.specs.Correct.{AsksFor, asks_of}
+use Rattle.codegen.specs.Runs.{AsksFor, asks_of}
 use Rattle.gostk.specs.Programs.{Reading, CameInOrder, Begins}
 
 -- the answers that came, and nothing behind them

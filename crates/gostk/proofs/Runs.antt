@@ -11,7 +11,8 @@ use Rattle.meaning.specs.Output.{source}
 use Rattle.meaning.proofs.Runs.{longer_sources_extend}
 use Rattle.isa.specs.Code.{Tables}
 use Rattle.machine.specs.declared.place.Panic.{Panic as MachinePanic}
-use Rattle.codegen.specs.Correct.{Ran as RanCode, ReadBy, Simulated, asks_of, limits}
+use Rattle.simulated_code.specs.Correct.{Simulated, limits}
+use Rattle.codegen.specs.Runs.{Ran as RanCode, ReadBy, asks_of}
 use Rattle.codegen.specs.declared.running.RunFault.{RunFault}
 use Rattle.codegen.specs.declared.running.RunFault.TheVariants as fault
 use Rattle.gostk.specs.Programs.{AsksOnce, Begins, CameInOrder, Reading, few_turns, all_turns}

@@ -1,7 +1,7 @@
 -- The status and the line of each answer.
 use Rattle.std.specs.Prelude.{ℕ, ◌≤◌, Bool, true, false, List, [], ◌++◌, codes, decimal, string_bytes}
 use Rattle.std.specs.Fmt.{signed_decimal}
-use Rattle.typed.specs.Value.{Value, int, bool}
+use Rattle.value_trees.specs.Value.{Value, int, bool, composite}
 use Rattle.meaning.specs.Trace.{Fault, divide_by_zero, shift_count, exit_code, raised_text, raised}
 use Rattle.limits.specs.declared.limits.LimitFault.{LimitFault}
 use Rattle.limits.specs.Limits.{fault_number}
@@ -72,6 +72,7 @@ reason_text (Truth b) = truth_text b
 abbrev pub value_text : Value → List ℕ
 value_text (int z) = signed_decimal z
 value_text (bool b) = truth_text b
+value_text (composite vs) = []
 
 abbrev pub fault_text : Fault → List ℕ
 fault_text divide_by_zero = codes "divide by zero"

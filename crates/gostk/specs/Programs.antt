@@ -10,7 +10,8 @@ use Rattle.meaning.specs.Trace.{Ending, Panic, Fault}
 use Rattle.meaning.specs.Meaning.{Item}
 use Rattle.meaning.specs.Output.{Sight, source, output}
 use Rattle.machine.specs.Answers.{AllNumbers, ReadInOrder, HasFrom}
-use Rattle.codegen.specs.Correct.{AreNumbers, AsksFor, Between, asks_of, limits}
+use Rattle.simulated_code.specs.Correct.{AreNumbers, limits}
+use Rattle.codegen.specs.Runs.{AsksFor, Between, asks_of}
 use Rattle.compile.specs.Accepted.{Refuses as HasFault}
 use Rattle.compile.specs.declared.fault.CompileFault.{CompileFault}
 use Rattle.gostk.specs.Answer.{fault_text}

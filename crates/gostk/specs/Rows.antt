@@ -13,7 +13,7 @@ use Rattle.meaning.specs.Output.{output}
 use Rattle.base.specs.declared.pos.Pos.{Pos}
 use Rattle.gostk.specs.Answer.{status_of, line_of, reason_text, fault_text, panic_line, limits_line, steps_line, stack_line, heap_line}
 use Rattle.machine.specs.declared.place.Panic.{Panic as MachinePanic}
-use Rattle.codegen.specs.Correct.{same_fault}
+use Rattle.simulated_code.specs.Correct.{same_fault}
 use Rattle.compile.specs.Accepted.{Accepted}
 use Rattle.gostk.specs.Programs.{EndsBy, PanicsBy, GoesOn, PrintedFront, PrintedPart, AsksInVain, AsksOnce, Begins, CameInOrder, Reading, Refuses, few_turns, all_turns}
 use Rattle.gostk.specs.Refusal.{refusal_line}

@@ -112,7 +112,6 @@ module _ (m : Built) where
     both_end (bool false) g c calls ws k w words h goal pc lo b here hh is good on off =
         let a = temp (slots_of m.program c.func) h in
         turned m {lo1 = suc lo} (omega arith) (goes_to m {lo = lo} a goal here (held_word m c calls w words c.held [] (bool false) h hh refl good) (seen m _ (off good)))
-
     both_end x g c calls ws k w words h goal pc lo b here hh is good on off = absurd is
 
     either_end : (x : Value) (g : Go) (c : Frame) (calls : List Frame) (ws : Ways) (k : Then Value) (w : World) (words : List ℕ) (h goal end pc lo b : ℕ) → slice_get m.code.instrs pc ≡ Some (JumpZero (temp (slots_of m.program c.func) h) goal) → slice_get m.code.instrs (pc + 1) ≡ Some (Jump end)
@@ -126,7 +125,6 @@ module _ (m : Built) where
         let a = temp (slots_of m.program c.func) h in
         turned m {lo1 = suc (suc lo)} (omega arith) (goes_on m {lo = suc lo} {hi = 1} a goal here (held_word m c calls w words c.held [] (bool true) h hh refl good)
         (stepped m {lo = lo} {hi = 0} (Jump end) jump (λ heap. refl) (seen m _ (on good))))
-
     either_end x g c calls ws k w words h goal end pc lo b here jump hh is good off on = absurd is
 
     -- an item of the input: its number and its truth value go to two temps

@@ -1,7 +1,7 @@
 -- The machine follows a program.
 use Rattle.std.proofs.Common.{◌≡◌, inl, inr, ℕ, zero, suc, ◌+◌, ◌-◌, ◌^◌, ◌<◌, ◌≤◌, Bool, true, false, List, [], ◌∷◌, ◌++◌, length, Option, Some, None, refl, sym, ap, ◌∙◌, subst, arith, get_or}
 use Rattle.std.specs.Prelude.{slice_get, slice_index, nat_le, replicate, if◌then◌else◌}
-use Rattle.value_trees.specs.Value.{Value, IsOf, zero_of}
+use Rattle.value_trees.specs.Value.{Value, IsOf}
 use Rattle.std.proofs.lemmas.List.{length-map}
 use Rattle.std.proofs.lemmas.Option.{slice_get-get_or}
 use Rattle.typed.specs.Syntax.{Func, Program, argument_words, result_words, global_type, site_type, all_width, each_width}

@@ -1,7 +1,7 @@
 -- The machine follows the writing of left sides, and new variables.
 use Rattle.std.proofs.Common.{◌≡◌, inr, ℕ, suc, ◌+◌, ◌<◌, ◌≤◌, List, [], ◌∷◌, ◌++◌, length, refl, sym, ap, ◌∙◌, subst, arith, append_assoc}
 use Rattle.std.specs.Prelude.{replicate}
-use Rattle.value_trees.specs.Value.{Value, IsOf, zero_of}
+use Rattle.value_trees.specs.Value.{Value, IsOf}
 use Rattle.typed.specs.Syntax.{Pl, Left, Program, blank, new, to, local, global, site_type, each_width}
 use Rattle.typed.specs.Form.{AreOf, InScope, AllInScope, PlFits, LeftsFit, SitesNext, NamedFit, scope_behind, scope_with}
 use Rattle.typed.specs.Frames.{far, lefts_far, widest, temps_of}
@@ -10,7 +10,7 @@ use Rattle.meaning.specs.Store.{value_of, written, born}
 use Rattle.meaning.specs.Meaning
 use Rattle.meaning.specs.Meaning.{Env, Go, Ways, Calls, Setting, Landing, nowhere, birth, on, with_home}
 use Rattle.machine.specs.Machine.{put_words, words_at}
-use Rattle.simulated_code.specs.Code.{temp, site_slot, slots_of, write_code, lefts_code, lefts_size, zeros_code, renew_code, renew_size, zeros}
+use Rattle.simulated_code.specs.Code.{temp, site_slot, slots_of, write_code, lefts_code, lefts_size, zeros_code, renew_code, renew_size}
 use Rattle.simulated_code.proofs.Sizes.{length_write}
 use Rattle.simulated_code.proofs.Frames.{Built, Frame, hold, grown, during, numbers, Good, narrowed, StandIn, wide_of}
 use Rattle.simulated_code.proofs.Changes.{home_other, held_room, held_stand, site_room, site_stand, one_more, fewer, born_site, value_put}

@@ -27,7 +27,7 @@ use Rattle.simulated_code.specs.Code.{moves, zeros}
 use Rattle.simulated_code.proofs.Distances.{one_word, put_one}
 use Rattle.simulated_code.specs.Correct.{same_event, same_end}
 use Rattle.simulated_code.proofs.Compiled.{HasAt}
-use Rattle.simulated_code.proofs.Frames.{Built, Stands, nothing}
+use Rattle.simulated_code.proofs.Frames.{Built, Stands}
 
 -- these instructions of one function stand at this place
 abbrev pub Standing : Tables → (f pc : ℕ) → List Instr → Type 0

@@ -2,7 +2,7 @@
 use Rattle.std.proofs.Common.{◌≡◌, ◌⊎◌, inl, inr, ℕ, zero, suc, ◌+◌, ◌-◌, ◌<◌, ◌≤◌, List, [], ◌∷◌, ◌++◌, length, map, Some, refl, sym, ap, ◌∙◌, subst, arith, append_assoc, append-nil, get_or}
 use Rattle.std.specs.Prelude.{slice_get, slice_index, drop}
 use Rattle.value_trees.specs.Value.{Value}
-use Rattle.typed.specs.Syntax.{Func, argument_words, result_words, site_type, all_width, wide}
+use Rattle.typed.specs.Syntax.{Func, argument_words, result_words, site_type, all_width}
 use Rattle.typed.specs.Form.{AreOf, InScope}
 use Rattle.typed.specs.Frames.{frame_of, widest, temps_of}
 use Rattle.meaning.specs.Trace.{Exit, World, End}
@@ -148,10 +148,10 @@ module _ (m : Built) where
       (lie_kept (contents_of gone) (depth m calls) a words words2
       (λ j l. put_other words1 (fr + i) xs (depth m calls - (a + j)) (omega (arith, put)) (inl (omega arith)) ∙ put_other words (temp s 0) ys (depth m calls - (a + j)) (omega (arith, many)) (inr (omega (arith, many)))) are)
       (λ j l. let lj : j < length (contents v) = omega (arith, wide_one v) in
-          subst (λ cs. StandsFor (get_or cs j nothing) (word_at words2 (depth m calls - (a + wide_of gone + j)))) (sym (append-nil (contents v)))
-          (stands_same (get_or (contents v) j nothing) (get_or (contents v) j nothing) (slice_index xs j) (word_at words2 (depth m calls - (a + wide_of gone + j))) refl
-          (put_same words1 (fr + i) xs j (depth m calls - (a + wide_of gone + j)) (omega (arith, put)) (omega (arith, put, count)) (omega (arith, count)))
-          ((held_stand m c0 calls w words1 [] [] v 0 n refl count g1).each j lj)))))
+      subst (λ cs. StandsFor (get_or cs j nothing) (word_at words2 (depth m calls - (a + wide_of gone + j)))) (sym (append-nil (contents v)))
+      (stands_same (get_or (contents v) j nothing) (get_or (contents v) j nothing) (slice_index xs j) (word_at words2 (depth m calls - (a + wide_of gone + j))) refl
+      (put_same words1 (fr + i) xs j (depth m calls - (a + wide_of gone + j)) (omega (arith, put)) (omega (arith, put, count)) (omega (arith, count)))
+      ((held_stand m c0 calls w words1 [] [] v 0 n refl count g1).each j lj)))))
       g3
       (λ rs words3 of_types are3 g4. place_is m (let q : pc + suc (suc (named_read_size sites)) ≡ pc + 1 + 1 + named_read_size sites = omega arith in q)
       (post (v ∷ rs) words3 (typed, of_types) (subst (λ l. AreAt l (depth m calls) a words3) (append_assoc gone (v ∷ []) rs) are3) g4))))))

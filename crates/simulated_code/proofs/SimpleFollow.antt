@@ -5,7 +5,7 @@ use Rattle.std.specs.Int.{w64, cast_signed}
 use Rattle.base.specs.declared.pos.Pos.{Pos}
 use Rattle.typed.specs.declared.operators.BinOp.{BinOp}
 use Rattle.typed.specs.declared.operators.BinOp.TheVariants.{Add, Sub, Mul, Div, Rem, And, Or, Xor, AndNot, ShiftLeft, ShiftRight, Equal, NotEqual, Less, LessEqual, Greater, GreaterEqual}
-use Rattle.value_trees.specs.Value.{Value, int, bool, IsOf, zero_of}
+use Rattle.value_trees.specs.Value.{Value, int, bool, IsOf}
 use Rattle.typed.specs.Syntax.{Ex, Exs, Pl, Left, Piece, none, more, results, asked, text, shown, declare, assign, update, bump, discard, break_off, go_on, give_back, print, raise, quit, argument_words, site_type, all_wide, value_widths}
 use Rattle.value_trees.specs.Types.{ValueType, ints, bools, width, struct_of, array_of}
 use Rattle.simulated_code.proofs.Numbers.{no_struct, no_array}
@@ -96,7 +96,7 @@ module _ (m : Built) where
         let s = slots_of m.program c.func in let all = all_wide m.program es in
         let ces = exs_code m.program s es h pc in let cls = lefts_code s (value_widths m.program es) ls (h + all) h in
         let has_l = subst (λ ns. Standing m.code c.fn (pc + exs_size m.program es) (lefts_code s ns ls (h + all) h)) (widths_are m.program scope fit.0 es fit.2)
-            (back m.code c.fn pc (exs_size m.program es) ces cls (length_exs m.program s es h pc) has) in
+        (back m.code c.fn pc (exs_size m.program es) ces cls (length_exs m.program s es h pc) has) in
         subst (λ t. At m (numbers (c ∷ calls)) lo 0 b t pc words w) (sym (ready_is around callees ls ws env (λ those ws1. Meaning.evs around callees es ws1 env (λ vs. Meaning.land_all around those vs ws env k)) w))
         (evs_follow m around inputs callees n cf es fit.0 (during c env scope held) calls ws (λ vs. Meaning.land_all around (landings env ls) vs ws env k) w words h pc lo b le hh leads.panics (front m.code c.fn pc ces cls has) fit.2 (omega arith) reaches g (λ vs w1 words1 are g1.
         let count : wide_of vs ≡ all = of_length fit.0 vs are ∙ sym (all_wide_is m.program scope fit.0 es fit.2) in

@@ -9,7 +9,7 @@ use Rattle.simulated_code.proofs.Moves.{CallsFollow}
 use Rattle.simulated_code.proofs.Leading.{Followed, AllFollowed}
 use Rattle.simulated_code.proofs.SimpleFollow.{declare_follows, assign_follows, update_follows, bump_follows, discard_follows, break_follows, continue_follows, return_follows, print_follows, raise_follows, quit_follows}
 use Rattle.simulated_code.proofs.LoopsFollow.{done_follows, next_follows, choose_follows, loop_follows, range_follows}
-use Rattle.value_trees.specs.Value.{IsOf, zero_of}
+use Rattle.value_trees.specs.Value.{IsOf}
 use Rattle.value_trees.specs.Words.{contents}
 use Rattle.value_trees.specs.Types.{width}
 

@@ -1,7 +1,6 @@
 -- What the code of a program does, against what the program means.
-use Rattle.std.specs.Prelude.{◌≡◌, ◌≢◌, ⊤, ℕ, zero, suc, ◌*◌, ◌^◌, ◌≤◌, List, [], ◌∷◌, ◌++◌, length, replicate, get_or, slice_get, Option, Some, None, Result, Ok, Err, nat_le, if◌then◌else◌, IfSome, FitsSigned}
+use Rattle.std.specs.Prelude.{◌≡◌, ⊤, ℕ, ◌*◌, ◌^◌, ◌≤◌, List, [], ◌∷◌, length, replicate, get_or, slice_get, Option, Some, None, nat_le, if◌then◌else◌, IfSome, FitsSigned}
 use Rattle.std.specs.Int.{w64}
-use Rattle.base.specs.declared.pos.Pos.{Pos}
 use Rattle.typed.specs.declared.expr.Const.{Const}
 use Rattle.value_trees.specs.Value.{Value, int, bool}
 use Rattle.typed.specs.Syntax.{Program}
@@ -10,8 +9,8 @@ use Rattle.typed.specs.Frames.{frame_words}
 use Rattle.typed.specs.Placement.{on_heap}
 use Rattle.meaning.specs.Trace.{Ending, Exit, Panic, StackLimit, HeapLimit, Fault, divide_by_zero, shift_count, exit_code, raised_text, raised}
 use Rattle.meaning.specs.Meaning.{Item}
-use Rattle.meaning.specs.Output.{Limits, Sight, printing, asking, source, output}
-use Rattle.simulation.specs.Outcome.{Outcome, Gives, Ends, Unfinished, Below, ending_in}
+use Rattle.meaning.specs.Output.{Limits, Sight, printing, asking, source}
+use Rattle.simulation.specs.Outcome.{Outcome, Ends, Unfinished, Below}
 use Rattle.simulation.specs.Steps.{exec}
 use Rattle.heap_bump.specs.Words.{Words}
 use Rattle.isa.specs.Code.{Tables}

@@ -1,11 +1,13 @@
 use Rattle.std.proofs.Common.{◌≡◌, ◌++◌, drop, map}
-use Rattle.typed.specs.View.{left_of}
-use Rattle.codegen.specs.Code.{lefts_code}
+use Rattle.typed.specs.Syntax.{value_widths}
+use Rattle.typed.specs.View.{exs_of_values, left_of, program_of}
+use Rattle.simulated_code.specs.Code.{lefts_code}
 use Rattle.codegen.specs.Frame.{slots_in}
 use Rattle.codegen.specs.Temps.{LeftsFitIn}
 use Rattle.codegen.proofs.assigning.emit_lefts.Given as goal
 
-abbrev pub invariant-loop-left : goal.invariant-loop-left
-invariant-loop-left l =
-    (l.fn.code.items ++ lefts_code (slots_in l.frame) (map left_of l.ls) l.at l.h ≡ l.code.items ++ lefts_code (slots_in l.frame) (map left_of (drop l.left-index l.ls)) l.at l.next)
-    × LeftsFitIn (slots_in l.frame) l.frame.sites l.at l.next (map left_of (drop l.left-index l.ls))
+abbrev pub invariant-loop-i : goal.invariant-loop-i
+invariant-loop-i l =
+    (l.fn.code.items ++ lefts_code (slots_in l.program l.frame) (value_widths (program_of l.program) (exs_of_values l.values)) (map left_of l.ls) l.at l.h
+    ≡ l.code.items ++ lefts_code (slots_in l.program l.frame) (drop l.i (value_widths (program_of l.program) (exs_of_values l.values))) (map left_of (drop l.i l.ls)) l.at l.next)
+    × LeftsFitIn (slots_in l.program l.frame) l.frame.sites l.at l.next (drop l.i (value_widths (program_of l.program) (exs_of_values l.values))) (map left_of (drop l.i l.ls))

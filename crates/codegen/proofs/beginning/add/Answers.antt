@@ -1,6 +1,6 @@
 use Rattle.std.proofs.Common.{◌∙◌, List, ℕ, ap}
 use Rattle.heap_bump.specs.Words.{Words, with_word}
-use Rattle.codegen.proofs.Births.{word_taken}
+use Rattle.codegen.proofs.Begun.{word_taken}
 use Rattle.codegen.proofs.beginning.add.Goals as goal
 
 pub returns-in-Ok-clause-words : goal.returns-in-Ok-clause-words

@@ -1,6 +1,6 @@
 use Rattle.std.proofs.Common.{◌≡◌, ◌≤◌, ◌++◌, drop, length, map}
 use Rattle.typed.specs.declared.program.PackageVariable.{PackageVariable}
-use Rattle.codegen.specs.Correct.{begun_word}
+use Rattle.simulated_code.specs.Correct.{begun_word}
 use Rattle.codegen.proofs.beginning.first_heap.Given as goal
 
 abbrev pub invariant-loop-global : goal.invariant-loop-global

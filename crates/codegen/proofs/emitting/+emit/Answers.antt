@@ -1,57 +1,57 @@
-use Rattle.std.proofs.Common.{◌≡◌, ◌+◌, ◌++◌, ◌∷◌, [], length, map, ap, ◌∙◌, arith}
+use Rattle.std.proofs.Common.{◌≡◌, ◌+◌, ◌++◌, ◌∷◌, [], length, ap, ◌∙◌, arith}
 use Rattle.typed.proofs.Rows.{stmt_rows}
 use Rattle.typed.specs.Syntax.{blank, over_int, choose, loop, range, argument_words, result_words}
-use Rattle.typed.specs.View.{ex_of, func_of, left_of, site_numbers, st_of, sts_of, test_of}
-use Rattle.codegen.specs.Code.{lefts_size, renew_code, renew_size, sts_code, sts_size, test_size}
+use Rattle.typed.specs.View.{ex_of, func_of, left_of, program_of, site_numbers, st_of, sts_of, test_of}
+use Rattle.simulated_code.specs.Code.{lefts_size, renew_code, renew_size, sts_code, sts_size, test_size}
 use Rattle.codegen.specs.Frame.{slots_in}
 use Rattle.codegen.proofs.Emitted.{next_emitted, next_fits, if_emitted, loop_emitted, count_emitted}
 use Rattle.codegen.proofs.emitting.+emit.Goals as goal
 
 pub emit_stmts-loop-s-preserved : goal.emit_stmts-loop-s-preserved
 emit_stmts-loop-s-preserved t c =
-    let fs = map func_of c.args.funcs.now in let f = func_of c.args.func.now in let slots = slots_in c.args.frame in let g = c.args.goals in (
-      next_emitted fs (argument_words f) f.named slots _ _ _ c.args.ss.now c.loop-s.s-index c.s-item.result c.args.h g.out g.again c.loop-s-test.true c.s-item.is c.loop-s.invariant.0 c.in_ok-emit_stmt.ensures,
-      next_fits fs (argument_words f) f.named slots c.args.frame.sites (result_words f) c.args.h c.args.ss.now c.loop-s.s-index c.s-item.result c.loop-s-test.true c.s-item.is c.loop-s.invariant.1,
+    let p = program_of c.args.program.now in let f = func_of c.args.func.now in let slots = slots_in c.args.program.now c.args.frame in let g = c.args.goals in (
+      next_emitted p (argument_words f) f.named slots _ _ _ c.args.ss.now c.loop-s.s-index c.s-item.result c.args.h g.out g.again c.loop-s-test.true c.s-item.is c.loop-s.invariant.0 c.in_ok-emit_stmt.ensures,
+      next_fits p (argument_words f) f.named slots c.args.frame.sites (result_words f) c.args.h c.args.ss.now c.loop-s.s-index c.s-item.result c.loop-s-test.true c.s-item.is c.loop-s.invariant.1,
     )
 
 pub emit_stmt-returns-in_ok-emit_stmts-in-If-2 : goal.emit_stmt-returns-in_ok-emit_stmts-in-If-2
 emit_stmt-returns-in_ok-emit_stmts-in-If-2 t c =
-    let fs = map func_of c.args.funcs.now in let f = func_of c.args.func.now in let slots = slots_in c.args.frame in let h = c.args.h in let out = c.args.goals.out in let again = c.args.goals.again in
+    let p = program_of c.args.program.now in let f = func_of c.args.func.now in let slots = slots_in c.args.program.now c.args.frame in let h = c.args.h in let out = c.args.goals.out in let again = c.args.goals.again in
     let v = c.in-If in
     let shape : st_of c.args.s.now ≡ choose (ex_of v.e) (sts_of v.a.items) (sts_of v.b.items) = grind (arith, stmt_rows) in
-    rw shape (if_emitted fs (argument_words f) f.named slots c.args.code.now.items _ _ _ _ _ (ex_of v.e) (sts_of v.a.items) (sts_of v.b.items) _ _ h out again
-    (c.in_ok-yes-in-If.ensures ∙ ap (λ x. sts_size fs (argument_words f) f.named (sts_of x)) c.deref-in-If.ensures.value) (c.in_ok-no-in-If.ensures ∙ ap (λ x. sts_size fs (argument_words f) f.named (sts_of x)) c.deref-in-If-2.ensures.value)
+    rw shape (if_emitted p (argument_words f) f.named slots c.args.code.now.items _ _ _ _ _ (ex_of v.e) (sts_of v.a.items) (sts_of v.b.items) _ _ h out again
+    (c.in_ok-yes-in-If.ensures ∙ ap (λ x. sts_size p (argument_words f) f.named (sts_of x)) c.deref-in-If.ensures.value) (c.in_ok-no-in-If.ensures ∙ ap (λ x. sts_size p (argument_words f) f.named (sts_of x)) c.deref-in-If-2.ensures.value)
     c.in_ok-emit_expr-in-If.ensures c.in_ok-pass_unless-in-If.ensures
-    (c.in_ok-emit_stmts-in-If.ensures ∙ ap (λ x. c.pass_unless.new.code.items ++ sts_code fs (argument_words f) f.named slots (sts_of x) h out again (length c.pass_unless.new.code.items)) c.deref-in-If-3.ensures.value)
+    (c.in_ok-emit_stmts-in-If.ensures ∙ ap (λ x. c.pass_unless.new.code.items ++ sts_code p (argument_words f) f.named slots (sts_of x) h out again (length c.pass_unless.new.code.items)) c.deref-in-If-3.ensures.value)
     c.in_ok-jump-in-If.ensures
-    (c.in_ok-emit_stmts-in-If-2.ensures ∙ ap (λ x. c.jump.new.code.items ++ sts_code fs (argument_words f) f.named slots (sts_of x) h out again (length c.jump.new.code.items)) c.deref-in-If-4.ensures.value))
+    (c.in_ok-emit_stmts-in-If-2.ensures ∙ ap (λ x. c.jump.new.code.items ++ sts_code p (argument_words f) f.named slots (sts_of x) h out again (length c.jump.new.code.items)) c.deref-in-If-4.ensures.value))
 
 pub emit_stmt-returns-in_ok-put-in-Loop : goal.emit_stmt-returns-in_ok-put-in-Loop
 emit_stmt-returns-in_ok-put-in-Loop t c =
-    let fs = map func_of c.args.funcs.now in let f = func_of c.args.func.now in let slots = slots_in c.args.frame in let h = c.args.h in
+    let p = program_of c.args.program.now in let f = func_of c.args.func.now in let slots = slots_in c.args.program.now c.args.frame in let h = c.args.h in
     let v = c.in-Loop in let g = c.in_ok-inner-in-Loop.inner in
     let shape : st_of c.args.s.now ≡ loop (site_numbers v.sites.items) (test_of v.test) (sts_of v.post.items) (sts_of v.body.items) = grind (arith, stmt_rows) in
     let start : c.in_ok-start.start ≡ length c.args.code.now.items = omega (arith, c.in_ok-start.ensures) in
-    rw shape (loop_emitted fs (argument_words f) f.named slots c.args.code.now.items _ _ _ _ _ (site_numbers v.sites.items) (test_of v.test) (sts_of v.post.items) (sts_of v.body.items) _ g.again g.out h c.args.goals.out c.args.goals.again start
-    (c.in_ok-inner-in-Loop.ensures.again ∙ ap (λ x. c.in_ok-start.start + test_size fs (test_of v.test) + sts_size fs (argument_words f) f.named (sts_of x)) c.deref-in-Loop-3.ensures.value)
-    (c.in_ok-inner-in-Loop.ensures.out ∙ ap (λ x. g.again + renew_size (site_numbers x) + sts_size fs (argument_words f) f.named (sts_of c.deref-in-Loop-2.result.now) + 1) c.deref-in-Loop.ensures.value
-    ∙ ap (λ x. g.again + renew_size (site_numbers v.sites.items) + sts_size fs (argument_words f) f.named (sts_of x) + 1) c.deref-in-Loop-2.ensures.value)
+    rw shape (loop_emitted p (argument_words f) f.named slots c.args.code.now.items _ _ _ _ _ (site_numbers v.sites.items) (test_of v.test) (sts_of v.post.items) (sts_of v.body.items) _ g.again g.out h c.args.goals.out c.args.goals.again start
+    (c.in_ok-inner-in-Loop.ensures.again ∙ ap (λ x. c.in_ok-start.start + test_size p (test_of v.test) + sts_size p (argument_words f) f.named (sts_of x)) c.deref-in-Loop-3.ensures.value)
+    (c.in_ok-inner-in-Loop.ensures.out ∙ ap (λ x. g.again + renew_size (site_numbers x) + sts_size p (argument_words f) f.named (sts_of c.deref-in-Loop-2.result.now) + 1) c.deref-in-Loop.ensures.value
+    ∙ ap (λ x. g.again + renew_size (site_numbers v.sites.items) + sts_size p (argument_words f) f.named (sts_of x) + 1) c.deref-in-Loop-2.ensures.value)
     c.in_ok-emit_test-in-Loop.ensures
-    (c.in_ok-emit_stmts-in-Loop.ensures ∙ ap (λ x. c.emit_test.new.code.items ++ sts_code fs (argument_words f) f.named slots (sts_of x) h g.out g.again (length c.emit_test.new.code.items)) c.deref-in-Loop-4.ensures.value)
+    (c.in_ok-emit_stmts-in-Loop.ensures ∙ ap (λ x. c.emit_test.new.code.items ++ sts_code p (argument_words f) f.named slots (sts_of x) h g.out g.again (length c.emit_test.new.code.items)) c.deref-in-Loop-4.ensures.value)
     (c.in_ok-emit_renewal-in-Loop.ensures ∙ ap (λ x. c.emit_stmts-in-Loop.new.code.items ++ renew_code slots (site_numbers x) h) c.deref-in-Loop-5.ensures.value)
-    (c.in_ok-emit_stmts-in-Loop-2.ensures ∙ ap (λ x. c.emit_renewal.new.code.items ++ sts_code fs (argument_words f) f.named slots (sts_of x) h g.out g.again (length c.emit_renewal.new.code.items)) c.deref-in-Loop-6.ensures.value)
+    (c.in_ok-emit_stmts-in-Loop-2.ensures ∙ ap (λ x. c.emit_renewal.new.code.items ++ sts_code p (argument_words f) f.named slots (sts_of x) h g.out g.again (length c.emit_renewal.new.code.items)) c.deref-in-Loop-6.ensures.value)
     c.in_ok-put-in-Loop.ensures)
 
 pub emit_stmt-returns-in_ok-emit_count_turn-in-Count : goal.emit_stmt-returns-in_ok-emit_count_turn-in-Count
 emit_stmt-returns-in_ok-emit_count_turn-in-Count t c =
-    let fs = map func_of c.args.funcs.now in let f = func_of c.args.func.now in let slots = slots_in c.args.frame in let h = c.args.h in
+    let p = program_of c.args.program.now in let f = func_of c.args.func.now in let slots = slots_in c.args.program.now c.args.frame in let h = c.args.h in
     let v = c.in-Count in let g = c.in_ok-inner-in-Count.inner in
     let shape : st_of c.args.s.now ≡ range (over_int (ex_of v.e)) (left_of v.key) blank (sts_of v.body.items) = grind (arith, stmt_rows) in
     let start : c.in_ok-start.start ≡ length c.args.code.now.items = omega (arith, c.in_ok-start.ensures) in
-    rw shape (count_emitted fs (argument_words f) f.named slots c.args.code.now.items _ _ _ _ (ex_of v.e) (left_of v.key) blank (sts_of v.body.items) _ _ g.again g.out h c.args.goals.out c.args.goals.again start
+    rw shape (count_emitted p (argument_words f) f.named slots c.args.code.now.items _ _ _ _ (ex_of v.e) (left_of v.key) blank (sts_of v.body.items) _ _ g.again g.out h c.args.goals.out c.args.goals.again start
     c.in_ok-test-in-Count.ensures
-    (c.in_ok-inner-in-Count.ensures.again ∙ ap (λ x. c.in_ok-test-in-Count.test + 2 + lefts_size (left_of v.key ∷ []) + sts_size fs (argument_words f) f.named (sts_of x)) c.deref-in-Count.ensures.value)
+    (c.in_ok-inner-in-Count.ensures.again ∙ ap (λ x. c.in_ok-test-in-Count.test + 2 + lefts_size (left_of v.key ∷ []) + sts_size p (argument_words f) f.named (sts_of x)) c.deref-in-Count.ensures.value)
     c.in_ok-inner-in-Count.ensures.out
     c.in_ok-emit_count_start-in-Count.ensures c.in_ok-emit_count_test-in-Count.ensures
-    (c.in_ok-emit_stmts-in-Count.ensures ∙ ap (λ x. c.emit_count_test.new.code.items ++ sts_code fs (argument_words f) f.named slots (sts_of x) (h + 2) g.out g.again (length c.emit_count_test.new.code.items)) c.deref-in-Count-2.ensures.value)
+    (c.in_ok-emit_stmts-in-Count.ensures ∙ ap (λ x. c.emit_count_test.new.code.items ++ sts_code p (argument_words f) f.named slots (sts_of x) (h + 2) g.out g.again (length c.emit_count_test.new.code.items)) c.deref-in-Count-2.ensures.value)
     c.in_ok-emit_count_turn-in-Count.ensures)

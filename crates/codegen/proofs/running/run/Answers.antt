@@ -5,7 +5,7 @@ use Rattle.machine.specs.Inside.{Inside}
 use Rattle.heap_bump.specs.Words.{Words}
 use Rattle.typed.specs.View.{program_of, site_types}
 use Rattle.codegen.specs.declared.running.RunFault.TheVariants as Fault
-use Rattle.codegen.proofs.Births.{begun_words, begun_room, begun_full}
+use Rattle.codegen.proofs.Begun.{begun_words, begun_room, begun_full}
 use Rattle.codegen.proofs.Composed.{full, composed, refused, unready, read_by, read_nothing}
 use Rattle.codegen.proofs.running.run.Goals as goal
 
@@ -49,6 +49,6 @@ returns-clause-runs g c =
     let zeros : c.in_ok-words.words.items ≡ replicate fn.frame 0 = search rules in
     let fits : nat_le fn.frame c.args.stack_max ≡ true = le-leb fn.frame c.args.stack_max (omega (arith, c.if-asked-stack_max.false)) in
     let room = begun_room types gs c.args.heap_max (rw c.deref.ensures.value at c.in_ok-heap.ensures.room) in
-    let begins = (rw c.deref.ensures.value at c.in_ok-heap.ensures.words) ∙ ap (λ (ws : List ℕ). let h : Words = record { words = ws; max = c.args.heap_max } in h) (sym (begun_words types gs)) in
+    let begins = (rw c.deref.ensures.value at c.in_ok-heap.ensures.words) ∙ ap (λ (ws : List ℕ). let h : Words = record { words = ws; max = c.args.heap_max } in h) (sym (begun_words c.args.program.now.sites.items gs)) in
     rw c.answer.ensures (read_by _ _ _ _ _ _ _ _ c.new-reader.ensures c.run-next.ensures.runs (λ same. same.1) (λ items answered numbers did is.
     composed p c.args.code.now is items numbers c.args.stack_max c.args.heap_max c.args.steps c.requires.heap room fn c.entry-first.ensures.is _ _ _ _ _ _ _ _ _ fits zeros begins did.0))

@@ -80,5 +80,5 @@ returns-clause-accepted c =
         has = has_tree text c.in_ok-tokens.tokens tree c.in_ok-tokens.ensures.exact c.in_ok-tokens.ensures.text c.in_ok-tree.ensures.found;
         types = c.in_ok-program.ensures.typed;
       };
-      fits = fits_all (program_of q).funcs q.funcs.items c.in_ok-layouts.ensures.small;
+      fits = fits_all (program_of q) q.funcs.items c.in_ok-layouts.ensures.small;
     }

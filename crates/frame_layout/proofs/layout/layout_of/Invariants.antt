@@ -4,5 +4,5 @@ use Rattle.frame_layout.specs.Layout.{first_too_large, layout_in, layouts}
 use Rattle.frame_layout.proofs.layout.layout_of.Given as goal
 
 abbrev pub invariant-loop-func : goal.invariant-loop-func
-invariant-loop-func l = (layouts (program_of l.program) ≡ l.frames.items ++ map (layout_in (map func_of l.funcs)) (map func_of (drop l.func-index l.funcs)))
-    × (first_too_large (map func_of l.funcs) l.funcs ≡ first_too_large (map func_of l.funcs) (drop l.func-index l.funcs))
+invariant-loop-func l = (layouts (program_of l.program) ≡ l.frames.items ++ map (layout_in (program_of l.program)) (map func_of (drop l.func-index l.funcs)))
+    × (first_too_large (program_of l.program) l.funcs ≡ first_too_large (program_of l.program) (drop l.func-index l.funcs))

@@ -1,7 +1,7 @@
 use Rattle.std.proofs.Common.{◌≡◌, max, drop, map}
-use Rattle.typed.specs.View.{piece_of, func_of}
+use Rattle.typed.specs.View.{piece_of, program_of}
 use Rattle.typed.specs.Frames.{reach_pieces}
 use Rattle.frame_layout.proofs.outgoing.line_reach.Given as goal
 
 abbrev pub invariant-loop-p : goal.invariant-loop-p
-invariant-loop-p l = reach_pieces (map func_of l.funcs) (map piece_of l.ps) ≡ max l.words (reach_pieces (map func_of l.funcs) (map piece_of (drop l.p-index l.ps)))
+invariant-loop-p l = reach_pieces (program_of l.program) (map piece_of l.ps) ≡ max l.words (reach_pieces (program_of l.program) (map piece_of (drop l.p-index l.ps)))

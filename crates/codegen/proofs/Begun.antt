@@ -1,0 +1,51 @@
+-- The heap with which a run begins.
+use Rattle.std.proofs.Common.{◌≡◌, ℕ, zero, suc, ◌+◌, ◌-◌, ◌<◌, ◌≤◌, true, false, List, [], ◌∷◌, ◌++◌, get_or, length, map, replicate, Some, refl, ap, ◌∙◌, arith}
+use Rattle.std.specs.Prelude.{Option, None, slice_set, nat_le}
+use Rattle.std.proofs.lemmas.Bool.{le-leb, lt-leb}
+use Rattle.heap_bump.specs.Words.{first_address, with_word}
+use Rattle.value_trees.specs.Types.{ValueType, ints}
+use Rattle.typed.specs.declared.expr.Const.{Const}
+use Rattle.typed.specs.declared.program.PackageVariable.{PackageVariable}
+use Rattle.typed.specs.declared.program.Site.{Site}
+use Rattle.typed.specs.View.{first_value, global_of, site_types, type_of}
+use Rattle.simulated_code.specs.Code.{word_of}
+use Rattle.simulated_code.specs.Correct.{first_words, begun_word}
+
+-- a word that is taken behind others gets its value
+last_set : (ws : List ℕ) (x y : ℕ) → slice_set (ws ++ x ∷ []) (length ws) y ≡ ws ++ y ∷ []
+last_set [] x y = refl
+last_set (w ∷ ws) x y = ap (λ l. w ∷ l) (last_set ws x y)
+
+pub word_taken : (ws : List ℕ) (at word : ℕ) → at ≡ first_address + length ws → with_word (ws ++ replicate 1 0) at word ≡ ws ++ word ∷ []
+word_taken ws at word e = let i : at - first_address ≡ length ws = omega (arith, e) in ap (λ n. slice_set (ws ++ 0 ∷ []) n word) i ∙ last_set ws 0 word
+
+-- the zero value of each type is 0
+zero_word : (t : ℕ) → word_of (first_value (type_of t) None) ≡ 0
+zero_word zero = refl
+zero_word (suc zero) = refl
+zero_word (suc (suc t)) = refl
+
+site_zero : (sites : List Site) (i : ℕ) → word_of (first_value (get_or (site_types sites) i ints) None) ≡ 0
+site_zero [] i = refl
+site_zero (site ∷ sites) zero = zero_word site.type_id.0
+site_zero (site ∷ sites) (suc i) = site_zero sites i
+
+word_is : (sites : List Site) (i : ℕ) (value : Option Const) → word_of (first_value (get_or (site_types sites) i ints) value) ≡ begun_word value
+word_is sites i (Some c) = refl
+word_is sites i None = site_zero sites i
+
+pub begun_words : (sites : List Site) (gs : List PackageVariable) → first_words (map (global_of (site_types sites)) gs) ≡ map (λ (g : PackageVariable). begun_word g.value) gs
+begun_words sites [] = refl
+begun_words sites (g ∷ gs) =
+    ap (λ w. w ∷ first_words (map (global_of (site_types sites)) gs)) (word_is sites g.site.0 g.value) ∙ ap (λ ws. begun_word g.value ∷ ws) (begun_words sites gs)
+
+begun_length : (types : List ValueType) (gs : List PackageVariable) → length (first_words (map (global_of types) gs)) ≡ length gs
+begun_length types [] = refl
+begun_length types (g ∷ gs) = ap suc (begun_length types gs)
+
+-- whether they have room
+pub begun_room : (types : List ValueType) (gs : List PackageVariable) (max : ℕ) → length gs ≤ max → nat_le (length (first_words (map (global_of types) gs))) max ≡ true
+begun_room types gs max le = le-leb (length (first_words (map (global_of types) gs))) max (omega (arith, le, begun_length types gs))
+
+pub begun_full : (types : List ValueType) (gs : List PackageVariable) (max : ℕ) → max < length gs → nat_le (length (first_words (map (global_of types) gs))) max ≡ false
+begun_full types gs max lt = lt-leb (length (first_words (map (global_of types) gs))) max (omega (arith, lt, begun_length types gs))

@@ -1,0 +1,43 @@
+//! The words of values by their places among others.
+ghost use Rattle.std.specs.Prelude.{◌≡◌, map, slice_index, IfOk};
+ghost use Rattle.typed.specs.Syntax.{each_width, value_widths};
+ghost use Rattle.typed.specs.View.{exs_of, exs_of_values, program_of, type_of};
+
+use base::{NoMemory, TypeId};
+use frame_layout::{expr_words, type_words};
+use typed::{Expr, Program, Values};
+
+/// The words of a value of one of these types; 0 where there are fewer.
+pub fn nth_words(types: &[TypeId], i: usize) -> u64
+    ensures { result ≡ slice_index (each_width (map (λ t. type_of t.0) types.now)) i }
+{
+    match types.get(i) {
+        Some(type_id) => type_words(*type_id),
+        None => 0,
+    }
+}
+
+// The words of one of some expressions' values.
+fn nth_expr_words(program: &Program, es: &[Expr], i: usize) -> Result<u64, NoMemory>
+    ensures { IfOk result (λ n. n ≡ slice_index (value_widths (program_of program.now) (exs_of es.now)) i) }
+{
+    match es.get(i) {
+        Some(e) => expr_words(program, e),
+        None => Ok(0),
+    }
+}
+
+/// The words of one of some values; 0 where there are fewer.
+#[tactic(auto, using(typed::proofs::Rows::expr_rows))]
+pub fn value_words(program: &Program, values: &Values, i: usize) -> Result<u64, NoMemory>
+    ensures { IfOk result (λ n. n ≡ slice_index (value_widths (program_of program.now) (exs_of_values values.now)) i) }
+{
+    match values {
+        Values::Each(es) => nth_expr_words(program, es, i),
+        Values::Results(f, _) => match program.funcs.get(f.0 as usize) {
+            Some(func) => Ok(nth_words(&func.results, i)),
+            None => Ok(0),
+        },
+        Values::ReadInt => Ok(if i < 2 { 1 } else { 0 }),
+    }
+}
