@@ -1,0 +1,12 @@
+pub mod Lists
+pub mod Limits
+pub mod Numbers
+pub mod Growing
+pub mod Nested
+pub mod Counted
+pub mod Entered
+pub mod Entering
+pub mod Telling
+pub mod Beginning
+pub mod Offsets
+pub mod Passing
