@@ -3,7 +3,7 @@ use Rattle.std.proofs.Common.{◌≡◌, refl, ℕ, zero, suc, ◌+◌, ◌-◌,
 use Rattle.std.specs.Prelude.{length, slice_get, nat_lt}
 use Rattle.base.specs.declared.pos.Pos.{Pos}
 use Rattle.value_trees.specs.Value.{Value, int}
-use Rattle.typed.specs.Syntax.{Ex, Exs, Pl, Steps, Left, Piece, Over, St, Sts, Func, Program, constant, read, unary, binary, both, either, call, part_of, literal, Elements, no_elements, element, none, more, results, asked, local, global, here, inner, at_index, blank, new, to, text, shown, over_int, declare, assign, update, bump, discard, block, choose, loop, range, break_off, go_on, give_back, print, raise, quit, done, next}
+use Rattle.typed.specs.Syntax.{Ex, Exs, Pl, Steps, Left, Piece, Over, St, Sts, Func, Program, constant, read, unary, binary, both, either, call, part_of, literal, Elements, no_elements, element, none, more, results, asked, local, global, here, inner, at_index, blank, new, to, text, shown, over_int, over_length, over_copy, declare, assign, update, bump, discard, block, choose, loop, range, break_off, go_on, give_back, print, raise, quit, done, next}
 use Rattle.meaning.specs.Trace.{Return, Fault, Exit, Panic, World, Mark, entered, ended, copied, Trace, Turn, Seen, Cut}
 use Rattle.meaning.specs.Store.{written, born, read_at}
 use Rattle.meaning.specs.Operators.{binary_of}
@@ -160,8 +160,12 @@ module _ (F : Family) where
     test_holds None p env k j h w = h _ w
     test_holds (Some e) p env k j h w = ev_holds e p env _ _ (λ v u. turning F (h v u)) w
 
-    begin_holds : (o : Over) {b : ℕ} (p : Pair F (suc n) b) (env : Env) (k j : ℕ → Ways → Go) → ((x : ℕ) (q : Pair F (suc n) b) (w : World) → F.Holds b w (k x q.left w) (j x q.right w)) → (w : World) → F.Holds b w (Meaning.begin_range around calls (suc n) o p.left env k w) (Meaning.begin_range around dalls (suc m) o p.right env j w)
-    begin_holds (over_int e) p env k j h w = ev_holds e p env _ _ (λ v u. turning F (h _ (keeping F v p) u)) w
+    begin_holds : (o : Over) {b : ℕ} (p : Pair F (suc n) b) (env : Env) (k j : ℕ → Ways → Env → Go) → ((x : ℕ) (q : Pair F (suc n) b) (e : Env) (w : World) → F.Holds b w (k x q.left e w) (j x q.right e w)) → (w : World) → F.Holds b w (Meaning.begin_range around calls (suc n) o p.left env k w) (Meaning.begin_range around dalls (suc m) o p.right env j w)
+    begin_holds (over_int e) p env k j h w = ev_holds e p env _ _ (λ v u. turning F (h _ (keeping F v p) env u)) w
+    begin_holds (over_length x) p env k j h w = turning F (h x p env w)
+    begin_holds (over_copy site e x) {b} p env k j h w = ev_holds e p env _ _ (λ v u.
+        turning F (subst (λ c. F.Holds b u (Meaning.bear around p.left.call site v (λ y. Meaning.turn (k x p.left (Meaning.with_home env site y))) u) (Meaning.bear around c site v (λ y. Meaning.turn (j x p.right (Meaning.with_home env site y))) u)) p.same
+        (bear_holds around p.left.call site v _ _ (λ y z. turning F (h x p (Meaning.with_home env site y) z)) u))) w
 
     quit_holds : (z : ℤ) {b : ℕ} (p : Pair F (suc n) b) (env : Env) (at : Pos) (w : World) → F.Holds b w (Meaning.quit_with p.left env at z w) (Meaning.quit_with p.right env at z w)
     quit_holds (pos x) p env at w = when_holds (nat_lt x 126) _ _ _ _ w (F.ends _ w (Exit x)) (p.hold.panicked at _ env w)
@@ -176,11 +180,23 @@ module _ (F : Family) where
         (renew_holds sites p.left.call e (λ e1. post p.left e1 (k (length u.store))) (λ e1. nost p.right e1 (j (length u.store))) (λ e1. hp.by p e1 _ _ (h (length u.store))) u)) in
         hb.by (looping F p out nout _ _ ho again) env _ _ again w
 
-    round_holds : (key : Left) (body nody : Part) (i : ℕ) {b : ℕ} → PartHolds b body nody → (p : Pair F (suc n) b) (out nout : ℕ → Env → Go) → ((u : ℕ) (e : Env) (w : World) → F.Holds b w (out u e w) (nout u e w)) → (v : ℕ) (env : Env) (k j : ℕ → Env → Go) → ((u : ℕ) (e : Env) (w : World) → F.Holds b w (k u e w) (j u e w)) → (w : World) →
-        F.Holds b w (Meaning.range_round around calls (suc n) key body p.left out i v env k w) (Meaning.range_round around dalls (suc m) key nody p.right nout i v env j w)
-    round_holds key body nody i {b} hb p out nout ho v env k j h w =
+    index_round_holds : (key : Left) (body nody : Part) (i : ℕ) {b : ℕ} → PartHolds b body nody → (p : Pair F (suc n) b) (out nout : ℕ → Env → Go) → ((u : ℕ) (e : Env) (w : World) → F.Holds b w (out u e w) (nout u e w)) → (v : ℕ) (env : Env) (k j : ℕ → Env → Go) → ((u : ℕ) (e : Env) (w : World) → F.Holds b w (k u e w) (j u e w)) → (w : World) →
+        F.Holds b w (Meaning.index_round around calls (suc n) key body p.left out i v env k w) (Meaning.index_round around dalls (suc m) key nody p.right nout i v env j w)
+    index_round_holds key body nody i {b} hb p out nout ho v env k j h w =
         let again : (e : Env) (u : World) → F.Holds b u (Meaning.to_next_count v k e u) (Meaning.to_next_count v j e u) = λ e u. marking (ended v) tt (h (length u.store) e u) in
         ready_holds key p env _ _ (λ a. land_holds a (int (pos i)) p env _ _ (λ e1. hb.by (looping F p (out v) (nout v) _ _ (ho v) again) e1 _ _ again)) w
+
+    element_round_holds : (site : ℕ) (key value : Left) (body nody : Part) (i : ℕ) {b : ℕ} → PartHolds b body nody → (p : Pair F (suc n) b) (out nout : ℕ → Env → Go) → ((u : ℕ) (e : Env) (w : World) → F.Holds b w (out u e w) (nout u e w)) → (v : ℕ) (env : Env) (k j : ℕ → Env → Go) → ((u : ℕ) (e : Env) (w : World) → F.Holds b w (k u e w) (j u e w)) → (w : World) →
+        F.Holds b w (Meaning.element_round around calls (suc n) site key value body p.left out i v env k w) (Meaning.element_round around dalls (suc m) site key value nody p.right nout i v env j w)
+    element_round_holds site key value body nody i {b} hb p out nout ho v env k j h w =
+        let again : (e : Env) (u : World) → F.Holds b u (Meaning.to_next_count v k e u) (Meaning.to_next_count v j e u) = λ e u. marking (ended v) tt (h (length u.store) e u) in
+        ready_all_hold (key ∷ value ∷ []) p env _ _ (λ those q u. noting F (land_all_hold those (int (pos i) ∷ read_at u (Meaning.home env site) (i ∷ []) ∷ []) p env _ _ (λ e1. hb.by (looping F p (out v) (nout v) _ _ (ho v) again) e1 _ _ again) u)) w
+
+    round_holds : (over : Over) (key value : Left) (body nody : Part) (i : ℕ) {b : ℕ} → PartHolds b body nody → (p : Pair F (suc n) b) (out nout : ℕ → Env → Go) → ((u : ℕ) (e : Env) (w : World) → F.Holds b w (out u e w) (nout u e w)) → (v : ℕ) (env : Env) (k j : ℕ → Env → Go) → ((u : ℕ) (e : Env) (w : World) → F.Holds b w (k u e w) (j u e w)) → (w : World) →
+        F.Holds b w (Meaning.range_round around calls (suc n) over key value body p.left out i v env k w) (Meaning.range_round around dalls (suc m) over key value nody p.right nout i v env j w)
+    round_holds (over_int e) key value body nody i hb p out nout ho v env k j h w = index_round_holds key body nody i hb p out nout ho v env k j h w
+    round_holds (over_length x) key value body nody i hb p out nout ho v env k j h w = index_round_holds key body nody i hb p out nout ho v env k j h w
+    round_holds (over_copy site e x) key value body nody i hb p out nout ho v env k j h w = element_round_holds site key value body nody i hb p out nout ho v env k j h w
 
     zeros_hold : (sites : List ℕ) {b : ℕ} (entry : ℕ) (env : Env) (k j : Env → Go) → ((e : Env) (w : World) → F.Holds b w (k e w) (j e w)) → (w : World) → F.Holds b w (Meaning.bear_zeros around entry sites env k w) (Meaning.bear_zeros around entry sites env j w)
     zeros_hold [] entry env k j h w = h env w
@@ -203,9 +219,9 @@ module _ (F : Family) where
           (λ c cb v e k1 j1 h1. around_hold _ _ _ _ sites (record { by = all_hold body }) (record { by = all_hold post }) (lower F p c cb) _ _ (λ e1 u. F.fewer c _ u _ _ cb (outside_holds k j h v e1 u)) v e k1 j1 h1)
           _ _ (outside_holds k j h) (suc n) (suc m) (omega arith) _ (omega arith) p.within (length w.store - length sites) env w
       exec_holds (range over key value body) p env k j h w =
-          begin_holds over p env _ _ (λ x q u. counted_holds _ _
-          (λ c cb i v e k1 j1 h1. round_holds key _ _ i (record { by = all_hold body }) (lower F q c cb) _ _ (λ y e1 z. F.fewer c _ z _ _ cb (outside_holds k j h y e1 z)) v e k1 j1 h1)
-          _ _ (outside_holds k j h) (suc n) (suc m) (omega arith) _ (omega arith) p.within 0 x (length u.store) env u) w
+          begin_holds over p env _ _ (λ x q env1 u. counted_holds _ _
+          (λ c cb i v e k1 j1 h1. round_holds over key value _ _ i (record { by = all_hold body }) (lower F q c cb) _ _ (λ y e1 z. F.fewer c _ z _ _ cb (outside_holds k j h y e1 z)) v e k1 j1 h1)
+          _ _ (outside_holds k j h) (suc n) (suc m) (omega arith) _ (omega arith) p.within 0 x (length u.store) env1 u) w
       exec_holds break_off p env k j h w = turning F (p.hold.broken env w)
       exec_holds go_on p env k j h w = turning F (p.hold.continued env w)
       exec_holds (give_back es) p env k j h w = evs_hold es p env _ _ (λ vs. p.hold.returned vs env) w

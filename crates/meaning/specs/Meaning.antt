@@ -5,7 +5,7 @@ use Rattle.base.specs.declared.pos.Pos.{Pos}
 use Rattle.value_trees.specs.Types.{ValueType, ints}
 use Rattle.value_trees.specs.Value.{Value, int, bool, composite, words, zero_of as zero_value}
 use Rattle.value_trees.specs.Paths.{no_value, part, with_part}
-use Rattle.typed.specs.Syntax.{Ex, Exs, Pl, Steps, Left, Piece, Over, St, Sts, Func, Program, constant, read, unary, binary, both, either, call, part_of, literal, Elements, no_elements, element, none, more, results, asked, local, global, here, inner, at_index, blank, new, to, text, shown, over_int, declare, assign, update, bump, discard, block, choose, loop, range, break_off, go_on, give_back, print, raise, quit, done, next}
+use Rattle.typed.specs.Syntax.{Ex, Exs, Pl, Steps, Left, Piece, Over, St, Sts, Func, Program, constant, read, unary, binary, both, either, call, part_of, literal, Elements, no_elements, element, none, more, results, asked, local, global, here, inner, at_index, blank, new, to, text, shown, over_int, over_length, over_copy, declare, assign, update, bump, discard, block, choose, loop, range, break_off, go_on, give_back, print, raise, quit, done, next}
 use Rattle.meaning.specs.Trace.{Entry, Call, Return, Born, Read, Write, Print, Asked, Fault, index_out_of_range, exit_code, raised_text, raised, Ending, Exit, Panic, World, Cell, Mark, state, entered, ended, copied, Trace, Turn, Note, Seen, End, Cut}
 use Rattle.meaning.specs.Store.{read_at, written, born}
 use Rattle.meaning.specs.Operators.{unary_of, binary_of}
@@ -348,14 +348,26 @@ abbrev pub no_pos : Pos
 no_pos = record { offset = 0; line = 0; col = 0 }
 
 module _ (around : Setting) (calls : Calls) (fuel : ℕ) where
-  -- how many rounds, and the ways in which what is gone over is held
-  abbrev pub begin_range : Over → Ways → Env → (ℕ → Ways → Go) → Go
-  begin_range (over_int e) ws env k = ev around calls e ws env (λ v. turn (k (count_of v) (holding ws v)))
+  -- how many rounds, and the ways in which what is gone over is held; of an array there is a copy where its elements are read
+  abbrev pub begin_range : Over → Ways → Env → (ℕ → Ways → Env → Go) → Go
+  begin_range (over_int e) ws env k = ev around calls e ws env (λ v. turn (k (count_of v) (holding ws v) env))
+  begin_range (over_length x) ws env k = turn (k x ws env)
+  begin_range (over_copy site e x) ws env k = ev around calls e ws env (λ v. turn (bear around ws.call site v (λ y. turn (k x ws (with_home env site y)))))
 
-  -- one round: the left side's operands, the left side, the body
-  abbrev pub range_round : Left → (Ways → Env → (Env → Go) → Go) → Ways → (ℕ → Env → Go) → ℕ → ℕ → Env → (ℕ → Env → Go) → Go
-  range_round key body ws out i n env j =
+  -- one round with an index: the left side's operands, the left side, the body
+  abbrev pub index_round : Left → (Ways → Env → (Env → Go) → Go) → Ways → (ℕ → Env → Go) → ℕ → ℕ → Env → (ℕ → Env → Go) → Go
+  index_round key body ws out i n env j =
       ready around calls key ws env (λ a. land around a (int (pos i)) ws env (λ env1. in_loop body ws (out n) (to_next_count n j) env1))
+
+  -- and with an element of a copy, whose read takes no turn
+  abbrev pub element_round : ℕ → (key value : Left) → (Ways → Env → (Env → Go) → Go) → Ways → (ℕ → Env → Go) → ℕ → ℕ → Env → (ℕ → Env → Go) → Go
+  element_round site key value body ws out i n env j =
+      ready_all around calls (key ∷ value ∷ []) ws env (λ those ws1. read_part (home env site) (i ∷ []) (λ v. land_all around those (int (pos i) ∷ v ∷ []) ws env (λ env1. in_loop body ws (out n) (to_next_count n j) env1)))
+
+  abbrev pub range_round : Over → (key value : Left) → (Ways → Env → (Env → Go) → Go) → Ways → (ℕ → Env → Go) → ℕ → ℕ → Env → (ℕ → Env → Go) → Go
+  range_round (over_int e) key value = index_round key
+  range_round (over_length x) key value = index_round key
+  range_round (over_copy site e x) key value = element_round site key value
 
   abbrev mutual
     pub exec : St → Ways → Env → (Env → Go) → Go
@@ -371,7 +383,7 @@ module _ (around : Setting) (calls : Calls) (fuel : ℕ) where
     exec (loop sites test post body) ws env k =
         births (λ n. rounds fuel (test_of around calls test ws) (λ n1 env1 j. in_loop (exec_all body) ws (outside k n1) (to_next around n1 sites (exec_all post) ws j) env1) (outside k) (n - length sites) env)
     exec (range over key value body) ws env k =
-        begin_range over ws env (λ n ws1. births (λ m. counted fuel 0 n (range_round key (exec_all body) ws1 (outside k)) (outside k) m env))
+        begin_range over ws env (λ n ws1 env1. births (λ m. counted fuel 0 n (range_round over key value (exec_all body) ws1 (outside k)) (outside k) m env1))
     exec break_off ws env k = turn (ws.broken env)
     exec go_on ws env k = turn (ws.continued env)
     exec (give_back es) ws env k = evs around calls es ws env (λ vs. ws.returned vs env)

@@ -2,7 +2,7 @@
 use Rattle.std.proofs.Common.{◌≡◌, inl, inr, ℕ, suc, ◌+◌, ◌-◌, ◌*◌, ◌%◌, ◌^◌, ◌<◌, ◌≤◌, ℤ, pos, negsuc, Bool, true, false, List, [], length, Some, Result, Ok, Err, refl, sym, ap, ◌∙◌, subst, arith, mod-eq_of_lt}
 use Rattle.std.specs.Prelude.{None, slice_get, slice_index, slice_set, nat_le, nat_lt, ◌==◌, ◌&&◌, if◌then◌else◌}
 use Rattle.std.specs.Int.{w64, cast_signed}
-use Rattle.std.proofs.lemmas.Bool.{le-leb, ltb-true}
+use Rattle.std.proofs.lemmas.Bool.{le-leb, lt-ltb, ltb-true}
 use Rattle.std.proofs.lemmas.Bool.Decides.{leb_tells}
 use Rattle.base.specs.declared.pos.Pos.{Pos}
 use Rattle.meaning.specs.Trace.{World, Ending, Panic, Trace, Fault, index_out_of_range}
@@ -89,6 +89,19 @@ module _ (m : Built) where
     pub addressed : (to a : ℕ) → slice_get m.code.instrs pc ≡ Some (Address to a) → a ≤ deep → At m running lo hi b t (pc + 1) (slice_set words to (slot_address deep a)) w → At m running (suc lo) 1 b t pc words w
     addressed to a here le post =
         stepped m {lo = lo} {hi = hi} (Address to a) here (λ heap. ap (λ x. Goes [] (record { pc = pc + 1; words = slice_set words to x; reads = w.reads; heap = heap })) (address_is words deep long room a le)) post
+
+  -- the address of an array in a slot becomes that of an element that there is
+  pub element_reached : (w : World) (running words : List ℕ) (deep a c n wide near i pc lo hi b : ℕ) (t : Trace) → length words ≡ deep → deep ≤ m.max → slice_get m.code.instrs pc ≡ Some (Index a a c n wide) → slice_index words a ≡ slot_address deep near → near ≤ deep
+      → i < n → near + i * wide ≤ deep → cast_signed w64 (slice_index words c) ≡ pos i → At m running lo hi b t (pc + 1) (slice_set words a (slot_address deep (near + i * wide))) w → At m running (suc lo) 1 b t pc words w
+  element_reached w running words deep a c n wide near i pc lo hi b t long room here there inside l within stands post =
+      let small = address_small words deep long room (near + i * wide) within in
+      let sum : slot_address deep near + i * wide ≡ slot_address deep (near + i * wide) = omega arith in
+      stepped m {lo = lo} {hi = hi} (Index a a c n wide) here (λ heap.
+      let before : State = record { pc = pc; words = words; reads = w.reads; heap = heap } in
+      reached_by words deep long room (slice_index words a) 0 near near (λ x. element_at before a (cast_signed w64 (slice_index words c)) n (element_address x (cast_signed w64 (slice_index words c)) n wide)) there (omega arith) inside
+      ∙ ap (λ z. element_at before a z n (element_address (slot_address deep near) z n wide)) stands
+      ∙ ap (λ x. element_at before a (pos i) n (if x then Some ((slot_address deep near + i * wide) % 2 ^ 64) else None)) (lt-ltb i n l)
+      ∙ ap (λ x. puts before a (x % 2 ^ 64)) sum ∙ ap (λ x. puts before a x) (mod-eq_of_lt {n = slot_address deep (near + i * wide)} {m = 2 ^ 64} small)) post
 
   -- the address of an array in a slot becomes that of an element, if there is one
   module _ (at : Pos) (ws : Ways) (env : Env) (k : Then ℕ) (w : World) (running words : List ℕ) (deep a c n wide near pc lo hi b : ℕ) (long : length words ≡ deep) (room : deep ≤ m.max) (here : slice_get m.code.instrs pc ≡ Some (Index a a c n wide)) (stops : Panics ws)

@@ -1,9 +1,9 @@
 -- The machine follows the writing of left sides, whose operands are held, and new variables.
-use Rattle.std.proofs.Common.{◌≡◌, inr, ℕ, suc, ◌+◌, ◌<◌, ◌≤◌, List, [], ◌∷◌, ◌++◌, length, refl, sym, ap, ◌∙◌, subst, arith, append_assoc, append-nil}
+use Rattle.std.proofs.Common.{◌≡◌, ◌⊎◌, inl, inr, ℕ, suc, ◌+◌, ◌<◌, ◌≤◌, List, [], ◌∷◌, ◌++◌, length, refl, sym, ap, ◌∙◌, subst, arith, append_assoc, append-nil}
 use Rattle.std.specs.Prelude.{replicate}
 use Rattle.value_trees.specs.Value.{Value, IsOf}
 use Rattle.typed.specs.Syntax.{Pl, Steps, here as itself, inner, at_index, Left, Program, blank, new, to, local, global, site_type, each_width}
-use Rattle.typed.specs.Form.{AreOf, InScope, AllInScope, PlFits, LeftsFit, SitesNext, NamedFit, scope_behind, scope_with}
+use Rattle.typed.specs.Form.{AreOf, InScope, new_sites, AllInScope, PlFits, LeftsFit, SitesNext, NamedFit, scope_behind, scope_with}
 use Rattle.typed.specs.Frames.{far, lefts_far, widest, temps_of}
 use Rattle.meaning.specs.Trace.{World, Trace}
 use Rattle.meaning.specs.Store.{value_of, written, born}
@@ -72,33 +72,33 @@ operands_above (local site steps) us h held hh given = steps_operands steps us h
 operands_above (global g steps) us h held hh given = steps_operands steps us h held hh given
 
 module _ (m : Built) (around : Setting) where
-  -- what holds of the sites in scope before the left sides
-  abbrev pub Kept : List ℕ → (scope : List ℕ) → (first env : Env) → ℕ → Type 0
-  Kept before scope first env n = (v : ℕ) → InScope v before → InScope v scope × (env v ≡ first v) × (v < n)
+  -- what holds of the sites in scope before the left sides: each comes before the new ones or behind them all
+  abbrev pub Kept : List ℕ → (scope : List ℕ) → (first env : Env) → (n top : ℕ) → Type 0
+  Kept before scope first env n top = (v : ℕ) → InScope v before → InScope v scope × (env v ≡ first v) × ((v < n) ⊎ (top ≤ v))
 
   -- a place keeps its variable
-  kept_place : (before scope : List ℕ) (first env : Env) (n : ℕ) (t : ValueType) (p : Pl) → Kept before scope first env n → PlFits m.program before t p → Located m scope t p × (variable_of env p ≡ variable_of first p)
-  kept_place before scope first env n t (local site steps) kept fit = let k = kept site fit.0 in let l = located m before t (local site steps) fit in ((k.0, l.1, l.2), k.1)
-  kept_place before scope first env n t (global g itself) kept fit = (fit, refl)
-  kept_place before scope first env n t (global g (inner i steps)) kept fit = absurd fit
-  kept_place before scope first env n t (global g (at_index at e x steps)) kept fit = absurd fit
+  kept_place : (before scope : List ℕ) (first env : Env) (n top : ℕ) (t : ValueType) (p : Pl) → Kept before scope first env n top → PlFits m.program before t p → Located m scope t p × (variable_of env p ≡ variable_of first p)
+  kept_place before scope first env n top t (local site steps) kept fit = let k = kept site fit.0 in let l = located m before t (local site steps) fit in ((k.0, l.1, l.2), k.1)
+  kept_place before scope first env n top t (global g itself) kept fit = (fit, refl)
+  kept_place before scope first env n top t (global g (inner i steps)) kept fit = absurd fit
+  kept_place before scope first env n top t (global g (at_index at e x steps)) kept fit = absurd fit
 
   -- Operands are in temps from one on, and values in temps from another one on, with others before and behind them. An address
   -- goes to temp `at`, which is free.
-  pub lefts_follow : (ls : List Left) (ts : List ValueType) (vs gone tail all : List Value) (uss : List (List Value)) (ahead more : List Value) (c : Frame) (first env : Env) (before scope : List ℕ) (calls : List Frame) (ws : Ways) (k : Env → Go) (w : World) (words : List ℕ) (n at ho h pc lo b : ℕ) → Panics ws
+  pub lefts_follow : (ls : List Left) (ts : List ValueType) (vs gone tail all : List Value) (uss : List (List Value)) (ahead more : List Value) (c : Frame) (first env : Env) (before scope : List ℕ) (calls : List Frame) (ws : Ways) (k : Env → Go) (w : World) (words : List ℕ) (n top at ho h pc lo b : ℕ) → Panics ws
       → AreOf ts vs → wide_of gone ≡ h → all ≡ gone ++ (vs ++ tail) → Gives ls uss → wide_of ahead ≡ ho → all ≡ ahead ++ (together uss ++ more) → wide_of all ≡ at
-      → Standing m.code c.fn pc (lefts_code (slots_of m.program c.func) (each_width ts) ls ho at h) → LeftsFit m.program before n (c.func.first + c.func.count) ts ls → at + lefts_far ls ≤ temps_of m.program c.func → c.func.first ≤ n → Kept before scope first env n
+      → Standing m.code c.fn pc (lefts_code (slots_of m.program c.func) (each_width ts) ls ho at h) → LeftsFit m.program before n (c.func.first + c.func.count) ts ls → at + lefts_far ls ≤ temps_of m.program c.func → c.func.first ≤ n → n + new_sites ls ≤ top → Kept before scope first env n top
       → Good m (during c env scope all ∷ calls) w words
       → ((env1 : Env) (w1 : World) (words1 : List ℕ) → Good m (during c env1 (scope_behind scope ls) all ∷ calls) w1 words1 → At m (numbers (c ∷ calls)) lo 0 b (k env1 w1) (pc + lefts_size ls) words1 w1)
       → At m (numbers (c ∷ calls)) lo 0 b (Meaning.land_all around (landings first ls uss) vs ws env k w) pc words w
-  lefts_follow [] [] vs gone tail all uss ahead more c first env before scope calls ws k w words n at ho h pc lo b stops are hg e given hp eo ha has fit room from kept good post = place_is m (let q : pc + 0 ≡ pc = omega arith in q) (post env w words good)
-  lefts_follow [] (t ∷ ts) vs gone tail all uss ahead more c first env before scope calls ws k w words n at ho h pc lo b stops are hg e given hp eo ha has fit room from kept good post = absurd fit
-  lefts_follow (l ∷ ls) [] [] gone tail all uss ahead more c first env before scope calls ws k w words n at ho h pc lo b stops are hg e given hp eo ha has fit room from kept good post = absurd fit
-  lefts_follow (l ∷ ls) [] (v ∷ vs) gone tail all uss ahead more c first env before scope calls ws k w words n at ho h pc lo b stops are hg e given hp eo ha has fit room from kept good post = absurd are
-  lefts_follow (l ∷ ls) (t ∷ ts) [] gone tail all uss ahead more c first env before scope calls ws k w words n at ho h pc lo b stops are hg e given hp eo ha has fit room from kept good post = absurd are
-  lefts_follow (blank ∷ ls) (t ∷ ts) (v ∷ vs) gone tail all uss ahead more c first env before scope calls ws k w words n at ho h pc lo b stops are hg e given hp eo ha has fit room from kept good post =
-      lefts_follow ls ts vs (gone ++ v ∷ []) tail all uss ahead more c first env before scope calls ws k w words n at ho (h + width t) pc lo b stops are.1 (one_more gone v h (width t) hg (count_of t v are.0)) (e ∙ sym (append_assoc gone (v ∷ []) (vs ++ tail))) given hp eo ha has fit (omega arith) from kept good post
-  lefts_follow (new site ∷ ls) (t ∷ ts) (v ∷ vs) gone tail all uss ahead more c first env before scope calls ws k w words n at ho h pc lo b stops are hg e given hp eo ha has fit room from kept good post =
+  lefts_follow [] [] vs gone tail all uss ahead more c first env before scope calls ws k w words n top at ho h pc lo b stops are hg e given hp eo ha has fit room from under kept good post = place_is m (let q : pc + 0 ≡ pc = omega arith in q) (post env w words good)
+  lefts_follow [] (t ∷ ts) vs gone tail all uss ahead more c first env before scope calls ws k w words n top at ho h pc lo b stops are hg e given hp eo ha has fit room from under kept good post = absurd fit
+  lefts_follow (l ∷ ls) [] [] gone tail all uss ahead more c first env before scope calls ws k w words n top at ho h pc lo b stops are hg e given hp eo ha has fit room from under kept good post = absurd fit
+  lefts_follow (l ∷ ls) [] (v ∷ vs) gone tail all uss ahead more c first env before scope calls ws k w words n top at ho h pc lo b stops are hg e given hp eo ha has fit room from under kept good post = absurd are
+  lefts_follow (l ∷ ls) (t ∷ ts) [] gone tail all uss ahead more c first env before scope calls ws k w words n top at ho h pc lo b stops are hg e given hp eo ha has fit room from under kept good post = absurd are
+  lefts_follow (blank ∷ ls) (t ∷ ts) (v ∷ vs) gone tail all uss ahead more c first env before scope calls ws k w words n top at ho h pc lo b stops are hg e given hp eo ha has fit room from under kept good post =
+      lefts_follow ls ts vs (gone ++ v ∷ []) tail all uss ahead more c first env before scope calls ws k w words n top at ho (h + width t) pc lo b stops are.1 (one_more gone v h (width t) hg (count_of t v are.0)) (e ∙ sym (append_assoc gone (v ∷ []) (vs ++ tail))) given hp eo ha has fit (omega arith) from under kept good post
+  lefts_follow (new site ∷ ls) (t ∷ ts) (v ∷ vs) gone tail all uss ahead more c first env before scope calls ws k w words n top at ho h pc lo b stops are hg e given hp eo ha has fit room from under kept good post =
       let s = slots_of m.program c.func in let n1 = width (site_type m.program site) in
       let count = count_of t v are.0 in let same : width (site_type m.program site) ≡ width t = ap width fit.2 in
       let good0 = subst (λ l. Good m (during c env scope l ∷ calls) w words) e good in
@@ -109,20 +109,20 @@ module _ (m : Built) (around : Setting) where
       let here = fit.0 in let among = fit.1 in let solid = m.solid site in let long = good.long in
       let inside = site_within m.program c.func site (omega arith) (omega arith) in
       let good1 = born_site m (during c env scope all) calls w words cell site xs (omega arith) (omega arith) stand (subst (λ y. IsOf y v) (sym fit.2) are.0) good in
-      let kept1 : Kept before (site ∷ scope) first (with_home env site (length w.store)) (suc n) =
-      λ u i. (inr (kept u i).0, home_other env site (length w.store) u (λ q. let l = (kept u i).2 in absurd (omega arith)) ∙ (kept u i).1, (let l = (kept u i).2 in omega arith)) in
+      let kept1 : Kept before (site ∷ scope) first (with_home env site (length w.store)) (suc n) top =
+      λ u i. (inr (kept u i).0, home_other env site (length w.store) u (λ q. elim (kept u i).2 [ inl l ↦ absurd (omega arith) | inr l ↦ absurd (omega arith) ]) ∙ (kept u i).1, elim (kept u i).2 [ inl l ↦ inl (omega arith) | inr l ↦ inr l ]) in
       turned m {lo1 = suc lo} (omega arith) (bore m _ _ (m.stacked c.fn c.func good.stack.0.named site (omega arith) (omega arith))
       (words_moved m {lo = lo} {hi = 0} n1 (site_slot s site) (temp s h) has.0.0 solid (omega arith) room_from
       (born_kept m cell good.many
-      (lefts_follow ls ts vs (gone ++ v ∷ []) tail all uss ahead more c first (with_home env site (length w.store)) before (site ∷ scope) calls ws k (born w cell) words1 (suc n) at ho (h + width t) (pc + 1) lo b stops are.1 (one_more gone v h (width t) hg count) (e ∙ sym (append_assoc gone (v ∷ []) (vs ++ tail))) given hp eo ha has.1 fit.3 (omega arith) (omega arith) kept1 good1
+      (lefts_follow ls ts vs (gone ++ v ∷ []) tail all uss ahead more c first (with_home env site (length w.store)) before (site ∷ scope) calls ws k (born w cell) words1 (suc n) top at ho (h + width t) (pc + 1) lo b stops are.1 (one_more gone v h (width t) hg count) (e ∙ sym (append_assoc gone (v ∷ []) (vs ++ tail))) given hp eo ha has.1 fit.3 (omega arith) (omega arith) (omega arith) kept1 good1
       (λ env1 w1 words2 g2. place_is m (let q : pc + suc (lefts_size ls) ≡ pc + 1 + lefts_size ls = omega arith in q) (post env1 w1 words2 g2))))))
-  lefts_follow (to p ∷ ls) (t ∷ ts) (v ∷ vs) gone tail all [] ahead more c first env before scope calls ws k w words n at ho h pc lo b stops are hg e given hp eo ha has fit room from kept good post = absurd given
-  lefts_follow (to p ∷ ls) (t ∷ ts) (v ∷ vs) gone tail all (us ∷ uss) ahead more c first env before scope calls ws k w words n at ho h pc lo b stops are hg e given hp eo ha has fit room from kept good post =
+  lefts_follow (to p ∷ ls) (t ∷ ts) (v ∷ vs) gone tail all [] ahead more c first env before scope calls ws k w words n top at ho h pc lo b stops are hg e given hp eo ha has fit room from under kept good post = absurd given
+  lefts_follow (to p ∷ ls) (t ∷ ts) (v ∷ vs) gone tail all (us ∷ uss) ahead more c first env before scope calls ws k w words n top at ho h pc lo b stops are hg e given hp eo ha has fit room from under kept good post =
       let s = slots_of m.program c.func in let above = place_above p ho in let c0 = during c env scope all in
       let ca = address_code s p ho at in let land = land_code s p at h in let rest = lefts_code s (each_width ts) ls above at (h + width t) in
       let has_l = back m.code c.fn pc (address_size p) ca (land ∷ []) (length_address s p ho at) (front m.code c.fn pc (ca ++ land ∷ []) rest has) in
       let has_r = back m.code c.fn pc (address_size p + 1) (ca ++ land ∷ []) rest (length_write s p ho at h) has in
-      let same = kept_place before scope first env n t p kept fit.0 in
+      let same = kept_place before scope first env n top t p kept fit.0 in
       let after = λ (x : World). Meaning.land_all around (landings first ls uss) vs ws env k x in
       let apart : all ≡ ahead ++ (us ++ (together uss ++ more)) = eo ∙ ap (λ l. ahead ++ l) (append_assoc us (together uss) more) in
       settled_follow m p t us ahead (together uss ++ more) c0 calls ws env first (λ q. Meaning.write_part q.variable q.path v after) w words ho at pc lo b stops same.0 given.0 apart hp ha (omega arith)
@@ -134,9 +134,9 @@ module _ (m : Built) (around : Setting) where
       (subst (λ u. At m (numbers (c ∷ calls)) (suc lo) 1 b (after (written w u path v)) (pc + address_size p) words1 w) same.1
       (landed m c1 calls p t path word gone ((vs ++ tail) ++ address) v w words1 (numbers (c ∷ calls)) at h (pc + address_size p) lo 0 b _ has_l.0.0 same.0 part there among hg are.0 g1 (λ words2 g2.
       let w1 = written w (variable_of env p) path v in
-      lefts_follow ls ts vs (gone ++ v ∷ []) tail all uss (ahead ++ us) more c first env before scope calls ws k w1 words2 n at above (h + width t) (pc + address_size p + 1) lo b stops are.1 (one_more gone v h (width t) hg (count_of t v are.0)) (e ∙ sym (append_assoc gone (v ∷ []) (vs ++ tail))) given.1
+      lefts_follow ls ts vs (gone ++ v ∷ []) tail all uss (ahead ++ us) more c first env before scope calls ws k w1 words2 n top at above (h + width t) (pc + address_size p + 1) lo b stops are.1 (one_more gone v h (width t) hg (count_of t v are.0)) (e ∙ sym (append_assoc gone (v ∷ []) (vs ++ tail))) given.1
       (operands_above p us ho ahead hp given.0) (apart ∙ sym (append_assoc ahead us (together uss ++ more))) ha
-      (subst (λ x. Standing m.code c.fn x rest) (let q : pc + (address_size p + 1) ≡ pc + address_size p + 1 = omega arith in q) has_r) fit.1 (omega arith) from kept (fewer m c0 calls w1 words2 all address g2)
+      (subst (λ x. Standing m.code c.fn x rest) (let q : pc + (address_size p + 1) ≡ pc + address_size p + 1 = omega arith in q) has_r) fit.1 (omega arith) from under kept (fewer m c0 calls w1 words2 all address g2)
       (λ env1 w2 words3 g3. place_is m (let q : pc + (address_size p + 1 + lefts_size ls) ≡ pc + address_size p + 1 + lefts_size ls = omega arith in q) (post env1 w2 words3 g3)))))))
 
   -- a new round's variables get the values of the old ones, through temps from h on

@@ -30,6 +30,8 @@ pub mod Leading
 pub mod RoundsFollow
 pub mod SimpleFollow
 pub mod LoopsFollow
+pub mod ArrayRounds
+pub mod ArraysFollow
 pub mod StatementsFollow
 pub mod Births
 pub mod Follows

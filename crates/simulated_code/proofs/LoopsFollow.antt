@@ -1,5 +1,5 @@
 -- The machine follows statements with others inside, where it follows those.
-use Rattle.std.proofs.Common.{◌≡◌, inr, ℕ, suc, ◌+◌, ◌-◌, ◌≤◌, ℤ, pos, true, false, List, [], ◌∷◌, ◌++◌, length, Option, Some, None, refl, sym, ap, ◌∙◌, subst, arith, append_assoc, append-nil, length-append}
+use Rattle.std.proofs.Common.{◌≡◌, inl, inr, ℕ, suc, ◌+◌, ◌-◌, ◌≤◌, ℤ, pos, true, false, List, [], ◌∷◌, ◌++◌, length, Option, Some, None, refl, sym, ap, ◌∙◌, subst, arith, append_assoc, append-nil, length-append}
 use Rattle.std.specs.Prelude.{slice_set, ◌&&◌}
 use Rattle.value_trees.specs.Value.{Value, int, IsOf}
 use Rattle.typed.specs.Syntax.{Ex, Left, St, Sts, blank, new, to, over_int, choose, loop, range, done, next, argument_words}
@@ -237,7 +237,7 @@ module _ (m : Built) (around : Setting) (inputs : around.items ≡ m.items) (cal
       ways z = Meaning.holding ws (int z)
 
       body_of : ℤ → ℕ → ℕ → Env → (ℕ → Env → Go) → Go
-      body_of z = Meaning.range_round around callees (suc n) key (Meaning.exec_all around callees (suc n) body) (ways z) (Meaning.outside k)
+      body_of z = Meaning.index_round around callees (suc n) key (Meaning.exec_all around callees (suc n) body) (ways z) (Meaning.outside k)
 
       next_follow : (z : ℤ) (i v : ℕ) (j : ℕ → Env → Go) (d : ℕ) → ((v1 : ℕ) → After m c calls (counting z held i) scope turn lo d (j v1)) → After m c calls (counting z held i) scope turn lo d (Meaning.to_next_count v j)
       next_follow z i v j d go env1 w1 words1 g1 = seen m _ (go (length w1.store) env1 w1 words1 g1)
@@ -254,8 +254,8 @@ module _ (m : Built) (around : Setting) (inputs : around.items ≡ m.items) (cal
           (front m.code c.fn (test + 2) cr ck (front m.code c.fn (test + 2) cl (cb ++ counts) has_l)) fit.1 (omega arith) (omega arith) g1 (λ uss ws1 w2 words2 stops1 given there g2.
           let inside_room = lefts_room m.program (temps_of m.program c.func) (h + 2) (left_far key) (key ∷ []) (omega arith) in
           subst (λ t. At m (numbers (c ∷ calls)) lo 0 d t start words2 w2) (sym (land_one around key uss env1 env1 (int (pos i)) (ways z) land w2 given))
-          (lefts_follow m around (key ∷ []) (ints ∷ []) (int (pos i) ∷ []) (held ++ int z ∷ []) (together uss) (all ++ together uss) uss all [] c env1 env1 scope scope calls (ways z) land w2 words2 q above (h + 2) (h + 1) start lo d leads.panics (tt, tt)
-          (one_more held (int z) h 1 hh refl) (ap (λ l. l ++ together uss) (sym (counting_is z held i)) ∙ append_assoc (held ++ int z ∷ []) (int (pos i) ∷ []) (together uss)) given (two_held z held h i hh) (ap (λ l. all ++ l) (sym (append-nil (together uss)))) there has_k fit.1 (omega arith) sc.from (λ u i. (i, refl, sc.below u i)) g2 (λ env2 w3 words3 g3.
+          (lefts_follow m around (key ∷ []) (ints ∷ []) (int (pos i) ∷ []) (held ++ int z ∷ []) (together uss) (all ++ together uss) uss all [] c env1 env1 scope scope calls (ways z) land w2 words2 q (q + new_sites (key ∷ [])) above (h + 2) (h + 1) start lo d leads.panics (tt, tt)
+          (one_more held (int z) h 1 hh refl) (ap (λ l. l ++ together uss) (sym (counting_is z held i)) ∙ append_assoc (held ++ int z ∷ []) (int (pos i) ∷ []) (together uss)) given (two_held z held h i hh) (ap (λ l. all ++ l) (sym (append-nil (together uss)))) there has_k fit.1 (omega arith) sc.from (omega arith) (λ u i. (i, refl, inl (sc.below u i))) g2 (λ env2 w3 words3 g3.
           place_is m (sym begins)
           (bodies (inside m c calls (ways z) first then_next) env2 then_next w3 words3 all (h + 2) true scope more (q + new_sites (key ∷ [])) behind turn here lo d (omega arith) (two_held z held h i hh)
           (front m.code c.fn here cb counts has_b) fit.2 (omega arith) (let others = lefts_others m.program (sts_reach m.program body) (key ∷ []) in omega arith) (scoped_behind m.program c.func scope q (c.func.first + c.func.count) (ints ∷ []) (key ∷ []) fit.1 sc)
@@ -264,7 +264,7 @@ module _ (m : Built) (around : Setting) (inputs : around.items ≡ m.items) (cal
           (λ goes env3 w4 words4 g4. next env3 w4 words4 (narrowed m (hold c all) env3 more scope calls w4 words4 (behind_has scope (key ∷ [])) g4)))))))
 
       over : (v : Value) (w1 : World) (words1 : List ℕ) → IsOf ints v → Good m (during c env scope (held ++ v ∷ []) ∷ calls) w1 words1
-          → At m (numbers (c ∷ calls)) lo 0 b (Meaning.turn (Meaning.births (λ v1. Meaning.counted (suc n) 0 (Meaning.count_of v) (Meaning.range_round around callees (suc n) key (Meaning.exec_all around callees (suc n) body) (Meaning.holding ws v) (Meaning.outside k)) (Meaning.outside k) v1 env)) w1) (pc + size m.program e) words1 w1
+          → At m (numbers (c ∷ calls)) lo 0 b (Meaning.turn (Meaning.births (λ v1. Meaning.counted (suc n) 0 (Meaning.count_of v) (Meaning.index_round around callees (suc n) key (Meaning.exec_all around callees (suc n) body) (Meaning.holding ws v) (Meaning.outside k)) (Meaning.outside k) v1 env)) w1) (pc + size m.program e) words1 w1
       over (int z) w1 words1 iv g1 =
           turned m {lo1 = suc lo} (omega arith) (stepped m {lo = lo} {hi = 0} (Const index_slot 0) has_rest.0.0 (λ heap. refl)
           (counted_follow m c calls z held h scope test turn behind hh (omega arith) has_rest.1.0.0 has_rest.1.1.0.0 has_c.0.0 has_c.1.0.0 has_c.1.1.0.0 (body_of z) (Meaning.outside k) lo b (round z) behind_loop (suc n) 0 (Meaning.count_of (int z)) b (omega arith) le (remains_first z) (length w1.store) env w1 (slice_set words1 index_slot 0)

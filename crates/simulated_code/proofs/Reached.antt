@@ -123,13 +123,13 @@ module _ (m : Built) where
   PlaceIn c calls t (global g steps) path word = (path ≡ []) × (word ≡ global_address g)
 
   -- the word of an address that is held
-  address_word : (c : Frame) (calls : List Frame) (w : World) (words : List ℕ) (held more : List Value) (word at : ℕ) → wide_of held ≡ at → word < 2 ^ 64 → Good m (hold c ((held ++ as_number word ∷ []) ++ more) ∷ calls) w words → slice_index words (temp (slots_of m.program c.func) at) ≡ word
+  pub address_word : (c : Frame) (calls : List Frame) (w : World) (words : List ℕ) (held more : List Value) (word at : ℕ) → wide_of held ≡ at → word < 2 ^ 64 → Good m (hold c ((held ++ as_number word ∷ []) ++ more) ∷ calls) w words → slice_index words (temp (slots_of m.program c.func) at) ≡ word
   address_word c calls w words held more word at ha small g =
       let s = held_word m c calls w words held more (as_number word) at ha refl (subst (λ l. Good m (hold c l ∷ calls) w words) (append_assoc held (as_number word ∷ []) more) g) in
       signed_once (slice_index words (temp (slots_of m.program c.func) at)) word s.1 small s.0
 
   -- and held again
-  address_set : (c : Frame) (calls : List Frame) (w : World) (words : List ℕ) (word at : ℕ) → wide_of c.held ≡ at → at < temps_of m.program c.func → word < 2 ^ 64 → Good m (c ∷ calls) w words → Good m (hold c (c.held ++ as_number word ∷ []) ∷ calls) w (slice_set words (temp (slots_of m.program c.func) at) word)
+  pub address_set : (c : Frame) (calls : List Frame) (w : World) (words : List ℕ) (word at : ℕ) → wide_of c.held ≡ at → at < temps_of m.program c.func → word < 2 ^ 64 → Good m (c ∷ calls) w words → Good m (hold c (c.held ++ as_number word ∷ []) ∷ calls) w (slice_set words (temp (slots_of m.program c.func) at) word)
   address_set c calls w words word at ha room small g = temp_set m c calls w words at word (as_number word) ha room refl (refl, small) g
 
   -- ---- the checks of a place, from its operands to its address

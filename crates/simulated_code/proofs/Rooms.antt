@@ -61,17 +61,24 @@ module _ (fs : Program) where
   lefts_others others (new site ∷ ls) = lefts_others others ls
   lefts_others others (to q ∷ ls) = let l = lefts_others others ls in let k = place_others (lefts_reach fs ls others) q in omega arith
 
--- operands of the left side that gets an index, and an address
-pub key_room : (fs : Program) (temps h : ℕ) (key : Left) → h + (2 + key_need fs key) ≤ temps → h + 2 + lefts_need fs (key ∷ []) (left_far key) ≤ temps
-key_room fs temps h blank l = omega arith
-key_room fs temps h (new site) l = omega arith
-key_room fs temps h (to q) l = let k = place_more fs (far q) (1 + far q) q (omega arith) in omega arith
-  where
-    steps_more : (fs : Program) (a b : ℕ) (steps : Steps) → a ≤ b → steps_need fs steps a ≤ steps_need fs steps b
-    steps_more fs a b here l = l
-    steps_more fs a b (inner i steps) l = steps_more fs a b steps l
-    steps_more fs a b (at_index at e n steps) l = let k = steps_more fs a b steps l in omega arith
+  -- more behind operands
+  steps_more : (a b : ℕ) (steps : Steps) → a ≤ b → steps_need fs steps a ≤ steps_need fs steps b
+  steps_more a b here l = l
+  steps_more a b (inner i steps) l = steps_more a b steps l
+  steps_more a b (at_index at e n steps) l = let k = steps_more a b steps l in omega arith
 
-    place_more : (fs : Program) (a b : ℕ) (q : Pl) → a ≤ b → place_need fs q a ≤ place_need fs q b
-    place_more fs a b (local site steps) l = steps_more fs a b steps l
-    place_more fs a b (global g steps) l = steps_more fs a b steps l
+  place_more : (a b : ℕ) (q : Pl) → a ≤ b → place_need fs q a ≤ place_need fs q b
+  place_more a b (local site steps) l = steps_more a b steps l
+  place_more a b (global g steps) l = steps_more a b steps l
+
+  -- operands of the left side that gets an index, and an address
+  key_more : (key : Left) → lefts_need fs (key ∷ []) (left_far key) ≤ key_need fs key
+  key_more blank = omega arith
+  key_more (new site) = omega arith
+  key_more (to q) = place_more (far q) (1 + far q) q (omega arith)
+
+  pub key_room : (temps h : ℕ) (key : Left) → h + (2 + key_need fs key) ≤ temps → h + 2 + lefts_need fs (key ∷ []) (left_far key) ≤ temps
+  key_room temps h key l = let k = key_more key in omega arith
+
+  pub array_room : (temps h : ℕ) (key : Left) → h + (1 + key_need fs key) ≤ temps → h + 1 + lefts_need fs (key ∷ []) (left_far key) ≤ temps
+  array_room temps h key l = let k = key_more key in omega arith

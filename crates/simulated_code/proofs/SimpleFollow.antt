@@ -9,7 +9,7 @@ use Rattle.value_trees.specs.Value.{Value, int, bool, IsOf}
 use Rattle.typed.specs.Syntax.{Ex, Exs, Pl, Left, Piece, none, more, results, asked, text, shown, declare, assign, update, bump, discard, break_off, go_on, give_back, print, raise, quit, argument_words, site_type, all_wide, value_widths}
 use Rattle.value_trees.specs.Types.{ValueType, ints, bools, width, struct_of, array_of}
 use Rattle.simulated_code.proofs.Numbers.{no_struct, no_array}
-use Rattle.typed.specs.Form.{IsPlain, AreOf, IsArithmetic, IsStep, Takes, PlFits, scope_behind, ExsFit, ReturnFits}
+use Rattle.typed.specs.Form.{IsPlain, AreOf, IsArithmetic, IsStep, Takes, PlFits, new_sites, scope_behind, ExsFit, ReturnFits}
 use Rattle.typed.specs.Frames.{far, lefts_far, behind_values, need, need_all, reach, reach_all, temps_of}
 use Rattle.meaning.specs.Trace.{World, Trace, Exit, Panic, raised, raised_text, exit_code}
 use Rattle.meaning.specs.Store.{value_of, written}
@@ -125,8 +125,8 @@ module _ (m : Built) where
         let long : wide_of ((held ++ together uss) ++ vs) ≡ first + all = omega (arith, wide_joined (held ++ together uss) vs, count, above) in
         let within = g2.stack.0.room in
         let room = address_room (temps_of m.program c.func) first all (lefts_far ls) (omega (arith, long)) (omega arith) in
-        lefts_follow m around ls fit.0 vs (held ++ together uss) [] ((held ++ together uss) ++ vs) uss held vs c env env scope scope calls ws k w2 words2 q (first + all) h first (behind + exs_size m.program es) lo b leads.panics are above
-        (ap (λ l. (held ++ together uss) ++ l) (sym (append-nil vs))) given hh (append_assoc held (together uss) vs) long has_l fit.1 room sc.from (λ v i. (i, refl, sc.below v i)) g2 (λ env1 w3 words3 g3.
+        lefts_follow m around ls fit.0 vs (held ++ together uss) [] ((held ++ together uss) ++ vs) uss held vs c env env scope scope calls ws k w2 words2 q (q + new_sites ls) (first + all) h first (behind + exs_size m.program es) lo b leads.panics are above
+        (ap (λ l. (held ++ together uss) ++ l) (sym (append-nil vs))) given hh (append_assoc held (together uss) vs) long has_l fit.1 room sc.from (omega arith) (λ v i. (i, refl, inl (sc.below v i))) g2 (λ env1 w3 words3 g3.
         place_is m (let e : pc + lefts_sized m.program ls (exs_size m.program es + lefts_size ls) ≡ behind + exs_size m.program es + lefts_size ls = omega (arith, lefts_sum m.program ls (exs_size m.program es + lefts_size ls), ends) in e)
         (post refl env1 w3 words3 (fewer m (during c env1 (scope_behind scope ls) held) calls w3 words3 held (together uss ++ vs) (subst (λ l. Good m (during c env1 (scope_behind scope ls) l ∷ calls) w3 words3) (append_assoc held (together uss) vs) g3)))))))
 

@@ -5,9 +5,9 @@ use Rattle.isa.specs.declared.instr.Instr.{Instr}
 use Rattle.isa.specs.declared.instr.Instr.TheVariants.{Const, Bin, Call, Jump, JumpZero, Return, Exit}
 use Rattle.isa.specs.declared.instr.BinOp.TheVariants as Word
 use Rattle.typed.specs.Frames.{far}
-use Rattle.typed.specs.Syntax.{Ex, Exs, Pl, Steps, here as itself, inner, at_index, Left, Piece, St, Sts, Func, Program, constant, read, unary, binary, both, either, call, part_of, literal, Elements, no_elements, element, local, global, none, more, results, asked, blank, new, to, text, shown, over_int, declare, assign, update, bump, discard, block, choose, loop, range, break_off, go_on, give_back, print, raise, quit, done, next, argument_words, arguments_of, results_of, wide, all_wide, each_width, value_widths, ascend, words_through, gap_behind}
+use Rattle.typed.specs.Syntax.{Ex, Exs, Pl, Steps, here as itself, inner, at_index, Left, Piece, St, Sts, Func, Program, constant, read, unary, binary, both, either, call, part_of, literal, Elements, no_elements, element, local, global, none, more, results, asked, blank, new, to, text, shown, over_int, over_length, over_copy, declare, assign, update, bump, discard, block, choose, loop, range, break_off, go_on, give_back, print, raise, quit, done, next, argument_words, arguments_of, results_of, wide, all_wide, each_width, value_widths, ascend, words_through, gap_behind}
 use Rattle.value_trees.specs.Types.{ValueType, width, part_type, part_offset}
-use Rattle.simulated_code.specs.Code.{Slots, site_slot, site_type, site_words, steps_above, place_above, above_address, lefts_above, index_code, index_count, steps_address, steps_address_size, address_size, place_code, place_size, place_end, steps_code, steps_size, steps_end, ready_code, lefts_sized, lefts_end, first_width, other_widths, temp, operation, binary_code, unary_code, address_code, fetch_code, land_code, read_code, write_code, move_code, move_size, result_code, gap_code, gap_size, moves, elements_code, elements_size, call_code, call_size, ex_code, exs_code, pieces_code, test_code, test_size, size, exs_size, pieces_size, raised_code, show_more, show_plain, show_code, more_size, shown_size, lefts_code, lefts_size, named_write_code, named_read_code, named_read_size, leave_code, leave_size, values_code, values_size, params_code, params_size, zeros_code, renew_code, renew_size, st_code, sts_code, st_size, sts_size, slots_of, entry_code, entry_size, func_code, func_size}
+use Rattle.simulated_code.specs.Code.{element_code, index_round_code, index_round_size, element_round_code, element_round_size, array_code, Slots, site_slot, site_type, site_words, steps_above, place_above, above_address, lefts_above, index_code, index_count, steps_address, steps_address_size, address_size, place_code, place_size, place_end, steps_code, steps_size, steps_end, ready_code, lefts_sized, lefts_end, first_width, other_widths, temp, operation, binary_code, unary_code, address_code, fetch_code, land_code, read_code, write_code, move_code, move_size, result_code, gap_code, gap_size, moves, elements_code, elements_size, call_code, call_size, ex_code, exs_code, pieces_code, test_code, test_size, size, exs_size, pieces_size, raised_code, show_more, show_plain, show_code, more_size, shown_size, lefts_code, lefts_size, named_write_code, named_read_code, named_read_size, leave_code, leave_size, values_code, values_size, params_code, params_size, zeros_code, renew_code, renew_size, st_code, sts_code, st_size, sts_size, slots_of, entry_code, entry_size, func_code, func_size}
 
 pub length_move : (n a b : ℕ) → length (move_code n a b) ≡ move_size n
 length_move zero a b = refl
@@ -204,6 +204,26 @@ module _ (fs : Program) where
       let above = place_above p h in let behind = place_end fs p pc in
       omega (arith, length-append (place_code fs s p h pc) (ready_code fs s ls above behind), length_place s p h pc, length_ready s ls above behind, place_sum p (lefts_sized fs ls 0))
 
+  pub length_index_round : (s : Slots) (key : Left) (h pc : ℕ) → length (index_round_code fs s key h pc) ≡ index_round_size fs key
+  length_index_round s key h pc =
+      let above = lefts_above (key ∷ []) (h + 1) in let cr = ready_code fs s (key ∷ []) (h + 1) pc in let cl = lefts_code s (1 ∷ []) (key ∷ []) (h + 1) above h in
+      omega (arith, length-append cr cl, length_ready s (key ∷ []) (h + 1) pc, length_lefts s (1 ∷ []) (key ∷ []) (h + 1) above h, lefts_sum (key ∷ []) (lefts_size (key ∷ [])))
+
+  pub length_element_round : (s : Slots) (site x : ℕ) (key value : Left) (h pc : ℕ) → length (element_round_code fs s site x key value h pc) ≡ element_round_size fs key value
+  length_element_round s site x key value h pc =
+      let ls : List Left = key ∷ value ∷ [] in let v = lefts_above ls (h + 1) in let w = width (part_type (site_type s site) 0) in
+      let cr = ready_code fs s ls (h + 1) pc in let ce = element_code s site x h v in let cl = lefts_code s (1 ∷ w ∷ []) ls (h + 1) (v + 1 + w) v in
+      let four : length ce ≡ 4 = refl in
+      omega (arith, four, length-append cr (ce ++ cl), length-append ce cl, length_ready s ls (h + 1) pc, length_lefts s (1 ∷ w ∷ []) ls (h + 1) (v + 1 + w) v, lefts_sum ls (4 + lefts_size ls))
+
+  pub length_array : (s : Slots) (x h test behind : ℕ) (round body : List Instr) → length (array_code s x h test behind round body) ≡ 4 + length round + length body + 3
+  length_array s x h test behind round body =
+      let i = temp s h in let t = temp s (h + 1) in
+      let last : List Instr = Const t 1 ∷ (Bin Word.Add i i t ∷ (Jump test ∷ [])) in
+      let three : length last ≡ 3 = refl in
+      let four : length (array_code s x h test behind round body) ≡ suc (suc (suc (suc (length (round ++ (body ++ last)))))) = refl in
+      omega (arith, three, four, length-append round (body ++ last), length-append body last)
+
   pub length_pieces : (s : Slots) (ps : List Piece) (h pc : ℕ) → length (pieces_code fs s ps h pc) ≡ pieces_size fs ps
   length_pieces s [] h pc = refl
   length_pieces s (text number ∷ ps) h pc = omega (arith, length_pieces s ps h pc)
@@ -283,6 +303,16 @@ module _ (fs : Program) where
           let tail : length (cl ++ (cb ++ last)) ≡ length cl + length (cb ++ last) = length-append cl (cb ++ last) in
           let end : length (cb ++ last) ≡ length cb + length last = length-append cb last in
           omega (arith, one, three, whole, tail, end, length_code s e h pc, length-append cr ck, length_ready s (key ∷ []) (h + 2) (test + 2), length_lefts s (1 ∷ []) (key ∷ []) (h + 2) above (h + 1), lefts_sum (key ∷ []) (lefts_size (key ∷ [])), length_sts s body (h + 2) behind turn inside)
+      length_st s (range (over_length x) key value body) h out again pc =
+          let inside = pc + 4 + index_round_size fs key in let turn = inside + sts_size fs arguments named body in let behind = turn + 3 in
+          let cr = index_round_code fs s key h (pc + 4) in let cb = sts_code fs arguments named s body (h + 1) behind turn inside in
+          omega (arith, length_array s x h (pc + 1) behind cr cb, length_index_round s key h (pc + 4), length_sts s body (h + 1) behind turn inside)
+      length_st s (range (over_copy site e x) key value body) h out again pc =
+          let start = pc + size fs e + 1 in let inside = start + 4 + element_round_size fs key value in let turn = inside + sts_size fs arguments named body in let behind = turn + 3 in
+          let ce = ex_code fs s e h pc in let cr = element_round_code fs s site x key value h (start + 4) in let cb = sts_code fs arguments named s body (h + 1) behind turn inside in
+          let rest = array_code s x h (start + 1) behind cr cb in let move = moves (site_words s site) (site_slot s site) (temp s h) in
+          let one : length (move ∷ rest) ≡ suc (length rest) = refl in
+          omega (arith, one, length-append ce (move ∷ rest), length_code s e h pc, length_array s x h (start + 1) behind cr cb, length_element_round s site x key value h (start + 4), length_sts s body (h + 1) behind turn inside)
       length_st s break_off h out again pc = refl
       length_st s go_on h out again pc = refl
       length_st s (give_back es) h out again pc =

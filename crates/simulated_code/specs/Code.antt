@@ -16,7 +16,7 @@ use Rattle.typed.specs.declared.operators.UnOp.TheVariants as One
 use Rattle.value_trees.specs.Types.{ValueType, ints, bools, width, part_type, part_offset}
 use Rattle.value_trees.specs.Value.{Value, int, bool, composite}
 use Rattle.value_trees.specs.Paths.{type_at, offset}
-use Rattle.typed.specs.Syntax.{Ex, Exs, Pl, Steps, here, inner, at_index, Left, Piece, St, Sts, Func, Program, constant, read, unary, binary, both, either, call, part_of, literal, Elements, no_elements, element, local, global, none, more, results, asked, blank, new, to, text, shown, over_int, declare, assign, update, bump, discard, block, choose, loop, range, break_off, go_on, give_back, print, raise, quit, done, next, argument_words, result_words, arguments_of, results_of, path_of, wide, all_wide, each_width, value_widths, ascend, words_through, gap_behind}
+use Rattle.typed.specs.Syntax.{Ex, Exs, Pl, Steps, here, inner, at_index, Left, Piece, St, Sts, Func, Program, constant, read, unary, binary, both, either, call, part_of, literal, Elements, no_elements, element, local, global, none, more, results, asked, blank, new, to, text, shown, over_int, over_length, over_copy, declare, assign, update, bump, discard, block, choose, loop, range, break_off, go_on, give_back, print, raise, quit, done, next, argument_words, result_words, arguments_of, results_of, path_of, wide, all_wide, each_width, value_widths, ascend, words_through, gap_behind}
 use Rattle.typed.specs.Frames.{steps_far, far, words_between, outgoing_of, temps_of, frame_of}
 use Rattle.heap_bump.specs.Words.{first_address}
 
@@ -333,6 +333,22 @@ shown_size true [] = 1
 shown_size true (p ∷ ps) = suc (more_size ps)
 shown_size false ps = length ps
 
+-- the index in temp h goes to temp v, and the element of a site's array, of x elements, behind it
+abbrev pub element_code : Slots → (site x h v : ℕ) → List Instr
+element_code s site x h v =
+    let a = temp s (v + 1) in let w = width (part_type (site_type s site) 0) in
+    Move (temp s v) (temp s h) ∷ (Address a (site_slot s site) ∷ (Index a a (temp s h) x w ∷ (Load a a 0 w ∷ [])))
+
+-- the rounds, of these parts, for x elements: the index in temp h begins at 0
+abbrev pub array_code : Slots → (x h test behind : ℕ) → (round body : List Instr) → List Instr
+array_code s x h test behind round body =
+    let i = temp s h in let t = temp s (h + 1) in
+    Const i 0
+    ∷ (Const t x
+    ∷ (Bin Word.Less t i t
+    ∷ (JumpZero t behind
+    ∷ (round ++ (body ++ (Const t 1 ∷ (Bin Word.Add i i t ∷ (Jump test ∷ []))))))))
+
 module _ (p : Program) where
   -- a call whose arguments are in temps from h on; its results land there
   abbrev pub call_code : Slots → (f h : ℕ) → List Instr
@@ -459,6 +475,22 @@ module _ (p : Program) where
   ready_code s (new site ∷ ls) h pc = ready_code s ls h pc
   ready_code s (to q ∷ ls) h pc = place_code s q h pc ++ ready_code s ls (place_above q h) (place_end q pc)
 
+  -- A round of `range` over an array, whose index is in temp h, up to the body: left sides get the index, or the index and the
+  -- element of the copy, which are put behind their operands.
+  abbrev pub index_round_code : Slots → Left → (h pc : ℕ) → List Instr
+  index_round_code s key h pc = ready_code s (key ∷ []) (h + 1) pc ++ lefts_code s (1 ∷ []) (key ∷ []) (h + 1) (lefts_above (key ∷ []) (h + 1)) h
+
+  abbrev pub index_round_size : Left → ℕ
+  index_round_size key = lefts_sized (key ∷ []) (lefts_size (key ∷ []))
+
+  abbrev pub element_round_code : Slots → (site x : ℕ) → (key value : Left) → (h pc : ℕ) → List Instr
+  element_round_code s site x key value h pc =
+      let v = lefts_above (key ∷ value ∷ []) (h + 1) in let w = width (part_type (site_type s site) 0) in
+      ready_code s (key ∷ value ∷ []) (h + 1) pc ++ (element_code s site x h v ++ lefts_code s (1 ∷ w ∷ []) (key ∷ value ∷ []) (h + 1) (v + 1 + w) v)
+
+  abbrev pub element_round_size : (key value : Left) → ℕ
+  element_round_size key value = lefts_sized (key ∷ value ∷ []) (4 + lefts_size (key ∷ value ∷ []))
+
   abbrev pub pieces_code : Slots → List Piece → (h pc : ℕ) → List Instr
   pieces_code s [] h pc = []
   pieces_code s (text number ∷ ps) h pc = pieces_code s ps h pc
@@ -481,6 +513,8 @@ module _ (p : Program) where
       st_size (choose e a b) = size e + 1 + sts_size a + 1 + sts_size b
       st_size (loop sites test post body) = test_size test + sts_size body + renew_size sites + sts_size post + 1
       st_size (range (over_int e) key value body) = size e + 1 + 2 + lefts_sized (key ∷ []) (lefts_size (key ∷ [])) + sts_size body + 3
+      st_size (range (over_length x) key value body) = 4 + index_round_size key + sts_size body + 3
+      st_size (range (over_copy site e x) key value body) = size e + 1 + (4 + element_round_size key value + sts_size body + 3)
       st_size break_off = 1
       st_size go_on = 1
       st_size (give_back es) = exs_size es + (values_size (all_wide p es) named + leave_size named)
@@ -536,6 +570,19 @@ module _ (p : Program) where
           ∷ ((ready_code s (key ∷ []) (h + 2) (test + 2) ++ lefts_code s (1 ∷ []) (key ∷ []) (h + 2) (lefts_above (key ∷ []) (h + 2)) (h + 1))
           ++ (sts_code s body (h + 2) behind turn inside
           ++ (Const (temp s (h + 2)) 1 ∷ Bin Word.Add (temp s (h + 1)) (temp s (h + 1)) (temp s (h + 2)) ∷ Jump test ∷ []))))))
+      st_code s (range (over_length x) key value body) h out again pc =
+          let inside = pc + 4 + index_round_size key in
+          let turn = inside + sts_size body in
+          let behind = turn + 3 in
+          array_code s x h (pc + 1) behind (index_round_code s key h (pc + 4)) (sts_code s body (h + 1) behind turn inside)
+      st_code s (range (over_copy site e x) key value body) h out again pc =
+          let start = pc + size e + 1 in
+          let inside = start + 4 + element_round_size key value in
+          let turn = inside + sts_size body in
+          let behind = turn + 3 in
+          ex_code s e h pc
+          ++ moves (site_words s site) (site_slot s site) (temp s h)
+          ∷ array_code s x h (start + 1) behind (element_round_code s site x key value h (start + 4)) (sts_code s body (h + 1) behind turn inside)
       st_code s break_off h out again pc = Jump out ∷ []
       st_code s go_on h out again pc = Jump again ∷ []
       st_code s (give_back es) h out again pc = exs_code s es h pc ++ (values_code s arguments (all_wide p es) named h ++ leave_code s arguments named)

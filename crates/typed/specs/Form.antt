@@ -1,5 +1,5 @@
 -- What holds of each program that the checker gives.
-use Rattle.std.specs.Prelude.{◌≡◌, ◌⊎◌, ⊤, ℕ, suc, pos, ◌+◌, ◌<◌, ◌≤◌, Bool, true, false, not, List, [], ◌∷◌, Option, Some, None, length, map, get_or, slice_get, ◌&&◌, ◌||◌, FitsSigned}
+use Rattle.std.specs.Prelude.{◌≡◌, ◌⊎◌, ⊤, ℕ, suc, pos, ◌+◌, ◌<◌, ◌≤◌, ◌^◌, Bool, true, false, not, List, [], ◌∷◌, Option, Some, None, length, map, get_or, slice_get, ◌&&◌, ◌||◌, FitsSigned}
 use Rattle.std.specs.Int.{w64}
 use Rattle.typed.specs.declared.operators.BinOp.{BinOp}
 use Rattle.typed.specs.declared.operators.BinOp.TheVariants.{Add, Sub, Equal, NotEqual, Less, LessEqual, Greater, GreaterEqual}
@@ -7,7 +7,7 @@ use Rattle.typed.specs.declared.operators.UnOp.{UnOp}
 use Rattle.typed.specs.declared.operators.UnOp.TheVariants.{Not}
 use Rattle.value_trees.specs.Types.{ValueType, ints, bools, array_of, width, part_count, part_type}
 use Rattle.value_trees.specs.Value.{Value, int, bool, composite, IsOf}
-use Rattle.typed.specs.Syntax.{Ex, Exs, Pl, Left, Piece, St, Sts, Func, Program, constant, read, unary, binary, both, either, call, part_of, literal, Elements, no_elements, element, local, global, none, more, results, asked, blank, new, to, text, shown, over_int, declare, assign, update, bump, discard, block, choose, loop, range, break_off, go_on, give_back, print, raise, quit, done, next, Steps, here, inner, at_index, argument_words, result_words, site_type, global_type}
+use Rattle.typed.specs.Syntax.{Ex, Exs, Pl, Left, Piece, Over, St, Sts, Func, Program, constant, read, unary, binary, both, either, call, part_of, literal, Elements, no_elements, element, local, global, none, more, results, asked, blank, new, to, text, shown, over_int, over_length, over_copy, declare, assign, update, bump, discard, block, choose, loop, range, break_off, go_on, give_back, print, raise, quit, done, next, Steps, here, inner, at_index, argument_words, result_words, site_type, global_type}
 
 -- ---- types
 
@@ -75,6 +75,12 @@ new_sites (blank ∷ ls) = new_sites ls
 new_sites (new site ∷ ls) = 1 + new_sites ls
 new_sites (to p ∷ ls) = new_sites ls
 
+-- the site of a copy is among those that come with what `range` goes over
+abbrev pub over_sites : Over → (others : ℕ) → ℕ
+over_sites (over_int e) others = others
+over_sites (over_length x) others = others
+over_sites (over_copy site e x) others = suc others
+
 -- how many sites statements have
 abbrev mutual
   pub births : St → ℕ
@@ -86,7 +92,7 @@ abbrev mutual
   births (block ss) = births_all ss
   births (choose e a b) = births_all a + births_all b
   births (loop sites test post body) = births_all post + births_all body
-  births (range over key value body) = new_sites (key ∷ value ∷ []) + births_all body
+  births (range over key value body) = new_sites (key ∷ value ∷ []) + over_sites over (births_all body)
   births break_off = 0
   births go_on = 0
   births (give_back es) = 0
@@ -232,6 +238,11 @@ module _ (p : Program) where
           AllInScope scope sites × TestFits scope test × StsFit false scope m n post × StsFit true scope (m + births_all post) n body
       StFits looped scope m n (range (over_int e) key blank body) =
           ExFits scope ints e × LeftsFit scope m n (ints ∷ []) (key ∷ []) × StsFit true (scope_behind scope (key ∷ [])) (m + new_sites (key ∷ [])) n body
+      StFits looped scope m n (range (over_length x) key blank body) =
+          (x < 2 ^ 63) × LeftsFit scope m n (ints ∷ []) (key ∷ []) × StsFit true (scope_behind scope (key ∷ [])) (m + new_sites (key ∷ [])) n body
+      -- the copy comes with the word `range`, behind the left sides
+      StFits looped scope m n (range (over_copy site e x) key value body) =
+          (r : ValueType) × (site_type p site ≡ array_of x r) × (0 < width r) × (x < 2 ^ 63) × (site ≡ m + new_sites (key ∷ value ∷ [])) × (site < n) × ExFits scope (array_of x r) e × LeftsFit (site ∷ scope) m n (ints ∷ r ∷ []) (key ∷ value ∷ []) × StsFit true (scope_behind (site ∷ scope) (key ∷ value ∷ [])) (m + new_sites (key ∷ value ∷ []) + 1) n body
       StFits looped scope m n break_off = looped ≡ true
       StFits looped scope m n go_on = looped ≡ true
       StFits looped scope m n (give_back es) = ReturnFits scope wanted named es

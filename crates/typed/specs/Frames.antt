@@ -1,9 +1,9 @@
 -- The words of a frame, from its lowest address: the outgoing area, in which the arguments of a call stand and then its
 -- results; the temps that values are worked out in; the words of each site; the link and the return place.
 use Rattle.std.specs.Prelude.{ℕ, zero, suc, ◌+◌, Bool, true, false, List, [], ◌∷◌, Option, Some, None, length, max, get_or, slice_get}
-use Rattle.value_trees.specs.Types.{ValueType, ints, width, part_offset}
+use Rattle.value_trees.specs.Types.{ValueType, ints, width, part_type, part_offset}
 use Rattle.value_trees.specs.Value.{words}
-use Rattle.typed.specs.Syntax.{Ex, Exs, Pl, Steps, here, inner, at_index, Left, Piece, Over, St, Sts, Func, Program, constant, read, unary, binary, both, either, call, part_of, literal, Elements, no_elements, element, local, global, none, more, results, asked, blank, new, to, text, shown, over_int, declare, assign, update, bump, discard, block, choose, loop, range, break_off, go_on, give_back, print, raise, quit, done, next, arguments_of, results_of, site_width, place_width, wide, all_wide, ascend}
+use Rattle.typed.specs.Syntax.{Ex, Exs, Pl, Steps, here, inner, at_index, Left, Piece, Over, St, Sts, Func, Program, constant, read, unary, binary, both, either, call, part_of, literal, Elements, no_elements, element, local, global, none, more, results, asked, blank, new, to, text, shown, over_int, over_length, over_copy, declare, assign, update, bump, discard, block, choose, loop, range, break_off, go_on, give_back, print, raise, quit, done, next, arguments_of, results_of, site_type, site_width, place_width, wide, all_wide, ascend}
 
 -- the words of the address of a place, where it is reached by one: of a package variable, and of a part by an index that is
 -- worked out
@@ -134,6 +134,8 @@ module _ (p : Program) where
 
   abbrev pub over_reach : Over → ℕ
   over_reach (over_int e) = reach e
+  over_reach (over_length x) = 0
+  over_reach (over_copy site e x) = reach e
 
   -- the operands of left sides, and so many behind them
   abbrev pub lefts_need : List Left → (behind : ℕ) → ℕ
@@ -157,15 +159,33 @@ module _ (p : Program) where
   -- `range`: the words that it keeps, and what it works with above them
   abbrev pub over_need : Over → ℕ
   over_need (over_int e) = need e
+  over_need (over_length x) = 0
+  over_need (over_copy site e x) = need e
 
   abbrev pub hidden : Over → ℕ
   hidden (over_int e) = 2
+  hidden (over_length x) = 1
+  hidden (over_copy site e x) = 1
 
   -- the index that a left side gets, behind its operands
   abbrev pub key_need : Left → ℕ
   key_need blank = 0
   key_need (new site) = 1
   key_need (to q) = place_need q (1 + far q)
+
+  -- the words of an element of a site's array
+  abbrev pub element_words : ℕ → ℕ
+  element_words site = width (part_type (site_type p site) 0)
+
+  -- so many words of values that left sides get, behind their operands
+  abbrev pub pair_need : List Left → (values : ℕ) → ℕ
+  pair_need ls values = lefts_need ls (max values (behind_values values (lefts_far ls)))
+
+  -- what a round gives to left sides: the index, and the element
+  abbrev pub round_need : Over → (key value : Left) → ℕ
+  round_need (over_int e) key value = key_need key
+  round_need (over_length x) key value = key_need key
+  round_need (over_copy site e x) key value = pair_need (key ∷ value ∷ []) (1 + element_words site)
 
   abbrev mutual
     pub st_need : (named : List ℕ) → St → ℕ
@@ -177,7 +197,7 @@ module _ (p : Program) where
     st_need named (block ss) = sts_need named ss
     st_need named (choose e a b) = max (need e) (max (sts_need named a) (sts_need named b))
     st_need named (loop sites test post body) = max (max (test_need test) (widest sites)) (max (sts_need named post) (sts_need named body))
-    st_need named (range over key value body) = max (over_need over) (max (hidden over + 2) (max (hidden over + key_need key) (hidden over + sts_need named body)))
+    st_need named (range over key value body) = max (over_need over) (max (hidden over + 2) (max (hidden over + round_need over key value) (hidden over + sts_need named body)))
     st_need named break_off = 0
     st_need named go_on = 0
     st_need named (give_back es) = max (need_all es) (widest named)
@@ -199,7 +219,7 @@ module _ (p : Program) where
     st_reach (block ss) = sts_reach ss
     st_reach (choose e a b) = max (reach e) (max (sts_reach a) (sts_reach b))
     st_reach (loop sites test post body) = max (test_reach test) (max (sts_reach post) (sts_reach body))
-    st_reach (range over key value body) = max (over_reach over) (lefts_reach (key ∷ []) (sts_reach body))
+    st_reach (range over key value body) = max (over_reach over) (lefts_reach (key ∷ value ∷ []) (sts_reach body))
     st_reach break_off = 0
     st_reach go_on = 0
     st_reach (give_back es) = reach_all es

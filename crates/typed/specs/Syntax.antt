@@ -67,6 +67,10 @@ pub data Piece : Type 0 where
 -- what `range` goes over
 pub data Over : Type 0 where
   over_int : Ex → Over
+  -- the indices of an array of this length, which is not worked out
+  over_length : ℕ → Over
+  -- the elements of an array of this length, of which a hidden variable of a site gets a copy
+  over_copy : ℕ → Ex → ℕ → Over
 
 mutual
   pub data St : Type 0 where
