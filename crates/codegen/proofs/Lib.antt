@@ -1,7 +1,4 @@
 pub mod InSlots
-pub mod Alone
-pub mod Operands
-pub mod Operators
 pub mod ByWidth
 pub mod Begun
 pub mod Suffice
