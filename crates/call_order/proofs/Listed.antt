@@ -5,9 +5,9 @@ use Rattle.std.specs.List.{Contains}
 use Rattle.std.proofs.lemmas.List.{get_or-map, length-map}
 use Rattle.std.proofs.lemmas.Option.{slice_get_cases, slice_get_within, get_or_from_slice_get}
 use Rattle.std.proofs.lemmas.List.Elements.{Contains-append_left, Contains-append_right, Contains-push, Contains-push_cases, Contains-append_cases}
-use Rattle.typed.specs.Syntax.{Ex, Exs, Piece, Over, St, Sts, Func, Program, constant, read, unary, binary, both, either, call, none, more, results, asked, text, shown, over_int, declare, assign, update, bump, discard, block, choose, loop, range, break_off, go_on, give_back, print, raise, quit, done, next}
-use Rattle.call_order.specs.Calls.{ExCalls, ExsCall, PieceCalls, PiecesCall, TestCalls, OverCalls, StCalls, StsCall, Calls}
-use Rattle.call_order.specs.Lists.{called, called_all, called_in_piece, called_in_pieces, called_in_test, called_in_over, called_by, called_by_all, call_lists}
+use Rattle.typed.specs.Syntax.{Ex, Exs, Pl, Steps, local, global, here, inner, at_index, Left, blank, new, to, Piece, Over, St, Sts, Func, Program, constant, read, unary, binary, both, either, call, part_of, literal, Elements, no_elements, element, none, more, results, asked, text, shown, over_int, declare, assign, update, bump, discard, block, choose, loop, range, break_off, go_on, give_back, print, raise, quit, done, next}
+use Rattle.call_order.specs.Calls.{ExCalls, ExsCall, PlaceCalls, StepsCall, ElementsCall, LeftCalls, LeftsCall, PieceCalls, PiecesCall, TestCalls, OverCalls, StCalls, StsCall, Calls}
+use Rattle.call_order.specs.Lists.{called, called_all, called_in_place, called_in_steps, called_in_elements, called_in_left, called_in_lefts, called_in_piece, called_in_pieces, called_in_test, called_in_over, called_by, called_by_all, call_lists}
 use Rattle.call_order.specs.Order.{Reaches, itself, by_call}
 use Rattle.call_order.specs.Marks.{callees, Joins, same, onward}
 use Rattle.call_order.proofs.Opened.{contains_nil}
@@ -32,12 +32,27 @@ alone_is f g is = subst (λ (x : ℕ). Contains (f ∷ []) x) is (Contains-push 
 mutual
   ex_calls : (e : Ex) (g : ℕ) → Contains (called e) g → ExCalls e g
   ex_calls (constant v) g c = contains_nil g c
-  ex_calls (read q) g c = contains_nil g c
+  ex_calls (read q) g c = place_calls q g c
   ex_calls (unary op e) g c = ex_calls e g c
   ex_calls (binary at op a b) g c = apart (called a) (called b) g (ex_calls a g) (ex_calls b g) c
   ex_calls (both a b) g c = apart (called a) (called b) g (ex_calls a g) (ex_calls b g) c
   ex_calls (either a b) g c = apart (called a) (called b) g (ex_calls a g) (ex_calls b g) c
   ex_calls (call f es) g c = apart (f ∷ []) (called_all es) g (alone f g) (exs_call es g) c
+  ex_calls (part_of t i e) g c = ex_calls e g c
+  ex_calls (literal t es) g c = elements_call es g c
+
+  place_calls : (q : Pl) (g : ℕ) → Contains (called_in_place q) g → PlaceCalls q g
+  place_calls (local site steps) g c = steps_call steps g c
+  place_calls (global number steps) g c = steps_call steps g c
+
+  steps_call : (steps : Steps) (g : ℕ) → Contains (called_in_steps steps) g → StepsCall steps g
+  steps_call here g c = contains_nil g c
+  steps_call (inner i steps) g c = steps_call steps g c
+  steps_call (at_index at e n steps) g c = apart (called e) (called_in_steps steps) g (ex_calls e g) (steps_call steps g) c
+
+  elements_call : (es : Elements) (g : ℕ) → Contains (called_in_elements es) g → ElementsCall es g
+  elements_call no_elements g c = contains_nil g c
+  elements_call (element i e es) g c = apart (called e) (called_in_elements es) g (ex_calls e g) (elements_call es g) c
 
   exs_call : (es : Exs) (g : ℕ) → Contains (called_all es) g → ExsCall es g
   exs_call none g c = contains_nil g c
@@ -60,17 +75,27 @@ test_calls (Some e) g c = ex_calls e g c
 over_calls : (o : Over) (g : ℕ) → Contains (called_in_over o) g → OverCalls o g
 over_calls (over_int e) g c = ex_calls e g c
 
+left_calls : (l : Left) (g : ℕ) → Contains (called_in_left l) g → LeftCalls l g
+left_calls blank g c = contains_nil g c
+left_calls (new site) g c = contains_nil g c
+left_calls (to q) g c = place_calls q g c
+
+lefts_call : (ls : List Left) (g : ℕ) → Contains (called_in_lefts ls) g → LeftsCall ls g
+lefts_call [] g c = contains_nil g c
+lefts_call (l ∷ ls) g c = apart (called_in_left l) (called_in_lefts ls) g (left_calls l g) (lefts_call ls g) c
+
 mutual
   st_calls : (s : St) (g : ℕ) → Contains (called_by s) g → StCalls s g
   st_calls (declare sites) g c = contains_nil g c
-  st_calls (assign ls es) g c = exs_call es g c
-  st_calls (update at q op e) g c = ex_calls e g c
-  st_calls (bump q op) g c = contains_nil g c
+  st_calls (assign ls es) g c = apart (called_in_lefts ls) (called_all es) g (lefts_call ls g) (exs_call es g) c
+  st_calls (update at q op e) g c = apart (called_in_place q) (called e) g (place_calls q g) (ex_calls e g) c
+  st_calls (bump q op) g c = place_calls q g c
   st_calls (discard es) g c = exs_call es g c
   st_calls (block ss) g c = sts_call ss g c
   st_calls (choose e a b) g c = apart (called e) (called_by_all a ++ called_by_all b) g (ex_calls e g) (λ d. apart (called_by_all a) (called_by_all b) g (sts_call a g) (sts_call b g) d) c
   st_calls (loop sites test post body) g c = apart (called_in_test test) (called_by_all post ++ called_by_all body) g (test_calls test g) (λ d. apart (called_by_all post) (called_by_all body) g (sts_call post g) (sts_call body g) d) c
-  st_calls (range over key value body) g c = apart (called_in_over over) (called_by_all body) g (over_calls over g) (sts_call body g) c
+  st_calls (range over key value body) g c = apart (called_in_over over) (called_in_lefts (key ∷ value ∷ []) ++ called_by_all body) g (over_calls over g)
+      (λ d. apart (called_in_lefts (key ∷ value ∷ [])) (called_by_all body) g (lefts_call (key ∷ value ∷ []) g) (sts_call body g) d) c
   st_calls break_off g c = contains_nil g c
   st_calls go_on g c = contains_nil g c
   st_calls (give_back es) g c = exs_call es g c
@@ -87,12 +112,27 @@ mutual
 mutual
   in_ex : (e : Ex) (g : ℕ) → ExCalls e g → Contains (called e) g
   in_ex (constant v) g c = absurd c
-  in_ex (read q) g c = absurd c
+  in_ex (read q) g c = in_place q g c
   in_ex (unary op e) g c = in_ex e g c
   in_ex (binary at op a b) g c = joined (called a) (called b) g (in_ex a g) (in_ex b g) c
   in_ex (both a b) g c = joined (called a) (called b) g (in_ex a g) (in_ex b g) c
   in_ex (either a b) g c = joined (called a) (called b) g (in_ex a g) (in_ex b g) c
   in_ex (call f es) g c = joined (f ∷ []) (called_all es) g (alone_is f g) (in_exs es g) c
+  in_ex (part_of t i e) g c = in_ex e g c
+  in_ex (literal t es) g c = in_elements es g c
+
+  in_place : (q : Pl) (g : ℕ) → PlaceCalls q g → Contains (called_in_place q) g
+  in_place (local site steps) g c = in_steps steps g c
+  in_place (global number steps) g c = in_steps steps g c
+
+  in_steps : (steps : Steps) (g : ℕ) → StepsCall steps g → Contains (called_in_steps steps) g
+  in_steps here g c = absurd c
+  in_steps (inner i steps) g c = in_steps steps g c
+  in_steps (at_index at e n steps) g c = joined (called e) (called_in_steps steps) g (in_ex e g) (in_steps steps g) c
+
+  in_elements : (es : Elements) (g : ℕ) → ElementsCall es g → Contains (called_in_elements es) g
+  in_elements no_elements g c = absurd c
+  in_elements (element i e es) g c = joined (called e) (called_in_elements es) g (in_ex e g) (in_elements es g) c
 
   in_exs : (es : Exs) (g : ℕ) → ExsCall es g → Contains (called_all es) g
   in_exs none g c = absurd c
@@ -115,17 +155,27 @@ in_test (Some e) g c = in_ex e g c
 in_over : (o : Over) (g : ℕ) → OverCalls o g → Contains (called_in_over o) g
 in_over (over_int e) g c = in_ex e g c
 
+in_left : (l : Left) (g : ℕ) → LeftCalls l g → Contains (called_in_left l) g
+in_left blank g c = absurd c
+in_left (new site) g c = absurd c
+in_left (to q) g c = in_place q g c
+
+in_lefts : (ls : List Left) (g : ℕ) → LeftsCall ls g → Contains (called_in_lefts ls) g
+in_lefts [] g c = absurd c
+in_lefts (l ∷ ls) g c = joined (called_in_left l) (called_in_lefts ls) g (in_left l g) (in_lefts ls g) c
+
 mutual
   in_st : (s : St) (g : ℕ) → StCalls s g → Contains (called_by s) g
   in_st (declare sites) g c = absurd c
-  in_st (assign ls es) g c = in_exs es g c
-  in_st (update at q op e) g c = in_ex e g c
-  in_st (bump q op) g c = absurd c
+  in_st (assign ls es) g c = joined (called_in_lefts ls) (called_all es) g (in_lefts ls g) (in_exs es g) c
+  in_st (update at q op e) g c = joined (called_in_place q) (called e) g (in_place q g) (in_ex e g) c
+  in_st (bump q op) g c = in_place q g c
   in_st (discard es) g c = in_exs es g c
   in_st (block ss) g c = in_sts ss g c
   in_st (choose e a b) g c = joined (called e) (called_by_all a ++ called_by_all b) g (in_ex e g) (λ d. joined (called_by_all a) (called_by_all b) g (in_sts a g) (in_sts b g) d) c
   in_st (loop sites test post body) g c = joined (called_in_test test) (called_by_all post ++ called_by_all body) g (in_test test g) (λ d. joined (called_by_all post) (called_by_all body) g (in_sts post g) (in_sts body g) d) c
-  in_st (range over key value body) g c = joined (called_in_over over) (called_by_all body) g (in_over over g) (in_sts body g) c
+  in_st (range over key value body) g c = joined (called_in_over over) (called_in_lefts (key ∷ value ∷ []) ++ called_by_all body) g (in_over over g)
+      (λ d. joined (called_in_lefts (key ∷ value ∷ [])) (called_by_all body) g (in_lefts (key ∷ value ∷ []) g) (in_sts body g) d) c
   in_st break_off g c = absurd c
   in_st go_on g c = absurd c
   in_st (give_back es) g c = in_exs es g c

@@ -1,17 +1,33 @@
 -- Which functions a function calls: a call counts wherever it stands in the text of the body.
 use Rattle.std.specs.Prelude.{◌≡◌, ◌⊎◌, ℕ, List, [], ◌∷◌, Option, Some, None, slice_get}
-use Rattle.typed.specs.Syntax.{Ex, Exs, Piece, Over, St, Sts, Func, Program, constant, read, unary, binary, both, either, call, none, more, results, asked, text, shown, over_int, declare, assign, update, bump, discard, block, choose, loop, range, break_off, go_on, give_back, print, raise, quit, done, next}
+use Rattle.typed.specs.Syntax.{Ex, Exs, Pl, Steps, local, global, here, inner, at_index, Left, blank, new, to, Piece, Over, St, Sts, Func, Program, constant, read, unary, binary, both, either, call, part_of, literal, Elements, no_elements, element, none, more, results, asked, text, shown, over_int, declare, assign, update, bump, discard, block, choose, loop, range, break_off, go_on, give_back, print, raise, quit, done, next}
 
 -- an expression, or some expressions, have a call of a function
 abbrev mutual
   pub ExCalls : Ex → ℕ → Type 0
   ExCalls (constant v) g = ⊥
-  ExCalls (read q) g = ⊥
+  ExCalls (read q) g = PlaceCalls q g
   ExCalls (unary op e) g = ExCalls e g
   ExCalls (binary at op a b) g = ExCalls a g ⊎ ExCalls b g
   ExCalls (both a b) g = ExCalls a g ⊎ ExCalls b g
   ExCalls (either a b) g = ExCalls a g ⊎ ExCalls b g
   ExCalls (call f es) g = (f ≡ g) ⊎ ExsCall es g
+  ExCalls (part_of t i e) g = ExCalls e g
+  ExCalls (literal t es) g = ElementsCall es g
+
+  -- the indices of a place, where they are worked out
+  pub PlaceCalls : Pl → ℕ → Type 0
+  PlaceCalls (local site steps) g = StepsCall steps g
+  PlaceCalls (global number steps) g = StepsCall steps g
+
+  pub StepsCall : Steps → ℕ → Type 0
+  StepsCall here g = ⊥
+  StepsCall (inner i steps) g = StepsCall steps g
+  StepsCall (at_index at e n steps) g = ExCalls e g ⊎ StepsCall steps g
+
+  pub ElementsCall : Elements → ℕ → Type 0
+  ElementsCall no_elements g = ⊥
+  ElementsCall (element i e es) g = ExCalls e g ⊎ ElementsCall es g
 
   pub ExsCall : Exs → ℕ → Type 0
   ExsCall none g = ⊥
@@ -36,18 +52,27 @@ TestCalls (Some e) g = ExCalls e g
 abbrev pub OverCalls : Over → ℕ → Type 0
 OverCalls (over_int e) g = ExCalls e g
 
+abbrev pub LeftCalls : Left → ℕ → Type 0
+LeftCalls blank g = ⊥
+LeftCalls (new site) g = ⊥
+LeftCalls (to q) g = PlaceCalls q g
+
+abbrev pub LeftsCall : List Left → ℕ → Type 0
+LeftsCall [] g = ⊥
+LeftsCall (l ∷ ls) g = LeftCalls l g ⊎ LeftsCall ls g
+
 -- a statement, or some statements
 abbrev mutual
   pub StCalls : St → ℕ → Type 0
   StCalls (declare sites) g = ⊥
-  StCalls (assign ls es) g = ExsCall es g
-  StCalls (update at q op e) g = ExCalls e g
-  StCalls (bump q op) g = ⊥
+  StCalls (assign ls es) g = LeftsCall ls g ⊎ ExsCall es g
+  StCalls (update at q op e) g = PlaceCalls q g ⊎ ExCalls e g
+  StCalls (bump q op) g = PlaceCalls q g
   StCalls (discard es) g = ExsCall es g
   StCalls (block ss) g = StsCall ss g
   StCalls (choose e a b) g = ExCalls e g ⊎ (StsCall a g ⊎ StsCall b g)
   StCalls (loop sites test post body) g = TestCalls test g ⊎ (StsCall post g ⊎ StsCall body g)
-  StCalls (range over key value body) g = OverCalls over g ⊎ StsCall body g
+  StCalls (range over key value body) g = OverCalls over g ⊎ (LeftsCall (key ∷ value ∷ []) g ⊎ StsCall body g)
   StCalls break_off g = ⊥
   StCalls go_on g = ⊥
   StCalls (give_back es) g = ExsCall es g

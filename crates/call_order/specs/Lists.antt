@@ -1,17 +1,33 @@
 -- The calls of a body as a list, in the order of the text.
 use Rattle.std.specs.Prelude.{ℕ, List, [], ◌∷◌, ◌++◌, Option, Some, None, map, Vec}
 use Rattle.std.specs.declared.alloc.Global.{Global}
-use Rattle.typed.specs.Syntax.{Ex, Exs, Piece, Over, St, Sts, Func, constant, read, unary, binary, both, either, call, none, more, results, asked, text, shown, over_int, declare, assign, update, bump, discard, block, choose, loop, range, break_off, go_on, give_back, print, raise, quit, done, next}
+use Rattle.typed.specs.Syntax.{Ex, Exs, Pl, Steps, local, global, here, inner, at_index, Left, blank, new, to, Piece, Over, St, Sts, Func, constant, read, unary, binary, both, either, call, part_of, literal, Elements, no_elements, element, none, more, results, asked, text, shown, over_int, declare, assign, update, bump, discard, block, choose, loop, range, break_off, go_on, give_back, print, raise, quit, done, next}
 
 abbrev mutual
   pub called : Ex → List ℕ
   called (constant v) = []
-  called (read q) = []
+  called (read q) = called_in_place q
   called (unary op e) = called e
   called (binary at op a b) = called a ++ called b
   called (both a b) = called a ++ called b
   called (either a b) = called a ++ called b
   called (call f es) = f ∷ called_all es
+  called (part_of t i e) = called e
+  called (literal t es) = called_in_elements es
+
+  -- in the indices of a place, where they are worked out
+  pub called_in_place : Pl → List ℕ
+  called_in_place (local site steps) = called_in_steps steps
+  called_in_place (global number steps) = called_in_steps steps
+
+  pub called_in_steps : Steps → List ℕ
+  called_in_steps here = []
+  called_in_steps (inner i steps) = called_in_steps steps
+  called_in_steps (at_index at e n steps) = called e ++ called_in_steps steps
+
+  pub called_in_elements : Elements → List ℕ
+  called_in_elements no_elements = []
+  called_in_elements (element i e es) = called e ++ called_in_elements es
 
   pub called_all : Exs → List ℕ
   called_all none = []
@@ -34,17 +50,26 @@ called_in_test (Some e) = called e
 abbrev pub called_in_over : Over → List ℕ
 called_in_over (over_int e) = called e
 
+abbrev pub called_in_left : Left → List ℕ
+called_in_left blank = []
+called_in_left (new site) = []
+called_in_left (to q) = called_in_place q
+
+abbrev pub called_in_lefts : List Left → List ℕ
+called_in_lefts [] = []
+called_in_lefts (l ∷ ls) = called_in_left l ++ called_in_lefts ls
+
 abbrev mutual
   pub called_by : St → List ℕ
   called_by (declare sites) = []
-  called_by (assign ls es) = called_all es
-  called_by (update at q op e) = called e
-  called_by (bump q op) = []
+  called_by (assign ls es) = called_in_lefts ls ++ called_all es
+  called_by (update at q op e) = called_in_place q ++ called e
+  called_by (bump q op) = called_in_place q
   called_by (discard es) = called_all es
   called_by (block ss) = called_by_all ss
   called_by (choose e a b) = called e ++ (called_by_all a ++ called_by_all b)
   called_by (loop sites test post body) = called_in_test test ++ (called_by_all post ++ called_by_all body)
-  called_by (range over key value body) = called_in_over over ++ called_by_all body
+  called_by (range over key value body) = called_in_over over ++ (called_in_lefts (key ∷ value ∷ []) ++ called_by_all body)
   called_by break_off = []
   called_by go_on = []
   called_by (give_back es) = called_all es

@@ -10,6 +10,7 @@ use typed::{Expr, Func, Piece, Stmt, Values};
 
 /// Adds the calls in an expression.
 #[cycle(values)]
+#[tactic(auto, using(crate::proofs::Silent::place_silent))]
 fn add_expr(calls: &mut Vec<u32>, e: &Expr) -> Result<(), NoMemory>
     ensures { OnOk result (calls.new.items ≡ calls.old.items ++ called (ex_of e.now)) }
 {
@@ -106,7 +107,7 @@ fn add_test(calls: &mut Vec<u32>, test: &Option<Expr>) -> Result<(), NoMemory>
 
 /// Adds the calls in a statement.
 #[cycle(statements)]
-#[tactic(auto, using(typed::proofs::Rows::stmt_rows))]
+#[tactic(auto, using(typed::proofs::Rows::stmt_rows, crate::proofs::Silent::place_silent, crate::proofs::Silent::lefts_silent, crate::proofs::Silent::key_silent))]
 fn add_stmt(calls: &mut Vec<u32>, s: &Stmt) -> Result<(), NoMemory>
     ensures { OnOk result (calls.new.items ≡ calls.old.items ++ called_by (st_of s.now)) }
 {

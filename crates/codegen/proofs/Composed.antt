@@ -248,7 +248,7 @@ shut : (b : Bool) (x y : Outcome Event Stop) → b ≡ false → (if b then x el
 shut false x y e = refl
 shut true x y e = absurd (let f : true ≡ false = e in cc)
 
-module _ (p : Program) (code : Tables) (is : Simulated p code) (items : ℕ → Item) (numbers : AreNumbers items) (max heap_max steps : ℕ) (small : heap_max ≤ 2 ^ 32) where
+module _ (p : Program) (code : Tables) (is : Simulated p code) (items : ℕ → Item) (numbers : AreNumbers items) (max heap_max steps : ℕ) (stack : max ≤ 2 ^ 32) (small : heap_max ≤ 2 ^ 32) where
   abbrev few : Outcome Sight Ending
   few = source items p (limits p max heap_max) (steps / 16)
 
@@ -263,12 +263,12 @@ module _ (p : Program) (code : Tables) (is : Simulated p code) (items : ℕ → 
   heap = record { words = first_words p.globals; max = heap_max }
 
   few_below : Below same_event (same_end p.strings) few goal
-  few_below = is.at_least items numbers max heap_max (steps / 16) steps small (omega arith)
+  few_below = is.at_least items numbers max heap_max (steps / 16) steps stack small (omega arith)
 
   -- a run that ends before its first instruction
   at_once : (e : Stop) (old : Option (List ℕ)) → goal ≡ Ends e → (m : Met p.strings e (Ends e) turns) × Took old old (output turns)
   at_once e old same =
-      let m = met p.strings (Ends e) turns e (subst (λ o. Within p.strings o turns) same (is.at_most items numbers max heap_max steps small)) refl in
+      let m = met p.strings (Ends e) turns e (subst (λ o. Within p.strings o turns) same (is.at_most items numbers max heap_max steps stack small)) refl in
       (m, subst (λ x. Took old old x) (sym m.all) (Took-nothing old))
 
   -- where the package variables have no room
@@ -294,7 +294,7 @@ module _ (p : Program) (code : Tables) (is : Simulated p code) (items : ℕ → 
         let same : goal ≡ shown_by d = enters ∙ gated (nat_le fn.frame max) _ _ fits ∙ shows State Event Stop (act code max items) steps (first_state fn heap) in
         ran p.strings few turns d s answered old new before now
         (subst (λ o. Below same_event (same_end p.strings) few o) same few_below)
-        (subst (λ o. Within p.strings o turns) same (is.at_most items numbers max heap_max steps small)) e
+        (subst (λ o. Within p.strings o turns) same (is.at_most items numbers max heap_max steps stack small)) e
         (subst (λ (h : Words). let s0 : State = record { pc = fn.start; words = replicate fn.frame 0; reads = 0; heap = h } in Answers (many (act code max items) steps s0) s answered e old new before now) begins
         (subst (λ (ws : List ℕ). let s0 : State = record { pc = fn.start; words = ws; reads = 0; heap = first } in Answers (many (act code max items) steps s0) s answered e old new before now) zeros a))
 

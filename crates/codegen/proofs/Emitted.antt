@@ -9,16 +9,20 @@ use Rattle.isa.specs.declared.instr.BinOp.TheVariants as Word
 use Rattle.typed.specs.declared.operators.BinOp.{BinOp}
 use Rattle.typed.specs.declared.expr.Expr.{Expr}
 use Rattle.base.specs.declared.ids.SiteId.{SiteId}
+use Rattle.typed.specs.declared.expr.Place.{Place}
+use Rattle.typed.specs.declared.expr.Place.TheVariants.{Local, Global}
 use Rattle.typed.specs.declared.stmt.Left.{Left as LeftData}
+use Rattle.typed.specs.declared.stmt.Left.TheVariants.{Blank, New, To}
 use Rattle.typed.specs.declared.stmt.Piece.{Piece as PieceData}
 use Rattle.typed.specs.declared.stmt.Stmt.{Stmt}
 use Rattle.typed.specs.Frames.{far}
-use Rattle.typed.specs.Syntax.{Ex, Pl, Left, Piece, Sts, Program, both, either, more, blank, new, to, text, shown, over_int, choose, loop, range, next, wide}
-use Rattle.typed.specs.View.{ex_of, exs_of, left_of, piece_of, site_in, st_of, sts_of}
-use Rattle.codegen.specs.Frame.{left_code, param_code, temp_behind}
+use Rattle.typed.specs.Syntax.{Ex, Exs, Left, Piece, Sts, Program, both, either, more, blank, new, to, text, shown, over_int, choose, loop, range, next, wide, all_wide, value_widths}
+use Rattle.typed.specs.View.{ex_of, exs_of, left_of, piece_of, place_of, site_in, st_of, sts_of}
+use Rattle.codegen.specs.Frame.{assign_code, bump_code, left_code, param_code, temp_behind, update_code}
 use Rattle.codegen.specs.Temps.{ExsFitIn, LeftFits, LeftsFitIn, ParamFits, ParamsFitIn, PiecesFitIn, StsFitIn}
-use Rattle.simulated_code.specs.Code.{Slots, first_width, other_widths, temp, operation, params_code, read_code, write_code, lefts_code, lefts_size, renew_code, renew_size, ex_code, exs_code, pieces_code, test_code, test_size, st_code, sts_code, piece_size, size, st_size, sts_size}
-use Rattle.simulated_code.proofs.Sizes.{length_read, length_code, length_last, length_lefts, length_pieces, length_renew, length_st, length_sts, length_test}
+use Rattle.simulated_code.specs.Code.{Slots, first_width, other_widths, temp, operation, binary_code, above_address, address_code, address_size, fetch_code, land_code, params_code, lefts_above, lefts_end, lefts_code, lefts_size, lefts_sized, ready_code, renew_code, renew_size, ex_code, exs_code, pieces_code, test_code, test_size, st_code, sts_code, piece_size, size, st_size, sts_size}
+use Rattle.simulated_code.proofs.Sizes.{length_address, length_code, length_last, length_pieces, length_renew, length_st, length_sts, length_test}
+use Rattle.codegen.proofs.Alone.{key_sized, lefts_at, lefts_ready, lefts_stop}
 use Rattle.codegen.proofs.ByWidth.{first_drop, other_drop}
 
 split : (ss : List Stmt) (i : ℕ) (x : Stmt) → i < length ss → x ≡ get_or ss i x → sts_of (drop i ss) ≡ next (st_of x) (sts_of (drop (i + 1) ss))
@@ -44,28 +48,38 @@ split_params ps i none l = let one : suc i ≡ i + 1 = omega arith in ap (map si
 
 -- left sides and parameters, which go by widths
 module _ (s : Slots) where
-  lefts_first : (ns : List ℕ) (q : Left) (ls : List Left) (at h : ℕ) → lefts_code s ns (q ∷ ls) at h ≡ left_code s q at h ++ lefts_code s (other_widths ns) ls at (h + first_width ns)
-  lefts_first ns blank ls at h = refl
-  lefts_first ns (new site) ls at h = refl
-  lefts_first ns (to q) ls at h = refl
+  -- one, which as data has no operands
+  lefts_first : (ns : List ℕ) (l : LeftData) (ls : List Left) (first at h : ℕ) → lefts_code s ns (left_of l ∷ ls) first at h ≡ left_code s (left_of l) at at h ++ lefts_code s (other_widths ns) ls first at (h + first_width ns)
+  lefts_first ns Blank ls first at h = refl
+  lefts_first ns (New site) ls first at h = refl
+  lefts_first ns (To (Local site)) ls first at h = refl
+  lefts_first ns (To (Global number)) ls first at h = refl
 
   -- one alone
-  pub key_left : (key : Left) (at h : ℕ) → lefts_code s (1 ∷ []) (key ∷ []) at h ≡ left_code s key at h
-  key_left key at h = lefts_first (1 ∷ []) key [] at h ∙ append-nil (left_code s key at h)
+  pub key_left : (p : Program) (key : LeftData) (h pc v : ℕ)
+      → ready_code p s (left_of key ∷ []) h pc ++ lefts_code s (1 ∷ []) (left_of key ∷ []) h (lefts_above (left_of key ∷ []) h) v ≡ left_code s (left_of key) h h v
+  key_left p Blank h pc v = refl
+  key_left p (New site) h pc v = refl
+  key_left p (To (Local site)) h pc v = refl
+  key_left p (To (Global number)) h pc v = refl
 
-  pub length_left : (key : Left) (at h : ℕ) → length (left_code s key at h) ≡ lefts_size (key ∷ [])
-  length_left key at h = ap length (sym (key_left key at h)) ∙ length_lefts s (1 ∷ []) (key ∷ []) at h
+  pub length_left : (key : LeftData) (first at h : ℕ) → length (left_code s (left_of key) first at h) ≡ lefts_size (left_of key ∷ [])
+  length_left Blank first at h = refl
+  length_left (New site) first at h = refl
+  length_left (To (Local site)) first at h = refl
+  length_left (To (Global number)) first at h = refl
 
-  pub left_emitted : (whole code behind : List Instr) (ns : List ℕ) (ls : List LeftData) (i : ℕ) (none : LeftData) (at h after : ℕ) → i < length ls → after ≡ h + slice_index ns i
-      → whole ≡ code ++ lefts_code s (drop i ns) (map left_of (drop i ls)) at h → behind ≡ code ++ left_code s (left_of (get_or ls i none)) at h → whole ≡ behind ++ lefts_code s (drop (i + 1) ns) (map left_of (drop (i + 1) ls)) at after
-  left_emitted whole code behind ns ls i none at h after l e0 e1 e2 =
-      let rest = map left_of (drop (i + 1) ls) in let c = left_code s (left_of (get_or ls i none)) at h in
-      e1 ∙ ap (λ y. code ++ lefts_code s (drop i ns) y at h) (split_lefts ls i none l) ∙ ap (λ y. code ++ y) (lefts_first (drop i ns) (left_of (get_or ls i none)) rest at h)
-      ∙ sym (append_assoc code c (lefts_code s (other_widths (drop i ns)) rest at (h + first_width (drop i ns))))
-      ∙ ap (λ y. y ++ lefts_code s (other_widths (drop i ns)) rest at (h + first_width (drop i ns))) (sym e2)
-      ∙ ap (λ y. behind ++ lefts_code s y rest at (h + first_width (drop i ns))) (other_drop ns i)
-      ∙ ap (λ w. behind ++ lefts_code s (drop (i + 1) ns) rest at (h + w)) (first_drop ns i)
-      ∙ ap (λ k. behind ++ lefts_code s (drop (i + 1) ns) rest at k) (sym e0)
+  pub left_emitted : (whole code behind : List Instr) (ns : List ℕ) (ls : List LeftData) (i : ℕ) (none : LeftData) (first at h after : ℕ) → i < length ls → after ≡ h + slice_index ns i
+      → whole ≡ code ++ lefts_code s (drop i ns) (map left_of (drop i ls)) first at h → behind ≡ code ++ left_code s (left_of (get_or ls i none)) at at h
+      → whole ≡ behind ++ lefts_code s (drop (i + 1) ns) (map left_of (drop (i + 1) ls)) first at after
+  left_emitted whole code behind ns ls i none first at h after l e0 e1 e2 =
+      let rest = map left_of (drop (i + 1) ls) in let c = left_code s (left_of (get_or ls i none)) at at h in
+      e1 ∙ ap (λ y. code ++ lefts_code s (drop i ns) y first at h) (split_lefts ls i none l) ∙ ap (λ y. code ++ y) (lefts_first (drop i ns) (get_or ls i none) rest first at h)
+      ∙ sym (append_assoc code c (lefts_code s (other_widths (drop i ns)) rest first at (h + first_width (drop i ns))))
+      ∙ ap (λ y. y ++ lefts_code s (other_widths (drop i ns)) rest first at (h + first_width (drop i ns))) (sym e2)
+      ∙ ap (λ y. behind ++ lefts_code s y rest first at (h + first_width (drop i ns))) (other_drop ns i)
+      ∙ ap (λ w. behind ++ lefts_code s (drop (i + 1) ns) rest first at (h + w)) (first_drop ns i)
+      ∙ ap (λ k. behind ++ lefts_code s (drop (i + 1) ns) rest first at k) (sym e0)
 
   pub lefts_split : (n at h : ℕ) (ns : List ℕ) (ls : List LeftData) (i : ℕ) (none : LeftData) → i < length ls → LeftsFitIn s n at h (drop i ns) (map left_of (drop i ls))
       → (h + slice_index ns i ≤ s.temps) × LeftFits s n at (left_of (get_or ls i none)) × LeftsFitIn s n at (h + slice_index ns i) (drop (i + 1) ns) (map left_of (drop (i + 1) ls))
@@ -100,14 +114,15 @@ module _ (s : Slots) where
       (g.0, subst (λ y. ParamsFitIn s n y (map site_in (drop (i + 1) ps))) (other_drop ns i) g.2)
 
 module _ (p : Program) (s : Slots) where
-  pub binary_emitted : (old c1 c2 c3 : List Instr) (o : BinOp) (a b : Ex) (h : ℕ) → c1 ≡ old ++ ex_code p s a h (length old) → c2 ≡ c1 ++ ex_code p s b (h + 1) (length c1)
-      → c3 ≡ c2 ++ Bin (operation o) (temp s h) (temp s h) (temp s (h + 1)) ∷ []
-      → c3 ≡ old ++ (ex_code p s a h (length old) ++ (ex_code p s b (h + 1) (length old + size p a) ++ Bin (operation o) (temp s h) (temp s h) (temp s (h + 1)) ∷ []))
-  binary_emitted old c1 c2 c3 o a b h e1 e2 e3 =
-      let pb = length old + size p a in
+  pub binary_emitted : (old c1 c2 c3 : List Instr) (o : BinOp) (a b : Ex) (h n : ℕ) → n ≡ wide p a → c1 ≡ old ++ ex_code p s a h (length old) → c2 ≡ c1 ++ ex_code p s b (h + n) (length c1)
+      → c3 ≡ c2 ++ binary_code o n (temp s h) (temp s (h + n)) ∷ []
+      → c3 ≡ old ++ (ex_code p s a h (length old) ++ (ex_code p s b (h + wide p a) (length old + size p a) ++ binary_code o (wide p a) (temp s h) (temp s (h + wide p a)) ∷ []))
+  binary_emitted old c1 c2 c3 o a b h n e0 e1 e2 e3 =
+      let pb = length old + size p a in let w = wide p a in
       let n1 : length c1 ≡ pb = ap length e1 ∙ omega (arith, length-append old (ex_code p s a h (length old)), length_code p s a h (length old)) in
-      let f2 : c2 ≡ c1 ++ ex_code p s b (h + 1) pb = e2 ∙ ap (λ place. c1 ++ ex_code p s b (h + 1) place) n1 in
-      let all : c3 ≡ ((old ++ ex_code p s a h (length old)) ++ ex_code p s b (h + 1) pb) ++ Bin (operation o) (temp s h) (temp s h) (temp s (h + 1)) ∷ [] = cc in
+      let f2 : c2 ≡ c1 ++ ex_code p s b (h + w) pb = e2 ∙ ap (λ place. c1 ++ ex_code p s b (h + n) place) n1 ∙ ap (λ k. c1 ++ ex_code p s b (h + k) pb) e0 in
+      let f3 : c3 ≡ c2 ++ binary_code o w (temp s h) (temp s (h + w)) ∷ [] = e3 ∙ ap (λ k. c2 ++ binary_code o k (temp s h) (temp s (h + k)) ∷ []) e0 in
+      let all : c3 ≡ ((old ++ ex_code p s a h (length old)) ++ ex_code p s b (h + w) pb) ++ binary_code o w (temp s h) (temp s (h + w)) ∷ [] = cc in
       all ∙ simp append_assoc
 
   pub both_emitted : (old c1 c2 c3 : List Instr) (a b : Ex) (h : ℕ) → c1 ≡ old ++ ex_code p s a h (length old) → c2 ≡ c1 ++ JumpZero (temp s h) (length c1 + 1 + size p b) ∷ []
@@ -178,16 +193,62 @@ module _ (p : Program) (s : Slots) where
       by (text number) g = g
       by (shown t e) g = g.2
 
-  pub update_emitted : (old c1 c2 c3 c4 : List Instr) (place : Pl) (o : Instr) (e : Ex) (h : ℕ) → c1 ≡ old ++ read_code s place h → c2 ≡ c1 ++ ex_code p s e (h + 1) (length c1) → c3 ≡ c2 ++ o ∷ [] → c4 ≡ c3 ++ write_code s place (h + 1) h
-      → c4 ≡ old ++ (read_code s place h ++ (ex_code p s e (h + 1) (length old + (far place + 1)) ++ o ∷ write_code s place (h + 1) h))
-  update_emitted old c1 c2 c3 c4 place o e h e1 e2 e3 e4 =
-      let n1 : length c1 ≡ length old + (far place + 1) = ap length e1 ∙ omega (arith, length-append old (read_code s place h), length_read s place h) in
-      let ce = ex_code p s e (h + 1) (length old + (far place + 1)) in
-      let f1 : c1 ++ ce ≡ old ++ (read_code s place h ++ ce) = ap (λ c. c ++ ce) e1 ∙ append_assoc old (read_code s place h) ce in
-      let f2 : c2 ≡ old ++ (read_code s place h ++ ce) = e2 ∙ ap (λ q. c1 ++ ex_code p s e (h + 1) q) n1 ∙ f1 in
-      let w = write_code s place (h + 1) h in
-      let f3 : c4 ≡ ((old ++ (read_code s place h ++ ce)) ++ o ∷ []) ++ w = e4 ∙ ap (λ c. c ++ w) (e3 ∙ ap (λ c. c ++ o ∷ []) f2) in
-      f3 ∙ append_assoc (old ++ (read_code s place h ++ ce)) (o ∷ []) w ∙ append_assoc old (read_code s place h ++ ce) (o ∷ w) ∙ ap (λ l. old ++ l) (append_assoc (read_code s place h) ce (o ∷ w))
+  -- left sides and places as data, with no operands before them
+  assign_alone : (ls : List LeftData) (es : Exs) (h pc : ℕ) → assign_code p s (map left_of ls) es h pc ≡ exs_code p s es h pc ++ lefts_code s (value_widths p es) (map left_of ls) h (h + all_wide p es) h
+  assign_alone ls es h pc =
+      let ns = value_widths p es in let qs = map left_of ls in let first = lefts_above qs h in let words = all_wide p es in
+      ap (λ is. is ++ (exs_code p s es first (lefts_end p qs pc) ++ lefts_code s ns qs h (first + words) first)) (lefts_ready p s ls h pc)
+      ∙ ap (λ k. exs_code p s es k (lefts_end p qs pc) ++ lefts_code s ns qs h (k + words) k) (lefts_at ls h)
+      ∙ ap (λ place. exs_code p s es h place ++ lefts_code s ns qs h (h + words) h) (lefts_stop p ls pc)
+
+  pub assign_emitted : (old c1 c2 : List Instr) (ls : List LeftData) (es : Exs) (h behind : ℕ) → behind ≡ h + all_wide p es → c1 ≡ old ++ exs_code p s es h (length old)
+      → c2 ≡ c1 ++ lefts_code s (value_widths p es) (map left_of ls) h behind h → c2 ≡ old ++ assign_code p s (map left_of ls) es h (length old)
+  assign_emitted old c1 c2 ls es h behind e0 e1 e2 =
+      let cs = exs_code p s es h (length old) in let cl = lefts_code s (value_widths p es) (map left_of ls) h (h + all_wide p es) h in
+      e2 ∙ ap (λ k. c1 ++ lefts_code s (value_widths p es) (map left_of ls) h k h) e0 ∙ ap (λ c. c ++ cl) e1 ∙ append_assoc old cs cl ∙ ap (λ is. old ++ is) (sym (assign_alone ls es h (length old)))
+
+  update_alone : (q : Place) (o : BinOp) (e : Ex) (h pc : ℕ) → update_code p s (place_of q) o e h pc
+      ≡ (let v = above_address (far (place_of q)) h in
+      address_code s (place_of q) h h
+      ++ fetch_code s (place_of q) h v ∷ (ex_code p s e (v + 1) (pc + (address_size (place_of q) + 1)) ++ Bin (operation o) (temp s v) (temp s v) (temp s (v + 1)) ∷ (land_code s (place_of q) h v ∷ [])))
+  update_alone (Local site) o e h pc = refl
+  update_alone (Global number) o e h pc = refl
+
+  pub update_emitted : (old c1 c2 c3 c4 c5 : List Instr) (q : Place) (o : BinOp) (e : Ex) (h v : ℕ) → v ≡ above_address (far (place_of q)) h
+      → c1 ≡ old ++ address_code s (place_of q) h h → c2 ≡ c1 ++ fetch_code s (place_of q) h v ∷ [] → c3 ≡ c2 ++ ex_code p s e (v + 1) (length c2)
+      → c4 ≡ c3 ++ Bin (operation o) (temp s v) (temp s v) (temp s (v + 1)) ∷ [] → c5 ≡ c4 ++ land_code s (place_of q) h v ∷ []
+      → c5 ≡ old ++ update_code p s (place_of q) o e h (length old)
+  update_emitted old c1 c2 c3 c4 c5 q o e h v e0 e1 e2 e3 e4 e5 =
+      let a = address_code s (place_of q) h h in let pe = length old + (address_size (place_of q) + 1) in
+      let n1 : length c1 ≡ length old + address_size (place_of q) = ap length e1 ∙ omega (arith, length-append old a, length_address s (place_of q) h h) in
+      let n2 : length c2 ≡ pe = ap length e2 ∙ omega (arith, n1, length_last c1 (fetch_code s (place_of q) h v)) in
+      let f3 : c3 ≡ c2 ++ ex_code p s e (v + 1) pe = e3 ∙ ap (λ place. c2 ++ ex_code p s e (v + 1) place) n2 in
+      let op = Bin (operation o) (temp s v) (temp s v) (temp s (v + 1)) in
+      let all : c5 ≡ ((((old ++ a) ++ fetch_code s (place_of q) h v ∷ []) ++ ex_code p s e (v + 1) pe) ++ op ∷ []) ++ land_code s (place_of q) h v ∷ [] = cc in
+      let flat : c5 ≡ old ++ (a ++ fetch_code s (place_of q) h v ∷ (ex_code p s e (v + 1) pe ++ op ∷ (land_code s (place_of q) h v ∷ []))) = all ∙ simp append_assoc in
+      flat
+      ∙ ap (λ k. old ++ (a ++ fetch_code s (place_of q) h k ∷ (ex_code p s e (k + 1) pe ++ Bin (operation o) (temp s k) (temp s k) (temp s (k + 1)) ∷ (land_code s (place_of q) h k ∷ [])))) e0
+      ∙ ap (λ is. old ++ is) (sym (update_alone q o e h (length old)))
+
+  bump_alone : (q : Place) (o : BinOp) (h pc : ℕ) → bump_code p s (place_of q) o h pc
+      ≡ (let v = above_address (far (place_of q)) h in
+      address_code s (place_of q) h h
+      ++ fetch_code s (place_of q) h v ∷ (Const (temp s (v + 1)) 1 ∷ (Bin (operation o) (temp s v) (temp s v) (temp s (v + 1)) ∷ (land_code s (place_of q) h v ∷ []))))
+  bump_alone (Local site) o h pc = refl
+  bump_alone (Global number) o h pc = refl
+
+  pub bump_emitted : (old c1 c2 c3 c4 c5 : List Instr) (q : Place) (o : BinOp) (h v : ℕ) → v ≡ above_address (far (place_of q)) h
+      → c1 ≡ old ++ address_code s (place_of q) h h → c2 ≡ c1 ++ fetch_code s (place_of q) h v ∷ [] → c3 ≡ c2 ++ Const (temp s (v + 1)) 1 ∷ []
+      → c4 ≡ c3 ++ Bin (operation o) (temp s v) (temp s v) (temp s (v + 1)) ∷ [] → c5 ≡ c4 ++ land_code s (place_of q) h v ∷ []
+      → c5 ≡ old ++ bump_code p s (place_of q) o h (length old)
+  bump_emitted old c1 c2 c3 c4 c5 q o h v e0 e1 e2 e3 e4 e5 =
+      let a = address_code s (place_of q) h h in let one = Const (temp s (v + 1)) 1 in
+      let op = Bin (operation o) (temp s v) (temp s v) (temp s (v + 1)) in
+      let all : c5 ≡ ((((old ++ a) ++ fetch_code s (place_of q) h v ∷ []) ++ one ∷ []) ++ op ∷ []) ++ land_code s (place_of q) h v ∷ [] = cc in
+      let flat : c5 ≡ old ++ (a ++ fetch_code s (place_of q) h v ∷ (one ∷ (op ∷ (land_code s (place_of q) h v ∷ [])))) = all ∙ simp append_assoc in
+      flat
+      ∙ ap (λ k. old ++ (a ++ fetch_code s (place_of q) h k ∷ (Const (temp s (k + 1)) 1 ∷ (Bin (operation o) (temp s k) (temp s k) (temp s (k + 1)) ∷ (land_code s (place_of q) h k ∷ []))))) e0
+      ∙ ap (λ is. old ++ is) (sym (bump_alone q o h (length old)))
 
 module _ (p : Program) (arguments : ℕ) (named : List ℕ) (s : Slots) where
   abbrev code_at : Sts → (h out again pc : ℕ) → List Instr
@@ -242,26 +303,28 @@ module _ (p : Program) (arguments : ℕ) (named : List ℕ) (s : Slots) where
       let all : c5 ≡ ((((old ++ test_code p s test h pc pb) ++ code_at body h pb pt pi) ++ renew_code s sites h) ++ code_at post h pb pt pp) ++ Jump pc ∷ [] = cc in
       all ∙ simp append_assoc
 
-  pub count_emitted : (old c1 c2 c3 c4 : List Instr) (e : Ex) (key value : Left) (body : Sts) (start test turn behind h out again : ℕ) → start ≡ length old → test ≡ start + size p e + 1
-      → turn ≡ test + 2 + lefts_size (key ∷ []) + long body → behind ≡ turn + 3 → c1 ≡ old ++ (ex_code p s e h (length old) ++ Const (temp s (h + 1)) 0 ∷ [])
-      → c2 ≡ c1 ++ Bin Word.Less (temp s (h + 2)) (temp s (h + 1)) (temp s h) ∷ JumpZero (temp s (h + 2)) behind ∷ left_code s key (h + 2) (h + 1) → c3 ≡ c2 ++ code_at body (h + 2) behind turn (length c2)
-      → c4 ≡ c3 ++ Const (temp s (h + 2)) 1 ∷ Bin Word.Add (temp s (h + 1)) (temp s (h + 1)) (temp s (h + 2)) ∷ Jump test ∷ [] → c4 ≡ old ++ st_code p arguments named s (range (over_int e) key value body) h out again (length old)
+  pub count_emitted : (old c1 c2 c3 c4 : List Instr) (e : Ex) (key : LeftData) (value : Left) (body : Sts) (start test turn behind h out again : ℕ) → start ≡ length old → test ≡ start + size p e + 1
+      → turn ≡ test + 2 + lefts_size (left_of key ∷ []) + long body → behind ≡ turn + 3 → c1 ≡ old ++ (ex_code p s e h (length old) ++ Const (temp s (h + 1)) 0 ∷ [])
+      → c2 ≡ c1 ++ Bin Word.Less (temp s (h + 2)) (temp s (h + 1)) (temp s h) ∷ JumpZero (temp s (h + 2)) behind ∷ left_code s (left_of key) (h + 2) (h + 2) (h + 1) → c3 ≡ c2 ++ code_at body (h + 2) behind turn (length c2)
+      → c4 ≡ c3 ++ Const (temp s (h + 2)) 1 ∷ Bin Word.Add (temp s (h + 1)) (temp s (h + 1)) (temp s (h + 2)) ∷ Jump test ∷ []
+      → c4 ≡ old ++ st_code p arguments named s (range (over_int e) (left_of key) value body) h out again (length old)
   count_emitted old c1 c2 c3 c4 e key value body start test turn behind h out again es et eu eb e1 e2 e3 e4 =
       let pc = length old in
-      let pt = pc + size p e + 1 in let pi = pt + 2 + lefts_size (key ∷ []) in let pu = pi + long body in let pb = pu + 3 in
+      let sized = key_sized p key (lefts_size (left_of key ∷ [])) in
+      let pt = pc + size p e + 1 in let pi = pt + 2 + lefts_sized p (left_of key ∷ []) (lefts_size (left_of key ∷ [])) in let pu = pi + long body in let pb = pu + 3 in
       let less = Bin Word.Less (temp s (h + 2)) (temp s (h + 1)) (temp s h) in
       let zero = Const (temp s (h + 1)) 0 in
-      let lefts = left_code s key (h + 2) (h + 1) in
+      let lefts = left_code s (left_of key) (h + 2) (h + 2) (h + 1) in
       let one = Const (temp s (h + 2)) 1 in let sum = Bin Word.Add (temp s (h + 1)) (temp s (h + 1)) (temp s (h + 2)) in
       let t : test ≡ pt = omega (arith, es, et) in
-      let u : turn ≡ pu = omega (arith, t, eu) in
+      let u : turn ≡ pu = omega (arith, t, eu, sized) in
       let b : behind ≡ pb = omega (arith, u, eb) in
       let n1 : length c1 ≡ pt = ap length e1 ∙ omega (arith, length-append old (ex_code p s e h pc ++ zero ∷ []), length_last (ex_code p s e h pc) zero, length_code p s e h pc) in
       let two : length (less ∷ JumpZero (temp s (h + 2)) behind ∷ lefts) ≡ suc (suc (length lefts)) = refl in
-      let n2 : length c2 ≡ pi = ap length e2 ∙ omega (arith, n1, two, length-append c1 (less ∷ JumpZero (temp s (h + 2)) behind ∷ lefts), length_left s key (h + 2) (h + 1)) in
+      let n2 : length c2 ≡ pi = ap length e2 ∙ omega (arith, n1, two, sized, length-append c1 (less ∷ JumpZero (temp s (h + 2)) behind ∷ lefts), length_left s key (h + 2) (h + 2) (h + 1)) in
       let f2 : c2 ≡ c1 ++ less ∷ JumpZero (temp s (h + 2)) pb ∷ lefts = e2 ∙ ap (λ place. c1 ++ less ∷ JumpZero (temp s (h + 2)) place ∷ lefts) b in
       let f3 : c3 ≡ c2 ++ code_at body (h + 2) pb pu pi = e3 ∙ ap (λ place. c2 ++ code_at body (h + 2) behind turn place) n2 ∙ ap (λ place. c2 ++ code_at body (h + 2) place turn pi) b ∙ ap (λ place. c2 ++ code_at body (h + 2) pb place pi) u in
       let f4 : c4 ≡ c3 ++ one ∷ sum ∷ Jump pt ∷ [] = e4 ∙ ap (λ place. c3 ++ one ∷ sum ∷ Jump place ∷ []) t in
       let all : c4 ≡ (((old ++ (ex_code p s e h pc ++ zero ∷ [])) ++ less ∷ JumpZero (temp s (h + 2)) pb ∷ lefts) ++ code_at body (h + 2) pb pu pi) ++ one ∷ sum ∷ Jump pt ∷ [] = cc in
       let flat : c4 ≡ old ++ (ex_code p s e h pc ++ (zero ∷ less ∷ JumpZero (temp s (h + 2)) pb ∷ (lefts ++ (code_at body (h + 2) pb pu pi ++ one ∷ sum ∷ Jump pt ∷ [])))) = all ∙ simp append_assoc in
-      flat ∙ ap (λ l. old ++ (ex_code p s e h pc ++ (zero ∷ less ∷ JumpZero (temp s (h + 2)) pb ∷ (l ++ (code_at body (h + 2) pb pu pi ++ one ∷ sum ∷ Jump pt ∷ []))))) (sym (key_left s key (h + 2) (h + 1)))
+      flat ∙ ap (λ l. old ++ (ex_code p s e h pc ++ (zero ∷ less ∷ JumpZero (temp s (h + 2)) pb ∷ (l ++ (code_at body (h + 2) pb pu pi ++ one ∷ sum ∷ Jump pt ∷ []))))) (sym (key_left s p key (h + 2) (pt + 2) (h + 1)))

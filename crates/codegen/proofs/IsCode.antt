@@ -6,19 +6,24 @@ use Rattle.isa.specs.Code.{Tables, CanCall, Fits as FitsAt, FitsPlace, IsCode, I
 use Rattle.isa.specs.declared.func.Func.{Func as Entry}
 use Rattle.isa.specs.declared.instr.Instr.{Instr}
 use Rattle.isa.specs.declared.instr.BinOp.TheVariants as Word
-use Rattle.isa.specs.declared.instr.Instr.TheVariants.{Const, Zero, Move, MoveWords, Same, Differ, Bin, Un, Jump, JumpZero, Call, Argument, ArgumentWords, SetResults, Load, Store, Address, Offset, ReadInt, PrintInt, PrintBool, PrintText, PrintSpace, PrintLine, Return, Exit, PanicText, PanicInt, PanicBool}
+use Rattle.isa.specs.declared.instr.Instr.TheVariants.{Const, Zero, Move, MoveWords, Same, Differ, Bin, Un, Jump, JumpZero, Call, Argument, ArgumentWords, SetResults, Load, Store, Address, Offset, Index, ReadInt, PrintInt, PrintBool, PrintText, PrintSpace, PrintLine, Return, Exit, PanicText, PanicInt, PanicBool}
 use Rattle.machine.specs.Inside.{Inside}
+use Rattle.typed.specs.declared.operators.BinOp.{BinOp}
+use Rattle.typed.specs.declared.operators.BinOp.TheVariants.{Add, Sub, Mul, Div, Rem, And, Or, Xor, AndNot, ShiftLeft, ShiftRight, Equal, NotEqual, Less, LessEqual, Greater, GreaterEqual}
 use Rattle.typed.specs.declared.operators.UnOp.{UnOp}
 use Rattle.typed.specs.declared.operators.UnOp.TheVariants as One
-use Rattle.value_trees.specs.Types.{ValueType, ints, bools, struct_of, array_of, width}
-use Rattle.typed.specs.Syntax.{Ex, Exs, Steps, Pl, Left, Piece, St, Sts, Func, Program, constant, read, unary, binary, both, either, call, local, global, none, more, results, asked, blank, new, to, text, shown, over_int, declare, assign, update, bump, discard, block, choose, loop, range, break_off, go_on, give_back, print, raise, quit, done, next, all_width, each_width, arguments_in, results_in, argument_words, result_words, arguments_of, results_of, site_width, path_of, wide, all_wide, value_widths}
+use Rattle.value_trees.specs.Types.{ValueType, ints, bools, struct_of, array_of, width, part_type, part_offset}
+use Rattle.value_trees.specs.Paths.{offset}
+use Rattle.typed.specs.Syntax.{Ex, Exs, Steps, here, inner, at_index, Pl, Left, Piece, St, Sts, Func, Program, constant, read, unary, binary, both, either, call, part_of, literal, Elements, no_elements, element, local, global, none, more, results, asked, blank, new, to, text, shown, over_int, declare, assign, update, bump, discard, block, choose, loop, range, break_off, go_on, give_back, print, raise, quit, done, next, all_width, each_width, arguments_in, results_in, argument_words, result_words, arguments_of, results_of, site_width, path_of, wide, all_wide, value_widths, ascend, words_through, gap_behind}
 use Rattle.typed.specs.Form.{scope_in, body_first, IsInForm}
-use Rattle.typed.specs.Frames.{far, words_between, frame_of}
-use Rattle.codegen.specs.Temps.{SiteFits, PlaceFits, AddressFits, SitesFit, sites_words, reached, ParamsFitIn, LeftsFitIn, ValuesFit, RenewFits, CallFits, Fits, ExsFitIn, PiecesFitIn, TestFitsIn, StFitsIn, StsFitIn, FuncFitsIn}
-use Rattle.simulated_code.specs.Code.{Slots, temp, site_slot, part_slot, part_words, moves, zeros, first_width, other_widths, operation, unary_code, address_code, fetch_code, land_code, read_code, write_code, move_code, result_code, call_code, ex_code, exs_code, pieces_code, test_code, shown_code, raised_code, show_more, show_plain, show_code, lefts_code, lefts_size, named_write_code, named_read_code, leave_code, values_code, params_code, zeros_code, renew_code, renew_size, size, exs_size, pieces_size, test_size, st_size, sts_size, st_code, sts_code, slots_of, entry_code, entry_size, func_code, func_size, entry_of, funcs_code, funcs_owners, funcs_entries, code_of}
-use Rattle.simulated_code.proofs.Sizes.{length_func}
+use Rattle.typed.specs.Frames.{far, steps_far, words_between, frame_of}
+use Rattle.codegen.specs.Temps.{SiteFits, IndicesFit, PlaceFits, AddressFits, SitesFit, sites_words, reached, ParamsFitIn, LeftFits, LeftsFitIn, ValuesFit, RenewFits, CallFits, Fits, OperandsFit, StepsFitIn, ElementsFitIn, ExsFitIn, ReadyFitIn, PiecesFitIn, TestFitsIn, StFitsIn, StsFitIn, FuncFitsIn}
+use Rattle.simulated_code.specs.Code.{Slots, temp, site_slot, part_slot, part_words, moves, zeros, first_width, other_widths, operation, binary_code, unary_code, gap_code, gap_size, above_address, steps_above, place_above, lefts_above, index_code, steps_address, address_code, address_size, fetch_part, fetch_code, land_part, land_code, read_code, write_code, move_code, result_code, call_code, ex_code, exs_code, place_code, steps_code, elements_code, ready_code, place_size, steps_size, steps_end, place_end, elements_size, lefts_sized, lefts_end, pieces_code, test_code, shown_code, raised_code, show_more, show_plain, show_code, lefts_code, lefts_size, named_write_code, named_read_code, leave_code, values_code, params_code, zeros_code, renew_code, renew_size, size, exs_size, pieces_size, test_size, st_size, sts_size, st_code, sts_code, slots_of, entry_code, entry_size, func_code, func_size, entry_of, funcs_code, funcs_owners, funcs_entries, code_of}
+use Rattle.simulated_code.proofs.Rooms.{steps_from}
+use Rattle.simulated_code.proofs.Sizes.{length_func, place_sum, place_ends, lefts_sum, lefts_ends}
 use Rattle.simulated_code.proofs.Stands.{same_some, start_of, some_size, length_owners, stands, located, entered_from, exists}
 use Rattle.codegen.proofs.InSlots.{site_within}
+use Rattle.codegen.proofs.Operands.{above_sum, lefts_from}
 use Rattle.codegen.proofs.Suffice.{func_fits}
 use Rattle.codegen.proofs.Within.{PiecesWithin, StWithin, StsWithin, sts_within}
 
@@ -44,6 +49,7 @@ module _ (fns : List Entry) (strings slots incoming start end : ℕ) where
   Ok (Store a off c n) = (1 ≤ n) × (a < slots) × (c + n ≤ slots)
   Ok (Address a b) = (a < slots) × (b < slots)
   Ok (Offset a b off) = (a < slots) × (b < slots)
+  Ok (Index a b c len w) = (1 ≤ len) × (1 ≤ w) × (a < slots) × (b < slots) × (c < slots)
   Ok (PrintInt a) = a < slots
   Ok (PrintBool a) = a < slots
   Ok (PrintText number) = number < strings
@@ -116,47 +122,88 @@ module _ (p : Program) (solid : (site : ℕ) → 0 < site_width p site) (outgoin
   unary_ok One.Complement h l = ((omega arith, omega arith), tt)
   unary_ok One.Not h l = ((omega arith, omega arith), tt)
 
-  address_ok : (q : Pl) (at : ℕ) (is : List Instr) → AddressFits temps at q → Are is → Are (address_code s q at ++ is)
-  address_ok (local site steps) at is a g = g
-  address_ok (global number steps) at is a g = (omega arith, g)
+  gap_ok : (m a : ℕ) → a + m ≤ room → Are (gap_code m a)
+  gap_ok zero a l = tt
+  gap_ok (suc m) a l = zeroed_ok (suc m) a [] (omega arith) l tt
+
+  binary_ok : (op : BinOp) (m a b : ℕ) → 0 < m → a + m ≤ room → b + m ≤ room → Are (binary_code op m a b ∷ [])
+  binary_ok Equal zero a b some f g = absurd (omega (arith, some))
+  binary_ok Equal (suc zero) a b some f g = ((omega (arith, f), omega (arith, f), omega (arith, g)), tt)
+  binary_ok Equal (suc (suc m)) a b some f g = ((omega arith, omega (arith, f), f, g), tt)
+  binary_ok NotEqual zero a b some f g = absurd (omega (arith, some))
+  binary_ok NotEqual (suc zero) a b some f g = ((omega (arith, f), omega (arith, f), omega (arith, g)), tt)
+  binary_ok NotEqual (suc (suc m)) a b some f g = ((omega arith, omega (arith, f), f, g), tt)
+  binary_ok Add m a b some f g = ((omega (arith, some, f), omega (arith, some, f), omega (arith, some, g)), tt)
+  binary_ok Sub m a b some f g = ((omega (arith, some, f), omega (arith, some, f), omega (arith, some, g)), tt)
+  binary_ok Mul m a b some f g = ((omega (arith, some, f), omega (arith, some, f), omega (arith, some, g)), tt)
+  binary_ok Div m a b some f g = ((omega (arith, some, f), omega (arith, some, f), omega (arith, some, g)), tt)
+  binary_ok Rem m a b some f g = ((omega (arith, some, f), omega (arith, some, f), omega (arith, some, g)), tt)
+  binary_ok And m a b some f g = ((omega (arith, some, f), omega (arith, some, f), omega (arith, some, g)), tt)
+  binary_ok Or m a b some f g = ((omega (arith, some, f), omega (arith, some, f), omega (arith, some, g)), tt)
+  binary_ok Xor m a b some f g = ((omega (arith, some, f), omega (arith, some, f), omega (arith, some, g)), tt)
+  binary_ok AndNot m a b some f g = ((omega (arith, some, f), omega (arith, some, f), omega (arith, some, g)), tt)
+  binary_ok ShiftLeft m a b some f g = ((omega (arith, some, f), omega (arith, some, f), omega (arith, some, g)), tt)
+  binary_ok ShiftRight m a b some f g = ((omega (arith, some, f), omega (arith, some, f), omega (arith, some, g)), tt)
+  binary_ok Less m a b some f g = ((omega (arith, some, f), omega (arith, some, f), omega (arith, some, g)), tt)
+  binary_ok LessEqual m a b some f g = ((omega (arith, some, f), omega (arith, some, f), omega (arith, some, g)), tt)
+  binary_ok Greater m a b some f g = ((omega (arith, some, f), omega (arith, some, f), omega (arith, some, g)), tt)
+  binary_ok GreaterEqual m a b some f g = ((omega (arith, some, f), omega (arith, some, f), omega (arith, some, g)), tt)
+
+  -- the indices of a place, in temps from `first` on, and its address in temp `at`
+  index_ok : (t : ValueType) (steps : Steps) (first at : ℕ) (is : List Instr) → at < temps → steps_above steps first ≤ temps → IndicesFit t steps → Are is → Are (index_code s t steps first at ++ is)
+  index_ok t here first at is a l f g = g
+  index_ok t (inner i steps) first at is a l f g = index_ok (part_type t i) steps first at is a l f g
+  index_ok t (at_index place e m steps) first at is a l f g =
+      let k = steps_from p (first + 1) steps in
+      ((f.0, f.1, omega (arith, a), omega (arith, a), omega (arith, k, l)), index_ok (part_type t 0) steps (first + 1) at is a l f.2 g)
+
+  steps_address_ok : (slot : ℕ) (t : ValueType) (steps : Steps) (first at : ℕ) (is : List Instr) → at + steps_far steps ≤ temps → steps_above steps first ≤ temps → IndicesFit t steps → slot + offset t (path_of steps) < room
+      → Are is → Are (steps_address s slot t steps first at ++ is)
+  steps_address_ok slot t here first at is a l f r g = g
+  steps_address_ok slot t (inner i steps) first at is a l f r g = steps_address_ok (slot + part_offset t i) (part_type t i) steps first at is a l f (omega (arith, r)) g
+  steps_address_ok slot t (at_index place e m steps) first at is a l f r g = ((omega (arith, a), omega (arith, r)), index_ok t (at_index place e m steps) first at is (omega (arith, a)) l f g)
 
   -- a part of a variable is in its slots
   part_in : (site : ℕ) (steps : Steps) → PlaceFits s n (local site steps) → part_slot s site (path_of steps) + part_words s site (path_of steps) ≤ room
   part_in site steps f = let l = site_in site f.0 in let k = f.2 in omega (arith, l, k)
 
+  address_ok : (q : Pl) (first at : ℕ) (is : List Instr) → AddressFits temps at q → place_above q first ≤ temps → PlaceFits s n q → Are is → Are (address_code s q first at ++ is)
+  address_ok (local site steps) first at is a l f g =
+      let k = part_in site steps f in let some = f.1 in steps_address_ok (site_slot s site) (site_type p site) steps first at is a l f.3 (omega (arith, k, some)) g
+  address_ok (global number steps) first at is a l f g = (omega (arith, a), g)
+
+  fetch_part_ok : (site : ℕ) (steps : Steps) (k at h : ℕ) (is : List Instr) → h + part_words s site (path_of steps) ≤ temps → PlaceFits s n (local site steps) → at + k ≤ temps → Are is → Are (fetch_part s site steps k at h ∷ is)
+  fetch_part_ok site steps zero at h is l f a g = moves_ok (part_words s site (path_of steps)) (temp s h) (part_slot s site (path_of steps)) is f.1 (omega (arith, l)) (part_in site steps f) g
+  fetch_part_ok site steps (suc k) at h is l f a g = ((f.1, omega (arith, l), omega (arith, a)), g)
+
+  land_part_ok : (site : ℕ) (steps : Steps) (k at h : ℕ) (is : List Instr) → h + part_words s site (path_of steps) ≤ temps → PlaceFits s n (local site steps) → at + k ≤ temps → Are is → Are (land_part s site steps k at h ∷ is)
+  land_part_ok site steps zero at h is l f a g = moves_ok (part_words s site (path_of steps)) (part_slot s site (path_of steps)) (temp s h) is f.1 (part_in site steps f) (omega (arith, l)) g
+  land_part_ok site steps (suc k) at h is l f a g = ((f.1, omega (arith, a), omega (arith, l)), g)
+
   fetch_ok : (q : Pl) (at h : ℕ) (is : List Instr) → h + reached s q ≤ temps → PlaceFits s n q → AddressFits temps at q → Are is → Are (fetch_code s q at h ∷ is)
-  fetch_ok (local site steps) at h is l f a g = moves_ok (part_words s site (path_of steps)) (temp s h) (part_slot s site (path_of steps)) is f.1 (omega (arith, l)) (part_in site steps f) g
-  fetch_ok (global number steps) at h is l f a g = ((omega arith, omega arith, omega arith), g)
+  fetch_ok (local site steps) at h is l f a g = fetch_part_ok site steps (steps_far steps) at h is l f a g
+  fetch_ok (global number steps) at h is l f a g = ((omega arith, omega (arith, l), omega (arith, a)), g)
 
   land_ok : (q : Pl) (at h : ℕ) (is : List Instr) → h + reached s q ≤ temps → PlaceFits s n q → AddressFits temps at q → Are is → Are (land_code s q at h ∷ is)
-  land_ok (local site steps) at h is l f a g = moves_ok (part_words s site (path_of steps)) (part_slot s site (path_of steps)) (temp s h) is f.1 (part_in site steps f) (omega (arith, l)) g
-  land_ok (global number steps) at h is l f a g = ((omega arith, omega arith, omega arith), g)
+  land_ok (local site steps) at h is l f a g = land_part_ok site steps (steps_far steps) at h is l f a g
+  land_ok (global number steps) at h is l f a g = ((omega arith, omega (arith, a), omega (arith, l)), g)
 
-  -- a temp can have an address
-  room_at : (q : Pl) (h : ℕ) → h + reached s q ≤ temps → AddressFits temps h q
-  room_at (local site steps) h l = tt
-  room_at (global number steps) h l = omega arith
+  -- the address of a place behind its operands, which are in temps from h on
+  read_ok : (q : Pl) (h : ℕ) → h + reached s q ≤ temps → PlaceFits s n q → AddressFits temps (place_above q h) q → Are (read_code s q (place_above q h) h)
+  read_ok q h l f a = address_ok q h (place_above q h) (fetch_code s q (place_above q h) h ∷ []) a (omega (arith, a)) f (fetch_ok q (place_above q h) h [] l f a tt)
 
-  read_ok : (q : Pl) (h : ℕ) → h + reached s q ≤ temps → PlaceFits s n q → Are (read_code s q h)
-  read_ok q h l f = address_ok q h (fetch_code s q h h ∷ []) (room_at q h l) (fetch_ok q h h [] l f (room_at q h l) tt)
-
-  write_ok : (q : Pl) (at h : ℕ) → h + reached s q ≤ temps → PlaceFits s n q → AddressFits temps at q → Are (write_code s q at h)
-  write_ok q at h l f a = address_ok q at (land_code s q at h ∷ []) a (land_ok q at h [] l f a tt)
-
-  -- an address in a temp above a word
-  above_ok : (q : Pl) (h : ℕ) → h < temps → AddressFits temps h q
-  above_ok (local site steps) h l = tt
-  above_ok (global number steps) h l = l
+  write_ok : (q : Pl) (first at h : ℕ) → h + reached s q ≤ temps → PlaceFits s n q → AddressFits temps at q → place_above q first ≤ temps → Are (write_code s q first at h)
+  write_ok q first at h l f a b = address_ok q first at (land_code s q at h ∷ []) a b f (land_ok q at h [] l f a tt)
 
   mutual
     ex_ok : (e : Ex) (h pc : ℕ) → Fits p s n h e → start ≤ pc → pc + size p e < end → Are (ex_code p s e h pc)
     ex_ok (constant v) h pc f a l = (omega arith, tt)
-    ex_ok (read q) h pc f a l = read_ok q h f.0 f.1
+    ex_ok (read q) h pc f a l = join (place_code p s q h pc) (read_code s q (place_above q h) h) (place_ok q h pc (address_size q + 1) f.3 a l) (read_ok q h f.0 f.1 f.2)
     ex_ok (unary op e) h pc f a l = join (ex_code p s e h pc) (unary_code op (temp s h) ∷ []) (ex_ok e h pc f.1 a (omega arith)) (unary_ok op h f.0)
     ex_ok (binary at o x y) h pc f a l =
-        let k = f.0 in let i = Bin (operation o) (temp s h) (temp s h) (temp s (h + 1)) in let py = pc + size p x in
-        join (ex_code p s x h pc) (ex_code p s y (h + 1) py ++ i ∷ []) (ex_ok x h pc f.1 a (omega arith))
-        (join (ex_code p s y (h + 1) py) (i ∷ []) (ex_ok y (h + 1) py f.2 (omega arith) (omega arith)) ((omega arith, omega arith, omega arith), tt))
+        let k = f.1 in let w = wide p x in let py = pc + size p x in let i = binary_code o w (temp s h) (temp s (h + w)) in
+        join (ex_code p s x h pc) (ex_code p s y (h + w) py ++ i ∷ []) (ex_ok x h pc f.2 a (omega arith))
+        (join (ex_code p s y (h + w) py) (i ∷ []) (ex_ok y (h + w) py f.3 (omega arith) (omega arith)) (binary_ok o w (temp s h) (temp s (h + w)) f.0 (omega (arith, k)) (omega (arith, k))))
     ex_ok (both x y) h pc f a l =
         let k = f.0 in let py = pc + size p x + 1 in
         join (ex_code p s x h pc) (JumpZero (temp s h) (py + size p y) ∷ ex_code p s y h py) (ex_ok x h pc f.1 a (omega arith))
@@ -166,6 +213,34 @@ module _ (p : Program) (solid : (site : ℕ) → 0 < site_width p site) (outgoin
         join (ex_code p s x h pc) (JumpZero (temp s h) py ∷ Jump (py + size p y) ∷ ex_code p s y h py) (ex_ok x h pc f.1 a (omega arith))
         ((omega arith, (omega arith, omega arith)), ((omega arith, omega arith), ex_ok y h py f.2 (omega arith) (omega arith)))
     ex_ok (call g es) h pc f a l = join (exs_code p s es h pc) (call_code p s g h) (exs_ok es h pc f.1 a (omega arith)) (call_ok g h f.0)
+    ex_ok (part_of t i e) h pc f a l =
+        let w = width (part_type t i) in let k = f.1 in let from = temp s (h + part_offset t i) in
+        join (ex_code p s e h pc) (moves w (temp s h) from ∷ []) (ex_ok e h pc f.2 a (omega arith)) (moves_ok w (temp s h) from [] f.0 (omega (arith, k)) (omega (arith, k)) tt)
+    ex_ok (literal t es) h pc f a l =
+        let k = f.1 in zeroed_ok (width t) (temp s h) (elements_code p s t (ascend es) es h (pc + 1)) f.0 (omega (arith, k)) (elements_ok t (ascend es) es h (pc + 1) f.2 (omega arith) (omega arith))
+
+    -- the operands of a place, and so many instructions behind them
+    place_ok : (q : Pl) (h pc behind : ℕ) → OperandsFit p s n h q → start ≤ pc → pc + place_size p q behind < end → Are (place_code p s q h pc)
+    place_ok (local site steps) h pc behind f a l = steps_ok steps h pc behind f a l
+    place_ok (global g steps) h pc behind f a l = steps_ok steps h pc behind f a l
+
+    steps_ok : (steps : Steps) (h pc behind : ℕ) → StepsFitIn p s n h steps → start ≤ pc → pc + steps_size p steps behind < end → Are (steps_code p s steps h pc)
+    steps_ok here h pc behind f a l = tt
+    steps_ok (inner i steps) h pc behind f a l = steps_ok steps h pc behind f a l
+    steps_ok (at_index at e m steps) h pc behind f a l =
+        join (ex_code p s e h pc) (steps_code p s steps (h + 1) (pc + size p e)) (ex_ok e h pc f.1 a (omega arith)) (steps_ok steps (h + 1) (pc + size p e) behind f.2 (omega arith) (omega arith))
+
+    elements_ok : (t : ValueType) (in_order : Bool) (es : Elements) (h pc : ℕ) → ElementsFitIn p s n h t in_order es → start ≤ pc → pc + elements_size p t in_order es < end → Are (elements_code p s t in_order es h pc)
+    elements_ok t in_order no_elements h pc f a l = tt
+    elements_ok t true (element i e es) h pc f a l =
+        let gap = gap_behind t i es in let k = f.0 in let behind = temp s (h + words_through t i) in let next = pc + size p e + gap_size gap in
+        join (ex_code p s e (h + part_offset t i) pc) (gap_code gap behind ++ elements_code p s t true es h next) (ex_ok e (h + part_offset t i) pc f.1 a (omega arith))
+        (join (gap_code gap behind) (elements_code p s t true es h next) (gap_ok gap behind (omega (arith, k))) (elements_ok t true es h next f.2 (omega arith) (omega arith)))
+    elements_ok t false (element i e es) h pc f a l =
+        let w = width (part_type t i) in let k = f.1 in let b = f.2 in let next = pc + size p e + 1 in
+        let to_temp = temp s (h + part_offset t i) in let from = temp s (h + width t) in let others = elements_code p s t false es h next in
+        join (ex_code p s e (h + width t) pc) (moves w to_temp from ∷ others) (ex_ok e (h + width t) pc f.3 a (omega arith))
+        (moves_ok w to_temp from others f.0 (omega (arith, k)) (omega (arith, b)) (elements_ok t false es h next f.4 (omega arith) (omega arith)))
 
     exs_ok : (es : Exs) (h pc : ℕ) → ExsFitIn p s n h es → start ≤ pc → pc + exs_size p es < end → Are (exs_code p s es h pc)
     exs_ok none h pc f a l = tt
@@ -173,6 +248,15 @@ module _ (p : Program) (solid : (site : ℕ) → 0 < site_width p site) (outgoin
         join (ex_code p s e h pc) (exs_code p s es (h + wide p e) (pc + size p e)) (ex_ok e h pc f.1 a (omega arith)) (exs_ok es (h + wide p e) (pc + size p e) f.2 (omega arith) (omega arith))
     exs_ok (results g es) h pc f a l = join (exs_code p s es h pc) (call_code p s g h) (exs_ok es h pc f.1 a (omega arith)) (call_ok g h f.0)
     exs_ok asked h pc f a l = (omega arith, tt)
+
+  ready_ok : (ls : List Left) (h pc behind : ℕ) → ReadyFitIn p s n h ls → start ≤ pc → pc + lefts_sized p ls behind < end → Are (ready_code p s ls h pc)
+  ready_ok [] h pc behind f a l = tt
+  ready_ok (blank ∷ ls) h pc behind f a l = ready_ok ls h pc behind f a l
+  ready_ok (new site ∷ ls) h pc behind f a l = ready_ok ls h pc behind f a l
+  ready_ok (to q ∷ ls) h pc behind f a l =
+      let e = place_ends p q pc in let k = place_sum p q (lefts_sized p ls behind) in
+      join (place_code p s q h pc) (ready_code p s ls (place_above q h) (place_end p q pc)) (place_ok q h pc (lefts_sized p ls behind) f.0 a l)
+      (ready_ok ls (place_above q h) (place_end p q pc) behind f.1 (omega (arith, e, a)) (omega (arith, e, k, l)))
 
   pieces_ok : (ps : List Piece) (h pc : ℕ) → PiecesFitIn p s n h ps → start ≤ pc → pc + pieces_size p ps < end → Are (pieces_code p s ps h pc)
   pieces_ok [] h pc f a l = tt
@@ -214,15 +298,21 @@ module _ (p : Program) (solid : (site : ℕ) → 0 < site_width p site) (outgoin
   shown_ok true (shown t e ∷ ps) h f w = value_ok t h (show_more s ps (h + 1)) f.0 (more_ok ps (h + 1) f.2 w.1)
   shown_ok false ps h f w = plain_ok ps h f w
 
-  lefts_ok : (ns : List ℕ) (ls : List Left) (at h : ℕ) → LeftsFitIn s n at h ns ls → Are (lefts_code s ns ls at h)
-  lefts_ok ns [] at h f = tt
-  lefts_ok ns (blank ∷ ls) at h f = lefts_ok (other_widths ns) ls at (h + first_width ns) f.3
-  lefts_ok ns (new site ∷ ls) at h f =
+  lefts_ok : (ns : List ℕ) (ls : List Left) (first at h : ℕ) → lefts_above ls first ≤ temps → LeftsFitIn s n at h ns ls → Are (lefts_code s ns ls first at h)
+  lefts_ok ns [] first at h b f = tt
+  lefts_ok ns (blank ∷ ls) first at h b f = lefts_ok (other_widths ns) ls first at (h + first_width ns) b f.3
+  lefts_ok ns (new site ∷ ls) first at h b f =
       let l = f.0 in let k = f.2 in
-      moves_ok (site_width p site) (site_slot s site) (temp s h) (lefts_code s (other_widths ns) ls at (h + first_width ns)) (solid site) (site_in site f.1) (omega (arith, l, k)) (lefts_ok (other_widths ns) ls at (h + first_width ns) f.3)
-  lefts_ok ns (to q ∷ ls) at h f =
-      let l = f.0 in let k = f.2 in
-      join (write_code s q at h) (lefts_code s (other_widths ns) ls at (h + first_width ns)) (write_ok q at h (omega (arith, l, k)) f.1.0 f.1.1) (lefts_ok (other_widths ns) ls at (h + first_width ns) f.3)
+      moves_ok (site_width p site) (site_slot s site) (temp s h) (lefts_code s (other_widths ns) ls first at (h + first_width ns)) (solid site) (site_in site f.1) (omega (arith, l, k)) (lefts_ok (other_widths ns) ls first at (h + first_width ns) b f.3)
+  lefts_ok ns (to q ∷ ls) first at h b f =
+      let l = f.0 in let k = f.2 in let above = place_above q first in let c = lefts_from p ls above in
+      join (write_code s q first at h) (lefts_code s (other_widths ns) ls above at (h + first_width ns)) (write_ok q first at h (omega (arith, l, k)) f.1.0 f.1.1 (omega (arith, b, c))) (lefts_ok (other_widths ns) ls above at (h + first_width ns) b f.3)
+
+  -- the temps of the operands of the left side that gets an index
+  key_above : (key : Left) (h : ℕ) → h + 2 < temps → LeftFits s n (lefts_above (key ∷ []) (h + 2)) key → lefts_above (key ∷ []) (h + 2) ≤ temps
+  key_above blank h l f = omega (arith, l)
+  key_above (new site) h l f = omega (arith, l)
+  key_above (to q) h l f = let a = f.1 in omega (arith, a)
 
   named_write_ok : (sites : List ℕ) (h : ℕ) → SitesFit s n sites → h + sites_words s sites ≤ temps → Are (named_write_code s sites h)
   named_write_ok [] h f l = tt
@@ -282,18 +372,29 @@ module _ (p : Program) (solid : (site : ℕ) → 0 < site_width p site) (outgoin
       st_ok : (looped : Bool) (t : St) (h out again pc : ℕ) → StFitsIn p s n wanted named h t → StWithin strings looped t → Around looped out again → start ≤ pc → pc + st_len t < end → Are (st_code p arguments named s t h out again pc)
       st_ok looped (declare births) h out again pc f w r a l = zeros_ok births f
       st_ok looped (assign ls es) h out again pc f w r a l =
-          let ns = value_widths p es in let at = h + all_wide p es in
-          join (exs_code p s es h pc) (lefts_code s ns ls at h) (exs_ok es h pc f.1 a (omega arith)) (lefts_ok ns ls at h f.2)
+          let ns = value_widths p es in let first = lefts_above ls h in let at = first + all_wide p es in let behind = exs_size p es + lefts_size ls in
+          let e = lefts_ends p ls pc in let k = lefts_sum p ls behind in let room_left = f.0 in
+          join (ready_code p s ls h pc) (exs_code p s es first (lefts_end p ls pc) ++ lefts_code s ns ls h at first) (ready_ok ls h pc behind f.1 a l)
+          (join (exs_code p s es first (lefts_end p ls pc)) (lefts_code s ns ls h at first) (exs_ok es first (lefts_end p ls pc) f.2 (omega (arith, e, a)) (omega (arith, e, k, l))) (lefts_ok ns ls h at first (omega (arith, room_left)) f.3))
       st_ok looped (update at q o e) h out again pc f w r a l =
-          let k = f.0 in let one = f.2 in
-          let i = Bin (operation o) (temp s h) (temp s h) (temp s (h + 1)) in let ce = ex_code p s e (h + 1) (pc + (far q + 1)) in let cw = write_code s q (h + 1) h in
-          join (read_code s q h) (ce ++ i ∷ cw) (read_ok q h (omega (arith, k, one)) f.1)
-          (join ce (i ∷ cw) (ex_ok e (h + 1) (pc + (far q + 1)) f.3 (omega arith) (omega arith)) ((omega arith, omega arith, omega arith), write_ok q (h + 1) h (omega (arith, k, one)) f.1 (above_ok q (h + 1) k)))
+          let k = f.0 in let one = f.2 in let at = place_above q h in let v = above_address (far q) at in let sum = above_sum q at in
+          let pe = place_end p q pc + (address_size q + 1) in let behind = address_size q + 1 + size p e + 1 + 1 in
+          let ends = place_ends p q pc in let sizes = place_sum p q behind in
+          let i = Bin (operation o) (temp s v) (temp s v) (temp s (v + 1)) in let ce = ex_code p s e (v + 1) pe in let cl = land_code s q at v in
+          let address : AddressFits temps at q = omega (arith, sum, k) in
+          join (place_code p s q h pc) (address_code s q h at ++ fetch_code s q at v ∷ (ce ++ i ∷ (cl ∷ []))) (place_ok q h pc behind f.3 a l)
+          (address_ok q h at (fetch_code s q at v ∷ (ce ++ i ∷ (cl ∷ []))) address (omega (arith, address)) f.1
+          (fetch_ok q at v (ce ++ i ∷ (cl ∷ [])) (omega (arith, k, one)) f.1 address
+          (join ce (i ∷ (cl ∷ [])) (ex_ok e (v + 1) pe f.4 (omega (arith, ends, a)) (omega (arith, ends, sizes, l)))
+          ((omega (arith, k), omega (arith, k), omega (arith, k)), land_ok q at v [] (omega (arith, k, one)) f.1 address tt))))
       st_ok looped (bump q o) h out again pc f w r a l =
-          let k = f.0 in let one = f.2 in
-          let i = Bin (operation o) (temp s h) (temp s h) (temp s (h + 1)) in let cw = write_code s q (h + 1) h in
-          join (read_code s q h) (Const (temp s (h + 1)) 1 ∷ i ∷ cw) (read_ok q h (omega (arith, k, one)) f.1)
-          (omega arith, ((omega arith, omega arith, omega arith), write_ok q (h + 1) h (omega (arith, k, one)) f.1 (above_ok q (h + 1) k)))
+          let k = f.0 in let one = f.2 in let at = place_above q h in let v = above_address (far q) at in let sum = above_sum q at in
+          let i = Bin (operation o) (temp s v) (temp s v) (temp s (v + 1)) in let c1 = Const (temp s (v + 1)) 1 in let cl = land_code s q at v in
+          let address : AddressFits temps at q = omega (arith, sum, k) in
+          join (place_code p s q h pc) (address_code s q h at ++ fetch_code s q at v ∷ (c1 ∷ (i ∷ (cl ∷ [])))) (place_ok q h pc (address_size q + 1 + 2 + 1) f.3 a l)
+          (address_ok q h at (fetch_code s q at v ∷ (c1 ∷ (i ∷ (cl ∷ [])))) address (omega (arith, address)) f.1
+          (fetch_ok q at v (c1 ∷ (i ∷ (cl ∷ []))) (omega (arith, k, one)) f.1 address
+          (omega (arith, k), ((omega (arith, k), omega (arith, k), omega (arith, k)), land_ok q at v [] (omega (arith, k, one)) f.1 address tt))))
       st_ok looped (discard es) h out again pc f w r a l = exs_ok es h pc f a l
       st_ok looped (block ss) h out again pc f w r a l = sts_ok looped ss h out again pc f w r a l
       st_ok looped (choose e x y) h out again pc f w r a l =
@@ -318,12 +419,15 @@ module _ (p : Program) (solid : (site : ℕ) → 0 < site_width p site) (outgoin
       st_ok looped (range (over_int e) key value body) h out again pc f w r a l =
           let k = f.0 in
           let test = pc + size p e + 1 in
-          let inside = test + 2 + lefts_size (key ∷ []) in
+          let first = lefts_above (key ∷ []) (h + 2) in
+          let sized = lefts_sized p (key ∷ []) (lefts_size (key ∷ [])) in
+          let inside = test + 2 + sized in
           let turn = inside + sts_len body in
           let behind = turn + 3 in
           let here_behind : Here behind = (omega arith, omega arith) in
           let here_turn : Here turn = (omega arith, omega arith) in
-          let cl = lefts_code s (1 ∷ []) (key ∷ []) (h + 2) (h + 1) in let cb = code body (h + 2) behind turn inside in
+          let ready = ready_code p s (key ∷ []) (h + 2) (test + 2) in let lefts = lefts_code s (1 ∷ []) (key ∷ []) (h + 2) first (h + 1) in
+          let cl = ready ++ lefts in let cb = code body (h + 2) behind turn inside in
           let last : List Instr = Const (temp s (h + 2)) 1 ∷ Bin Word.Add (temp s (h + 1)) (temp s (h + 1)) (temp s (h + 2)) ∷ Jump test ∷ [] in
           join (ex_code p s e h pc) (Const (temp s (h + 1)) 0 ∷ Bin Word.Less (temp s (h + 2)) (temp s (h + 1)) (temp s h) ∷ JumpZero (temp s (h + 2)) behind ∷ (cl ++ (cb ++ last))) (ex_ok e h pc f.1 a (omega arith)) (
             omega arith,
@@ -331,8 +435,9 @@ module _ (p : Program) (solid : (site : ℕ) → 0 < site_width p site) (outgoin
               (omega arith, omega arith, omega arith),
               (
                 (omega arith, here_behind),
-                join cl (cb ++ last) (lefts_ok (1 ∷ []) (key ∷ []) (h + 2) (h + 1) (omega arith, f.2, f.3, tt))
-                    (join cb last (sts_ok true body (h + 2) behind turn inside f.4 w (λ e. (here_behind, here_turn)) (omega arith) (omega arith))
+                join cl (cb ++ last)
+                    (join ready lefts (ready_ok (key ∷ []) (h + 2) (test + 2) (lefts_size (key ∷ [])) f.2 (omega arith) (omega arith)) (lefts_ok (1 ∷ []) (key ∷ []) (h + 2) first (h + 1) (key_above key h k f.3) (omega arith, f.3, f.4, tt)))
+                    (join cb last (sts_ok true body (h + 2) behind turn inside f.5 w (λ e. (here_behind, here_turn)) (omega arith) (omega arith))
                     (omega arith, ((omega arith, omega arith, omega arith), ((omega arith, omega arith), tt)))),
               ),
             ),
@@ -396,6 +501,7 @@ module _ (owners : List ℕ) (f start end : ℕ) (own : (p : ℕ) → start ≤ 
   fits_at place slots incoming (Store a off c n) k (inr g) = (k.0, k.1, k.2, g)
   fits_at place slots incoming (Address a b) k (inr g) = (k.0, k.1, g)
   fits_at place slots incoming (Offset a b off) k (inr g) = (k.0, k.1, g)
+  fits_at place slots incoming (Index a b c len w) k (inr g) = (k.0, k.1, k.2, k.3, k.4, g)
   fits_at place slots incoming (PrintInt a) k (inr g) = (k, g)
   fits_at place slots incoming (PrintBool a) k (inr g) = (k, g)
   fits_at place slots incoming (PrintText number) k (inr g) = (k, g)

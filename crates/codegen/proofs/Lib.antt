@@ -1,4 +1,7 @@
 pub mod InSlots
+pub mod Alone
+pub mod Operands
+pub mod Operators
 pub mod ByWidth
 pub mod Begun
 pub mod Suffice

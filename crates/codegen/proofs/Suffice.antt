@@ -2,16 +2,18 @@
 use Rattle.std.proofs.Common.{◌≡◌, ◌⊎◌, inl, inr, ℕ, zero, suc, ◌+◌, ◌<◌, ◌≤◌, pos, Bool, true, false, List, [], ◌∷◌, Some, length, map, get_or, arith, sym, subst, ap, ◌∙◌, refl}
 use Rattle.std.specs.Prelude.{Option, None, max, slice_get}
 use Rattle.std.proofs.lemmas.Option.{slice_get_within}
-use Rattle.value_trees.specs.Types.{ValueType, ints, bools, width}
+use Rattle.value_trees.specs.Types.{ValueType, ints, bools, width, part_count, part_type, part_offset}
 use Rattle.value_trees.specs.Value.{int, bool, composite}
-use Rattle.value_trees.proofs.Parts.{leads_to, within}
-use Rattle.typed.specs.Syntax.{Ex, Exs, Pl, Left, Piece, St, Sts, Func, Program, constant, read, unary, binary, both, either, call, local, global, here, inner, none, more, results, asked, blank, new, to, text, shown, over_int, declare, assign, update, bump, discard, block, choose, loop, range, break_off, go_on, give_back, print, raise, quit, done, next, all_width, each_width, arguments_in, result_words, arguments_of, results_of, site_type, site_width, path_of, place_width, wide, all_wide}
-use Rattle.typed.specs.Form.{PlFits, InScope, AllInScope, births, births_all, new_sites, scope_behind, scope_with, scope_after, SitesNext, LeftsFit, ExFits, ExsFit, TestFits, PiecesFit, ReturnFits, StFits, StsFit, ParamsFit, NamedFit, named_params, params_scope, scope_in, body_first, FuncFits, IsInForm}
-use Rattle.typed.specs.Frames.{far, left_far, lefts_far, need, need_all, need_pieces, reach, reach_all, reach_pieces, test_need, test_reach, widest, st_need, sts_need, st_reach, sts_reach}
-use Rattle.simulated_code.specs.Code.{Slots, other_widths, part_words, slots_of}
-use Rattle.simulated_code.proofs.Rooms.{address_room, key_room}
-use Rattle.simulated_code.proofs.Wide.{plain_one, takes_left, takes_one, wide_is, all_wide_is, widths_are}
-use Rattle.codegen.specs.Temps.{SiteFits, SitesFit, PlaceFits, AddressFits, ParamsFitIn, LeftFits, left_words, LeftsFitIn, ValuesFit, RenewFits, CallFits, Fits, ExsFitIn, PiecesFitIn, TestFitsIn, StFitsIn, StsFitIn, FuncFitsIn, reached, sites_words}
+use Rattle.value_trees.specs.Paths.{Leads, offset}
+use Rattle.value_trees.proofs.Parts.{element, leads_to, within}
+use Rattle.typed.specs.Syntax.{Ex, Exs, Pl, Steps, Left, Piece, St, Sts, Func, Program, constant, read, unary, binary, both, either, call, part_of, literal, Elements, no_elements, element as element_then, local, global, here, inner, at_index, none, more, results, asked, blank, new, to, text, shown, over_int, declare, assign, update, bump, discard, block, choose, loop, range, break_off, go_on, give_back, print, raise, quit, done, next, all_width, each_width, arguments_in, result_words, arguments_of, results_of, site_type, site_width, path_of, place_width, wide, all_wide, ascend, words_before, words_through, gap_behind}
+use Rattle.typed.specs.Form.{PlFits, StepsLead, ElementsFit, InScope, AllInScope, births, births_all, new_sites, scope_behind, scope_with, scope_after, SitesNext, LeftsFit, ExFits, ExsFit, TestFits, PiecesFit, ReturnFits, StFits, StsFit, ParamsFit, NamedFit, named_params, params_scope, scope_in, body_first, FuncFits, IsInForm}
+use Rattle.typed.specs.Frames.{far, left_far, lefts_far, behind_values, place_need, steps_need, elements_need, lefts_need, place_reach, steps_reach, elements_reach, lefts_reach, need, need_all, need_pieces, reach, reach_all, reach_pieces, test_need, test_reach, widest, st_need, sts_need, st_reach, sts_reach}
+use Rattle.simulated_code.specs.Code.{Slots, other_widths, part_words, above_address, place_above, steps_above, lefts_above, slots_of}
+use Rattle.simulated_code.proofs.Rooms.{address_room, key_room, lefts_others, lefts_room, place_others, place_room}
+use Rattle.simulated_code.proofs.Wide.{plain_one, takes_some, takes_one, place_is_of, wide_is, all_wide_is, widths_are}
+use Rattle.codegen.specs.Temps.{SiteFits, SitesFit, IndicesFit, PlaceFits, AddressFits, ParamsFitIn, LeftFits, left_words, LeftsFitIn, ValuesFit, RenewFits, CallFits, Fits, OperandsFit, StepsFitIn, ElementsFitIn, ExsFitIn, ReadyFitIn, PiecesFitIn, TestFitsIn, StFitsIn, StsFitIn, FuncFitsIn, reached, sites_words}
+use Rattle.codegen.proofs.Operands.{above_sum}
 
 -- the sites in scope are among the n of a frame
 abbrev pub Below : Slots → ℕ → List ℕ → Type 0
@@ -37,7 +39,26 @@ next_fit s n m (site ∷ sites) a f = (
   next_fit s n (suc m) sites (omega arith) f.2,
 )
 
+-- a part is within its whole
+part_within : (t : ValueType) (i : ℕ) → i < part_count t → part_offset t i + width (part_type t i) ≤ width t
+part_within t i l = let k = within t (part_type t i) (i ∷ []) (l, refl) in omega (arith, k)
+
 module _ (p : Program) (form : IsInForm p) where
+  -- steps lead to a part, whatever their indices are
+  steps_lead : (scope : List ℕ) (t s : ValueType) (steps : Steps) → StepsLead p scope t steps s → Leads t (path_of steps) s
+  steps_lead scope t s here f = f
+  steps_lead scope t s (inner i steps) f = (f.0, steps_lead scope (part_type t i) s steps f.1)
+  steps_lead scope t s (at_index at e m steps) (r, is, some, index, f) = subst (λ u. Leads u (0 ∷ path_of steps) s) (sym is) ((element m r s 0 (path_of steps) some).leads (steps_lead scope r s steps f))
+
+  -- the arrays on the way to a part with words have elements with words
+  indices_fit : (scope : List ℕ) (t s : ValueType) (steps : Steps) → StepsLead p scope t steps s → 0 < width s → IndicesFit t steps
+  indices_fit scope t s here f w = tt
+  indices_fit scope t s (inner i steps) f w = indices_fit scope (part_type t i) s steps f.1 w
+  indices_fit scope t s (at_index at e m steps) (r, is, some, index, f) w =
+      let same : part_type t 0 ≡ r = ap (λ u. part_type u 0) is ∙ ((element m r r 0 [] some).leads refl).1 in
+      let l = within r s (path_of steps) (steps_lead scope r s steps f) in let wide = ap width same in
+      (some, omega (arith, l, w, wide), subst (λ u. IndicesFit u steps) (sym same) (indices_fit scope r s steps f w))
+
   -- an expression's value lands in its temps, and so do values side by side
   wide_need : (scope : List ℕ) (t : ValueType) (e : Ex) → ExFits p scope t e → wide p e ≤ need p e
   wide_need scope t (constant (int z)) f = omega arith
@@ -45,10 +66,14 @@ module _ (p : Program) (form : IsInForm p) where
   wide_need scope t (constant (composite vs)) f = absurd f.1
   wide_need scope t (read q) f = omega arith
   wide_need scope t (unary op e) f = let l = wide_need scope t e f.1 in let w = wide_is p scope t e f.1 in let one = plain_one t (takes_one op t f.0) in omega arith
-  wide_need scope t (binary at op a b) f = omega arith
+  wide_need scope t (binary at op a b) f =
+      let l = wide_need scope f.0 a f.2 in let w = wide_is p scope f.0 a f.2 in let some = takes_some op f.0 t f.1 in omega (arith, l, w, some)
   wide_need scope t (both a b) f = let l = wide_need scope bools a f.1 in let w = wide_is p scope bools a f.1 in omega arith
   wide_need scope t (either a b) f = let l = wide_need scope bools a f.1 in let w = wide_is p scope bools a f.1 in omega arith
   wide_need scope t (call g es) f = omega arith
+  wide_need scope t (part_of s i e) f =
+      let l = wide_need scope s e f.3 in let w = wide_is p scope s e f.3 in let part = part_within s i f.0 in omega (arith, l, w, part)
+  wide_need scope t (literal s es) f = omega arith
 
   values_need : (scope : List ℕ) (ts : List ValueType) (es : Exs) → ExsFit p scope ts es → all_wide p es ≤ need_all p es
   values_need scope ts none f = omega arith
@@ -72,25 +97,22 @@ module _ (p : Program) (form : IsInForm p) where
 
     place_fits : (scope : List ℕ) (t : ValueType) (q : Pl) → Below s n scope → PlFits p scope t q → PlaceFits s n q
     place_fits scope t (local v steps) b f =
-        let own = site_type p v in let path = path_of steps in
-        let is : part_words s v path ≡ width t = ap width (leads_to own t path f.1) in
-        let some = f.2 in let l = within own t path f.1 in
-        (b v f.0, omega (arith, is, some), omega (arith, is, l))
+        let own = site_type p v in let path = path_of steps in let leads = steps_lead scope own t steps f.1 in
+        let is : part_words s v path ≡ width t = ap width (leads_to own t path leads) in
+        let some = f.2 in let l = within own t path leads in
+        (b v f.0, omega (arith, is, some), omega (arith, is, l), indices_fit scope own t steps f.1 some)
     place_fits scope t (global g steps) b f = tt
 
     -- the words of a place are those of its type, and a package variable's are some
     reached_is : (scope : List ℕ) (t : ValueType) (q : Pl) → PlFits p scope t q → reached s q ≤ width t
-    reached_is scope t (local v steps) f = let is : part_words s v (path_of steps) ≡ width t = ap width (leads_to (site_type p v) t (path_of steps) f.1) in omega (arith, is)
+    reached_is scope t (local v steps) f = let is : part_words s v (path_of steps) ≡ width t = ap width (leads_to (site_type p v) t (path_of steps) (steps_lead scope (site_type p v) t steps f.1)) in omega (arith, is)
     reached_is scope t (global g here) f = let some = form.solid (get_or p.globals g (0, int (pos 0))).0 in let is = ap width f.1 in omega (arith, some, is)
     reached_is scope t (global g (inner i steps)) f = absurd f
+    reached_is scope t (global g (at_index at e m steps)) f = absurd f
 
-    reached_need : (q : Pl) → reached s q ≤ max (far q) (place_width p q)
-    reached_need (local v steps) = omega arith
-    reached_need (global g steps) = omega arith
-
-    address_fits : (at : ℕ) (q : Pl) → at + far q ≤ temps → AddressFits temps at q
-    address_fits at (local v steps) l = tt
-    address_fits at (global g steps) l = omega arith
+    -- the words of a place are among those that it needs
+    reached_need : (scope : List ℕ) (t : ValueType) (q : Pl) → PlFits p scope t q → reached s q ≤ need p (read q)
+    reached_need scope t q f = let l = reached_is scope t q f in let w = ap width (place_is_of p scope t q f) in omega (arith, l, w)
 
     call_fits : (h f : ℕ) (func : Func) (scope : List ℕ) (es : Exs) → slice_get p.funcs f ≡ Some func → ExsFit p scope func.param_types es → h + need_all p es ≤ temps → h + results_of p f ≤ temps → arguments_of p f + results_of p f ≤ outgoing → CallFits p s n h f
     call_fits h f func scope es is fit l r o =
@@ -98,17 +120,24 @@ module _ (p : Program) (form : IsInForm p) where
         let given : arguments_of p f ≡ all_width func.param_types = ap arguments_in is in
         (w, omega (arith, w, form.few), o, omega (arith, values_need scope func.param_types es fit, all_wide_is p scope func.param_types es fit, given, l), r)
 
+    -- what stands before the next element is within the whole
+    before_within : (scope : List ℕ) (t : ValueType) (es : Elements) → ElementsFit p scope t es → words_before t es ≤ width t
+    before_within scope t no_elements f = omega arith
+    before_within scope t (element_then i e es) f = let part = part_within t i f.0 in omega (arith, part)
+
     mutual
       ex_fits : (h : ℕ) (scope : List ℕ) (t : ValueType) (e : Ex) → Below s n scope → ExFits p scope t e → h + need p e ≤ temps → reach p e ≤ outgoing → Fits p s n h e
       ex_fits h scope t (constant (int z)) b f l o = omega arith
       ex_fits h scope t (constant (bool c)) b f l o = omega arith
       ex_fits h scope t (constant (composite vs)) b f l o = absurd f.1
-      ex_fits h scope t (read q) b f l o = (omega (arith, reached_need q, l), place_fits scope t q b f)
+      ex_fits h scope t (read q) b f l o =
+          (omega (arith, reached_need scope t q f, l), place_fits scope t q b f, place_room p temps h (far q) q (omega (arith, l)), operands_fit h scope t q (far q) 0 b f (omega (arith, l)) o)
       ex_fits h scope t (unary op e) b f l o = ((let k = some_need scope t e (plain_one t (takes_one op t f.0)) f.1 in omega arith), ex_fits h scope t e b f.1 l o)
       ex_fits h scope t (binary at op a c) b f l o = (
-        (let k = some_need scope f.0 c (plain_one f.0 (takes_left op f.0 t f.1)) f.3 in omega arith),
+        (let some = takes_some op f.0 t f.1 in let w = wide_is p scope f.0 a f.2 in omega (arith, some, w)),
+        (let k = wide_need scope f.0 c f.3 in let w = wide_is p scope f.0 a f.2 in let v = wide_is p scope f.0 c f.3 in omega (arith, k, w, v, l)),
         ex_fits h scope f.0 a b f.2 (omega arith) (omega arith),
-        ex_fits (h + 1) scope f.0 c b f.3 (omega arith) (omega arith),
+        ex_fits (h + wide p a) scope f.0 c b f.3 (omega arith) (omega arith),
       )
       ex_fits h scope t (both a c) b f l o =
           ((let k = some_need scope bools a refl f.1 in omega arith), ex_fits h scope bools a b f.1 (omega arith) (omega arith), ex_fits h scope bools c b f.2 (omega arith) (omega arith))
@@ -116,6 +145,43 @@ module _ (p : Program) (form : IsInForm p) where
           ((let k = some_need scope bools a refl f.1 in omega arith), ex_fits h scope bools a b f.1 (omega arith) (omega arith), ex_fits h scope bools c b f.2 (omega arith) (omega arith))
       ex_fits h scope t (call g es) b (func, is, one, f) l o =
           (call_fits h g func scope es is f (omega arith) (omega arith) (omega arith), exs_fit h scope func.param_types es b f (omega arith) (omega arith))
+      ex_fits h scope t (part_of s i e) b f l o = (
+        (let w = ap width f.1 in let some = f.2 in omega (arith, w, some)),
+        (let k = wide_need scope s e f.3 in let w = wide_is p scope s e f.3 in let part = part_within s i f.0 in omega (arith, k, w, part, l)),
+        ex_fits h scope s e b f.3 l o,
+      )
+      ex_fits h scope t (literal s es) b f l o = (f.1, omega (arith, l), elements_fit h scope s (ascend es) es b f.2 (omega (arith, l)) (omega (arith, l)) o)
+
+      -- the operands of a place, and so many temps behind them
+      operands_fit : (h : ℕ) (scope : List ℕ) (t : ValueType) (q : Pl) (behind others : ℕ) → Below s n scope → PlFits p scope t q → h + place_need p q behind ≤ temps → place_reach p q others ≤ outgoing → OperandsFit p s n h q
+      operands_fit h scope t (local v steps) behind others b f l o = steps_fit h scope (site_type p v) t steps behind others b f.1 l o
+      operands_fit h scope t (global g here) behind others b f l o = tt
+      operands_fit h scope t (global g (inner i steps)) behind others b f l o = absurd f
+      operands_fit h scope t (global g (at_index at e m steps)) behind others b f l o = absurd f
+
+      steps_fit : (h : ℕ) (scope : List ℕ) (u t : ValueType) (steps : Steps) (behind others : ℕ) → Below s n scope → StepsLead p scope u steps t → h + steps_need p steps behind ≤ temps → steps_reach p steps others ≤ outgoing
+          → StepsFitIn p s n h steps
+      steps_fit h scope u t here behind others b f l o = tt
+      steps_fit h scope u t (inner i steps) behind others b f l o = steps_fit h scope (part_type u i) t steps behind others b f.1 l o
+      steps_fit h scope u t (at_index at e m steps) behind others b (r, is, some, index, f) l o =
+          (omega (arith, l), ex_fits h scope ints e b index (omega (arith, l)) (omega (arith, o)), steps_fit (h + 1) scope r t steps behind others b f (omega (arith, l)) (omega (arith, o)))
+
+      -- the elements of a literal, which has its temps
+      elements_fit : (h : ℕ) (scope : List ℕ) (t : ValueType) (in_order : Bool) (es : Elements) → Below s n scope → ElementsFit p scope t es → h + width t ≤ temps → h + elements_need p t in_order es ≤ temps → elements_reach p es ≤ outgoing
+          → ElementsFitIn p s n h t in_order es
+      elements_fit h scope t in_order no_elements b f r l o = tt
+      elements_fit h scope t true (element_then i e es) b f r l o = (
+        (let part = part_within t i f.0 in let before = before_within scope t es f.3 in omega (arith, part, before, r)),
+        ex_fits (h + part_offset t i) scope (part_type t i) e b f.2 (omega (arith, l)) (omega (arith, o)),
+        elements_fit h scope t true es b f.3 r (omega (arith, l)) (omega (arith, o)),
+      )
+      elements_fit h scope t false (element_then i e es) b f r l o = (
+        f.1,
+        (let part = part_within t i f.0 in omega (arith, part, r)),
+        (let k = wide_need scope (part_type t i) e f.2 in let w = wide_is p scope (part_type t i) e f.2 in omega (arith, k, w, l)),
+        ex_fits (h + width t) scope (part_type t i) e b f.2 (omega (arith, l)) (omega (arith, o)),
+        elements_fit h scope t false es b f.3 r (omega (arith, l)) (omega (arith, o)),
+      )
 
       exs_fit : (h : ℕ) (scope : List ℕ) (ts : List ValueType) (es : Exs) → Below s n scope → ExsFit p scope ts es → h + need_all p es ≤ temps → reach_all p es ≤ outgoing → ExsFitIn p s n h es
       exs_fit h scope ts none b f l o = tt
@@ -155,16 +221,28 @@ module _ (p : Program) (form : IsInForm p) where
     )
     lefts_fit at h scope m (t ∷ ts) (to q ∷ ls) a b f l k = (
       omega arith,
-      (place_fits scope t q b f.0, address_fits at q (omega arith)),
+      (place_fits scope t q b f.0, omega arith),
       reached_is scope t q f.0,
       lefts_fit at (h + width t) scope m ts ls a b f.1 (omega arith) (omega arith),
+    )
+
+    -- the operands of left sides, and so many temps behind them
+    ready_fit : (h : ℕ) (scope : List ℕ) (m e : ℕ) (ts : List ValueType) (ls : List Left) (behind others : ℕ) → Below s n scope → LeftsFit p scope m e ts ls → h + lefts_need p ls behind ≤ temps → lefts_reach p ls others ≤ outgoing
+        → ReadyFitIn p s n h ls
+    ready_fit h scope m e ts [] behind others b f l o = tt
+    ready_fit h scope m e [] (left ∷ ls) behind others b f l o = absurd f
+    ready_fit h scope m e (t ∷ ts) (blank ∷ ls) behind others b f l o = ready_fit h scope m e ts ls behind others b f l o
+    ready_fit h scope m e (t ∷ ts) (new site ∷ ls) behind others b f l o = ready_fit h scope (suc m) e ts ls behind others b f.3 l o
+    ready_fit h scope m e (t ∷ ts) (to q ∷ ls) behind others b f l o = (
+      operands_fit h scope t q (lefts_need p ls behind) (lefts_reach p ls others) b f.0 l o,
+      ready_fit (place_above q h) scope m e ts ls behind others b f.1 (place_room p temps h (lefts_need p ls behind) q l) (let k = place_others p (lefts_reach p ls others) q in omega (arith, k, o)),
     )
 
     -- one left side for a number
     key_fits : (at : ℕ) (scope : List ℕ) (m : ℕ) (key : Left) → first ≤ m → Below s n scope → LeftsFit p scope m (first + n) (ints ∷ []) (key ∷ []) → at + left_far key ≤ temps → LeftFits s n at key × (left_words s key ≤ 1)
     key_fits at scope m blank a b f l = (tt, omega arith)
     key_fits at scope m (new site) a b f l = (((let e = f.0 in omega (arith, e)), (let e = f.0 in let u = f.1 in omega (arith, e, u))), (let e = ap width f.2 in omega (arith, e)))
-    key_fits at scope m (to q) a b f l = ((place_fits scope ints q b f.0, address_fits at q l), reached_is scope ints q f.0)
+    key_fits at scope m (to q) a b f l = ((place_fits scope ints q b f.0, l), reached_is scope ints q f.0)
 
     below_behind : (m : ℕ) (scope around : List ℕ) (ts : List ValueType) (ls : List Left) → first ≤ m → Below s n scope → LeftsFit p around m (first + n) ts ls → Below s n (scope_behind scope ls)
     below_behind m scope around ts [] a b f = b
@@ -226,16 +304,29 @@ module _ (p : Program) (form : IsInForm p) where
           st_fits : (looped : Bool) (h m : ℕ) (scope : List ℕ) (t : St) → first ≤ m → Below s n scope → StFits p wanted (length named) looped scope m (first + n) t → h + st_need p named t ≤ temps → st_reach p t ≤ outgoing → StFitsIn p s n (all_width wanted) named h t
           st_fits looped h m scope (declare sites) a b f k o = next_fit s n m sites a f
           st_fits looped h m scope (assign ls es) a b (ts, lefts, fit) k o =
-              let words = all_wide_is p scope ts es fit in
-              let room : h + all_wide p es ≤ temps = omega (arith, values_need scope ts es fit, k) in (
+              let words = all_wide_is p scope ts es fit in let values = lefts_above ls h in
+              let behind = max (need_all p es) (behind_values (all_wide p es) (lefts_far ls)) in
+              let above : values + behind ≤ temps = lefts_room p temps h behind ls k in
+              let calls = lefts_others p (reach_all p es) ls in
+              let room : values + all_wide p es ≤ temps = omega (arith, values_need scope ts es fit, above) in (
                 room,
-                exs_fit h scope ts es b fit (omega arith) o,
-                subst (λ ns. LeftsFitIn s n (h + all_wide p es) h ns ls) (sym (widths_are p scope ts es fit))
-                    (lefts_fit (h + all_wide p es) h scope m ts ls a b lefts (omega (arith, room, words)) (address_room temps h (all_wide p es) (lefts_far ls) room (omega arith))),
+                ready_fit h scope m (first + n) ts ls behind (reach_all p es) b lefts k o,
+                exs_fit values scope ts es b fit (omega (arith, above)) (omega (arith, calls, o)),
+                subst (λ ns. LeftsFitIn s n (values + all_wide p es) values ns ls) (sym (widths_are p scope ts es fit))
+                    (lefts_fit (values + all_wide p es) values scope m ts ls a b lefts (omega (arith, room, words)) (address_room temps values (all_wide p es) (lefts_far ls) room (omega (arith, above)))),
               )
           st_fits looped h m scope (update at q op e) a b f k o =
-              ((let c = some_need scope ints e refl f.2 in omega arith), place_fits scope ints q b f.1, reached_is scope ints q f.1, ex_fits (h + 1) scope ints e b f.2 (omega arith) o)
-          st_fits looped h m scope (bump q op) a b f k o = (omega arith, place_fits scope ints q b f.1, reached_is scope ints q f.1)
+              let v = above_address (far q) (place_above q h) in let sum = above_sum q (place_above q h) in
+              let above = place_room p temps h (far q + 1 + need p e) q k in let calls = place_others p (reach p e) q in (
+                (let c = some_need scope ints e refl f.2 in omega (arith, above, sum, c)),
+                place_fits scope ints q b f.1,
+                reached_is scope ints q f.1,
+                operands_fit h scope ints q (far q + 1 + need p e) (reach p e) b f.1 k o,
+                ex_fits (v + 1) scope ints e b f.2 (omega (arith, above, sum)) (omega (arith, calls, o)),
+              )
+          st_fits looped h m scope (bump q op) a b f k o =
+              let sum = above_sum q (place_above q h) in let above = place_room p temps h (far q + 2) q k in
+              (omega (arith, above, sum), place_fits scope ints q b f.1, reached_is scope ints q f.1, operands_fit h scope ints q (far q + 2) 0 b f.1 k o)
           st_fits looped h m scope (discard (results g es)) a b (ts, fit) k o = exs_fit h scope ts (results g es) b fit k o
           st_fits looped h m scope (discard none) a b f k o = absurd f
           st_fits looped h m scope (discard (more e es)) a b f k o = absurd f
@@ -255,12 +346,14 @@ module _ (p : Program) (form : IsInForm p) where
             sts_fit true h (m + births_all post) scope body (omega arith) b f.3 (omega arith) (omega arith),
           )
           st_fits looped h m scope (range (over_int e) key blank body) a b f k o =
-              let fit = key_fits (h + 2) scope m key a b f.1 (key_room p temps h key (omega arith)) in (
+              let above = key_room p temps h key (omega arith) in let calls = lefts_others p (sts_reach p body) (key ∷ []) in
+              let fit = key_fits (lefts_above (key ∷ []) (h + 2)) scope m key a b f.1 (lefts_room p temps (h + 2) (left_far key) (key ∷ []) above) in (
                 omega arith,
                 ex_fits h scope ints e b f.0 (omega arith) (omega arith),
+                ready_fit (h + 2) scope m (first + n) (ints ∷ []) (key ∷ []) (left_far key) (sts_reach p body) b f.1 above (omega (arith, o)),
                 fit.0,
                 fit.1,
-                sts_fit true (h + 2) (m + new_sites (key ∷ [])) (scope_behind scope (key ∷ [])) body (omega arith) (below_behind m scope scope (ints ∷ []) (key ∷ []) a b f.1) f.2 (omega arith) (omega arith),
+                sts_fit true (h + 2) (m + new_sites (key ∷ [])) (scope_behind scope (key ∷ [])) body (omega arith) (below_behind m scope scope (ints ∷ []) (key ∷ []) a b f.1) f.2 (omega arith) (omega (arith, calls, o)),
               )
           st_fits looped h m scope (range (over_int e) key (new site) body) a b f k o = absurd f
           st_fits looped h m scope (range (over_int e) key (to q) body) a b f k o = absurd f

@@ -1,12 +1,13 @@
 -- A frame as data.
-use Rattle.std.specs.Prelude.{ℕ, ◌+◌, ◌<◌, ◌≤◌, List, [], ◌∷◌, Option, Some, None}
+use Rattle.std.specs.Prelude.{ℕ, ◌+◌, ◌<◌, ◌≤◌, List, [], ◌∷◌, ◌++◌, Option, Some, None}
 use Rattle.isa.specs.declared.instr.Instr.{Instr}
-use Rattle.isa.specs.declared.instr.Instr.TheVariants.{ArgumentWords, PrintText}
-use Rattle.typed.specs.Syntax.{Func, Left, Piece, blank, new, to, text, shown, argument_words, result_words}
-use Rattle.typed.specs.Frames.{words_between}
+use Rattle.isa.specs.declared.instr.Instr.TheVariants.{ArgumentWords, Bin, Const, PrintText}
+use Rattle.typed.specs.declared.operators.BinOp.{BinOp}
+use Rattle.typed.specs.Syntax.{Ex, Exs, Pl, Func, Program as AnyProgram, Left, Piece, all_wide, value_widths, blank, new, to, text, shown, argument_words, result_words}
+use Rattle.typed.specs.Frames.{far, words_between}
 use Rattle.typed.specs.View.{site_types}
 use Rattle.typed.specs.declared.program.Program.{Program}
-use Rattle.simulated_code.specs.Code.{Slots, temp, site_slot, site_words, moves, shown_code, write_code}
+use Rattle.simulated_code.specs.Code.{Slots, temp, site_slot, site_words, moves, operation, shown_code, above_address, place_above, lefts_above, address_code, address_size, fetch_code, land_code, write_code, lefts_code, lefts_end, place_code, place_end, ready_code, ex_code, exs_code}
 use Rattle.codegen.specs.Temps.{SitesFit, sites_words}
 use Rattle.codegen.specs.declared.slots.Frame.{Frame}
 
@@ -21,11 +22,34 @@ IsSmall p f = f.outgoing + f.temps + words_between (site_types p.sites.items) f.
 abbrev pub Returns : Program → Frame → Func → Type 0
 Returns p frame f = SitesFit (slots_in p frame) frame.sites f.named × (sites_words (slots_in p frame) f.named ≤ result_words f) × (argument_words f + result_words f ≤ 65535)
 
--- a left side gets the words of temps from h on
-abbrev pub left_code : Slots → Left → (at h : ℕ) → List Instr
-left_code s blank at h = []
-left_code s (new site) at h = moves (site_words s site) (site_slot s site) (temp s h) ∷ []
-left_code s (to p) at h = write_code s p at h
+-- a left side, with operands in temps from `first` on, gets the words of temps from h on
+abbrev pub left_code : Slots → Left → (first at h : ℕ) → List Instr
+left_code s blank first at h = []
+left_code s (new site) first at h = moves (site_words s site) (site_slot s site) (temp s h) ∷ []
+left_code s (to p) first at h = write_code s p first at h
+
+-- The code of an assignment, of one with an operator and of `++` and `--`, from a place in the code on: what stands for
+-- these statements in the code of a program.
+abbrev pub assign_code : AnyProgram → Slots → List Left → Exs → (h pc : ℕ) → List Instr
+assign_code p s ls es h pc =
+    let first = lefts_above ls h in
+    ready_code p s ls h pc ++ (exs_code p s es first (lefts_end p ls pc) ++ lefts_code s (value_widths p es) ls h (first + all_wide p es) first)
+
+abbrev pub update_code : AnyProgram → Slots → Pl → BinOp → Ex → (h pc : ℕ) → List Instr
+update_code p s q op e h pc =
+    let at = place_above q h in
+    let v = above_address (far q) at in
+    place_code p s q h pc
+    ++ (address_code s q h at
+    ++ fetch_code s q at v ∷ (ex_code p s e (v + 1) (place_end p q pc + (address_size q + 1)) ++ Bin (operation op) (temp s v) (temp s v) (temp s (v + 1)) ∷ (land_code s q at v ∷ [])))
+
+abbrev pub bump_code : AnyProgram → Slots → Pl → BinOp → (h pc : ℕ) → List Instr
+bump_code p s q op h pc =
+    let at = place_above q h in
+    let v = above_address (far q) at in
+    place_code p s q h pc
+    ++ (address_code s q h at
+    ++ fetch_code s q at v ∷ (Const (temp s (v + 1)) 1 ∷ (Bin (operation op) (temp s v) (temp s v) (temp s (v + 1)) ∷ (land_code s q at v ∷ []))))
 
 -- a parameter gets n incoming words from one on
 abbrev pub param_code : Slots → Option ℕ → (n i : ℕ) → List Instr

@@ -1,17 +1,25 @@
 -- That the slots of a frame suffice.
-use Rattle.std.specs.Prelude.{◌≡◌, ℕ, zero, suc, ◌+◌, ◌<◌, ◌≤◌, List, [], ◌∷◌, Option, Some, None, length}
+use Rattle.std.specs.Prelude.{◌≡◌, ℕ, zero, suc, ◌+◌, ◌<◌, ◌≤◌, Bool, true, false, List, [], ◌∷◌, Option, Some, None, length}
+use Rattle.value_trees.specs.Types.{ValueType, width, part_type, part_offset}
 use Rattle.value_trees.specs.Paths.{offset}
-use Rattle.typed.specs.Syntax.{Ex, Exs, Pl, Left, Piece, St, Sts, Func, Program, constant, read, unary, binary, both, either, call, local, global, none, more, results, asked, blank, new, to, text, shown, over_int, declare, assign, update, bump, discard, block, choose, loop, range, break_off, go_on, give_back, print, raise, quit, done, next, argument_words, result_words, arguments_of, results_of, path_of, wide, all_wide, each_width, value_widths}
-use Rattle.simulated_code.specs.Code.{Slots, site_type, site_words, part_words, first_width, other_widths, slots_of}
+use Rattle.typed.specs.Syntax.{Ex, Exs, Pl, Steps, here, inner, at_index, Left, Piece, St, Sts, Func, Program, constant, read, unary, binary, both, either, call, part_of, literal, Elements, no_elements, element, local, global, none, more, results, asked, blank, new, to, text, shown, over_int, declare, assign, update, bump, discard, block, choose, loop, range, break_off, go_on, give_back, print, raise, quit, done, next, argument_words, result_words, arguments_of, results_of, path_of, wide, all_wide, each_width, value_widths, ascend, words_through, gap_behind}
+use Rattle.typed.specs.Frames.{far}
+use Rattle.simulated_code.specs.Code.{Slots, site_type, site_words, part_words, first_width, other_widths, above_address, place_above, lefts_above, slots_of}
 
 -- the site is among the n of a frame
 abbrev pub SiteFits : Slots → (n site : ℕ) → Type 0
 SiteFits s n site = (s.first ≤ site) × (site < s.first + n)
 
+-- the arrays with worked-out indices among the steps from values of a type have elements, with words
+abbrev pub IndicesFit : ValueType → Steps → Type 0
+IndicesFit t here = Unit {0}
+IndicesFit t (inner i steps) = IndicesFit (part_type t i) steps
+IndicesFit t (at_index p e m steps) = (0 < m) × (0 < width (part_type t 0)) × IndicesFit (part_type t 0) steps
+
 -- a part of it has words, and these are within its own
 abbrev pub PlaceFits : Slots → (n : ℕ) → Pl → Type 0
 PlaceFits s n (local site steps) =
-    SiteFits s n site × (0 < part_words s site (path_of steps)) × (offset (site_type s site) (path_of steps) + part_words s site (path_of steps) ≤ site_words s site)
+    SiteFits s n site × (0 < part_words s site (path_of steps)) × (offset (site_type s site) (path_of steps) + part_words s site (path_of steps) ≤ site_words s site) × IndicesFit (site_type s site) steps
 PlaceFits s n (global g steps) = Unit {0}
 
 -- the words of a place; a package variable has one
@@ -21,8 +29,7 @@ reached s (global g steps) = 1
 
 -- there is a temp for the address of a place, if it has one
 abbrev pub AddressFits : (temps at : ℕ) → Pl → Type 0
-AddressFits temps at (local site steps) = Unit {0}
-AddressFits temps at (global g steps) = at < temps
+AddressFits temps at q = at + far q ≤ temps
 
 abbrev pub SitesFit : Slots → (n : ℕ) → List ℕ → Type 0
 SitesFit s n [] = Unit {0}
@@ -84,18 +91,46 @@ module _ (p : Program) (s : Slots) (n : ℕ) where
   abbrev mutual
     pub Fits : (h : ℕ) → Ex → Type 0
     Fits h (constant v) = h < s.temps
-    Fits h (read q) = (h + reached s q ≤ s.temps) × PlaceFits s n q
+    Fits h (read q) = (h + reached s q ≤ s.temps) × PlaceFits s n q × AddressFits s.temps (place_above q h) q × OperandsFit h q
     Fits h (unary op e) = (h < s.temps) × Fits h e
-    Fits h (binary at op a b) = (h + 1 < s.temps) × Fits h a × Fits (h + 1) b
+    Fits h (binary at op a b) = (0 < wide p a) × (h + wide p a + wide p a ≤ s.temps) × Fits h a × Fits (h + wide p a) b
     Fits h (both a b) = (h < s.temps) × Fits h a × Fits h b
     Fits h (either a b) = (h < s.temps) × Fits h a × Fits h b
     Fits h (call f es) = CallFits h f × ExsFitIn h es
+    Fits h (part_of t i e) = (0 < width (part_type t i)) × (h + part_offset t i + width (part_type t i) ≤ s.temps) × Fits h e
+    Fits h (literal t es) = (0 < width t) × (h + width t ≤ s.temps) × ElementsFitIn h t (ascend es) es
+
+    -- the operands of a place, in temps from h on
+    pub OperandsFit : (h : ℕ) → Pl → Type 0
+    OperandsFit h (local site steps) = StepsFitIn h steps
+    OperandsFit h (global g steps) = StepsFitIn h steps
+
+    pub StepsFitIn : (h : ℕ) → Steps → Type 0
+    StepsFitIn h here = Unit {0}
+    StepsFitIn h (inner i steps) = StepsFitIn h steps
+    StepsFitIn h (at_index at e m steps) = (h < s.temps) × Fits h e × StepsFitIn (h + 1) steps
+
+    -- the elements of a literal in temps from h on
+    pub ElementsFitIn : (h : ℕ) → ValueType → (in_order : Bool) → Elements → Type 0
+    ElementsFitIn h t in_order no_elements = Unit {0}
+    ElementsFitIn h t true (element i e es) =
+        (h + words_through t i + gap_behind t i es ≤ s.temps) × Fits (h + part_offset t i) e × ElementsFitIn h t true es
+    ElementsFitIn h t false (element i e es) =
+        (0 < width (part_type t i)) × (h + part_offset t i + width (part_type t i) ≤ s.temps) × (h + width t + width (part_type t i) ≤ s.temps)
+        × Fits (h + width t) e × ElementsFitIn h t false es
 
     pub ExsFitIn : (h : ℕ) → Exs → Type 0
     ExsFitIn h none = Unit {0}
     ExsFitIn h (more e es) = (h + wide p e ≤ s.temps) × Fits h e × ExsFitIn (h + wide p e) es
     ExsFitIn h (results f es) = CallFits h f × ExsFitIn h es
     ExsFitIn h asked = h + 2 ≤ s.temps
+
+  -- the operands of left sides, in temps from h on
+  abbrev pub ReadyFitIn : (h : ℕ) → List Left → Type 0
+  ReadyFitIn h [] = Unit {0}
+  ReadyFitIn h (blank ∷ ls) = ReadyFitIn h ls
+  ReadyFitIn h (new site ∷ ls) = ReadyFitIn h ls
+  ReadyFitIn h (to q ∷ ls) = OperandsFit h q × ReadyFitIn (place_above q h) ls
 
   abbrev pub PiecesFitIn : (h : ℕ) → List Piece → Type 0
   PiecesFitIn h [] = Unit {0}
@@ -111,14 +146,18 @@ module _ (p : Program) (s : Slots) (n : ℕ) where
     abbrev mutual
       pub StFitsIn : (h : ℕ) → St → Type 0
       StFitsIn h (declare sites) = SitesFit s n sites
-      StFitsIn h (assign ls es) = (h + all_wide p es ≤ s.temps) × ExsFitIn h es × LeftsFitIn s n (h + all_wide p es) h (value_widths p es) ls
-      StFitsIn h (update at q op e) = (h + 1 < s.temps) × PlaceFits s n q × (reached s q ≤ 1) × Fits (h + 1) e
-      StFitsIn h (bump q op) = (h + 1 < s.temps) × PlaceFits s n q × (reached s q ≤ 1)
+      StFitsIn h (assign ls es) =
+          let first = lefts_above ls h in
+          (first + all_wide p es ≤ s.temps) × ReadyFitIn h ls × ExsFitIn first es × LeftsFitIn s n (first + all_wide p es) first (value_widths p es) ls
+      StFitsIn h (update at q op e) =
+          let v = above_address (far q) (place_above q h) in
+          (v + 1 < s.temps) × PlaceFits s n q × (reached s q ≤ 1) × OperandsFit h q × Fits (v + 1) e
+      StFitsIn h (bump q op) = (above_address (far q) (place_above q h) + 1 < s.temps) × PlaceFits s n q × (reached s q ≤ 1) × OperandsFit h q
       StFitsIn h (discard es) = ExsFitIn h es
       StFitsIn h (block ss) = StsFitIn h ss
       StFitsIn h (choose e a b) = (h < s.temps) × Fits h e × StsFitIn h a × StsFitIn h b
       StFitsIn h (loop sites test post body) = TestFitsIn h test × SitesFit s n sites × RenewFits s h sites × StsFitIn h post × StsFitIn h body
-      StFitsIn h (range (over_int e) key value body) = (h + 2 < s.temps) × Fits h e × LeftFits s n (h + 2) key × (left_words s key ≤ 1) × StsFitIn (h + 2) body
+      StFitsIn h (range (over_int e) key value body) = (h + 2 < s.temps) × Fits h e × ReadyFitIn (h + 2) (key ∷ []) × LeftFits s n (lefts_above (key ∷ []) (h + 2)) key × (left_words s key ≤ 1) × StsFitIn (h + 2) body
       StFitsIn h break_off = Unit {0}
       StFitsIn h go_on = Unit {0}
       StFitsIn h (give_back es) = ExsFitIn h es × ValuesFit s wanted h (all_wide p es) named

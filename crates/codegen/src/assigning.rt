@@ -4,13 +4,13 @@ ghost use Rattle.isa.specs.declared.instr.Instr.{Instr};
 ghost use Rattle.typed.specs.View.{ex_of, exs_of_values, left_of, place_of, program_of};
 ghost use Rattle.typed.specs.Syntax.{all_wide, value_widths};
 ghost use Rattle.typed.specs.Frames.{far};
-ghost use Rattle.codegen.specs.Frame.{slots_in, left_code, IsSmall};
+ghost use Rattle.codegen.specs.Frame.{slots_in, assign_code, bump_code, left_code, update_code, IsSmall};
 ghost use Rattle.codegen.specs.Temps.{ExsFitIn, Fits, LeftFits, LeftsFitIn, PlaceFits, reached};
-ghost use Rattle.simulated_code.specs.Code.{ex_code, exs_code, lefts_code, operation, read_code, temp, write_code};
+ghost use Rattle.simulated_code.specs.Code.{above_address as above_address_of, lefts_above, lefts_code, place_above};
 
 use crate::jumps::put;
 use crate::moving::moves;
-use crate::reaching::{emit_read, emit_write};
+use crate::reaching::{above_address, emit_address, emit_fetch, emit_land, emit_write};
 use crate::slots::Frame;
 use crate::values::{emit_expr, emit_operation, emit_values};
 use crate::widths::value_words;
@@ -31,7 +31,7 @@ pub fn emit_left(
     requires temp { h ≤ frame.temps }
     requires fits { LeftFits (slots_in program.now frame) frame.sites at (left_of left) }
     requires frame { IsSmall program.now frame }
-    ensures { OnOk result (code.new.items ≡ code.old.items ++ left_code (slots_in program.now frame) (left_of left) at h) }
+    ensures { OnOk result (code.new.items ≡ code.old.items ++ left_code (slots_in program.now frame) (left_of left) at at h) }
 {
     match left {
         Left::Blank => {}
@@ -57,7 +57,7 @@ fn emit_lefts(
     requires fits { LeftsFitIn (slots_in program.now frame) frame.sites at h (value_widths (program_of program.now) (exs_of_values values.now)) (map left_of ls.now) }
     requires frame { IsSmall program.now frame }
     ensures { OnOk result (code.new.items ≡ code.old.items
-        ++ lefts_code (slots_in program.now frame) (value_widths (program_of program.now) (exs_of_values values.now)) (map left_of ls.now) at h) }
+        ++ lefts_code (slots_in program.now frame) (value_widths (program_of program.now) (exs_of_values values.now)) (map left_of ls.now) h at h) }
 {
     let mut next = h;
     for (i, left) in ls.iter().enumerate() {
@@ -68,6 +68,7 @@ fn emit_lefts(
 }
 
 /// All values are there before the first left side gets its own; an address goes behind them.
+#[tactic(auto, using(crate::proofs::Alone::lefts_at, crate::proofs::Emitted::assign_emitted))]
 pub fn emit_assign(
     code: &mut Vec<Instr>,
     program: &Program,
@@ -76,12 +77,13 @@ pub fn emit_assign(
     values: &Values,
     h: u16,
 ) -> Result<(), NoMemory>
-    requires room { h + all_wide (program_of program.now) (exs_of_values values.now) ≤ frame.temps }
-    requires fits { ExsFitIn (program_of program.now) (slots_in program.now frame) frame.sites h (exs_of_values values.now) × LeftsFitIn (slots_in program.now frame) frame.sites (h + all_wide (program_of program.now) (exs_of_values values.now)) h (value_widths (program_of program.now) (exs_of_values values.now)) (map left_of ls.now) }
+    requires room { lefts_above (map left_of ls.now) h + all_wide (program_of program.now) (exs_of_values values.now) ≤ frame.temps }
+    requires values { ExsFitIn (program_of program.now) (slots_in program.now frame) frame.sites (lefts_above (map left_of ls.now) h) (exs_of_values values.now) }
+    requires lefts { LeftsFitIn (slots_in program.now frame) frame.sites (lefts_above (map left_of ls.now) h + all_wide (program_of program.now) (exs_of_values values.now))
+        (lefts_above (map left_of ls.now) h) (value_widths (program_of program.now) (exs_of_values values.now)) (map left_of ls.now) }
     requires frame { IsSmall program.now frame }
     ensures { OnOk result (code.new.items ≡ code.old.items
-        ++ (exs_code (program_of program.now) (slots_in program.now frame) (exs_of_values values.now) h (length code.old.items)
-        ++ lefts_code (slots_in program.now frame) (value_widths (program_of program.now) (exs_of_values values.now)) (map left_of ls.now) (h + all_wide (program_of program.now) (exs_of_values values.now)) h)) }
+        ++ assign_code (program_of program.now) (slots_in program.now frame) (map left_of ls.now) (exs_of_values values.now) h (length code.old.items)) }
 {
     emit_values(code, program, frame, values, h)?;
     let behind = h + values_words(program, values)? as u16;
@@ -89,8 +91,8 @@ pub fn emit_assign(
     Ok(())
 }
 
-/// An assignment with an operator. The place's value stands below the operand's.
-#[tactic(auto, using(crate::proofs::Emitted::update_emitted))]
+/// An assignment with an operator. The place's value stands below the operand's, above its address.
+#[tactic(auto, using(crate::proofs::Alone::place_at, crate::proofs::Operands::above_sum, crate::proofs::Emitted::update_emitted))]
 pub fn emit_update(
     code: &mut Vec<Instr>,
     program: &Program,
@@ -100,22 +102,24 @@ pub fn emit_update(
     e: &Expr,
     h: u16,
 ) -> Result<(), NoMemory>
-    requires fits { (h + 1 < frame.temps) × PlaceFits (slots_in program.now frame) frame.sites (place_of place) × (reached (slots_in program.now frame) (place_of place) ≤ 1) × Fits (program_of program.now) (slots_in program.now frame) frame.sites (h + 1) (ex_of e.now) }
+    requires room { above_address_of (far (place_of place)) (place_above (place_of place) h) + 1 < frame.temps }
+    requires place { PlaceFits (slots_in program.now frame) frame.sites (place_of place) × (reached (slots_in program.now frame) (place_of place) ≤ 1) }
+    requires operand { Fits (program_of program.now) (slots_in program.now frame) frame.sites (above_address_of (far (place_of place)) (place_above (place_of place) h) + 1) (ex_of e.now) }
     requires frame { IsSmall program.now frame }
     ensures { OnOk result (code.new.items ≡ code.old.items
-        ++ (read_code (slots_in program.now frame) (place_of place) h
-        ++ (ex_code (program_of program.now) (slots_in program.now frame) (ex_of e.now) (h + 1) (length code.old.items + (far (place_of place) + 1))
-        ++ Instr.Bin (operation op) (temp (slots_in program.now frame) h) (temp (slots_in program.now frame) h) (temp (slots_in program.now frame) (h + 1))
-        ∷ write_code (slots_in program.now frame) (place_of place) (h + 1) h))) }
+        ++ update_code (program_of program.now) (slots_in program.now frame) (place_of place) op (ex_of e.now) h (length code.old.items)) }
 {
-    emit_read(code, program, frame, place, h)?;
-    emit_expr(code, program, frame, e, h + 1)?;
-    emit_operation(code, program, frame, op, h)?;
-    emit_write(code, program, frame, place, h + 1, h)?;
+    let value = above_address(place, h);
+    emit_address(code, program, frame, place, h)?;
+    emit_fetch(code, program, frame, place, h, value)?;
+    emit_expr(code, program, frame, e, value + 1)?;
+    emit_operation(code, program, frame, op, value)?;
+    emit_land(code, program, frame, place, h, value)?;
     Ok(())
 }
 
 /// `++` or `--`.
+#[tactic(auto, using(crate::proofs::Alone::place_at, crate::proofs::Operands::above_sum, crate::proofs::Emitted::bump_emitted))]
 pub fn emit_bump(
     code: &mut Vec<Instr>,
     program: &Program,
@@ -124,18 +128,18 @@ pub fn emit_bump(
     op: BinOp,
     h: u16,
 ) -> Result<(), NoMemory>
-    requires fits { (h + 1 < frame.temps) × PlaceFits (slots_in program.now frame) frame.sites (place_of place) × (reached (slots_in program.now frame) (place_of place) ≤ 1) }
+    requires room { above_address_of (far (place_of place)) (place_above (place_of place) h) + 1 < frame.temps }
+    requires place { PlaceFits (slots_in program.now frame) frame.sites (place_of place) × (reached (slots_in program.now frame) (place_of place) ≤ 1) }
     requires frame { IsSmall program.now frame }
     ensures { OnOk result (code.new.items ≡ code.old.items
-        ++ (read_code (slots_in program.now frame) (place_of place) h
-        ++ (Instr.Const (temp (slots_in program.now frame) (h + 1)) 1
-        ∷ Instr.Bin (operation op) (temp (slots_in program.now frame) h) (temp (slots_in program.now frame) h) (temp (slots_in program.now frame) (h + 1))
-        ∷ write_code (slots_in program.now frame) (place_of place) (h + 1) h))) }
+        ++ bump_code (program_of program.now) (slots_in program.now frame) (place_of place) op h (length code.old.items)) }
 {
-    emit_read(code, program, frame, place, h)?;
-    let a = frame.temp(h + 1);
+    let value = above_address(place, h);
+    emit_address(code, program, frame, place, h)?;
+    emit_fetch(code, program, frame, place, h, value)?;
+    let a = frame.temp(value + 1);
     put(code, Instr::Const { a, word: 1 })?;
-    emit_operation(code, program, frame, op, h)?;
-    emit_write(code, program, frame, place, h + 1, h)?;
+    emit_operation(code, program, frame, op, value)?;
+    emit_land(code, program, frame, place, h, value)?;
     Ok(())
 }

@@ -46,6 +46,7 @@ fn call_len(program: &Program, f: FuncId) -> Result<u32, NoMemory>
 
 /// An expression.
 #[cycle(values)]
+#[tactic(auto, using(crate::proofs::Alone::place_sized))]
 pub fn expr_len(program: &Program, e: &Expr) -> Result<u32, NoMemory>
     ensures { IfOk result (λ n. n ≡ size (program_of program.now) (ex_of e.now)) }
 {

@@ -6,7 +6,7 @@ ghost use Rattle.typed.specs.Syntax.{argument_words};
 ghost use Rattle.typed.specs.View.{ex_of, func_of, left_of, program_of, site_numbers, sts_of, test_of};
 ghost use Rattle.codegen.specs.Frame.{slots_in, left_code, IsSmall};
 ghost use Rattle.codegen.specs.Temps.{Fits, LeftFits, RenewFits, SitesFit, TestFitsIn};
-ghost use Rattle.simulated_code.specs.Code.{ex_code, lefts_size, renew_code, renew_size, size, sts_size, temp, test_code, test_size};
+ghost use Rattle.simulated_code.specs.Code.{ex_code, lefts_above, lefts_size, renew_code, renew_size, size, sts_size, temp, test_code, test_size};
 
 use crate::assigning::emit_left;
 use crate::jumps::{Goals, put};
@@ -140,6 +140,7 @@ pub fn emit_count_start(
 }
 
 /// A round begins: where the index is not below the number, goes on at a place; else the left side gets the index.
+#[tactic(auto, using(crate::proofs::Alone::key_at))]
 pub fn emit_count_test(
     code: &mut Vec<Instr>,
     program: &Program,
@@ -149,12 +150,12 @@ pub fn emit_count_test(
     out: u32,
 ) -> Result<(), NoMemory>
     requires temps { h + 2 < frame.temps }
-    requires key { LeftFits (slots_in program.now frame) frame.sites (h + 2) (left_of key) }
+    requires key { LeftFits (slots_in program.now frame) frame.sites (lefts_above (left_of key ∷ []) (h + 2)) (left_of key) }
     requires frame { IsSmall program.now frame }
     ensures { OnOk result (code.new.items ≡ code.old.items
         ++ Instr.Bin BinOp.Less (temp (slots_in program.now frame) (h + 2)) (temp (slots_in program.now frame) (h + 1)) (temp (slots_in program.now frame) h)
         ∷ Instr.JumpZero (temp (slots_in program.now frame) (h + 2)) out
-        ∷ left_code (slots_in program.now frame) (left_of key) (h + 2) (h + 1)) }
+        ∷ left_code (slots_in program.now frame) (left_of key) (h + 2) (h + 2) (h + 1)) }
 {
     let (number, index, below) = (frame.temp(h), frame.temp(h + 1), frame.temp(h + 2));
     let op = isa::BinOp::Less;

@@ -2,8 +2,7 @@
 ghost use Rattle.std.specs.Prelude.{◌≡◌, ◌+◌, ◌≤◌, IfOk, ◌∷◌, [], map};
 ghost use Rattle.typed.specs.Syntax.{all_wide, argument_words};
 ghost use Rattle.typed.specs.View.{ex_of, exs_of_values, func_of, left_of, piece_of, place_of, program_of, site_numbers, st_of, sts_of, test_of};
-ghost use Rattle.typed.specs.Frames.{far};
-ghost use Rattle.simulated_code.specs.Code.{exs_size, leave_size, lefts_size, piece_size, pieces_size, renew_size, shown_size, size, st_size, sts_size, test_size, values_size};
+ghost use Rattle.simulated_code.specs.Code.{address_size, exs_size, leave_size, lefts_size, lefts_sized, piece_size, place_size, pieces_size, renew_size, shown_size, size, st_size, sts_size, test_size, values_size};
 
 use crate::lengths::{expr_len, last_len, move_len, number, plus, test_len, values_len};
 use crate::reaching::address_len;
@@ -11,7 +10,7 @@ use base::{NoMemory, SiteId};
 use frame_layout::values_words;
 use typed::{Expr, Func, Left, Piece, Place, Program, Stmt, Values};
 
-/// A bump: a read, a constant, the operation and a write, without their addresses.
+/// A bump: a read, a constant, the operation and a write, without the address.
 const BUMP: u32 = 4;
 
 /// `range`: what stands before its test, and the test with its jump.
@@ -84,20 +83,31 @@ fn lefts_len(ls: &[Left]) -> Result<u32, NoMemory>
     Ok(total)
 }
 
+#[tactic(auto, using(crate::proofs::Alone::lefts_alone))]
 fn assign_len(program: &Program, ls: &[Left], values: &Values) -> Result<u32, NoMemory>
-    ensures { IfOk result (λ n. n ≡ exs_size (program_of program.now) (exs_of_values values.now) + lefts_size (map left_of ls.now)) }
+    ensures { IfOk result (λ n. n ≡ lefts_sized (program_of program.now) (map left_of ls.now)
+        (exs_size (program_of program.now) (exs_of_values values.now) + lefts_size (map left_of ls.now))) }
 {
     let m = values_len(program, values)?;
     let n = lefts_len(ls)?;
     plus(m, n)
 }
 
-// A read stands before the operand, the operation and a write behind it, each with an address, if there is one.
+// The address, if there is one, and a read stand before the operand, the operation and a write behind it.
+#[tactic(auto, using(crate::proofs::Alone::place_sized))]
 fn update_len(program: &Program, place: Place, e: &Expr) -> Result<u32, NoMemory>
-    ensures { IfOk result (λ n. n ≡ far (place_of place) + 1 + size (program_of program.now) (ex_of e.now) + 1 + (far (place_of place) + 1)) }
+    ensures { IfOk result (λ n. n ≡ place_size (program_of program.now) (place_of place) (address_size (place_of place) + 1 + size (program_of program.now) (ex_of e.now) + 1 + 1)) }
 {
     let n = expr_len(program, e)?;
-    plus(n, 2 * address_len(place) + 3)
+    plus(n, address_len(place) + 3)
+}
+
+// `++` and `--`.
+#[tactic(auto, using(crate::proofs::Alone::place_sized))]
+fn bump_len(program: &Program, place: Place) -> u32
+    ensures { result ≡ place_size (program_of program.now) (place_of place) (address_size (place_of place) + 1 + 2 + 1) }
+{
+    address_len(place) + BUMP
 }
 
 // So many words of values become the results, which have these names or none.
@@ -184,8 +194,9 @@ pub fn key_len(key: Left) -> u32
 }
 
 // A `range` over a number whose body has so many.
+#[tactic(auto, using(crate::proofs::Alone::key_sized))]
 fn count_len(program: &Program, e: &Expr, key: Left, body: u32) -> Result<u32, NoMemory>
-    ensures { IfOk result (λ n. n ≡ size (program_of program.now) (ex_of e.now) + 1 + 2 + lefts_size (left_of key ∷ []) + body + 3) }
+    ensures { IfOk result (λ n. n ≡ size (program_of program.now) (ex_of e.now) + 1 + 2 + lefts_sized (program_of program.now) (left_of key ∷ []) (lefts_size (left_of key ∷ [])) + body + 3) }
 {
     let operand = expr_len(program, e)?;
     let head = plus(operand, COUNT_HEAD + key_len(key))?;
@@ -202,7 +213,7 @@ fn stmt_len(program: &Program, func: &Func, s: &Stmt) -> Result<u32, NoMemory>
         Stmt::Declare(sites) => number(sites.len()),
         Stmt::Assign(ls, values) => assign_len(program, ls, values),
         Stmt::Update(_, place, _, e) => update_len(program, *place, e),
-        Stmt::Bump(place, _) => Ok(2 * address_len(*place) + BUMP),
+        Stmt::Bump(place, _) => Ok(bump_len(program, *place)),
         Stmt::Discard(values) => values_len(program, values),
         Stmt::Block(ss) => stmts_len(program, func, ss),
         Stmt::If(e, a, b) => {

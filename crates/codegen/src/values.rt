@@ -4,7 +4,7 @@ ghost use Rattle.isa.specs.declared.instr.Instr.{Instr};
 ghost use Rattle.typed.specs.View.{ex_of, exs_of, exs_of_values, program_of, value_of};
 ghost use Rattle.codegen.specs.Frame.{slots_in, IsSmall};
 ghost use Rattle.codegen.specs.Temps.{CallFits, Fits, ExsFitIn};
-ghost use Rattle.simulated_code.specs.Code.{call_code, ex_code, exs_code, operation as operation_of, size, temp, unary_code, word_of};
+ghost use Rattle.simulated_code.specs.Code.{binary_code as code_of_binary, call_code, ex_code, exs_code, operation as operation_of, size, temp, unary_code, word_of};
 
 use crate::jumps::{jump, jump_if_zero, put};
 use crate::lengths::expr_len;
@@ -135,6 +135,47 @@ fn pass_either(
     Ok(())
 }
 
+// An operator on operands of n words, from slots a and c on; what it gives goes to slot a. Values of one word are compared
+// as words are.
+#[tactic(auto, using(crate::proofs::Operators::binary_one, crate::proofs::Operators::same_many, crate::proofs::Operators::differ_many, crate::proofs::Operators::other_word))]
+fn binary(op: BinOp, n: u16, a: u16, c: u16) -> Instr
+    ensures { result ≡ code_of_binary op n a c }
+{
+    let word = Instr::Bin {
+        op: operation(op),
+        a,
+        b: a,
+        c,
+    };
+    if n == 1 {
+        return word;
+    }
+    match op {
+        BinOp::Equal => Instr::Same { a, b: a, c, n },
+        BinOp::NotEqual => Instr::Differ { a, b: a, c, n },
+        _ => word,
+    }
+}
+
+// An operator on operands of n words, in temps from h and from h + n on, to temp h.
+fn emit_binary(
+    code: &mut Vec<Instr>,
+    program: &Program,
+    frame: Frame,
+    op: BinOp,
+    n: u16,
+    h: u16,
+) -> Result<(), NoMemory>
+    requires temp { h + n ≤ frame.temps }
+    requires frame { IsSmall program.now frame }
+    ensures { OnOk result (code.new.items ≡ code.old.items
+        ++ code_of_binary op n (temp (slots_in program.now frame) h) (temp (slots_in program.now frame) (h + n)) ∷ []) }
+{
+    let (a, c) = (frame.temp(h), frame.temp(h + n));
+    put(code, binary(op, n, a, c))?;
+    Ok(())
+}
+
 /// The operation on temps h and h + 1, to temp h.
 pub fn emit_operation(
     code: &mut Vec<Instr>,
@@ -182,9 +223,10 @@ pub fn emit_expr(
         Expr::Binary(_, op, a, b) => {
             let a: &Expr = a;
             let b: &Expr = b;
+            let n = expr_words(program, a)? as u16;
             emit_expr(code, program, frame, a, h)?;
-            emit_expr(code, program, frame, b, h + 1)?;
-            emit_operation(code, program, frame, *op, h)?;
+            emit_expr(code, program, frame, b, h + n)?;
+            emit_binary(code, program, frame, *op, n, h)?;
         }
         Expr::Both(a, b) => {
             let a: &Expr = a;

@@ -128,8 +128,8 @@ takes_fits (Arithmetic op) Boolean Boolean is at x y p scope f g = cc is
 takes_fits (Compare op) Int Int is at x y p scope f g = by op
   where
     by : (k : CompareOp) → ExFits p scope bools (typed.binary at (compare_of k) x y)
-    by Equal = (ints, (inl refl, refl), f, g)
-    by NotEqual = (ints, (inl refl, refl), f, g)
+    by Equal = (ints, (omega arith, refl), f, g)
+    by NotEqual = (ints, (omega arith, refl), f, g)
     by Less = (ints, (refl, refl), f, g)
     by LessEqual = (ints, (refl, refl), f, g)
     by Greater = (ints, (refl, refl), f, g)
@@ -137,8 +137,8 @@ takes_fits (Compare op) Int Int is at x y p scope f g = by op
 takes_fits (Compare op) Boolean Boolean is at x y p scope f g = by op is
   where
     by : (k : CompareOp) → takes (Compare k) Boolean Boolean ≡ true → ExFits p scope bools (typed.binary at (compare_of k) x y)
-    by Equal h = (bools, (inr refl, refl), f, g)
-    by NotEqual h = (bools, (inr refl, refl), f, g)
+    by Equal h = (bools, (omega arith, refl), f, g)
+    by NotEqual h = (bools, (omega arith, refl), f, g)
     by Less h = cc h
     by LessEqual h = cc h
     by Greater h = cc h

@@ -19,6 +19,7 @@ fn call_reach(program: &Program, f: FuncId) -> Result<u64, NoMemory>
 
 /// The most words that a call inside of an expression wants.
 #[cycle(values)]
+#[tactic(auto, using(crate::proofs::Operands::place_reaches))]
 pub fn expr_reach(program: &Program, e: &Expr) -> Result<u64, NoMemory>
     ensures { IfOk result (λ n. n ≡ reach (program_of program.now) (ex_of e.now)) }
 {
@@ -123,7 +124,7 @@ fn test_words(program: &Program, test: &Option<Expr>) -> Result<u64, NoMemory>
 
 /// The most words that a call inside of a statement wants.
 #[cycle(reach)]
-#[tactic(auto, using(typed::proofs::Rows::stmt_rows))]
+#[tactic(auto, using(typed::proofs::Rows::stmt_rows, crate::proofs::Operands::place_reaches, crate::proofs::Operands::lefts_reaches, crate::proofs::Operands::key_reaches))]
 pub fn stmt_reach(program: &Program, s: &Stmt) -> Result<u64, NoMemory>
     ensures { IfOk result (λ n. n ≡ st_reach (program_of program.now) (st_of s.now)) }
 {

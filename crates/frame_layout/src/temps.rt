@@ -1,9 +1,9 @@
 //! The temps that values want. A number of temps that passes 64 bits counts as want of memory.
 
 ghost use Rattle.std.specs.Prelude.{◌≡◌, ◌≤◌, ◌+◌, max, map, IfOk};
-ghost use Rattle.typed.specs.Syntax.{Program as AnyProgram, all_wide};
+ghost use Rattle.typed.specs.Syntax.{Program as AnyProgram, all_wide, place_width};
 ghost use Rattle.typed.specs.View.{ex_of, exs_of, exs_of_values, place_of, piece_of, test_of, site_numbers, left_of, st_of, sts_of, program_of};
-ghost use Rattle.typed.specs.Frames.{far, left_far, lefts_far, behind_values, need, need_all, piece_need, need_pieces, test_need, key_need, st_need, sts_need, widest as widest_of};
+ghost use Rattle.typed.specs.Frames.{far, left_far, lefts_far, behind_values, need, need_all, place_need, lefts_need, piece_need, need_pieces, test_need, key_need, st_need, sts_need, widest as widest_of};
 
 use crate::words::{expr_words, place_words, results_of, values_words, widest};
 use base::{NoMemory, SiteId};
@@ -21,6 +21,14 @@ fn above(temps: u64) -> Result<u64, NoMemory>
     temps.checked_add(1).ok_or(NoMemory)
 }
 
+/// The temps of a read: the address of a place gives way to its words.
+#[tactic(auto, using(crate::proofs::Operands::place_alone))]
+fn read_temps(program: &Program, place: Place) -> u64
+    ensures { result ≡ max (place_need (program_of program.now) (place_of place) (far (place_of place))) (place_width (program_of program.now) (place_of place)) }
+{
+    address_temps(place).max(place_words(program, place))
+}
+
 /// The temps of an expression, from the one on in which its value lands.
 #[cycle(values)]
 pub fn expr_temps(program: &Program, e: &Expr) -> Result<u64, NoMemory>
@@ -28,8 +36,7 @@ pub fn expr_temps(program: &Program, e: &Expr) -> Result<u64, NoMemory>
 {
     match e {
         Expr::Constant(_) => Ok(1),
-        // The address of a place gives way to its words.
-        Expr::Read(place) => Ok(address_temps(*place).max(place_words(program, *place))),
+        Expr::Read(place) => Ok(read_temps(program, *place)),
         Expr::Unary(_, a) => {
             let a: &Expr = a;
             expr_temps(program, a)
@@ -39,7 +46,8 @@ pub fn expr_temps(program: &Program, e: &Expr) -> Result<u64, NoMemory>
             let b: &Expr = b;
             let first = expr_temps(program, a)?;
             let second = expr_temps(program, b)?;
-            let beside = above(second)?;
+            let words = expr_words(program, a)?;
+            let beside = words.checked_add(second).ok_or(NoMemory)?;
             Ok(first.max(beside))
         }
         Expr::Both(a, b) => {
@@ -156,6 +164,7 @@ fn address_temps(place: Place) -> u64
 }
 
 /// The temp of the index that a left side gets, and that of its address.
+#[tactic(auto, using(crate::proofs::Operands::place_alone))]
 fn key_temps(key: Left) -> u64
     ensures need { (p : AnyProgram) → result ≡ key_need p (left_of key) }
     ensures few { result ≤ 2 }
@@ -193,8 +202,10 @@ fn lefts_address(lefts: &[Left]) -> u64
 
 /// The temps of an assignment: those of its values, and where a left side has an address, the values and this behind
 /// them.
+#[tactic(auto, using(crate::proofs::Operands::lefts_alone))]
 fn assign_temps(program: &Program, lefts: &[Left], values: &Values) -> Result<u64, NoMemory>
-    ensures { IfOk result (λ n. n ≡ max (need_all (program_of program.now) (exs_of_values values.now)) (behind_values (all_wide (program_of program.now) (exs_of_values values.now)) (lefts_far (map left_of lefts.now)))) }
+    ensures { IfOk result (λ n. n ≡ lefts_need (program_of program.now) (map left_of lefts.now)
+        (max (need_all (program_of program.now) (exs_of_values values.now)) (behind_values (all_wide (program_of program.now) (exs_of_values values.now)) (lefts_far (map left_of lefts.now))))) }
 {
     let temps = values_temps(program, values)?;
     let address = lefts_address(lefts);
@@ -207,12 +218,21 @@ fn assign_temps(program: &Program, lefts: &[Left], values: &Values) -> Result<u6
 }
 
 /// The temps of an assignment with an operator: an address, if there is one, the value, and those of the operand.
+#[tactic(auto, using(crate::proofs::Operands::place_alone))]
 fn update_temps(program: &Program, place: Place, e: &Expr) -> Result<u64, NoMemory>
-    ensures { IfOk result (λ n. n ≡ far (place_of place) + 1 + need (program_of program.now) (ex_of e.now)) }
+    ensures { IfOk result (λ n. n ≡ place_need (program_of program.now) (place_of place) (far (place_of place) + 1 + need (program_of program.now) (ex_of e.now))) }
 {
     let operand = expr_temps(program, e)?;
     let kept = address_temps(place) + 1;
     operand.checked_add(kept).ok_or(NoMemory)
+}
+
+/// The temps of `++` and `--`: an address, if there is one, the value, and 1.
+#[tactic(auto, using(crate::proofs::Operands::place_alone))]
+fn bump_temps(program: &Program, place: Place) -> u64
+    ensures { result ≡ place_need (program_of program.now) (place_of place) (far (place_of place) + 2) }
+{
+    address_temps(place) + 2
 }
 
 /// The temps of a `range` over a number whose body wants so many.
@@ -244,7 +264,7 @@ pub fn stmt_temps(program: &Program, named: &[SiteId], s: &Stmt) -> Result<u64, 
         Stmt::Declare(_) => Ok(0),
         Stmt::Assign(lefts, values) => assign_temps(program, lefts, values),
         Stmt::Update(_, place, _, e) => update_temps(program, *place, e),
-        Stmt::Bump(place, _) => Ok(address_temps(*place) + 2),
+        Stmt::Bump(place, _) => Ok(bump_temps(program, *place)),
         Stmt::Discard(values) => values_temps(program, values),
         Stmt::Block(ss) => body_temps(program, named, ss),
         Stmt::If(e, a, b) => {

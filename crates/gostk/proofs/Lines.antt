@@ -1,8 +1,9 @@
 -- Lines from their pieces.
-use Rattle.std.proofs.Common.{◌≡◌, ◌∙◌, ap, sym, ℕ, List, ◌++◌, Option, Result, OnErr, Vec, subst, codes, decimal}
+use Rattle.std.proofs.Common.{◌≡◌, ◌∙◌, ap, sym, ℕ, ℤ, List, ◌++◌, Option, Result, OnErr, Vec, subst, codes, decimal, append_assoc}
+use Rattle.std.specs.Fmt.{signed_decimal}
 use Rattle.std.specs.declared.alloc.Global.{Global}
 use Rattle.outside.specs.Took.{TookPrefix}
-use Rattle.gostk.specs.Answer.{reason_text, panic_line}
+use Rattle.gostk.specs.Answer.{index_text, reason_text, panic_line}
 use Rattle.gostk.specs.declared.answer.Reason.{Reason}
 use Rattle.gostk.specs.declared.answer.Reason.TheVariants.{Text}
 use Rattle.gostk.specs.Refusal.{stage_text, words_text, refusal_line}
@@ -24,3 +25,9 @@ part_of_panic r old new taken bytes reason same is h =
     let e : codes "panic: " ++ (taken ++ codes "\n") ≡ panic_line (reason_text reason) =
     ap (λ (t : List ℕ). panic_line t) (same ∙ ap reason_text (sym is)) in
     subst (λ (t : List ℕ). OnErr r (TookPrefix old new t)) e h
+
+-- the line of a panic by an index
+pub index_line : (index length : ℤ) → codes "panic: index " ++ (signed_decimal index ++ (codes " length " ++ (signed_decimal length ++ codes "\n"))) ≡ panic_line (index_text index length)
+index_line index length =
+    let i = signed_decimal index in let l = signed_decimal length in
+    ap (λ t. codes "panic: index " ++ t) (sym (append_assoc i (codes " length " ++ l) (codes "\n") ∙ ap (λ t. i ++ t) (append_assoc (codes " length ") l (codes "\n"))))

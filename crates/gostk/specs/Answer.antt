@@ -1,14 +1,14 @@
 -- The status and the line of each answer.
-use Rattle.std.specs.Prelude.{ℕ, ◌≤◌, Bool, true, false, List, [], ◌++◌, codes, decimal, string_bytes}
+use Rattle.std.specs.Prelude.{ℕ, ℤ, ◌≤◌, Bool, true, false, List, [], ◌++◌, codes, decimal, string_bytes}
 use Rattle.std.specs.Fmt.{signed_decimal}
 use Rattle.value_trees.specs.Value.{Value, int, bool, composite}
-use Rattle.meaning.specs.Trace.{Fault, divide_by_zero, shift_count, exit_code, raised_text, raised}
+use Rattle.meaning.specs.Trace.{Fault, divide_by_zero, shift_count, index_out_of_range, exit_code, raised_text, raised}
 use Rattle.limits.specs.declared.limits.LimitFault.{LimitFault}
 use Rattle.limits.specs.Limits.{fault_number}
 use Rattle.gostk.specs.Refusal.{refusal_line}
 use Rattle.gostk.specs.declared.answer.Answer.{Answer}
 use Rattle.gostk.specs.declared.answer.Reason.{Reason}
-use Rattle.gostk.specs.declared.answer.Reason.TheVariants.{DivideByZero, NilPointer, ShiftCount, ExitCode, Text, Int, Bool as Truth}
+use Rattle.gostk.specs.declared.answer.Reason.TheVariants.{DivideByZero, NilPointer, ShiftCount, IndexOutOfRange, ExitCode, Text, Int, Bool as Truth}
 use Rattle.gostk.specs.declared.answer.Answer.TheVariants.{Ended, Panicked, Usage, Limits, SourceOnly, Refused, ReadFault, WriteFault, Steps, StackLimit, HeapLimit, NoMemory}
 
 abbrev pub status_of : Answer → ℕ
@@ -59,10 +59,14 @@ abbrev pub truth_text : Bool → List ℕ
 truth_text true = codes "true"
 truth_text false = codes "false"
 
+abbrev pub index_text : (index length : ℤ) → List ℕ
+index_text index length = codes "index " ++ (signed_decimal index ++ (codes " length " ++ signed_decimal length))
+
 abbrev pub reason_text : Reason → List ℕ
 reason_text DivideByZero = codes "divide by zero"
 reason_text NilPointer = codes "nil pointer"
 reason_text (ShiftCount n) = codes "shift count " ++ signed_decimal n
+reason_text (IndexOutOfRange index length) = index_text index length
 reason_text (ExitCode n) = codes "exit code " ++ signed_decimal n
 reason_text (Text bytes) = bytes.items
 reason_text (Int n) = signed_decimal n
@@ -77,6 +81,7 @@ value_text (composite vs) = []
 abbrev pub fault_text : Fault → List ℕ
 fault_text divide_by_zero = codes "divide by zero"
 fault_text (shift_count n) = codes "shift count " ++ signed_decimal n
+fault_text (index_out_of_range index length) = index_text index length
 fault_text (exit_code n) = codes "exit code " ++ signed_decimal n
 fault_text (raised_text bytes) = bytes
 fault_text (raised v) = value_text v

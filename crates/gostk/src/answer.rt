@@ -13,6 +13,8 @@ pub enum Reason {
     NilPointer,
     /// The count of a shift, which is below 0.
     ShiftCount(i64),
+    /// An index, and the length of what has no such element.
+    IndexOutOfRange { index: i64, length: i64 },
     /// The status of an exit, which is not from 0 to 125.
     ExitCode(i64),
     /// The bytes of a string, a number, or a truth value.

@@ -4,7 +4,7 @@ ghost use Rattle.std.specs.Prelude.{◌++◌, OnOk, OnErr, codes};
 ghost use Rattle.outside.specs.Causes.{HasCause};
 ghost use Rattle.outside.specs.Line.{text_of};
 ghost use Rattle.outside.specs.Took.{Took, TookPrefix};
-ghost use Rattle.gostk.specs.Answer.{line_of, reason_text, panic_line, limits_line, steps_line, limit_line};
+ghost use Rattle.gostk.specs.Answer.{line_of, index_text, reason_text, panic_line, limits_line, steps_line, limit_line};
 ghost use Rattle.gostk.specs.Refusal.{refusal_line};
 ghost use Rattle.gostk.specs.Rows.{Reported};
 
@@ -87,6 +87,7 @@ fn put_panic<E: Sink>(reason: &Reason, err: &mut E) -> Result<(), Failed>
         Reason::DivideByZero => put_text(b"panic: divide by zero\n", err),
         Reason::NilPointer => put_text(b"panic: nil pointer\n", err),
         Reason::ShiftCount(n) => put_panic_number(b"panic: shift count ", *n, err),
+        Reason::IndexOutOfRange { index, length } => put_panic_index(*index, *length, err),
         Reason::ExitCode(n) => put_panic_number(b"panic: exit code ", *n, err),
         Reason::Text(bytes) => put_pieces(
             &[
@@ -110,6 +111,25 @@ fn put_panic_number<E: Sink>(before: &[u8], n: i64, err: &mut E) -> Result<(), F
 {
     put_pieces(
         &[Piece::Text(before), Piece::Int(n), Piece::Text(b"\n")],
+        err,
+    )
+}
+
+// Writes the line of a panic by an index.
+#[tactic(auto, using(crate::proofs::Lines::index_line))]
+fn put_panic_index<E: Sink>(index: i64, length: i64, err: &mut E) -> Result<(), Failed>
+    ensures whole { OnOk result (Took (E.taken err.old) (E.taken err.new) (panic_line (index_text index length))) }
+    ensures part { OnErr result (TookPrefix (E.taken err.old) (E.taken err.new) (panic_line (index_text index length))) }
+    ensures cause { HasCause (E.faults err.old) (E.faults err.new) result }
+{
+    put_pieces(
+        &[
+            Piece::Text(b"panic: index "),
+            Piece::Int(index),
+            Piece::Text(b" length "),
+            Piece::Int(length),
+            Piece::Text(b"\n"),
+        ],
         err,
     )
 }

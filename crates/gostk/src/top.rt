@@ -27,6 +27,7 @@ fn panicked(alloc: Global, panic: Panic, strings: &[Vec<u8>]) -> Answer<'static>
         Panic::DivideByZero => Reason::DivideByZero,
         Panic::NilPointer => Reason::NilPointer,
         Panic::ShiftCount(n) => Reason::ShiftCount(n),
+        Panic::IndexOutOfRange { index, length } => Reason::IndexOutOfRange { index, length },
         Panic::ExitCode(n) => Reason::ExitCode(n),
         Panic::Text(number) => match text_of(alloc, number, strings) {
             Ok(bytes) => Reason::Text(bytes),

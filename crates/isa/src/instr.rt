@@ -48,64 +48,156 @@ pub enum BinFault {
 #[derive(Clone, Copy, Debug, PartialEq, Eq)]
 pub enum Instr {
     /// The slot gets this word.
-    Const { a: u16, word: u64 },
+    Const {
+        a: u16,
+        word: u64,
+    },
     /// The n slots from a on get zeros.
-    Zero { a: u16, n: u16 },
+    Zero {
+        a: u16,
+        n: u16,
+    },
     /// The slot a gets the word of b.
-    Move { a: u16, b: u16 },
+    Move {
+        a: u16,
+        b: u16,
+    },
     /// The n slots from a on get the words of the slots from b on, as through a copy.
-    MoveWords { a: u16, b: u16, n: u16 },
+    MoveWords {
+        a: u16,
+        b: u16,
+        n: u16,
+    },
     /// The slot a gets 1 where the n slots from b on have the words of those from c on, else 0.
-    Same { a: u16, b: u16, c: u16, n: u16 },
+    Same {
+        a: u16,
+        b: u16,
+        c: u16,
+        n: u16,
+    },
     /// The slot a gets 0 where the n slots from b on have the words of those from c on, else 1.
-    Differ { a: u16, b: u16, c: u16, n: u16 },
+    Differ {
+        a: u16,
+        b: u16,
+        c: u16,
+        n: u16,
+    },
     /// The slot a gets what the operation gives of the words of b and c; where it gives nothing, the program panics.
-    Bin { op: BinOp, a: u16, b: u16, c: u16 },
+    Bin {
+        op: BinOp,
+        a: u16,
+        b: u16,
+        c: u16,
+    },
     /// The slot a gets what the operation gives of the word of b.
-    Un { op: UnOp, a: u16, b: u16 },
+    Un {
+        op: UnOp,
+        a: u16,
+        b: u16,
+    },
     /// Goes on at a place of the same function, counted over all code.
-    Jump { to: u32 },
+    Jump {
+        to: u32,
+    },
     /// Goes on there if the slot's word is 0.
-    JumpZero { a: u16, to: u32 },
+    JumpZero {
+        a: u16,
+        to: u32,
+    },
     /// Calls a function. Its arguments stand in the lowest slots, and behind them it leaves its results.
-    Call { func: u16 },
+    Call {
+        func: u16,
+    },
     /// The slot a gets the incoming word b.
-    Argument { a: u16, b: u16 },
+    Argument {
+        a: u16,
+        b: u16,
+    },
     /// The n slots from a on get the incoming words from b on.
-    ArgumentWords { a: u16, b: u16, n: u16 },
+    ArgumentWords {
+        a: u16,
+        b: u16,
+        n: u16,
+    },
     /// The n incoming words from b on get the words of the slots from a on.
-    SetResults { a: u16, b: u16, n: u16 },
+    SetResults {
+        a: u16,
+        b: u16,
+        n: u16,
+    },
     /// The n slots from a on get the n words from the address on that lies off behind the word of b, as through a copy. Where
     /// that word is 0, the program panics.
-    Load { a: u16, b: u16, off: u16, n: u16 },
+    Load {
+        a: u16,
+        b: u16,
+        off: u16,
+        n: u16,
+    },
     /// The n words from the address on that lies off behind the word of a get the n words of the slots from c on, as through
     /// a copy. Where the word of a is 0, the program panics.
-    Store { a: u16, off: u16, c: u16, n: u16 },
+    Store {
+        a: u16,
+        off: u16,
+        c: u16,
+        n: u16,
+    },
     /// The slot a gets the address of slot b.
-    Address { a: u16, b: u16 },
+    Address {
+        a: u16,
+        b: u16,
+    },
     /// The slot a gets the address that lies off behind the word of b, modulo 2^64. Where that word is 0, the program panics.
-    Offset { a: u16, b: u16, off: u16 },
+    Offset {
+        a: u16,
+        b: u16,
+        off: u16,
+    },
+    /// The slot a gets the address of an element of w words, modulo 2^64: the one with the index in slot c of an array of len
+    /// elements that begins at the word of b. Where that word is 0, or the array has no such element, the program panics.
+    Index {
+        a: u16,
+        b: u16,
+        c: u16,
+        len: u16,
+        w: u16,
+    },
     /// Prints the slot's number in decimal.
-    PrintInt { a: u16 },
+    PrintInt {
+        a: u16,
+    },
     /// Prints `true` or `false`; every word but 0 is true.
-    PrintBool { a: u16 },
+    PrintBool {
+        a: u16,
+    },
     /// Prints a string, by its number.
-    PrintText { text: u32 },
+    PrintText {
+        text: u32,
+    },
     /// Prints a space.
     PrintSpace,
     /// Prints a newline.
     PrintLine,
     /// The slot a gets the number that the next item of the input spells, and the slot a + 1 gets 1; both get 0 where the
     /// item spells none, and where the input has ended.
-    ReadInt { a: u16 },
+    ReadInt {
+        a: u16,
+    },
     /// Returns to the frame above, behind the call; from the highest frame the run ends.
     Return,
     /// Ends the run with the slot's number as its status, if that is from 0 to 125; else the program panics.
-    Exit { a: u16 },
+    Exit {
+        a: u16,
+    },
     /// The program panics with a string, with the slot's number, or with its truth value.
-    PanicText { text: u32 },
-    PanicInt { a: u16 },
-    PanicBool { a: u16 },
+    PanicText {
+        text: u32,
+    },
+    PanicInt {
+        a: u16,
+    },
+    PanicBool {
+        a: u16,
+    },
 }
 
 /// 1 where it holds, else 0.

@@ -3,7 +3,7 @@ use Rattle.std.specs.Prelude.{◌≡◌, ℕ, ◌+◌, ◌-◌, ◌<◌, ◌≤�
 use Rattle.heap_bump.specs.Words.{AreTaken, first_address}
 use Rattle.isa.specs.Code.{Tables}
 use Rattle.isa.specs.declared.instr.Instr.{Instr}
-use Rattle.isa.specs.declared.instr.Instr.TheVariants.{Const, Zero, Move, MoveWords, Same, Differ, Bin, Un, Jump, JumpZero, Call, Argument, ArgumentWords, SetResults, Load, Store, Address, Offset, PrintInt, PrintBool, PrintText, ReadInt, Return, Exit, PanicText, PanicInt, PanicBool}
+use Rattle.isa.specs.declared.instr.Instr.TheVariants.{Const, Zero, Move, MoveWords, Same, Differ, Bin, Un, Jump, JumpZero, Call, Argument, ArgumentWords, SetResults, Load, Store, Address, Offset, Index, PrintInt, PrintBool, PrintText, ReadInt, Return, Exit, PanicText, PanicInt, PanicBool}
 use Rattle.isa.specs.declared.func.Func.{Func}
 use Rattle.machine.specs.declared.memory.Spot.{Spot}
 use Rattle.machine.specs.declared.memory.Spot.TheVariants.{InHeap, InStack, Nowhere}
@@ -55,6 +55,7 @@ Touches t long base (Load a b off n) = (base + (a + n) ≤ long) × (base + b < 
 Touches t long base (Store a off c n) = (base + a < long) × (base + (c + n) ≤ long)
 Touches t long base (Address a b) = (base + a < long) × (base + b < long)
 Touches t long base (Offset a b off) = (base + a < long) × (base + b < long)
+Touches t long base (Index a b c len w) = (base + a < long) × (base + b < long) × (base + c < long)
 Touches t long base (PrintInt a) = base + a < long
 Touches t long base (PrintBool a) = base + a < long
 Touches t long base (PrintText text) = text < length t.strings

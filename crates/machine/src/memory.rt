@@ -1,7 +1,7 @@
 //! Memory that is reached by addresses: the heap's words that are taken, and the stack from the running frame on.
 ghost use Rattle.std.specs.Prelude.{◌≡◌, ◌≢◌, ℕ, ◌+◌, ◌-◌, ◌<◌, ◌≤◌, ◌^◌, ◌&&◌, nat_le, length, drop, slice_index, Some, None};
 ghost use Rattle.heap_bump.specs.Words.{Words};
-ghost use Rattle.machine.specs.Machine.{words_at, lie_within, address_of, address_behind, spot_of, loads_from, loads, stores_at, stores, offsets};
+ghost use Rattle.machine.specs.Machine.{words_at, lie_within, address_of, address_behind, spot_of, loads_from, loads, stores_at, stores, offsets, element_address, indexes};
 ghost use Rattle.machine.specs.Inside.{Reached};
 ghost use Rattle.machine.specs.Answers.{Comes, StatusFits, state_of, touched};
 
@@ -146,6 +146,48 @@ pub fn offset(words: &mut Vec<u64>, at: Place, a: u16, b: u16, off: u16) -> Next
         Some(address) => {
             set_slot(words, at.base, a as usize, address);
             Next::on(at)
+        }
+    }
+}
+
+// The address of an element of w words, by its index in an array of len elements that begins at an address.
+#[inline(always)]
+fn element_address(first: u64, index: i64, len: u16, w: u16) -> Option<u64>
+    ensures { result ≡ element_address first index len w }
+{
+    if (0..len as i64).contains(&index) {
+        return Some(first.wrapping_add(index as u64 * w as u64));
+    }
+    None
+}
+
+/// The slot a gets the address of an element of w words: the one with the index in slot c of an array of len elements that
+/// begins at the word of slot b. It stands out of line, so that the other instructions keep their registers.
+#[inline(never)]
+pub fn index(words: &mut Vec<u64>, at: Place, a: u16, b: u16, c: u16, len: u16, w: u16) -> Next
+    requires slots { (at.base + a < length words.old.items) × (at.base + b < length words.old.items) × (at.base + c < length words.old.items) }
+    requires place { at.pc < 2 ^ 40 }
+    ensures indexes { (reads : ℕ) (heap : Words) → Comes (indexes (state_of words.old.items at reads heap) a b c len w) (state_of words.new.items result.at reads heap) result.ending }
+    ensures on { result.ending ≡ None → result.at ≡ record { pc = at.pc + 1; base = at.base } }
+    ensures length { length words.new.items ≡ length words.old.items }
+    ensures status { StatusFits result.ending }
+    ensures memory { result.ending ≢ Some Ending.NoMemory }
+    ensures read { result.ending ≢ Some Ending.ReadFault }
+{
+    match address_behind(words, at.base, b, 0) {
+        None => Next::ended(at, Ending::Panic(Panic::NilPointer)),
+        Some(first) => {
+            let index = slot(words, at.base, c as usize).cast_signed();
+            match element_address(first, index, len, w) {
+                None => {
+                    let length = len as i64;
+                    Next::ended(at, Ending::Panic(Panic::IndexOutOfRange { index, length }))
+                }
+                Some(address) => {
+                    set_slot(words, at.base, a as usize, address);
+                    Next::on(at)
+                }
+            }
         }
     }
 }

@@ -16,6 +16,8 @@ pub enum Panic {
     ShiftCount(i64),
     /// Memory was to be reached by the address 0.
     NilPointer,
+    /// An index, and the length of the array or slice that has no such element.
+    IndexOutOfRange { index: i64, length: i64 },
     /// The status of an exit, which is not from 0 to 125.
     ExitCode(i64),
     /// A panic with a string, by its number, with a number, or with a truth value.

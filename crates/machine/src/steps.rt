@@ -15,7 +15,7 @@ ghost use Rattle.machine.specs.Answers.{Answers, Comes, StatusFits, CallFits, No
 
 use crate::functions::{callee, own_frame, string};
 use crate::links::{address, call, leave};
-use crate::memory::{load, offset, slot_address, store};
+use crate::memory::{index, load, offset, slot_address, store};
 use crate::slots::{copy_slots, same_slots, set_slot, slot, zero_slots};
 use crate::{Ending, Next, Panic, Place};
 use heap_bump::Heap;
@@ -353,6 +353,7 @@ pub fn step<I: Source, O: Sink>(
             Next::on(at)
         }
         Instr::Offset { a, b, off } => offset(words, at, a, b, off),
+        Instr::Index { a, b, c, len, w } => index(words, at, a, b, c, len, w),
         Instr::PrintInt { a } => print_int(words, at, a, out),
         Instr::PrintBool { a } => print_bool(words, at, a, out),
         Instr::PrintText { text } => print(words, at, string(strings, text), out),

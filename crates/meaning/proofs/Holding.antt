@@ -3,12 +3,12 @@ use Rattle.std.proofs.Common.{◌≡◌, refl, ℕ, zero, suc, ◌+◌, ◌-◌,
 use Rattle.std.specs.Prelude.{length, slice_get, nat_lt}
 use Rattle.base.specs.declared.pos.Pos.{Pos}
 use Rattle.value_trees.specs.Value.{Value, int}
-use Rattle.typed.specs.Syntax.{Ex, Exs, Pl, Steps, Left, Piece, Over, St, Sts, Func, Program, constant, read, unary, binary, both, either, call, none, more, results, asked, local, global, here, inner, blank, new, to, text, shown, over_int, declare, assign, update, bump, discard, block, choose, loop, range, break_off, go_on, give_back, print, raise, quit, done, next}
+use Rattle.typed.specs.Syntax.{Ex, Exs, Pl, Steps, Left, Piece, Over, St, Sts, Func, Program, constant, read, unary, binary, both, either, call, part_of, literal, Elements, no_elements, element, none, more, results, asked, local, global, here, inner, at_index, blank, new, to, text, shown, over_int, over_length, over_copy, declare, assign, update, bump, discard, block, choose, loop, range, break_off, go_on, give_back, print, raise, quit, done, next}
 use Rattle.meaning.specs.Trace.{Return, Fault, Exit, Panic, World, Mark, entered, ended, copied, Trace, Turn, Seen, Cut}
 use Rattle.meaning.specs.Store.{written, born, read_at}
 use Rattle.meaning.specs.Operators.{binary_of}
 use Rattle.meaning.specs.Meaning
-use Rattle.meaning.specs.Meaning.{Go, Then, Env, Ways, Calls, Item, Setting, Step, fixed, Aim, Spot, Landing, nowhere, birth, on}
+use Rattle.meaning.specs.Meaning.{Go, Then, Env, Ways, Calls, Item, Setting, Step, fixed, worked, Aim, Spot, Landing, nowhere, birth, on}
 use Rattle.meaning.specs.Laws.{IsOther}
 use Rattle.meaning.proofs.Later.{later_same, written_later, born_later}
 use Rattle.meaning.proofs.Family.{Family, WaysHold, Pair, CallsHold, turning, noting, seeing, keeping, keeping_all, lower, looping, ways_fewer}
@@ -40,12 +40,13 @@ module _ (F : Family) where
   or_panic_holds p env at (Ok a) k j all w = all a w
   or_panic_holds p env at (Err f) k j all w = p.hold.panicked at f env w
 
-  steps_hold : {b : ℕ} (steps : List Step) (v : ℕ) (path : List ℕ) (k j : Then Spot) → ((q : Spot) (w : World) → F.Holds b w (k q w) (j q w)) → (w : World) → F.Holds b w (Meaning.settle_steps steps v path k w) (Meaning.settle_steps steps v path j w)
-  steps_hold [] v path k j all w = all (record { variable = v; path = path }) w
-  steps_hold (fixed i ∷ steps) v path k j all w = steps_hold steps v (path ++ i ∷ []) k j all w
+  steps_hold : {limit b : ℕ} (steps : List Step) (v : ℕ) (path : List ℕ) (p : Pair F limit b) (env : Env) (k j : Then Spot) → ((q : Spot) (w : World) → F.Holds b w (k q w) (j q w)) → (w : World) → F.Holds b w (Meaning.settle_steps p.left env steps v path k w) (Meaning.settle_steps p.right env steps v path j w)
+  steps_hold [] v path p env k j all w = all (record { variable = v; path = path }) w
+  steps_hold (fixed i ∷ steps) v path p env k j all w = steps_hold steps v (path ++ i ∷ []) p env k j all w
+  steps_hold (worked at x n ∷ steps) v path p env k j all w = turning F (or_panic_holds p env at (Meaning.element_of (Meaning.int_of x) n) _ _ (λ i. steps_hold steps v (path ++ i ∷ []) p env k j all) w)
 
-  settle_holds : {b : ℕ} (a : Aim) (k j : Then Spot) → ((q : Spot) (w : World) → F.Holds b w (k q w) (j q w)) → (w : World) → F.Holds b w (Meaning.settle a k w) (Meaning.settle a j w)
-  settle_holds a k j all w = turning F (steps_hold a.steps _ _ k j all w)
+  settle_holds : {limit b : ℕ} (a : Aim) (p : Pair F limit b) (env : Env) (k j : Then Spot) → ((q : Spot) (w : World) → F.Holds b w (k q w) (j q w)) → (w : World) → F.Holds b w (Meaning.settle p.left env a k w) (Meaning.settle p.right env a j w)
+  settle_holds a p env k j all w = turning F (steps_hold a.steps _ _ p env k j all w)
 
   module _ (around : Setting) (calls dalls : Calls) (n m : ℕ) (le : n ≤ m) (hc : CallsHold F n calls dalls) where
     call_holds : {b : ℕ} (p : Pair F (suc n) b) (f : ℕ) (vs : List Value) (env : Env) (k j : Then (List Value)) → ((rs : List Value) (w : World) → F.Holds b w (k rs w) (j rs w)) → (w : World) → F.Holds b w (Turn (calls f vs p.left env k w)) (Turn (dalls f vs p.right env j w))
@@ -53,23 +54,30 @@ module _ (F : Family) where
         let l = p.within in
         F.turns b w _ _ (hc.by f vs p.left p.right env (b - 1) (omega arith) (ways_fewer F b (b - 1) p.left p.right (omega arith) p.hold) k j (λ rs u. F.fewer (b - 1) b u _ _ (omega arith) (all rs u)) w)
 
-    walk_holds : (steps : Steps) {b : ℕ} (p : Pair F (suc n) b) (env : Env) (k j : Then (List Step)) → ((r : List Step) (w : World) → F.Holds b w (k r w) (j r w)) → (w : World) → F.Holds b w (Meaning.walk around calls steps p.left env k w) (Meaning.walk around dalls steps p.right env j w)
-    walk_holds here p env k j h w = h [] w
-    walk_holds (inner i steps) p env k j h w = walk_holds steps p env _ _ (λ r. h (fixed i ∷ r)) w
-
-    aim_holds : (q : Pl) {b : ℕ} (p : Pair F (suc n) b) (env : Env) (k j : Then Aim) → ((a : Aim) (w : World) → F.Holds b w (k a w) (j a w)) → (w : World) → F.Holds b w (Meaning.aim around calls q p.left env k w) (Meaning.aim around dalls q p.right env j w)
-    aim_holds (local site steps) p env k j h w = walk_holds steps p env _ _ (λ r. h _) w
-    aim_holds (global g steps) p env k j h w = walk_holds steps p env _ _ (λ r. h _) w
-
     mutual
+      walk_holds : (steps : Steps) {b : ℕ} (p : Pair F (suc n) b) (env : Env) (k j : Then (List Step)) → ((r : List Step) (w : World) → F.Holds b w (k r w) (j r w)) → (w : World) → F.Holds b w (Meaning.walk around calls steps p.left env k w) (Meaning.walk around dalls steps p.right env j w)
+      walk_holds here p env k j h w = h [] w
+      walk_holds (inner i steps) p env k j h w = walk_holds steps p env _ _ (λ r. h (fixed i ∷ r)) w
+      walk_holds (at_index at e x steps) p env k j h w = ev_holds e p env _ _ (λ v. walk_holds steps (keeping F v p) env _ _ (λ r. h (worked at v x ∷ r))) w
+
+      aim_holds : (q : Pl) {b : ℕ} (p : Pair F (suc n) b) (env : Env) (k j : Then Aim) → ((a : Aim) (w : World) → F.Holds b w (k a w) (j a w)) → (w : World) → F.Holds b w (Meaning.aim around calls q p.left env k w) (Meaning.aim around dalls q p.right env j w)
+      aim_holds (local site steps) p env k j h w = walk_holds steps p env _ _ (λ r. h _) w
+      aim_holds (global g steps) p env k j h w = walk_holds steps p env _ _ (λ r. h _) w
+
       ev_holds : (e : Ex) {b : ℕ} (p : Pair F (suc n) b) (env : Env) (k j : Then Value) → ((v : Value) (w : World) → F.Holds b w (k v w) (j v w)) → (w : World) → F.Holds b w (Meaning.ev around calls e p.left env k w) (Meaning.ev around dalls e p.right env j w)
       ev_holds (constant v) p env k j h w = turning F (seeing F (h v w))
-      ev_holds (read q) p env k j h w = aim_holds q p env _ _ (λ a. settle_holds a _ _ (λ s u. noting F (seeing F (h _ u)))) w
+      ev_holds (read q) p env k j h w = aim_holds q p env _ _ (λ a. settle_holds a p env _ _ (λ s u. noting F (seeing F (h _ u)))) w
       ev_holds (unary op e) p env k j h w = ev_holds e p env _ _ (λ v u. turning F (seeing F (h _ u))) w
       ev_holds (binary at op a c) p env k j h w = ev_holds a p env _ _ (λ v. ev_holds c (keeping F v p) env _ _ (λ x u. turning F (or_panic_holds p env at (binary_of op v x) _ _ (λ y z. seeing F (h y z)) u))) w
       ev_holds (both a c) p env k j h w = ev_holds a p env _ _ (λ v u. turning F (when_holds (Meaning.is_true v) _ _ _ _ u (ev_holds c p env k j h u) (seeing F (h _ u)))) w
       ev_holds (either a c) p env k j h w = ev_holds a p env _ _ (λ v u. turning F (when_holds (Meaning.is_true v) _ _ _ _ u (seeing F (h _ u)) (ev_holds c p env k j h u))) w
       ev_holds (call f es) p env k j h w = evs_hold es p env _ _ (λ vs. call_holds p f vs env _ _ (λ rs u. seeing F (h _ u))) w
+      ev_holds (part_of t i e) p env k j h w = ev_holds e p env _ _ (λ v u. turning F (seeing F (h _ u))) w
+      ev_holds (literal t es) p env k j h w = turning F (fill_holds es _ p env _ _ (λ v u. seeing F (h v u)) w)
+
+      fill_holds : (es : Elements) (x : Value) {b : ℕ} (p : Pair F (suc n) b) (env : Env) (k j : Then Value) → ((v : Value) (w : World) → F.Holds b w (k v w) (j v w)) → (w : World) → F.Holds b w (Meaning.fill around calls es x p.left env k w) (Meaning.fill around dalls es x p.right env j w)
+      fill_holds no_elements x p env k j h w = h x w
+      fill_holds (element i e es) x p env k j h w = ev_holds e p env _ _ (λ v. fill_holds es _ (keeping F v p) env _ _ h) w
 
       evs_hold : (es : Exs) {b : ℕ} (p : Pair F (suc n) b) (env : Env) (k j : Then (List Value)) → ((vs : List Value) (w : World) → F.Holds b w (k vs w) (j vs w)) → (w : World) → F.Holds b w (Meaning.evs around calls es p.left env k w) (Meaning.evs around dalls es p.right env j w)
       evs_hold none p env k j h w = h [] w
@@ -91,7 +99,7 @@ module _ (F : Family) where
     land_holds (birth site) v {b} p env k j h w =
         turning F (subst (λ c. F.Holds b w (Meaning.bear around p.left.call site v (λ x. k (Meaning.with_home env site x)) w) (Meaning.bear around c site v (λ x. j (Meaning.with_home env site x)) w)) p.same
         (bear_holds around p.left.call site v (λ x. k (Meaning.with_home env site x)) (λ x. j (Meaning.with_home env site x)) (λ x. h (Meaning.with_home env site x)) w))
-    land_holds (on a) v p env k j h w = settle_holds a _ _ (λ s. write_holds s.variable s.path v _ _ (h env)) w
+    land_holds (on a) v p env k j h w = settle_holds a p env _ _ (λ s. write_holds s.variable s.path v _ _ (h env)) w
 
     land_all_hold : (ls : List Landing) (vs : List Value) {b : ℕ} (p : Pair F (suc n) b) (env : Env) (k j : Env → Go) → ((e : Env) (w : World) → F.Holds b w (k e w) (j e w)) → (w : World) → F.Holds b w (Meaning.land_all around ls vs p.left env k w) (Meaning.land_all around ls vs p.right env j w)
     land_all_hold [] vs p env k j h w = h env w
@@ -152,8 +160,12 @@ module _ (F : Family) where
     test_holds None p env k j h w = h _ w
     test_holds (Some e) p env k j h w = ev_holds e p env _ _ (λ v u. turning F (h v u)) w
 
-    begin_holds : (o : Over) {b : ℕ} (p : Pair F (suc n) b) (env : Env) (k j : ℕ → Ways → Go) → ((x : ℕ) (q : Pair F (suc n) b) (w : World) → F.Holds b w (k x q.left w) (j x q.right w)) → (w : World) → F.Holds b w (Meaning.begin_range around calls (suc n) o p.left env k w) (Meaning.begin_range around dalls (suc m) o p.right env j w)
-    begin_holds (over_int e) p env k j h w = ev_holds e p env _ _ (λ v u. turning F (h _ (keeping F v p) u)) w
+    begin_holds : (o : Over) {b : ℕ} (p : Pair F (suc n) b) (env : Env) (k j : ℕ → Ways → Env → Go) → ((x : ℕ) (q : Pair F (suc n) b) (e : Env) (w : World) → F.Holds b w (k x q.left e w) (j x q.right e w)) → (w : World) → F.Holds b w (Meaning.begin_range around calls (suc n) o p.left env k w) (Meaning.begin_range around dalls (suc m) o p.right env j w)
+    begin_holds (over_int e) p env k j h w = ev_holds e p env _ _ (λ v u. turning F (h _ (keeping F v p) env u)) w
+    begin_holds (over_length x) p env k j h w = turning F (h x p env w)
+    begin_holds (over_copy site e x) {b} p env k j h w = ev_holds e p env _ _ (λ v u.
+        turning F (subst (λ c. F.Holds b u (Meaning.bear around p.left.call site v (λ y. Meaning.turn (k x p.left (Meaning.with_home env site y))) u) (Meaning.bear around c site v (λ y. Meaning.turn (j x p.right (Meaning.with_home env site y))) u)) p.same
+        (bear_holds around p.left.call site v _ _ (λ y z. turning F (h x p (Meaning.with_home env site y) z)) u))) w
 
     quit_holds : (z : ℤ) {b : ℕ} (p : Pair F (suc n) b) (env : Env) (at : Pos) (w : World) → F.Holds b w (Meaning.quit_with p.left env at z w) (Meaning.quit_with p.right env at z w)
     quit_holds (pos x) p env at w = when_holds (nat_lt x 126) _ _ _ _ w (F.ends _ w (Exit x)) (p.hold.panicked at _ env w)
@@ -168,11 +180,26 @@ module _ (F : Family) where
         (renew_holds sites p.left.call e (λ e1. post p.left e1 (k (length u.store))) (λ e1. nost p.right e1 (j (length u.store))) (λ e1. hp.by p e1 _ _ (h (length u.store))) u)) in
         hb.by (looping F p out nout _ _ ho again) env _ _ again w
 
-    round_holds : (key : Left) (body nody : Part) (i : ℕ) {b : ℕ} → PartHolds b body nody → (p : Pair F (suc n) b) (out nout : ℕ → Env → Go) → ((u : ℕ) (e : Env) (w : World) → F.Holds b w (out u e w) (nout u e w)) → (v : ℕ) (env : Env) (k j : ℕ → Env → Go) → ((u : ℕ) (e : Env) (w : World) → F.Holds b w (k u e w) (j u e w)) → (w : World) →
-        F.Holds b w (Meaning.range_round around calls (suc n) key body p.left out i v env k w) (Meaning.range_round around dalls (suc m) key nody p.right nout i v env j w)
-    round_holds key body nody i {b} hb p out nout ho v env k j h w =
+    index_round_holds : (key : Left) (body nody : Part) (i : ℕ) {b : ℕ} → PartHolds b body nody → (p : Pair F (suc n) b) (out nout : ℕ → Env → Go) → ((u : ℕ) (e : Env) (w : World) → F.Holds b w (out u e w) (nout u e w)) → (v : ℕ) (env : Env) (k j : ℕ → Env → Go) → ((u : ℕ) (e : Env) (w : World) → F.Holds b w (k u e w) (j u e w)) → (w : World) →
+        F.Holds b w (Meaning.index_round around calls (suc n) key body p.left out i v env k w) (Meaning.index_round around dalls (suc m) key nody p.right nout i v env j w)
+    index_round_holds key body nody i {b} hb p out nout ho v env k j h w =
         let again : (e : Env) (u : World) → F.Holds b u (Meaning.to_next_count v k e u) (Meaning.to_next_count v j e u) = λ e u. marking (ended v) tt (h (length u.store) e u) in
         ready_holds key p env _ _ (λ a. land_holds a (int (pos i)) p env _ _ (λ e1. hb.by (looping F p (out v) (nout v) _ _ (ho v) again) e1 _ _ again)) w
+
+    element_round_holds : (site : ℕ) (key value : Left) (body nody : Part) (i : ℕ) {b : ℕ} → PartHolds b body nody → (p : Pair F (suc n) b) (out nout : ℕ → Env → Go) → ((u : ℕ) (e : Env) (w : World) → F.Holds b w (out u e w) (nout u e w)) → (v : ℕ) (env : Env) (k j : ℕ → Env → Go) → ((u : ℕ) (e : Env) (w : World) → F.Holds b w (k u e w) (j u e w)) → (w : World) →
+        F.Holds b w (Meaning.element_round around calls (suc n) site key value body p.left out i v env k w) (Meaning.element_round around dalls (suc m) site key value nody p.right nout i v env j w)
+    element_round_holds site key value body nody i {b} hb p out nout ho v env k j h w =
+        let again : (e : Env) (u : World) → F.Holds b u (Meaning.to_next_count v k e u) (Meaning.to_next_count v j e u) = λ e u. marking (ended v) tt (h (length u.store) e u) in
+        ready_all_hold (key ∷ value ∷ []) p env
+        (λ those ws1. Meaning.read_part (Meaning.home env site) (i ∷ []) (λ y. Meaning.land_all around those (int (pos i) ∷ y ∷ []) p.left env (λ env1. Meaning.in_loop body p.left (out v) (Meaning.to_next_count v k) env1)))
+        (λ those ws1. Meaning.read_part (Meaning.home env site) (i ∷ []) (λ y. Meaning.land_all around those (int (pos i) ∷ y ∷ []) p.right env (λ env1. Meaning.in_loop nody p.right (nout v) (Meaning.to_next_count v j) env1)))
+        (λ those q u. noting F (land_all_hold those (int (pos i) ∷ read_at u (Meaning.home env site) (i ∷ []) ∷ []) p env _ _ (λ e1. hb.by (looping F p (out v) (nout v) _ _ (ho v) again) e1 _ _ again) u)) w
+
+    round_holds : (over : Over) (key value : Left) (body nody : Part) (i : ℕ) {b : ℕ} → PartHolds b body nody → (p : Pair F (suc n) b) (out nout : ℕ → Env → Go) → ((u : ℕ) (e : Env) (w : World) → F.Holds b w (out u e w) (nout u e w)) → (v : ℕ) (env : Env) (k j : ℕ → Env → Go) → ((u : ℕ) (e : Env) (w : World) → F.Holds b w (k u e w) (j u e w)) → (w : World) →
+        F.Holds b w (Meaning.range_round around calls (suc n) over key value body p.left out i v env k w) (Meaning.range_round around dalls (suc m) over key value nody p.right nout i v env j w)
+    round_holds (over_int e) key value body nody i hb p out nout ho v env k j h w = index_round_holds key body nody i hb p out nout ho v env k j h w
+    round_holds (over_length x) key value body nody i hb p out nout ho v env k j h w = index_round_holds key body nody i hb p out nout ho v env k j h w
+    round_holds (over_copy site e x) key value body nody i hb p out nout ho v env k j h w = element_round_holds site key value body nody i hb p out nout ho v env k j h w
 
     zeros_hold : (sites : List ℕ) {b : ℕ} (entry : ℕ) (env : Env) (k j : Env → Go) → ((e : Env) (w : World) → F.Holds b w (k e w) (j e w)) → (w : World) → F.Holds b w (Meaning.bear_zeros around entry sites env k w) (Meaning.bear_zeros around entry sites env j w)
     zeros_hold [] entry env k j h w = h env w
@@ -184,9 +211,9 @@ module _ (F : Family) where
           subst (λ c. F.Holds b w (Meaning.bear_zeros around p.left.call sites env k w) (Meaning.bear_zeros around c sites env j w)) p.same (zeros_hold sites p.left.call env k j h w)
       exec_holds (assign ls es) p env k j h w = ready_all_hold ls p env _ _ (λ those q. evs_hold es q env _ _ (λ vs. land_all_hold those vs p env k j h)) w
       exec_holds (update at q op e) p env k j h w =
-          aim_holds q p env _ _ (λ a. settle_holds a _ _ (λ s u. noting F (ev_holds e (keeping F (read_at u s.variable s.path) p) env _ _ (λ x. or_panic_holds p env at (binary_of op (read_at u s.variable s.path) x) _ _ (λ y. write_holds s.variable s.path y _ _ (h env))) u))) w
+          aim_holds q p env _ _ (λ a. settle_holds a p env _ _ (λ s u. noting F (ev_holds e (keeping F (read_at u s.variable s.path) p) env _ _ (λ x. or_panic_holds p env at (binary_of op (read_at u s.variable s.path) x) _ _ (λ y. write_holds s.variable s.path y _ _ (h env))) u))) w
       exec_holds (bump q op) p env k j h w =
-          aim_holds q p env _ _ (λ a. settle_holds a _ _ (λ s u. noting F (or_panic_holds p env _ (binary_of op (read_at u s.variable s.path) (int (pos 1))) _ _ (λ y. write_holds s.variable s.path y _ _ (h env)) u))) w
+          aim_holds q p env _ _ (λ a. settle_holds a p env _ _ (λ s u. noting F (or_panic_holds p env _ (binary_of op (read_at u s.variable s.path) (int (pos 1))) _ _ (λ y. write_holds s.variable s.path y _ _ (h env)) u))) w
       exec_holds (discard es) p env k j h w = evs_hold es p env _ _ (λ vs. h env) w
       exec_holds (block ss) p env k j h w = all_hold ss p env k j h w
       exec_holds (choose e a c) p env k j h w = ev_holds e p env _ _ (λ v u. turning F (when_holds (Meaning.is_true v) _ _ _ _ u (all_hold a p env k j h u) (all_hold c p env k j h u))) w
@@ -195,9 +222,9 @@ module _ (F : Family) where
           (λ c cb v e k1 j1 h1. around_hold _ _ _ _ sites (record { by = all_hold body }) (record { by = all_hold post }) (lower F p c cb) _ _ (λ e1 u. F.fewer c _ u _ _ cb (outside_holds k j h v e1 u)) v e k1 j1 h1)
           _ _ (outside_holds k j h) (suc n) (suc m) (omega arith) _ (omega arith) p.within (length w.store - length sites) env w
       exec_holds (range over key value body) p env k j h w =
-          begin_holds over p env _ _ (λ x q u. counted_holds _ _
-          (λ c cb i v e k1 j1 h1. round_holds key _ _ i (record { by = all_hold body }) (lower F q c cb) _ _ (λ y e1 z. F.fewer c _ z _ _ cb (outside_holds k j h y e1 z)) v e k1 j1 h1)
-          _ _ (outside_holds k j h) (suc n) (suc m) (omega arith) _ (omega arith) p.within 0 x (length u.store) env u) w
+          begin_holds over p env _ _ (λ x q env1 u. counted_holds _ _
+          (λ c cb i v e k1 j1 h1. round_holds over key value _ _ i (record { by = all_hold body }) (lower F q c cb) _ _ (λ y e1 z. F.fewer c _ z _ _ cb (outside_holds k j h y e1 z)) v e k1 j1 h1)
+          _ _ (outside_holds k j h) (suc n) (suc m) (omega arith) _ (omega arith) p.within 0 x (length u.store) env1 u) w
       exec_holds break_off p env k j h w = turning F (p.hold.broken env w)
       exec_holds go_on p env k j h w = turning F (p.hold.continued env w)
       exec_holds (give_back es) p env k j h w = evs_hold es p env _ _ (λ vs. p.hold.returned vs env) w

@@ -4,9 +4,9 @@ use Rattle.std.specs.Fmt.{signed_decimal}
 use Rattle.base.specs.declared.pos.Pos.{Pos}
 use Rattle.value_trees.specs.Types.{ValueType, ints}
 use Rattle.value_trees.specs.Value.{Value, int, bool, composite, words, zero_of as zero_value}
-use Rattle.value_trees.specs.Paths.{no_value}
-use Rattle.typed.specs.Syntax.{Ex, Exs, Pl, Steps, Left, Piece, Over, St, Sts, Func, Program, constant, read, unary, binary, both, either, call, none, more, results, asked, local, global, here, inner, blank, new, to, text, shown, over_int, declare, assign, update, bump, discard, block, choose, loop, range, break_off, go_on, give_back, print, raise, quit, done, next}
-use Rattle.meaning.specs.Trace.{Entry, Call, Return, Born, Read, Write, Print, Asked, Fault, exit_code, raised_text, raised, Ending, Exit, Panic, World, Cell, Mark, state, entered, ended, copied, Trace, Turn, Note, Seen, End, Cut}
+use Rattle.value_trees.specs.Paths.{no_value, part, with_part}
+use Rattle.typed.specs.Syntax.{Ex, Exs, Pl, Steps, Left, Piece, Over, St, Sts, Func, Program, constant, read, unary, binary, both, either, call, part_of, literal, Elements, no_elements, element, none, more, results, asked, local, global, here, inner, at_index, blank, new, to, text, shown, over_int, over_length, over_copy, declare, assign, update, bump, discard, block, choose, loop, range, break_off, go_on, give_back, print, raise, quit, done, next}
+use Rattle.meaning.specs.Trace.{Entry, Call, Return, Born, Read, Write, Print, Asked, Fault, index_out_of_range, exit_code, raised_text, raised, Ending, Exit, Panic, World, Cell, Mark, state, entered, ended, copied, Trace, Turn, Note, Seen, End, Cut}
 use Rattle.meaning.specs.Store.{read_at, written, born}
 use Rattle.meaning.specs.Operators.{unary_of, binary_of}
 
@@ -145,6 +145,8 @@ pub data Base : Type 0 where
 
 pub data Step : Type 0 where
   fixed : ℕ → Step
+  -- an index that was worked out, and the length of the array
+  worked : Pos → Value → ℕ → Step
 
 pub record Aim : Type 0 where
   pub base : Base
@@ -155,37 +157,57 @@ pub record Spot : Type 0 where
   pub variable : ℕ
   pub path : List ℕ
 
-abbrev pub settle_steps : List Step → ℕ → List ℕ → Then Spot → Go
-settle_steps [] v path k = k (record { variable = v; path = path })
-settle_steps (fixed i ∷ steps) v path k = settle_steps steps v (path ++ i ∷ []) k
+abbrev pub int_of : Value → ℤ
+int_of (int z) = z
+int_of v = pos 0
+
+-- an element's number, where there is one with an index
+abbrev pub element_of : ℤ → (length : ℕ) → Result ℕ Fault
+element_of (pos i) n = if nat_lt i n then Ok i else Err (index_out_of_range (pos i) (pos n))
+element_of (negsuc i) n = Err (index_out_of_range (negsuc i) (pos n))
+
+-- each index that was worked out takes a turn, and is tested
+abbrev pub settle_steps : Ways → Env → List Step → ℕ → List ℕ → Then Spot → Go
+settle_steps ws env [] v path k = k (record { variable = v; path = path })
+settle_steps ws env (fixed i ∷ steps) v path k = settle_steps ws env steps v (path ++ i ∷ []) k
+settle_steps ws env (worked at x n ∷ steps) v path k = turn (or_panic ws env at (element_of (int_of x) n) (λ i. settle_steps ws env steps v (path ++ i ∷ []) k))
 
 abbrev pub base_spot : Base → Spot
 base_spot (variable v) = record { variable = v; path = [] }
 
 -- a place takes its turn when its operands are known
-abbrev pub settle : Aim → Then Spot → Go
-settle a k = turn (settle_steps a.steps (base_spot a.base).variable (base_spot a.base).path k)
+abbrev pub settle : Ways → Env → Aim → Then Spot → Go
+settle ws env a k = turn (settle_steps ws env a.steps (base_spot a.base).variable (base_spot a.base).path k)
 
 -- expressions
 module _ (around : Setting) (calls : Calls) where
-  abbrev pub walk : Steps → Ways → Env → Then (List Step) → Go
-  walk here ws env k = k []
-  walk (inner i steps) ws env k = walk steps ws env (λ r. k (fixed i ∷ r))
-
-  abbrev pub aim : Pl → Ways → Env → Then Aim → Go
-  aim (local site steps) ws env k = walk steps ws env (λ r. k (record { base = variable (home env site); steps = r }))
-  -- the package variables are the first that are born
-  aim (global g steps) ws env k = walk steps ws env (λ r. k (record { base = variable g; steps = r }))
-
   abbrev mutual
+    -- the operands of a place
+    pub walk : Steps → Ways → Env → Then (List Step) → Go
+    walk here ws env k = k []
+    walk (inner i steps) ws env k = walk steps ws env (λ r. k (fixed i ∷ r))
+    walk (at_index at e n steps) ws env k = ev e ws env (λ v. walk steps (holding ws v) env (λ r. k (worked at v n ∷ r)))
+
+    pub aim : Pl → Ways → Env → Then Aim → Go
+    aim (local site steps) ws env k = walk steps ws env (λ r. k (record { base = variable (home env site); steps = r }))
+    -- the package variables are the first that are born
+    aim (global g steps) ws env k = walk steps ws env (λ r. k (record { base = variable g; steps = r }))
+
     pub ev : Ex → Ways → Env → Then Value → Go
     ev (constant v) ws env k = turn (give ws k v)
-    ev (read p) ws env k = aim p ws env (λ a. settle a (λ q. read_part q.variable q.path (give ws k)))
+    ev (read p) ws env k = aim p ws env (λ a. settle ws env a (λ q. read_part q.variable q.path (give ws k)))
     ev (unary op e) ws env k = ev e ws env (λ v. turn (give ws k (unary_of op v)))
     ev (binary at op a b) ws env k = ev a ws env (λ v. ev b (holding ws v) env (λ u. turn (or_panic ws env at (binary_of op v u) (give ws k))))
     ev (both a b) ws env k = ev a ws env (λ v. turn (branch v (ev b ws env k) (give ws k (bool false))))
     ev (either a b) ws env k = ev a ws env (λ v. turn (branch v (give ws k (bool true)) (ev b ws env k)))
     ev (call f es) ws env k = evs es ws env (λ vs. turn (calls f vs ws env (λ rs. give ws k (only_value rs))))
+    ev (part_of t i e) ws env k = ev e ws env (λ v. turn (give ws k (part v i)))
+    ev (literal t es) ws env k = turn (fill es (zero_value t) ws env (give ws k))
+
+    -- elements of a literal, each of which replaces a part of what stands so far
+    pub fill : Elements → Value → Ways → Env → Then Value → Go
+    fill no_elements x ws env k = k x
+    fill (element i e es) x ws env k = ev e ws env (λ v. fill es (with_part x i v) (holding ws v) env k)
 
     pub evs : Exs → Ways → Env → Then (List Value) → Go
     evs none ws env k = k []
@@ -199,9 +221,14 @@ pub data Landing : Type 0 where
   birth : ℕ → Landing
   on : Aim → Landing
 
--- the values that an aim keeps
+-- the values that an aim keeps, the newest first
+abbrev pub step_values : List Step → List Value
+step_values [] = []
+step_values (fixed i ∷ steps) = step_values steps
+step_values (worked at x n ∷ steps) = step_values steps ++ x ∷ []
+
 abbrev pub aim_values : Aim → List Value
-aim_values a = []
+aim_values a = step_values a.steps
 
 abbrev pub landing_values : Landing → List Value
 landing_values nowhere = []
@@ -223,7 +250,7 @@ module _ (around : Setting) where
   abbrev pub land : Landing → Value → Ways → Env → (Env → Go) → Go
   land nowhere v ws env k = k env
   land (birth site) v ws env k = turn (bear around ws.call site v (λ x. k (with_home env site x)))
-  land (on a) v ws env k = settle a (λ q. write_part q.variable q.path v (k env))
+  land (on a) v ws env k = settle ws env a (λ q. write_part q.variable q.path v (k env))
 
   abbrev pub land_all : List Landing → List Value → Ways → Env → (Env → Go) → Go
   land_all [] vs ws env k = k env
@@ -311,10 +338,6 @@ abbrev pub count_of : Value → ℕ
 count_of (int (pos n)) = n
 count_of v = 0
 
-abbrev pub int_of : Value → ℤ
-int_of (int z) = z
-int_of v = pos 0
-
 -- `exit`: a status from 0 to 125
 abbrev pub quit_with : Ways → Env → Pos → ℤ → Go
 quit_with ws env at (pos n) = when (nat_lt n 126) (stop (Exit n)) (ws.panicked at (exit_code (pos n)) env)
@@ -325,22 +348,34 @@ abbrev pub no_pos : Pos
 no_pos = record { offset = 0; line = 0; col = 0 }
 
 module _ (around : Setting) (calls : Calls) (fuel : ℕ) where
-  -- how many rounds, and the ways in which what is gone over is held
-  abbrev pub begin_range : Over → Ways → Env → (ℕ → Ways → Go) → Go
-  begin_range (over_int e) ws env k = ev around calls e ws env (λ v. turn (k (count_of v) (holding ws v)))
+  -- how many rounds, and the ways in which what is gone over is held; of an array there is a copy where its elements are read
+  abbrev pub begin_range : Over → Ways → Env → (ℕ → Ways → Env → Go) → Go
+  begin_range (over_int e) ws env k = ev around calls e ws env (λ v. turn (k (count_of v) (holding ws v) env))
+  begin_range (over_length x) ws env k = turn (k x ws env)
+  begin_range (over_copy site e x) ws env k = ev around calls e ws env (λ v. turn (bear around ws.call site v (λ y. turn (k x ws (with_home env site y)))))
 
-  -- one round: the left side's operands, the left side, the body
-  abbrev pub range_round : Left → (Ways → Env → (Env → Go) → Go) → Ways → (ℕ → Env → Go) → ℕ → ℕ → Env → (ℕ → Env → Go) → Go
-  range_round key body ws out i n env j =
+  -- one round with an index: the left side's operands, the left side, the body
+  abbrev pub index_round : Left → (Ways → Env → (Env → Go) → Go) → Ways → (ℕ → Env → Go) → ℕ → ℕ → Env → (ℕ → Env → Go) → Go
+  index_round key body ws out i n env j =
       ready around calls key ws env (λ a. land around a (int (pos i)) ws env (λ env1. in_loop body ws (out n) (to_next_count n j) env1))
+
+  -- and with an element of a copy, whose read takes no turn
+  abbrev pub element_round : ℕ → (key value : Left) → (Ways → Env → (Env → Go) → Go) → Ways → (ℕ → Env → Go) → ℕ → ℕ → Env → (ℕ → Env → Go) → Go
+  element_round site key value body ws out i n env j =
+      ready_all around calls (key ∷ value ∷ []) ws env (λ those ws1. read_part (home env site) (i ∷ []) (λ v. land_all around those (int (pos i) ∷ v ∷ []) ws env (λ env1. in_loop body ws (out n) (to_next_count n j) env1)))
+
+  abbrev pub range_round : Over → (key value : Left) → (Ways → Env → (Env → Go) → Go) → Ways → (ℕ → Env → Go) → ℕ → ℕ → Env → (ℕ → Env → Go) → Go
+  range_round (over_int e) key value = index_round key
+  range_round (over_length x) key value = index_round key
+  range_round (over_copy site e x) key value = element_round site key value
 
   abbrev mutual
     pub exec : St → Ways → Env → (Env → Go) → Go
     exec (declare sites) ws env k = bear_zeros around ws.call sites env k
     exec (update at p op e) ws env k =
-        aim around calls p ws env (λ a. settle a (λ q. read_part q.variable q.path (λ v. ev around calls e (holding ws v) env (λ u. or_panic ws env at (binary_of op v u) (λ x. write_part q.variable q.path x (k env))))))
+        aim around calls p ws env (λ a. settle ws env a (λ q. read_part q.variable q.path (λ v. ev around calls e (holding ws v) env (λ u. or_panic ws env at (binary_of op v u) (λ x. write_part q.variable q.path x (k env))))))
     exec (bump p op) ws env k =
-        aim around calls p ws env (λ a. settle a (λ q. read_part q.variable q.path (λ v. or_panic ws env no_pos (binary_of op v (int (pos 1))) (λ x. write_part q.variable q.path x (k env)))))
+        aim around calls p ws env (λ a. settle ws env a (λ q. read_part q.variable q.path (λ v. or_panic ws env no_pos (binary_of op v (int (pos 1))) (λ x. write_part q.variable q.path x (k env)))))
     exec (assign ls es) ws env k = ready_all around calls ls ws env (λ those ws1. evs around calls es ws1 env (λ vs. land_all around those vs ws env k))
     exec (discard es) ws env k = evs around calls es ws env (λ vs. k env)
     exec (block ss) ws env k = exec_all ss ws env k
@@ -348,7 +383,7 @@ module _ (around : Setting) (calls : Calls) (fuel : ℕ) where
     exec (loop sites test post body) ws env k =
         births (λ n. rounds fuel (test_of around calls test ws) (λ n1 env1 j. in_loop (exec_all body) ws (outside k n1) (to_next around n1 sites (exec_all post) ws j) env1) (outside k) (n - length sites) env)
     exec (range over key value body) ws env k =
-        begin_range over ws env (λ n ws1. births (λ m. counted fuel 0 n (range_round key (exec_all body) ws1 (outside k)) (outside k) m env))
+        begin_range over ws env (λ n ws1 env1. births (λ m. counted fuel 0 n (range_round over key value (exec_all body) ws1 (outside k)) (outside k) m env1))
     exec break_off ws env k = turn (ws.broken env)
     exec go_on ws env k = turn (ws.continued env)
     exec (give_back es) ws env k = evs around calls es ws env (λ vs. ws.returned vs env)

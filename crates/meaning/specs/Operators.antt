@@ -6,7 +6,7 @@ use Rattle.typed.specs.declared.operators.BinOp.{BinOp}
 use Rattle.typed.specs.declared.operators.BinOp.TheVariants.{Add, Sub, Mul, Div, Rem, And, Or, Xor, AndNot, ShiftLeft, ShiftRight, Equal, NotEqual, Less, LessEqual, Greater, GreaterEqual}
 use Rattle.typed.specs.declared.operators.UnOp.{UnOp}
 use Rattle.typed.specs.declared.operators.UnOp.TheVariants.{Plus, Negate, Complement, Not}
-use Rattle.value_trees.specs.Value.{Value, int, bool, composite, same_truth}
+use Rattle.value_trees.specs.Value.{Value, int, bool, composite, same_truth, same}
 use Rattle.meaning.specs.Trace.{Fault, divide_by_zero, shift_count}
 
 -- a quotient or a remainder, truncated towards zero; the least number divided by -1 is itself
@@ -45,10 +45,16 @@ of_bools Equal a b = Ok (bool (same_truth a b))
 of_bools NotEqual a b = Ok (bool (not (same_truth a b)))
 of_bools op a b = Ok (bool a)
 
+-- two values of a type with parts
+abbrev pub of_composites : BinOp → Value → Value → Result Value Fault
+of_composites Equal v w = Ok (bool (same v w))
+of_composites NotEqual v w = Ok (bool (not (same v w)))
+of_composites op v w = Ok v
+
 abbrev pub binary_of : BinOp → Value → Value → Result Value Fault
 binary_of op (int a) (int b) = of_ints op a b
 binary_of op (bool a) (bool b) = of_bools op a b
-binary_of op v w = Ok v
+binary_of op v w = of_composites op v w
 
 abbrev pub unary_int : UnOp → ℤ → ℤ
 unary_int Plus a = a

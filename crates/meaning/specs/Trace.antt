@@ -20,6 +20,8 @@ pub data Fault : Type 0 where
   divide_by_zero : Fault
   shift_count : (count : ℤ) → Fault
   exit_code : (code : ℤ) → Fault
+  -- an index, and the length of the array that has no such element
+  index_out_of_range : (index length : ℤ) → Fault
   -- `panic` with a string, and with a value
   raised_text : (bytes : List ℕ) → Fault
   raised : Value → Fault

@@ -1,5 +1,5 @@
 -- What changes the stack: values in temps and in the outgoing area, variables, calls and returns.
-use Rattle.std.proofs.Common.{◌≡◌, ◌≢◌, ◌⊎◌, inl, inr, ℕ, zero, suc, ◌+◌, ◌-◌, ◌<◌, ◌≤◌, List, [], ◌∷◌, ◌++◌, length, Some, refl, sym, ap, ◌∙◌, subst, arith, length-append, get_or, append_assoc, append-nil}
+use Rattle.std.proofs.Common.{◌≡◌, ◌≢◌, ◌⊎◌, inl, inr, ℕ, zero, suc, ◌+◌, ◌-◌, ◌^◌, ◌<◌, ◌≤◌, List, [], ◌∷◌, ◌++◌, length, Some, refl, sym, ap, ◌∙◌, subst, arith, length-append, get_or, append_assoc, append-nil}
 use Rattle.std.specs.Prelude.{slice_get, slice_index, slice_set, drop, replicate, if◌then◌else◌}
 use Rattle.std.specs.Int.{w64, cast_signed}
 use Rattle.std.proofs.Math.Seq.{get_or-append_seam}
@@ -124,6 +124,7 @@ module _ (m : Built) where
   held_more c calls w words words1 vs long room same are g = let s = g.stack.0 in record {
     long = long ∙ g.long;
     many = g.many;
+    within = g.within;
     kinds = g.kinds;
     stack = (
       record {
@@ -176,6 +177,7 @@ module _ (m : Built) where
   fewer c calls w words held more g = let s = g.stack.0 in record {
     long = g.long;
     many = g.many;
+    within = g.within;
     kinds = g.kinds;
     stack = (
       record {
@@ -227,9 +229,9 @@ module _ (m : Built) where
   }
 
   -- a temp that holds no value gets a word
-  pub spare_set : (c : Frame) (calls : List Frame) (w : World) (words : List ℕ) (h x : ℕ) → wide_of c.held ≡ h → h < temps_of m.program c.func → Good m (c ∷ calls) w words → Good m (c ∷ calls) w (slice_set words (temp (slots_of m.program c.func) h) x)
-  spare_set c calls w words h x hh room g =
-      fewer c calls w (slice_set words (temp (slots_of m.program c.func) h) x) c.held (int (cast_signed w64 x) ∷ []) (temp_set c calls w words h x (int (cast_signed w64 x)) hh room refl refl g)
+  pub spare_set : (c : Frame) (calls : List Frame) (w : World) (words : List ℕ) (h x : ℕ) → x < 2 ^ 64 → wide_of c.held ≡ h → h < temps_of m.program c.func → Good m (c ∷ calls) w words → Good m (c ∷ calls) w (slice_set words (temp (slots_of m.program c.func) h) x)
+  spare_set c calls w words h x small hh room g =
+      fewer c calls w (slice_set words (temp (slots_of m.program c.func) h) x) c.held (int (cast_signed w64 x) ∷ []) (temp_set c calls w words h x (int (cast_signed w64 x)) hh room refl (refl, small) g)
 
   -- the words of a site
   pub site_word : (c : Frame) (calls : List Frame) (w : World) (words : List ℕ) (v j : ℕ) → InScope v c.scope → j < length (contents (value_of w (c.env v))) → Good m (c ∷ calls) w words → StandsFor (get_or (contents (value_of w (c.env v))) j nothing) (slice_index words (site_slot (slots_of m.program c.func) v + j))
@@ -297,6 +299,7 @@ module _ (m : Built) where
   born_site c calls w words cell v xs from to e typed g = let s = g.stack.0 in record {
     long = stay_long ∙ g.long;
     many = let least = g.many in omega (arith, more);
+    within = g.within;
     kinds = λ p l. subst (λ y. IsOf (global_type m.program p) y) (sym (born_earlier w cell p (let least = g.many in omega arith))) (g.kinds p l);
     stack = (
       record {
@@ -408,6 +411,7 @@ module _ (m : Built) where
   written_site c calls w words y v path t xs i leads e typed g = let s = g.stack.0 in record {
     long = site_length c calls w words g v from xs among.0 among.1 many ∙ g.long;
     many = let least = g.many in omega (arith, same_length);
+    within = g.within;
     kinds = λ p l. subst (λ z. IsOf (global_type m.program p) z) (sym (change_other w.store (c.env v) p path y (λ k. let h = s.homes v i in let above = s.above in absurd (omega arith)))) (g.kinds p l);
     stack = (
       record {
@@ -518,6 +522,7 @@ module _ (m : Built) where
   written_global calls w words y p l typed g = record {
     long = g.long;
     many = let least = g.many in omega (arith, same_length);
+    within = g.within;
     kinds = λ q k. elim (eqb_tells q p) [
       | inl e ↦ subst (λ t. IsOf (global_type m.program q) t) (sym (ap (λ u. value_of (written w p [] y) u) e.1 ∙ change_same w.store p [] y (let least = g.many in omega arith))) (subst (λ u. IsOf (global_type m.program u) y) (sym e.1) typed)
       | inr e ↦ subst (λ t. IsOf (global_type m.program q) t) (sym (change_other w.store p q [] y e.1)) (g.kinds q k)
@@ -529,13 +534,14 @@ module _ (m : Built) where
       same_length = change_length w.store p [] y
 
   -- a call begins
-  pub entered_frame : (f : ℕ) (func : Func) (calls : List Frame) (w : World) (words : List ℕ) (link ret : ℕ) → slice_get m.program.funcs f ≡ Some func → link ≡ link_of m calls → ret ≡ back_of calls → Good m calls w words →
+  pub entered_frame : (f : ℕ) (func : Func) (calls : List Frame) (w : World) (words : List ℕ) (link ret : ℕ) → slice_get m.program.funcs f ≡ Some func → link ≡ link_of m calls → ret ≡ back_of calls → frame_of m.program func + depth m calls ≤ m.max → Good m calls w words →
       Good m (fresh f func (length w.store) ∷ calls) w (entered (frame_of m.program func) link ret words)
-  entered_frame f func calls w words link ret named el er g =
+  entered_frame f func calls w words link ret named el er room g =
       let frame = frame_of m.program func in let long = g.long in
       record {
         long = entered_length frame link ret words (omega arith) ∙ ap (λ n. frame + n) long;
         many = g.many;
+        within = room;
         kinds = g.kinds;
         stack = (
           record {
@@ -562,11 +568,12 @@ module _ (m : Built) where
   all_zero (suc n) (suc i) = all_zero n i
 
   -- the first call begins
-  pub first_frame : (f : ℕ) (func : Func) (w : World) → slice_get m.program.funcs f ≡ Some func → length m.program.globals ≤ length w.store → ((g : ℕ) → g < length m.program.globals → IsOf (global_type m.program g) (value_of w g))
+  pub first_frame : (f : ℕ) (func : Func) (w : World) → slice_get m.program.funcs f ≡ Some func → frame_of m.program func ≤ m.max → length m.program.globals ≤ length w.store → ((g : ℕ) → g < length m.program.globals → IsOf (global_type m.program g) (value_of w g))
       → Good m (fresh f func (length w.store) ∷ []) w (replicate (frame_of m.program func) 0)
-  first_frame f func w named many kinds = record {
+  first_frame f func w named room many kinds = record {
     long = let e : frame_of m.program func ≡ frame_of m.program func + 0 = omega arith in length-replicate (frame_of m.program func) 0 ∙ e;
     many = many;
+    within = omega arith;
     kinds = kinds;
     stack = (
       record {
@@ -594,6 +601,7 @@ module _ (m : Built) where
       record {
         long = dropped_length words (frame_of m.program c.func) (depth m calls) long;
         many = g.many;
+        within = let room = g.within in omega arith;
         kinds = g.kinds;
         stack = stack_keeps m c.entry (length w.store) calls w w words (drop (frame_of m.program c.func) words) s.begins (λ x p l. refl) (λ d l. dropped words (frame_of m.program c.func) d (let e = depth_is m calls in omega arith)) g.stack.1;
       }

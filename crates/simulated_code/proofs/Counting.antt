@@ -1,5 +1,5 @@
 -- The number and the index of a `range`, and the words that they stand as.
-use Rattle.std.proofs.Common.{◌≡◌, ℕ, suc, ◌+◌, ◌<◌, ◌^◌, ℤ, pos, negsuc, Bool, true, false, Ok, refl, sym, ap, ◌∙◌, arith, mod-eq_of_lt}
+use Rattle.std.proofs.Common.{◌≡◌, ℕ, suc, ◌+◌, ◌<◌, ◌^◌, ℤ, pos, negsuc, Bool, true, false, Ok, refl, sym, ap, ◌∙◌, subst, arith, mod-eq_of_lt}
 use Rattle.std.specs.Prelude.{◌-◌, int_lt, nat_lt, unsigned_abs}
 use mir.Val.{sel}
 use Rattle.std.specs.Int.{w64, cast_signed, cast_unsigned, int_wrapping_add}
@@ -9,6 +9,11 @@ use Rattle.value_trees.specs.Value.{int}
 use Rattle.meaning.specs.Meaning.{count_of}
 use Rattle.isa.specs.Bin.{bit_of, bin_of, of_numbers}
 use Rattle.isa.specs.declared.instr.BinOp.TheVariants.{Add, Less}
+use Rattle.simulated_code.proofs.Frames.{Stands}
+
+pub bit_small : (r : Bool) → bit_of r < 2 ^ 64
+bit_small true = omega arith
+bit_small false = omega arith
 
 -- so many rounds are left at an index
 abbrev pub Remains : ℤ → (i left : ℕ) → Type 0
@@ -44,10 +49,15 @@ small y n e = by (nat_lt y (2 ^ 63)) refl
     by false l = absurd (let none : pos n ≡ negsuc (2 ^ 64 - suc y) = sym e ∙ ap (λ t. sel t (pos y) (negsuc (2 ^ 64 - suc y))) l in cc)
 
 -- an index below the number has a next one
-pub next_index : (z : ℤ) (i left x y : ℕ) → Remains z i (suc left) → cast_signed w64 x ≡ pos i → cast_signed w64 y ≡ z → (word : ℕ) × ((bin_of Add x 1 ≡ Ok word) × (cast_signed w64 word ≡ pos (suc i)))
+pub next_index : (z : ℤ) (i left x y : ℕ) → Remains z i (suc left) → cast_signed w64 x ≡ pos i → cast_signed w64 y ≡ z → (word : ℕ) × ((bin_of Add x 1 ≡ Ok word) × Stands (int (pos (suc i))) word)
 next_index (negsuc n) i left x y r ex ey = absurd (omega arith)
 next_index (pos n) i left x y r ex ey =
     let top = small y n ey in
     let one : i + 1 ≡ suc i = omega arith in
-    let sum : int_wrapping_add w64 (pos i) (pos 1) ≡ pos (suc i) = ap (cast_signed w64) (mod-eq_of_lt {n = i + 1} {m = 2 ^ 64} (omega arith)) ∙ to_z_pos w64 (i + 1) (omega arith) ∙ ap pos one in
-    (_, (ap (λ u. of_numbers Add u (pos 1)) ex, ap (λ u. cast_signed w64 (cast_unsigned w64 u)) sum ∙ to_z_pos w64 (suc i) (omega arith)))
+    let sum : int_wrapping_add w64 (pos i) (pos 1) ≡ pos (suc i) = ap (cast_signed w64) (mod-eq_of_lt {n = i + 1} {m = 2 ^ 64} (omega arith)) ∙ to_z_pos w64 (i + 1) (omega arith) ∙ ap pos one in (
+      _,
+      (
+        ap (λ u. of_numbers Add u (pos 1)) ex,
+        subst (λ u. Stands (int (pos (suc i))) (cast_unsigned w64 u)) (sym sum) (to_z_pos w64 (suc i) (omega arith), omega arith),
+      ),
+    )

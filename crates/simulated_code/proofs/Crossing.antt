@@ -58,12 +58,12 @@ module _ (m : Built) where
 
   -- the limit is met by both or by neither
   gate : (lo b more asked : ℕ) (t : Lines Sight Ending) (s s1 : State) → act m.code m.max m.items s ≡ (if nat_lt m.max (more + asked) then Stops [] (Limit more asked m.max) else Goes [] s1)
-      → Follows Sight Event Ending Stop same_event (same_end m.program.strings) lo 0 b t (λ k. exec (act m.code m.max m.items) k s1)
+      → (more + asked ≤ m.max → Follows Sight Event Ending Stop same_event (same_end m.program.strings) lo 0 b t (λ k. exec (act m.code m.max m.items) k s1))
       → Follows Sight Event Ending Stop same_event (same_end m.program.strings) (suc lo) 1 b (if nat_le (more + asked) m.max then t else Run.End (StackLimit more asked m.max)) (λ k. exec (act m.code m.max m.items) k s)
   gate lo b more asked t s s1 does f = elim (leb_tells (more + asked) m.max) [
     | inl p ↦ subst (λ (x : Bool). Follows Sight Event Ending Stop same_event (same_end m.program.strings) (suc lo) 1 b (if x then t else Run.End (StackLimit more asked m.max)) (λ k. exec (act m.code m.max m.items) k s)) (sym p.0)
         (Rules.goes Sight Event Ending Stop same_event (same_end m.program.strings) State (act m.code m.max m.items) {lo = lo} {hi = 0} {b = b} s s1
-        (does ∙ ap (λ x. if x then Stops [] (Limit more asked m.max) else Goes [] s1) (le-ltb m.max (more + asked) p.1)) f)
+        (does ∙ ap (λ x. if x then Stops [] (Limit more asked m.max) else Goes [] s1) (le-ltb m.max (more + asked) p.1)) (f p.1))
     | inr p ↦ subst (λ (x : Bool). Follows Sight Event Ending Stop same_event (same_end m.program.strings) (suc lo) 1 b (if x then t else Run.End (StackLimit more asked m.max)) (λ k. exec (act m.code m.max m.items) k s)) (sym p.0)
         (Rules.stops Sight Event Ending Stop same_event (same_end m.program.strings) State (act m.code m.max m.items) {lo = lo} {b = b} s (StackLimit more asked m.max) (Limit more asked m.max) (refl, refl, refl)
         (does ∙ ap (λ x. if x then Stops [] (Limit more asked m.max) else Goes [] s1) (lt-ltb m.max (more + asked) p.1)))
@@ -83,7 +83,7 @@ module _ (m : Built) where
         (g.long ∙ sym (used (length w.store) (c ∷ calls) w words g.stack))
         (subst (λ n. Follows Sight Event Ending Stop same_event (same_end m.program.strings) (suc lo) 1 b (if nat_le (length words + n) m.max then out (words_limits m) (f ∷ numbers (c ∷ calls)) count t else Run.End (StackLimit (length words) n m.max)) (λ k. exec (act m.code m.max m.items) k s))
         (sym (ap (frame_in m.program) named))
-        (gate lo b (length words) (frame_of m.program func) (out (words_limits m) (f ∷ numbers (c ∷ calls)) count t) s (state_at m place.start words1 w.reads heap) (does s.heap) ((post words1 good1 are1).at heap hs)));
+        (gate lo b (length words) (frame_of m.program func) (out (words_limits m) (f ∷ numbers (c ∷ calls)) count t) s (state_at m place.start words1 w.reads heap) (does s.heap) (λ fits. (post words1 (good1 fits) are1).at heap hs)));
   }
     where
       before : Words → State
@@ -121,8 +121,8 @@ module _ (m : Built) where
       good0 : Good m (placed c (pc + 1) ∷ calls) w cleared
       good0 = moved m c (pc + 1) calls w cleared (outgoing_put m c calls w words (replicate (result_words func) 0) (argument_words func) (omega (arith, zeros)) g)
 
-      good1 : Good m (fresh f func (length w.store) ∷ placed c (pc + 1) ∷ calls) w words1
-      good1 = entered_frame m f func (placed c (pc + 1) ∷ calls) w cleared link (pc + 1) named linked refl good0
+      good1 : length words + frame_of m.program func ≤ m.max → Good m (fresh f func (length w.store) ∷ placed c (pc + 1) ∷ calls) w words1
+      good1 fits = entered_frame m f func (placed c (pc + 1) ∷ calls) w cleared link (pc + 1) named linked refl (omega (arith, long)) good0
 
       same_length : length cleared ≡ length words
       same_length = put_length words (argument_words func) (replicate (result_words func) 0) (omega (arith, zeros, long))

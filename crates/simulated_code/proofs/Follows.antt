@@ -3,14 +3,12 @@ use Rattle.std.proofs.Common.{◌≡◌, inl, inr, ℕ, zero, suc, ◌+◌, ◌-
 use Rattle.std.specs.Prelude.{slice_get, slice_index, nat_le, replicate, if◌then◌else◌}
 use Rattle.value_trees.specs.Value.{Value, IsOf}
 use Rattle.std.proofs.lemmas.List.{length-map}
+use Rattle.std.proofs.lemmas.Bool.{leb-true}
 use Rattle.std.proofs.lemmas.Option.{slice_get-get_or}
 use Rattle.typed.specs.Syntax.{Func, Program, argument_words, result_words, global_type, site_type, all_width, each_width}
 use Rattle.std.proofs.lemmas.List.{nil_from_length}
-use Rattle.isa.specs.Bin.{bit_of}
-use Rattle.value_trees.specs.Value.{zero_of as zero_value}
-use Rattle.value_trees.specs.Words.{Hold, IsZero, number, truth, Content, contents}
-use Rattle.value_trees.proofs.Lists.{held_long}
-use Rattle.value_trees.proofs.Zeros.{zero_held, zero_is as zero_is_of}
+use Rattle.value_trees.specs.Words.{contents}
+use Rattle.value_trees.proofs.Zeros.{zero_is as zero_is_of}
 use Rattle.typed.specs.Form.{IsWord, AreOf, InScope, SitesNext, FuncFits, GlobalFits, IsInForm, ParamsFit, named_params, scope_with, params_scope, scope_in, body_first, breaks_all, ends_all}
 use Rattle.typed.specs.Placement.{on_heap}
 use Rattle.typed.specs.Frames.{frame_in, frame_of, widest, temps_of}
@@ -33,8 +31,9 @@ use Rattle.simulated_code.specs.Code.{word_of, slots_of, params_code, zeros_code
 use Rattle.simulated_code.specs.Correct.{same_event, same_end, limits, first_words, entered, target, Simulated, AreNumbers}
 use Rattle.simulated_code.proofs.Sizes.{length_params, length_entry, length_sts, length_func}
 use Rattle.simulated_code.proofs.Compiled.{Placed, Compiled}
-use Rattle.simulated_code.proofs.Frames.{Built, Stands, AreAt, Frame, placed, fresh, numbers, depth, room_of, Good, moved_back, nothing, StandIn, StandsFor, of_length, wide_of}
+use Rattle.simulated_code.proofs.Frames.{Built, Stands, AreAt, Frame, placed, fresh, numbers, depth, room_of, Good, moved_back, StandIn, of_length, wide_of}
 use Rattle.simulated_code.proofs.Changes.{first_frame}
+use Rattle.simulated_code.proofs.Composites.{zero_stands}
 use Rattle.simulated_code.proofs.Places.{value_same, Standing, front, back, standing, Panics, Heaps, At, state_at, place_is, none_asked, seen}
 use Rattle.simulated_code.proofs.Births.{AllWords, none_among, all_among, first_length, no_global, first_word, born_all, reads_kept, all_length, all_values, globals_follow}
 use Rattle.simulated_code.proofs.EvaluationsFollow.{word_stands}
@@ -162,39 +161,26 @@ module _ (m : Built) (around : Setting) (strings : around.strings ≡ m.program.
   }
 
 -- the first frame's limit is met by both or by neither
-gate : (strings : List (List ℕ)) (test : Bool) (frame max b : ℕ) (t : Lines Sight Ending) (run : ℕ → Outcome Event Stop) → Follows Sight Event Ending Stop same_event (same_end strings) 0 0 b t run →
+gate : (strings : List (List ℕ)) (test : Bool) (frame max b : ℕ) (t : Lines Sight Ending) (run : ℕ → Outcome Event Stop) → (test ≡ true → Follows Sight Event Ending Stop same_event (same_end strings) 0 0 b t run) →
     Follows Sight Event Ending Stop same_event (same_end strings) 0 0 b (if test then t else Run.End (StackLimit 0 frame max)) (λ k. if test then run k else Run.Ends (Limit 0 frame max))
-gate strings true frame max b t run f = f
+gate strings true frame max b t run f = f refl
 gate strings false frame max b t run f = record { lower = λ n k le. (refl, refl, refl); upper = λ n k lt le. (refl, refl, refl) }
 
-first_gate : (strings : List (List ℕ)) (asked frame max b : ℕ) (t : Lines Sight Ending) (run : ℕ → Outcome Event Stop) → asked ≡ frame → Follows Sight Event Ending Stop same_event (same_end strings) 0 0 b t run →
+first_gate : (strings : List (List ℕ)) (asked frame max b : ℕ) (t : Lines Sight Ending) (run : ℕ → Outcome Event Stop) → asked ≡ frame → (frame ≤ max → Follows Sight Event Ending Stop same_event (same_end strings) 0 0 b t run) →
     Follows Sight Event Ending Stop same_event (same_end strings) 0 0 b (if nat_le (0 + asked) max then t else Run.End (StackLimit 0 asked max)) (λ k. if nat_le frame max then run k else Run.Ends (Limit 0 frame max))
 first_gate strings asked frame max b t run e f =
     let none : frame ≡ 0 + frame = omega arith in
     subst (λ x. Follows Sight Event Ending Stop same_event (same_end strings) 0 0 b (if nat_le (0 + x) max then t else Run.End (StackLimit 0 x max)) (λ k. if nat_le frame max then run k else Run.Ends (Limit 0 frame max))) (sym e)
     (subst (λ x. Follows Sight Event Ending Stop same_event (same_end strings) 0 0 b (if nat_le x max then t else Run.End (StackLimit 0 frame max)) (λ k. if nat_le frame max then run k else Run.Ends (Limit 0 frame max))) none
-    (gate strings (nat_le frame max) frame max b t run f))
+    (gate strings (nat_le frame max) frame max b t run (λ fits. f (leb-true frame max fits))))
 
 -- words that hold contents by the relation
-held_stand_in : (cs : List Content) (xs : List ℕ) → Hold StandsFor cs xs → StandIn cs xs
-held_stand_in cs xs h = record { long = held_long StandsFor cs xs h; each = λ j l. at cs xs j h l }
-  where
-    at : (cs : List Content) (xs : List ℕ) (j : ℕ) → Hold StandsFor cs xs → j < length cs → StandsFor (get_or cs j nothing) (slice_index xs j)
-    at [] xs j h l = absurd (omega arith)
-    at (c ∷ cs) (x ∷ xs) zero h l = h.0
-    at (c ∷ cs) (x ∷ xs) (suc j) h l = at cs xs j h.1 (omega arith)
-    at (c ∷ cs) [] j h l = absurd h
-
-zero_word : (c : Content) → IsZero c → StandsFor c 0
-zero_word (number z) e = sym e
-zero_word (truth b) e = sym (ap bit_of e)
-
 module _ (p : Program) (code : Tables) (compiled : Compiled p code) (texts : code.strings ≡ p.strings) (form : IsInForm p) (items : ℕ → Item) (numbers_are : AreNumbers items) (max heap_max : ℕ) where
   abbrev around : Setting
   around = Meaning.setting_of items p
 
   zero_is : (site : ℕ) → StandIn (contents (Meaning.zero_of around site)) (replicate (width (site_type p site)) 0) × IsOf (site_type p site) (Meaning.zero_of around site)
-  zero_is site = (held_stand_in (contents (zero_value (site_type p site))) (replicate (width (site_type p site)) 0) (zero_held StandsFor zero_word (site_type p site)), zero_is_of (site_type p site))
+  zero_is site = (zero_stands (site_type p site), zero_is_of (site_type p site))
 
   -- no site of a function is one of the package
   apart : (f : ℕ) (func : Func) → slice_get p.funcs f ≡ Some func → (site : ℕ) → func.first ≤ site → site < func.first + func.count → on_heap p site ≡ false
@@ -229,9 +215,9 @@ module _ (p : Program) (code : Tables) (compiled : Compiled p code) (texts : cod
       let v = (get_or p.globals i no_global).1 in
       value_same v (value_of begun i) (word_of v) (slice_index heap i) (begun_value i l) (first_word p.globals i l) (word_stands v (global_fits i l).value.1)
 
-  module _ (few : length p.globals ≤ 2 ^ 32) where
+  module _ (few : length p.globals ≤ 2 ^ 32) (roomy : max ≤ 2 ^ 32) where
     abbrev built : Built
-    built = record { program = p; code = code; max = max; heap_max = heap_max; items = items; fits = form.fits; solid = form.solid; plain = λ g l. (global_fits g l).plain; few = few; stacked = apart; strings = texts; numbers = numbers_are; compiled = compiled }
+    built = record { program = p; code = code; max = max; heap_max = heap_max; roomy = roomy; items = items; fits = form.fits; solid = form.solid; plain = λ g l. (global_fits g l).plain; few = few; stacked = apart; strings = texts; numbers = numbers_are; compiled = compiled }
 
     begun_heaps : Heaps built begun heap
     begun_heaps = record { long = first_length p.globals; stands = begun_stands }
@@ -254,21 +240,21 @@ module _ (p : Program) (code : Tables) (compiled : Compiled p code) (texts : cod
         subst (λ o. Follows Sight Event Ending Stop same_event (same_end p.strings) 0 0 b (out (limits p max heap_max) [] (length p.globals) (Meaning.run_body around p.funcs callees (suc n) p.main o [] Meaning.at_top (λ x. 0) (λ rs. Meaning.stop (Exit 0)) begun)) (entered code items max first (slice_get code.funcs p.main))) (sym named)
         (subst (λ o. Follows Sight Event Ending Stop same_event (same_end p.strings) 0 0 b (out (limits p max heap_max) [] (length p.globals) (Meaning.run_body around p.funcs callees (suc n) p.main (Some func) [] Meaning.at_top (λ x. 0) (λ rs. Meaning.stop (Exit 0)) begun)) (λ k. entered code items max first o k)) (sym place.entry)
         (first_gate p.strings (frame_in p (slice_get p.funcs p.main)) (frame_of p func) max b _ _ (ap (frame_in p) named)
-        (unread _ place.start b (replicate (frame_of p func) 0) ((body_follows built around refl refl zero_is n callees (calls_follow built around refl refl zero_is n) p.main func named place [] [] Meaning.at_top (λ x. 0) (λ rs. Meaning.stop (Exit 0)) begun (replicate (frame_of p func) 0) 0 b le tt (λ at x env1 w1. refl) typed (omega (arith, of_length func.param_types [] typed, no_words)) (λ j l. absurd (omega arith))
-        (first_frame built p.main func begun named (omega (arith, begun_length)) begun_kinds) (λ rs w1. refl)).at heap begun_heaps))))
+        (λ fits. unread _ place.start b (replicate (frame_of p func) 0) ((body_follows built around refl refl zero_is n callees (calls_follow built around refl refl zero_is n) p.main func named place [] [] Meaning.at_top (λ x. 0) (λ rs. Meaning.stop (Exit 0)) begun (replicate (frame_of p func) 0) 0 b le tt (λ at x env1 w1. refl) typed (omega (arith, of_length func.param_types [] typed, no_words)) (λ j l. absurd (omega arith))
+        (first_frame built p.main func begun named fits (omega (arith, begun_length)) begun_kinds) (λ rs w1. refl)).at heap begun_heaps))))
 
   -- the births of the package variables, and `main`
-  whole_follows : (n b : ℕ) → b ≤ suc n → heap_max ≤ 2 ^ 32 → Follows Sight Event Ending Stop same_event (same_end p.strings) 0 0 b (out (limits p max heap_max) [] 0 (Meaning.trace items p n)) (target code items heap p.main max heap_max)
-  whole_follows n b le small =
+  whole_follows : (n b : ℕ) → b ≤ suc n → max ≤ 2 ^ 32 → heap_max ≤ 2 ^ 32 → Follows Sight Event Ending Stop same_event (same_end p.strings) 0 0 b (out (limits p max heap_max) [] 0 (Meaning.trace items p n)) (target code items heap p.main max heap_max)
+  whole_follows n b le roomy small =
       let main = Meaning.call_at around p.funcs (suc n) p.main [] Meaning.at_top (λ x. 0) (λ rs. Meaning.stop (Exit 0)) in
       let first : Words = record { words = heap; max = heap_max } in
       subst (λ count. Follows Sight Event Ending Stop same_event (same_end p.strings) 0 0 b (out (limits p max heap_max) [] 0 (Meaning.trace items p n)) (λ k. if nat_le count heap_max then entered code items max first (slice_get code.funcs p.main) k else Run.Ends (Full heap_max 1 heap_max))) (sym (first_length p.globals))
       (globals_follow around (limits p max heap_max) p.strings main (entered code items max first (slice_get code.funcs p.main)) b p.globals Meaning.beginning 0 (length p.globals) (all_among p.globals) (all_words p.globals (λ i g e. (form.globals i g e).value.1)) (omega arith) (omega arith) (λ fits.
-      main_follows (omega arith) n b le form.main.0 form.main.1 form.main.2 form.main.3))
+      main_follows (omega arith) roomy n b le form.main.0 form.main.1 form.main.2 form.main.3))
 
 -- the code of a program in form does what the program means
 pub simulated : (p : Program) (code : Tables) → Compiled p code → IsInForm p → code.strings ≡ p.strings → Simulated p code
 simulated p code compiled form texts = record {
-  at_least = λ items are max heap_max n k small le. (whole_follows p code compiled texts form items are max heap_max n 0 (omega arith) small).lower n k (omega arith);
-  at_most = λ items are max heap_max k small. (whole_follows p code compiled texts form items are max heap_max k (suc k) (omega arith) small).upper k k (omega arith) (omega arith);
+  at_least = λ items are max heap_max n k roomy small le. (whole_follows p code compiled texts form items are max heap_max n 0 (omega arith) roomy small).lower n k (omega arith);
+  at_most = λ items are max heap_max k roomy small. (whole_follows p code compiled texts form items are max heap_max k (suc k) (omega arith) roomy small).upper k k (omega arith) (omega arith);
 }

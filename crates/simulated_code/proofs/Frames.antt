@@ -29,6 +29,7 @@ pub record Built : Type 0 where
   pub code : Tables
   pub max : ℕ
   pub heap_max : ℕ
+  pub roomy : max ≤ 2 ^ 32
   pub items : ℕ → Item
   pub fits : (f : ℕ) (func : Func) → slice_get program.funcs f ≡ Some func → FuncFits program func
   pub solid : (site : ℕ) → 0 < width (site_type program site)
@@ -39,9 +40,9 @@ pub record Built : Type 0 where
   pub numbers : AreNumbers items
   pub compiled : Compiled program code
 
--- what a word holds, and in the place of what is not there
+-- what a word of 64 bits holds, and in the place of what is not there
 abbrev pub StandsFor : Content → ℕ → Type 0
-StandsFor (number z) word = cast_signed w64 word ≡ z
+StandsFor (number z) word = (cast_signed w64 word ≡ z) × (word < 2 ^ 64)
 StandsFor (truth b) word = word ≡ bit_of b
 
 abbrev pub nothing : Content
@@ -177,6 +178,7 @@ module _ (m : Built) where
   pub record Good (calls : List Frame) (w : World) (words : List ℕ) : Type 0 where
     pub long : length words ≡ depth calls
     pub many : length m.program.globals ≤ length w.store
+    pub within : depth calls ≤ m.max
     pub kinds : (g : ℕ) → g < length m.program.globals → IsOf (global_type m.program g) (value_of w g)
     pub stack : Stack (length w.store) calls w words
 
@@ -216,6 +218,7 @@ module _ (m : Built) where
   good_keeps calls w words words1 long same g = record {
     long = long ∙ g.long;
     many = g.many;
+    within = g.within;
     kinds = g.kinds;
     stack = stack_keeps (length w.store) (length w.store) calls w w words words1 (omega arith) (λ x p l. refl) same g.stack;
   }
@@ -225,6 +228,7 @@ module _ (m : Built) where
   good_read calls w reads words g = let u : World = record { store = w.store; reads = reads } in record {
     long = g.long;
     many = g.many;
+    within = g.within;
     kinds = g.kinds;
     stack = stack_keeps (length w.store) (length w.store) calls w u words words (omega arith) (λ x p l. refl) (λ d l. refl) g.stack;
   }
@@ -234,6 +238,7 @@ module _ (m : Built) where
   moved c place calls w words g = let s = g.stack.0 in record {
     long = g.long;
     many = g.many;
+    within = g.within;
     kinds = g.kinds;
     stack = (record { named = s.named; room = s.room; begins = s.begins; above = s.above; among = s.among; homes = s.homes; sole = s.sole; values = s.values; types = s.types; temps = s.temps; back = s.back; link = s.link }, g.stack.1);
   }
@@ -242,6 +247,7 @@ module _ (m : Built) where
   moved_back c place calls w words g = let s = g.stack.0 in record {
     long = g.long;
     many = g.many;
+    within = g.within;
     kinds = g.kinds;
     stack = (record { named = s.named; room = s.room; begins = s.begins; above = s.above; among = s.among; homes = s.homes; sole = s.sole; values = s.values; types = s.types; temps = s.temps; back = s.back; link = s.link }, g.stack.1);
   }
@@ -251,6 +257,7 @@ module _ (m : Built) where
   narrowed c env scope less calls w words sub g = let s = g.stack.0 in record {
     long = g.long;
     many = g.many;
+    within = g.within;
     kinds = g.kinds;
     stack = (
       record {

@@ -37,7 +37,7 @@ module _ (m : Built) where
   value_printed : {w : World} (t : ValueType) (v : Value) (running : List ℕ) (words : List ℕ) (a pc lo hi b : ℕ) (rest : Trace) → IsPlain t → IsOf t v → slice_get m.code.instrs pc ≡ Some (shown_code t a) → Stands v (slice_index words a)
       → At m running lo hi b rest (pc + 1) words w → At m running (suc lo) 1 b (Note (Print (shown_bytes v)) rest) pc words w
   value_printed {w} ints (int z) running words a pc lo hi b rest plain typed here stands post =
-      printing m {lo = lo} {hi = hi} (PrintInt a) (signed_decimal z) here (λ heap. let s1 : State = record { pc = pc + 1; words = words; reads = w.reads; heap = heap } in ap (λ x. Goes (Printed (signed_decimal x) ∷ []) s1) stands) post
+      printing m {lo = lo} {hi = hi} (PrintInt a) (signed_decimal z) here (λ heap. let s1 : State = record { pc = pc + 1; words = words; reads = w.reads; heap = heap } in ap (λ x. Goes (Printed (signed_decimal x) ∷ []) s1) stands.0) post
   value_printed {w} bools (bool true) running words a pc lo hi b rest plain typed here stands post =
       printing m {lo = lo} {hi = hi} (PrintBool a) _ here (λ heap. let s1 : State = record { pc = pc + 1; words = words; reads = w.reads; heap = heap } in ap (λ x. Goes (Printed (truth_bytes x) ∷ []) s1) stands) post
   value_printed {w} bools (bool false) running words a pc lo hi b rest plain typed here stands post =

@@ -1,26 +1,27 @@
 -- The machine follows statements with others inside, where it follows those.
-use Rattle.std.proofs.Common.{◌≡◌, inr, ℕ, suc, ◌+◌, ◌-◌, ◌≤◌, ℤ, pos, true, false, List, [], ◌∷◌, ◌++◌, length, Option, Some, None, refl, sym, ap, subst, arith}
+use Rattle.std.proofs.Common.{◌≡◌, inl, inr, ℕ, suc, ◌+◌, ◌-◌, ◌≤◌, ℤ, pos, true, false, List, [], ◌∷◌, ◌++◌, length, Option, Some, None, refl, sym, ap, ◌∙◌, subst, arith, append_assoc, append-nil, length-append}
 use Rattle.std.specs.Prelude.{slice_set, ◌&&◌}
 use Rattle.value_trees.specs.Value.{Value, int, IsOf}
 use Rattle.typed.specs.Syntax.{Ex, Left, St, Sts, blank, new, to, over_int, choose, loop, range, done, next, argument_words}
 use Rattle.typed.specs.Form.{TestFits, births, births_all, new_sites, scope_behind, scope_after, breaks, breaks_all, ends, ends_all}
-use Rattle.typed.specs.Frames.{test_need, test_reach, outgoing_of, temps_of}
+use Rattle.typed.specs.Frames.{test_need, test_reach, sts_reach, left_far, outgoing_of, temps_of}
 use Rattle.meaning.specs.Trace.{World}
 use Rattle.meaning.specs.Meaning
 use Rattle.meaning.specs.Meaning.{Env, Go, Ways, Calls, Setting}
 use Rattle.isa.specs.declared.instr.BinOp.TheVariants as Word
 use Rattle.isa.specs.declared.instr.Instr.{Instr}
 use Rattle.isa.specs.declared.instr.Instr.TheVariants.{Const, Bin, Jump, JumpZero}
-use Rattle.simulated_code.specs.Code.{temp, slots_of, ex_code, test_code, lefts_code, renew_code, st_code, sts_code, size, test_size, lefts_size, renew_size, st_size, sts_size}
-use Rattle.simulated_code.proofs.Sizes.{length_code, length_test, length_lefts, length_renew, length_st, length_sts}
-use Rattle.simulated_code.proofs.Rooms.{key_room}
+use Rattle.simulated_code.specs.Code.{temp, slots_of, lefts_above, ready_code, lefts_sized, ex_code, test_code, lefts_code, renew_code, st_code, sts_code, size, test_size, lefts_size, renew_size, st_size, sts_size}
+use Rattle.simulated_code.proofs.Sizes.{length_code, length_test, length_ready, length_lefts, lefts_sum, length_renew, length_st, length_sts}
+use Rattle.simulated_code.proofs.Rooms.{key_alone, key_room, lefts_room, lefts_others}
 use Rattle.simulated_code.proofs.Frames.{Built, Frame, hold, during, numbers, Good, narrowed, wide_of}
 use Rattle.simulated_code.proofs.Changes.{one_more, temp_set, fewer, held_word}
 use Rattle.simulated_code.proofs.Places.{Standing, front, back, Panics, At, later, place_is, turned, seen, stepped}
 use Rattle.simulated_code.proofs.Moves.{CallsFollow}
 use Rattle.simulated_code.proofs.ConditionsFollow.{branches}
 use Rattle.simulated_code.proofs.EvaluationsFollow.{ev_follows}
-use Rattle.simulated_code.proofs.LeftsFollow.{ready_one_is, lefts_follow, renew_follows}
+use Rattle.simulated_code.proofs.LeftsFollow.{together, first_landing, land_one, lefts_follow, renew_follows}
+use Rattle.simulated_code.proofs.ReadyFollows.{ready_follow}
 use Rattle.simulated_code.proofs.Scopes.{behind_has, after_has, both_go_on, one_goes_on, first_or, second_or, tested, test_goes_on, break_goes_on, scoped_more, scoped_behind, scoped_after}
 use Rattle.simulated_code.proofs.Counting.{remains_first}
 use Rattle.simulated_code.proofs.RoundsFollow.{counting, counting_is, two_held, Tests, Round, rounds_follow, CountRound, counted_follow}
@@ -161,8 +162,14 @@ module _ (m : Built) (around : Setting) (inputs : around.items ≡ m.items) (cal
       test : ℕ
       test = pc + size m.program e + 1
 
+      start : ℕ
+      start = test + 2 + lefts_sized m.program (key ∷ []) 0
+
       here : ℕ
-      here = test + 2 + lefts_size (key ∷ [])
+      here = test + 2 + lefts_sized m.program (key ∷ []) (lefts_size (key ∷ []))
+
+      begins : start + lefts_size (key ∷ []) ≡ here
+      begins = omega (arith, lefts_sum m.program (key ∷ []) (lefts_size (key ∷ [])))
 
       turn : ℕ
       turn = here + sts_size m.program (argument_words c.func) c.func.named body
@@ -182,8 +189,20 @@ module _ (m : Built) (around : Setting) (inputs : around.items ≡ m.items) (cal
       ce : List Instr
       ce = ex_code m.program (slots_of m.program c.func) e h pc
 
+      above : ℕ
+      above = lefts_above (key ∷ []) (h + 2)
+
+      cr : List Instr
+      cr = ready_code m.program (slots_of m.program c.func) (key ∷ []) (h + 2) (test + 2)
+
+      ck : List Instr
+      ck = lefts_code (slots_of m.program c.func) (1 ∷ []) (key ∷ []) (h + 2) above (h + 1)
+
       cl : List Instr
-      cl = lefts_code (slots_of m.program c.func) (1 ∷ []) (key ∷ []) (h + 2) (h + 1)
+      cl = cr ++ ck
+
+      length_cl : length cl ≡ lefts_sized m.program (key ∷ []) (lefts_size (key ∷ []))
+      length_cl = omega (arith, length-append cr ck, length_ready m.program (slots_of m.program c.func) (key ∷ []) (h + 2) (test + 2), length_lefts (slots_of m.program c.func) (1 ∷ []) (key ∷ []) (h + 2) above (h + 1), lefts_sum m.program (key ∷ []) (lefts_size (key ∷ [])))
 
       cb : List Instr
       cb = sts_code m.program (argument_words c.func) c.func.named (slots_of m.program c.func) body (h + 2) behind turn here
@@ -197,24 +216,28 @@ module _ (m : Built) (around : Setting) (inputs : around.items ≡ m.items) (cal
       has_rest : Standing m.code c.fn (pc + size m.program e) rest
       has_rest = back m.code c.fn pc (size m.program e) ce rest (length_code m.program (slots_of m.program c.func) e h pc) has
 
+      has_l : Standing m.code c.fn (test + 2) (cl ++ (cb ++ counts))
+      has_l = subst (λ p. Standing m.code c.fn p (cl ++ (cb ++ counts))) (let q1 : test + 1 + 1 ≡ test + 2 = omega arith in q1) has_rest.1.1.1
+
       has_b : Standing m.code c.fn here (cb ++ counts)
-      has_b =
-          let q1 : test + 1 + 1 + lefts_size (key ∷ []) ≡ here = omega arith in
-          subst (λ p. Standing m.code c.fn p (cb ++ counts)) q1 (back m.code c.fn (test + 1 + 1) (lefts_size (key ∷ [])) cl (cb ++ counts) (length_lefts (slots_of m.program c.func) (1 ∷ []) (key ∷ []) (h + 2) (h + 1)) has_rest.1.1.1)
+      has_b = back m.code c.fn (test + 2) (lefts_sized m.program (key ∷ []) (lefts_size (key ∷ []))) cl (cb ++ counts) length_cl has_l
+
+      has_k : Standing m.code c.fn start ck
+      has_k = back m.code c.fn (test + 2) (lefts_sized m.program (key ∷ []) 0) cr ck (length_ready m.program (slots_of m.program c.func) (key ∷ []) (h + 2) (test + 2)) (front m.code c.fn (test + 2) cl (cb ++ counts) has_l)
 
       has_c : Standing m.code c.fn turn counts
       has_c = back m.code c.fn here (sts_size m.program (argument_words c.func) c.func.named body) cb counts (length_sts m.program (argument_words c.func) c.func.named (slots_of m.program c.func) body (h + 2) behind turn here) has_b
 
       behind_loop : (v : ℕ) → After m c calls held scope behind lo b (Meaning.outside k v)
       behind_loop v env1 w1 words1 g1 =
-          seen m _ (place_is m (let q1 : pc + (size m.program e + 1 + 2 + lefts_size (key ∷ []) + sts_size m.program (argument_words c.func) c.func.named body + 3) ≡ behind = omega arith in q1) (post refl env1 w1 words1 g1))
+          seen m _ (place_is m (let q1 : pc + (size m.program e + 1 + 2 + lefts_sized m.program (key ∷ []) (lefts_size (key ∷ [])) + sts_size m.program (argument_words c.func) c.func.named body + 3) ≡ behind = omega arith in q1) (post refl env1 w1 words1 g1))
 
       -- while the number is held
       ways : ℤ → Ways
       ways z = Meaning.holding ws (int z)
 
       body_of : ℤ → ℕ → ℕ → Env → (ℕ → Env → Go) → Go
-      body_of z = Meaning.range_round around callees (suc n) key (Meaning.exec_all around callees (suc n) body) (ways z) (Meaning.outside k)
+      body_of z = Meaning.index_round around callees (suc n) key (Meaning.exec_all around callees (suc n) body) (ways z) (Meaning.outside k)
 
       next_follow : (z : ℤ) (i v : ℕ) (j : ℕ → Env → Go) (d : ℕ) → ((v1 : ℕ) → After m c calls (counting z held i) scope turn lo d (j v1)) → After m c calls (counting z held i) scope turn lo d (Meaning.to_next_count v j)
       next_follow z i v j d go env1 w1 words1 g1 = seen m _ (go (length w1.store) env1 w1 words1 g1)
@@ -224,22 +247,27 @@ module _ (m : Built) (around : Setting) (inputs : around.items ≡ m.items) (cal
           let first = Meaning.outside k v in let then_next = Meaning.to_next_count v j in
           let all = counting z held i in let more = scope_behind scope (key ∷ []) in
           let next = next_follow z i v j d go in
-          subst (λ t. At m (numbers (c ∷ calls)) lo 0 d t (test + 1 + 1) words1 w1) (sym (ready_one_is around callees key (ways z) env1 (λ a. Meaning.land around a (int (pos i)) (ways z) env1 (λ env2. Meaning.in_loop (Meaning.exec_all around callees (suc n) body) (ways z) first then_next env2)) w1))
-          (lefts_follow m around (key ∷ []) (ints ∷ []) (int (pos i) ∷ []) (held ++ int z ∷ []) all c env1 env1 scope scope calls (ways z) (λ env2. Meaning.in_loop (Meaning.exec_all around callees (suc n) body) (ways z) first then_next env2) w1 words1 q (h + 2) (h + 1) (test + 1 + 1) lo d (tt, tt)
-          (one_more held (int z) h 1 hh refl) (sym (counting_is z held i)) (two_held z held h i hh) (front m.code c.fn (test + 1 + 1) cl (cb ++ counts) has_rest.1.1.1) fit.1
-          (let room = key_room m.program (temps_of m.program c.func) h key (omega arith) in omega arith) sc.from (λ u i. (i, refl, sc.below u i)) g1 (λ env2 w2 words2 g2.
-          place_is m (let q1 : here ≡ test + 1 + 1 + lefts_size (key ∷ []) = omega arith in q1)
-          (bodies (inside m c calls (ways z) first then_next) env2 then_next w2 words2 all (h + 2) true scope more (q + new_sites (key ∷ [])) behind turn here lo d (omega arith) (two_held z held h i hh)
-          (front m.code c.fn here cb counts has_b) fit.2 (omega arith) (omega arith) (scoped_behind m.program c.func scope q (c.func.first + c.func.count) (ints ∷ []) (key ∷ []) fit.1 sc)
+          let cb0 = during c env1 scope all in let land = λ (env2 : Env). Meaning.in_loop (Meaning.exec_all around callees (suc n) body) (ways z) first then_next env2 in
+          let room = key_room m.program (temps_of m.program c.func) h key (omega arith) in
+          place_is m (let q1 : test + 2 ≡ test + 1 + 1 = omega arith in q1)
+          (ready_follow m around inputs callees n cf (key ∷ []) (ints ∷ []) (left_far key) (sts_reach m.program body) q (c.func.first + c.func.count) cb0 calls (ways z) (λ xs ws1. Meaning.land around (first_landing xs) (int (pos i)) (ways z) env1 land) w1 words1 (h + 2) (test + 2) lo d (omega arith) (two_held z held h i hh) leads.panics
+          (front m.code c.fn (test + 2) cr ck (front m.code c.fn (test + 2) cl (cb ++ counts) has_l)) fit.1 (omega arith) (omega (arith, key_alone m.program key (sts_reach m.program body))) g1 (λ uss ws1 w2 words2 stops1 given there g2.
+          let inside_room = lefts_room m.program (temps_of m.program c.func) (h + 2) (left_far key) (key ∷ []) (omega arith) in
+          subst (λ t. At m (numbers (c ∷ calls)) lo 0 d t start words2 w2) (sym (land_one around key uss env1 env1 (int (pos i)) (ways z) land w2 given))
+          (lefts_follow m around (key ∷ []) (ints ∷ []) (int (pos i) ∷ []) (held ++ int z ∷ []) (together uss) (all ++ together uss) uss all [] c env1 env1 scope scope calls (ways z) land w2 words2 q (q + new_sites (key ∷ [])) above (h + 2) (h + 1) start lo d leads.panics (tt, tt)
+          (one_more held (int z) h 1 hh refl) (ap (λ l. l ++ together uss) (sym (counting_is z held i)) ∙ append_assoc (held ++ int z ∷ []) (int (pos i) ∷ []) (together uss)) given (two_held z held h i hh) (ap (λ l. all ++ l) (sym (append-nil (together uss)))) there has_k fit.1 (omega arith) sc.from (omega arith) (λ u i. (i, refl, inl (sc.below u i))) g2 (λ env2 w3 words3 g3.
+          place_is m (sym begins)
+          (bodies (inside m c calls (ways z) first then_next) env2 then_next w3 words3 all (h + 2) true scope more (q + new_sites (key ∷ [])) behind turn here lo d (omega arith) (two_held z held h i hh)
+          (front m.code c.fn here cb counts has_b) fit.2 (omega arith) (let others = lefts_others m.program (sts_reach m.program body) (key ∷ []) in omega (arith, key_alone m.program key (sts_reach m.program body))) (scoped_behind m.program c.func scope q (c.func.first + c.func.count) (ints ∷ []) (key ∷ []) fit.1 sc)
           (leads_inside m c calls first then_next db (behind_has scope (key ∷ [])) (leads_holding m c calls (int z) leads)
-          (λ t env3 w3 words3 g3. after_later m c calls held scope behind lo lo b d first (omega arith) db (behind_loop v) env3 w3 words3 (fewer m (during c env3 scope held) calls w3 words3 held (int z ∷ int (pos i) ∷ []) g3)) next) g2
-          (λ goes env3 w3 words3 g3. next env3 w3 words3 (narrowed m (hold c all) env3 more scope calls w3 words3 (behind_has scope (key ∷ [])) g3)))))
+          (λ t env3 w4 words4 g4. after_later m c calls held scope behind lo lo b d first (omega arith) db (behind_loop v) env3 w4 words4 (fewer m (during c env3 scope held) calls w4 words4 held (int z ∷ int (pos i) ∷ []) g4)) next) (fewer m (during c env2 more all) calls w3 words3 all (together uss) g3)
+          (λ goes env3 w4 words4 g4. next env3 w4 words4 (narrowed m (hold c all) env3 more scope calls w4 words4 (behind_has scope (key ∷ [])) g4)))))))
 
       over : (v : Value) (w1 : World) (words1 : List ℕ) → IsOf ints v → Good m (during c env scope (held ++ v ∷ []) ∷ calls) w1 words1
-          → At m (numbers (c ∷ calls)) lo 0 b (Meaning.turn (Meaning.births (λ v1. Meaning.counted (suc n) 0 (Meaning.count_of v) (Meaning.range_round around callees (suc n) key (Meaning.exec_all around callees (suc n) body) (Meaning.holding ws v) (Meaning.outside k)) (Meaning.outside k) v1 env)) w1) (pc + size m.program e) words1 w1
+          → At m (numbers (c ∷ calls)) lo 0 b (Meaning.turn (Meaning.births (λ v1. Meaning.counted (suc n) 0 (Meaning.count_of v) (Meaning.index_round around callees (suc n) key (Meaning.exec_all around callees (suc n) body) (Meaning.holding ws v) (Meaning.outside k)) (Meaning.outside k) v1 env)) w1) (pc + size m.program e) words1 w1
       over (int z) w1 words1 iv g1 =
           turned m {lo1 = suc lo} (omega arith) (stepped m {lo = lo} {hi = 0} (Const index_slot 0) has_rest.0.0 (λ heap. refl)
           (counted_follow m c calls z held h scope test turn behind hh (omega arith) has_rest.1.0.0 has_rest.1.1.0.0 has_c.0.0 has_c.1.0.0 has_c.1.1.0.0 (body_of z) (Meaning.outside k) lo b (round z) behind_loop (suc n) 0 (Meaning.count_of (int z)) b (omega arith) le (remains_first z) (length w1.store) env w1 (slice_set words1 index_slot 0)
           (subst (λ l. Good m (during c env scope l ∷ calls) w1 (slice_set words1 index_slot 0)) (counting_is z held 0)
-          (temp_set m (during c env scope (held ++ int z ∷ [])) calls w1 words1 (h + 1) 0 (int (pos 0)) (one_more held (int z) h 1 hh refl) (omega arith) refl refl g1))))
+          (temp_set m (during c env scope (held ++ int z ∷ [])) calls w1 words1 (h + 1) 0 (int (pos 0)) (one_more held (int z) h 1 hh refl) (omega arith) refl (refl, omega arith) g1))))
       over v w1 words1 iv g1 = absurd iv

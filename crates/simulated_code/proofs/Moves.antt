@@ -79,11 +79,11 @@ module _ (m : Built) where
         → ((rs : List Value) (w1 : World) (words1 : List ℕ) → AreOf func.results rs → AreAt rs (depth m (c ∷ calls)) (argument_words func) words1 → Good m (c ∷ calls) w1 words1 → At m (numbers (c ∷ calls)) lo 0 b (k rs w1) (pc + 1) words1 w1)
         → At m (numbers (c ∷ calls)) (suc lo) 1 b (callees f vs ws env k w) pc words w
 
-  -- the arguments are held: the call, whose results take their places
+  -- the arguments are held: the call, whose results take their places; its turn has an instruction to spare
   pub call_end : (callees : Calls) (n : ℕ) → CallsFollow callees n → (f : ℕ) (func : Func) (vs : List Value) (c : Frame) (calls : List Frame) (ws : Ways) (env : Env) (k : Then (List Value)) (w : World) (words : List ℕ) (h pc lo b : ℕ) → b ≤ suc n → slice_get m.program.funcs f ≡ Some func
       → wide_of c.held ≡ h → Panics ws → AreOf func.param_types vs → Standing m.code c.fn pc (call_code m.program (slots_of m.program c.func) f h) → h + results_of m.program f ≤ temps_of m.program c.func → arguments_of m.program f + results_of m.program f ≤ outgoing_of m.program c.func
       → Good m (hold c (c.held ++ vs) ∷ calls) w words
-      → ((rs : List Value) (w1 : World) (words1 : List ℕ) → AreOf func.results rs → Good m (hold c (c.held ++ rs) ∷ calls) w1 words1 → At m (numbers (c ∷ calls)) lo 0 b (k rs w1) (pc + call_size m.program f) words1 w1)
+      → ((rs : List Value) (w1 : World) (words1 : List ℕ) → AreOf func.results rs → Good m (hold c (c.held ++ rs) ∷ calls) w1 words1 → At m (numbers (c ∷ calls)) (suc lo) 0 b (k rs w1) (pc + call_size m.program f) words1 w1)
       → At m (numbers (c ∷ calls)) lo 0 b (Turn (callees f vs ws env k w)) pc words w
   call_end callees n cf f func vs c calls ws env k w words h pc lo b le named hh stops typed has room reach g post =
       let s = slots_of m.program c.func in
@@ -92,10 +92,10 @@ module _ (m : Built) where
       let many : wide_of vs ≡ argument_words func = of_length func.param_types vs typed in
       let before = move_code na 0 (temp s h) in let behind = move_code nr (temp s h) na in
       let has_call = back m.code c.fn pc (move_size na) before (Call f ∷ behind) (length_move na 0 (temp s h)) has in
-      turned_less m {lo1 = suc (suc (suc lo))} (omega arith)
-      (arguments_moved na h c calls w words vs (numbers (c ∷ calls)) pc (suc (suc lo)) (b - 1) _ (front m.code c.fn pc before (Call f ∷ behind) has) hh (omega arith) (omega arith) g (λ words1 are g1.
-      cf.by f func vs c calls ws env k w words1 (pc + move_size na) (suc lo) (b - 1) (omega arith) named has_call.0.0 has_call.0.1 stops typed (omega arith) are g1 (λ rs w1 words2 some are2 g2.
-      results_moved nr h na c calls w1 words2 rs (numbers (c ∷ calls)) (pc + move_size na + 1) lo (b - 1) _ has_call.1 hh (let l = of_length func.results rs some in omega (arith, l)) (omega arith) (omega arith)
+      turned_less m {lo1 = suc (suc (suc (suc lo)))} (omega arith)
+      (arguments_moved na h c calls w words vs (numbers (c ∷ calls)) pc (suc (suc (suc lo))) (b - 1) _ (front m.code c.fn pc before (Call f ∷ behind) has) hh (omega arith) (omega arith) g (λ words1 are g1.
+      cf.by f func vs c calls ws env k w words1 (pc + move_size na) (suc (suc lo)) (b - 1) (omega arith) named has_call.0.0 has_call.0.1 stops typed (omega arith) are g1 (λ rs w1 words2 some are2 g2.
+      results_moved nr h na c calls w1 words2 rs (numbers (c ∷ calls)) (pc + move_size na + 1) (suc lo) (b - 1) _ has_call.1 hh (let l = of_length func.results rs some in omega (arith, l)) (omega arith) (omega arith)
       (subst (λ a. AreAt rs (depth m (c ∷ calls)) a words2) (sym ea) are2) g2 (λ words3 g3.
-      later m {lo = lo} {hi = 0} {b = b} (omega arith) (omega arith) (omega arith)
+      later m {lo = suc lo} {hi = 0} {b = b} (omega arith) (omega arith) (omega arith)
       (place_is m (let e : pc + call_size m.program f ≡ pc + move_size na + 1 + move_size nr = omega arith in e) (post rs w1 words3 some g3))))))

@@ -1,10 +1,10 @@
 -- Operators on values, and on the words that they stand as.
 use Rattle.std.proofs.lemmas.Bool.{true≢false}
-use Rattle.std.proofs.Common.{◌≡◌, inl, inr, ℕ, zero, suc, ◌^◌, ℤ, pos, negsuc, Bool, true, false, List, Result, Ok, Err, refl, sym, ap, ◌∙◌, subst, arith, FitsSigned}
+use Rattle.std.proofs.Common.{◌≡◌, inl, inr, ℕ, zero, suc, ◌^◌, ◌<◌, ℤ, pos, negsuc, Bool, true, false, List, Result, Ok, Err, refl, sym, ap, ◌∙◌, subst, arith, FitsSigned}
 use Rattle.std.specs.Prelude.{min, int_rem, int_lt, int_le, not}
 use Rattle.std.specs.Ordering.{int_eq}
-use Rattle.std.specs.Int.{w64, cast_signed, int_shl, int_shr, int_wrapping_div, int_wrapping_neg, int_bit_not, int_wrapping_add, int_wrapping_sub, int_wrapping_mul, int_bit_and, int_bit_or, int_bit_xor}
-use Rattle.std.proofs.lemmas.Int.{to_z-of_z}
+use Rattle.std.specs.Int.{w64, cast_signed, cast_unsigned, int_shl, int_shr, int_wrapping_div, int_wrapping_neg, int_bit_not, int_wrapping_add, int_wrapping_sub, int_wrapping_mul, int_bit_and, int_bit_or, int_bit_xor}
+use Rattle.std.proofs.lemmas.Int.{to_z-of_z, of_z-to_z}
 use lib.Signed.{mag_rem, mag_shr}
 use borrow.Author.Differences.{fits_in, read_fits}
 use Rattle.value_trees.specs.Value.{Value, int, bool, IsOf}
@@ -23,7 +23,7 @@ use Rattle.machine.specs.Machine.{panic_of}
 use Rattle.simulated_code.specs.Correct.{same_fault}
 use Rattle.simulated_code.specs.Code.{operation}
 use Rattle.simulated_code.proofs.Frames.{Stands}
-use Rattle.simulated_code.proofs.Wide.{takes_left, takes_one}
+use Rattle.simulated_code.proofs.Wide.{takes_one}
 
 -- what an operator gives, and what the machine's gives: a value of a type that stands as a word, or the same fault
 abbrev pub Agree : ValueType → Result Value Fault → Result ℕ BinFault → Type 0
@@ -34,15 +34,27 @@ Agree t a b = ⊥
 read_small : (x : ℕ) → FitsSigned w64 (cast_signed w64 x)
 read_small x = omega (arith, fits_in, read_fits w64 x)
 
+-- a number's word has 64 bits
+pub word_small : (z : ℤ) → FitsSigned w64 z → word_of z < 2 ^ 64
+word_small (pos n) f = omega (arith, f.sfits)
+word_small (negsuc n) f = omega arith
+
 -- a number of 64 bits is its word's number
-signed_twice : (x : ℕ) → cast_signed w64 (word_of (cast_signed w64 x)) ≡ cast_signed w64 x
-signed_twice x = to_z-of_z w64 (cast_signed w64 x) (read_small x)
+pub number_stands : (z : ℤ) → FitsSigned w64 z → Stands (int z) (word_of z)
+number_stands z f = (to_z-of_z w64 z f, word_small z f)
+
+signed_twice : (x : ℕ) → Stands (int (cast_signed w64 x)) (word_of (cast_signed w64 x))
+signed_twice x = number_stands (cast_signed w64 x) (read_small x)
 
 rem_small : (a d : ℤ) → FitsSigned w64 a → FitsSigned w64 (int_rem a d)
 rem_small a d f = record { sfits = omega (arith, mag_rem a d, f.sfits) }
 
 shr_small : (a : ℤ) (n : ℕ) → FitsSigned w64 a → FitsSigned w64 (int_shr a n)
 shr_small a n f = record { sfits = omega (arith, mag_shr a (2 ^ n), f.sfits) }
+
+-- words of 64 bits are those of one number where they are equal
+pub signed_once : (x y : ℕ) → x < 2 ^ 64 → y < 2 ^ 64 → cast_signed w64 x ≡ cast_signed w64 y → x ≡ y
+signed_once x y lx ly e = sym (of_z-to_z w64 x lx) ∙ ap (cast_unsigned w64) e ∙ of_z-to_z w64 y ly
 
 -- numbers are no truth values
 abbrev is_ints : ValueType → Bool
@@ -58,12 +70,12 @@ number_of t z e = subst (λ u. IsOf u (int z)) (sym e) tt
 pub truth_of : (t : ValueType) (b : Bool) → t ≡ bools → IsOf t (bool b)
 truth_of t b e = subst (λ u. IsOf u (bool b)) (sym e) tt
 
-divides : (t : ValueType) (f : ℤ → ℤ → ℤ) (a d : ℤ) → t ≡ ints → cast_signed w64 (word_of (f a d)) ≡ f a d → Agree t (divide f a d) (divided f a d)
+divides : (t : ValueType) (f : ℤ → ℤ → ℤ) (a d : ℤ) → t ≡ ints → Stands (int (f a d)) (word_of (f a d)) → Agree t (divide f a d) (divided f a d)
 divides t f a (pos zero) is e = λ strings. tt
 divides t f a (pos (suc n)) is e = (number_of t (f a (pos (suc n))) is, e)
 divides t f a (negsuc n) is e = (number_of t (f a (negsuc n)) is, e)
 
-shifts : (t : ValueType) (f : ℤ → ℕ → ℤ) (a d : ℤ) → t ≡ ints → ((n : ℕ) → cast_signed w64 (word_of (f a n)) ≡ f a n) → Agree t (shift f a d) (shifted f a d)
+shifts : (t : ValueType) (f : ℤ → ℕ → ℤ) (a d : ℤ) → t ≡ ints → ((n : ℕ) → Stands (int (f a n)) (word_of (f a n))) → Agree t (shift f a d) (shifted f a d)
 shifts t f a (pos n) is e = (number_of t (f a (min n 64)) is, e (min n 64))
 shifts t f a (negsuc n) is e = λ strings. refl
 
@@ -72,13 +84,13 @@ on_ints Add s t a d is f = (number_of t (int_wrapping_add w64 a d) is.1, signed_
 on_ints Sub s t a d is f = (number_of t (int_wrapping_sub w64 a d) is.1, signed_twice _)
 on_ints Mul s t a d is f = (number_of t (int_wrapping_mul w64 a d) is.1, signed_twice _)
 on_ints Div s t a d is f = divides t (int_wrapping_div w64) a d is.1 (signed_twice _)
-on_ints Rem s t a d is f = divides t int_rem a d is.1 (to_z-of_z w64 (int_rem a d) (rem_small a d f))
+on_ints Rem s t a d is f = divides t int_rem a d is.1 (number_stands (int_rem a d) (rem_small a d f))
 on_ints And s t a d is f = (number_of t (int_bit_and w64 a d) is.1, signed_twice _)
 on_ints Or s t a d is f = (number_of t (int_bit_or w64 a d) is.1, signed_twice _)
 on_ints Xor s t a d is f = (number_of t (int_bit_xor w64 a d) is.1, signed_twice _)
 on_ints AndNot s t a d is f = (number_of t (int_bit_and w64 a (int_bit_not w64 d)) is.1, signed_twice _)
 on_ints ShiftLeft s t a d is f = shifts t (int_shl w64) a d is.1 (λ n. signed_twice _)
-on_ints ShiftRight s t a d is f = shifts t int_shr a d is.1 (λ n. to_z-of_z w64 (int_shr a n) (shr_small a n f))
+on_ints ShiftRight s t a d is f = shifts t int_shr a d is.1 (λ n. number_stands (int_shr a n) (shr_small a n f))
 on_ints Equal s t a d is f = (truth_of t (int_eq a d) is.1, refl)
 on_ints NotEqual s t a d is f = (truth_of t (not (int_eq a d)) is.1, refl)
 on_ints Less s t a d is f = (truth_of t (int_lt a d) is.1, refl)
@@ -124,19 +136,19 @@ pub no_array : (n : ℕ) (e : ValueType) → IsPlain (array_of n e) → ⊥
 no_array n t (inl e) = true≢false (sym (ap is_plain e))
 no_array n t (inr e) = true≢false (sym (ap is_plain e))
 
--- an operator of the source on values, and that of the machine on their words
-pub agrees : (op : BinOp) (s t : ValueType) (v u : Value) (x y : ℕ) → Takes op s t → IsOf s v → IsOf s u → Stands v x → Stands u y → Agree t (binary_of op v u) (bin_of (operation op) x y)
-agrees op ints t (int a) (int d) x y takes is iu sv su =
-    subst (λ z. Agree t (of_ints op a d) (of_numbers (operation op) z (cast_signed w64 y))) (sym sv)
-    (subst (λ z. Agree t (of_ints op a d) (of_numbers (operation op) a z)) (sym su) (on_ints op ints t a d takes (subst (λ z. FitsSigned w64 z) sv (read_small x))))
-agrees op bools t (bool a) (bool d) x y takes is iu sv su =
+-- an operator of the source on numbers or truth values, and that of the machine on their words
+pub agrees : (op : BinOp) (s t : ValueType) (v u : Value) (x y : ℕ) → IsPlain s → Takes op s t → IsOf s v → IsOf s u → Stands v x → Stands u y → Agree t (binary_of op v u) (bin_of (operation op) x y)
+agrees op ints t (int a) (int d) x y plain takes is iu sv su =
+    subst (λ z. Agree t (of_ints op a d) (of_numbers (operation op) z (cast_signed w64 y))) (sym sv.0)
+    (subst (λ z. Agree t (of_ints op a d) (of_numbers (operation op) a z)) (sym su.0) (on_ints op ints t a d takes (subst (λ z. FitsSigned w64 z) sv.0 (read_small x))))
+agrees op bools t (bool a) (bool d) x y plain takes is iu sv su =
     subst (λ z. Agree t (of_bools op a d) (bin_of (operation op) z y)) (sym sv) (subst (λ z. Agree t (of_bools op a d) (bin_of (operation op) (bit_of a) z)) (sym su) (on_bools op bools t a d takes refl))
-agrees op ints t (int a) u x y takes is iu sv su = absurd iu
-agrees op ints t v u x y takes is iu sv su = absurd is
-agrees op bools t (bool a) u x y takes is iu sv su = absurd iu
-agrees op bools t v u x y takes is iu sv su = absurd is
-agrees op (struct_of ts) t v u x y takes is iu sv su = absurd (no_struct ts (takes_left op (struct_of ts) t takes))
-agrees op (array_of n e) t v u x y takes is iu sv su = absurd (no_array n e (takes_left op (array_of n e) t takes))
+agrees op ints t (int a) u x y plain takes is iu sv su = absurd iu
+agrees op ints t v u x y plain takes is iu sv su = absurd is
+agrees op bools t (bool a) u x y plain takes is iu sv su = absurd iu
+agrees op bools t v u x y plain takes is iu sv su = absurd is
+agrees op (struct_of ts) t v u x y plain takes is iu sv su = absurd (no_struct ts plain)
+agrees op (array_of n e) t v u x y plain takes is iu sv su = absurd (no_array n e plain)
 
 -- the word of an operator on one operand
 abbrev pub unary_word : UnOp → ℕ → ℕ
@@ -147,8 +159,8 @@ unary_word Not x = un_of WordOne.IsZero x
 
 one_number : (op : UnOp) (a : ℤ) (x : ℕ) → TakesOne op ints → Stands (int a) x → IsOf ints (unary_of op (int a)) × Stands (unary_of op (int a)) (unary_word op x)
 one_number Plus a x takes s = (tt, s)
-one_number Negate a x takes s = (tt, subst (λ z. cast_signed w64 (un_of WordOne.Negate x) ≡ int_wrapping_neg w64 z) s (signed_twice _))
-one_number Complement a x takes s = (tt, subst (λ z. cast_signed w64 (un_of WordOne.Complement x) ≡ int_bit_not w64 z) s (signed_twice _))
+one_number Negate a x takes s = (tt, subst (λ z. Stands (int (int_wrapping_neg w64 z)) (un_of WordOne.Negate x)) s.0 (signed_twice _))
+one_number Complement a x takes s = (tt, subst (λ z. Stands (int (int_bit_not w64 z)) (un_of WordOne.Complement x)) s.0 (signed_twice _))
 one_number Not a x takes s = absurd (apart takes)
 
 one_truth : (op : UnOp) (b : Bool) (x : ℕ) → TakesOne op bools → Stands (bool b) x → IsOf bools (unary_of op (bool b)) × Stands (unary_of op (bool b)) (unary_word op x)

@@ -6,7 +6,7 @@ use Rattle.value_trees.specs.Value.{Value, IsOf}
 use Rattle.typed.specs.declared.operators.BinOp.{BinOp}
 use Rattle.typed.specs.declared.operators.UnOp.{UnOp}
 use Rattle.typed.specs.declared.operators.UnOp.TheVariants.{Plus, Negate, Complement, Not}
-use Rattle.typed.specs.Form.{Takes}
+use Rattle.typed.specs.Form.{IsPlain, Takes}
 use Rattle.meaning.specs.Trace.{World, Trace, Fault, Panic}
 use Rattle.meaning.specs.Operators.{binary_of}
 use Rattle.meaning.specs.Meaning
@@ -26,11 +26,11 @@ use Rattle.value_trees.specs.Types.{ValueType}
 module _ (m : Built) where
   -- on two operands in slots: a slot gets the word of what it gives, or it panics
   pub operates : (at : Pos) (o : BinOp) (s t : ValueType) (x y : Value) (ws : Ways) (env : Env) (k : Then Value) (w : World) (running : List ℕ) (words : List ℕ) (to left right pc lo hi b : ℕ) → slice_get m.code.instrs pc ≡ Some (Bin (operation o) to left right)
-      → Panics ws → Takes o s t → IsOf s x → IsOf s y → Stands x (slice_index words left) → Stands y (slice_index words right)
+      → Panics ws → IsPlain s → Takes o s t → IsOf s x → IsOf s y → Stands x (slice_index words left) → Stands y (slice_index words right)
       → ((v : Value) (word : ℕ) → IsOf t v → Stands v word → At m running lo hi b (k v w) (pc + 1) (slice_set words to word) w)
       → At m running (suc lo) 1 b (Meaning.or_panic ws env at (binary_of o x y) k w) pc words w
-  operates at o s t x y ws env k w running words to left right pc lo hi b here stops takes ix iy sx sy post =
-      go (binary_of o x y) (bin_of (operation o) (slice_index words left) (slice_index words right)) (agrees o s t x y (slice_index words left) (slice_index words right) takes ix iy sx sy) refl
+  operates at o s t x y ws env k w running words to left right pc lo hi b here stops plain takes ix iy sx sy post =
+      go (binary_of o x y) (bin_of (operation o) (slice_index words left) (slice_index words right)) (agrees o s t x y (slice_index words left) (slice_index words right) plain takes ix iy sx sy) refl
     where
       go : (r : Result Value Fault) (q : Result ℕ BinFault) → Agree t r q → bin_of (operation o) (slice_index words left) (slice_index words right) ≡ q → At m running (suc lo) 1 b (Meaning.or_panic ws env at r k w) pc words w
       go (Ok v) (Ok word) agree e =

@@ -85,6 +85,10 @@ module _ (m : Built) where
   pub later : {running : List ℕ} {lo lo1 hi hi1 b b1 : ℕ} {t : Trace} {pc : ℕ} {words : List ℕ} {w : World} → lo ≤ lo1 → hi1 ≤ hi → b1 ≤ b → At running lo hi b t pc words w → At running lo1 hi1 b1 t pc words w
   later p h c a = record { at = λ heap hs. record { lower = λ n k le. (a.at heap hs).lower n k (omega arith); upper = λ n k lt le. (a.at heap hs).upper n k (omega arith) (omega arith) } }
 
+  -- an instruction to spare
+  pub spared : {running : List ℕ} {lo hi b : ℕ} {t : Trace} {pc : ℕ} {words : List ℕ} {w : World} → At running lo hi b t pc words w → At running (suc lo) hi b t pc words w
+  spared {lo = lo} {hi = hi} {b = b} a = later {lo = lo} {hi = hi} {b = b} (omega arith) (omega arith) (omega arith) a
+
   pub place_is : {running : List ℕ} {lo hi b : ℕ} {t : Trace} {pc pc1 : ℕ} {words : List ℕ} {w : World} → pc ≡ pc1 → At running lo hi b t pc words w → At running lo hi b t pc1 words w
   place_is {running} {lo} {hi} {b} {t} {pc} {pc1} {words} {w} e a = subst (λ p. At running lo hi b t p words w) e a
 

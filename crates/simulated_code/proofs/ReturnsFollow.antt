@@ -43,6 +43,7 @@ module _ (m : Built) where
       record {
         long = put_length words (fr + a) xs (omega arith) ∙ g.long;
         many = g.many;
+        within = g.within;
         kinds = g.kinds;
         stack = (
           level_keeps m (length w.store) (length w.store) c calls w w words words1 (omega arith) (λ x i l. refl) (λ d l k. put_other words (fr + a) xs d (omega arith) (inl (omega arith))) g.stack.0,

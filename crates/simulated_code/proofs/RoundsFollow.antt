@@ -1,5 +1,5 @@
 -- The machine follows the rounds of loops.
-use Rattle.std.proofs.Common.{◌≡◌, ℕ, zero, suc, ◌+◌, ◌-◌, ◌<◌, ◌≤◌, ℤ, pos, Bool, true, false, List, [], ◌∷◌, ◌++◌, Some, Ok, refl, sym, ap, ◌∙◌, subst, arith, append_assoc, get_or-set_same}
+use Rattle.std.proofs.Common.{◌≡◌, ℕ, zero, suc, ◌+◌, ◌-◌, ◌^◌, ◌<◌, ◌≤◌, ℤ, pos, Bool, true, false, List, [], ◌∷◌, ◌++◌, Some, Ok, refl, sym, ap, ◌∙◌, subst, arith, append_assoc, get_or-set_same}
 use Rattle.std.specs.Prelude.{slice_get, slice_index, slice_set, ◌==◌, int_lt, if◌then◌else◌}
 use Rattle.std.specs.Int.{w64, cast_signed}
 use Rattle.value_trees.specs.Value.{Value, int}
@@ -12,11 +12,11 @@ use Rattle.isa.specs.declared.instr.BinOp.TheVariants as Word
 use Rattle.isa.specs.declared.instr.Instr.TheVariants.{Const, Bin, Jump, JumpZero}
 use Rattle.machine.specs.Machine.{puts_or_panics}
 use Rattle.simulated_code.specs.Code.{temp, slots_of}
-use Rattle.simulated_code.proofs.Frames.{Built, Frame, during, numbers, Good, wide_of}
+use Rattle.simulated_code.proofs.Frames.{Built, Stands, Frame, during, numbers, Good, wide_of}
 use Rattle.simulated_code.proofs.Changes.{one_more, temp_set, spare_set, fewer, held_word}
 use Rattle.simulated_code.proofs.Places.{At, place_is, none_asked, turned, turned_less, stepped}
 use Rattle.simulated_code.proofs.ConditionsFollow.{goes_on, goes_to}
-use Rattle.simulated_code.proofs.Counting.{Remains, remains_next, none_less, some_less, less_bit, next_index}
+use Rattle.simulated_code.proofs.Counting.{bit_small, Remains, remains_next, none_less, some_less, less_bit, next_index}
 use Rattle.simulated_code.proofs.Leading.{After, after_later}
 
 -- the values that a `range` over a number holds in the round of an index
@@ -72,20 +72,20 @@ module _ (m : Built) (c : Frame) (calls : List Frame) where
     spare_slot = temp (slots_of m.program c.func) (h + 2)
 
     number_stands : (i : ℕ) (env : Env) (w : World) (words : List ℕ) → Good m (during c env scope (counting z held i) ∷ calls) w words → cast_signed w64 (slice_index words number_slot) ≡ z
-    number_stands i env w words g = held_word m (during c env scope held) calls w words held (int (pos i) ∷ []) (int z) h hh refl g
+    number_stands i env w words g = (held_word m (during c env scope held) calls w words held (int (pos i) ∷ []) (int z) h hh refl g).0
 
     above : (i : ℕ) (env : Env) (w : World) (words : List ℕ) → Good m (during c env scope (counting z held i) ∷ calls) w words → Good m (during c env scope ((held ++ int z ∷ []) ++ int (pos i) ∷ []) ∷ calls) w words
     above i env w words g = subst (λ l. Good m (during c env scope l ∷ calls) w words) (sym (counting_is z held i)) g
 
     index_stands : (i : ℕ) (env : Env) (w : World) (words : List ℕ) → Good m (during c env scope (counting z held i) ∷ calls) w words → cast_signed w64 (slice_index words index_slot) ≡ pos i
-    index_stands i env w words g = held_word m (during c env scope held) calls w words (held ++ int z ∷ []) [] (int (pos i)) (h + 1) (one_more held (int z) h 1 hh refl) refl (above i env w words g)
+    index_stands i env w words g = (held_word m (during c env scope held) calls w words (held ++ int z ∷ []) [] (int (pos i)) (h + 1) (one_more held (int z) h 1 hh refl) refl (above i env w words g)).0
 
     -- the temp above both gets a word
-    spare : (i x : ℕ) (env : Env) (w : World) (words : List ℕ) → Good m (during c env scope (counting z held i) ∷ calls) w words → Good m (during c env scope (counting z held i) ∷ calls) w (slice_set words spare_slot x)
-    spare i x env w words g = spare_set m (during c env scope (counting z held i)) calls w words (h + 2) x (two_held z held h i hh) room g
+    spare : (i x : ℕ) → x < 2 ^ 64 → (env : Env) (w : World) (words : List ℕ) → Good m (during c env scope (counting z held i) ∷ calls) w words → Good m (during c env scope (counting z held i) ∷ calls) w (slice_set words spare_slot x)
+    spare i x small env w words g = spare_set m (during c env scope (counting z held i)) calls w words (h + 2) x small (two_held z held h i hh) room g
 
     -- the index gets another one's word
-    counted_on : (i j x : ℕ) (env : Env) (w : World) (words : List ℕ) → cast_signed w64 x ≡ pos j → Good m (during c env scope (counting z held i) ∷ calls) w words → Good m (during c env scope (counting z held j) ∷ calls) w (slice_set words index_slot x)
+    counted_on : (i j x : ℕ) (env : Env) (w : World) (words : List ℕ) → Stands (int (pos j)) x → Good m (during c env scope (counting z held i) ∷ calls) w words → Good m (during c env scope (counting z held j) ∷ calls) w (slice_set words index_slot x)
     counted_on i j x env w words stands g =
         subst (λ l. Good m (during c env scope l ∷ calls) w (slice_set words index_slot x)) (counting_is z held j)
         (temp_set m (during c env scope (held ++ int z ∷ [])) calls w words (h + 1) x (int (pos j)) (one_more held (int z) h 1 hh refl) (omega arith) refl stands
@@ -102,7 +102,7 @@ module _ (m : Built) (c : Frame) (calls : List Frame) where
         → Good m (during c env scope (counting z held i) ∷ calls) w words → At m (numbers (c ∷ calls)) lo 0 d (Meaning.turn g w) test words w
     compared r goal i lo d env g w words known leads post good =
         let words1 = slice_set words spare_slot (bit_of r) in
-        let good1 = spare i (bit_of r) env w words good in
+        let good1 = spare i (bit_of r) (bit_small r) env w words good in
         let long = good.long in let from = good.stack.0.room in
         let x = slice_index words index_slot in let y = slice_index words number_slot in
         let bit : bin_of Word.Less x y ≡ Ok (bit_of r) = less_bit x y (pos i) z (index_stands i env w words good) (number_stands i env w words good) ∙ ap (λ t. Ok (bit_of t)) known in
@@ -125,7 +125,7 @@ module _ (m : Built) (c : Frame) (calls : List Frame) where
         compared true (test + 1 + 1) i lo d env (body i v env (λ v1 env1. Meaning.turn (Meaning.counted fuel (suc i) left body k v1 env1))) w words (some_less z i left remains) refl
         (λ words1 g1. round i v _ d db (λ v1 env1 w2 words2 g2.
         let words3 = slice_set words2 spare_slot 1 in
-        let g3 = spare i 1 env1 w2 words2 g2 in
+        let g3 = spare i 1 (omega arith) env1 w2 words2 g2 in
         let long = g2.long in
         let set : slice_index words3 spare_slot ≡ 1 = get_or-set_same words2 spare_slot 1 0 (omega arith) in
         let next = next_index z i left (slice_index words3 index_slot) (slice_index words3 number_slot) remains (index_stands i env1 w2 words3 g3) (number_stands i env1 w2 words3 g3) in

@@ -1,8 +1,8 @@
 -- Scopes behind statements, and where nothing goes on.
-use Rattle.std.proofs.Common.{◌≡◌, inl, inr, ℕ, suc, ◌+◌, ◌<◌, ◌≤◌, Bool, true, false, List, [], ◌∷◌, length, Option, Some, None, refl, ap, arith}
+use Rattle.std.proofs.Common.{◌≡◌, ◌⊎◌, inl, inr, ℕ, suc, ◌+◌, ◌<◌, ◌≤◌, Bool, true, false, List, [], ◌∷◌, length, Option, Some, None, refl, ap, arith}
 use Rattle.std.specs.Prelude.{not, ◌&&◌, ◌||◌}
 use Rattle.typed.specs.Syntax.{Ex, Left, St, Sts, Func, Program, blank, new, to, declare, assign, update, bump, discard, block, choose, loop, range, break_off, go_on, give_back, print, raise, quit, done, next}
-use Rattle.typed.specs.Form.{InScope, births, births_all, new_sites, scope_behind, scope_with, scope_after, breaks_all, ends, ends_all, LeftsFit, SitesNext, StFits}
+use Rattle.typed.specs.Form.{InScope, over_sites, births, births_all, new_sites, scope_behind, scope_with, scope_after, breaks_all, ends, ends_all, LeftsFit, SitesNext, StFits}
 use Rattle.value_trees.specs.Types.{ValueType}
 
 -- a scope behind left sides has the one before them, and its new sites are the next ones
@@ -21,6 +21,20 @@ behind_below p before scope q n (t ∷ ts) (new site ∷ ls) fit below v i =
     let e = fit.0 in
     let l = behind_below p before (site ∷ scope) (suc q) n ts ls fit.3 (λ u j. elim j [ inl r ↦ omega arith | inr r ↦ (let k = below u r in omega arith) ]) v i in omega arith
 behind_below p before scope q n (t ∷ ts) (to r ∷ ls) fit below v i = behind_below p before scope q n ts ls fit.1 below v i
+
+-- a site behind left sides was there before, or is a new one
+pub behind_new : (p : Program) (before scope : List ℕ) (q n : ℕ) (ts : List ValueType) (ls : List Left) → LeftsFit p before q n ts ls → (v : ℕ) → InScope v (scope_behind scope ls) → InScope v scope ⊎ ((q ≤ v) × (v < q + new_sites ls))
+behind_new p before scope q n [] [] fit v i = inl i
+behind_new p before scope q n [] (l ∷ ls) fit v i = absurd fit
+behind_new p before scope q n (t ∷ ts) [] fit v i = absurd fit
+behind_new p before scope q n (t ∷ ts) (blank ∷ ls) fit v i = behind_new p before scope q n ts ls fit v i
+behind_new p before scope q n (t ∷ ts) (new site ∷ ls) fit v i =
+    let e = fit.0 in
+    elim (behind_new p before (site ∷ scope) (suc q) n ts ls fit.3 v i) [
+      | inl j ↦ elim j [ inl r ↦ inr (omega arith, omega arith) | inr r ↦ inl r ]
+      | inr l ↦ (let a = l.0 in let b = l.1 in inr (omega arith, omega arith))
+    ]
+behind_new p before scope q n (t ∷ ts) (to r ∷ ls) fit v i = behind_new p before scope q n ts ls fit.1 v i
 
 -- the same of sites that are declared
 pub with_has : (scope sites : List ℕ) (v : ℕ) → InScope v scope → InScope v (scope_with scope sites)
@@ -103,7 +117,7 @@ scoped_after p func wanted names looped n scope q (discard es) fit s = scoped_mo
 scoped_after p func wanted names looped n scope q (block ss) fit s = scoped_more func scope q (births_all ss) s
 scoped_after p func wanted names looped n scope q (choose e a b) fit s = scoped_more func scope q (births_all a + births_all b) s
 scoped_after p func wanted names looped n scope q (loop sites test post body) fit s = scoped_more func scope q (births_all post + births_all body) s
-scoped_after p func wanted names looped n scope q (range over key value body) fit s = scoped_more func scope q (new_sites (key ∷ value ∷ []) + births_all body) s
+scoped_after p func wanted names looped n scope q (range over key value body) fit s = scoped_more func scope q (new_sites (key ∷ value ∷ []) + over_sites over (births_all body)) s
 scoped_after p func wanted names looped n scope q break_off fit s = scoped_more func scope q 0 s
 scoped_after p func wanted names looped n scope q go_on fit s = scoped_more func scope q 0 s
 scoped_after p func wanted names looped n scope q (give_back es) fit s = scoped_more func scope q 0 s

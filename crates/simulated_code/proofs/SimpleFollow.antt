@@ -1,6 +1,6 @@
 -- The machine follows statements that have no others inside.
-use Rattle.std.proofs.Common.{◌≡◌, inl, inr, ℕ, suc, ◌+◌, ◌≤◌, ℤ, pos, negsuc, Bool, true, false, List, [], ◌∷◌, ◌++◌, length, Some, refl, sym, ap, ◌∙◌, subst, arith, get_or}
-use Rattle.std.specs.Prelude.{slice_get, slice_index, slice_set, replicate, not, ◌==◌, nat_lt, if◌then◌else◌}
+use Rattle.std.proofs.Common.{◌≡◌, inl, inr, ℕ, zero, suc, ◌+◌, ◌≤◌, ℤ, pos, negsuc, Bool, true, false, List, [], ◌∷◌, ◌++◌, length, Some, refl, sym, ap, ◌∙◌, subst, arith, get_or, append_assoc, append-nil}
+use Rattle.std.specs.Prelude.{slice_get, slice_index, slice_set, max, replicate, not, ◌==◌, nat_lt, if◌then◌else◌}
 use Rattle.std.specs.Int.{w64, cast_signed}
 use Rattle.base.specs.declared.pos.Pos.{Pos}
 use Rattle.typed.specs.declared.operators.BinOp.{BinOp}
@@ -9,8 +9,8 @@ use Rattle.value_trees.specs.Value.{Value, int, bool, IsOf}
 use Rattle.typed.specs.Syntax.{Ex, Exs, Pl, Left, Piece, none, more, results, asked, text, shown, declare, assign, update, bump, discard, break_off, go_on, give_back, print, raise, quit, argument_words, site_type, all_wide, value_widths}
 use Rattle.value_trees.specs.Types.{ValueType, ints, bools, width, struct_of, array_of}
 use Rattle.simulated_code.proofs.Numbers.{no_struct, no_array}
-use Rattle.typed.specs.Form.{IsPlain, AreOf, IsArithmetic, IsStep, Takes, PlFits, scope_behind, ExsFit, ReturnFits}
-use Rattle.typed.specs.Frames.{far, lefts_far, temps_of}
+use Rattle.typed.specs.Form.{IsPlain, AreOf, IsArithmetic, IsStep, Takes, PlFits, new_sites, scope_behind, ExsFit, ReturnFits}
+use Rattle.typed.specs.Frames.{far, lefts_far, behind_values, need, need_all, reach, reach_all, temps_of}
 use Rattle.meaning.specs.Trace.{World, Trace, Exit, Panic, raised, raised_text, exit_code}
 use Rattle.meaning.specs.Store.{value_of, written}
 use Rattle.meaning.specs.Operators.{binary_of}
@@ -22,18 +22,19 @@ use Rattle.isa.specs.declared.instr.Instr.TheVariants.{Const, Bin, Jump, Exit as
 use Rattle.machine.specs.Machine.{exits_with, panics}
 use Rattle.machine.specs.declared.place.Ending.TheVariants.{Exit as Exited, Panic as Panicked}
 use Rattle.machine.specs.declared.place.Panic.TheVariants.{Text, Int, Bool as Truth, ExitCode}
-use Rattle.simulated_code.specs.Code.{temp, slots_of, operation, read_code, write_code, ex_code, exs_code, pieces_code, show_code, lefts_code, values_code, leave_code, raised_code, size, exs_size, pieces_size, lefts_size, shown_size}
-use Rattle.simulated_code.proofs.Sizes.{length_read, length_code, length_exs, length_pieces}
-use Rattle.simulated_code.proofs.Rooms.{address_room}
+use Rattle.simulated_code.specs.Code.{temp, slots_of, operation, place_above, above_address, lefts_above, place_code, place_size, place_end, address_code, address_size, fetch_code, land_code, ready_code, lefts_sized, lefts_end, ex_code, exs_code, pieces_code, show_code, lefts_code, values_code, leave_code, raised_code, size, exs_size, pieces_size, lefts_size, shown_size}
+use Rattle.simulated_code.proofs.Sizes.{length_address, length_place, length_ready, place_sum, place_ends, lefts_sum, lefts_ends, length_code, length_exs, length_pieces}
+use Rattle.simulated_code.proofs.Rooms.{address_room, lefts_room, place_others, lefts_others}
 use Rattle.simulated_code.proofs.Frames.{Built, Stands, of_length, Frame, hold, during, numbers, Good, narrowed, StandIn, wide_of}
 use Rattle.simulated_code.proofs.Changes.{one_more, temp_set, fewer, held_word, wide_joined}
 use Rattle.simulated_code.proofs.Places.{Standing, front, back, Panics, At, later, place_is, turned, read_of, write_of, stepped, halted}
-use Rattle.simulated_code.proofs.Globals.{variable_of, part_path, aim_is, settled, fetched, landed}
+use Rattle.simulated_code.proofs.Reached.{variable_of, Located, located, PlaceIn, as_number, held_by, settled_follow, address_at, fetched, landed}
 use Rattle.simulated_code.proofs.Moves.{CallsFollow}
 use Rattle.simulated_code.proofs.OperatorsFollow.{operates}
-use Rattle.simulated_code.proofs.EvaluationsFollow.{ev_follows, evs_follow, pieces_plain, pieces_follow}
+use Rattle.simulated_code.proofs.EvaluationsFollow.{ev_follows, evs_follow, place_follows, pieces_plain, pieces_follow}
 use Rattle.simulated_code.proofs.LinesFollow.{piece_types, texts, line_follows, plain_follows}
-use Rattle.simulated_code.proofs.LeftsFollow.{landings, ready_is, lefts_follow, zeros_follow}
+use Rattle.simulated_code.proofs.LeftsFollow.{together, landings, lefts_follow, zeros_follow}
+use Rattle.simulated_code.proofs.ReadyFollows.{ready_follow}
 use Rattle.simulated_code.proofs.ReturnsFollow.{Given}
 use Rattle.simulated_code.proofs.Leading.{After, Followed}
 use Rattle.simulated_code.proofs.Wide.{AllPlain, all_wide_is, plain_value, widths_are}
@@ -63,27 +64,42 @@ step_takes : (o : BinOp) → IsStep o → Takes o ints ints
 step_takes o (inl e) = subst (λ x. Takes x ints ints) (sym e) (refl, refl)
 step_takes o (inr e) = subst (λ x. Takes x ints ints) (sym e) (refl, refl)
 
+-- an address takes its temp
+address_high : (f at : ℕ) → above_address f at ≤ at + f
+address_high zero at = omega arith
+address_high (suc n) at = omega arith
+
 bit_tells : (x : Bool) → not (bit_of x == 0) ≡ x
 bit_tells true = refl
 bit_tells false = refl
 
 module _ (m : Built) where
   module _ (c : Frame) (calls : List Frame) where
-    -- two operands in temps: the operator, and a place gets the result
-    updated : (at : Pos) (o : BinOp) (p : Pl) (h : ℕ) (ws : Ways) (env : Env) (scope : List ℕ) (held : List Value) (v u : Value) (k : Env → Go) (w : World) (words : List ℕ) (pc lo b : ℕ)
-        → slice_get m.code.instrs pc ≡ Some (Bin (operation o) (temp (slots_of m.program c.func) h) (temp (slots_of m.program c.func) h) (temp (slots_of m.program c.func) (h + 1)))
-        → Standing m.code c.fn (pc + 1) (write_code (slots_of m.program c.func) p (h + 1) h) → wide_of held ≡ h → h + 1 + far p ≤ temps_of m.program c.func → PlFits m.program scope ints p → Panics ws → Takes o ints ints → IsOf ints v → IsOf ints u
-        → Good m (during c env scope ((held ++ v ∷ []) ++ u ∷ []) ∷ calls) w words → After m c calls held scope (pc + 1 + (far p + 1)) lo b k
-        → At m (numbers (c ∷ calls)) (suc (suc (suc lo))) 1 b (Meaning.or_panic ws env at (binary_of o v u) (λ x. Meaning.write_part (variable_of env p) (part_path p) x (k env)) w) pc words w
-    updated at o p h ws env scope held v u k w words pc lo b here has hh room fit stops takes iv iu g post =
-        let s = slots_of m.program c.func in let c0 = during c env scope held in let site = variable_of env p in
-        let left = fewer m c0 calls w words (held ++ v ∷ []) (u ∷ []) g in
-        operates m at o ints ints v u ws env (λ x. Meaning.write_part site (part_path p) x (k env)) w (numbers (c ∷ calls)) words (temp s h) (temp s h) (temp s (h + 1)) pc (suc (suc lo)) 1 b here stops takes iv iu
-        (held_word m c0 calls w words held [] v h hh (plain_value ints v (inl refl) iv) left) (held_word m c0 calls w words (held ++ v ∷ []) [] u (h + 1) (one_more held v h 1 hh (plain_value ints v (inl refl) iv)) (plain_value ints u (inl refl) iu) g)
-        (λ x word ix sx. write_of m _ _ _
-        (landed m (during c env scope (held ++ x ∷ [])) calls p ints w (slice_set words (temp s h) word) (numbers (c ∷ calls)) held [] x (h + 1) h (pc + 1) lo 0 b _ has fit room refl hh (one_more held x h 1 hh (plain_value ints x (inl refl) ix)) ix
-        (temp_set m c0 calls w words h word x hh (omega arith) (plain_value ints x (inl refl) ix) sx (fewer m c0 calls w words held (v ∷ []) left)) (λ words1 g1.
-        post env (written w site (part_path p) x) words1 (fewer m c0 calls (written w site (part_path p) x) words1 held (x ∷ []) g1))))
+    -- two operands behind a place's operands and its address: the operator, and the place gets the result
+    updated : (at : Pos) (o : BinOp) (q : Pl) (path : List ℕ) (word there a : ℕ) (ws : Ways) (env : Env) (scope : List ℕ) (held us : List Value) (v u : Value) (k : Env → Go) (w : World) (words : List ℕ) (pc lo b : ℕ)
+        → slice_get m.code.instrs pc ≡ Some (Bin (operation o) (temp (slots_of m.program c.func) a) (temp (slots_of m.program c.func) a) (temp (slots_of m.program c.func) (a + 1))) → slice_get m.code.instrs (pc + 1) ≡ Some (land_code (slots_of m.program c.func) q there a)
+        → wide_of (held ++ us) ≡ there → wide_of ((held ++ us) ++ held_by m (far q) word) ≡ a → Located m scope ints q → PlaceIn m (during c env scope held) calls ints q path word → Panics ws → Takes o ints ints → IsOf ints v → IsOf ints u
+        → Good m (during c env scope ((((held ++ us) ++ held_by m (far q) word) ++ v ∷ []) ++ u ∷ []) ∷ calls) w words → After m c calls held scope (pc + 1 + 1) lo b k
+        → At m (numbers (c ∷ calls)) (suc (suc lo)) 1 b (Meaning.or_panic ws env at (binary_of o v u) (λ x. Meaning.write_part (variable_of env q) path x (k env)) w) pc words w
+    updated at o q path word there a ws env scope held us v u k w words pc lo b here lands hw ha fit part stops takes iv iu g post =
+        let s = slots_of m.program c.func in let base = (held ++ us) ++ held_by m (far q) word in let c0 = during c env scope base in let site = variable_of env q in
+        let one_v = plain_value ints v (inl refl) iv in
+        let left = fewer m c0 calls w words (base ++ v ∷ []) (u ∷ []) g in let room = left.stack.0.room in
+        operates m at o ints ints v u ws env (λ x. Meaning.write_part site path x (k env)) w (numbers (c ∷ calls)) words (temp s a) (temp s a) (temp s (a + 1)) pc (suc lo) 1 b here stops (inl refl) takes iv iu
+        (held_word m c0 calls w words base [] v a ha one_v left) (held_word m c0 calls w words (base ++ v ∷ []) [] u (a + 1) (one_more base v a 1 ha one_v) (plain_value ints u (inl refl) iu) g)
+        (λ x word1 ix sx.
+        let one = plain_value ints x (inl refl) ix in
+        let words1 = slice_set words (temp s a) word1 in let w1 = written w site path x in
+        let g1 = temp_set m c0 calls w words a word1 x ha (omega (arith, one_more base v a 1 ha one_v)) one sx (fewer m c0 calls w words base (v ∷ []) left) in
+        write_of m _ _ _
+        (landed m (during c env scope (base ++ x ∷ [])) calls q ints path word base [] x w words1 (numbers (c ∷ calls)) there a (pc + 1) lo 0 b _ lands fit part
+        (address_at m q ints (during c env scope held) calls w words1 path (held ++ us) (x ∷ []) there word fit part hw g1) refl ha ix g1 (λ words2 g2.
+        post env w1 words2 (fewer m (during c env scope held) calls w1 words2 held us (fewer m (during c env scope held) calls w1 words2 (held ++ us) (held_by m (far q) word) (fewer m c0 calls w1 words2 base (x ∷ []) g2))))))
+
+    -- the temp above an address
+    address_wide : (f word at : ℕ) (held : List Value) → wide_of held ≡ at → wide_of (held ++ held_by m f word) ≡ above_address f at
+    address_wide zero word at held hh = ap wide_of (append-nil held) ∙ hh
+    address_wide (suc n) word at held hh = one_more held (as_number m word) at 1 hh refl
 
   module _ (around : Setting) (strings : around.strings ≡ m.program.strings) (inputs : around.items ≡ m.items) (zero_is : (site : ℕ) → StandIn (contents (Meaning.zero_of around site)) (replicate (width (site_type m.program site)) 0) × IsOf (site_type m.program site) (Meaning.zero_of around site))
       (callees : Calls) (n : ℕ) (cf : CallsFollow m callees n) (c : Frame) (calls : List Frame) where
@@ -93,52 +109,77 @@ module _ (m : Built) where
 
     pub assign_follows : (ls : List Left) (es : Exs) → Followed m c calls around callees n (assign ls es)
     assign_follows ls es ws env k w words held h looped outer scope q out again pc lo b le hh has fit enough reaches sc leads g post =
-        let s = slots_of m.program c.func in let all = all_wide m.program es in
-        let ces = exs_code m.program s es h pc in let cls = lefts_code s (value_widths m.program es) ls (h + all) h in
-        let has_l = subst (λ ns. Standing m.code c.fn (pc + exs_size m.program es) (lefts_code s ns ls (h + all) h)) (widths_are m.program scope fit.0 es fit.2)
-        (back m.code c.fn pc (exs_size m.program es) ces cls (length_exs m.program s es h pc) has) in
-        subst (λ t. At m (numbers (c ∷ calls)) lo 0 b t pc words w) (sym (ready_is around callees ls ws env (λ those ws1. Meaning.evs around callees es ws1 env (λ vs. Meaning.land_all around those vs ws env k)) w))
-        (evs_follow m around inputs callees n cf es fit.0 (during c env scope held) calls ws (λ vs. Meaning.land_all around (landings env ls) vs ws env k) w words h pc lo b le hh leads.panics (front m.code c.fn pc ces cls has) fit.2 (omega arith) reaches g (λ vs w1 words1 are g1.
+        let s = slots_of m.program c.func in let all = all_wide m.program es in let first = lefts_above ls h in
+        let size = lefts_sized m.program ls 0 in let behind = lefts_end m.program ls pc in let limit = c.func.first + c.func.count in
+        let cr = ready_code m.program s ls h pc in let ces = exs_code m.program s es first behind in let cls = lefts_code s (value_widths m.program es) ls h (first + all) first in
+        let ends : pc + size ≡ behind = sym (lefts_ends m.program ls pc) in
+        let has_v = subst (λ x. Standing m.code c.fn x (ces ++ cls)) ends (back m.code c.fn pc size cr (ces ++ cls) (length_ready m.program s ls h pc) has) in
+        let has_l = subst (λ ns. Standing m.code c.fn (behind + exs_size m.program es) (lefts_code s ns ls h (first + all) first)) (widths_are m.program scope fit.0 es fit.2)
+        (back m.code c.fn behind (exs_size m.program es) ces cls (length_exs m.program s es first behind) has_v) in
+        let needs = max (need_all m.program es) (behind_values all (lefts_far ls)) in
+        let enough1 = lefts_room m.program (temps_of m.program c.func) h needs ls enough in let reaches1 = lefts_others m.program (reach_all m.program es) ls in
+        ready_follow m around inputs callees n cf ls fit.0 needs (reach_all m.program es) q limit (during c env scope held) calls ws _ w words h pc lo b le hh leads.panics (front m.code c.fn pc cr (ces ++ cls) has) fit.1 enough reaches g (λ uss ws1 w1 words1 stops1 given above g1.
+        place_is m (sym ends)
+        (evs_follow m around inputs callees n cf es fit.0 (during c env scope (held ++ together uss)) calls ws1 (λ vs. Meaning.land_all around (landings env ls uss) vs ws env k) w1 words1 first behind lo b le above stops1 (front m.code c.fn behind ces cls has_v) fit.2 (omega arith) (omega arith) g1 (λ vs w2 words2 are g2.
         let count : wide_of vs ≡ all = of_length fit.0 vs are ∙ sym (all_wide_is m.program scope fit.0 es fit.2) in
-        let long : wide_of (held ++ vs) ≡ h + all = omega (arith, wide_joined held vs, count) in
-        let within = g1.stack.0.room in
-        let room = address_room (temps_of m.program c.func) h all (lefts_far ls) (omega (arith, long)) (omega arith) in
-        lefts_follow m around ls fit.0 vs held (held ++ vs) c env env scope scope calls ws k w1 words1 q (h + all) h (pc + exs_size m.program es) lo b are hh refl long has_l fit.1 room sc.from (λ v i. (i, refl, sc.below v i)) g1 (λ env1 w2 words2 g2.
-        place_is m (let e : pc + (exs_size m.program es + lefts_size ls) ≡ pc + exs_size m.program es + lefts_size ls = omega arith in e)
-        (post refl env1 w2 words2 (fewer m (during c env1 (scope_behind scope ls) held) calls w2 words2 held vs g2)))))
+        let long : wide_of ((held ++ together uss) ++ vs) ≡ first + all = omega (arith, wide_joined (held ++ together uss) vs, count, above) in
+        let within = g2.stack.0.room in
+        let room = address_room (temps_of m.program c.func) first all (lefts_far ls) (omega (arith, long)) (omega arith) in
+        lefts_follow m around ls fit.0 vs (held ++ together uss) [] ((held ++ together uss) ++ vs) uss held vs c env env scope scope calls ws k w2 words2 q (q + new_sites ls) (first + all) h first (behind + exs_size m.program es) lo b leads.panics are above
+        (ap (λ l. (held ++ together uss) ++ l) (sym (append-nil vs))) given hh (append_assoc held (together uss) vs) long has_l fit.1 room sc.from (omega arith) (λ v i. (i, refl, inl (sc.below v i))) g2 (λ env1 w3 words3 g3.
+        place_is m (let e : pc + lefts_sized m.program ls (exs_size m.program es + lefts_size ls) ≡ behind + exs_size m.program es + lefts_size ls = omega (arith, lefts_sum m.program ls (exs_size m.program es + lefts_size ls), ends) in e)
+        (post refl env1 w3 words3 (fewer m (during c env1 (scope_behind scope ls) held) calls w3 words3 held (together uss ++ vs) (subst (λ l. Good m (during c env1 (scope_behind scope ls) l ∷ calls) w3 words3) (append_assoc held (together uss) vs) g3)))))))
 
     pub update_follows : (at : Pos) (p : Pl) (o : BinOp) (e : Ex) → Followed m c calls around callees n (update at p o e)
     update_follows at p o e ws env k w words held h looped outer scope q out again pc lo b le hh has fit enough reaches sc leads g post =
         let s = slots_of m.program c.func in let fs = m.program in let c0 = during c env scope held in
-        let v = at_path (value_of w (variable_of env p)) (part_path p) in
-        let cr = read_code s p h in let ce = ex_code fs s e (h + 1) (pc + (far p + 1)) in let i = Bin (operation o) (temp s h) (temp s h) (temp s (h + 1)) in let cw = write_code s p (h + 1) h in
-        let has_e = back m.code c.fn pc (far p + 1) cr (ce ++ i ∷ cw) (length_read s p h) has in
-        let has_o = back m.code c.fn (pc + (far p + 1)) (size fs e) ce (i ∷ cw) (length_code fs s e (h + 1) (pc + (far p + 1))) has_e in
-        subst (λ (u : Trace). At m (numbers (c ∷ calls)) lo 0 b u pc words w)
-        (sym (aim_is around callees p ws env (λ a. Meaning.settle a (λ r. Meaning.read_part r.variable r.path (λ x. Meaning.ev around callees e (Meaning.holding ws x) env (λ y. Meaning.or_panic ws env at (binary_of o x y) (λ z. Meaning.write_part r.variable r.path z (k env)))))) w
-        ∙ settled env p (λ r. Meaning.read_part r.variable r.path (λ x. Meaning.ev around callees e (Meaning.holding ws x) env (λ y. Meaning.or_panic ws env at (binary_of o x y) (λ z. Meaning.write_part r.variable r.path z (k env))))) w))
-        (turned m {lo1 = suc (suc (suc (suc (suc lo))))} (omega arith) (read_of m _ _ _
-        (fetched m c0 calls p ints w words (numbers (c ∷ calls)) h pc (suc (suc (suc lo))) 0 b _ (front m.code c.fn pc cr (ce ++ i ∷ cw) has) fit.1 hh (omega arith) g (λ words1 iv g1.
-        ev_follows m around inputs callees n cf e ints (hold c0 (held ++ v ∷ [])) calls (Meaning.holding ws v) _ w words1 (h + 1) (pc + (far p + 1)) (suc (suc (suc lo))) b le (one_more held v h 1 hh (plain_value ints v (inl refl) iv)) leads.panics (front m.code c.fn (pc + (far p + 1)) ce (i ∷ cw) has_e) fit.2 (omega arith) reaches g1 (λ u w1 words2 iu g2.
-        later m {lo = suc (suc (suc lo))} {hi = 1} {b = b} (omega arith) (omega arith) (omega arith)
-        (updated c calls at o p h ws env scope held v u k w1 words2 (pc + (far p + 1) + size fs e) lo b has_o.0.0 has_o.1 hh (omega arith) fit.1 leads.panics (arithmetic_takes o fit.0) iv iu g2
-        (λ env1 w2 words3 g3. place_is m (let r : pc + (far p + 1 + size fs e + 1 + (far p + 1)) ≡ pc + (far p + 1) + size fs e + 1 + (far p + 1) = omega arith in r) (post refl env1 w2 words3 g3))))))))
+        let there = place_above p h in let a = above_address (far p) there in let operands = place_size fs p 0 in let behind = place_end fs p pc + (address_size p + 1) in
+        let cp = place_code fs s p h pc in let ca = address_code s p h there in
+        let ce = ex_code fs s e (a + 1) behind in let i = Bin (operation o) (temp s a) (temp s a) (temp s (a + 1)) in let land = land_code s p there a in
+        let rest = fetch_code s p there a ∷ (ce ++ i ∷ (land ∷ [])) in
+        let has_a = back m.code c.fn pc operands cp (ca ++ rest) (length_place fs s p h pc) has in
+        let has_f = back m.code c.fn (pc + operands) (address_size p) ca rest (length_address s p h there) has_a in
+        let begins : pc + operands + address_size p + 1 ≡ behind = omega (arith, place_ends fs p pc) in
+        let has_e = subst (λ x. Standing m.code c.fn x (ce ++ i ∷ (land ∷ []))) begins has_f.1 in
+        let has_o = back m.code c.fn behind (size fs e) ce (i ∷ (land ∷ [])) (length_code fs s e (a + 1) behind) has_e in
+        let loc = located m scope ints p fit.1 in let needs = far p + 1 + need fs e in let others = place_others fs (reach fs e) p in
+        place_follows m around inputs callees n cf p ints needs (reach fs e) c0 calls ws _ w words h pc lo b le hh leads.panics (front m.code c.fn pc cp (ca ++ rest) has) fit.1 enough reaches g (λ us w0 words0 given above room g0.
+        settled_follow m p ints us held [] (during c env scope (held ++ us)) calls ws env env _ w0 words0 h there (pc + operands) lo b leads.panics loc given (ap (λ l. held ++ l) (sym (append-nil us))) hh above (omega arith)
+        (front m.code c.fn (pc + operands) ca rest has_a) g0 (λ path word words1 part g1.
+        let base = (held ++ us) ++ held_by m (far p) word in let v = at_path (value_of w0 (variable_of env p)) path in
+        let wide = address_wide c calls (far p) word there (held ++ us) above in let high = address_high (far p) there in
+        let address = address_at m p ints c0 calls w0 words1 path (held ++ us) [] there word loc part above (subst (λ l. Good m (during c env scope l ∷ calls) w0 words1) (sym (append-nil base)) g1) in
+        later m {lo = suc (suc (suc lo))} {hi = 1} {b = b} (omega arith) (omega arith) (omega arith) (read_of m _ _ _
+        (fetched m c0 calls p ints path word base [] w0 words1 (numbers (c ∷ calls)) there a (pc + operands + address_size p) (suc (suc lo)) 0 b _ has_f.0.0 loc part address wide (omega arith) (subst (λ l. Good m (during c env scope l ∷ calls) w0 words1) (sym (append-nil base)) g1) (λ words2 iv g2.
+        place_is m (sym begins)
+        (ev_follows m around inputs callees n cf e ints (hold c0 (base ++ v ∷ [])) calls (Meaning.holding ws v) _ w0 words2 (a + 1) behind (suc (suc lo)) b le (one_more base v a 1 wide (plain_value ints v (inl refl) iv)) leads.panics (front m.code c.fn behind ce (i ∷ (land ∷ [])) has_e) fit.2 (omega arith) (omega arith) g2 (λ u w1 words3 iu g3.
+        later m {lo = suc (suc lo)} {hi = 1} {b = b} (omega arith) (omega arith) (omega arith)
+        (updated c calls at o p path word there a ws env scope held us v u k w1 words3 (behind + size fs e) lo b has_o.0.0 has_o.1.0.0 above wide loc part leads.panics (arithmetic_takes o fit.0) iv iu g3
+        (λ env1 w2 words4 g4. place_is m (let r : pc + place_size fs p (address_size p + 1 + size fs e + 1 + 1) ≡ behind + size fs e + 1 + 1 = omega (arith, place_sum fs p (address_size p + 1 + size fs e + 1 + 1), begins) in r) (post refl env1 w2 words4 g4))))))))))
 
     pub bump_follows : (p : Pl) (o : BinOp) → Followed m c calls around callees n (bump p o)
     bump_follows p o ws env k w words held h looped outer scope q out again pc lo b le hh has fit enough reaches sc leads g post =
-        let s = slots_of m.program c.func in let c0 = during c env scope held in
-        let v = at_path (value_of w (variable_of env p)) (part_path p) in
-        let cr = read_code s p h in let i = Bin (operation o) (temp s h) (temp s h) (temp s (h + 1)) in let rest = Const (temp s (h + 1)) 1 ∷ (i ∷ write_code s p (h + 1) h) in
-        let has_c = back m.code c.fn pc (far p + 1) cr rest (length_read s p h) has in
-        subst (λ (u : Trace). At m (numbers (c ∷ calls)) lo 0 b u pc words w)
-        (sym (aim_is around callees p ws env (λ a. Meaning.settle a (λ r. Meaning.read_part r.variable r.path (λ x. Meaning.or_panic ws env Meaning.no_pos (binary_of o x (int (pos 1))) (λ z. Meaning.write_part r.variable r.path z (k env))))) w
-        ∙ settled env p (λ r. Meaning.read_part r.variable r.path (λ x. Meaning.or_panic ws env Meaning.no_pos (binary_of o x (int (pos 1))) (λ z. Meaning.write_part r.variable r.path z (k env)))) w))
-        (turned m {lo1 = suc (suc (suc (suc (suc (suc lo)))))} (omega arith) (read_of m _ _ _
-        (fetched m c0 calls p ints w words (numbers (c ∷ calls)) h pc (suc (suc (suc (suc lo)))) 1 b _ (front m.code c.fn pc cr rest has) fit.1 hh (omega arith) g (λ words1 iv g1.
-        stepped m {lo = suc (suc (suc lo))} {hi = 1} (Const (temp s (h + 1)) 1) has_c.0.0 (λ heap. refl)
-        (updated c calls Meaning.no_pos o p h ws env scope held v (int (pos 1)) k w (slice_set words1 (temp s (h + 1)) 1) (pc + (far p + 1) + 1) lo b has_c.1.0.0 has_c.1.1 hh (omega arith) fit.1 leads.panics (step_takes o fit.0) iv tt
-        (temp_set m (hold c0 (held ++ v ∷ [])) calls w words1 (h + 1) 1 (int (pos 1)) (one_more held v h 1 hh (plain_value ints v (inl refl) iv)) (omega arith) refl refl g1)
-        (λ env1 w2 words2 g3. place_is m (let r : pc + (far p + 1 + 2 + (far p + 1)) ≡ pc + (far p + 1) + 1 + 1 + (far p + 1) = omega arith in r) (post refl env1 w2 words2 g3)))))))
+        let s = slots_of m.program c.func in let fs = m.program in let c0 = during c env scope held in
+        let there = place_above p h in let a = above_address (far p) there in let size = place_size fs p 0 in let behind = pc + size + address_size p + 1 in
+        let cp = place_code fs s p h pc in let ca = address_code s p h there in
+        let i = Bin (operation o) (temp s a) (temp s a) (temp s (a + 1)) in let land = land_code s p there a in
+        let rest = fetch_code s p there a ∷ (Const (temp s (a + 1)) 1 ∷ (i ∷ (land ∷ []))) in
+        let has_a = back m.code c.fn pc size cp (ca ++ rest) (length_place fs s p h pc) has in
+        let has_f = back m.code c.fn (pc + size) (address_size p) ca rest (length_address s p h there) has_a in
+        let loc = located m scope ints p fit.1 in
+        place_follows m around inputs callees n cf p ints (far p + 2) 0 c0 calls ws _ w words h pc lo b le hh leads.panics (front m.code c.fn pc cp (ca ++ rest) has) fit.1 enough reaches g (λ us w0 words0 given above room g0.
+        settled_follow m p ints us held [] (during c env scope (held ++ us)) calls ws env env _ w0 words0 h there (pc + size) lo b leads.panics loc given (ap (λ l. held ++ l) (sym (append-nil us))) hh above (omega arith)
+        (front m.code c.fn (pc + size) ca rest has_a) g0 (λ path word words1 part g1.
+        let base = (held ++ us) ++ held_by m (far p) word in let v = at_path (value_of w0 (variable_of env p)) path in
+        let wide = address_wide c calls (far p) word there (held ++ us) above in let high = address_high (far p) there in
+        let address = address_at m p ints c0 calls w0 words1 path (held ++ us) [] there word loc part above (subst (λ l. Good m (during c env scope l ∷ calls) w0 words1) (sym (append-nil base)) g1) in
+        later m {lo = suc (suc (suc (suc lo)))} {hi = 1} {b = b} (omega arith) (omega arith) (omega arith) (read_of m _ _ _
+        (fetched m c0 calls p ints path word base [] w0 words1 (numbers (c ∷ calls)) there a (pc + size + address_size p) (suc (suc (suc lo))) 1 b _ has_f.0.0 loc part address wide (omega arith) (subst (λ l. Good m (during c env scope l ∷ calls) w0 words1) (sym (append-nil base)) g1) (λ words2 iv g2.
+        let above_v = one_more base v a 1 wide (plain_value ints v (inl refl) iv) in
+        stepped m {lo = suc (suc lo)} {hi = 1} (Const (temp s (a + 1)) 1) has_f.1.0.0 (λ heap. refl)
+        (updated c calls Meaning.no_pos o p path word there a ws env scope held us v (int (pos 1)) k w0 (slice_set words2 (temp s (a + 1)) 1) (behind + 1) lo b has_f.1.1.0.0 has_f.1.1.1.0.0 above wide loc part leads.panics (step_takes o fit.0) iv tt
+        (temp_set m (hold c0 (base ++ v ∷ [])) calls w0 words2 (a + 1) 1 (int (pos 1)) above_v (omega arith) refl (refl, omega arith) g2)
+        (λ env1 w2 words4 g4. place_is m (let r : pc + place_size fs p (address_size p + 1 + 2 + 1) ≡ behind + 1 + 1 + 1 = omega (arith, place_sum fs p (address_size p + 1 + 2 + 1)) in r) (post refl env1 w2 words4 g4))))))))
 
     pub discard_follows : (es : Exs) → Followed m c calls around callees n (discard es)
     discard_follows (results f es) ws env k w words held h looped outer scope q out again pc lo b le hh has fit enough reaches sc leads g post =
@@ -204,7 +245,7 @@ module _ (m : Built) where
         → At m (numbers (c ∷ calls)) (suc lo) 1 b (ws.panicked at (raised v) env w) pc words w
     raises at ints (int z) ws env w words a pc lo b plain stops here typed stands =
         subst (λ (u : Trace). At m (numbers (c ∷ calls)) (suc lo) 1 b u pc words w) (sym (stops at (raised (int z)) env w))
-        (halted m {lo = lo} (PanicInt a) (Panic at (raised (int z))) (Panicked (Int (cast_signed w64 (slice_index words a)))) here (sym stands) (λ heap. refl))
+        (halted m {lo = lo} (PanicInt a) (Panic at (raised (int z))) (Panicked (Int (cast_signed w64 (slice_index words a)))) here (sym stands.0) (λ heap. refl))
     raises at bools (bool x) ws env w words a pc lo b plain stops here typed stands =
         subst (λ (u : Trace). At m (numbers (c ∷ calls)) (suc lo) 1 b u pc words w) (sym (stops at (raised (bool x)) env w))
         (halted m {lo = lo} (PanicBool a) (Panic at (raised (bool x))) (Panicked (Truth (not (slice_index words a == 0)))) here (sym (ap (λ y. not (y == 0)) stands ∙ bit_tells x)) (λ heap. refl))
@@ -249,6 +290,6 @@ module _ (m : Built) where
       where
         by : (v : Value) (w1 : World) (words1 : List ℕ) → IsOf ints v → slice_get m.code.instrs (pc + size m.program e) ≡ Some (ExitWith (temp (slots_of m.program c.func) h)) → Stands v (slice_index words1 (temp (slots_of m.program c.func) h))
             → At m (numbers (c ∷ calls)) (suc lo) 1 b (Meaning.quit_with ws env at (Meaning.int_of v) w1) (pc + size m.program e) words1 w1
-        by (int z) w1 words1 iv here stands = quits at z ws env w1 words1 (temp (slots_of m.program c.func) h) (pc + size m.program e) lo b leads.panics here stands
+        by (int z) w1 words1 iv here stands = quits at z ws env w1 words1 (temp (slots_of m.program c.func) h) (pc + size m.program e) lo b leads.panics here stands.0
         by (bool x) w1 words1 iv here stands = absurd (omega arith)
         by v w1 words1 iv here stands = absurd iv

@@ -1,13 +1,14 @@
 -- The machine follows statements.
 use Rattle.std.proofs.Common.{◌≡◌, ℕ, List}
 use Rattle.std.specs.Prelude.{replicate}
-use Rattle.typed.specs.Syntax.{St, Sts, over_int, declare, assign, update, bump, discard, block, choose, loop, range, break_off, go_on, give_back, print, raise, quit, done, next, site_type}
+use Rattle.typed.specs.Syntax.{St, Sts, over_int, over_length, over_copy, declare, assign, update, bump, discard, block, choose, loop, range, break_off, go_on, give_back, print, raise, quit, done, next, site_type}
 use Rattle.meaning.specs.Meaning
 use Rattle.meaning.specs.Meaning.{Calls, Setting}
 use Rattle.simulated_code.proofs.Frames.{Built, Frame, StandIn}
 use Rattle.simulated_code.proofs.Moves.{CallsFollow}
 use Rattle.simulated_code.proofs.Leading.{Followed, AllFollowed}
 use Rattle.simulated_code.proofs.SimpleFollow.{declare_follows, assign_follows, update_follows, bump_follows, discard_follows, break_follows, continue_follows, return_follows, print_follows, raise_follows, quit_follows}
+use Rattle.simulated_code.proofs.ArraysFollow.{lengths_follow, copies_follow}
 use Rattle.simulated_code.proofs.LoopsFollow.{done_follows, next_follows, choose_follows, loop_follows, range_follows}
 use Rattle.value_trees.specs.Value.{IsOf}
 use Rattle.value_trees.specs.Words.{contents}
@@ -26,6 +27,8 @@ module _ (m : Built) (around : Setting) (strings : around.strings ≡ m.program.
     exec_follows (choose e x y) = choose_follows m around inputs callees n cf c calls e x y (all_follow x) (all_follow y)
     exec_follows (loop sites test post body) = loop_follows m around inputs callees n cf c calls sites test post body (all_follow post) (all_follow body)
     exec_follows (range (over_int e) key value body) = range_follows m around inputs callees n cf c calls e key value body (all_follow body)
+    exec_follows (range (over_length x) key value body) = lengths_follow m around inputs callees n cf c calls x key value body (all_follow body)
+    exec_follows (range (over_copy site e x) key value body) = copies_follow m around inputs callees n cf c calls site e x key value body (all_follow body)
     exec_follows break_off = break_follows m around strings inputs zero_is callees n cf c calls
     exec_follows go_on = continue_follows m around strings inputs zero_is callees n cf c calls
     exec_follows (give_back es) = return_follows m around strings inputs zero_is callees n cf c calls es

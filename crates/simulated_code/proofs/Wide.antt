@@ -1,15 +1,16 @@
 -- How many words expressions have.
-use Rattle.std.proofs.Common.{◌≡◌, inl, inr, ℕ, List, [], ◌∷◌, length, refl, sym, ap, ◌∙◌, arith, ap₂}
+use Rattle.std.proofs.Common.{◌≡◌, inl, inr, ℕ, ◌<◌, List, [], ◌∷◌, length, refl, sym, ap, ◌∙◌, arith, ap₂}
 use Rattle.typed.specs.declared.operators.BinOp.{BinOp}
 use Rattle.typed.specs.declared.operators.BinOp.TheVariants.{Add, Sub, Mul, Div, Rem, And, Or, Xor, AndNot, ShiftLeft, ShiftRight, Equal, NotEqual, Less, LessEqual, Greater, GreaterEqual}
 use Rattle.typed.specs.declared.operators.UnOp.{UnOp}
 use Rattle.typed.specs.declared.operators.UnOp.TheVariants.{Plus, Negate, Complement, Not}
-use Rattle.value_trees.specs.Types.{ValueType, width}
+use Rattle.value_trees.specs.Types.{ValueType, width, array_of, part_type}
 use Rattle.value_trees.specs.Value.{Value, int, bool, composite, IsOf}
+use Rattle.value_trees.specs.Paths.{type_at}
 use Rattle.value_trees.specs.Words.{contents}
-use Rattle.value_trees.proofs.Parts.{count_of, leads_to}
-use Rattle.typed.specs.Syntax.{Ex, Exs, Pl, Program, constant, read, unary, binary, both, either, call, local, global, here, inner, none, more, results, asked, results_in, result_widths, each_width, all_width, site_type, path_of, place_type, wide, all_wide, value_widths}
-use Rattle.typed.specs.Form.{IsPlain, Takes, TakesOne, PlFits, ExFits, ExsFit}
+use Rattle.value_trees.proofs.Parts.{count_of, element}
+use Rattle.typed.specs.Syntax.{Ex, Exs, Pl, Steps, Program, constant, read, unary, binary, both, either, call, part_of, literal, local, global, here, inner, at_index, none, more, results, asked, results_in, result_widths, each_width, all_width, site_type, path_of, place_type, wide, all_wide, value_widths}
+use Rattle.typed.specs.Form.{IsPlain, Takes, TakesOne, PlFits, StepsLead, ExFits, ExsFit}
 
 pub plain_one : (t : ValueType) → IsPlain t → width t ≡ 1
 plain_one t (inl e) = ap width e
@@ -23,24 +24,25 @@ abbrev pub AllPlain : List ValueType → Type 0
 AllPlain [] = Unit {0}
 AllPlain (t ∷ ts) = IsPlain t × AllPlain ts
 
-pub takes_left : (o : BinOp) (s t : ValueType) → Takes o s t → IsPlain s
-takes_left Equal s t is = is.0
-takes_left NotEqual s t is = is.0
-takes_left Less s t is = inl is.0
-takes_left LessEqual s t is = inl is.0
-takes_left Greater s t is = inl is.0
-takes_left GreaterEqual s t is = inl is.0
-takes_left Add s t is = inl is.0
-takes_left Sub s t is = inl is.0
-takes_left Mul s t is = inl is.0
-takes_left Div s t is = inl is.0
-takes_left Rem s t is = inl is.0
-takes_left And s t is = inl is.0
-takes_left Or s t is = inl is.0
-takes_left Xor s t is = inl is.0
-takes_left AndNot s t is = inl is.0
-takes_left ShiftLeft s t is = inl is.0
-takes_left ShiftRight s t is = inl is.0
+-- operands have a word at least
+pub takes_some : (o : BinOp) (s t : ValueType) → Takes o s t → 0 < width s
+takes_some Equal s t is = is.0
+takes_some NotEqual s t is = is.0
+takes_some Less s t is = let one = ap width is.0 in omega arith
+takes_some LessEqual s t is = let one = ap width is.0 in omega arith
+takes_some Greater s t is = let one = ap width is.0 in omega arith
+takes_some GreaterEqual s t is = let one = ap width is.0 in omega arith
+takes_some Add s t is = let one = ap width is.0 in omega arith
+takes_some Sub s t is = let one = ap width is.0 in omega arith
+takes_some Mul s t is = let one = ap width is.0 in omega arith
+takes_some Div s t is = let one = ap width is.0 in omega arith
+takes_some Rem s t is = let one = ap width is.0 in omega arith
+takes_some And s t is = let one = ap width is.0 in omega arith
+takes_some Or s t is = let one = ap width is.0 in omega arith
+takes_some Xor s t is = let one = ap width is.0 in omega arith
+takes_some AndNot s t is = let one = ap width is.0 in omega arith
+takes_some ShiftLeft s t is = let one = ap width is.0 in omega arith
+takes_some ShiftRight s t is = let one = ap width is.0 in omega arith
 
 pub takes_gives : (o : BinOp) (s t : ValueType) → Takes o s t → IsPlain t
 takes_gives Equal s t is = inr is.1
@@ -68,10 +70,17 @@ takes_one Negate t is = inl is
 takes_one Complement t is = inl is
 
 module _ (p : Program) where
+  -- the type of a part, whatever the indices on the way are
+  steps_are : (scope : List ℕ) (t s : ValueType) (steps : Steps) → StepsLead p scope t steps s → type_at t (path_of steps) ≡ s
+  steps_are scope t s here fit = fit
+  steps_are scope t s (inner i steps) fit = steps_are scope (part_type t i) s steps fit.1
+  steps_are scope t s (at_index at e n steps) (r, is, some, index, fit) = ap (λ u. type_at (part_type u 0) (path_of steps)) is ∙ ap (λ u. type_at u (path_of steps)) (((element n r r 0 [] some).leads refl).1) ∙ steps_are scope r s steps fit
+
   pub place_is_of : (scope : List ℕ) (t : ValueType) (q : Pl) → PlFits p scope t q → place_type p q ≡ t
-  place_is_of scope t (local site steps) fit = leads_to (site_type p site) t (path_of steps) fit.1
+  place_is_of scope t (local site steps) fit = steps_are scope (site_type p site) t steps fit.1
   place_is_of scope t (global g here) fit = fit.1
   place_is_of scope t (global g (inner i steps)) fit = absurd fit
+  place_is_of scope t (global g (at_index at e n steps)) fit = absurd fit
 
   one_of : (ts : List ValueType) (t : ValueType) → ts ≡ t ∷ [] → all_width ts ≡ width t
   one_of ts t e = let q = ap all_width e in omega (arith, q)
@@ -86,6 +95,8 @@ module _ (p : Program) where
   wide_is scope t (both a b) fit = sym (ap width fit.0)
   wide_is scope t (either a b) fit = sym (ap width fit.0)
   wide_is scope t (call f es) fit = ap results_in fit.1 ∙ one_of fit.0.results t fit.2
+  wide_is scope t (part_of s i e) fit = ap width fit.1
+  wide_is scope t (literal s es) fit = ap width fit.0
 
   pub all_wide_is : (scope : List ℕ) (ts : List ValueType) (es : Exs) → ExsFit p scope ts es → all_wide p es ≡ all_width ts
   all_wide_is scope [] none fit = refl

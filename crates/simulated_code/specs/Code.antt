@@ -7,17 +7,17 @@ use Rattle.isa.specs.declared.instr.BinOp.{BinOp}
 use Rattle.isa.specs.declared.instr.BinOp.TheVariants as Word
 use Rattle.isa.specs.declared.instr.UnOp.TheVariants as WordOne
 use Rattle.isa.specs.declared.instr.Instr.{Instr}
-use Rattle.isa.specs.declared.instr.Instr.TheVariants.{Const, Zero, Move, Bin, Un, Jump, JumpZero, MoveWords, Call, ArgumentWords, SetResults, Load, Store, ReadInt, PrintInt, PrintBool, PrintText, PrintSpace, PrintLine, Return, Exit, PanicText, PanicInt, PanicBool}
+use Rattle.isa.specs.declared.instr.Instr.TheVariants.{Const, Zero, Move, Same, Differ, Bin, Un, Jump, JumpZero, MoveWords, Call, ArgumentWords, SetResults, Load, Store, Address, Index, ReadInt, PrintInt, PrintBool, PrintText, PrintSpace, PrintLine, Return, Exit, PanicText, PanicInt, PanicBool}
 use Rattle.isa.specs.declared.func.Func.{Func as Entry}
 use Rattle.typed.specs.declared.operators.BinOp.{BinOp as Operator}
 use Rattle.typed.specs.declared.operators.BinOp.TheVariants.{Add, Sub, Mul, Div, Rem, And, Or, Xor, AndNot, ShiftLeft, ShiftRight, Equal, NotEqual, Less, LessEqual, Greater, GreaterEqual}
 use Rattle.typed.specs.declared.operators.UnOp.{UnOp}
 use Rattle.typed.specs.declared.operators.UnOp.TheVariants as One
-use Rattle.value_trees.specs.Types.{ValueType, ints, bools, width}
+use Rattle.value_trees.specs.Types.{ValueType, ints, bools, width, part_type, part_offset}
 use Rattle.value_trees.specs.Value.{Value, int, bool, composite}
 use Rattle.value_trees.specs.Paths.{type_at, offset}
-use Rattle.typed.specs.Syntax.{Ex, Exs, Pl, Left, Piece, St, Sts, Func, Program, constant, read, unary, binary, both, either, call, local, global, none, more, results, asked, blank, new, to, text, shown, over_int, declare, assign, update, bump, discard, block, choose, loop, range, break_off, go_on, give_back, print, raise, quit, done, next, argument_words, result_words, arguments_of, results_of, path_of, wide, all_wide, each_width, value_widths}
-use Rattle.typed.specs.Frames.{far, words_between, outgoing_of, temps_of, frame_of}
+use Rattle.typed.specs.Syntax.{Ex, Exs, Pl, Steps, here, inner, at_index, Left, Piece, St, Sts, Func, Program, constant, read, unary, binary, both, either, call, part_of, literal, Elements, no_elements, element, local, global, none, more, results, asked, blank, new, to, text, shown, over_int, over_length, over_copy, declare, assign, update, bump, discard, block, choose, loop, range, break_off, go_on, give_back, print, raise, quit, done, next, argument_words, result_words, arguments_of, results_of, path_of, wide, all_wide, each_width, value_widths, ascend, words_through, gap_behind}
+use Rattle.typed.specs.Frames.{steps_far, far, words_between, outgoing_of, temps_of, frame_of}
 use Rattle.heap_bump.specs.Words.{first_address}
 
 abbrev pub operation : Operator → BinOp
@@ -38,6 +38,21 @@ operation Less = Word.Less
 operation LessEqual = Word.LessEqual
 operation Greater = Word.Greater
 operation GreaterEqual = Word.GreaterEqual
+
+-- whether n words from slot a on are those from slot b on goes to slot a
+abbrev pub same_code : (n a b : ℕ) → Instr
+same_code (suc zero) a b = Bin Word.Equal a a b
+same_code n a b = Same a a b n
+
+abbrev pub differ_code : (n a b : ℕ) → Instr
+differ_code (suc zero) a b = Bin Word.NotEqual a a b
+differ_code n a b = Differ a a b n
+
+-- an operator on operands of n words, from slots a and b on; what it gives goes to slot a
+abbrev pub binary_code : Operator → (n a b : ℕ) → Instr
+binary_code Equal n a b = same_code n a b
+binary_code NotEqual n a b = differ_code n a b
+binary_code op n a b = Bin (operation op) a a b
 
 abbrev pub unary_code : UnOp → ℕ → Instr
 unary_code One.Plus a = Move a a
@@ -87,31 +102,104 @@ abbrev pub zeros : (n a : ℕ) → Instr
 zeros (suc zero) a = Const a 0
 zeros n a = Zero a n
 
+-- zeros go to slots from a on, if there are any
+abbrev pub gap_code : (n a : ℕ) → List Instr
+gap_code zero a = []
+gap_code (suc n) a = zeros (suc n) a ∷ []
+
+abbrev pub gap_size : ℕ → ℕ
+gap_size zero = 0
+gap_size (suc n) = 1
+
 -- package variables stand one behind the other from the heap's first word on
 abbrev pub global_address : ℕ → ℕ
 global_address g = first_address + g
 
--- the address of a place, where it is reached by one, goes to temp h
-abbrev pub address_code : Slots → Pl → (h : ℕ) → List Instr
-address_code s (local site steps) h = []
-address_code s (global g steps) h = Const (temp s h) (global_address g) ∷ []
+-- the first temp above the operands of a place, which are in temps from h on, and that above an address, if there is one
+abbrev pub steps_above : Steps → (h : ℕ) → ℕ
+steps_above here h = h
+steps_above (inner i steps) h = steps_above steps h
+steps_above (at_index p e n steps) h = steps_above steps (h + 1)
+
+abbrev pub place_above : Pl → (h : ℕ) → ℕ
+place_above (local site steps) h = steps_above steps h
+place_above (global g steps) h = steps_above steps h
+
+abbrev pub above_address : (far at : ℕ) → ℕ
+above_address zero at = at
+above_address (suc n) at = at + 1
+
+abbrev pub lefts_above : List Left → (h : ℕ) → ℕ
+lefts_above [] h = h
+lefts_above (blank ∷ ls) h = lefts_above ls h
+lefts_above (new site ∷ ls) h = lefts_above ls h
+lefts_above (to q ∷ ls) h = lefts_above ls (place_above q h)
+
+-- the address of an array, in temp `at`, becomes that of an element, for each index among the steps; these are in temps from
+-- `first` on. What lies before fields and elements by their numbers is added by the one who reads or writes.
+abbrev pub index_code : Slots → ValueType → Steps → (first at : ℕ) → List Instr
+index_code s t here first at = []
+index_code s t (inner i steps) first at = index_code s (part_type t i) steps first at
+index_code s t (at_index p e n steps) first at =
+    Index (temp s at) (temp s at) (temp s first) n (width (part_type t 0)) ∷ index_code s (part_type t 0) steps (first + 1) at
+
+-- the address of a part by an index, from the slot on where the whole begins
+abbrev pub steps_address : Slots → (slot : ℕ) → ValueType → Steps → (first at : ℕ) → List Instr
+steps_address s slot t here first at = []
+steps_address s slot t (inner i steps) first at = steps_address s (slot + part_offset t i) (part_type t i) steps first at
+steps_address s slot t (at_index p e n steps) first at = Address (temp s at) slot ∷ index_code s t (at_index p e n steps) first at
+
+abbrev pub index_count : Steps → ℕ
+index_count here = 0
+index_count (inner i steps) = index_count steps
+index_count (at_index p e n steps) = suc (index_count steps)
+
+abbrev pub steps_address_size : Steps → ℕ
+steps_address_size here = 0
+steps_address_size (inner i steps) = steps_address_size steps
+steps_address_size (at_index p e n steps) = suc (suc (index_count steps))
+
+-- the address of a place, where it is reached by one, goes to temp `at`; its operands are in temps from `first` on
+abbrev pub address_code : Slots → Pl → (first at : ℕ) → List Instr
+address_code s (local site steps) first at = steps_address s (site_slot s site) (site_type s site) steps first at
+address_code s (global g steps) first at = Const (temp s at) (global_address g) ∷ []
+
+abbrev pub address_size : Pl → ℕ
+address_size (local site steps) = steps_address_size steps
+address_size (global g steps) = 1
+
+-- the words before a part that are not in its address: those from the first index on that lie before fields and elements by
+-- their numbers
+abbrev pub far_offset : ValueType → Steps → ℕ
+far_offset t here = 0
+far_offset t (inner i steps) = far_offset (part_type t i) steps
+far_offset t (at_index p e n steps) = offset (part_type t 0) (path_of steps)
 
 -- the words of a place go to temps from h on; its address, if there is one, is in temp `at`
+abbrev pub fetch_part : Slots → (site : ℕ) → Steps → (far at h : ℕ) → Instr
+fetch_part s site steps zero at h = moves (part_words s site (path_of steps)) (temp s h) (part_slot s site (path_of steps))
+fetch_part s site steps (suc n) at h = Load (temp s h) (temp s at) (far_offset (site_type s site) steps) (part_words s site (path_of steps))
+
 abbrev pub fetch_code : Slots → Pl → (at h : ℕ) → Instr
-fetch_code s (local site steps) at h = moves (part_words s site (path_of steps)) (temp s h) (part_slot s site (path_of steps))
+fetch_code s (local site steps) at h = fetch_part s site steps (steps_far steps) at h
 fetch_code s (global g steps) at h = Load (temp s h) (temp s at) 0 1
 
 -- a place gets the words of temps from h on
+abbrev pub land_part : Slots → (site : ℕ) → Steps → (far at h : ℕ) → Instr
+land_part s site steps zero at h = moves (part_words s site (path_of steps)) (part_slot s site (path_of steps)) (temp s h)
+land_part s site steps (suc n) at h = Store (temp s at) (far_offset (site_type s site) steps) (temp s h) (part_words s site (path_of steps))
+
 abbrev pub land_code : Slots → Pl → (at h : ℕ) → Instr
-land_code s (local site steps) at h = moves (part_words s site (path_of steps)) (part_slot s site (path_of steps)) (temp s h)
+land_code s (local site steps) at h = land_part s site steps (steps_far steps) at h
 land_code s (global g steps) at h = Store (temp s at) 0 (temp s h) 1
 
-abbrev pub read_code : Slots → Pl → (h : ℕ) → List Instr
-read_code s p h = address_code s p h ++ fetch_code s p h h ∷ []
+-- the operands of a place are in temps from h on, and its words go there; temp `at`, above them, is free for the address
+abbrev pub read_code : Slots → Pl → (at h : ℕ) → List Instr
+read_code s p at h = address_code s p h at ++ fetch_code s p at h ∷ []
 
--- temp `at` is free for the address
-abbrev pub write_code : Slots → Pl → (at h : ℕ) → List Instr
-write_code s p at h = address_code s p at ++ land_code s p at h ∷ []
+-- its operands are in temps from `first` on
+abbrev pub write_code : Slots → Pl → (first at h : ℕ) → List Instr
+write_code s p first at h = address_code s p first at ++ land_code s p at h ∷ []
 
 -- n words go from slots from b on to slots from a on
 abbrev pub move_code : (n a b : ℕ) → List Instr
@@ -167,18 +255,19 @@ abbrev pub other_widths : List ℕ → List ℕ
 other_widths [] = []
 other_widths (n ∷ ns) = ns
 
--- left sides get the values, of so many words each, in temps from h on; an address goes to temp `at`
-abbrev pub lefts_code : Slots → (each : List ℕ) → List Left → (at h : ℕ) → List Instr
-lefts_code s ns [] at h = []
-lefts_code s ns (blank ∷ ls) at h = lefts_code s (other_widths ns) ls at (h + first_width ns)
-lefts_code s ns (new site ∷ ls) at h = moves (site_words s site) (site_slot s site) (temp s h) ∷ lefts_code s (other_widths ns) ls at (h + first_width ns)
-lefts_code s ns (to p ∷ ls) at h = write_code s p at h ++ lefts_code s (other_widths ns) ls at (h + first_width ns)
+-- left sides, with operands in temps from `first` on, get the values, of so many words each, in temps from h on; an address
+-- goes to temp `at`
+abbrev pub lefts_code : Slots → (each : List ℕ) → List Left → (first at h : ℕ) → List Instr
+lefts_code s ns [] first at h = []
+lefts_code s ns (blank ∷ ls) first at h = lefts_code s (other_widths ns) ls first at (h + first_width ns)
+lefts_code s ns (new site ∷ ls) first at h = moves (site_words s site) (site_slot s site) (temp s h) ∷ lefts_code s (other_widths ns) ls first at (h + first_width ns)
+lefts_code s ns (to p ∷ ls) first at h = write_code s p first at h ++ lefts_code s (other_widths ns) ls (place_above p first) at (h + first_width ns)
 
 abbrev pub lefts_size : List Left → ℕ
 lefts_size [] = 0
 lefts_size (blank ∷ ls) = lefts_size ls
 lefts_size (new site ∷ ls) = suc (lefts_size ls)
-lefts_size (to p ∷ ls) = far p + 1 + lefts_size ls
+lefts_size (to p ∷ ls) = address_size p + 1 + lefts_size ls
 
 -- results with names: they get the values in temps from h on, and are the results from incoming word i on
 abbrev pub named_write_code : Slots → List ℕ → (h : ℕ) → List Instr
@@ -244,6 +333,22 @@ shown_size true [] = 1
 shown_size true (p ∷ ps) = suc (more_size ps)
 shown_size false ps = length ps
 
+-- the index in temp h goes to temp v, and the element of a site's array, of x elements, behind it
+abbrev pub element_code : Slots → (site x h v : ℕ) → List Instr
+element_code s site x h v =
+    let a = temp s (v + 1) in let w = width (part_type (site_type s site) 0) in
+    Move (temp s v) (temp s h) ∷ (Address a (site_slot s site) ∷ (Index a a (temp s h) x w ∷ (Load a a 0 w ∷ [])))
+
+-- the rounds, of these parts, for x elements: the index in temp h begins at 0
+abbrev pub array_code : Slots → (x h test behind : ℕ) → (round body : List Instr) → List Instr
+array_code s x h test behind round body =
+    let i = temp s h in let t = temp s (h + 1) in
+    Const i 0
+    ∷ (Const t x
+    ∷ (Bin Word.Less t i t
+    ∷ (JumpZero t behind
+    ∷ (round ++ (body ++ (Const t 1 ∷ (Bin Word.Add i i t ∷ (Jump test ∷ []))))))))
+
 module _ (p : Program) where
   -- a call whose arguments are in temps from h on; its results land there
   abbrev pub call_code : Slots → (f h : ℕ) → List Instr
@@ -256,18 +361,58 @@ module _ (p : Program) where
   abbrev mutual
     pub size : Ex → ℕ
     size (constant v) = 1
-    size (read q) = far q + 1
+    size (read q) = place_size q (address_size q + 1)
     size (unary op a) = size a + 1
     size (binary at op a b) = size a + size b + 1
     size (both a b) = size a + 1 + size b
     size (either a b) = size a + 2 + size b
     size (call f es) = exs_size es + call_size f
+    size (part_of t i e) = size e + 1
+    size (literal t es) = 1 + elements_size t (ascend es) es
+
+    -- of the operands of a place, and of so many behind them
+    pub place_size : Pl → (behind : ℕ) → ℕ
+    place_size (local site steps) behind = steps_size steps behind
+    place_size (global g steps) behind = steps_size steps behind
+
+    pub steps_size : Steps → (behind : ℕ) → ℕ
+    steps_size here behind = behind
+    steps_size (inner i steps) behind = steps_size steps behind
+    steps_size (at_index at e n steps) behind = size e + steps_size steps behind
+
+    pub elements_size : ValueType → (in_order : Bool) → Elements → ℕ
+    elements_size t in_order no_elements = 0
+    elements_size t true (element i e es) = size e + (gap_size (gap_behind t i es) + elements_size t true es)
+    elements_size t false (element i e es) = size e + (1 + elements_size t false es)
 
     pub exs_size : Exs → ℕ
     exs_size none = 0
     exs_size (more e es) = size e + exs_size es
     exs_size (results f es) = exs_size es + call_size f
     exs_size asked = 1
+
+  -- the place behind the operands of a place that stand from one on
+  abbrev pub steps_end : Steps → (pc : ℕ) → ℕ
+  steps_end here pc = pc
+  steps_end (inner i steps) pc = steps_end steps pc
+  steps_end (at_index at e n steps) pc = steps_end steps (pc + size e)
+
+  abbrev pub place_end : Pl → (pc : ℕ) → ℕ
+  place_end (local site steps) pc = steps_end steps pc
+  place_end (global g steps) pc = steps_end steps pc
+
+  -- the same of left sides
+  abbrev pub lefts_sized : List Left → (behind : ℕ) → ℕ
+  lefts_sized [] behind = behind
+  lefts_sized (blank ∷ ls) behind = lefts_sized ls behind
+  lefts_sized (new site ∷ ls) behind = lefts_sized ls behind
+  lefts_sized (to q ∷ ls) behind = place_size q (lefts_sized ls behind)
+
+  abbrev pub lefts_end : List Left → (pc : ℕ) → ℕ
+  lefts_end [] pc = pc
+  lefts_end (blank ∷ ls) pc = lefts_end ls pc
+  lefts_end (new site ∷ ls) pc = lefts_end ls pc
+  lefts_end (to q ∷ ls) pc = lefts_end ls (place_end q pc)
 
   abbrev pub piece_size : Piece → ℕ
   piece_size (text number) = 0
@@ -287,19 +432,64 @@ module _ (p : Program) where
   abbrev mutual
     pub ex_code : Slots → Ex → (h pc : ℕ) → List Instr
     ex_code s (constant v) h pc = Const (temp s h) (word_of v) ∷ []
-    ex_code s (read q) h pc = read_code s q h
+    ex_code s (read q) h pc = place_code s q h pc ++ read_code s q (place_above q h) h
     ex_code s (unary op e) h pc = ex_code s e h pc ++ unary_code op (temp s h) ∷ []
-    ex_code s (binary at op a b) h pc = ex_code s a h pc ++ (ex_code s b (h + 1) (pc + size a) ++ Bin (operation op) (temp s h) (temp s h) (temp s (h + 1)) ∷ [])
+    ex_code s (binary at op a b) h pc = ex_code s a h pc ++ (ex_code s b (h + wide p a) (pc + size a) ++ binary_code op (wide p a) (temp s h) (temp s (h + wide p a)) ∷ [])
     ex_code s (both a b) h pc = ex_code s a h pc ++ JumpZero (temp s h) (pc + size a + 1 + size b) ∷ ex_code s b h (pc + size a + 1)
     ex_code s (either a b) h pc =
         ex_code s a h pc ++ JumpZero (temp s h) (pc + size a + 2) ∷ (Jump (pc + size a + 2 + size b) ∷ ex_code s b h (pc + size a + 2))
     ex_code s (call f es) h pc = exs_code s es h pc ++ call_code s f h
+    ex_code s (part_of t i e) h pc = ex_code s e h pc ++ moves (width (part_type t i)) (temp s h) (temp s (h + part_offset t i)) ∷ []
+    ex_code s (literal t es) h pc = zeros (width t) (temp s h) ∷ elements_code s t (ascend es) es h (pc + 1)
+
+    -- the operands of a place land in temps from h on
+    pub place_code : Slots → Pl → (h pc : ℕ) → List Instr
+    place_code s (local site steps) h pc = steps_code s steps h pc
+    place_code s (global g steps) h pc = steps_code s steps h pc
+
+    pub steps_code : Slots → Steps → (h pc : ℕ) → List Instr
+    steps_code s here h pc = []
+    steps_code s (inner i steps) h pc = steps_code s steps h pc
+    steps_code s (at_index at e n steps) h pc = ex_code s e h pc ++ steps_code s steps (h + 1) (pc + size e)
+
+    -- Elements of a literal in temps from h on. In order each is worked out in its place, and what lies between it and the next
+    -- one is zeroed again, since it may have been worked with. Else each is worked out behind the literal and moved.
+    pub elements_code : Slots → ValueType → (in_order : Bool) → Elements → (h pc : ℕ) → List Instr
+    elements_code s t in_order no_elements h pc = []
+    elements_code s t true (element i e es) h pc =
+        let gap = gap_behind t i es in
+        ex_code s e (h + part_offset t i) pc ++ (gap_code gap (temp s (h + words_through t i)) ++ elements_code s t true es h (pc + size e + gap_size gap))
+    elements_code s t false (element i e es) h pc =
+        ex_code s e (h + width t) pc ++ moves (width (part_type t i)) (temp s (h + part_offset t i)) (temp s (h + width t)) ∷ elements_code s t false es h (pc + size e + 1)
 
     pub exs_code : Slots → Exs → (h pc : ℕ) → List Instr
     exs_code s none h pc = []
     exs_code s (more e es) h pc = ex_code s e h pc ++ exs_code s es (h + wide p e) (pc + size e)
     exs_code s (results f es) h pc = exs_code s es h pc ++ call_code s f h
     exs_code s asked h pc = ReadInt (temp s h) ∷ []
+
+  -- the operands of left sides land in temps from h on
+  abbrev pub ready_code : Slots → List Left → (h pc : ℕ) → List Instr
+  ready_code s [] h pc = []
+  ready_code s (blank ∷ ls) h pc = ready_code s ls h pc
+  ready_code s (new site ∷ ls) h pc = ready_code s ls h pc
+  ready_code s (to q ∷ ls) h pc = place_code s q h pc ++ ready_code s ls (place_above q h) (place_end q pc)
+
+  -- A round of `range` over an array, whose index is in temp h, up to the body: left sides get the index, or the index and the
+  -- element of the copy, which are put behind their operands.
+  abbrev pub index_round_code : Slots → Left → (h pc : ℕ) → List Instr
+  index_round_code s key h pc = ready_code s (key ∷ []) (h + 1) pc ++ lefts_code s (1 ∷ []) (key ∷ []) (h + 1) (lefts_above (key ∷ []) (h + 1)) h
+
+  abbrev pub index_round_size : Left → ℕ
+  index_round_size key = lefts_sized (key ∷ []) (lefts_size (key ∷ []))
+
+  abbrev pub element_round_code : Slots → (site x : ℕ) → (key value : Left) → (h pc : ℕ) → List Instr
+  element_round_code s site x key value h pc =
+      let v = lefts_above (key ∷ value ∷ []) (h + 1) in let w = width (part_type (site_type s site) 0) in
+      ready_code s (key ∷ value ∷ []) (h + 1) pc ++ (element_code s site x h v ++ lefts_code s (1 ∷ w ∷ []) (key ∷ value ∷ []) (h + 1) (v + 1 + w) v)
+
+  abbrev pub element_round_size : (key value : Left) → ℕ
+  element_round_size key value = lefts_sized (key ∷ value ∷ []) (4 + lefts_size (key ∷ value ∷ []))
 
   abbrev pub pieces_code : Slots → List Piece → (h pc : ℕ) → List Instr
   pieces_code s [] h pc = []
@@ -315,14 +505,16 @@ module _ (p : Program) where
     abbrev mutual
       pub st_size : St → ℕ
       st_size (declare sites) = length sites
-      st_size (assign ls es) = exs_size es + lefts_size ls
-      st_size (update at q op e) = far q + 1 + size e + 1 + (far q + 1)
-      st_size (bump q op) = far q + 1 + 2 + (far q + 1)
+      st_size (assign ls es) = lefts_sized ls (exs_size es + lefts_size ls)
+      st_size (update at q op e) = place_size q (address_size q + 1 + size e + 1 + 1)
+      st_size (bump q op) = place_size q (address_size q + 1 + 2 + 1)
       st_size (discard es) = exs_size es
       st_size (block ss) = sts_size ss
       st_size (choose e a b) = size e + 1 + sts_size a + 1 + sts_size b
       st_size (loop sites test post body) = test_size test + sts_size body + renew_size sites + sts_size post + 1
-      st_size (range (over_int e) key value body) = size e + 1 + 2 + lefts_size (key ∷ []) + sts_size body + 3
+      st_size (range (over_int e) key value body) = size e + 1 + 2 + lefts_sized (key ∷ []) (lefts_size (key ∷ [])) + sts_size body + 3
+      st_size (range (over_length x) key value body) = 4 + index_round_size key + sts_size body + 3
+      st_size (range (over_copy site e x) key value body) = size e + 1 + (4 + element_round_size key value + sts_size body + 3)
       st_size break_off = 1
       st_size go_on = 1
       st_size (give_back es) = exs_size es + (values_size (all_wide p es) named + leave_size named)
@@ -339,11 +531,21 @@ module _ (p : Program) where
     abbrev mutual
       pub st_code : Slots → St → (h out again pc : ℕ) → List Instr
       st_code s (declare sites) h out again pc = zeros_code s sites
-      st_code s (assign ls es) h out again pc = exs_code s es h pc ++ lefts_code s (value_widths p es) ls (h + all_wide p es) h
+      st_code s (assign ls es) h out again pc =
+          let first = lefts_above ls h in
+          ready_code s ls h pc ++ (exs_code s es first (lefts_end ls pc) ++ lefts_code s (value_widths p es) ls h (first + all_wide p es) first)
       st_code s (update at q op e) h out again pc =
-          read_code s q h ++ (ex_code s e (h + 1) (pc + (far q + 1)) ++ Bin (operation op) (temp s h) (temp s h) (temp s (h + 1)) ∷ write_code s q (h + 1) h)
+          let at = place_above q h in
+          let v = above_address (far q) at in
+          place_code s q h pc
+          ++ (address_code s q h at
+          ++ fetch_code s q at v ∷ (ex_code s e (v + 1) (place_end q pc + (address_size q + 1)) ++ Bin (operation op) (temp s v) (temp s v) (temp s (v + 1)) ∷ (land_code s q at v ∷ [])))
       st_code s (bump q op) h out again pc =
-          read_code s q h ++ (Const (temp s (h + 1)) 1 ∷ Bin (operation op) (temp s h) (temp s h) (temp s (h + 1)) ∷ write_code s q (h + 1) h)
+          let at = place_above q h in
+          let v = above_address (far q) at in
+          place_code s q h pc
+          ++ (address_code s q h at
+          ++ fetch_code s q at v ∷ (Const (temp s (v + 1)) 1 ∷ (Bin (operation op) (temp s v) (temp s v) (temp s (v + 1)) ∷ (land_code s q at v ∷ []))))
       st_code s (discard es) h out again pc = exs_code s es h pc
       st_code s (block ss) h out again pc = sts_code s ss h out again pc
       st_code s (choose e a b) h out again pc =
@@ -358,16 +560,29 @@ module _ (p : Program) where
           ++ (sts_code s body h behind turn inside ++ (renew_code s sites h ++ (sts_code s post h behind turn (turn + renew_size sites) ++ Jump pc ∷ [])))
       st_code s (range (over_int e) key value body) h out again pc =
           let test = pc + size e + 1 in
-          let inside = test + 2 + lefts_size (key ∷ []) in
+          let inside = test + 2 + lefts_sized (key ∷ []) (lefts_size (key ∷ [])) in
           let turn = inside + sts_size body in
           let behind = turn + 3 in
           ex_code s e h pc
           ++ (Const (temp s (h + 1)) 0
           ∷ (Bin Word.Less (temp s (h + 2)) (temp s (h + 1)) (temp s h)
           ∷ (JumpZero (temp s (h + 2)) behind
-          ∷ (lefts_code s (1 ∷ []) (key ∷ []) (h + 2) (h + 1)
+          ∷ ((ready_code s (key ∷ []) (h + 2) (test + 2) ++ lefts_code s (1 ∷ []) (key ∷ []) (h + 2) (lefts_above (key ∷ []) (h + 2)) (h + 1))
           ++ (sts_code s body (h + 2) behind turn inside
           ++ (Const (temp s (h + 2)) 1 ∷ Bin Word.Add (temp s (h + 1)) (temp s (h + 1)) (temp s (h + 2)) ∷ Jump test ∷ []))))))
+      st_code s (range (over_length x) key value body) h out again pc =
+          let inside = pc + 4 + index_round_size key in
+          let turn = inside + sts_size body in
+          let behind = turn + 3 in
+          array_code s x h (pc + 1) behind (index_round_code s key h (pc + 4)) (sts_code s body (h + 1) behind turn inside)
+      st_code s (range (over_copy site e x) key value body) h out again pc =
+          let start = pc + size e + 1 in
+          let inside = start + 4 + element_round_size key value in
+          let turn = inside + sts_size body in
+          let behind = turn + 3 in
+          ex_code s e h pc
+          ++ moves (site_words s site) (site_slot s site) (temp s h)
+          ∷ array_code s x h (start + 1) behind (element_round_code s site x key value h (start + 4)) (sts_code s body (h + 1) behind turn inside)
       st_code s break_off h out again pc = Jump out ∷ []
       st_code s go_on h out again pc = Jump again ∷ []
       st_code s (give_back es) h out again pc = exs_code s es h pc ++ (values_code s arguments (all_wide p es) named h ++ leave_code s arguments named)

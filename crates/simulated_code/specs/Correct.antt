@@ -7,7 +7,7 @@ use Rattle.typed.specs.Syntax.{Program}
 use Rattle.typed.specs.View.{value_of}
 use Rattle.typed.specs.Frames.{frame_words}
 use Rattle.typed.specs.Placement.{on_heap}
-use Rattle.meaning.specs.Trace.{Ending, Exit, Panic, StackLimit, HeapLimit, Fault, divide_by_zero, shift_count, exit_code, raised_text, raised}
+use Rattle.meaning.specs.Trace.{Ending, Exit, Panic, StackLimit, HeapLimit, Fault, divide_by_zero, shift_count, index_out_of_range, exit_code, raised_text, raised}
 use Rattle.meaning.specs.Meaning.{Item}
 use Rattle.meaning.specs.Output.{Limits, Sight, printing, asking, source}
 use Rattle.simulation.specs.Outcome.{Outcome, Ends, Unfinished, Below}
@@ -36,6 +36,7 @@ abbrev pub same_fault : List (List ℕ) → Fault → MachinePanic → Type 0
 same_fault strings divide_by_zero machine_panic.DivideByZero = ⊤
 same_fault strings (shift_count z) (machine_panic.ShiftCount y) = z ≡ y
 same_fault strings (exit_code z) (machine_panic.ExitCode y) = z ≡ y
+same_fault strings (index_out_of_range i n) (machine_panic.IndexOutOfRange j m) = (i ≡ j) × (n ≡ m)
 same_fault strings (raised_text bytes) (machine_panic.Text number) = bytes ≡ get_or strings number []
 same_fault strings (raised (int z)) (machine_panic.Int y) = z ≡ y
 same_fault strings (raised (bool b)) (machine_panic.Bool c) = b ≡ c
@@ -79,12 +80,13 @@ target code items globals main stack_max heap_max k =
     if nat_le (length globals) heap_max then entered code items stack_max (record { words = globals; max = heap_max }) (slice_get code.funcs main) k
     else Ends (Machine.HeapLimit heap_max 1 heap_max)
 
--- a turn is 1 to 16 instructions: what n turns show is shown by 16 * n instructions, and what k instructions show is
+-- The machine holds a stack and a heap of at most 2 ^ 32 words each, so that addresses tell them apart. A turn is 1 to 16
+-- instructions: what n turns show is shown by 16 * n instructions, and what k instructions show is
 -- shown by k turns
 pub record Simulated (p : Program) (code : Tables) : Type 0 where
-  pub at_least : (items : ℕ → Item) → AreNumbers items → (stack_max heap_max n k : ℕ) → heap_max ≤ 2 ^ 32 → 16 * n ≤ k
+  pub at_least : (items : ℕ → Item) → AreNumbers items → (stack_max heap_max n k : ℕ) → stack_max ≤ 2 ^ 32 → heap_max ≤ 2 ^ 32 → 16 * n ≤ k
       → Below same_event (same_end p.strings) (source items p (limits p stack_max heap_max) n) (target code items (first_words p.globals) p.main stack_max heap_max k)
-  pub at_most : (items : ℕ → Item) → AreNumbers items → (stack_max heap_max k : ℕ) → heap_max ≤ 2 ^ 32
+  pub at_most : (items : ℕ → Item) → AreNumbers items → (stack_max heap_max k : ℕ) → stack_max ≤ 2 ^ 32 → heap_max ≤ 2 ^ 32
       → Below (λ d e. same_event e d) (λ d e. same_end p.strings e d) (target code items (first_words p.globals) p.main stack_max heap_max k) (source items p (limits p stack_max heap_max) k)
 
 -- the code of a program in form does what the program means

@@ -1,14 +1,13 @@
 -- What holds of each program that the checker gives.
-use Rattle.std.specs.Prelude.{◌≡◌, ◌⊎◌, ⊤, ℕ, suc, pos, ◌+◌, ◌<◌, ◌≤◌, Bool, true, false, not, List, [], ◌∷◌, Option, Some, None, length, map, get_or, slice_get, ◌&&◌, ◌||◌, FitsSigned}
+use Rattle.std.specs.Prelude.{◌≡◌, ◌⊎◌, ⊤, ℕ, suc, pos, ◌+◌, ◌<◌, ◌≤◌, ◌^◌, Bool, true, false, not, List, [], ◌∷◌, Option, Some, None, length, map, get_or, slice_get, ◌&&◌, ◌||◌, FitsSigned}
 use Rattle.std.specs.Int.{w64}
 use Rattle.typed.specs.declared.operators.BinOp.{BinOp}
 use Rattle.typed.specs.declared.operators.BinOp.TheVariants.{Add, Sub, Equal, NotEqual, Less, LessEqual, Greater, GreaterEqual}
 use Rattle.typed.specs.declared.operators.UnOp.{UnOp}
 use Rattle.typed.specs.declared.operators.UnOp.TheVariants.{Not}
-use Rattle.value_trees.specs.Types.{ValueType, ints, bools, width}
+use Rattle.value_trees.specs.Types.{ValueType, ints, bools, array_of, width, part_count, part_type}
 use Rattle.value_trees.specs.Value.{Value, int, bool, composite, IsOf}
-use Rattle.value_trees.specs.Paths.{Leads as LeadsTo}
-use Rattle.typed.specs.Syntax.{Ex, Exs, Pl, Left, Piece, St, Sts, Func, Program, constant, read, unary, binary, both, either, call, local, global, none, more, results, asked, blank, new, to, text, shown, over_int, declare, assign, update, bump, discard, block, choose, loop, range, break_off, go_on, give_back, print, raise, quit, done, next, here, inner, argument_words, result_words, site_type, global_type, path_of}
+use Rattle.typed.specs.Syntax.{Ex, Exs, Pl, Left, Piece, Over, St, Sts, Func, Program, constant, read, unary, binary, both, either, call, part_of, literal, Elements, no_elements, element, local, global, none, more, results, asked, blank, new, to, text, shown, over_int, over_length, over_copy, declare, assign, update, bump, discard, block, choose, loop, range, break_off, go_on, give_back, print, raise, quit, done, next, Steps, here, inner, at_index, argument_words, result_words, site_type, global_type}
 
 -- ---- types
 
@@ -37,10 +36,14 @@ IsArithmetic Greater = ⊥
 IsArithmetic GreaterEqual = ⊥
 IsArithmetic op = ⊤
 
+-- values of a type can be compared: they have a word at least
+abbrev pub IsComparable : ValueType → Type 0
+IsComparable t = 0 < width t
+
 -- the type of an operator's operands, and of what it gives
 abbrev pub Takes : BinOp → (operands result : ValueType) → Type 0
-Takes Equal s t = IsPlain s × (t ≡ bools)
-Takes NotEqual s t = IsPlain s × (t ≡ bools)
+Takes Equal s t = IsComparable s × (t ≡ bools)
+Takes NotEqual s t = IsComparable s × (t ≡ bools)
 Takes Less s t = (s ≡ ints) × (t ≡ bools)
 Takes LessEqual s t = (s ≡ ints) × (t ≡ bools)
 Takes Greater s t = (s ≡ ints) × (t ≡ bools)
@@ -72,6 +75,12 @@ new_sites (blank ∷ ls) = new_sites ls
 new_sites (new site ∷ ls) = 1 + new_sites ls
 new_sites (to p ∷ ls) = new_sites ls
 
+-- the site of a copy is among those that come with what `range` goes over
+abbrev pub over_sites : Over → (others : ℕ) → ℕ
+over_sites (over_int e) others = others
+over_sites (over_length x) others = others
+over_sites (over_copy site e x) others = suc others
+
 -- how many sites statements have
 abbrev mutual
   pub births : St → ℕ
@@ -83,7 +92,7 @@ abbrev mutual
   births (block ss) = births_all ss
   births (choose e a b) = births_all a + births_all b
   births (loop sites test post body) = births_all post + births_all body
-  births (range over key value body) = new_sites (key ∷ value ∷ []) + births_all body
+  births (range over key value body) = new_sites (key ∷ value ∷ []) + over_sites over (births_all body)
   births break_off = 0
   births go_on = 0
   births (give_back es) = 0
@@ -149,22 +158,21 @@ abbrev mutual
 -- ---- what fits in a program
 
 module _ (p : Program) where
-  -- a place whose part is of a type, which has a word at least
-  abbrev pub PlFits : List ℕ → ValueType → Pl → Type 0
-  PlFits scope t (local site steps) = InScope site scope × LeadsTo (site_type p site) (path_of steps) t × (0 < width t)
-  PlFits scope t (global g here) = (g < length p.globals) × (global_type p g ≡ t)
-  PlFits scope t (global g (inner i steps)) = ⊥
-
-  -- left sides for values of these types
-  abbrev pub LeftsFit : List ℕ → (m n : ℕ) → List ValueType → List Left → Type 0
-  LeftsFit scope m n [] [] = Unit {0}
-  LeftsFit scope m n (t ∷ ts) (blank ∷ ls) = LeftsFit scope m n ts ls
-  LeftsFit scope m n (t ∷ ts) (new site ∷ ls) = (site ≡ m) × (m < n) × (site_type p site ≡ t) × LeftsFit scope (suc m) n ts ls
-  LeftsFit scope m n (t ∷ ts) (to q ∷ ls) = PlFits scope t q × LeftsFit scope m n ts ls
-  LeftsFit scope m n ts ls = ⊥
-
-  -- an expression with a value of a type, and expressions with values of these types
   abbrev mutual
+    -- a place whose part is of a type, which has a word at least
+    pub PlFits : List ℕ → ValueType → Pl → Type 0
+    PlFits scope t (local site steps) = InScope site scope × StepsLead scope (site_type p site) steps t × (0 < width t)
+    PlFits scope t (global g here) = (g < length p.globals) × (global_type p g ≡ t)
+    PlFits scope t (global g (inner i steps)) = ⊥
+    PlFits scope t (global g (at_index at e n steps)) = ⊥
+
+    -- steps lead from values of a type to parts of a type
+    pub StepsLead : List ℕ → ValueType → Steps → ValueType → Type 0
+    StepsLead scope t here s = t ≡ s
+    StepsLead scope t (inner i steps) s = (i < part_count t) × StepsLead scope (part_type t i) steps s
+    StepsLead scope t (at_index at e n steps) s = (r : ValueType) × (t ≡ array_of n r) × (0 < n) × ExFits scope ints e × StepsLead scope r steps s
+
+    -- an expression with a value of a type, and expressions with values of these types
     pub ExFits : List ℕ → ValueType → Ex → Type 0
     ExFits scope t (constant v) = IsOf t v × IsWord v
     ExFits scope t (read q) = PlFits scope t q
@@ -173,6 +181,13 @@ module _ (p : Program) where
     ExFits scope t (both a b) = (t ≡ bools) × ExFits scope bools a × ExFits scope bools b
     ExFits scope t (either a b) = (t ≡ bools) × ExFits scope bools a × ExFits scope bools b
     ExFits scope t (call f es) = (func : Func) × (slice_get p.funcs f ≡ Some func) × (func.results ≡ t ∷ []) × ExsFit scope func.param_types es
+    ExFits scope t (part_of s i e) = (i < part_count s) × (part_type s i ≡ t) × (0 < width t) × ExFits scope s e
+    ExFits scope t (literal s es) = (s ≡ t) × (0 < width s) × ElementsFit scope s es
+
+    -- elements of a struct or an array of a type; each has a word at least
+    pub ElementsFit : List ℕ → ValueType → Elements → Type 0
+    ElementsFit scope t no_elements = Unit {0}
+    ElementsFit scope t (element i e es) = (i < part_count t) × (0 < width (part_type t i)) × ExFits scope (part_type t i) e × ElementsFit scope t es
 
     pub ExsFit : List ℕ → List ValueType → Exs → Type 0
     ExsFit scope [] none = Unit {0}
@@ -180,6 +195,14 @@ module _ (p : Program) where
     ExsFit scope ts (results f es) = (func : Func) × (slice_get p.funcs f ≡ Some func) × (func.results ≡ ts) × ExsFit scope func.param_types es
     ExsFit scope ts asked = ts ≡ ints ∷ bools ∷ []
     ExsFit scope ts es = ⊥
+
+  -- left sides for values of these types
+  abbrev pub LeftsFit : List ℕ → (m n : ℕ) → List ValueType → List Left → Type 0
+  LeftsFit scope m n [] [] = Unit {0}
+  LeftsFit scope m n (t ∷ ts) (blank ∷ ls) = LeftsFit scope m n ts ls
+  LeftsFit scope m n (t ∷ ts) (new site ∷ ls) = (site ≡ m) × (m < n) × (site_type p site ≡ t) × LeftsFit scope (suc m) n ts ls
+  LeftsFit scope m n (t ∷ ts) (to q ∷ ls) = PlFits scope t q × LeftsFit scope m n ts ls
+  LeftsFit scope m n ts ls = ⊥
 
   abbrev pub TestFits : List ℕ → Option Ex → Type 0
   TestFits scope None = Unit {0}
@@ -215,6 +238,11 @@ module _ (p : Program) where
           AllInScope scope sites × TestFits scope test × StsFit false scope m n post × StsFit true scope (m + births_all post) n body
       StFits looped scope m n (range (over_int e) key blank body) =
           ExFits scope ints e × LeftsFit scope m n (ints ∷ []) (key ∷ []) × StsFit true (scope_behind scope (key ∷ [])) (m + new_sites (key ∷ [])) n body
+      StFits looped scope m n (range (over_length x) key blank body) =
+          (x < 2 ^ 63) × LeftsFit scope m n (ints ∷ []) (key ∷ []) × StsFit true (scope_behind scope (key ∷ [])) (m + new_sites (key ∷ [])) n body
+      -- the copy comes with the word `range`, behind the left sides
+      StFits looped scope m n (range (over_copy site e x) key value body) =
+          (r : ValueType) × (site_type p site ≡ array_of x r) × (0 < width r) × (x < 2 ^ 63) × (site ≡ m + new_sites (key ∷ value ∷ [])) × (site < n) × ExFits scope (array_of x r) e × LeftsFit (site ∷ scope) m n (ints ∷ r ∷ []) (key ∷ value ∷ []) × StsFit true (scope_behind (site ∷ scope) (key ∷ value ∷ [])) (m + new_sites (key ∷ value ∷ []) + 1) n body
       StFits looped scope m n break_off = looped ≡ true
       StFits looped scope m n go_on = looped ≡ true
       StFits looped scope m n (give_back es) = ReturnFits scope wanted named es

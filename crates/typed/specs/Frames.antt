@@ -1,13 +1,19 @@
 -- The words of a frame, from its lowest address: the outgoing area, in which the arguments of a call stand and then its
 -- results; the temps that values are worked out in; the words of each site; the link and the return place.
-use Rattle.std.specs.Prelude.{ℕ, zero, suc, ◌+◌, List, [], ◌∷◌, Option, Some, None, length, max, get_or, slice_get}
-use Rattle.value_trees.specs.Types.{ValueType, ints, width}
+use Rattle.std.specs.Prelude.{ℕ, zero, suc, ◌+◌, Bool, true, false, List, [], ◌∷◌, Option, Some, None, length, max, get_or, slice_get}
+use Rattle.value_trees.specs.Types.{ValueType, ints, width, part_type, part_offset}
 use Rattle.value_trees.specs.Value.{words}
-use Rattle.typed.specs.Syntax.{Ex, Exs, Pl, Left, Piece, Over, St, Sts, Func, Program, constant, read, unary, binary, both, either, call, local, global, none, more, results, asked, blank, new, to, text, shown, over_int, declare, assign, update, bump, discard, block, choose, loop, range, break_off, go_on, give_back, print, raise, quit, done, next, arguments_of, results_of, site_width, place_width, wide, all_wide}
+use Rattle.typed.specs.Syntax.{Ex, Exs, Pl, Steps, here, inner, at_index, Left, Piece, Over, St, Sts, Func, Program, constant, read, unary, binary, both, either, call, part_of, literal, Elements, no_elements, element, local, global, none, more, results, asked, blank, new, to, text, shown, over_int, over_length, over_copy, declare, assign, update, bump, discard, block, choose, loop, range, break_off, go_on, give_back, print, raise, quit, done, next, arguments_of, results_of, site_type, site_width, place_width, wide, all_wide, ascend}
 
--- the words of the address of a place, where it is reached by one
+-- the words of the address of a place, where it is reached by one: of a package variable, and of a part by an index that is
+-- worked out
+abbrev pub steps_far : Steps → ℕ
+steps_far here = 0
+steps_far (inner i steps) = steps_far steps
+steps_far (at_index at e n steps) = 1
+
 abbrev pub far : Pl → ℕ
-far (local site steps) = 0
+far (local site steps) = steps_far steps
 far (global g steps) = 1
 
 abbrev pub left_far : Left → ℕ
@@ -35,12 +41,30 @@ module _ (p : Program) where
   abbrev mutual
     pub need : Ex → ℕ
     need (constant v) = words v
-    need (read q) = max (far q) (place_width p q)
+    need (read q) = max (place_need q (far q)) (place_width p q)
     need (unary op e) = need e
-    need (binary at op a b) = max (need a) (1 + need b)
+    need (binary at op a b) = max (need a) (wide p a + need b)
     need (both a b) = max (need a) (need b)
     need (either a b) = max (need a) (need b)
     need (call f es) = max (need_all es) (results_of p f)
+    need (part_of t i e) = need e
+    need (literal t es) = max (width t) (elements_need t (ascend es) es)
+
+    -- the operands of a place, one behind the other, and so many behind them
+    pub place_need : Pl → (behind : ℕ) → ℕ
+    place_need (local site steps) behind = steps_need steps behind
+    place_need (global g steps) behind = steps_need steps behind
+
+    pub steps_need : Steps → (behind : ℕ) → ℕ
+    steps_need here behind = behind
+    steps_need (inner i steps) behind = steps_need steps behind
+    steps_need (at_index at e n steps) behind = max (need e) (1 + steps_need steps behind)
+
+    -- elements of a literal: each stands in its place at once where they come in order, and else behind the literal first
+    pub elements_need : ValueType → (in_order : Bool) → Elements → ℕ
+    elements_need t in_order no_elements = 0
+    elements_need t true (element i e es) = max (part_offset t i + need e) (elements_need t true es)
+    elements_need t false (element i e es) = max (width t + need e) (elements_need t false es)
 
     pub need_all : Exs → ℕ
     need_all none = 0
@@ -66,12 +90,28 @@ module _ (p : Program) where
   abbrev mutual
     pub reach : Ex → ℕ
     reach (constant v) = 0
-    reach (read q) = 0
+    reach (read q) = place_reach q 0
     reach (unary op e) = reach e
     reach (binary at op a b) = max (reach a) (reach b)
     reach (both a b) = max (reach a) (reach b)
     reach (either a b) = max (reach a) (reach b)
     reach (call f es) = max (reach_all es) (arguments_of p f + results_of p f)
+    reach (part_of t i e) = reach e
+    reach (literal t es) = elements_reach es
+
+    -- of the operands of a place, and of what comes with them
+    pub place_reach : Pl → (others : ℕ) → ℕ
+    place_reach (local site steps) others = steps_reach steps others
+    place_reach (global g steps) others = steps_reach steps others
+
+    pub steps_reach : Steps → (others : ℕ) → ℕ
+    steps_reach here others = others
+    steps_reach (inner i steps) others = steps_reach steps others
+    steps_reach (at_index at e n steps) others = max (reach e) (steps_reach steps others)
+
+    pub elements_reach : Elements → ℕ
+    elements_reach no_elements = 0
+    elements_reach (element i e es) = max (reach e) (elements_reach es)
 
     pub reach_all : Exs → ℕ
     reach_all none = 0
@@ -94,6 +134,21 @@ module _ (p : Program) where
 
   abbrev pub over_reach : Over → ℕ
   over_reach (over_int e) = reach e
+  over_reach (over_length x) = 0
+  over_reach (over_copy site e x) = reach e
+
+  -- the operands of left sides, and so many behind them
+  abbrev pub lefts_need : List Left → (behind : ℕ) → ℕ
+  lefts_need [] behind = behind
+  lefts_need (blank ∷ ls) behind = lefts_need ls behind
+  lefts_need (new site ∷ ls) behind = lefts_need ls behind
+  lefts_need (to q ∷ ls) behind = place_need q (lefts_need ls behind)
+
+  abbrev pub lefts_reach : List Left → (others : ℕ) → ℕ
+  lefts_reach [] others = others
+  lefts_reach (blank ∷ ls) others = lefts_reach ls others
+  lefts_reach (new site ∷ ls) others = lefts_reach ls others
+  lefts_reach (to q ∷ ls) others = place_reach q (lefts_reach ls others)
 
   -- the words of the widest of some sites: a new round's variables are moved through temps, and so are a function's results
   -- with names
@@ -104,27 +159,45 @@ module _ (p : Program) where
   -- `range`: the words that it keeps, and what it works with above them
   abbrev pub over_need : Over → ℕ
   over_need (over_int e) = need e
+  over_need (over_length x) = 0
+  over_need (over_copy site e x) = need e
 
   abbrev pub hidden : Over → ℕ
   hidden (over_int e) = 2
+  hidden (over_length x) = 1
+  hidden (over_copy site e x) = 1
 
-  -- the index that a left side gets
+  -- the index that a left side gets, behind its operands
   abbrev pub key_need : Left → ℕ
   key_need blank = 0
   key_need (new site) = 1
-  key_need (to q) = 1 + far q
+  key_need (to q) = place_need q (1 + far q)
+
+  -- the words of an element of a site's array
+  abbrev pub element_words : ℕ → ℕ
+  element_words site = width (part_type (site_type p site) 0)
+
+  -- so many words of values that left sides get, behind their operands
+  abbrev pub pair_need : List Left → (values : ℕ) → ℕ
+  pair_need ls values = lefts_need ls (max values (behind_values values (lefts_far ls)))
+
+  -- what a round gives to left sides: the index, and the element
+  abbrev pub round_need : Over → (key value : Left) → ℕ
+  round_need (over_int e) key value = key_need key
+  round_need (over_length x) key value = key_need key
+  round_need (over_copy site e x) key value = pair_need (key ∷ value ∷ []) (1 + element_words site)
 
   abbrev mutual
     pub st_need : (named : List ℕ) → St → ℕ
     st_need named (declare sites) = 0
-    st_need named (assign ls es) = max (need_all es) (behind_values (all_wide p es) (lefts_far ls))
-    st_need named (update at q op e) = far q + 1 + need e
-    st_need named (bump q op) = far q + 2
+    st_need named (assign ls es) = lefts_need ls (max (need_all es) (behind_values (all_wide p es) (lefts_far ls)))
+    st_need named (update at q op e) = place_need q (far q + 1 + need e)
+    st_need named (bump q op) = place_need q (far q + 2)
     st_need named (discard es) = need_all es
     st_need named (block ss) = sts_need named ss
     st_need named (choose e a b) = max (need e) (max (sts_need named a) (sts_need named b))
     st_need named (loop sites test post body) = max (max (test_need test) (widest sites)) (max (sts_need named post) (sts_need named body))
-    st_need named (range over key value body) = max (over_need over) (max (hidden over + 2) (max (hidden over + key_need key) (hidden over + sts_need named body)))
+    st_need named (range over key value body) = max (over_need over) (max (hidden over + 2) (max (hidden over + round_need over key value) (hidden over + sts_need named body)))
     st_need named break_off = 0
     st_need named go_on = 0
     st_need named (give_back es) = max (need_all es) (widest named)
@@ -139,14 +212,14 @@ module _ (p : Program) where
   abbrev mutual
     pub st_reach : St → ℕ
     st_reach (declare sites) = 0
-    st_reach (assign ls es) = reach_all es
-    st_reach (update at q op e) = reach e
-    st_reach (bump q op) = 0
+    st_reach (assign ls es) = lefts_reach ls (reach_all es)
+    st_reach (update at q op e) = place_reach q (reach e)
+    st_reach (bump q op) = place_reach q 0
     st_reach (discard es) = reach_all es
     st_reach (block ss) = sts_reach ss
     st_reach (choose e a b) = max (reach e) (max (sts_reach a) (sts_reach b))
     st_reach (loop sites test post body) = max (test_reach test) (max (sts_reach post) (sts_reach body))
-    st_reach (range over key value body) = max (over_reach over) (sts_reach body)
+    st_reach (range over key value body) = max (over_reach over) (lefts_reach (key ∷ value ∷ []) (sts_reach body))
     st_reach break_off = 0
     st_reach go_on = 0
     st_reach (give_back es) = reach_all es

@@ -1,26 +1,28 @@
 -- The typed program as abstract syntax, without vectors and pointers.
-use Rattle.std.specs.Prelude.{ℕ, zero, suc, pos, ◌+◌, Bool, List, [], ◌∷◌, Option, Some, None, get_or, slice_get}
+use Rattle.std.specs.Prelude.{ℕ, zero, suc, pos, ◌+◌, ◌-◌, Bool, true, ◌&&◌, nat_le, List, [], ◌∷◌, Option, Some, None, get_or, slice_get}
 use Rattle.base.specs.declared.pos.Pos.{Pos}
-use Rattle.value_trees.specs.Types.{ValueType, ints, width}
+use Rattle.value_trees.specs.Types.{ValueType, ints, width, part_type, part_offset}
 use Rattle.value_trees.specs.Value.{Value, int}
 use Rattle.value_trees.specs.Paths.{type_at}
 use Rattle.typed.specs.declared.operators.BinOp.{BinOp}
 use Rattle.typed.specs.declared.operators.UnOp.{UnOp}
 
--- the steps from the beginning of a place to the part that it names
-pub data Steps : Type 0 where
-  here : Steps
-  -- a field or an element, by its number
-  inner : ℕ → Steps → Steps
-
--- a place: where it begins, and the steps from there
-pub data Pl : Type 0 where
-  -- a local variable, by its site
-  local : ℕ → Steps → Pl
-  -- a package variable, by its number
-  global : ℕ → Steps → Pl
-
 mutual
+  -- the steps from the beginning of a place to the part that it names
+  pub data Steps : Type 0 where
+    here : Steps
+    -- a field or an element, by its number
+    inner : ℕ → Steps → Steps
+    -- an element of an array of this length, by an index that is worked out
+    at_index : Pos → Ex → ℕ → Steps → Steps
+
+  -- a place: where it begins, and the steps from there
+  pub data Pl : Type 0 where
+    -- a local variable, by its site
+    local : ℕ → Steps → Pl
+    -- a package variable, by its number
+    global : ℕ → Steps → Pl
+
   -- an expression with one value; a node that can panic has the place that the panic names
   pub data Ex : Type 0 where
     constant : Value → Ex
@@ -32,6 +34,15 @@ mutual
     either : Ex → Ex → Ex
     -- a function by its number, with one result
     call : ℕ → Exs → Ex
+    -- a field or an element, by its number, of a value of a type that is no place
+    part_of : ValueType → ℕ → Ex → Ex
+    -- a struct or an array, by its type; what no element is for is zero
+    literal : ValueType → Elements → Ex
+
+  -- the elements of a literal in the order of the text, each with the number of the field or the element that it is for
+  pub data Elements : Type 0 where
+    no_elements : Elements
+    element : ℕ → Ex → Elements → Elements
 
   -- some expressions, the last of which may be a call with any number of results
   pub data Exs : Type 0 where
@@ -56,6 +67,10 @@ pub data Piece : Type 0 where
 -- what `range` goes over
 pub data Over : Type 0 where
   over_int : Ex → Over
+  -- the indices of an array of this length, which is not worked out
+  over_length : ℕ → Over
+  -- the elements of an array of this length, of which a hidden variable of a site gets a copy
+  over_copy : ℕ → Ex → ℕ → Over
 
 mutual
   pub data St : Type 0 where
@@ -150,10 +165,11 @@ global_type p g = site_type p (global_site p g)
 abbrev pub site_width : Program → ℕ → ℕ
 site_width p site = width (site_type p site)
 
--- the path of steps
+-- the path of steps, with the first element in the place of one by an index that is worked out: both have one type
 abbrev pub path_of : Steps → List ℕ
 path_of here = []
 path_of (inner i steps) = i ∷ path_of steps
+path_of (at_index at e n steps) = 0 ∷ path_of steps
 
 -- the type of a place, and its words
 abbrev pub place_type : Program → Pl → ValueType
@@ -167,6 +183,8 @@ place_width p q = width (place_type p q)
 abbrev pub wide : Program → Ex → ℕ
 wide p (read q) = place_width p q
 wide p (call f es) = results_of p f
+wide p (part_of t i e) = width (part_type t i)
+wide p (literal t es) = width t
 wide p e = 1
 
 abbrev pub all_wide : Program → Exs → ℕ
@@ -174,6 +192,27 @@ all_wide p none = 0
 all_wide p (more e es) = wide p e + all_wide p es
 all_wide p (results f es) = results_of p f
 all_wide p asked = 2
+
+-- whether the numbers of elements ascend, from one on
+abbrev pub ascend_from : ℕ → Elements → Bool
+ascend_from n no_elements = true
+ascend_from n (element i e es) = nat_le n i && ascend_from (suc i) es
+
+abbrev pub ascend : Elements → Bool
+ascend es = ascend_from 0 es
+
+-- the words of a value of a type up to the first of some elements, to its end where there is none
+abbrev pub words_before : ValueType → Elements → ℕ
+words_before t no_elements = width t
+words_before t (element i e es) = part_offset t i
+
+-- those up to the end of a part
+abbrev pub words_through : ValueType → ℕ → ℕ
+words_through t i = part_offset t i + width (part_type t i)
+
+-- the words between a part and the first of the elements behind it
+abbrev pub gap_behind : ValueType → ℕ → Elements → ℕ
+gap_behind t i es = words_before t es - words_through t i
 
 -- the words of each of the values
 abbrev pub each_width : List ValueType → List ℕ

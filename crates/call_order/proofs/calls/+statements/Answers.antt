@@ -3,6 +3,7 @@ use Rattle.std.proofs.lemmas.Result.{on_ok_weaker}
 use Rattle.typed.proofs.Rows.{stmt_rows}
 use Rattle.typed.specs.View.{ex_of, test_of, st_of, sts_of}
 use Rattle.call_order.specs.Lists.{called, called_in_test, called_by, called_by_all}
+use Rattle.call_order.proofs.Silent.{key_silent}
 use Rattle.call_order.proofs.Chained.{two_lists, three_lists}
 use Rattle.call_order.proofs.calls.+statements.Goals as goal
 
@@ -30,6 +31,7 @@ pub add_stmt-returns-in_ok-add_expr-in-Count : goal.add_stmt-returns-in_ok-add_e
 add_stmt-returns-in_ok-add_expr-in-Count t c =
     let e = called (ex_of c.in-Count.e) in
     let body = called_by_all (sts_of c.in-Count.body.items) in
-    let whole : called_by (st_of c.args.s.now) ≡ e ++ body = grind (arith, stmt_rows) in
+    let silent = key_silent c.in-Count.key in
+    let whole : called_by (st_of c.args.s.now) ≡ e ++ body = grind (arith, stmt_rows, silent) in
     let second = rw c.deref-in-Count.ensures.value at c.add_stmts-in-Count.ensures in
     on_ok_weaker c.add_stmts-in-Count.result (λ last. two_lists c.args.calls.now.items c.add_expr-in-Count.new.calls.items c.add_stmts-in-Count.new.calls.items e body (called_by (st_of c.args.s.now)) c.in_ok-add_expr-in-Count.ensures last whole) second

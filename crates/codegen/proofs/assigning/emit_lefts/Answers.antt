@@ -26,6 +26,6 @@ loop-i-preserved c =
     let ls = c.args.ls.now in let i = c.loop-i.i in let at = c.args.at in
     let after : c.loop-i.next + c.in_ok-next.field-0 ≡ c.loop-i.next + slice_index ns i = ap (λ n. c.loop-i.next + n) c.in_ok-next.ensures in
     let fit = lefts_split slots c.args.frame.sites at c.loop-i.next ns ls i Blank c.loop-i-test.true c.loop-i.invariant.1 in (
-      left_emitted slots _ _ _ ns ls i Blank at c.loop-i.next _ c.loop-i-test.true after c.loop-i.invariant.0 c.in_ok-emit_left.ensures,
+      left_emitted slots _ _ _ ns ls i Blank c.args.h at c.loop-i.next _ c.loop-i-test.true after c.loop-i.invariant.0 c.in_ok-emit_left.ensures,
       subst (λ k. LeftsFitIn slots c.args.frame.sites at k (drop (i + 1) ns) (map left_of (drop (i + 1) ls))) (sym after) fit.2,
     )

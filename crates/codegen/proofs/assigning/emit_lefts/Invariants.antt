@@ -8,6 +8,6 @@ use Rattle.codegen.proofs.assigning.emit_lefts.Given as goal
 
 abbrev pub invariant-loop-i : goal.invariant-loop-i
 invariant-loop-i l =
-    (l.fn.code.items ++ lefts_code (slots_in l.program l.frame) (value_widths (program_of l.program) (exs_of_values l.values)) (map left_of l.ls) l.at l.h
-    ≡ l.code.items ++ lefts_code (slots_in l.program l.frame) (drop l.i (value_widths (program_of l.program) (exs_of_values l.values))) (map left_of (drop l.i l.ls)) l.at l.next)
+    (l.fn.code.items ++ lefts_code (slots_in l.program l.frame) (value_widths (program_of l.program) (exs_of_values l.values)) (map left_of l.ls) l.h l.at l.h
+    ≡ l.code.items ++ lefts_code (slots_in l.program l.frame) (drop l.i (value_widths (program_of l.program) (exs_of_values l.values))) (map left_of (drop l.i l.ls)) l.h l.at l.next)
     × LeftsFitIn (slots_in l.program l.frame) l.frame.sites l.at l.next (drop l.i (value_widths (program_of l.program) (exs_of_values l.values))) (map left_of (drop l.i l.ls))

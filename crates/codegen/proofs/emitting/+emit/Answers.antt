@@ -48,7 +48,7 @@ emit_stmt-returns-in_ok-emit_count_turn-in-Count t c =
     let v = c.in-Count in let g = c.in_ok-inner-in-Count.inner in
     let shape : st_of c.args.s.now ≡ range (over_int (ex_of v.e)) (left_of v.key) blank (sts_of v.body.items) = grind (arith, stmt_rows) in
     let start : c.in_ok-start.start ≡ length c.args.code.now.items = omega (arith, c.in_ok-start.ensures) in
-    rw shape (count_emitted p (argument_words f) f.named slots c.args.code.now.items _ _ _ _ (ex_of v.e) (left_of v.key) blank (sts_of v.body.items) _ _ g.again g.out h c.args.goals.out c.args.goals.again start
+    rw shape (count_emitted p (argument_words f) f.named slots c.args.code.now.items _ _ _ _ (ex_of v.e) v.key blank (sts_of v.body.items) _ _ g.again g.out h c.args.goals.out c.args.goals.again start
     c.in_ok-test-in-Count.ensures
     (c.in_ok-inner-in-Count.ensures.again ∙ ap (λ x. c.in_ok-test-in-Count.test + 2 + lefts_size (left_of v.key ∷ []) + sts_size p (argument_words f) f.named (sts_of x)) c.deref-in-Count.ensures.value)
     c.in_ok-inner-in-Count.ensures.out

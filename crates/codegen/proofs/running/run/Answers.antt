@@ -21,11 +21,11 @@ returns-in_err-heap-clause-runs g c =
     let same : c.from_residual.result ≡ Err c.in_err-heap.field-0.0 = search rules in
     elim c.in_err-heap.ensures.fault [
       | inl none ↦ rw (same ∙ ap Err none) (read_nothing _ _ _ _ refl (λ items numbers is.
-          unready p c.args.code.now is items numbers c.args.stack_max c.args.heap_max c.args.steps c.requires.heap _ 0))
+          unready p c.args.code.now is items numbers c.args.stack_max c.args.heap_max c.args.steps c.requires.stack c.requires.heap _ 0))
       | inr more ↦
           (let passes = begun_full (site_types c.args.program.now.sites.items) c.args.program.now.globals.items c.args.heap_max (rw c.deref.ensures.value at more.0) in
           rw (same ∙ ap Err more.1) (read_nothing _ _ _ _ refl (λ items numbers is.
-          full p c.args.code.now is items numbers c.args.stack_max c.args.heap_max c.args.steps c.requires.heap _ 0 passes)))
+          full p c.args.code.now is items numbers c.args.stack_max c.args.heap_max c.args.steps c.requires.stack c.requires.heap _ 0 passes)))
     ]
 
 pub returns-then-asked-stack_max-clause-runs : goal.returns-then-asked-stack_max-clause-runs
@@ -34,13 +34,13 @@ returns-then-asked-stack_max-clause-runs g c =
     let passes : nat_le fn.frame c.args.stack_max ≡ false = lt-leb fn.frame c.args.stack_max (omega (arith, c.if-asked-stack_max.true)) in
     let room = begun_room (site_types c.args.program.now.sites.items) c.args.program.now.globals.items c.args.heap_max (rw c.deref.ensures.value at c.in_ok-heap.ensures.room) in
     read_nothing _ _ _ _ refl (λ items numbers is.
-    refused p c.args.code.now is items numbers c.args.stack_max c.args.heap_max c.args.steps c.requires.heap room fn c.entry-first.ensures.is _ 0 passes)
+    refused p c.args.code.now is items numbers c.args.stack_max c.args.heap_max c.args.steps c.requires.stack c.requires.heap room fn c.entry-first.ensures.is _ 0 passes)
 
 pub returns-in_err-words-clause-runs : goal.returns-in_err-words-clause-runs
 returns-in_err-words-clause-runs g c =
     let none : c.from_residual-in_err-words.result ≡ Err Fault.NoMemory = search rules in
     rw none (read_nothing _ _ _ _ refl (λ items numbers is.
-    unready (program_of c.args.program.now) c.args.code.now is items numbers c.args.stack_max c.args.heap_max c.args.steps c.requires.heap _ 0))
+    unready (program_of c.args.program.now) c.args.code.now is items numbers c.args.stack_max c.args.heap_max c.args.steps c.requires.stack c.requires.heap _ 0))
 
 pub returns-clause-runs : goal.returns-clause-runs
 returns-clause-runs g c =
@@ -51,4 +51,4 @@ returns-clause-runs g c =
     let room = begun_room types gs c.args.heap_max (rw c.deref.ensures.value at c.in_ok-heap.ensures.room) in
     let begins = (rw c.deref.ensures.value at c.in_ok-heap.ensures.words) ∙ ap (λ (ws : List ℕ). let h : Words = record { words = ws; max = c.args.heap_max } in h) (sym (begun_words c.args.program.now.sites.items gs)) in
     rw c.answer.ensures (read_by _ _ _ _ _ _ _ _ c.new-reader.ensures c.run-next.ensures.runs (λ same. same.1) (λ items answered numbers did is.
-    composed p c.args.code.now is items numbers c.args.stack_max c.args.heap_max c.args.steps c.requires.heap room fn c.entry-first.ensures.is _ _ _ _ _ _ _ _ _ fits zeros begins did.0))
+    composed p c.args.code.now is items numbers c.args.stack_max c.args.heap_max c.args.steps c.requires.stack c.requires.heap room fn c.entry-first.ensures.is _ _ _ _ _ _ _ _ _ fits zeros begins did.0))

@@ -113,3 +113,8 @@ pub returns-in-Offset-clause-step : goal.returns-in-Offset-clause-step
 returns-in-Offset-clause-step g c =
     nothing_read _ _ _ _ c.offset.ensures.read (refl, refl)
     (λ items reads. let more : reads + 0 ≡ reads = omega arith in rw (more, c.in-Offset.ensures.is) (told_nothing _ _ _ _ _ (c.offset.ensures.offsets reads c.args.heap.now)))
+
+pub returns-in-Index-clause-step : goal.returns-in-Index-clause-step
+returns-in-Index-clause-step g c =
+    nothing_read _ _ _ _ c.index.ensures.read (refl, refl)
+    (λ items reads. let more : reads + 0 ≡ reads = omega arith in rw (more, c.in-Index.ensures.is) (told_nothing _ _ _ _ _ (c.index.ensures.indexes reads c.args.heap.now)))
