@@ -5,7 +5,7 @@ use Rattle.std.specs.List.{Contains}
 use Rattle.std.proofs.lemmas.List.{get_or-map, length-map}
 use Rattle.std.proofs.lemmas.Option.{slice_get_cases, slice_get_within, get_or_from_slice_get}
 use Rattle.std.proofs.lemmas.List.Elements.{Contains-append_left, Contains-append_right, Contains-push, Contains-push_cases, Contains-append_cases}
-use Rattle.typed.specs.Syntax.{Ex, Exs, Pl, Steps, local, global, here, inner, at_index, Left, blank, new, to, Piece, Over, St, Sts, Func, Program, constant, read, unary, binary, both, either, call, part_of, literal, Elements, no_elements, element, none, more, results, asked, text, shown, over_int, declare, assign, update, bump, discard, block, choose, loop, range, break_off, go_on, give_back, print, raise, quit, done, next}
+use Rattle.typed.specs.Syntax.{Ex, Exs, Pl, Steps, local, global, here, inner, at_index, Left, blank, new, to, Piece, Over, St, Sts, Func, Program, constant, read, unary, binary, both, either, call, part_of, literal, Elements, no_elements, element, none, more, results, asked, text, shown, over_int, over_length, over_copy, declare, assign, update, bump, discard, block, choose, loop, range, break_off, go_on, give_back, print, raise, quit, done, next}
 use Rattle.call_order.specs.Calls.{ExCalls, ExsCall, PlaceCalls, StepsCall, ElementsCall, LeftCalls, LeftsCall, PieceCalls, PiecesCall, TestCalls, OverCalls, StCalls, StsCall, Calls}
 use Rattle.call_order.specs.Lists.{called, called_all, called_in_place, called_in_steps, called_in_elements, called_in_left, called_in_lefts, called_in_piece, called_in_pieces, called_in_test, called_in_over, called_by, called_by_all, call_lists}
 use Rattle.call_order.specs.Order.{Reaches, itself, by_call}
@@ -74,6 +74,8 @@ test_calls (Some e) g c = ex_calls e g c
 
 over_calls : (o : Over) (g : ℕ) → Contains (called_in_over o) g → OverCalls o g
 over_calls (over_int e) g c = ex_calls e g c
+over_calls (over_length x) g c = contains_nil g c
+over_calls (over_copy site e x) g c = ex_calls e g c
 
 left_calls : (l : Left) (g : ℕ) → Contains (called_in_left l) g → LeftCalls l g
 left_calls blank g c = contains_nil g c
@@ -154,6 +156,8 @@ in_test (Some e) g c = in_ex e g c
 
 in_over : (o : Over) (g : ℕ) → OverCalls o g → Contains (called_in_over o) g
 in_over (over_int e) g c = in_ex e g c
+in_over (over_length x) g c = absurd c
+in_over (over_copy site e x) g c = in_ex e g c
 
 in_left : (l : Left) (g : ℕ) → LeftCalls l g → Contains (called_in_left l) g
 in_left blank g c = absurd c

@@ -1,6 +1,6 @@
 -- Which functions a function calls: a call counts wherever it stands in the text of the body.
 use Rattle.std.specs.Prelude.{◌≡◌, ◌⊎◌, ℕ, List, [], ◌∷◌, Option, Some, None, slice_get}
-use Rattle.typed.specs.Syntax.{Ex, Exs, Pl, Steps, local, global, here, inner, at_index, Left, blank, new, to, Piece, Over, St, Sts, Func, Program, constant, read, unary, binary, both, either, call, part_of, literal, Elements, no_elements, element, none, more, results, asked, text, shown, over_int, declare, assign, update, bump, discard, block, choose, loop, range, break_off, go_on, give_back, print, raise, quit, done, next}
+use Rattle.typed.specs.Syntax.{Ex, Exs, Pl, Steps, local, global, here, inner, at_index, Left, blank, new, to, Piece, Over, St, Sts, Func, Program, constant, read, unary, binary, both, either, call, part_of, literal, Elements, no_elements, element, none, more, results, asked, text, shown, over_int, over_length, over_copy, declare, assign, update, bump, discard, block, choose, loop, range, break_off, go_on, give_back, print, raise, quit, done, next}
 
 -- an expression, or some expressions, have a call of a function
 abbrev mutual
@@ -51,6 +51,8 @@ TestCalls (Some e) g = ExCalls e g
 
 abbrev pub OverCalls : Over → ℕ → Type 0
 OverCalls (over_int e) g = ExCalls e g
+OverCalls (over_length x) g = ⊥
+OverCalls (over_copy site e x) g = ExCalls e g
 
 abbrev pub LeftCalls : Left → ℕ → Type 0
 LeftCalls blank g = ⊥

@@ -31,7 +31,7 @@ pub add_stmt-returns-in_ok-add_expr-in-Count : goal.add_stmt-returns-in_ok-add_e
 add_stmt-returns-in_ok-add_expr-in-Count t c =
     let e = called (ex_of c.in-Count.e) in
     let body = called_by_all (sts_of c.in-Count.body.items) in
-    let silent = key_silent c.in-Count.key in
+    let silent = key_silent c.in-Count.field-1 in
     let whole : called_by (st_of c.args.s.now) ≡ e ++ body = grind (arith, stmt_rows, silent) in
     let second = rw c.deref-in-Count.ensures.value at c.add_stmts-in-Count.ensures in
     on_ok_weaker c.add_stmts-in-Count.result (λ last. two_lists c.args.calls.now.items c.add_expr-in-Count.new.calls.items c.add_stmts-in-Count.new.calls.items e body (called_by (st_of c.args.s.now)) c.in_ok-add_expr-in-Count.ensures last whole) second
