@@ -14,11 +14,11 @@ use Rattle.typed.specs.declared.operators.UnOp.{UnOp}
 use Rattle.typed.specs.declared.operators.UnOp.TheVariants as One
 use Rattle.value_trees.specs.Types.{ValueType, ints, bools, struct_of, array_of, width, part_type, part_offset}
 use Rattle.value_trees.specs.Paths.{offset}
-use Rattle.typed.specs.Syntax.{Ex, Exs, Steps, here, inner, at_index, Pl, Left, Piece, St, Sts, Func, Program, constant, read, unary, binary, both, either, call, part_of, literal, Elements, no_elements, element, local, global, none, more, results, asked, blank, new, to, text, shown, over_int, declare, assign, update, bump, discard, block, choose, loop, range, break_off, go_on, give_back, print, raise, quit, done, next, all_width, each_width, arguments_in, results_in, argument_words, result_words, arguments_of, results_of, site_width, path_of, wide, all_wide, value_widths, ascend, words_through, gap_behind}
+use Rattle.typed.specs.Syntax.{Ex, Exs, Steps, here, inner, at_index, Pl, Left, Piece, St, Sts, Func, Program, constant, read, unary, binary, both, either, call, part_of, literal, Elements, no_elements, element, local, global, none, more, results, asked, blank, new, to, text, shown, over_int, over_length, over_copy, declare, assign, update, bump, discard, block, choose, loop, range, break_off, go_on, give_back, print, raise, quit, done, next, all_width, each_width, arguments_in, results_in, argument_words, result_words, arguments_of, results_of, site_width, path_of, wide, all_wide, value_widths, ascend, words_through, gap_behind}
 use Rattle.typed.specs.Form.{scope_in, body_first, IsInForm}
 use Rattle.typed.specs.Frames.{far, steps_far, words_between, frame_of}
 use Rattle.codegen.specs.Temps.{SiteFits, IndicesFit, PlaceFits, AddressFits, SitesFit, sites_words, reached, ParamsFitIn, LeftFits, LeftsFitIn, ValuesFit, RenewFits, CallFits, Fits, OperandsFit, StepsFitIn, ElementsFitIn, ExsFitIn, ReadyFitIn, PiecesFitIn, TestFitsIn, StFitsIn, StsFitIn, FuncFitsIn}
-use Rattle.simulated_code.specs.Code.{Slots, temp, site_slot, part_slot, part_words, moves, zeros, first_width, other_widths, operation, binary_code, unary_code, gap_code, gap_size, above_address, steps_above, place_above, lefts_above, index_code, steps_address, address_code, address_size, fetch_part, fetch_code, land_part, land_code, read_code, write_code, move_code, result_code, call_code, ex_code, exs_code, place_code, steps_code, elements_code, ready_code, place_size, steps_size, steps_end, place_end, elements_size, lefts_sized, lefts_end, pieces_code, test_code, shown_code, raised_code, show_more, show_plain, show_code, lefts_code, lefts_size, named_write_code, named_read_code, leave_code, values_code, params_code, zeros_code, renew_code, renew_size, size, exs_size, pieces_size, test_size, st_size, sts_size, st_code, sts_code, slots_of, entry_code, entry_size, func_code, func_size, entry_of, funcs_code, funcs_owners, funcs_entries, code_of}
+use Rattle.simulated_code.specs.Code.{Slots, temp, site_slot, site_type, part_slot, part_words, moves, zeros, first_width, other_widths, operation, binary_code, unary_code, gap_code, gap_size, above_address, steps_above, place_above, lefts_above, index_code, steps_address, address_code, address_size, fetch_part, fetch_code, land_part, land_code, read_code, write_code, move_code, result_code, call_code, ex_code, exs_code, place_code, steps_code, elements_code, ready_code, place_size, steps_size, steps_end, place_end, elements_size, lefts_sized, lefts_end, pieces_code, test_code, shown_code, raised_code, show_more, show_plain, show_code, lefts_code, lefts_size, element_code, array_code, named_write_code, named_read_code, leave_code, values_code, params_code, zeros_code, renew_code, renew_size, size, exs_size, pieces_size, test_size, st_size, sts_size, st_code, sts_code, slots_of, entry_code, entry_size, func_code, func_size, entry_of, funcs_code, funcs_owners, funcs_entries, code_of}
 use Rattle.simulated_code.proofs.Rooms.{steps_from}
 use Rattle.simulated_code.proofs.Sizes.{length_func, place_sum, place_ends, lefts_sum, lefts_ends}
 use Rattle.simulated_code.proofs.Stands.{same_some, start_of, some_size, length_owners, stands, located, entered_from, exists}
@@ -309,10 +309,35 @@ module _ (p : Program) (solid : (site : ℕ) → 0 < site_width p site) (outgoin
       join (write_code s q first at h) (lefts_code s (other_widths ns) ls above at (h + first_width ns)) (write_ok q first at h (omega (arith, l, k)) f.1.0 f.1.1 (omega (arith, b, c))) (lefts_ok (other_widths ns) ls above at (h + first_width ns) b f.3)
 
   -- the temps of the operands of the left side that gets an index
-  key_above : (key : Left) (h : ℕ) → h + 2 < temps → LeftFits s n (lefts_above (key ∷ []) (h + 2)) key → lefts_above (key ∷ []) (h + 2) ≤ temps
-  key_above blank h l f = omega (arith, l)
-  key_above (new site) h l f = omega (arith, l)
+  key_above : (key : Left) (h : ℕ) → h ≤ temps → LeftFits s n (lefts_above (key ∷ []) h) key → lefts_above (key ∷ []) h ≤ temps
+  key_above blank h l f = l
+  key_above (new site) h l f = l
   key_above (to q) h l f = let a = f.1 in omega (arith, a)
+
+  -- the element of a site's array, by the index in temp h
+  element_ok : (site x h v : ℕ) → SiteFits s n site → 0 < x → 0 < width (part_type (site_type s site) 0) → h < temps → v + 1 + width (part_type (site_type s site) 0) ≤ temps → Are (element_code s site x h v)
+  element_ok site x h v f some wide k l =
+      let own = site_in site f in let words = solid site in (
+        (omega (arith, l), omega (arith, k)),
+        (
+          (omega (arith, l, wide), omega (arith, own, words)),
+          ((omega (arith, some), omega (arith, wide), omega (arith, l, wide), omega (arith, l, wide), omega (arith, k)), ((omega (arith, wide), omega (arith, l), omega (arith, l, wide)), tt)),
+        ),
+      )
+
+  -- the rounds over an array's indices
+  array_ok : (x h test behind : ℕ) (round body : List Instr) → h + 1 < temps → Here test → Here behind → Are round → Are body → Are (array_code s x h test behind round body)
+  array_ok x h test behind round body l t b r k =
+      let last : List Instr = Const (temp s (h + 1)) 1 ∷ Bin Word.Add (temp s h) (temp s h) (temp s (h + 1)) ∷ Jump test ∷ [] in (
+        omega (arith, l),
+        (
+          omega (arith, l),
+          (
+            (omega (arith, l), omega (arith, l), omega (arith, l)),
+            ((omega (arith, l), b), join round (body ++ last) r (join body last k (omega (arith, l), ((omega (arith, l), omega (arith, l), omega (arith, l)), (t, tt))))),
+          ),
+        ),
+      )
 
   named_write_ok : (sites : List ℕ) (h : ℕ) → SitesFit s n sites → h + sites_words s sites ≤ temps → Are (named_write_code s sites h)
   named_write_ok [] h f l = tt
@@ -436,12 +461,42 @@ module _ (p : Program) (solid : (site : ℕ) → 0 < site_width p site) (outgoin
               (
                 (omega arith, here_behind),
                 join cl (cb ++ last)
-                    (join ready lefts (ready_ok (key ∷ []) (h + 2) (test + 2) (lefts_size (key ∷ [])) f.2 (omega arith) (omega arith)) (lefts_ok (1 ∷ []) (key ∷ []) (h + 2) first (h + 1) (key_above key h k f.3) (omega arith, f.3, f.4, tt)))
+                    (join ready lefts (ready_ok (key ∷ []) (h + 2) (test + 2) (lefts_size (key ∷ [])) f.2 (omega arith) (omega arith)) (lefts_ok (1 ∷ []) (key ∷ []) (h + 2) first (h + 1) (key_above key (h + 2) (omega (arith, k)) f.3) (omega arith, f.3, f.4, tt)))
                     (join cb last (sts_ok true body (h + 2) behind turn inside f.5 w (λ e. (here_behind, here_turn)) (omega arith) (omega arith))
                     (omega arith, ((omega arith, omega arith, omega arith), ((omega arith, omega arith), tt)))),
               ),
             ),
           )
+      st_ok looped (range (over_length x) key value body) h out again pc f w r a l =
+          let k = f.0 in
+          let first = lefts_above (key ∷ []) (h + 1) in
+          let inside = pc + 4 + lefts_sized p (key ∷ []) (lefts_size (key ∷ [])) in
+          let turn = inside + sts_len body in
+          let behind = turn + 3 in
+          let here_behind : Here behind = (omega arith, omega arith) in
+          let here_turn : Here turn = (omega arith, omega arith) in
+          let ready = ready_code p s (key ∷ []) (h + 1) (pc + 4) in let lefts = lefts_code s (1 ∷ []) (key ∷ []) (h + 1) first h in
+          array_ok x h (pc + 1) behind (ready ++ lefts) (code body (h + 1) behind turn inside) k (omega arith, omega arith) here_behind
+          (join ready lefts (ready_ok (key ∷ []) (h + 1) (pc + 4) (lefts_size (key ∷ [])) f.1 (omega arith) (omega arith)) (lefts_ok (1 ∷ []) (key ∷ []) (h + 1) first h (key_above key (h + 1) (omega (arith, k)) f.2) (omega (arith, k), f.2, f.3, tt)))
+          (sts_ok true body (h + 1) behind turn inside f.4 w (λ e. (here_behind, here_turn)) (omega arith) (omega arith))
+      st_ok looped (range (over_copy site e x) key value body) h out again pc f w r a l =
+          let k = f.0 in let words = f.2 in let above = f.7 in
+          let ls = key ∷ value ∷ [] in let v = lefts_above ls (h + 1) in let wide = width (part_type (site_type s site) 0) in
+          let begin = pc + size p e + 1 in
+          let inside = begin + 4 + lefts_sized p ls (4 + lefts_size ls) in
+          let turn = inside + sts_len body in
+          let behind = turn + 3 in
+          let here_behind : Here behind = (omega arith, omega arith) in
+          let here_turn : Here turn = (omega arith, omega arith) in
+          let ready = ready_code p s ls (h + 1) (begin + 4) in let element = element_code s site x h v in let lefts = lefts_code s (1 ∷ wide ∷ []) ls (h + 1) (v + 1 + wide) v in
+          let cb = code body (h + 1) behind turn inside in
+          let rounds = array_code s x h (begin + 1) behind (ready ++ (element ++ lefts)) cb in
+          join (ex_code p s e h pc) (moves (site_width p site) (site_slot s site) (temp s h) ∷ rounds) (ex_ok e h pc f.5 a (omega arith))
+          (moves_ok (site_width p site) (site_slot s site) (temp s h) rounds (solid site) (site_in site f.1) (omega (arith, words))
+          (array_ok x h (begin + 1) behind (ready ++ (element ++ lefts)) cb k (omega arith, omega arith) here_behind
+          (join ready (element ++ lefts) (ready_ok ls (h + 1) (begin + 4) (4 + lefts_size ls) f.6 (omega arith) (omega arith))
+          (join element lefts (element_ok site x h v f.1 f.3 f.4 (omega (arith, k)) above) (lefts_ok (1 ∷ wide ∷ []) ls (h + 1) (v + 1 + wide) v (omega (arith, above)) f.8)))
+          (sts_ok true body (h + 1) behind turn inside f.9 w (λ e. (here_behind, here_turn)) (omega arith) (omega arith))))
       st_ok looped break_off h out again pc f w r a l = ((r w).0, tt)
       st_ok looped go_on h out again pc f w r a l = ((r w).1, tt)
       st_ok looped (give_back es) h out again pc f w r a l =

@@ -2,15 +2,15 @@
 use Rattle.std.proofs.Common.{◌≡◌, ◌⊎◌, inl, inr, ℕ, zero, suc, ◌+◌, ◌<◌, ◌≤◌, pos, Bool, true, false, List, [], ◌∷◌, Some, length, map, get_or, arith, sym, subst, ap, ◌∙◌, refl}
 use Rattle.std.specs.Prelude.{Option, None, max, slice_get}
 use Rattle.std.proofs.lemmas.Option.{slice_get_within}
-use Rattle.value_trees.specs.Types.{ValueType, ints, bools, width, part_count, part_type, part_offset}
+use Rattle.value_trees.specs.Types.{ValueType, ints, bools, array_of, width, part_count, part_type, part_offset}
 use Rattle.value_trees.specs.Value.{int, bool, composite}
 use Rattle.value_trees.specs.Paths.{Leads, offset}
 use Rattle.value_trees.proofs.Parts.{element, leads_to, within}
-use Rattle.typed.specs.Syntax.{Ex, Exs, Pl, Steps, Left, Piece, St, Sts, Func, Program, constant, read, unary, binary, both, either, call, part_of, literal, Elements, no_elements, element as element_then, local, global, here, inner, at_index, none, more, results, asked, blank, new, to, text, shown, over_int, declare, assign, update, bump, discard, block, choose, loop, range, break_off, go_on, give_back, print, raise, quit, done, next, all_width, each_width, arguments_in, result_words, arguments_of, results_of, site_type, site_width, path_of, place_width, wide, all_wide, ascend, words_before, words_through, gap_behind}
+use Rattle.typed.specs.Syntax.{Ex, Exs, Pl, Steps, Left, Piece, St, Sts, Func, Program, constant, read, unary, binary, both, either, call, part_of, literal, Elements, no_elements, element as element_then, local, global, here, inner, at_index, none, more, results, asked, blank, new, to, text, shown, over_int, over_length, over_copy, declare, assign, update, bump, discard, block, choose, loop, range, break_off, go_on, give_back, print, raise, quit, done, next, all_width, each_width, arguments_in, result_words, arguments_of, results_of, site_type, site_width, path_of, place_width, wide, all_wide, ascend, words_before, words_through, gap_behind}
 use Rattle.typed.specs.Form.{PlFits, StepsLead, ElementsFit, InScope, AllInScope, births, births_all, new_sites, scope_behind, scope_with, scope_after, SitesNext, LeftsFit, ExFits, ExsFit, TestFits, PiecesFit, ReturnFits, StFits, StsFit, ParamsFit, NamedFit, named_params, params_scope, scope_in, body_first, FuncFits, IsInForm}
 use Rattle.typed.specs.Frames.{far, left_far, lefts_far, behind_values, place_need, steps_need, elements_need, lefts_need, place_reach, steps_reach, elements_reach, lefts_reach, need, need_all, need_pieces, reach, reach_all, reach_pieces, test_need, test_reach, widest, st_need, sts_need, st_reach, sts_reach}
 use Rattle.simulated_code.specs.Code.{Slots, other_widths, part_words, above_address, place_above, steps_above, lefts_above, slots_of}
-use Rattle.simulated_code.proofs.Rooms.{address_room, key_room, lefts_others, lefts_room, place_others, place_room}
+use Rattle.simulated_code.proofs.Rooms.{address_room, array_room, key_alone, key_room, lefts_others, lefts_room, place_others, place_room}
 use Rattle.simulated_code.proofs.Wide.{plain_one, takes_some, takes_one, place_is_of, wide_is, all_wide_is, widths_are}
 use Rattle.codegen.specs.Temps.{SiteFits, SitesFit, IndicesFit, PlaceFits, AddressFits, ParamsFitIn, LeftFits, left_words, LeftsFitIn, ValuesFit, RenewFits, CallFits, Fits, OperandsFit, StepsFitIn, ElementsFitIn, ExsFitIn, ReadyFitIn, PiecesFitIn, TestFitsIn, StFitsIn, StsFitIn, FuncFitsIn, reached, sites_words}
 use Rattle.codegen.proofs.Operands.{above_sum}
@@ -42,6 +42,11 @@ next_fit s n m (site ∷ sites) a f = (
 -- a part is within its whole
 part_within : (t : ValueType) (i : ℕ) → i < part_count t → part_offset t i + width (part_type t i) ≤ width t
 part_within t i l = let k = within t (part_type t i) (i ∷ []) (l, refl) in omega (arith, k)
+
+-- an array with words has elements
+array_some : (x : ℕ) (r : ValueType) → 0 < width (array_of x r) → 0 < x
+array_some zero r l = l
+array_some (suc x) r l = omega arith
 
 module _ (p : Program) (form : IsInForm p) where
   -- steps lead to a part, whatever their indices are
@@ -346,17 +351,49 @@ module _ (p : Program) (form : IsInForm p) where
             sts_fit true h (m + births_all post) scope body (omega arith) b f.3 (omega arith) (omega arith),
           )
           st_fits looped h m scope (range (over_int e) key blank body) a b f k o =
-              let above = key_room p temps h key (omega arith) in let calls = lefts_others p (sts_reach p body) (key ∷ []) in
+              let above = key_room p temps h key (omega arith) in let calls = lefts_others p (sts_reach p body) (key ∷ []) in let alone = key_alone p key (sts_reach p body) in
               let fit = key_fits (lefts_above (key ∷ []) (h + 2)) scope m key a b f.1 (lefts_room p temps (h + 2) (left_far key) (key ∷ []) above) in (
                 omega arith,
                 ex_fits h scope ints e b f.0 (omega arith) (omega arith),
-                ready_fit (h + 2) scope m (first + n) (ints ∷ []) (key ∷ []) (left_far key) (sts_reach p body) b f.1 above (omega (arith, o)),
+                ready_fit (h + 2) scope m (first + n) (ints ∷ []) (key ∷ []) (left_far key) (sts_reach p body) b f.1 above (omega (arith, alone, o)),
                 fit.0,
                 fit.1,
-                sts_fit true (h + 2) (m + new_sites (key ∷ [])) (scope_behind scope (key ∷ [])) body (omega arith) (below_behind m scope scope (ints ∷ []) (key ∷ []) a b f.1) f.2 (omega arith) (omega (arith, calls, o)),
+                sts_fit true (h + 2) (m + new_sites (key ∷ [])) (scope_behind scope (key ∷ [])) body (omega arith) (below_behind m scope scope (ints ∷ []) (key ∷ []) a b f.1) f.2 (omega arith) (omega (arith, calls, alone, o)),
               )
           st_fits looped h m scope (range (over_int e) key (new site) body) a b f k o = absurd f
           st_fits looped h m scope (range (over_int e) key (to q) body) a b f k o = absurd f
+          st_fits looped h m scope (range (over_length x) key blank body) a b f k o =
+              let above = array_room p temps h key (omega arith) in let calls = lefts_others p (sts_reach p body) (key ∷ []) in let alone = key_alone p key (sts_reach p body) in
+              let fit = key_fits (lefts_above (key ∷ []) (h + 1)) scope m key a b f.1 (lefts_room p temps (h + 1) (left_far key) (key ∷ []) above) in (
+                omega arith,
+                ready_fit (h + 1) scope m (first + n) (ints ∷ []) (key ∷ []) (left_far key) (sts_reach p body) b f.1 above (omega (arith, alone, o)),
+                fit.0,
+                fit.1,
+                sts_fit true (h + 1) (m + new_sites (key ∷ [])) (scope_behind scope (key ∷ [])) body (omega arith) (below_behind m scope scope (ints ∷ []) (key ∷ []) a b f.1) f.2 (omega arith) (omega (arith, calls, alone, o)),
+              )
+          st_fits looped h m scope (range (over_length x) key (new site) body) a b f k o = absurd f
+          st_fits looped h m scope (range (over_length x) key (to q) body) a b f k o = absurd f
+          st_fits looped h m scope (range (over_copy site e x) key value body) a b (r, is, wide, few, place, within_n, fit, lefts, inner_fit) k o =
+              let ls = key ∷ value ∷ [] in let v = lefts_above ls (h + 1) in let w = width (part_type (site_type p site) 0) in
+              let behind = max (1 + w) (behind_values (1 + w) (lefts_far ls)) in
+              let room = lefts_room p temps (h + 1) behind ls (omega arith) in let calls = lefts_others p (sts_reach p body) ls in
+              let own : SiteFits s n site = (omega (arith, place, a), within_n) in
+              let around = below_more s n site scope own b in
+              let some : 0 < x = array_some x r (subst (λ u. 0 < width u) is (form.solid site)) in
+              let same : w ≡ width r = ap width (ap (λ u. part_type u 0) is ∙ ((element x r r 0 [] some).leads refl).1) in
+              let words = ap width is in let wanted = wide_need scope (array_of x r) e fit in let long = wide_is p scope (array_of x r) e fit in
+              let address = address_room temps v (1 + w) (lefts_far ls) (omega (arith, room)) (omega (arith, room)) in (
+                omega arith,
+                own,
+                omega (arith, words, wanted, long, k),
+                some,
+                omega (arith, same, wide),
+                ex_fits h scope (array_of x r) e b fit (omega arith) (omega (arith, o)),
+                ready_fit (h + 1) (site ∷ scope) m (first + n) (ints ∷ r ∷ []) ls behind (sts_reach p body) around lefts (omega arith) (omega (arith, o)),
+                omega (arith, room),
+                subst (λ j. LeftsFitIn s n (v + 1 + w) v (1 ∷ j ∷ []) ls) (sym same) (lefts_fit (v + 1 + w) v (site ∷ scope) m (ints ∷ r ∷ []) ls a around lefts (omega (arith, room, same)) (omega (arith, address))),
+                sts_fit true (h + 1) (m + new_sites ls + 1) (scope_behind (site ∷ scope) ls) body (omega (arith, a)) (below_behind m (site ∷ scope) (site ∷ scope) (ints ∷ r ∷ []) ls a around lefts) inner_fit (omega arith) (omega (arith, calls, o)),
+              )
           st_fits looped h m scope break_off a b f k o = tt
           st_fits looped h m scope go_on a b f k o = tt
           st_fits looped h m scope (give_back es) a b f k o = (returned h scope es b f (omega arith) o, return_fits h scope es f (omega arith))

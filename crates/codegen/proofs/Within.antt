@@ -1,7 +1,7 @@
 -- Strings that there are, and `break` and `continue` inside loops alone.
 use Rattle.std.specs.Prelude.{◌≡◌, ℕ, ◌+◌, ◌<◌, ⊤, Bool, true, false, List, [], ◌∷◌, length}
 use Rattle.value_trees.specs.Types.{ValueType}
-use Rattle.typed.specs.Syntax.{Piece, St, Sts, Program, blank, new, to, text, shown, over_int, declare, assign, update, bump, discard, block, choose, loop, range, break_off, go_on, give_back, print, raise, quit, done, next}
+use Rattle.typed.specs.Syntax.{Piece, St, Sts, Program, blank, new, to, text, shown, over_int, over_length, over_copy, declare, assign, update, bump, discard, block, choose, loop, range, break_off, go_on, give_back, print, raise, quit, done, next}
 use Rattle.typed.specs.Form.{births, births_all, new_sites, scope_behind, scope_after, PieceFits, PiecesFit, StFits, StsFit}
 
 abbrev pub PieceWithin : (strings : ℕ) → Piece → Type 0
@@ -58,6 +58,11 @@ module _ (p : Program) (wanted : List ValueType) (named : ℕ) where
     st_within looped scope m n (range (over_int e) key blank body) f = sts_within true (scope_behind scope (key ∷ [])) (m + new_sites (key ∷ [])) n body f.2
     st_within looped scope m n (range (over_int e) key (new site) body) f = absurd f
     st_within looped scope m n (range (over_int e) key (to q) body) f = absurd f
+    st_within looped scope m n (range (over_length x) key blank body) f = sts_within true (scope_behind scope (key ∷ [])) (m + new_sites (key ∷ [])) n body f.2
+    st_within looped scope m n (range (over_length x) key (new site) body) f = absurd f
+    st_within looped scope m n (range (over_length x) key (to q) body) f = absurd f
+    st_within looped scope m n (range (over_copy site e x) key value body) f =
+        sts_within true (scope_behind (site ∷ scope) (key ∷ value ∷ [])) (m + new_sites (key ∷ value ∷ []) + 1) n body f.8
     st_within looped scope m n break_off f = f
     st_within looped scope m n go_on f = f
     st_within looped scope m n (give_back es) f = tt

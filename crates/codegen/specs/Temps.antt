@@ -2,7 +2,7 @@
 use Rattle.std.specs.Prelude.{◌≡◌, ℕ, zero, suc, ◌+◌, ◌<◌, ◌≤◌, Bool, true, false, List, [], ◌∷◌, Option, Some, None, length}
 use Rattle.value_trees.specs.Types.{ValueType, width, part_type, part_offset}
 use Rattle.value_trees.specs.Paths.{offset}
-use Rattle.typed.specs.Syntax.{Ex, Exs, Pl, Steps, here, inner, at_index, Left, Piece, St, Sts, Func, Program, constant, read, unary, binary, both, either, call, part_of, literal, Elements, no_elements, element, local, global, none, more, results, asked, blank, new, to, text, shown, over_int, declare, assign, update, bump, discard, block, choose, loop, range, break_off, go_on, give_back, print, raise, quit, done, next, argument_words, result_words, arguments_of, results_of, path_of, wide, all_wide, each_width, value_widths, ascend, words_through, gap_behind}
+use Rattle.typed.specs.Syntax.{Ex, Exs, Pl, Steps, here, inner, at_index, Left, Piece, St, Sts, Func, Program, constant, read, unary, binary, both, either, call, part_of, literal, Elements, no_elements, element, local, global, none, more, results, asked, blank, new, to, text, shown, over_int, over_length, over_copy, declare, assign, update, bump, discard, block, choose, loop, range, break_off, go_on, give_back, print, raise, quit, done, next, argument_words, result_words, arguments_of, results_of, path_of, wide, all_wide, each_width, value_widths, ascend, words_through, gap_behind}
 use Rattle.typed.specs.Frames.{far}
 use Rattle.simulated_code.specs.Code.{Slots, site_type, site_words, part_words, first_width, other_widths, above_address, place_above, lefts_above, slots_of}
 
@@ -158,6 +158,13 @@ module _ (p : Program) (s : Slots) (n : ℕ) where
       StFitsIn h (choose e a b) = (h < s.temps) × Fits h e × StsFitIn h a × StsFitIn h b
       StFitsIn h (loop sites test post body) = TestFitsIn h test × SitesFit s n sites × RenewFits s h sites × StsFitIn h post × StsFitIn h body
       StFitsIn h (range (over_int e) key value body) = (h + 2 < s.temps) × Fits h e × ReadyFitIn (h + 2) (key ∷ []) × LeftFits s n (lefts_above (key ∷ []) (h + 2)) key × (left_words s key ≤ 1) × StsFitIn (h + 2) body
+      StFitsIn h (range (over_length x) key value body) =
+          (h + 1 < s.temps) × ReadyFitIn (h + 1) (key ∷ []) × LeftFits s n (lefts_above (key ∷ []) (h + 1)) key × (left_words s key ≤ 1) × StsFitIn (h + 1) body
+      -- the copy has elements with words; the left sides get the index and an element
+      StFitsIn h (range (over_copy site e x) key value body) =
+          let w = width (part_type (site_type s site) 0) in let v = lefts_above (key ∷ value ∷ []) (h + 1) in
+          (h + 1 < s.temps) × SiteFits s n site × (h + site_words s site ≤ s.temps) × (0 < x) × (0 < w) × Fits h e × ReadyFitIn (h + 1) (key ∷ value ∷ []) × (v + 1 + w ≤ s.temps)
+          × LeftsFitIn s n (v + 1 + w) v (1 ∷ w ∷ []) (key ∷ value ∷ []) × StsFitIn (h + 1) body
       StFitsIn h break_off = Unit {0}
       StFitsIn h go_on = Unit {0}
       StFitsIn h (give_back es) = ExsFitIn h es × ValuesFit s wanted h (all_wide p es) named
