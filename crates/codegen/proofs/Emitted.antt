@@ -16,7 +16,7 @@ use Rattle.typed.specs.declared.stmt.Left.TheVariants.{Blank, New, To}
 use Rattle.typed.specs.declared.stmt.Piece.{Piece as PieceData}
 use Rattle.typed.specs.declared.stmt.Stmt.{Stmt}
 use Rattle.typed.specs.Frames.{far}
-use Rattle.typed.specs.Syntax.{Ex, Exs, Left, Piece, Sts, Program, both, either, more, blank, new, to, text, shown, over_int, choose, loop, range, next, wide, all_wide, value_widths}
+use Rattle.typed.specs.Syntax.{Ex, Exs, Left, Piece, Sts, Program, both, either, more, text, shown, over_int, choose, loop, range, next, wide, all_wide, value_widths}
 use Rattle.typed.specs.View.{ex_of, exs_of, left_of, piece_of, place_of, site_in, st_of, sts_of}
 use Rattle.codegen.specs.Frame.{assign_code, bump_code, left_code, param_code, temp_behind, update_code}
 use Rattle.codegen.specs.Temps.{ExsFitIn, LeftFits, LeftsFitIn, ParamFits, ParamsFitIn, PiecesFitIn, StsFitIn}

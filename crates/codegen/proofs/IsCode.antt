@@ -18,7 +18,7 @@ use Rattle.typed.specs.Syntax.{Ex, Exs, Steps, here, inner, at_index, Pl, Left, 
 use Rattle.typed.specs.Form.{scope_in, body_first, IsInForm}
 use Rattle.typed.specs.Frames.{far, steps_far, words_between, frame_of}
 use Rattle.codegen.specs.Temps.{SiteFits, IndicesFit, PlaceFits, AddressFits, SitesFit, sites_words, reached, ParamsFitIn, LeftFits, LeftsFitIn, ValuesFit, RenewFits, CallFits, Fits, OperandsFit, StepsFitIn, ElementsFitIn, ExsFitIn, ReadyFitIn, PiecesFitIn, TestFitsIn, StFitsIn, StsFitIn, FuncFitsIn}
-use Rattle.simulated_code.specs.Code.{Slots, temp, site_slot, site_type, part_slot, part_words, moves, zeros, first_width, other_widths, operation, binary_code, unary_code, gap_code, gap_size, above_address, steps_above, place_above, lefts_above, index_code, steps_address, address_code, address_size, fetch_part, fetch_code, land_part, land_code, read_code, write_code, move_code, result_code, call_code, ex_code, exs_code, place_code, steps_code, elements_code, ready_code, place_size, steps_size, steps_end, place_end, elements_size, lefts_sized, lefts_end, pieces_code, test_code, shown_code, raised_code, show_more, show_plain, show_code, lefts_code, lefts_size, element_code, array_code, named_write_code, named_read_code, leave_code, values_code, params_code, zeros_code, renew_code, renew_size, size, exs_size, pieces_size, test_size, st_size, sts_size, st_code, sts_code, slots_of, entry_code, entry_size, func_code, func_size, entry_of, funcs_code, funcs_owners, funcs_entries, code_of}
+use Rattle.simulated_code.specs.Code.{Slots, temp, site_slot, site_type, part_slot, part_words, moves, zeros, first_width, other_widths, operation, binary_code, unary_code, gap_code, gap_size, above_address, steps_above, place_above, lefts_above, index_code, steps_address, address_code, address_size, fetch_part, fetch_code, land_part, land_code, read_code, write_code, move_code, result_code, call_code, ex_code, exs_code, place_code, steps_code, elements_code, ready_code, place_size, steps_size, place_end, elements_size, lefts_sized, lefts_end, pieces_code, test_code, shown_code, raised_code, show_more, show_plain, show_code, lefts_code, lefts_size, element_code, array_code, named_write_code, named_read_code, leave_code, values_code, params_code, zeros_code, renew_code, renew_size, size, exs_size, pieces_size, test_size, st_size, sts_size, st_code, sts_code, slots_of, entry_code, entry_size, func_code, func_size, entry_of, funcs_code, funcs_owners, funcs_entries, code_of}
 use Rattle.simulated_code.proofs.Rooms.{steps_from}
 use Rattle.simulated_code.proofs.Sizes.{length_func, place_sum, place_ends, lefts_sum, lefts_ends}
 use Rattle.simulated_code.proofs.Stands.{same_some, start_of, some_size, length_owners, stands, located, entered_from, exists}
@@ -169,7 +169,7 @@ module _ (p : Program) (solid : (site : ℕ) → 0 < site_width p site) (outgoin
 
   address_ok : (q : Pl) (first at : ℕ) (is : List Instr) → AddressFits temps at q → place_above q first ≤ temps → PlaceFits s n q → Are is → Are (address_code s q first at ++ is)
   address_ok (local site steps) first at is a l f g =
-      let k = part_in site steps f in let some = f.1 in steps_address_ok (site_slot s site) (site_type p site) steps first at is a l f.3 (omega (arith, k, some)) g
+      let k = part_in site steps f in let some = f.1 in steps_address_ok (site_slot s site) (site_type s site) steps first at is a l f.3 (omega (arith, k, some)) g
   address_ok (global number steps) first at is a l f g = (omega (arith, a), g)
 
   fetch_part_ok : (site : ℕ) (steps : Steps) (k at h : ℕ) (is : List Instr) → h + part_words s site (path_of steps) ≤ temps → PlaceFits s n (local site steps) → at + k ≤ temps → Are is → Are (fetch_part s site steps k at h ∷ is)

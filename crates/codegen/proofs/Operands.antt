@@ -1,5 +1,5 @@
 -- Temps above the operands of places and left sides, and above an address.
-use Rattle.std.proofs.Common.{◌≡◌, ℕ, zero, suc, ◌+◌, ◌≤◌, List, [], ◌∷◌, arith}
+use Rattle.std.proofs.Common.{◌≡◌, ℕ, ◌+◌, ◌≤◌, List, [], ◌∷◌, arith}
 use Rattle.typed.specs.Syntax.{Program, Pl, Steps, Left, local, global, here, inner, at_index, blank, new, to}
 use Rattle.typed.specs.Frames.{far, steps_far}
 use Rattle.simulated_code.specs.Code.{above_address, place_above, lefts_above}

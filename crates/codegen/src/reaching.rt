@@ -1,5 +1,5 @@
 //! The code that reaches places: local variables in their slots, package variables by their addresses.
-ghost use Rattle.std.specs.Prelude.{◌≡◌, ◌+◌, ◌≤◌, ◌++◌, ◌∷◌, [], OnOk, length};
+ghost use Rattle.std.specs.Prelude.{◌≡◌, ◌+◌, ◌<◌, ◌≤◌, ◌++◌, ◌∷◌, [], OnOk, length};
 ghost use Rattle.typed.specs.View.{place_of, program_of};
 ghost use Rattle.typed.specs.Frames.{far};
 ghost use Rattle.codegen.specs.Frame.{slots_in, IsSmall};

@@ -10,7 +10,7 @@ use Rattle.codegen.proofs.values.+values.Goals as goal
 pub emit_expr-returns-in_ok-emit_binary-in-Binary : goal.emit_expr-returns-in_ok-emit_binary-in-Binary
 emit_expr-returns-in_ok-emit_binary-in-Binary t c =
     let shape : ex_of c.args.e.now ≡ binary c.in-Binary.field-0 c.in-Binary.op (ex_of c.deref-a-in-Binary.result.now) (ex_of c.deref-b.result.now) = grind (arith, expr_rows) in
-    rw shape (binary_emitted (program_of c.args.program.now) (slots_in c.args.program.now c.args.frame) c.args.code.now.items _ _ _ _ (ex_of c.deref-a-in-Binary.result.now) (ex_of c.deref-b.result.now) c.args.h _ c.in_ok-n.ensures c.in_ok-emit_expr-in-Binary.ensures c.in_ok-emit_expr-in-Binary-2.ensures c.in_ok-emit_binary-in-Binary.ensures)
+    rw shape (binary_emitted (program_of c.args.program.now) (slots_in c.args.program.now c.args.frame) c.args.code.now.items _ _ _ _ (ex_of c.deref-a-in-Binary.result.now) (ex_of c.deref-b.result.now) c.args.h _ c.in_ok-n-in-Binary.ensures c.in_ok-emit_expr-in-Binary.ensures c.in_ok-emit_expr-in-Binary-2.ensures c.in_ok-emit_binary-in-Binary.ensures)
 
 pub emit_expr-returns-in_ok-emit_expr-in-Both-2 : goal.emit_expr-returns-in_ok-emit_expr-in-Both-2
 emit_expr-returns-in_ok-emit_expr-in-Both-2 t c =

@@ -9,4 +9,4 @@ pub stmt_reach-returns-in-Assign : goal.stmt_reach-returns-in-Assign
 stmt_reach-returns-in-Assign t c =
     let p = program_of c.args.program.now in
     rw (c.in-Assign.is)
-      (subst (λ k. IfOk c.values_reach.result (λ n. n ≡ k)) (sym (lefts_reaches p c.in-Assign.field-0.items (reach_all p (exs_of_values c.in-Assign.values)))) c.values_reach.ensures)
+    (subst (λ k. IfOk c.values_reach.result (λ n. n ≡ k)) (sym (lefts_reaches p c.in-Assign.field-0.items (reach_all p (exs_of_values c.in-Assign.values)))) c.values_reach.ensures)
