@@ -12,7 +12,7 @@ use Rattle.syntax.specs.Statements.{Simple, ValueSpec, Guard, Clause, forever, w
 use Rattle.syntax.specs.Statements as tree
 use Rattle.typed.specs.declared.operators.BinOp.{BinOp as TypedOp}
 use Rattle.typed.specs.declared.operators.BinOp.TheVariants as op
-use Rattle.typed.specs.Syntax.{Exs, Left, St, Sts, constant as constant_of, unary as unary_of, binary as binary_of, both as both_of, either as either_of, call as call_of, read, declare, block, choose, loop, break_off, go_on, give_back, none, done, next}
+use Rattle.typed.specs.Syntax.{Exs, Left, St, Sts, constant as constant_of, unary as unary_of, binary as binary_of, both as both_of, either as either_of, call as call_of, part_of, literal, read, declare, block, choose, loop, break_off, go_on, give_back, none, done, next}
 use Rattle.typed.specs.Form.{ends, ends_all, breaks, breaks_all}
 use Rattle.value_types.specs.declared.value_type.ValueType.TheVariants.{Int, Bool as Truth}
 use Rattle.value_types.specs.Given.{both}
@@ -92,12 +92,16 @@ updated_still (value u (binary_of at o (binary_of at1 g a b) e)) t is = absurd (
 updated_still (value u (binary_of at o (both_of a b) e)) t is = absurd (none_some is)
 updated_still (value u (binary_of at o (either_of a b) e)) t is = absurd (none_some is)
 updated_still (value u (binary_of at o (call_of f es) e)) t is = absurd (none_some is)
+updated_still (value u (binary_of at o (part_of n i a) e)) t is = absurd (none_some is)
+updated_still (value u (binary_of at o (literal n es) e)) t is = absurd (none_some is)
 updated_still (value u (constant_of v)) t is = absurd (none_some is)
 updated_still (value u (read q)) t is = absurd (none_some is)
 updated_still (value u (unary_of g a)) t is = absurd (none_some is)
 updated_still (value u (both_of a b)) t is = absurd (none_some is)
 updated_still (value u (either_of a b)) t is = absurd (none_some is)
 updated_still (value u (call_of f es)) t is = absurd (none_some is)
+updated_still (value u (part_of n i a)) t is = absurd (none_some is)
+updated_still (value u (literal n es)) t is = absurd (none_some is)
 
 stepped_still : (o : TypedOp) (x : Operand) (t : St) → stepped o x ≡ Some t → IsStill t
 stepped_still o (constant c) t is = absurd (none_some is)
@@ -109,6 +113,8 @@ stepped_still o (value Int (binary_of at g a b)) t is = absurd (none_some is)
 stepped_still o (value Int (both_of a b)) t is = absurd (none_some is)
 stepped_still o (value Int (either_of a b)) t is = absurd (none_some is)
 stepped_still o (value Int (call_of f es)) t is = absurd (none_some is)
+stepped_still o (value Int (part_of n i a)) t is = absurd (none_some is)
+stepped_still o (value Int (literal n es)) t is = absurd (none_some is)
 
 expressed_still : (k : ℕ) (g : Gives) (t : St) → expressed k g ≡ Some t → IsStill t
 expressed_still k (one x) t is = absurd (none_some is)
