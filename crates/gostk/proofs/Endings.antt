@@ -4,13 +4,13 @@ use Rattle.std.specs.Prelude.{⊤, nat_lt}
 use Rattle.std.proofs.lemmas.Bool.{ltb-true}
 use Rattle.base.specs.declared.pos.Pos.{Pos}
 use Rattle.value_trees.specs.Value.{Value, int}
-use Rattle.typed.specs.Syntax.{Ex, Exs, Pl, Steps, Left, Piece, St, Sts, Func, Program, constant, read, unary, binary, both, either, call, none, more, results, asked, local, global, here, inner, blank, new, to, text, shown, over_int, declare, assign, update, bump, discard, block, choose, loop, range, break_off, go_on, give_back, print, raise, quit, done, next}
+use Rattle.typed.specs.Syntax.{Ex, Exs, Pl, Steps, Elements, Left, Piece, Over, St, Sts, Func, Program, constant, read, unary, binary, both, either, call, part_of, literal, no_elements, element, none, more, results, asked, local, global, here, inner, at_index, blank, new, to, text, shown, over_int, over_length, over_copy, declare, assign, update, bump, discard, block, choose, loop, range, break_off, go_on, give_back, print, raise, quit, done, next}
 use Rattle.simulation.specs.Outcome as Run
 use Rattle.simulation.specs.Outcome.{Outcome, Gives, Ends, Unfinished, upto, ending_in}
 use Rattle.meaning.specs.Trace.{World, Call, Return, Born, Read, Write, Print, Fault, exit_code, Ending, Turns, Exit, Panic, StackLimit, HeapLimit, Trace, Turn, Note, Seen, End, Cut, Asked}
 use Rattle.meaning.specs.Store.{read_at, written}
 use Rattle.meaning.specs.Operators.{unary_of, binary_of}
-use Rattle.meaning.specs.Meaning.{Go, Then, Env, Ways, Calls, stop, write_part, no_pos, Item, Setting, counted, count_of, int_of, quit_with, give, or_panic, holding, holding_all, when, is_true, Step, fixed, Aim, Spot, settle_steps, settle, walk, aim, ev, evs, Landing, nowhere, birth, on, landing_values, ready, ready_all, land, land_all, shown_bytes, emit_more, emit_plain, emit, pieces, test_of, renew, rounds, to_next, exec, exec_all, bear_params, bear_zeros, write_results, read_results, leave, leave_with, run_body, call_at, bear_globals, setting_of, at_top, beginning, trace}
+use Rattle.meaning.specs.Meaning.{Go, Then, Env, Ways, Calls, home, read_part, stop, write_part, no_pos, Item, Setting, counted, count_of, int_of, quit_with, give, or_panic, holding, holding_all, when, is_true, Step, fixed, worked, element_of, Aim, Spot, settle_steps, settle, walk, aim, ev, fill, evs, Landing, nowhere, birth, on, landing_values, ready, ready_all, land, land_all, shown_bytes, emit_more, emit_plain, emit, pieces, test_of, renew, rounds, to_next, to_next_count, in_loop, outside, begin_range, index_round, element_round, range_round, exec, exec_all, bear_params, bear_zeros, write_results, read_results, leave, leave_with, run_body, call_at, bear_globals, setting_of, at_top, beginning, trace}
 use Rattle.meaning.specs.Output.{Limits, Sight, out, source, used_by, tail_of}
 
 abbrev IsGood : Ending → Type 0
@@ -46,16 +46,17 @@ good_holding ws v s = record { broken = s.broken; continued = s.continued; retur
 good_holding_all : (ws : Ways) (vs : List Value) → GoodWays ws → GoodWays (holding_all ws vs)
 good_holding_all ws vs s = record { broken = s.broken; continued = s.continued; returned = s.returned; panicked = s.panicked }
 
-good_or_panic : (ws : Ways) (env : Env) (at : Pos) (r : Result Value Fault) (k : Then Value) → GoodWays ws → GoodThen k → Good (or_panic ws env at r k)
+good_or_panic : {A : Type 0} (ws : Ways) (env : Env) (at : Pos) (r : Result A Fault) (k : Then A) → GoodWays ws → GoodThen k → Good (or_panic ws env at r k)
 good_or_panic ws env at (Ok v) k s h = h v
 good_or_panic ws env at (Err f) k s h = s.panicked at f env
 
-good_steps : (steps : List Step) (v : ℕ) (path : List ℕ) (k : Then Spot) → GoodThen k → Good (settle_steps steps v path k)
-good_steps [] v path k h = h _
-good_steps (fixed i ∷ steps) v path k h = good_steps steps v _ k h
+good_steps : (ws : Ways) (env : Env) (steps : List Step) (v : ℕ) (path : List ℕ) (k : Then Spot) → GoodWays ws → GoodThen k → Good (settle_steps ws env steps v path k)
+good_steps ws env [] v path k s h = h _
+good_steps ws env (fixed i ∷ steps) v path k s h = good_steps ws env steps v _ k s h
+good_steps ws env (worked at x n ∷ steps) v path k s h = λ w. good_or_panic ws env at (element_of (int_of x) n) _ s (λ i. good_steps ws env steps v _ k s h) w
 
-good_settle : (a : Aim) (k : Then Spot) → GoodThen k → Good (settle a k)
-good_settle a k h = λ w. good_steps a.steps _ _ k h w
+good_settle : (ws : Ways) (env : Env) (a : Aim) (k : Then Spot) → GoodWays ws → GoodThen k → Good (settle ws env a k)
+good_settle ws env a k s h = λ w. good_steps ws env a.steps _ _ k s h w
 
 good_when : (b : Bool) (g h : Go) → Good g → Good h → Good (when b g h)
 good_when true g h x y = x
@@ -66,24 +67,31 @@ record GoodCalls (calls : Calls) : Type 0 where
   by : (f : ℕ) (vs : List Value) (ws : Ways) (env : Env) (k : Then (List Value)) → GoodWays ws → GoodThen k → Good (calls f vs ws env k)
 
 module _ (around : Setting) (calls : Calls) (gc : GoodCalls calls) where
-  good_walk : (steps : Steps) (ws : Ways) (env : Env) (k : Then (List Step)) → GoodThen k → Good (walk around calls steps ws env k)
-  good_walk here ws env k h = h []
-  good_walk (inner i steps) ws env k h = good_walk steps ws env _ (λ r. h (fixed i ∷ r))
-
-  good_aim : (q : Pl) (ws : Ways) (env : Env) (k : Then Aim) → GoodThen k → Good (aim around calls q ws env k)
-  good_aim (local site steps) ws env k h = good_walk steps ws env _ (λ r. h _)
-  good_aim (global g steps) ws env k h = good_walk steps ws env _ (λ r. h _)
-
   mutual
+    good_walk : (steps : Steps) (ws : Ways) (env : Env) (k : Then (List Step)) → GoodWays ws → GoodThen k → Good (walk around calls steps ws env k)
+    good_walk here ws env k s h = h []
+    good_walk (inner i steps) ws env k s h = good_walk steps ws env _ s (λ r. h (fixed i ∷ r))
+    good_walk (at_index at e n steps) ws env k s h = good_ev e ws env _ s (λ v. good_walk steps (holding ws v) env _ (good_holding ws v s) (λ r. h (worked at v n ∷ r)))
+
+    good_aim : (q : Pl) (ws : Ways) (env : Env) (k : Then Aim) → GoodWays ws → GoodThen k → Good (aim around calls q ws env k)
+    good_aim (local site steps) ws env k s h = good_walk steps ws env _ s (λ r. h _)
+    good_aim (global g steps) ws env k s h = good_walk steps ws env _ s (λ r. h _)
+
     good_ev : (e : Ex) (ws : Ways) (env : Env) (k : Then Value) → GoodWays ws → GoodThen k → Good (ev around calls e ws env k)
     good_ev (constant v) ws env k s h = λ w. h v w
-    good_ev (read q) ws env k s h = good_aim q ws env _ (λ a. good_settle a _ (λ spot w. h _ w))
+    good_ev (read q) ws env k s h = good_aim q ws env _ s (λ a. good_settle ws env a _ s (λ spot w. h _ w))
     good_ev (unary op e) ws env k s h = good_ev e ws env _ s (λ v w. h (unary_of op v) w)
     good_ev (binary at op a b) ws env k s h =
         good_ev a ws env _ s (λ v. good_ev b (holding ws v) env _ (good_holding ws v s) (λ u w. good_or_panic ws env at (binary_of op v u) (give ws k) s (λ x y. h x y) w))
     good_ev (both a b) ws env k s h = good_ev a ws env _ s (λ v w. good_when (is_true v) _ _ (good_ev b ws env k s h) (λ w1. h _ w1) w)
     good_ev (either a b) ws env k s h = good_ev a ws env _ s (λ v w. good_when (is_true v) _ _ (λ w1. h _ w1) (good_ev b ws env k s h) w)
     good_ev (call f es) ws env k s h = good_evs es ws env _ s (λ vs w. gc.by f vs ws env _ s (λ rs w1. h _ w1) w)
+    good_ev (part_of t i e) ws env k s h = good_ev e ws env _ s (λ v w. h _ w)
+    good_ev (literal t es) ws env k s h = λ w. good_fill es _ ws env _ s (λ v w1. h v w1) w
+
+    good_fill : (es : Elements) (x : Value) (ws : Ways) (env : Env) (k : Then Value) → GoodWays ws → GoodThen k → Good (fill around calls es x ws env k)
+    good_fill no_elements x ws env k s h = h x
+    good_fill (element i e es) x ws env k s h = good_ev e ws env _ s (λ v. good_fill es _ (holding ws v) env k (good_holding ws v s) h)
 
     good_evs : (es : Exs) (ws : Ways) (env : Env) (k : Then (List Value)) → GoodWays ws → GoodThen k → Good (evs around calls es ws env k)
     good_evs none ws env k s h = h []
@@ -94,7 +102,7 @@ module _ (around : Setting) (calls : Calls) (gc : GoodCalls calls) where
   good_ready : (l : Left) (ws : Ways) (env : Env) (k : Then Landing) → GoodWays ws → GoodThen k → Good (ready around calls l ws env k)
   good_ready blank ws env k s h = h nowhere
   good_ready (new site) ws env k s h = h (birth site)
-  good_ready (to q) ws env k s h = good_aim q ws env _ (λ a. h (on a))
+  good_ready (to q) ws env k s h = good_aim q ws env _ s (λ a. h (on a))
 
   good_ready_all : (ls : List Left) (ws : Ways) (env : Env) (k : List Landing → Ways → Go) → GoodWays ws
       → ((xs : List Landing) (ws1 : Ways) → GoodWays ws1 → Good (k xs ws1)) → Good (ready_all around calls ls ws env k)
@@ -112,15 +120,15 @@ module _ (around : Setting) (calls : Calls) (gc : GoodCalls calls) where
   good_test (Some e) ws env k s h = good_ev e ws env _ s (λ v w. h v w)
 
 module _ (around : Setting) where
-  good_land : (l : Landing) (v : Value) (ws : Ways) (env : Env) (k : Env → Go) → ((env1 : Env) → Good (k env1)) → Good (land around l v ws env k)
-  good_land nowhere v ws env k h = h env
-  good_land (birth site) v ws env k h = λ w. h _ _
-  good_land (on a) v ws env k h = good_settle a _ (λ q w. h env _)
+  good_land : (l : Landing) (v : Value) (ws : Ways) (env : Env) (k : Env → Go) → GoodWays ws → ((env1 : Env) → Good (k env1)) → Good (land around l v ws env k)
+  good_land nowhere v ws env k s h = h env
+  good_land (birth site) v ws env k s h = λ w. h _ _
+  good_land (on a) v ws env k s h = good_settle ws env a _ s (λ q w. h env _)
 
-  good_land_all : (ls : List Landing) (vs : List Value) (ws : Ways) (env : Env) (k : Env → Go) → ((env1 : Env) → Good (k env1)) → Good (land_all around ls vs ws env k)
-  good_land_all [] vs ws env k h = h env
-  good_land_all (l ∷ ls) [] ws env k h = h env
-  good_land_all (l ∷ ls) (v ∷ vs) ws env k h = good_land l v ws env _ (λ env1. good_land_all ls vs ws env1 k h)
+  good_land_all : (ls : List Landing) (vs : List Value) (ws : Ways) (env : Env) (k : Env → Go) → GoodWays ws → ((env1 : Env) → Good (k env1)) → Good (land_all around ls vs ws env k)
+  good_land_all [] vs ws env k s h = h env
+  good_land_all (l ∷ ls) [] ws env k s h = h env
+  good_land_all (l ∷ ls) (v ∷ vs) ws env k s h = good_land l v ws env _ s (λ env1. good_land_all ls vs ws env1 k s h)
 
 good_emit_more : (bs : List (List ℕ)) (g : Go) → Good g → Good (emit_more bs g)
 good_emit_more [] g h = h
@@ -175,10 +183,37 @@ good_quit ws env at (pos n) s = status_of n (nat_lt n 126) refl ws env at s
 good_quit ws env at (negsuc n) s = s.panicked at _ env
 
 module _ (around : Setting) (calls : Calls) (gc : GoodCalls calls) (fuel : ℕ) where
+  good_begin : (over : Over) (ws : Ways) (env : Env) (k : ℕ → Ways → Env → Go) → GoodWays ws → ((n : ℕ) (ws1 : Ways) (env1 : Env) → GoodWays ws1 → Good (k n ws1 env1)) → Good (begin_range around calls fuel over ws env k)
+  good_begin (over_int e) ws env k s h = good_ev around calls gc e ws env _ s (λ v w. h _ (holding ws v) env (good_holding ws v s) w)
+  good_begin (over_length x) ws env k s h = λ w. h x ws env s w
+  good_begin (over_copy site e x) ws env k s h = good_ev around calls gc e ws env _ s (λ v w. h x ws _ s _)
+
+  -- a round of `range`, where its body ends well
+  module _ (body : Ways → Env → (Env → Go) → Go) (b : (ws : Ways) (env : Env) (k : Env → Go) → GoodWays ws → ((env1 : Env) → Good (k env1)) → Good (body ws env k)) (out : ℕ → Env → Go) (o : (n : ℕ) (env : Env) → Good (out n env)) where
+    good_loop : (ws : Ways) → GoodWays ws → (n : ℕ) (j : ℕ → Env → Go) → ((n1 : ℕ) (env1 : Env) → Good (j n1 env1)) → (env : Env) → Good (in_loop body ws (out n) (to_next_count n j) env)
+    good_loop ws s n j g env =
+        let again : (env1 : Env) → Good (to_next_count n j env1) = λ env1 w. g (length w.store) env1 w in
+        b (record { broken = out n; continued = to_next_count n j; returned = ws.returned; panicked = ws.panicked; held = ws.held; call = ws.call }) env (to_next_count n j)
+        (record { broken = o n; continued = again; returned = s.returned; panicked = s.panicked }) again
+
+    good_index_round : (key : Left) (ws : Ways) → GoodWays ws → (i n : ℕ) (env : Env) (j : ℕ → Env → Go) → ((n1 : ℕ) (env1 : Env) → Good (j n1 env1)) → Good (index_round around calls fuel key body ws out i n env j)
+    good_index_round key ws s i n env j g = good_ready around calls gc key ws env _ s (λ a. good_land around a _ ws env _ s (λ env1. good_loop ws s n j g env1))
+
+    good_element_round : (site : ℕ) (key value : Left) (ws : Ways) → GoodWays ws → (i n : ℕ) (env : Env) (j : ℕ → Env → Go) → ((n1 : ℕ) (env1 : Env) → Good (j n1 env1)) → Good (element_round around calls fuel site key value body ws out i n env j)
+    good_element_round site key value ws s i n env j g =
+        good_ready_all around calls gc (key ∷ value ∷ []) ws env
+        (λ those ws1. read_part (home env site) (i ∷ []) (λ v. land_all around those (int (pos i) ∷ v ∷ []) ws env (λ env1. in_loop body ws (out n) (to_next_count n j) env1))) s
+        (λ those ws1 s1 w. good_land_all around those (int (pos i) ∷ read_at w (home env site) (i ∷ []) ∷ []) ws env (λ env1. in_loop body ws (out n) (to_next_count n j) env1) s (λ env1. good_loop ws s n j g env1) w)
+
+    good_round : (over : Over) (key value : Left) (ws : Ways) → GoodWays ws → (i n : ℕ) (env : Env) (j : ℕ → Env → Go) → ((n1 : ℕ) (env1 : Env) → Good (j n1 env1)) → Good (range_round around calls fuel over key value body ws out i n env j)
+    good_round (over_int e) key value ws s i n env j g = good_index_round key ws s i n env j g
+    good_round (over_length x) key value ws s i n env j g = good_index_round key ws s i n env j g
+    good_round (over_copy site e x) key value ws s i n env j g = good_element_round site key value ws s i n env j g
+
   mutual
     good_exec : (st : St) (ws : Ways) (env : Env) (k : Env → Go) → GoodWays ws → ((env1 : Env) → Good (k env1)) → Good (exec around calls fuel st ws env k)
     good_exec (assign ls es) ws env k s h =
-        good_ready_all around calls gc ls ws env _ s (λ xs ws1 s1. good_evs around calls gc es ws1 env _ s1 (λ vs. good_land_all around xs vs ws env k h))
+        good_ready_all around calls gc ls ws env _ s (λ xs ws1 s1. good_evs around calls gc es ws1 env _ s1 (λ vs. good_land_all around xs vs ws env k s h))
     good_exec (discard es) ws env k s h = good_evs around calls gc es ws env _ s (λ vs. h env)
     good_exec (block ss) ws env k s h = good_exec_all ss ws env k s h
     good_exec (choose e a b) ws env k s h =
@@ -196,17 +231,15 @@ module _ (around : Setting) (calls : Calls) (gc : GoodCalls calls) (fuel : ℕ) 
         (λ n1 env1 w1. h env1 w1) (length w.store - length sites) env w
     good_exec (declare sites) ws env k s h = good_zeros around ws.call sites env k h
     good_exec (update at q op e) ws env k s h =
-        good_aim around calls gc q ws env _ (λ a. good_settle a _ (λ spot w. good_ev around calls gc e (holding ws _) env _ (good_holding ws _ s)
+        good_aim around calls gc q ws env _ s (λ a. good_settle ws env a _ s (λ spot w. good_ev around calls gc e (holding ws _) env _ (good_holding ws _ s)
         (λ u. good_or_panic ws env at (binary_of op (read_at w spot.variable spot.path) u) (λ x. write_part spot.variable spot.path x (k env)) s (λ x w1. h env (written w1 spot.variable spot.path x))) w))
     good_exec (bump q op) ws env k s h =
-        good_aim around calls gc q ws env _ (λ a. good_settle a _ (λ spot w.
+        good_aim around calls gc q ws env _ s (λ a. good_settle ws env a _ s (λ spot w.
         good_or_panic ws env no_pos (binary_of op (read_at w spot.variable spot.path) (int (pos 1))) (λ x. write_part spot.variable spot.path x (k env)) s (λ x w1. h env (written w1 spot.variable spot.path x)) w))
-    good_exec (range (over_int e) key value body) ws env k s h =
-        good_ev around calls gc e ws env _ s (λ v w. good_counted fuel 0 (count_of v) _ _
-        (λ i n1 env1 j g. good_ready around calls gc key (holding ws v) env1 _ (good_holding ws v s) (λ a. good_land around a _ (holding ws v) env1 _ (λ env2. good_exec_all body _ env2 _
-        (record { broken = λ env3 w3. h env3 w3; continued = λ env3 w3. g _ env3 w3; returned = s.returned; panicked = s.panicked })
-        (λ env3 w3. g _ env3 w3))))
-        (λ n1 env1 w1. h env1 w1) (length w.store) env w)
+    good_exec (range over key value body) ws env k s h =
+        good_begin over ws env _ s (λ x ws1 env1 s1 w. good_counted fuel 0 x _ _
+        (λ i n1 env2 j g. good_round (exec_all around calls fuel body) (λ ws2 env3 k2 s2 h2. good_exec_all body ws2 env3 k2 s2 h2) (outside k) (λ n2 env3 w2. h env3 w2) over key value ws1 s1 i n1 env2 j g)
+        (λ n1 env2 w1. h env2 w1) (length w.store) env1 w)
     good_exec break_off ws env k s h = λ w. s.broken env w
     good_exec go_on ws env k s h = λ w. s.continued env w
     good_exec (raise at (text number)) ws env k s h = λ w. s.panicked at _ env w
