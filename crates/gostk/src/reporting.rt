@@ -116,7 +116,6 @@ fn put_panic_number<E: Sink>(before: &[u8], n: i64, err: &mut E) -> Result<(), F
 }
 
 // Writes the line of a panic by an index.
-#[tactic(auto, using(crate::proofs::Lines::index_line))]
 fn put_panic_index<E: Sink>(index: i64, length: i64, err: &mut E) -> Result<(), Failed>
     ensures whole { OnOk result (Took (E.taken err.old) (E.taken err.new) (panic_line (index_text index length))) }
     ensures part { OnErr result (TookPrefix (E.taken err.old) (E.taken err.new) (panic_line (index_text index length))) }
