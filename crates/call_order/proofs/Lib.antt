@@ -2,6 +2,7 @@ pub mod Chained
 pub mod Opened
 pub mod Searched
 pub mod Listed
+pub mod Silent
 pub mod Counted
 pub mod Leaders
 pub mod Ranked

@@ -1,4 +1,5 @@
 pub mod InSlots
+pub mod Alone
 pub mod Operands
 pub mod Operators
 pub mod ByWidth
@@ -10,6 +11,3 @@ pub mod Pieces
 pub mod Emitted
 pub mod Composed
 pub mod Whole
-pub mod Sized
-pub mod Steps
-pub mod Reached

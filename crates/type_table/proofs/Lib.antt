@@ -10,4 +10,3 @@ pub mod Telling
 pub mod Beginning
 pub mod Offsets
 pub mod Passing
-pub mod PartTrees

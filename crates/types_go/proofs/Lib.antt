@@ -5,7 +5,6 @@ mod InFormHeads
 mod InFormProgram
 mod InFormStatements
 mod Inside
-mod Keys
 mod Lines
 mod MemberLists
 mod Package
