@@ -101,7 +101,7 @@ fn places_of(code: &Code) -> Places {
     for (place, instr) in code.instrs().iter().enumerate() {
         match instr {
             Instr::Call { .. } if places.behind == 0 => places.behind = place.saturating_add(1),
-            Instr::Argument { .. } => places.argument = place,
+            Instr::Argument { .. } | Instr::ArgumentWords { .. } => places.argument = place,
             Instr::SetResults { .. } => places.results = place,
             Instr::Return => places.leave = place,
             _ => {}
