@@ -2,7 +2,6 @@ pub mod Chained
 pub mod Opened
 pub mod Searched
 pub mod Listed
-pub mod Silent
 pub mod Counted
 pub mod Leaders
 pub mod Ranked

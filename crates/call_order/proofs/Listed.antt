@@ -38,8 +38,8 @@ mutual
   ex_calls (both a b) g c = apart (called a) (called b) g (ex_calls a g) (ex_calls b g) c
   ex_calls (either a b) g c = apart (called a) (called b) g (ex_calls a g) (ex_calls b g) c
   ex_calls (call f es) g c = apart (f ∷ []) (called_all es) g (alone f g) (exs_call es g) c
-  ex_calls (part_of t i e) g c = ex_calls e g c
-  ex_calls (literal t es) g c = elements_call es g c
+  ex_calls (part_of n i e) g c = ex_calls e g c
+  ex_calls (literal n es) g c = elements_call es g c
 
   place_calls : (q : Pl) (g : ℕ) → Contains (called_in_place q) g → PlaceCalls q g
   place_calls (local site steps) g c = steps_call steps g c
@@ -120,8 +120,8 @@ mutual
   in_ex (both a b) g c = joined (called a) (called b) g (in_ex a g) (in_ex b g) c
   in_ex (either a b) g c = joined (called a) (called b) g (in_ex a g) (in_ex b g) c
   in_ex (call f es) g c = joined (f ∷ []) (called_all es) g (alone_is f g) (in_exs es g) c
-  in_ex (part_of t i e) g c = in_ex e g c
-  in_ex (literal t es) g c = in_elements es g c
+  in_ex (part_of n i e) g c = in_ex e g c
+  in_ex (literal n es) g c = in_elements es g c
 
   in_place : (q : Pl) (g : ℕ) → PlaceCalls q g → Contains (called_in_place q) g
   in_place (local site steps) g c = in_steps steps g c

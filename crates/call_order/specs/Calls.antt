@@ -12,8 +12,8 @@ abbrev mutual
   ExCalls (both a b) g = ExCalls a g ⊎ ExCalls b g
   ExCalls (either a b) g = ExCalls a g ⊎ ExCalls b g
   ExCalls (call f es) g = (f ≡ g) ⊎ ExsCall es g
-  ExCalls (part_of t i e) g = ExCalls e g
-  ExCalls (literal t es) g = ElementsCall es g
+  ExCalls (part_of n i e) g = ExCalls e g
+  ExCalls (literal n es) g = ElementsCall es g
 
   -- the indices of a place, where they are worked out
   pub PlaceCalls : Pl → ℕ → Type 0

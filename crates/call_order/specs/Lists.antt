@@ -12,8 +12,8 @@ abbrev mutual
   called (both a b) = called a ++ called b
   called (either a b) = called a ++ called b
   called (call f es) = f ∷ called_all es
-  called (part_of t i e) = called e
-  called (literal t es) = called_in_elements es
+  called (part_of n i e) = called e
+  called (literal n es) = called_in_elements es
 
   -- in the indices of a place, where they are worked out
   pub called_in_place : Pl → List ℕ

@@ -47,7 +47,7 @@ fn batches_of(
 pub fn order(alloc: Global, program: &Program) -> Result<Batches, NoMemory>
     ensures { IfOk result (λ r. IsCallOrder (program_of program.now) (batch_lists r.batches.items)) }
 {
-    let calls = all_calls(alloc, &program.funcs)?;
+    let calls = all_calls(alloc, program)?;
     let count = u32::try_from(calls.len()).map_err(|_| NoMemory)?;
     let marks = all_marks(alloc, &calls, count)?;
     let firsts = first_functions(alloc, &marks, count)?;

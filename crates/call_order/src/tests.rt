@@ -1,10 +1,13 @@
 //! What no clause says: that memory is given where it is ample, and worked programs.
 
 use crate::{Batches, order};
-use base::{FuncId, Pos, TypeId};
+use base::{FuncId, Pos, SiteId, TypeId};
 use std::alloc::Global;
 use std::test::Fail;
-use typed::{BinOp, Const, Expr, Func, INT, Left, Piece, Place, Program, Stmt, UnOp, Values};
+use type_table::TypeTable;
+use typed::{
+    BinOp, Const, Element, Expr, Func, INT, Left, Piece, Place, Program, Step, Stmt, UnOp, Values,
+};
 
 const AT: Pos = Pos {
     offset: 0,
@@ -43,14 +46,15 @@ fn func(alloc: Global, body: Vec<Stmt>) -> Func {
     }
 }
 
-fn program(alloc: Global, funcs: Vec<Func>) -> Program {
-    Program {
+fn program(alloc: Global, funcs: Vec<Func>) -> Result<Program, Fail> {
+    Ok(Program {
         funcs,
         main: FuncId(0),
         sites: Vec::new(alloc),
+        types: TypeTable::new(alloc, 0)?,
         strings: Vec::new(alloc),
         globals: Vec::new(alloc),
-    }
+    })
 }
 
 // A program whose functions have these calls as statements.
@@ -63,7 +67,7 @@ fn calling(alloc: Global, calls: &[&[u32]]) -> Result<Program, Fail> {
         }
         funcs.push(func(alloc, body))?;
     }
-    Ok(program(alloc, funcs))
+    program(alloc, funcs)
 }
 
 fn shown(alloc: Global, batches: &Batches) -> Result<String, Fail> {
@@ -109,7 +113,7 @@ fn operands(alloc: Global) -> Result<Vec<Stmt>, Fail> {
 
 // Calls of 8 to 17 inside of statements.
 fn statements(alloc: Global) -> Result<Vec<Stmt>, Fail> {
-    let place = Place::Global(0);
+    let place = Place::Global(0, Vec::new(alloc));
     let assign = Stmt::Assign(
         vec![in alloc; Left::Blank]?,
         values(alloc, call(alloc, 8)?)?,
@@ -127,19 +131,53 @@ fn statements(alloc: Global) -> Result<Vec<Stmt>, Fail> {
     Ok(vec![in alloc; assign, update, turns, count, print, panic, exit]?)
 }
 
+// A place with a call as an index.
+fn place(alloc: Global, f: u32) -> Result<Place, Fail> {
+    let index = Step::Index(AT, call(alloc, f)?, 2);
+    Ok(Place::Local(SiteId(0), vec![in alloc; Step::Inner(1), index]?))
+}
+
+// Calls of 19 to 31 inside of places, parts, literals and ranges over arrays.
+fn arrays(alloc: Global) -> Result<Vec<Stmt>, Fail> {
+    let read = Expr::Read(place(alloc, 19)?);
+    let part = Expr::Part(INT, 0, Box::new(alloc, call(alloc, 20)?)?);
+    let elements = vec![in alloc;
+        Element::For(0, call(alloc, 21)?),
+        Element::For(1, call(alloc, 22)?),
+    ]?;
+    let all = vec![in alloc; read, part, Expr::Literal(INT, elements)]?;
+    let lefts = vec![in alloc; Left::To(place(alloc, 23)?)]?;
+    let assign = Stmt::Assign(lefts, Values::Each(all));
+    let update = Stmt::Update(
+        AT,
+        place(alloc, 24)?,
+        BinOp::Add,
+        Expr::Constant(Const::Int(7)),
+    );
+    let bump = Stmt::Bump(place(alloc, 25)?, BinOp::Add);
+    let body = vec![in alloc; statement(alloc, 27)?]?;
+    let indices = Stmt::Indices(2, Left::To(place(alloc, 26)?), body);
+    let key = Left::To(place(alloc, 29)?);
+    let value = Left::To(place(alloc, 30)?);
+    let body = vec![in alloc; statement(alloc, 31)?]?;
+    let elements = Stmt::Elements(SiteId(0), call(alloc, 28)?, 2, key, value, body);
+    Ok(vec![in alloc; assign, update, bump, indices, elements]?)
+}
+
 // main has a call of each other function, in a place of its own, and each of them calls main: all are one batch.
 #[test]
 fn places(rt: HostRuntime) -> Result<(), Fail> {
     let alloc = rt.alloc();
-    let yes = vec![in alloc; Stmt::Block(operands(alloc)?)]?;
+    let yes = vec![in alloc; Stmt::Block(operands(alloc)?), Stmt::Block(arrays(alloc)?)]?;
     let test = call(alloc, 18)?;
     let main = vec![in alloc; Stmt::If(test, yes, statements(alloc)?)]?;
     let mut funcs = vec![in alloc; func(alloc, main)]?;
-    for _ in 1..19 {
+    for _ in 1..32 {
         funcs.push(func(alloc, vec![in alloc; statement(alloc, 0)?]?))?;
     }
-    let order_of = order(alloc, &program(alloc, funcs))?;
-    let wanted = "0 1 2 3 4 5 6 7 8 9 10 11 12 13 14 15 16 17 18 | ";
+    let order_of = order(alloc, &program(alloc, funcs)?)?;
+    let wanted =
+        "0 1 2 3 4 5 6 7 8 9 10 11 12 13 14 15 16 17 18 19 20 21 22 23 24 25 26 27 28 29 30 31 | ";
     assert_eq!(rt; shown(alloc, &order_of)?.as_str(), wanted);
     Ok(())
 }

@@ -3,11 +3,10 @@ use Rattle.std.proofs.Common.{◌≡◌, ℕ, zero, suc, ◌+◌, ◌-◌, ◌<�
 use Rattle.std.specs.Prelude.{Option, None, slice_set, nat_le}
 use Rattle.std.proofs.lemmas.Bool.{le-leb, lt-leb}
 use Rattle.heap_bump.specs.Words.{first_address, with_word}
-use Rattle.value_trees.specs.Types.{ValueType, ints}
+use Rattle.value_trees.specs.Types.{ValueType, ints, bools, struct_of, array_of}
 use Rattle.typed.specs.declared.expr.Const.{Const}
 use Rattle.typed.specs.declared.program.PackageVariable.{PackageVariable}
-use Rattle.typed.specs.declared.program.Site.{Site}
-use Rattle.typed.specs.View.{first_value, global_of, site_types, type_of}
+use Rattle.typed.specs.View.{first_value, global_of}
 use Rattle.simulated_code.specs.Code.{word_of}
 use Rattle.simulated_code.specs.Correct.{first_words, begun_word}
 
@@ -20,24 +19,20 @@ pub word_taken : (ws : List ℕ) (at word : ℕ) → at ≡ first_address + leng
 word_taken ws at word e = let i : at - first_address ≡ length ws = omega (arith, e) in ap (λ n. slice_set (ws ++ 0 ∷ []) n word) i ∙ last_set ws 0 word
 
 -- the zero value of each type is 0
-zero_word : (t : ℕ) → word_of (first_value (type_of t) None) ≡ 0
-zero_word zero = refl
-zero_word (suc zero) = refl
-zero_word (suc (suc t)) = refl
+zero_word : (t : ValueType) → word_of (first_value t None) ≡ 0
+zero_word ints = refl
+zero_word bools = refl
+zero_word (struct_of ts) = refl
+zero_word (array_of n t) = refl
 
-site_zero : (sites : List Site) (i : ℕ) → word_of (first_value (get_or (site_types sites) i ints) None) ≡ 0
-site_zero [] i = refl
-site_zero (site ∷ sites) zero = zero_word site.type_id.0
-site_zero (site ∷ sites) (suc i) = site_zero sites i
+word_is : (t : ValueType) (value : Option Const) → word_of (first_value t value) ≡ begun_word value
+word_is t (Some c) = refl
+word_is t None = zero_word t
 
-word_is : (sites : List Site) (i : ℕ) (value : Option Const) → word_of (first_value (get_or (site_types sites) i ints) value) ≡ begun_word value
-word_is sites i (Some c) = refl
-word_is sites i None = site_zero sites i
-
-pub begun_words : (sites : List Site) (gs : List PackageVariable) → first_words (map (global_of (site_types sites)) gs) ≡ map (λ (g : PackageVariable). begun_word g.value) gs
-begun_words sites [] = refl
-begun_words sites (g ∷ gs) =
-    ap (λ w. w ∷ first_words (map (global_of (site_types sites)) gs)) (word_is sites g.site.0 g.value) ∙ ap (λ ws. begun_word g.value ∷ ws) (begun_words sites gs)
+pub begun_words : (types : List ValueType) (gs : List PackageVariable) → first_words (map (global_of types) gs) ≡ map (λ (g : PackageVariable). begun_word g.value) gs
+begun_words types [] = refl
+begun_words types (g ∷ gs) =
+    ap (λ w. w ∷ first_words (map (global_of types) gs)) (word_is (get_or types g.site.0 ints) g.value) ∙ ap (λ ws. begun_word g.value ∷ ws) (begun_words types gs)
 
 begun_length : (types : List ValueType) (gs : List PackageVariable) → length (first_words (map (global_of types) gs)) ≡ length gs
 begun_length types [] = refl

@@ -9,20 +9,17 @@ use Rattle.isa.specs.declared.instr.BinOp.TheVariants as Word
 use Rattle.typed.specs.declared.operators.BinOp.{BinOp}
 use Rattle.typed.specs.declared.expr.Expr.{Expr}
 use Rattle.base.specs.declared.ids.SiteId.{SiteId}
-use Rattle.typed.specs.declared.expr.Place.{Place}
-use Rattle.typed.specs.declared.expr.Place.TheVariants.{Local, Global}
 use Rattle.typed.specs.declared.stmt.Left.{Left as LeftData}
-use Rattle.typed.specs.declared.stmt.Left.TheVariants.{Blank, New, To}
 use Rattle.typed.specs.declared.stmt.Piece.{Piece as PieceData}
 use Rattle.typed.specs.declared.stmt.Stmt.{Stmt}
 use Rattle.typed.specs.Frames.{far}
-use Rattle.typed.specs.Syntax.{Ex, Exs, Left, Piece, Sts, Program, both, either, more, text, shown, over_int, choose, loop, range, next, wide, all_wide, value_widths}
-use Rattle.typed.specs.View.{ex_of, exs_of, left_of, piece_of, place_of, site_in, st_of, sts_of}
-use Rattle.codegen.specs.Frame.{assign_code, bump_code, left_code, param_code, temp_behind, update_code}
-use Rattle.codegen.specs.Temps.{ExsFitIn, LeftFits, LeftsFitIn, ParamFits, ParamsFitIn, PiecesFitIn, StsFitIn}
-use Rattle.simulated_code.specs.Code.{Slots, first_width, other_widths, temp, operation, binary_code, above_address, address_code, address_size, fetch_code, land_code, params_code, lefts_above, lefts_end, lefts_code, lefts_size, lefts_sized, ready_code, renew_code, renew_size, ex_code, exs_code, pieces_code, test_code, test_size, st_code, sts_code, piece_size, size, st_size, sts_size}
-use Rattle.simulated_code.proofs.Sizes.{length_address, length_code, length_last, length_pieces, length_renew, length_st, length_sts, length_test}
-use Rattle.codegen.proofs.Alone.{key_sized, lefts_at, lefts_ready, lefts_stop}
+use Rattle.typed.specs.Syntax.{Ex, Exs, Pl, Left, Piece, Sts, Program, both, either, more, blank, new, to, text, shown, over_int, over_length, over_copy, choose, loop, range, next, wide, all_wide, value_widths}
+use Rattle.typed.specs.View.{ex_of, exs_of, left_of, piece_of, site_in, st_of, sts_of}
+use Rattle.codegen.specs.Frame.{assign_code, bump_code, key_code, left_code, param_code, temp_behind, update_code}
+use Rattle.codegen.specs.Temps.{ExsFitIn, LeftFits, LeftsFitIn, ParamFits, ParamsFitIn, PiecesFitIn, ReadyFitIn, StsFitIn}
+use Rattle.simulated_code.specs.Code.{Slots, above_address, address_code, address_size, array_code, binary_code, element_round_code, element_round_size, ex_code, exs_code, fetch_code, first_width, index_round_code, index_round_size, land_code, lefts_above, lefts_code, lefts_end, lefts_size, lefts_sized, moves, operation, other_widths, params_code, piece_size, pieces_code, place_above, place_code, place_end, place_size, ready_code, renew_code, renew_size, site_slot, site_words, size, st_code, st_size, sts_code, sts_size, temp, test_code, test_size}
+use Rattle.simulated_code.proofs.Sizes.{length_address, length_code, length_element_round, length_index_round, length_last, length_lefts, length_pieces, length_place, length_ready, length_renew, length_st, length_sts, length_test, lefts_ends, lefts_sum, place_ends}
+use Rattle.codegen.proofs.Operands.{lefts_from}
 use Rattle.codegen.proofs.ByWidth.{first_drop, other_drop}
 
 split : (ss : List Stmt) (i : ℕ) (x : Stmt) → i < length ss → x ≡ get_or ss i x → sts_of (drop i ss) ≡ next (st_of x) (sts_of (drop (i + 1) ss))
@@ -40,56 +37,67 @@ split_pieces ps i x l is =
     let one : suc i ≡ i + 1 = omega arith in
     ap (map piece_of) (drop-cons ps i x l) ∙ ap (λ y. piece_of y ∷ map piece_of (drop (suc i) ps)) (sym is) ∙ ap (λ j. piece_of x ∷ map piece_of (drop j ps)) one
 
-split_lefts : (ls : List LeftData) (i : ℕ) (none : LeftData) → i < length ls → map left_of (drop i ls) ≡ left_of (get_or ls i none) ∷ map left_of (drop (i + 1) ls)
-split_lefts ls i none l = let one : suc i ≡ i + 1 = omega arith in ap (map left_of) (drop-cons ls i none l) ∙ ap (λ j. left_of (get_or ls i none) ∷ map left_of (drop j ls)) one
+split_lefts : (ls : List LeftData) (i : ℕ) (x : LeftData) → i < length ls → x ≡ get_or ls i x → map left_of (drop i ls) ≡ left_of x ∷ map left_of (drop (i + 1) ls)
+split_lefts ls i x l is =
+    let one : suc i ≡ i + 1 = omega arith in
+    ap (map left_of) (drop-cons ls i x l) ∙ ap (λ (y : LeftData). left_of y ∷ map left_of (drop (suc i) ls)) (sym is) ∙ ap (λ j. left_of x ∷ map left_of (drop j ls)) one
 
 split_params : (ps : List (Option SiteId)) (i : ℕ) (none : Option SiteId) → i < length ps → map site_in (drop i ps) ≡ site_in (get_or ps i none) ∷ map site_in (drop (i + 1) ps)
 split_params ps i none l = let one : suc i ≡ i + 1 = omega arith in ap (map site_in) (drop-cons ps i none l) ∙ ap (λ j. site_in (get_or ps i none) ∷ map site_in (drop j ps)) one
 
 -- left sides and parameters, which go by widths
 module _ (s : Slots) where
-  -- one, which as data has no operands
-  lefts_first : (ns : List ℕ) (l : LeftData) (ls : List Left) (first at h : ℕ) → lefts_code s ns (left_of l ∷ ls) first at h ≡ left_code s (left_of l) at at h ++ lefts_code s (other_widths ns) ls first at (h + first_width ns)
-  lefts_first ns Blank ls first at h = refl
-  lefts_first ns (New site) ls first at h = refl
-  lefts_first ns (To (Local site)) ls first at h = refl
-  lefts_first ns (To (Global number)) ls first at h = refl
+  -- one, and the others
+  lefts_first : (ns : List ℕ) (l : Left) (ls : List Left) (first at h : ℕ)
+      → lefts_code s ns (l ∷ ls) first at h ≡ left_code s l first at h ++ lefts_code s (other_widths ns) ls (lefts_above (l ∷ []) first) at (h + first_width ns)
+  lefts_first ns blank ls first at h = refl
+  lefts_first ns (new site) ls first at h = refl
+  lefts_first ns (to q) ls first at h = refl
 
   -- one alone
-  pub key_left : (p : Program) (key : LeftData) (h pc v : ℕ)
-      → ready_code p s (left_of key ∷ []) h pc ++ lefts_code s (1 ∷ []) (left_of key ∷ []) h (lefts_above (left_of key ∷ []) h) v ≡ left_code s (left_of key) h h v
-  key_left p Blank h pc v = refl
-  key_left p (New site) h pc v = refl
-  key_left p (To (Local site)) h pc v = refl
-  key_left p (To (Global number)) h pc v = refl
+  pub left_alone : (n : ℕ) (l : Left) (first at h : ℕ) → lefts_code s (n ∷ []) (l ∷ []) first at h ≡ left_code s l first at h
+  left_alone n l first at h = lefts_first (n ∷ []) l [] first at h ∙ append-nil (left_code s l first at h)
 
-  pub length_left : (key : LeftData) (first at h : ℕ) → length (left_code s (left_of key) first at h) ≡ lefts_size (left_of key ∷ [])
-  length_left Blank first at h = refl
-  length_left (New site) first at h = refl
-  length_left (To (Local site)) first at h = refl
-  length_left (To (Global number)) first at h = refl
+  pub length_left : (l : Left) (first at h : ℕ) → length (left_code s l first at h) ≡ lefts_size (l ∷ [])
+  length_left l first at h = ap length (sym (left_alone 0 l first at h)) ∙ length_lefts s (0 ∷ []) (l ∷ []) first at h
 
-  pub left_emitted : (whole code behind : List Instr) (ns : List ℕ) (ls : List LeftData) (i : ℕ) (none : LeftData) (first at h after : ℕ) → i < length ls → after ≡ h + slice_index ns i
-      → whole ≡ code ++ lefts_code s (drop i ns) (map left_of (drop i ls)) first at h → behind ≡ code ++ left_code s (left_of (get_or ls i none)) at at h
-      → whole ≡ behind ++ lefts_code s (drop (i + 1) ns) (map left_of (drop (i + 1) ls)) first at after
-  left_emitted whole code behind ns ls i none first at h after l e0 e1 e2 =
-      let rest = map left_of (drop (i + 1) ls) in let c = left_code s (left_of (get_or ls i none)) at at h in
-      e1 ∙ ap (λ y. code ++ lefts_code s (drop i ns) y first at h) (split_lefts ls i none l) ∙ ap (λ y. code ++ y) (lefts_first (drop i ns) (get_or ls i none) rest first at h)
-      ∙ sym (append_assoc code c (lefts_code s (other_widths (drop i ns)) rest first at (h + first_width (drop i ns))))
-      ∙ ap (λ y. y ++ lefts_code s (other_widths (drop i ns)) rest first at (h + first_width (drop i ns))) (sym e2)
-      ∙ ap (λ y. behind ++ lefts_code s y rest first at (h + first_width (drop i ns))) (other_drop ns i)
-      ∙ ap (λ w. behind ++ lefts_code s (drop (i + 1) ns) rest first at (h + w)) (first_drop ns i)
-      ∙ ap (λ k. behind ++ lefts_code s (drop (i + 1) ns) rest first at k) (sym e0)
+  pub left_emitted : (whole code behind : List Instr) (ns : List ℕ) (ls : List LeftData) (i : ℕ) (x : LeftData) (first next at h after : ℕ) → i < length ls → x ≡ get_or ls i x → after ≡ h + slice_index ns i → next ≡ lefts_above (left_of x ∷ []) first
+      → whole ≡ code ++ lefts_code s (drop i ns) (map left_of (drop i ls)) first at h → behind ≡ code ++ left_code s (left_of x) first at h
+      → whole ≡ behind ++ lefts_code s (drop (i + 1) ns) (map left_of (drop (i + 1) ls)) next at after
+  left_emitted whole code behind ns ls i x first next at h after l is e0 en e1 e2 =
+      let rest = map left_of (drop (i + 1) ls) in let c = left_code s (left_of x) first at h in let above = lefts_above (left_of x ∷ []) first in
+      e1 ∙ ap (λ y. code ++ lefts_code s (drop i ns) y first at h) (split_lefts ls i x l is) ∙ ap (λ y. code ++ y) (lefts_first (drop i ns) (left_of x) rest first at h)
+      ∙ sym (append_assoc code c (lefts_code s (other_widths (drop i ns)) rest above at (h + first_width (drop i ns))))
+      ∙ ap (λ y. y ++ lefts_code s (other_widths (drop i ns)) rest above at (h + first_width (drop i ns))) (sym e2)
+      ∙ ap (λ y. behind ++ lefts_code s y rest above at (h + first_width (drop i ns))) (other_drop ns i)
+      ∙ ap (λ w. behind ++ lefts_code s (drop (i + 1) ns) rest above at (h + w)) (first_drop ns i)
+      ∙ ap (λ k. behind ++ lefts_code s (drop (i + 1) ns) rest above at k) (sym e0)
+      ∙ ap (λ k. behind ++ lefts_code s (drop (i + 1) ns) rest k at after) (sym en)
 
-  pub lefts_split : (n at h : ℕ) (ns : List ℕ) (ls : List LeftData) (i : ℕ) (none : LeftData) → i < length ls → LeftsFitIn s n at h (drop i ns) (map left_of (drop i ls))
-      → (h + slice_index ns i ≤ s.temps) × LeftFits s n at (left_of (get_or ls i none)) × LeftsFitIn s n at (h + slice_index ns i) (drop (i + 1) ns) (map left_of (drop (i + 1) ls))
-  lefts_split n at h ns ls i none l f =
-      let g = subst (λ y. LeftsFitIn s n at h (drop i ns) y) (split_lefts ls i none l) f in
+  pub lefts_split : (n at h : ℕ) (ns : List ℕ) (ls : List LeftData) (i : ℕ) (x : LeftData) → i < length ls → x ≡ get_or ls i x → LeftsFitIn s n at h (drop i ns) (map left_of (drop i ls))
+      → (h + slice_index ns i ≤ s.temps) × LeftFits s n at (left_of x) × LeftsFitIn s n at (h + slice_index ns i) (drop (i + 1) ns) (map left_of (drop (i + 1) ls))
+  lefts_split n at h ns ls i x l is f =
+      let g = subst (λ y. LeftsFitIn s n at h (drop i ns) y) (split_lefts ls i x l is) f in
       let rest = map left_of (drop (i + 1) ls) in (
         subst (λ w. h + w ≤ s.temps) (first_drop ns i) g.0,
         g.1,
         subst (λ w. LeftsFitIn s n at (h + w) (drop (i + 1) ns) rest) (first_drop ns i) (subst (λ y. LeftsFitIn s n at (h + first_width (drop i ns)) y rest) (other_drop ns i) g.3),
       )
+
+  -- the operands of one, and those of the others
+  above_first : (l : Left) (ls : List Left) (h : ℕ) → lefts_above (l ∷ ls) h ≡ lefts_above ls (lefts_above (l ∷ []) h)
+  above_first blank ls h = refl
+  above_first (new site) ls h = refl
+  above_first (to q) ls h = refl
+
+  pub above_next : (ls : List LeftData) (i : ℕ) (x : LeftData) (h next : ℕ) → i < length ls → x ≡ get_or ls i x → next ≡ lefts_above (left_of x ∷ []) h → lefts_above (map left_of (drop i ls)) h ≡ lefts_above (map left_of (drop (i + 1) ls)) next
+  above_next ls i x h next l is e =
+      ap (λ y. lefts_above y h) (split_lefts ls i x l is) ∙ above_first (left_of x) (map left_of (drop (i + 1) ls)) h ∙ ap (lefts_above (map left_of (drop (i + 1) ls))) (sym e)
+
+  pub above_one : (p : Program) (ls : List LeftData) (i : ℕ) (x : LeftData) (h : ℕ) → i < length ls → x ≡ get_or ls i x → lefts_above (left_of x ∷ []) h ≤ lefts_above (map left_of (drop i ls)) h
+  above_one p ls i x h l is =
+      let e = ap (λ y. lefts_above y h) (split_lefts ls i x l is) ∙ above_first (left_of x) (map left_of (drop (i + 1) ls)) h in
+      let k = lefts_from p (map left_of (drop (i + 1) ls)) (lefts_above (left_of x ∷ []) h) in omega (arith, e, k)
 
   params_first : (ns : List ℕ) (q : Option ℕ) (ps : List (Option ℕ)) (word : ℕ) → params_code s ns (q ∷ ps) word ≡ param_code s q (first_width ns) word ++ params_code s (other_widths ns) ps (word + first_width ns)
   params_first ns None ps word = refl
@@ -193,62 +201,97 @@ module _ (p : Program) (s : Slots) where
       by (text number) g = g
       by (shown t e) g = g.2
 
-  -- left sides and places as data, with no operands before them
-  assign_alone : (ls : List LeftData) (es : Exs) (h pc : ℕ) → assign_code p s (map left_of ls) es h pc ≡ exs_code p s es h pc ++ lefts_code s (value_widths p es) (map left_of ls) h (h + all_wide p es) h
-  assign_alone ls es h pc =
-      let ns = value_widths p es in let qs = map left_of ls in let first = lefts_above qs h in let words = all_wide p es in
-      ap (λ is. is ++ (exs_code p s es first (lefts_end p qs pc) ++ lefts_code s ns qs h (first + words) first)) (lefts_ready p s ls h pc)
-      ∙ ap (λ k. exs_code p s es k (lefts_end p qs pc) ++ lefts_code s ns qs h (k + words) k) (lefts_at ls h)
-      ∙ ap (λ place. exs_code p s es h place ++ lefts_code s ns qs h (h + words) h) (lefts_stop p ls pc)
+  -- the operands of left sides, those of one and those of the others
+  ready_first : (l : Left) (ls : List Left) (h pc : ℕ) → ready_code p s (l ∷ ls) h pc ≡ ready_code p s (l ∷ []) h pc ++ ready_code p s ls (lefts_above (l ∷ []) h) (pc + lefts_sized p (l ∷ []) 0)
+  ready_first blank ls h pc = let z : pc ≡ pc + 0 = omega arith in ap (ready_code p s ls h) z
+  ready_first (new site) ls h pc = let z : pc ≡ pc + 0 = omega arith in ap (ready_code p s ls h) z
+  ready_first (to q) ls h pc =
+      ap (λ place. place_code p s q h pc ++ ready_code p s ls (place_above q h) place) (place_ends p q pc) ∙ ap (λ is. is ++ ready_code p s ls (place_above q h) (pc + place_size p q 0)) (sym (append-nil (place_code p s q h pc)))
 
-  pub assign_emitted : (old c1 c2 : List Instr) (ls : List LeftData) (es : Exs) (h behind : ℕ) → behind ≡ h + all_wide p es → c1 ≡ old ++ exs_code p s es h (length old)
-      → c2 ≡ c1 ++ lefts_code s (value_widths p es) (map left_of ls) h behind h → c2 ≡ old ++ assign_code p s (map left_of ls) es h (length old)
-  assign_emitted old c1 c2 ls es h behind e0 e1 e2 =
-      let cs = exs_code p s es h (length old) in let cl = lefts_code s (value_widths p es) (map left_of ls) h (h + all_wide p es) h in
-      e2 ∙ ap (λ k. c1 ++ lefts_code s (value_widths p es) (map left_of ls) h k h) e0 ∙ ap (λ c. c ++ cl) e1 ∙ append_assoc old cs cl ∙ ap (λ is. old ++ is) (sym (assign_alone ls es h (length old)))
+  pub left_ready : (whole code behind : List Instr) (ls : List LeftData) (i : ℕ) (x : LeftData) (h after : ℕ) → i < length ls → x ≡ get_or ls i x → after ≡ lefts_above (left_of x ∷ []) h
+      → whole ≡ code ++ ready_code p s (map left_of (drop i ls)) h (length code) → behind ≡ code ++ ready_code p s (left_of x ∷ []) h (length code)
+      → whole ≡ behind ++ ready_code p s (map left_of (drop (i + 1) ls)) after (length behind)
+  left_ready whole code behind ls i x h after l is e0 e1 e2 =
+      let q = left_of x in let rest = map left_of (drop (i + 1) ls) in let cx = ready_code p s (q ∷ []) h (length code) in
+      let n : length code + lefts_sized p (q ∷ []) 0 ≡ length behind = omega (arith, length-append code cx, length_ready p s (q ∷ []) h (length code), ap length e2) in
+      e1 ∙ ap (λ y. code ++ ready_code p s y h (length code)) (split_lefts ls i x l is) ∙ ap (λ y. code ++ y) (ready_first q rest h (length code))
+      ∙ sym (append_assoc code cx (ready_code p s rest (lefts_above (q ∷ []) h) (length code + lefts_sized p (q ∷ []) 0)))
+      ∙ ap (λ place. (code ++ cx) ++ ready_code p s rest (lefts_above (q ∷ []) h) place) n ∙ ap (λ l. l ++ ready_code p s rest (lefts_above (q ∷ []) h) (length behind)) (sym e2)
+      ∙ ap (λ k. behind ++ ready_code p s rest k (length behind)) (sym e0)
 
-  update_alone : (q : Place) (o : BinOp) (e : Ex) (h pc : ℕ) → update_code p s (place_of q) o e h pc
-      ≡ (let v = above_address (far (place_of q)) h in
-      address_code s (place_of q) h h
-      ++ fetch_code s (place_of q) h v ∷ (ex_code p s e (v + 1) (pc + (address_size (place_of q) + 1)) ++ Bin (operation o) (temp s v) (temp s v) (temp s (v + 1)) ∷ (land_code s (place_of q) h v ∷ [])))
-  update_alone (Local site) o e h pc = refl
-  update_alone (Global number) o e h pc = refl
+  pub ready_split : (n : ℕ) (ls : List LeftData) (i : ℕ) (x : LeftData) (h after : ℕ) → i < length ls → x ≡ get_or ls i x → after ≡ lefts_above (left_of x ∷ []) h → ReadyFitIn p s n h (map left_of (drop i ls))
+      → ReadyFitIn p s n h (left_of x ∷ []) × ReadyFitIn p s n after (map left_of (drop (i + 1) ls))
+  ready_split n ls i x h after l is e f =
+      let g = by (left_of x) (subst (λ y. ReadyFitIn p s n h y) (split_lefts ls i x l is) f) in (g.0, subst (λ k. ReadyFitIn p s n k (map left_of (drop (i + 1) ls))) (sym e) g.1)
+    where
+      by : (q : Left) → ReadyFitIn p s n h (q ∷ map left_of (drop (i + 1) ls)) → ReadyFitIn p s n h (q ∷ []) × ReadyFitIn p s n (lefts_above (q ∷ []) h) (map left_of (drop (i + 1) ls))
+      by blank g = (tt, g)
+      by (new site) g = (tt, g)
+      by (to q) g = ((g.0, tt), g.1)
 
-  pub update_emitted : (old c1 c2 c3 c4 c5 : List Instr) (q : Place) (o : BinOp) (e : Ex) (h v : ℕ) → v ≡ above_address (far (place_of q)) h
-      → c1 ≡ old ++ address_code s (place_of q) h h → c2 ≡ c1 ++ fetch_code s (place_of q) h v ∷ [] → c3 ≡ c2 ++ ex_code p s e (v + 1) (length c2)
-      → c4 ≡ c3 ++ Bin (operation o) (temp s v) (temp s v) (temp s (v + 1)) ∷ [] → c5 ≡ c4 ++ land_code s (place_of q) h v ∷ []
-      → c5 ≡ old ++ update_code p s (place_of q) o e h (length old)
-  update_emitted old c1 c2 c3 c4 c5 q o e h v e0 e1 e2 e3 e4 e5 =
-      let a = address_code s (place_of q) h h in let pe = length old + (address_size (place_of q) + 1) in
-      let n1 : length c1 ≡ length old + address_size (place_of q) = ap length e1 ∙ omega (arith, length-append old a, length_address s (place_of q) h h) in
-      let n2 : length c2 ≡ pe = ap length e2 ∙ omega (arith, n1, length_last c1 (fetch_code s (place_of q) h v)) in
-      let f3 : c3 ≡ c2 ++ ex_code p s e (v + 1) pe = e3 ∙ ap (λ place. c2 ++ ex_code p s e (v + 1) place) n2 in
-      let op = Bin (operation o) (temp s v) (temp s v) (temp s (v + 1)) in
-      let all : c5 ≡ ((((old ++ a) ++ fetch_code s (place_of q) h v ∷ []) ++ ex_code p s e (v + 1) pe) ++ op ∷ []) ++ land_code s (place_of q) h v ∷ [] = cc in
-      let flat : c5 ≡ old ++ (a ++ fetch_code s (place_of q) h v ∷ (ex_code p s e (v + 1) pe ++ op ∷ (land_code s (place_of q) h v ∷ []))) = all ∙ simp append_assoc in
-      flat
-      ∙ ap (λ k. old ++ (a ++ fetch_code s (place_of q) h k ∷ (ex_code p s e (k + 1) pe ++ Bin (operation o) (temp s k) (temp s k) (temp s (k + 1)) ∷ (land_code s (place_of q) h k ∷ [])))) e0
-      ∙ ap (λ is. old ++ is) (sym (update_alone q o e h (length old)))
+  pub assign_emitted : (old c0 c1 c2 : List Instr) (ls : List Left) (es : Exs) (h first behind : ℕ) → first ≡ lefts_above ls h → behind ≡ first + all_wide p es → c0 ≡ old ++ ready_code p s ls h (length old)
+      → c1 ≡ c0 ++ exs_code p s es first (length c0) → c2 ≡ c1 ++ lefts_code s (value_widths p es) ls h behind first → c2 ≡ old ++ assign_code p s ls es h (length old)
+  assign_emitted old c0 c1 c2 ls es h first behind ef eb e0 e1 e2 =
+      let ns = value_widths p es in let above = lefts_above ls h in let end = lefts_end p ls (length old) in let ready = ready_code p s ls h (length old) in
+      let n0 : length c0 ≡ end = ap length e0 ∙ omega (arith, length-append old ready, length_ready p s ls h (length old), lefts_ends p ls (length old)) in
+      let room : behind ≡ above + all_wide p es = omega (arith, ef, eb) in
+      let f1 : c1 ≡ c0 ++ exs_code p s es above end = e1 ∙ ap (λ place. c0 ++ exs_code p s es first place) n0 ∙ ap (λ k. c0 ++ exs_code p s es k end) ef in
+      let f2 : c2 ≡ c1 ++ lefts_code s ns ls h (above + all_wide p es) above = e2 ∙ ap (λ k. c1 ++ lefts_code s ns ls h k first) room ∙ ap (λ k. c1 ++ lefts_code s ns ls h (above + all_wide p es) k) ef in
+      let all : c2 ≡ ((old ++ ready) ++ exs_code p s es above end) ++ lefts_code s ns ls h (above + all_wide p es) above = cc in
+      all ∙ simp append_assoc
 
-  bump_alone : (q : Place) (o : BinOp) (h pc : ℕ) → bump_code p s (place_of q) o h pc
-      ≡ (let v = above_address (far (place_of q)) h in
-      address_code s (place_of q) h h
-      ++ fetch_code s (place_of q) h v ∷ (Const (temp s (v + 1)) 1 ∷ (Bin (operation o) (temp s v) (temp s v) (temp s (v + 1)) ∷ (land_code s (place_of q) h v ∷ []))))
-  bump_alone (Local site) o h pc = refl
-  bump_alone (Global number) o h pc = refl
+  -- what stands before the operand of an assignment with an operator: the operands of the place, its address and its value
+  module _ (old c0 c1 c2 : List Instr) (q : Pl) (h at v : ℕ) (ea : at ≡ place_above q h) (ev : v ≡ above_address (far q) at) (e0 : c0 ≡ old ++ place_code p s q h (length old)) (e1 : c1 ≡ c0 ++ address_code s q h at)
+      (e2 : c2 ≡ c1 ++ fetch_code s q at v ∷ []) where
+    abbrev at_is : ℕ
+    at_is = place_above q h
 
-  pub bump_emitted : (old c1 c2 c3 c4 c5 : List Instr) (q : Place) (o : BinOp) (h v : ℕ) → v ≡ above_address (far (place_of q)) h
-      → c1 ≡ old ++ address_code s (place_of q) h h → c2 ≡ c1 ++ fetch_code s (place_of q) h v ∷ [] → c3 ≡ c2 ++ Const (temp s (v + 1)) 1 ∷ []
-      → c4 ≡ c3 ++ Bin (operation o) (temp s v) (temp s v) (temp s (v + 1)) ∷ [] → c5 ≡ c4 ++ land_code s (place_of q) h v ∷ []
-      → c5 ≡ old ++ bump_code p s (place_of q) o h (length old)
-  bump_emitted old c1 c2 c3 c4 c5 q o h v e0 e1 e2 e3 e4 e5 =
-      let a = address_code s (place_of q) h h in let one = Const (temp s (v + 1)) 1 in
-      let op = Bin (operation o) (temp s v) (temp s v) (temp s (v + 1)) in
-      let all : c5 ≡ ((((old ++ a) ++ fetch_code s (place_of q) h v ∷ []) ++ one ∷ []) ++ op ∷ []) ++ land_code s (place_of q) h v ∷ [] = cc in
-      let flat : c5 ≡ old ++ (a ++ fetch_code s (place_of q) h v ∷ (one ∷ (op ∷ (land_code s (place_of q) h v ∷ [])))) = all ∙ simp append_assoc in
-      flat
-      ∙ ap (λ k. old ++ (a ++ fetch_code s (place_of q) h k ∷ (Const (temp s (k + 1)) 1 ∷ (Bin (operation o) (temp s k) (temp s k) (temp s (k + 1)) ∷ (land_code s (place_of q) h k ∷ []))))) e0
-      ∙ ap (λ is. old ++ is) (sym (bump_alone q o h (length old)))
+    abbrev v_is : ℕ
+    v_is = above_address (far q) at_is
+
+    same_value : v ≡ v_is
+    same_value = ev ∙ ap (above_address (far q)) ea
+
+    reached_place : length c2 ≡ place_end p q (length old) + (address_size q + 1)
+    reached_place =
+        ap length e2 ∙ omega (
+          arith,
+          length_last c1 (fetch_code s q at v),
+          ap length e1,
+          length-append c0 (address_code s q h at),
+          length_address s q h at,
+          ap length e0,
+          length-append old (place_code p s q h (length old)),
+          length_place p s q h (length old),
+          place_ends p q (length old),
+        )
+
+    begun : c2 ≡ ((old ++ place_code p s q h (length old)) ++ address_code s q h at_is) ++ fetch_code s q at_is v_is ∷ []
+    begun =
+        e2 ∙ ap (λ k. c1 ++ fetch_code s q at k ∷ []) same_value ∙ ap (λ k. c1 ++ fetch_code s q k v_is ∷ []) ea
+        ∙ ap (λ c. c ++ fetch_code s q at_is v_is ∷ []) (e1 ∙ ap (λ k. c0 ++ address_code s q h k) ea ∙ ap (λ c. c ++ address_code s q h at_is) e0)
+
+    pub update_emitted : (c3 c4 c5 : List Instr) (o : BinOp) (e : Ex) → c3 ≡ c2 ++ ex_code p s e (v + 1) (length c2) → c4 ≡ c3 ++ Bin (operation o) (temp s v) (temp s v) (temp s (v + 1)) ∷ []
+        → c5 ≡ c4 ++ land_code s q at v ∷ [] → c5 ≡ old ++ update_code p s q o e h (length old)
+    update_emitted c3 c4 c5 o e e3 e4 e5 =
+        let pe = place_end p q (length old) + (address_size q + 1) in let w = v_is in
+        let f3 : c3 ≡ c2 ++ ex_code p s e (w + 1) pe = e3 ∙ ap (λ place. c2 ++ ex_code p s e (v + 1) place) reached_place ∙ ap (λ k. c2 ++ ex_code p s e (k + 1) pe) same_value in
+        let f4 : c4 ≡ c3 ++ Bin (operation o) (temp s w) (temp s w) (temp s (w + 1)) ∷ [] = e4 ∙ ap (λ k. c3 ++ Bin (operation o) (temp s k) (temp s k) (temp s (k + 1)) ∷ []) same_value in
+        let f5 : c5 ≡ c4 ++ land_code s q at_is w ∷ [] = e5 ∙ ap (λ k. c4 ++ land_code s q at k ∷ []) same_value ∙ ap (λ k. c4 ++ land_code s q k w ∷ []) ea in
+        let b = begun in
+        let all : c5 ≡ (((((old ++ place_code p s q h (length old)) ++ address_code s q h at_is) ++ fetch_code s q at_is w ∷ []) ++ ex_code p s e (w + 1) pe) ++ Bin (operation o) (temp s w) (temp s w) (temp s (w + 1)) ∷ []) ++ land_code s q at_is w ∷ [] = cc in
+        all ∙ simp append_assoc
+
+    pub bump_emitted : (c3 c4 c5 : List Instr) (o : BinOp) → c3 ≡ c2 ++ Const (temp s (v + 1)) 1 ∷ [] → c4 ≡ c3 ++ Bin (operation o) (temp s v) (temp s v) (temp s (v + 1)) ∷ []
+        → c5 ≡ c4 ++ land_code s q at v ∷ [] → c5 ≡ old ++ bump_code p s q o h (length old)
+    bump_emitted c3 c4 c5 o e3 e4 e5 =
+        let w = v_is in
+        let f3 : c3 ≡ c2 ++ Const (temp s (w + 1)) 1 ∷ [] = e3 ∙ ap (λ k. c2 ++ Const (temp s (k + 1)) 1 ∷ []) same_value in
+        let f4 : c4 ≡ c3 ++ Bin (operation o) (temp s w) (temp s w) (temp s (w + 1)) ∷ [] = e4 ∙ ap (λ k. c3 ++ Bin (operation o) (temp s k) (temp s k) (temp s (k + 1)) ∷ []) same_value in
+        let f5 : c5 ≡ c4 ++ land_code s q at_is w ∷ [] = e5 ∙ ap (λ k. c4 ++ land_code s q at k ∷ []) same_value ∙ ap (λ k. c4 ++ land_code s q k w ∷ []) ea in
+        let b = begun in
+        let all : c5 ≡ (((((old ++ place_code p s q h (length old)) ++ address_code s q h at_is) ++ fetch_code s q at_is w ∷ []) ++ Const (temp s (w + 1)) 1 ∷ []) ++ Bin (operation o) (temp s w) (temp s w) (temp s (w + 1)) ∷ []) ++ land_code s q at_is w ∷ [] = cc in
+        all ∙ simp append_assoc
 
 module _ (p : Program) (arguments : ℕ) (named : List ℕ) (s : Slots) where
   abbrev code_at : Sts → (h out again pc : ℕ) → List Instr
@@ -303,28 +346,100 @@ module _ (p : Program) (arguments : ℕ) (named : List ℕ) (s : Slots) where
       let all : c5 ≡ ((((old ++ test_code p s test h pc pb) ++ code_at body h pb pt pi) ++ renew_code s sites h) ++ code_at post h pb pt pp) ++ Jump pc ∷ [] = cc in
       all ∙ simp append_assoc
 
-  pub count_emitted : (old c1 c2 c3 c4 : List Instr) (e : Ex) (key : LeftData) (value : Left) (body : Sts) (start test turn behind h out again : ℕ) → start ≡ length old → test ≡ start + size p e + 1
-      → turn ≡ test + 2 + lefts_size (left_of key ∷ []) + long body → behind ≡ turn + 3 → c1 ≡ old ++ (ex_code p s e h (length old) ++ Const (temp s (h + 1)) 0 ∷ [])
-      → c2 ≡ c1 ++ Bin Word.Less (temp s (h + 2)) (temp s (h + 1)) (temp s h) ∷ JumpZero (temp s (h + 2)) behind ∷ left_code s (left_of key) (h + 2) (h + 2) (h + 1) → c3 ≡ c2 ++ code_at body (h + 2) behind turn (length c2)
-      → c4 ≡ c3 ++ Const (temp s (h + 2)) 1 ∷ Bin Word.Add (temp s (h + 1)) (temp s (h + 1)) (temp s (h + 2)) ∷ Jump test ∷ []
-      → c4 ≡ old ++ st_code p arguments named s (range (over_int e) (left_of key) value body) h out again (length old)
-  count_emitted old c1 c2 c3 c4 e key value body start test turn behind h out again es et eu eb e1 e2 e3 e4 =
+  -- a left side that gets an index, behind its operands
+  key_is : (key : Left) (first v pc : ℕ) → key_code p s key first v pc ≡ ready_code p s (key ∷ []) first pc ++ lefts_code s (1 ∷ []) (key ∷ []) first (lefts_above (key ∷ []) first) v
+  key_is key first v pc = ap (λ is. ready_code p s (key ∷ []) first pc ++ is) (sym (left_alone s 1 key first (lefts_above (key ∷ []) first) v))
+
+  length_key : (key : Left) (first v pc : ℕ) → length (key_code p s key first v pc) ≡ lefts_sized p (key ∷ []) (lefts_size (key ∷ []))
+  length_key key first v pc =
+      omega (
+        arith,
+        length-append (ready_code p s (key ∷ []) first pc) (left_code s key first (lefts_above (key ∷ []) first) v),
+        length_ready p s (key ∷ []) first pc,
+        length_left s key first (lefts_above (key ∷ []) first) v,
+        lefts_sum p (key ∷ []) (lefts_size (key ∷ [])),
+      )
+
+  pub count_emitted : (old c1 c2 c3 c4 c5 : List Instr) (e : Ex) (key value : Left) (body : Sts) (start test turn behind h out again : ℕ) → start ≡ length old → test ≡ start + size p e + 1
+      → turn ≡ test + 2 + index_round_size p key + long body → behind ≡ turn + 3 → c1 ≡ old ++ (ex_code p s e h (length old) ++ Const (temp s (h + 1)) 0 ∷ [])
+      → c2 ≡ c1 ++ Bin Word.Less (temp s (h + 2)) (temp s (h + 1)) (temp s h) ∷ JumpZero (temp s (h + 2)) behind ∷ [] → c3 ≡ c2 ++ key_code p s key (h + 2) (h + 1) (length c2) → c4 ≡ c3 ++ code_at body (h + 2) behind turn (length c3)
+      → c5 ≡ c4 ++ Const (temp s (h + 2)) 1 ∷ Bin Word.Add (temp s (h + 1)) (temp s (h + 1)) (temp s (h + 2)) ∷ Jump test ∷ []
+      → c5 ≡ old ++ st_code p arguments named s (range (over_int e) key value body) h out again (length old)
+  count_emitted old c1 c2 c3 c4 c5 e key value body start test turn behind h out again es et eu eb e1 e2 e3 e4 e5 =
       let pc = length old in
-      let sized = key_sized p key (lefts_size (left_of key ∷ [])) in
-      let pt = pc + size p e + 1 in let pi = pt + 2 + lefts_sized p (left_of key ∷ []) (lefts_size (left_of key ∷ [])) in let pu = pi + long body in let pb = pu + 3 in
+      let sized = lefts_sized p (key ∷ []) (lefts_size (key ∷ [])) in
+      let pt = pc + size p e + 1 in let pi = pt + 2 + sized in let pu = pi + long body in let pb = pu + 3 in
       let less = Bin Word.Less (temp s (h + 2)) (temp s (h + 1)) (temp s h) in
       let zero = Const (temp s (h + 1)) 0 in
-      let lefts = left_code s (left_of key) (h + 2) (h + 2) (h + 1) in
+      let round = key_code p s key (h + 2) (h + 1) (pt + 2) in
       let one = Const (temp s (h + 2)) 1 in let sum = Bin Word.Add (temp s (h + 1)) (temp s (h + 1)) (temp s (h + 2)) in
       let t : test ≡ pt = omega (arith, es, et) in
-      let u : turn ≡ pu = omega (arith, t, eu, sized) in
+      let u : turn ≡ pu = omega (arith, t, eu) in
       let b : behind ≡ pb = omega (arith, u, eb) in
       let n1 : length c1 ≡ pt = ap length e1 ∙ omega (arith, length-append old (ex_code p s e h pc ++ zero ∷ []), length_last (ex_code p s e h pc) zero, length_code p s e h pc) in
-      let two : length (less ∷ JumpZero (temp s (h + 2)) behind ∷ lefts) ≡ suc (suc (length lefts)) = refl in
-      let n2 : length c2 ≡ pi = ap length e2 ∙ omega (arith, n1, two, sized, length-append c1 (less ∷ JumpZero (temp s (h + 2)) behind ∷ lefts), length_left s key (h + 2) (h + 2) (h + 1)) in
-      let f2 : c2 ≡ c1 ++ less ∷ JumpZero (temp s (h + 2)) pb ∷ lefts = e2 ∙ ap (λ place. c1 ++ less ∷ JumpZero (temp s (h + 2)) place ∷ lefts) b in
-      let f3 : c3 ≡ c2 ++ code_at body (h + 2) pb pu pi = e3 ∙ ap (λ place. c2 ++ code_at body (h + 2) behind turn place) n2 ∙ ap (λ place. c2 ++ code_at body (h + 2) place turn pi) b ∙ ap (λ place. c2 ++ code_at body (h + 2) pb place pi) u in
-      let f4 : c4 ≡ c3 ++ one ∷ sum ∷ Jump pt ∷ [] = e4 ∙ ap (λ place. c3 ++ one ∷ sum ∷ Jump place ∷ []) t in
-      let all : c4 ≡ (((old ++ (ex_code p s e h pc ++ zero ∷ [])) ++ less ∷ JumpZero (temp s (h + 2)) pb ∷ lefts) ++ code_at body (h + 2) pb pu pi) ++ one ∷ sum ∷ Jump pt ∷ [] = cc in
-      let flat : c4 ≡ old ++ (ex_code p s e h pc ++ (zero ∷ less ∷ JumpZero (temp s (h + 2)) pb ∷ (lefts ++ (code_at body (h + 2) pb pu pi ++ one ∷ sum ∷ Jump pt ∷ [])))) = all ∙ simp append_assoc in
-      flat ∙ ap (λ l. old ++ (ex_code p s e h pc ++ (zero ∷ less ∷ JumpZero (temp s (h + 2)) pb ∷ (l ++ (code_at body (h + 2) pb pu pi ++ one ∷ sum ∷ Jump pt ∷ []))))) (sym (key_left s p key (h + 2) (pt + 2) (h + 1)))
+      let two : length (less ∷ JumpZero (temp s (h + 2)) behind ∷ []) ≡ 2 = refl in
+      let n2 : length c2 ≡ pt + 2 = ap length e2 ∙ omega (arith, n1, two, length-append c1 (less ∷ JumpZero (temp s (h + 2)) behind ∷ [])) in
+      let f2 : c2 ≡ c1 ++ less ∷ JumpZero (temp s (h + 2)) pb ∷ [] = e2 ∙ ap (λ place. c1 ++ less ∷ JumpZero (temp s (h + 2)) place ∷ []) b in
+      let f3 : c3 ≡ c2 ++ round = e3 ∙ ap (λ place. c2 ++ key_code p s key (h + 2) (h + 1) place) n2 in
+      let n3 : length c3 ≡ pi = ap length f3 ∙ omega (arith, n2, length-append c2 round, length_key key (h + 2) (h + 1) (pt + 2)) in
+      let f4 : c4 ≡ c3 ++ code_at body (h + 2) pb pu pi = e4 ∙ ap (λ place. c3 ++ code_at body (h + 2) behind turn place) n3 ∙ ap (λ place. c3 ++ code_at body (h + 2) place turn pi) b ∙ ap (λ place. c3 ++ code_at body (h + 2) pb place pi) u in
+      let f5 : c5 ≡ c4 ++ one ∷ sum ∷ Jump pt ∷ [] = e5 ∙ ap (λ place. c4 ++ one ∷ sum ∷ Jump place ∷ []) t in
+      let all : c5 ≡ ((((old ++ (ex_code p s e h pc ++ zero ∷ [])) ++ less ∷ JumpZero (temp s (h + 2)) pb ∷ []) ++ round) ++ code_at body (h + 2) pb pu pi) ++ one ∷ sum ∷ Jump pt ∷ [] = cc in
+      let flat : c5 ≡ old ++ (ex_code p s e h pc ++ (zero ∷ less ∷ JumpZero (temp s (h + 2)) pb ∷ (round ++ (code_at body (h + 2) pb pu pi ++ one ∷ sum ∷ Jump pt ∷ [])))) = all ∙ simp append_assoc in
+      flat ∙ ap (λ l. old ++ (ex_code p s e h pc ++ (zero ∷ less ∷ JumpZero (temp s (h + 2)) pb ∷ (l ++ (code_at body (h + 2) pb pu pi ++ one ∷ sum ∷ Jump pt ∷ []))))) (key_is key (h + 2) (h + 1) (pt + 2))
+
+  -- The rounds of `range` over an array, behind what stands before them: the start, a round's left sides, the body and the turn.
+  rounds_emitted : (old c1 c2 c3 c4 round : List Instr) (body : Sts) (x wide begin test turn behind h : ℕ) → begin ≡ length old → test ≡ begin + 1 → turn ≡ begin + 4 + wide + long body → behind ≡ turn + 3
+      → c1 ≡ old ++ Const (temp s h) 0 ∷ Const (temp s (h + 1)) x ∷ Bin Word.Less (temp s (h + 1)) (temp s h) (temp s (h + 1)) ∷ JumpZero (temp s (h + 1)) behind ∷ []
+      → length round ≡ wide → c2 ≡ c1 ++ round → c3 ≡ c2 ++ code_at body (h + 1) behind turn (length c2)
+      → c4 ≡ c3 ++ Const (temp s (h + 1)) 1 ∷ Bin Word.Add (temp s h) (temp s h) (temp s (h + 1)) ∷ Jump test ∷ []
+      → c4 ≡ old ++ (let inside = length old + 4 + wide in let pu = inside + long body in array_code s x h (length old + 1) (pu + 3) round (code_at body (h + 1) (pu + 3) pu inside))
+  rounds_emitted old c1 c2 c3 c4 round body x wide begin test turn behind h eb et eu ebe e1 er e2 e3 e4 =
+      let pc = length old in let pi = pc + 4 + wide in let pu = pi + long body in let pb = pu + 3 in
+      let t : test ≡ pc + 1 = omega (arith, eb, et) in
+      let u : turn ≡ pu = omega (arith, eb, eu) in
+      let b : behind ≡ pb = omega (arith, u, ebe) in
+      let head : List Instr = Const (temp s h) 0 ∷ Const (temp s (h + 1)) x ∷ Bin Word.Less (temp s (h + 1)) (temp s h) (temp s (h + 1)) ∷ JumpZero (temp s (h + 1)) pb ∷ [] in
+      let last : List Instr = Const (temp s (h + 1)) 1 ∷ Bin Word.Add (temp s h) (temp s h) (temp s (h + 1)) ∷ Jump (pc + 1) ∷ [] in
+      let f1 : c1 ≡ old ++ head = e1 ∙ ap (λ place. old ++ Const (temp s h) 0 ∷ Const (temp s (h + 1)) x ∷ Bin Word.Less (temp s (h + 1)) (temp s h) (temp s (h + 1)) ∷ JumpZero (temp s (h + 1)) place ∷ []) b in
+      let four : length head ≡ 4 = refl in
+      let n2 : length c2 ≡ pi = ap length e2 ∙ omega (arith, length-append c1 round, ap length f1, length-append old head, four, er) in
+      let f3 : c3 ≡ c2 ++ code_at body (h + 1) pb pu pi = e3 ∙ ap (λ place. c2 ++ code_at body (h + 1) behind turn place) n2 ∙ ap (λ place. c2 ++ code_at body (h + 1) place turn pi) b ∙ ap (λ place. c2 ++ code_at body (h + 1) pb place pi) u in
+      let f4 : c4 ≡ c3 ++ last = e4 ∙ ap (λ place. c3 ++ Const (temp s (h + 1)) 1 ∷ Bin Word.Add (temp s h) (temp s h) (temp s (h + 1)) ∷ Jump place ∷ []) t in
+      let all : c4 ≡ (((old ++ head) ++ round) ++ code_at body (h + 1) pb pu pi) ++ last = cc in
+      all ∙ simp append_assoc
+
+  pub indices_emitted : (old c1 c2 c3 c4 : List Instr) (key value : Left) (body : Sts) (x begin test turn behind h out again : ℕ) → begin ≡ length old → test ≡ begin + 1 → turn ≡ begin + 4 + index_round_size p key + long body → behind ≡ turn + 3
+      → c1 ≡ old ++ Const (temp s h) 0 ∷ Const (temp s (h + 1)) x ∷ Bin Word.Less (temp s (h + 1)) (temp s h) (temp s (h + 1)) ∷ JumpZero (temp s (h + 1)) behind ∷ []
+      → c2 ≡ c1 ++ key_code p s key (h + 1) h (length c1) → c3 ≡ c2 ++ code_at body (h + 1) behind turn (length c2)
+      → c4 ≡ c3 ++ Const (temp s (h + 1)) 1 ∷ Bin Word.Add (temp s h) (temp s h) (temp s (h + 1)) ∷ Jump test ∷ []
+      → c4 ≡ old ++ st_code p arguments named s (range (over_length x) key value body) h out again (length old)
+  indices_emitted old c1 c2 c3 c4 key value body x begin test turn behind h out again eb et eu ebe e1 e2 e3 e4 =
+      let pc = length old in
+      let head : List Instr = Const (temp s h) 0 ∷ Const (temp s (h + 1)) x ∷ Bin Word.Less (temp s (h + 1)) (temp s h) (temp s (h + 1)) ∷ JumpZero (temp s (h + 1)) behind ∷ [] in
+      let four : length head ≡ 4 = refl in
+      let n1 : length c1 ≡ pc + 4 = ap length e1 ∙ omega (arith, length-append old head, four) in
+      let round = index_round_code p s key h (pc + 4) in
+      let same : key_code p s key (h + 1) h (length c1) ≡ round = ap (key_code p s key (h + 1) h) n1 ∙ key_is key (h + 1) h (pc + 4) in
+      rounds_emitted old c1 c2 c3 c4 round body x (index_round_size p key) begin test turn behind h eb et eu ebe e1 (length_index_round p s key h (pc + 4)) (e2 ∙ ap (λ is. c1 ++ is) same) e3 e4
+
+  pub elements_emitted : (old c0 c1 c2 c3 c4 : List Instr) (site : ℕ) (e : Ex) (key value : Left) (body : Sts) (x start begin test turn behind h out again : ℕ) → start ≡ length old → begin ≡ start + size p e + 1 → test ≡ begin + 1
+      → turn ≡ begin + 4 + element_round_size p key value + long body → behind ≡ turn + 3
+      → c0 ≡ old ++ (ex_code p s e h (length old) ++ moves (site_words s site) (site_slot s site) (temp s h) ∷ [])
+      → c1 ≡ c0 ++ Const (temp s h) 0 ∷ Const (temp s (h + 1)) x ∷ Bin Word.Less (temp s (h + 1)) (temp s h) (temp s (h + 1)) ∷ JumpZero (temp s (h + 1)) behind ∷ []
+      → c2 ≡ c1 ++ element_round_code p s site x key value h (length c1) → c3 ≡ c2 ++ code_at body (h + 1) behind turn (length c2)
+      → c4 ≡ c3 ++ Const (temp s (h + 1)) 1 ∷ Bin Word.Add (temp s h) (temp s h) (temp s (h + 1)) ∷ Jump test ∷ []
+      → c4 ≡ old ++ st_code p arguments named s (range (over_copy site e x) key value body) h out again (length old)
+  elements_emitted old c0 c1 c2 c3 c4 site e key value body x start begin test turn behind h out again es eb et eu ebe e0 e1 e2 e3 e4 =
+      let pc = length old in let copy = ex_code p s e h pc in let move = moves (site_words s site) (site_slot s site) (temp s h) in let pb = pc + size p e + 1 in
+      let n0 : length c0 ≡ pb = ap length e0 ∙ omega (arith, length-append old (copy ++ move ∷ []), length_last copy move, length_code p s e h pc) in
+      let head : List Instr = Const (temp s h) 0 ∷ Const (temp s (h + 1)) x ∷ Bin Word.Less (temp s (h + 1)) (temp s h) (temp s (h + 1)) ∷ JumpZero (temp s (h + 1)) behind ∷ [] in
+      let four : length head ≡ 4 = refl in
+      let n1 : length c1 ≡ length c0 + 4 = ap length e1 ∙ omega (arith, length-append c0 head, four) in
+      let wide = element_round_size p key value in
+      let round = element_round_code p s site x key value h (length c0 + 4) in
+      let rounds : (k : ℕ) → List Instr = λ k. (let inside = k + 4 + wide in let pu = inside + long body in array_code s x h (k + 1) (pu + 3) (element_round_code p s site x key value h (k + 4)) (code_at body (h + 1) (pu + 3) pu inside)) in
+      let all : c4 ≡ c0 ++ rounds (length c0) =
+      rounds_emitted c0 c1 c2 c3 c4 round body x wide begin test turn behind h (omega (arith, eb, es, n0)) et eu ebe e1 (length_element_round p s site x key value h (length c0 + 4)) (e2 ∙ ap (λ place. c1 ++ element_round_code p s site x key value h place) n1) e3 e4 in
+      let placed : c4 ≡ c0 ++ rounds pb = all ∙ ap (λ k. c0 ++ rounds k) n0 in
+      placed ∙ ap (λ c. c ++ rounds pb) e0 ∙ append_assoc old (copy ++ move ∷ []) (rounds pb) ∙ ap (λ is. old ++ is) (append_assoc copy (move ∷ []) (rounds pb))

@@ -3,8 +3,7 @@ use Rattle.std.proofs.Common.{◌≡◌, ◌≢◌, ℕ, zero, suc, ◌+◌, ◌
 use Rattle.isa.specs.declared.instr.Instr.TheVariants.{MoveWords, Zero}
 use Rattle.value_trees.specs.Types.{ValueType, ints, width}
 use Rattle.typed.specs.Frames.{words_between}
-use Rattle.typed.specs.Syntax.{local, here}
-use Rattle.simulated_code.specs.Code.{Slots, temp, site_slot, site_words, moves, zeros, fetch_code, land_code}
+use Rattle.simulated_code.specs.Code.{Slots, site_words, moves, zeros}
 use Rattle.codegen.specs.Temps.{SiteFits}
 
 -- the words of a site stand before those of a later one
@@ -32,10 +31,3 @@ pub zeros_many : (n a : ℕ) → n ≢ 1 → zeros n a ≡ Zero a n
 zeros_many zero a other = refl
 zeros_many (suc zero) a other = absurd (other refl)
 zeros_many (suc (suc n)) a other = refl
-
--- a whole variable
-pub fetch_whole : (s : Slots) (site at h : ℕ) → fetch_code s (local site here) at h ≡ moves (site_words s site) (temp s h) (site_slot s site)
-fetch_whole s site at h = let e : site_slot s site + 0 ≡ site_slot s site = omega arith in ap (moves (site_words s site) (temp s h)) e
-
-pub land_whole : (s : Slots) (site at h : ℕ) → land_code s (local site here) at h ≡ moves (site_words s site) (site_slot s site) (temp s h)
-land_whole s site at h = let e : site_slot s site + 0 ≡ site_slot s site = omega arith in ap (λ a. moves (site_words s site) a (temp s h)) e

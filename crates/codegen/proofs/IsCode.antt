@@ -14,7 +14,7 @@ use Rattle.typed.specs.declared.operators.UnOp.{UnOp}
 use Rattle.typed.specs.declared.operators.UnOp.TheVariants as One
 use Rattle.value_trees.specs.Types.{ValueType, ints, bools, struct_of, array_of, width, part_type, part_offset}
 use Rattle.value_trees.specs.Paths.{offset}
-use Rattle.typed.specs.Syntax.{Ex, Exs, Steps, here, inner, at_index, Pl, Left, Piece, St, Sts, Func, Program, constant, read, unary, binary, both, either, call, part_of, literal, Elements, no_elements, element, local, global, none, more, results, asked, blank, new, to, text, shown, over_int, over_length, over_copy, declare, assign, update, bump, discard, block, choose, loop, range, break_off, go_on, give_back, print, raise, quit, done, next, all_width, each_width, arguments_in, results_in, argument_words, result_words, arguments_of, results_of, site_width, path_of, wide, all_wide, value_widths, ascend, words_through, gap_behind}
+use Rattle.typed.specs.Syntax.{Ex, Exs, Steps, here, inner, at_index, Pl, Left, Piece, St, Sts, Func, Program, constant, read, unary, binary, both, either, call, part_of, literal, Elements, no_elements, element, local, global, none, more, results, asked, blank, new, to, text, shown, over_int, over_length, over_copy, declare, assign, update, bump, discard, block, choose, loop, range, break_off, go_on, give_back, print, raise, quit, done, next, all_width, each_width, arguments_in, results_in, argument_words, result_words, arguments_of, results_of, type_named, site_width, path_of, wide, all_wide, value_widths, ascend, words_through, gap_behind}
 use Rattle.typed.specs.Form.{scope_in, body_first, IsInForm}
 use Rattle.typed.specs.Frames.{far, steps_far, words_between, frame_of}
 use Rattle.codegen.specs.Temps.{SiteFits, IndicesFit, PlaceFits, AddressFits, SitesFit, sites_words, reached, ParamsFitIn, LeftFits, LeftsFitIn, ValuesFit, RenewFits, CallFits, Fits, OperandsFit, StepsFitIn, ElementsFitIn, ExsFitIn, ReadyFitIn, PiecesFitIn, TestFitsIn, StFitsIn, StsFitIn, FuncFitsIn}
@@ -155,7 +155,7 @@ module _ (p : Program) (solid : (site : ℕ) → 0 < site_width p site) (outgoin
   index_ok t (inner i steps) first at is a l f g = index_ok (part_type t i) steps first at is a l f g
   index_ok t (at_index place e m steps) first at is a l f g =
       let k = steps_from p (first + 1) steps in
-      ((f.0, f.1, omega (arith, a), omega (arith, a), omega (arith, k, l)), index_ok (part_type t 0) steps (first + 1) at is a l f.2 g)
+      ((f.0, f.2, omega (arith, a), omega (arith, a), omega (arith, k, l)), index_ok (part_type t 0) steps (first + 1) at is a l f.3 g)
 
   steps_address_ok : (slot : ℕ) (t : ValueType) (steps : Steps) (first at : ℕ) (is : List Instr) → at + steps_far steps ≤ temps → steps_above steps first ≤ temps → IndicesFit t steps → slot + offset t (path_of steps) < room
       → Are is → Are (steps_address s slot t steps first at ++ is)
@@ -213,11 +213,11 @@ module _ (p : Program) (solid : (site : ℕ) → 0 < site_width p site) (outgoin
         join (ex_code p s x h pc) (JumpZero (temp s h) py ∷ Jump (py + size p y) ∷ ex_code p s y h py) (ex_ok x h pc f.1 a (omega arith))
         ((omega arith, (omega arith, omega arith)), ((omega arith, omega arith), ex_ok y h py f.2 (omega arith) (omega arith)))
     ex_ok (call g es) h pc f a l = join (exs_code p s es h pc) (call_code p s g h) (exs_ok es h pc f.1 a (omega arith)) (call_ok g h f.0)
-    ex_ok (part_of t i e) h pc f a l =
-        let w = width (part_type t i) in let k = f.1 in let from = temp s (h + part_offset t i) in
+    ex_ok (part_of m i e) h pc f a l =
+        let t = type_named p m in let w = width (part_type t i) in let k = f.1 in let from = temp s (h + part_offset t i) in
         join (ex_code p s e h pc) (moves w (temp s h) from ∷ []) (ex_ok e h pc f.2 a (omega arith)) (moves_ok w (temp s h) from [] f.0 (omega (arith, k)) (omega (arith, k)) tt)
-    ex_ok (literal t es) h pc f a l =
-        let k = f.1 in zeroed_ok (width t) (temp s h) (elements_code p s t (ascend es) es h (pc + 1)) f.0 (omega (arith, k)) (elements_ok t (ascend es) es h (pc + 1) f.2 (omega arith) (omega arith))
+    ex_ok (literal m es) h pc f a l =
+        let t = type_named p m in let k = f.1 in zeroed_ok (width t) (temp s h) (elements_code p s t (ascend es) es h (pc + 1)) f.0 (omega (arith, k)) (elements_ok t (ascend es) es h (pc + 1) f.2 (omega arith) (omega arith))
 
     -- the operands of a place, and so many instructions behind them
     place_ok : (q : Pl) (h pc behind : ℕ) → OperandsFit p s n h q → start ≤ pc → pc + place_size p q behind < end → Are (place_code p s q h pc)
@@ -480,7 +480,7 @@ module _ (p : Program) (solid : (site : ℕ) → 0 < site_width p site) (outgoin
           (join ready lefts (ready_ok (key ∷ []) (h + 1) (pc + 4) (lefts_size (key ∷ [])) f.1 (omega arith) (omega arith)) (lefts_ok (1 ∷ []) (key ∷ []) (h + 1) first h (key_above key (h + 1) (omega (arith, k)) f.2) (omega (arith, k), f.2, f.3, tt)))
           (sts_ok true body (h + 1) behind turn inside f.4 w (λ e. (here_behind, here_turn)) (omega arith) (omega arith))
       st_ok looped (range (over_copy site e x) key value body) h out again pc f w r a l =
-          let k = f.0 in let words = f.2 in let above = f.7 in
+          let k = f.0 in let words = f.2 in let above = f.8 in
           let ls = key ∷ value ∷ [] in let v = lefts_above ls (h + 1) in let wide = width (part_type (site_type s site) 0) in
           let begin = pc + size p e + 1 in
           let inside = begin + 4 + lefts_sized p ls (4 + lefts_size ls) in
@@ -491,12 +491,12 @@ module _ (p : Program) (solid : (site : ℕ) → 0 < site_width p site) (outgoin
           let ready = ready_code p s ls (h + 1) (begin + 4) in let element = element_code s site x h v in let lefts = lefts_code s (1 ∷ wide ∷ []) ls (h + 1) (v + 1 + wide) v in
           let cb = code body (h + 1) behind turn inside in
           let rounds = array_code s x h (begin + 1) behind (ready ++ (element ++ lefts)) cb in
-          join (ex_code p s e h pc) (moves (site_width p site) (site_slot s site) (temp s h) ∷ rounds) (ex_ok e h pc f.5 a (omega arith))
+          join (ex_code p s e h pc) (moves (site_width p site) (site_slot s site) (temp s h) ∷ rounds) (ex_ok e h pc f.6 a (omega arith))
           (moves_ok (site_width p site) (site_slot s site) (temp s h) rounds (solid site) (site_in site f.1) (omega (arith, words))
           (array_ok x h (begin + 1) behind (ready ++ (element ++ lefts)) cb k (omega arith, omega arith) here_behind
-          (join ready (element ++ lefts) (ready_ok ls (h + 1) (begin + 4) (4 + lefts_size ls) f.6 (omega arith) (omega arith))
-          (join element lefts (element_ok site x h v f.1 f.3 f.4 (omega (arith, k)) above) (lefts_ok (1 ∷ wide ∷ []) ls (h + 1) (v + 1 + wide) v (omega (arith, above)) f.8)))
-          (sts_ok true body (h + 1) behind turn inside f.9 w (λ e. (here_behind, here_turn)) (omega arith) (omega arith))))
+          (join ready (element ++ lefts) (ready_ok ls (h + 1) (begin + 4) (4 + lefts_size ls) f.7 (omega arith) (omega arith))
+          (join element lefts (element_ok site x h v f.1 f.3 f.5 (omega (arith, k)) above) (lefts_ok (1 ∷ wide ∷ []) ls (h + 1) (v + 1 + wide) v (omega (arith, above)) f.9)))
+          (sts_ok true body (h + 1) behind turn inside f.10 w (λ e. (here_behind, here_turn)) (omega arith) (omega arith))))
       st_ok looped break_off h out again pc f w r a l = ((r w).0, tt)
       st_ok looped go_on h out again pc f w r a l = ((r w).1, tt)
       st_ok looped (give_back es) h out again pc f w r a l =

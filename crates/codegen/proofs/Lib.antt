@@ -1,5 +1,4 @@
 pub mod InSlots
-pub mod Alone
 pub mod Operands
 pub mod Operators
 pub mod ByWidth
@@ -11,3 +10,6 @@ pub mod Pieces
 pub mod Emitted
 pub mod Composed
 pub mod Whole
+pub mod Sized
+pub mod Steps
+pub mod Reached

@@ -1,18 +1,18 @@
 -- Where a form needs no more temps than there are, they suffice for all that it holds.
-use Rattle.std.proofs.Common.{◌≡◌, ◌⊎◌, inl, inr, ℕ, zero, suc, ◌+◌, ◌<◌, ◌≤◌, pos, Bool, true, false, List, [], ◌∷◌, Some, length, map, get_or, arith, sym, subst, ap, ◌∙◌, refl}
+use Rattle.std.proofs.Common.{◌≡◌, ◌⊎◌, inl, inr, ℕ, zero, suc, ◌+◌, ◌<◌, ◌≤◌, pos, Bool, true, false, List, [], ◌∷◌, Some, length, map, get_or, arith, sym, subst, ap, ◌∙◌, refl, suc-mul}
 use Rattle.std.specs.Prelude.{Option, None, max, slice_get}
 use Rattle.std.proofs.lemmas.Option.{slice_get_within}
 use Rattle.value_trees.specs.Types.{ValueType, ints, bools, array_of, width, part_count, part_type, part_offset}
 use Rattle.value_trees.specs.Value.{int, bool, composite}
-use Rattle.value_trees.specs.Paths.{Leads}
+use Rattle.value_trees.specs.Paths.{Leads, offset}
 use Rattle.value_trees.proofs.Parts.{element, leads_to, within}
-use Rattle.typed.specs.Syntax.{Ex, Exs, Pl, Steps, Left, Piece, St, Sts, Func, Program, constant, read, unary, binary, both, either, call, part_of, literal, Elements, no_elements, element as element_then, local, global, here, inner, at_index, none, more, results, asked, blank, new, to, text, shown, over_int, over_length, over_copy, declare, assign, update, bump, discard, block, choose, loop, range, break_off, go_on, give_back, print, raise, quit, done, next, all_width, each_width, arguments_in, result_words, arguments_of, results_of, site_type, site_width, path_of, wide, all_wide, ascend, words_before}
+use Rattle.typed.specs.Syntax.{Ex, Exs, Pl, Steps, Left, Piece, St, Sts, Func, Program, constant, read, unary, binary, both, either, call, part_of, literal, Elements, no_elements, element as element_then, local, global, here, inner, at_index, none, more, results, asked, blank, new, to, text, shown, over_int, over_length, over_copy, declare, assign, update, bump, discard, block, choose, loop, range, break_off, go_on, give_back, print, raise, quit, done, next, all_width, each_width, arguments_in, result_words, arguments_of, results_of, type_named, site_type, site_width, path_of, place_width, wide, all_wide, ascend, words_before, words_through, gap_behind}
 use Rattle.typed.specs.Form.{PlFits, StepsLead, ElementsFit, InScope, AllInScope, births, births_all, new_sites, scope_behind, scope_with, scope_after, SitesNext, LeftsFit, ExFits, ExsFit, TestFits, PiecesFit, ReturnFits, StFits, StsFit, ParamsFit, NamedFit, named_params, params_scope, scope_in, body_first, FuncFits, IsInForm}
 use Rattle.typed.specs.Frames.{far, left_far, lefts_far, behind_values, place_need, steps_need, elements_need, lefts_need, place_reach, steps_reach, elements_reach, lefts_reach, need, need_all, need_pieces, reach, reach_all, reach_pieces, test_need, test_reach, widest, st_need, sts_need, st_reach, sts_reach}
-use Rattle.simulated_code.specs.Code.{Slots, other_widths, part_words, above_address, place_above, lefts_above, slots_of}
+use Rattle.simulated_code.specs.Code.{Slots, other_widths, part_words, above_address, place_above, steps_above, lefts_above, slots_of}
 use Rattle.simulated_code.proofs.Rooms.{address_room, array_room, key_alone, key_room, lefts_others, lefts_room, place_others, place_room}
 use Rattle.simulated_code.proofs.Wide.{plain_one, takes_some, takes_one, place_is_of, wide_is, all_wide_is, widths_are}
-use Rattle.codegen.specs.Temps.{SiteFits, SitesFit, IndicesFit, PlaceFits, ParamsFitIn, LeftFits, left_words, LeftsFitIn, ValuesFit, RenewFits, CallFits, Fits, OperandsFit, StepsFitIn, ElementsFitIn, ExsFitIn, ReadyFitIn, PiecesFitIn, TestFitsIn, StFitsIn, StsFitIn, FuncFitsIn, reached, sites_words}
+use Rattle.codegen.specs.Temps.{SiteFits, SitesFit, IndicesFit, PlaceFits, AddressFits, ParamsFitIn, LeftFits, left_words, LeftsFitIn, ValuesFit, RenewFits, CallFits, Fits, OperandsFit, StepsFitIn, ElementsFitIn, ExsFitIn, ReadyFitIn, PiecesFitIn, TestFitsIn, StFitsIn, StsFitIn, FuncFitsIn, reached, sites_words}
 use Rattle.codegen.proofs.Operands.{above_sum}
 
 -- the sites in scope are among the n of a frame
@@ -48,6 +48,11 @@ array_some : (x : ℕ) (r : ValueType) → 0 < width (array_of x r) → 0 < x
 array_some zero r l = absurd (omega (arith, l))
 array_some (suc x) r l = omega arith
 
+-- and no more than it has words
+array_long : (x : ℕ) (r : ValueType) → 0 < width r → x ≤ width (array_of x r)
+array_long zero r l = omega arith
+array_long (suc x) r l = let k = array_long x r l in omega (arith, k, l, suc-mul x (width r))
+
 module _ (p : Program) (form : IsInForm p) where
   -- steps lead to a part, whatever their indices are
   steps_lead : (scope : List ℕ) (t s : ValueType) (steps : Steps) → StepsLead p scope t steps s → Leads t (path_of steps) s
@@ -62,7 +67,7 @@ module _ (p : Program) (form : IsInForm p) where
   indices_fit scope t s (at_index at e m steps) (r, is, some, index, f) w =
       let same : part_type t 0 ≡ r = ap (λ u. part_type u 0) is ∙ ((element m r r 0 [] some).leads refl).1 in
       let l = within r s (path_of steps) (steps_lead scope r s steps f) in let wide = ap width same in
-      (some, omega (arith, l, w, wide), subst (λ u. IndicesFit u steps) (sym same) (indices_fit scope r s steps f w))
+      (some, subst (λ u. m ≤ width u) (sym is) (array_long m r (omega (arith, l, w))), omega (arith, l, w, wide), subst (λ u. IndicesFit u steps) (sym same) (indices_fit scope r s steps f w))
 
   -- an expression's value lands in its temps, and so do values side by side
   wide_need : (scope : List ℕ) (t : ValueType) (e : Ex) → ExFits p scope t e → wide p e ≤ need p e
@@ -76,9 +81,9 @@ module _ (p : Program) (form : IsInForm p) where
   wide_need scope t (both a b) f = let l = wide_need scope bools a f.1 in let w = wide_is p scope bools a f.1 in omega arith
   wide_need scope t (either a b) f = let l = wide_need scope bools a f.1 in let w = wide_is p scope bools a f.1 in omega arith
   wide_need scope t (call g es) f = omega arith
-  wide_need scope t (part_of s i e) f =
-      let l = wide_need scope s e f.3 in let w = wide_is p scope s e f.3 in let part = part_within s i f.0 in omega (arith, l, w, part)
-  wide_need scope t (literal s es) f = omega arith
+  wide_need scope t (part_of m i e) f =
+      let s = type_named p m in let l = wide_need scope s e f.3 in let w = wide_is p scope s e f.3 in let part = part_within s i f.0 in omega (arith, l, w, part)
+  wide_need scope t (literal m es) f = omega arith
 
   values_need : (scope : List ℕ) (ts : List ValueType) (es : Exs) → ExsFit p scope ts es → all_wide p es ≤ need_all p es
   values_need scope ts none f = omega arith
@@ -150,12 +155,18 @@ module _ (p : Program) (form : IsInForm p) where
           ((let k = some_need scope bools a refl f.1 in omega arith), ex_fits h scope bools a b f.1 (omega arith) (omega arith), ex_fits h scope bools c b f.2 (omega arith) (omega arith))
       ex_fits h scope t (call g es) b (func, is, one, f) l o =
           (call_fits h g func scope es is f (omega arith) (omega arith) (omega arith), exs_fit h scope func.param_types es b f (omega arith) (omega arith))
-      ex_fits h scope t (part_of s i e) b f l o = (
-        (let w = ap width f.1 in let some = f.2 in omega (arith, w, some)),
-        (let k = wide_need scope s e f.3 in let w = wide_is p scope s e f.3 in let part = part_within s i f.0 in omega (arith, k, w, part, l)),
-        ex_fits h scope s e b f.3 l o,
-      )
-      ex_fits h scope t (literal s es) b f l o = (f.1, omega (arith, l), elements_fit h scope s (ascend es) es b f.2 (omega (arith, l)) (omega (arith, l)) o)
+      ex_fits h scope t (part_of m i e) b f l o =
+          let s = type_named p m in (
+            (let w = ap width f.1 in let some = f.2 in omega (arith, w, some)),
+            (let k = wide_need scope s e f.3 in let w = wide_is p scope s e f.3 in let part = part_within s i f.0 in omega (arith, k, w, part, l)),
+            ex_fits h scope s e b f.3 l o,
+          )
+      ex_fits h scope t (literal m es) b f l o =
+          let s = type_named p m in let is = ap width f.0 in let some = f.1 in (
+            omega (arith, is, some),
+            omega (arith, l),
+            elements_fit h scope s (ascend es) es b (subst (λ u. ElementsFit p scope u es) (sym f.0) f.2) (omega (arith, l)) (omega (arith, l)) o,
+          )
 
       -- the operands of a place, and so many temps behind them
       operands_fit : (h : ℕ) (scope : List ℕ) (t : ValueType) (q : Pl) (behind others : ℕ) → Below s n scope → PlFits p scope t q → h + place_need p q behind ≤ temps → place_reach p q others ≤ outgoing → OperandsFit p s n h q
@@ -387,6 +398,7 @@ module _ (p : Program) (form : IsInForm p) where
                 own,
                 omega (arith, words, wanted, long, k),
                 some,
+                omega (arith, words, array_long x r wide),
                 omega (arith, same, wide),
                 ex_fits h scope (array_of x r) e b fit (omega arith) (omega (arith, o)),
                 ready_fit (h + 1) (site ∷ scope) m (first + n) (ints ∷ r ∷ []) ls behind (sts_reach p body) around lefts (omega arith) (omega (arith, o)),

@@ -9,11 +9,14 @@ use Rattle.isa.specs.declared.func.Func.{Func as Entry}
 use Rattle.isa.specs.declared.instr.Instr.{Instr}
 use Rattle.typed.specs.declared.program.Func.{Func as FuncData}
 use Rattle.typed.specs.declared.program.Program.{Program as ProgramData}
+use Rattle.type_table.specs.Trees.{trees}
+use Rattle.value_trees.specs.Types.{ValueType}
 use Rattle.typed.specs.Syntax.{Func, Program, argument_words, each_width}
 use Rattle.typed.specs.View.{func_of, program_of}
 use Rattle.typed.specs.Form.{IsInForm}
 use Rattle.frame_layout.specs.declared.layout.FrameLayout.{FrameLayout}
 use Rattle.frame_layout.specs.Layout.{layout_in, layouts}
+use Rattle.codegen.specs.Frame.{func_in}
 use Rattle.codegen.specs.Temps.{FuncFitsIn}
 use Rattle.simulated_code.specs.Code.{Slots, slots_of, params_code, zeros_code, sts_code, leave_code, entry_size, func_code, func_size, entry_of, funcs_code, funcs_owners, funcs_entries, code_of}
 use Rattle.simulated_code.proofs.Sizes.{length_entry, length_func}
@@ -37,59 +40,59 @@ func_emitted p f s old c1 c2 c3 c4 same e1 e2 e3 e4 =
     ∙ append_assoc old (params ++ zeros) (body ++ leave) in
     all ∙ ap (λ (x : Slots). old ++ ((params_code x (each_width f.param_types) f.params 0 ++ zeros_code x f.named) ++ (sts_code p m f.named x f.body 0 0 0 here ++ leave_code x m f.named))) same
 
-split : (gs : List FuncData) (i : ℕ) (g : FuncData) → i < length gs → g ≡ get_or gs i g → map func_of (drop i gs) ≡ func_of g ∷ map func_of (drop (i + 1) gs)
-split gs i g l is =
+split : (types : List ValueType) (gs : List FuncData) (i : ℕ) (g : FuncData) → i < length gs → g ≡ get_or gs i g → map (func_of types) (drop i gs) ≡ func_of types g ∷ map (func_of types) (drop (i + 1) gs)
+split types gs i g l is =
     let one : suc i ≡ i + 1 = omega arith in
-    ap (map func_of) (drop-cons gs i g l) ∙ ap (λ (y : FuncData). func_of y ∷ map func_of (drop (suc i) gs)) (sym is) ∙ ap (λ j. func_of g ∷ map func_of (drop j gs)) one
+    ap (map (func_of types)) (drop-cons gs i g l) ∙ ap (λ (y : FuncData). func_of types y ∷ map (func_of types) (drop (suc i) gs)) (sym is) ∙ ap (λ j. func_of types g ∷ map (func_of types) (drop j gs)) one
 
-module _ (p : Program) (gs : List FuncData) (i : ℕ) (g : FuncData) (l : i < length gs) (is : g ≡ get_or gs i g) where
+module _ (p : Program) (types : List ValueType) (gs : List FuncData) (i : ℕ) (g : FuncData) (l : i < length gs) (is : g ≡ get_or gs i g) where
   abbrev now : List Func
-  now = map func_of (drop i gs)
+  now = map (func_of types) (drop i gs)
 
   abbrev rest : List Func
-  rest = map func_of (drop (i + 1) gs)
+  rest = map (func_of types) (drop (i + 1) gs)
 
-  pub longer : (code more : List Instr) → more ≡ code ++ func_code p (func_of g) (length code) → length code + func_size p (func_of g) ≡ length more
-  longer code more e = omega (arith, length-append code (func_code p (func_of g) (length code)), length_func p (func_of g) (length code), ap length e)
+  pub longer : (code more : List Instr) → more ≡ code ++ func_code p (func_of types g) (length code) → length code + func_size p (func_of types g) ≡ length more
+  longer code more e = omega (arith, length-append code (func_code p (func_of types g) (length code)), length_func p (func_of types g) (length code), ap length e)
 
-  pub code_next : (whole code more : List Instr) → whole ≡ code ++ funcs_code p now (length code) → more ≡ code ++ func_code p (func_of g) (length code) → whole ≡ more ++ funcs_code p rest (length more)
+  pub code_next : (whole code more : List Instr) → whole ≡ code ++ funcs_code p now (length code) → more ≡ code ++ func_code p (func_of types g) (length code) → whole ≡ more ++ funcs_code p rest (length more)
   code_next whole code more e1 e2 =
-      let c = func_code p (func_of g) (length code) in
-      e1 ∙ ap (λ y. code ++ funcs_code p y (length code)) (split gs i g l is)
-      ∙ sym (append_assoc code c (funcs_code p rest (length code + func_size p (func_of g))))
+      let c = func_code p (func_of types g) (length code) in
+      e1 ∙ ap (λ y. code ++ funcs_code p y (length code)) (split types gs i g l is)
+      ∙ sym (append_assoc code c (funcs_code p rest (length code + func_size p (func_of types g))))
       ∙ ap (λ place. (code ++ c) ++ funcs_code p rest place) (longer code more e2)
       ∙ ap (λ x. x ++ funcs_code p rest (length more)) (sym e2)
 
-  pub owners_next : (whole code more : List ℕ) (number after : ℕ) → whole ≡ code ++ funcs_owners p now number → more ≡ code ++ replicate (func_size p (func_of g)) number → after ≡ number + 1 → whole ≡ more ++ funcs_owners p rest after
+  pub owners_next : (whole code more : List ℕ) (number after : ℕ) → whole ≡ code ++ funcs_owners p now number → more ≡ code ++ replicate (func_size p (func_of types g)) number → after ≡ number + 1 → whole ≡ more ++ funcs_owners p rest after
   owners_next whole code more number after e1 e2 e3 =
-      let c : List ℕ = replicate (func_size p (func_of g)) number in
-      e1 ∙ ap (λ y. code ++ funcs_owners p y number) (split gs i g l is)
+      let c : List ℕ = replicate (func_size p (func_of types g)) number in
+      e1 ∙ ap (λ y. code ++ funcs_owners p y number) (split types gs i g l is)
       ∙ sym (append_assoc code c (funcs_owners p rest (number + 1)))
       ∙ ap (λ place. (code ++ c) ++ funcs_owners p rest place) (sym e3)
       ∙ ap (λ x. x ++ funcs_owners p rest after) (sym e2)
 
-  pub entries_next : (whole code more : List Entry) (pc after : ℕ) → whole ≡ code ++ funcs_entries p now pc → more ≡ code ++ entry_of p (func_of g) pc ∷ [] → pc + func_size p (func_of g) ≡ after → whole ≡ more ++ funcs_entries p rest after
+  pub entries_next : (whole code more : List Entry) (pc after : ℕ) → whole ≡ code ++ funcs_entries p now pc → more ≡ code ++ entry_of p (func_of types g) pc ∷ [] → pc + func_size p (func_of types g) ≡ after → whole ≡ more ++ funcs_entries p rest after
   entries_next whole code more pc after e1 e2 e3 =
-      let c : List Entry = entry_of p (func_of g) pc ∷ [] in
-      e1 ∙ ap (λ y. code ++ funcs_entries p y pc) (split gs i g l is)
-      ∙ sym (append_assoc code c (funcs_entries p rest (pc + func_size p (func_of g))))
+      let c : List Entry = entry_of p (func_of types g) pc ∷ [] in
+      e1 ∙ ap (λ y. code ++ funcs_entries p y pc) (split types gs i g l is)
+      ∙ sym (append_assoc code c (funcs_entries p rest (pc + func_size p (func_of types g))))
       ∙ ap (λ place. (code ++ c) ++ funcs_entries p rest place) e3
       ∙ ap (λ x. x ++ funcs_entries p rest after) (sym e2)
 
 -- a function by its number
-pub there : (gs : List FuncData) (i : ℕ) (g : FuncData) → i < length gs → g ≡ get_or gs i g → slice_get (map func_of gs) i ≡ Some (func_of g)
-there gs i g l is = slice_get-map func_of gs i ∙ ap (option_map func_of) (slice_get_read gs (length gs) i g refl l is)
+pub there : (types : List ValueType) (gs : List FuncData) (i : ℕ) (g : FuncData) → i < length gs → g ≡ get_or gs i g → slice_get (map (func_of types) gs) i ≡ Some (func_of types g)
+there types gs i g l is = slice_get-map (func_of types) gs i ∙ ap (option_map (func_of types)) (slice_get_read gs (length gs) i g refl l is)
 
 module _ (p : ProgramData) (gs : List FuncData) (same : gs ≡ p.funcs.items) (i : ℕ) (g : FuncData) (l : i < length gs) (is : g ≡ get_or gs i g) where
-  pub fits : IsInForm (program_of p) → FuncFitsIn (program_of p) (func_of g)
-  fits form = all_fit (program_of p) form i (func_of g) (subst (λ hs. slice_get (map func_of hs) i ≡ Some (func_of g)) same (there gs i g l is))
+  pub fits : IsInForm (program_of p) → FuncFitsIn (program_of p) (func_in p g)
+  fits form = all_fit (program_of p) form i (func_in p g) (subst (λ hs. slice_get (map (func_in p) hs) i ≡ Some (func_in p g)) same (there (trees p.types) gs i g l is))
 
-  pub layout_at : (frames : List FrameLayout) (number : ℕ) (d : FrameLayout) → frames ≡ layouts (program_of p) → number ≡ i → slice_index_or frames number d ≡ layout_in (program_of p) (func_of g)
+  pub layout_at : (frames : List FrameLayout) (number : ℕ) (d : FrameLayout) → frames ≡ layouts (program_of p) → number ≡ i → slice_index_or frames number d ≡ layout_in (program_of p) (func_in p g)
   layout_at frames number d laid n =
-      let lay = layout_in (program_of p) in let fs = map func_of gs in
-      let all : frames ≡ map lay fs = laid ∙ ap (λ hs. map (layout_in (program_of p)) (map func_of hs)) (sym same) in
-      get_or_from_slice_get frames number (lay (func_of g)) d
-      (ap (slice_get frames) n ∙ ap (λ (x : List FrameLayout). slice_get x i) all ∙ slice_get-map lay fs i ∙ ap (option_map lay) (there gs i g l is))
+      let lay = layout_in (program_of p) in let fs = map (func_in p) gs in
+      let all : frames ≡ map lay fs = laid ∙ ap (λ hs. map (layout_in (program_of p)) (map (func_in p) hs)) (sym same) in
+      get_or_from_slice_get frames number (lay (func_in p g)) d
+      (ap (slice_get frames) n ∙ ap (λ (x : List FrameLayout). slice_get x i) all ∙ slice_get-map lay fs i ∙ ap (option_map lay) (there (trees p.types) gs i g l is))
 
 pub length_entries : (p : Program) (gs : List Func) (pc : ℕ) → length (funcs_entries p gs pc) ≡ length gs
 length_entries p [] pc = refl
@@ -124,14 +127,14 @@ past (g ∷ gs) (suc i) l = past gs i (omega arith)
 
 -- behind the last function the tables are the program's
 pub finished : (p : ProgramData) (gs : List FuncData) (i number : ℕ) (instrs : List Instr) (owners : List ℕ) (entries : List Entry) (strings : List (List ℕ)) → gs ≡ p.funcs.items → length gs ≤ i
-    → funcs_code (program_of p) (map func_of gs) 0 ≡ instrs ++ funcs_code (program_of p) (map func_of (drop i gs)) (length instrs)
-    → funcs_owners (program_of p) (map func_of gs) 0 ≡ owners ++ funcs_owners (program_of p) (map func_of (drop i gs)) number
-    → funcs_entries (program_of p) (map func_of gs) 0 ≡ entries ++ funcs_entries (program_of p) (map func_of (drop i gs)) (length instrs)
+    → funcs_code (program_of p) (map (func_in p) gs) 0 ≡ instrs ++ funcs_code (program_of p) (map (func_in p) (drop i gs)) (length instrs)
+    → funcs_owners (program_of p) (map (func_in p) gs) 0 ≡ owners ++ funcs_owners (program_of p) (map (func_in p) (drop i gs)) number
+    → funcs_entries (program_of p) (map (func_in p) gs) 0 ≡ entries ++ funcs_entries (program_of p) (map (func_in p) (drop i gs)) (length instrs)
     → strings ≡ map (λ bytes. bytes.items) p.strings.items → (let r : Tables = record { instrs = instrs; owners = owners; funcs = entries; strings = strings } in r) ≡ code_of (program_of p)
 finished p gs i number instrs owners entries strings same l a b c d =
-    let fs = map func_of gs in let whole = program_of p in
-    let none : map func_of (drop i gs) ≡ [] = ap (map func_of) (past gs i l) in
-    let all : fs ≡ map func_of p.funcs.items = ap (map func_of) same in
+    let fs = map (func_in p) gs in let whole = program_of p in
+    let none : map (func_in p) (drop i gs) ≡ [] = ap (map (func_in p)) (past gs i l) in
+    let all : fs ≡ map (func_in p) p.funcs.items = ap (map (func_in p)) same in
     let x : instrs ≡ funcs_code whole fs 0 = sym (a ∙ ap (λ hs. instrs ++ funcs_code whole hs (length instrs)) none ∙ append-nil instrs) in
     let y : owners ≡ funcs_owners whole fs 0 = sym (b ∙ ap (λ hs. owners ++ funcs_owners whole hs number) none ∙ append-nil owners) in
     let z : entries ≡ funcs_entries whole fs 0 = sym (c ∙ ap (λ hs. entries ++ funcs_entries whole hs (length instrs)) none ∙ append-nil entries) in

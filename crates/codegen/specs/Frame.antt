@@ -2,21 +2,31 @@
 use Rattle.std.specs.Prelude.{ℕ, ◌+◌, ◌<◌, ◌≤◌, List, [], ◌∷◌, ◌++◌, Option, Some, None}
 use Rattle.isa.specs.declared.instr.Instr.{Instr}
 use Rattle.isa.specs.declared.instr.Instr.TheVariants.{ArgumentWords, Bin, Const, PrintText}
+use Rattle.value_trees.specs.Types.{ValueType}
 use Rattle.typed.specs.declared.operators.BinOp.{BinOp}
 use Rattle.typed.specs.Syntax.{Ex, Exs, Pl, Func, Program as AnyProgram, Left, Piece, all_wide, value_widths, blank, new, to, text, shown, argument_words, result_words}
 use Rattle.typed.specs.Frames.{far, words_between}
-use Rattle.typed.specs.View.{site_types}
+use Rattle.type_table.specs.Trees.{trees}
+use Rattle.typed.specs.View.{func_of, site_types}
+use Rattle.typed.specs.declared.program.Func.{Func as FuncData}
 use Rattle.typed.specs.declared.program.Program.{Program}
 use Rattle.simulated_code.specs.Code.{Slots, temp, site_slot, site_words, moves, operation, shown_code, above_address, place_above, lefts_above, address_code, address_size, fetch_code, land_code, write_code, lefts_code, lefts_end, place_code, place_end, ready_code, ex_code, exs_code}
 use Rattle.codegen.specs.Temps.{SitesFit, sites_words}
 use Rattle.codegen.specs.declared.slots.Frame.{Frame}
 
+-- the types of the sites, and a function
+abbrev pub sites_in : Program → List ValueType
+sites_in p = site_types (trees p.types) p.sites.items
+
+abbrev pub func_in : Program → FuncData → Func
+func_in p f = func_of (trees p.types) f
+
 abbrev pub slots_in : Program → Frame → Slots
-slots_in p f = record { outgoing = f.outgoing; temps = f.temps; first = f.first; sites = site_types p.sites.items }
+slots_in p f = record { outgoing = f.outgoing; temps = f.temps; first = f.first; sites = sites_in p }
 
 -- its slots are numbers of 16 bits
 abbrev pub IsSmall : Program → Frame → Type 0
-IsSmall p f = f.outgoing + f.temps + words_between (site_types p.sites.items) f.first f.sites ≤ 65535
+IsSmall p f = f.outgoing + f.temps + words_between (sites_in p) f.first f.sites ≤ 65535
 
 -- a function's results can be given back from a frame
 abbrev pub Returns : Program → Frame → Func → Type 0
@@ -27,6 +37,10 @@ abbrev pub left_code : Slots → Left → (first at h : ℕ) → List Instr
 left_code s blank first at h = []
 left_code s (new site) first at h = moves (site_words s site) (site_slot s site) (temp s h) ∷ []
 left_code s (to p) first at h = write_code s p first at h
+
+-- the left side that gets the index in a temp, behind its operands
+abbrev pub key_code : AnyProgram → Slots → Left → (first index pc : ℕ) → List Instr
+key_code p s key first index pc = ready_code p s (key ∷ []) first pc ++ left_code s key first (lefts_above (key ∷ []) first) index
 
 -- The code of an assignment, of one with an operator and of `++` and `--`, from a place in the code on: what stands for
 -- these statements in the code of a program.

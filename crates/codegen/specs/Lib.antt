@@ -1,3 +1,4 @@
 pub mod Temps
 pub mod Frame
 pub mod Runs
+pub mod Parts

@@ -2,7 +2,7 @@
 use Rattle.std.specs.Prelude.{◌≡◌, ℕ, zero, suc, ◌+◌, ◌<◌, ◌≤◌, Bool, true, false, List, [], ◌∷◌, Option, Some, None, length}
 use Rattle.value_trees.specs.Types.{ValueType, width, part_type, part_offset}
 use Rattle.value_trees.specs.Paths.{offset}
-use Rattle.typed.specs.Syntax.{Ex, Exs, Pl, Steps, here, inner, at_index, Left, Piece, St, Sts, Func, Program, constant, read, unary, binary, both, either, call, part_of, literal, Elements, no_elements, element, local, global, none, more, results, asked, blank, new, to, text, shown, over_int, over_length, over_copy, declare, assign, update, bump, discard, block, choose, loop, range, break_off, go_on, give_back, print, raise, quit, done, next, argument_words, result_words, arguments_of, results_of, path_of, wide, all_wide, each_width, value_widths, ascend, words_through, gap_behind}
+use Rattle.typed.specs.Syntax.{Ex, Exs, Pl, Steps, here, inner, at_index, Left, Piece, St, Sts, Func, Program, constant, read, unary, binary, both, either, call, part_of, literal, Elements, no_elements, element, local, global, none, more, results, asked, blank, new, to, text, shown, over_int, over_length, over_copy, declare, assign, update, bump, discard, block, choose, loop, range, break_off, go_on, give_back, print, raise, quit, done, next, argument_words, result_words, arguments_of, results_of, type_named, path_of, wide, all_wide, each_width, value_widths, ascend, words_through, gap_behind}
 use Rattle.typed.specs.Frames.{far}
 use Rattle.simulated_code.specs.Code.{Slots, site_type, site_words, part_words, first_width, other_widths, above_address, place_above, lefts_above, slots_of}
 
@@ -10,11 +10,16 @@ use Rattle.simulated_code.specs.Code.{Slots, site_type, site_words, part_words, 
 abbrev pub SiteFits : Slots → (n site : ℕ) → Type 0
 SiteFits s n site = (s.first ≤ site) × (site < s.first + n)
 
--- the arrays with worked-out indices among the steps from values of a type have elements, with words
+-- the steps of a place
+abbrev pub steps_in : Pl → Steps
+steps_in (local site steps) = steps
+steps_in (global g steps) = steps
+
+-- the arrays with worked-out indices among the steps from values of a type have elements, no more than they have words
 abbrev pub IndicesFit : ValueType → Steps → Type 0
 IndicesFit t here = Unit {0}
 IndicesFit t (inner i steps) = IndicesFit (part_type t i) steps
-IndicesFit t (at_index p e m steps) = (0 < m) × (0 < width (part_type t 0)) × IndicesFit (part_type t 0) steps
+IndicesFit t (at_index p e m steps) = (0 < m) × (m ≤ width t) × (0 < width (part_type t 0)) × IndicesFit (part_type t 0) steps
 
 -- a part of it has words, and these are within its own
 abbrev pub PlaceFits : Slots → (n : ℕ) → Pl → Type 0
@@ -97,8 +102,12 @@ module _ (p : Program) (s : Slots) (n : ℕ) where
     Fits h (both a b) = (h < s.temps) × Fits h a × Fits h b
     Fits h (either a b) = (h < s.temps) × Fits h a × Fits h b
     Fits h (call f es) = CallFits h f × ExsFitIn h es
-    Fits h (part_of t i e) = (0 < width (part_type t i)) × (h + part_offset t i + width (part_type t i) ≤ s.temps) × Fits h e
-    Fits h (literal t es) = (0 < width t) × (h + width t ≤ s.temps) × ElementsFitIn h t (ascend es) es
+    Fits h (part_of m i e) =
+        let t = type_named p m in
+        (0 < width (part_type t i)) × (h + part_offset t i + width (part_type t i) ≤ s.temps) × Fits h e
+    Fits h (literal m es) =
+        let t = type_named p m in
+        (0 < width t) × (h + width t ≤ s.temps) × ElementsFitIn h t (ascend es) es
 
     -- the operands of a place, in temps from h on
     pub OperandsFit : (h : ℕ) → Pl → Type 0
@@ -163,7 +172,7 @@ module _ (p : Program) (s : Slots) (n : ℕ) where
       -- the copy has elements with words; the left sides get the index and an element
       StFitsIn h (range (over_copy site e x) key value body) =
           let w = width (part_type (site_type s site) 0) in let v = lefts_above (key ∷ value ∷ []) (h + 1) in
-          (h + 1 < s.temps) × SiteFits s n site × (h + site_words s site ≤ s.temps) × (0 < x) × (0 < w) × Fits h e × ReadyFitIn (h + 1) (key ∷ value ∷ []) × (v + 1 + w ≤ s.temps)
+          (h + 1 < s.temps) × SiteFits s n site × (h + site_words s site ≤ s.temps) × (0 < x) × (x ≤ site_words s site) × (0 < w) × Fits h e × ReadyFitIn (h + 1) (key ∷ value ∷ []) × (v + 1 + w ≤ s.temps)
           × LeftsFitIn s n (v + 1 + w) v (1 ∷ w ∷ []) (key ∷ value ∷ []) × StsFitIn (h + 1) body
       StFitsIn h break_off = Unit {0}
       StFitsIn h go_on = Unit {0}

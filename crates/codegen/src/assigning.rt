@@ -1,74 +1,144 @@
 //! The code of declarations and assignments.
 ghost use Rattle.std.specs.Prelude.{◌≡◌, ◌+◌, ◌<◌, ◌≤◌, ◌++◌, ◌∷◌, [], OnOk, length, map};
 ghost use Rattle.isa.specs.declared.instr.Instr.{Instr};
-ghost use Rattle.typed.specs.View.{ex_of, exs_of_values, left_of, place_of, program_of};
+ghost use Rattle.typed.specs.View.{ex_of, exs_of_values, left_of, place_of, program_of, steps_of as these_steps};
 ghost use Rattle.typed.specs.Syntax.{all_wide, value_widths};
 ghost use Rattle.typed.specs.Frames.{far};
 ghost use Rattle.codegen.specs.Frame.{slots_in, assign_code, bump_code, left_code, update_code, IsSmall};
-ghost use Rattle.codegen.specs.Temps.{ExsFitIn, Fits, LeftFits, LeftsFitIn, PlaceFits, reached};
-ghost use Rattle.simulated_code.specs.Code.{above_address as above_address_of, lefts_above, lefts_code, place_above};
+ghost use Rattle.codegen.specs.Temps.{ExsFitIn, Fits, LeftFits, LeftsFitIn, OperandsFit, PlaceFits, ReadyFitIn, reached};
+ghost use Rattle.simulated_code.specs.Code.{above_address as above_address_of, lefts_above as above_all, lefts_code, place_above, ready_code};
 
 use crate::jumps::put;
 use crate::moving::moves;
-use crate::reaching::{above_address, emit_address, emit_fetch, emit_land, emit_write};
+use crate::parts::steps_of;
+use crate::reaching::{above_address, above_operands, emit_address, emit_fetch, emit_land, emit_write};
 use crate::slots::Frame;
-use crate::values::{emit_expr, emit_operation, emit_values};
+use crate::values::{emit_expr, emit_operation, emit_steps, emit_values};
 use crate::widths::value_words;
 use base::NoMemory;
 use frame_layout::values_words;
 use isa::Instr;
 use typed::{BinOp, Expr, Left, Place, Program, Values};
 
-/// The left side gets the value in temps from h on; its address, if there is one, goes to temp `at`.
-pub fn emit_left(
+/// The temp above the operands of a left side, which are in temps from h on.
+pub fn above_left(left: &Left, h: u16) -> u16
+    requires { above_all (left_of left.now ∷ []) h ≤ 65535 }
+    ensures { result ≡ above_all (left_of left.now ∷ []) h }
+{
+    match left {
+        Left::To(place) => above_operands(place, h),
+        Left::Blank | Left::New(_) => h,
+    }
+}
+
+// The temp above the operands of left sides.
+fn above_lefts(ls: &[Left], h: u16) -> u16
+    requires { above_all (map left_of ls.now) h ≤ 65535 }
+    ensures { result ≡ above_all (map left_of ls.now) h }
+{
+    let mut above = h;
+    for left in ls {
+        above = above_left(left, above);
+    }
+    above
+}
+
+/// The operands of a left side land in temps from h on.
+pub fn ready_left(
     code: &mut Vec<Instr>,
     program: &Program,
     frame: Frame,
-    left: Left,
-    at: u16,
+    left: &Left,
     h: u16,
 ) -> Result<(), NoMemory>
-    requires temp { h ≤ frame.temps }
-    requires fits { LeftFits (slots_in program.now frame) frame.sites at (left_of left) }
+    requires fits { ReadyFitIn (program_of program.now) (slots_in program.now frame) frame.sites h (left_of left.now ∷ []) }
     requires frame { IsSmall program.now frame }
-    ensures { OnOk result (code.new.items ≡ code.old.items ++ left_code (slots_in program.now frame) (left_of left) at at h) }
+    ensures { OnOk result (code.new.items ≡ code.old.items ++ ready_code (program_of program.now) (slots_in program.now frame) (left_of left.now ∷ []) h (length code.old.items)) }
 {
     match left {
-        Left::Blank => {}
-        Left::New(site) => {
-            let (a, b) = (frame.of_site(program, site), frame.temp(h));
-            put(code, moves(frame.width_of(program, site), a, b))?;
-        }
-        Left::To(place) => emit_write(code, program, frame, place, at, h)?,
+        Left::To(place) => emit_steps(code, program, frame, steps_of(place), h),
+        Left::Blank | Left::New(_) => Ok(()),
+    }
+}
+
+// Those of left sides.
+fn ready_lefts(
+    code: &mut Vec<Instr>,
+    program: &Program,
+    frame: Frame,
+    ls: &[Left],
+    h: u16,
+) -> Result<(), NoMemory>
+    requires fits { ReadyFitIn (program_of program.now) (slots_in program.now frame) frame.sites h (map left_of ls.now) }
+    requires room { above_all (map left_of ls.now) h ≤ 65535 }
+    requires frame { IsSmall program.now frame }
+    ensures { OnOk result (code.new.items ≡ code.old.items ++ ready_code (program_of program.now) (slots_in program.now frame) (map left_of ls.now) h (length code.old.items)) }
+{
+    let mut next = h;
+    for left in ls {
+        ready_left(code, program, frame, left, next)?;
+        next = above_left(left, next);
     }
     Ok(())
 }
 
-// The left sides get the values, which stand in temps from h on; an address goes to temp `at`.
+/// The left side, with operands in temps from `first` on, gets the value in temps from h on; its address, if there is one, goes to temp
+/// `at`.
+pub fn emit_left(
+    code: &mut Vec<Instr>,
+    program: &Program,
+    frame: Frame,
+    left: &Left,
+    first: u16,
+    at: u16,
+    h: u16,
+) -> Result<(), NoMemory>
+    requires temp { h ≤ frame.temps }
+    requires operands { above_all (left_of left.now ∷ []) first ≤ frame.temps }
+    requires fits { LeftFits (slots_in program.now frame) frame.sites at (left_of left.now) }
+    requires frame { IsSmall program.now frame }
+    ensures { OnOk result (code.new.items ≡ code.old.items ++ left_code (slots_in program.now frame) (left_of left.now) first at h) }
+{
+    match left {
+        Left::Blank => {}
+        Left::New(site) => {
+            let (a, b) = (frame.of_site(program, *site), frame.temp(h));
+            put(code, moves(frame.width_of(program, *site), a, b))?;
+        }
+        Left::To(place) => emit_write(code, program, frame, place, first, at, h)?,
+    }
+    Ok(())
+}
+
+// The left sides, with operands in temps from `first` on, get the values, which stand in temps from h on; an address goes to temp `at`.
 fn emit_lefts(
     code: &mut Vec<Instr>,
     program: &Program,
     frame: Frame,
     ls: &[Left],
     values: &Values,
+    first: u16,
     at: u16,
     h: u16,
 ) -> Result<(), NoMemory>
+    requires operands { above_all (map left_of ls.now) first ≤ frame.temps }
     requires fits { LeftsFitIn (slots_in program.now frame) frame.sites at h (value_widths (program_of program.now) (exs_of_values values.now)) (map left_of ls.now) }
     requires frame { IsSmall program.now frame }
     ensures { OnOk result (code.new.items ≡ code.old.items
-        ++ lefts_code (slots_in program.now frame) (value_widths (program_of program.now) (exs_of_values values.now)) (map left_of ls.now) h at h) }
+        ++ lefts_code (slots_in program.now frame) (value_widths (program_of program.now) (exs_of_values values.now)) (map left_of ls.now) first at h) }
 {
-    let mut next = h;
+    let (mut operands, mut next) = (first, h);
     for (i, left) in ls.iter().enumerate() {
-        emit_left(code, program, frame, *left, at, next)?;
+        emit_left(code, program, frame, left, operands, at, next)?;
+        operands = above_left(left, operands);
         next += value_words(program, values, i)? as u16;
     }
     Ok(())
 }
 
-/// All values are there before the first left side gets its own; an address goes behind them.
-#[tactic(auto, using(crate::proofs::Alone::lefts_at, crate::proofs::Emitted::assign_emitted))]
+/// The operands of all left sides come first, in temps from h on, and all values are there before the first left side gets its own; an
+/// address goes behind them.
+#[tactic(auto, using(crate::proofs::Emitted::assign_emitted))]
 pub fn emit_assign(
     code: &mut Vec<Instr>,
     program: &Program,
@@ -77,69 +147,78 @@ pub fn emit_assign(
     values: &Values,
     h: u16,
 ) -> Result<(), NoMemory>
-    requires room { lefts_above (map left_of ls.now) h + all_wide (program_of program.now) (exs_of_values values.now) ≤ frame.temps }
-    requires values { ExsFitIn (program_of program.now) (slots_in program.now frame) frame.sites (lefts_above (map left_of ls.now) h) (exs_of_values values.now) }
-    requires lefts { LeftsFitIn (slots_in program.now frame) frame.sites (lefts_above (map left_of ls.now) h + all_wide (program_of program.now) (exs_of_values values.now))
-        (lefts_above (map left_of ls.now) h) (value_widths (program_of program.now) (exs_of_values values.now)) (map left_of ls.now) }
+    requires room { above_all (map left_of ls.now) h + all_wide (program_of program.now) (exs_of_values values.now) ≤ frame.temps }
+    requires values { ExsFitIn (program_of program.now) (slots_in program.now frame) frame.sites (above_all (map left_of ls.now) h) (exs_of_values values.now) }
+    requires ready { ReadyFitIn (program_of program.now) (slots_in program.now frame) frame.sites h (map left_of ls.now) }
+    requires lefts { LeftsFitIn (slots_in program.now frame) frame.sites (above_all (map left_of ls.now) h + all_wide (program_of program.now) (exs_of_values values.now))
+        (above_all (map left_of ls.now) h) (value_widths (program_of program.now) (exs_of_values values.now)) (map left_of ls.now) }
     requires frame { IsSmall program.now frame }
     ensures { OnOk result (code.new.items ≡ code.old.items
         ++ assign_code (program_of program.now) (slots_in program.now frame) (map left_of ls.now) (exs_of_values values.now) h (length code.old.items)) }
 {
-    emit_values(code, program, frame, values, h)?;
-    let behind = h + values_words(program, values)? as u16;
-    emit_lefts(code, program, frame, ls, values, behind, h)?;
+    ready_lefts(code, program, frame, ls, h)?;
+    let first = above_lefts(ls, h);
+    emit_values(code, program, frame, values, first)?;
+    let behind = first + values_words(program, values)? as u16;
+    emit_lefts(code, program, frame, ls, values, h, behind, first)?;
     Ok(())
 }
 
 /// An assignment with an operator. The place's value stands below the operand's, above its address.
-#[tactic(auto, using(crate::proofs::Alone::place_at, crate::proofs::Operands::above_sum, crate::proofs::Emitted::update_emitted))]
+#[tactic(auto, using(crate::proofs::Operands::above_sum, crate::proofs::Emitted::update_emitted))]
 pub fn emit_update(
     code: &mut Vec<Instr>,
     program: &Program,
     frame: Frame,
-    place: Place,
+    place: &Place,
     op: BinOp,
     e: &Expr,
     h: u16,
 ) -> Result<(), NoMemory>
-    requires room { above_address_of (far (place_of place)) (place_above (place_of place) h) + 1 < frame.temps }
-    requires place { PlaceFits (slots_in program.now frame) frame.sites (place_of place) × (reached (slots_in program.now frame) (place_of place) ≤ 1) }
-    requires operand { Fits (program_of program.now) (slots_in program.now frame) frame.sites (above_address_of (far (place_of place)) (place_above (place_of place) h) + 1) (ex_of e.now) }
+    requires room { above_address_of (far (place_of place.now)) (place_above (place_of place.now) h) + 1 < frame.temps }
+    requires place { PlaceFits (slots_in program.now frame) frame.sites (place_of place.now) × (reached (slots_in program.now frame) (place_of place.now) ≤ 1) }
+    requires operands { OperandsFit (program_of program.now) (slots_in program.now frame) frame.sites h (place_of place.now) }
+    requires operand { Fits (program_of program.now) (slots_in program.now frame) frame.sites (above_address_of (far (place_of place.now)) (place_above (place_of place.now) h) + 1) (ex_of e.now) }
     requires frame { IsSmall program.now frame }
     ensures { OnOk result (code.new.items ≡ code.old.items
-        ++ update_code (program_of program.now) (slots_in program.now frame) (place_of place) op (ex_of e.now) h (length code.old.items)) }
+        ++ update_code (program_of program.now) (slots_in program.now frame) (place_of place.now) op (ex_of e.now) h (length code.old.items)) }
 {
-    let value = above_address(place, h);
-    emit_address(code, program, frame, place, h)?;
-    emit_fetch(code, program, frame, place, h, value)?;
+    emit_steps(code, program, frame, steps_of(place), h)?;
+    let at = above_operands(place, h);
+    let value = above_address(place, at);
+    emit_address(code, program, frame, place, h, at)?;
+    emit_fetch(code, program, frame, place, at, value)?;
     emit_expr(code, program, frame, e, value + 1)?;
     emit_operation(code, program, frame, op, value)?;
-    emit_land(code, program, frame, place, h, value)?;
+    emit_land(code, program, frame, place, at, value)?;
     Ok(())
 }
 
 /// `++` or `--`.
-#[tactic(auto, using(crate::proofs::Alone::place_at, crate::proofs::Operands::above_sum, crate::proofs::Emitted::bump_emitted))]
+#[tactic(auto, using(crate::proofs::Operands::above_sum, crate::proofs::Emitted::bump_emitted))]
 pub fn emit_bump(
     code: &mut Vec<Instr>,
     program: &Program,
     frame: Frame,
-    place: Place,
+    place: &Place,
     op: BinOp,
     h: u16,
 ) -> Result<(), NoMemory>
-    requires room { above_address_of (far (place_of place)) (place_above (place_of place) h) + 1 < frame.temps }
-    requires place { PlaceFits (slots_in program.now frame) frame.sites (place_of place) × (reached (slots_in program.now frame) (place_of place) ≤ 1) }
+    requires room { above_address_of (far (place_of place.now)) (place_above (place_of place.now) h) + 1 < frame.temps }
+    requires place { PlaceFits (slots_in program.now frame) frame.sites (place_of place.now) × (reached (slots_in program.now frame) (place_of place.now) ≤ 1) }
+    requires operands { OperandsFit (program_of program.now) (slots_in program.now frame) frame.sites h (place_of place.now) }
     requires frame { IsSmall program.now frame }
     ensures { OnOk result (code.new.items ≡ code.old.items
-        ++ bump_code (program_of program.now) (slots_in program.now frame) (place_of place) op h (length code.old.items)) }
+        ++ bump_code (program_of program.now) (slots_in program.now frame) (place_of place.now) op h (length code.old.items)) }
 {
-    let value = above_address(place, h);
-    emit_address(code, program, frame, place, h)?;
-    emit_fetch(code, program, frame, place, h, value)?;
+    emit_steps(code, program, frame, steps_of(place), h)?;
+    let at = above_operands(place, h);
+    let value = above_address(place, at);
+    emit_address(code, program, frame, place, h, at)?;
+    emit_fetch(code, program, frame, place, at, value)?;
     let a = frame.temp(value + 1);
     put(code, Instr::Const { a, word: 1 })?;
     emit_operation(code, program, frame, op, value)?;
-    emit_land(code, program, frame, place, h, value)?;
+    emit_land(code, program, frame, place, at, value)?;
     Ok(())
 }

@@ -1,21 +1,25 @@
 //! The code of statements.
 ghost use Rattle.std.specs.Prelude.{◌≡◌, ◌++◌, OnOk, length};
 ghost use Rattle.typed.specs.Syntax.{argument_words, result_words};
-ghost use Rattle.typed.specs.View.{func_of, program_of, st_of, sts_of};
-ghost use Rattle.codegen.specs.Frame.{slots_in, IsSmall, Returns};
+ghost use Rattle.typed.specs.View.{program_of, st_of, sts_of};
+ghost use Rattle.codegen.specs.Frame.{func_in, slots_in, IsSmall, Returns};
 ghost use Rattle.codegen.specs.Temps.{StFitsIn, StsFitIn};
 ghost use Rattle.simulated_code.specs.Code.{st_code, sts_code};
 
+use crate::arrays::{
+    array_goals, copy_end, emit_array_start, emit_array_turn, emit_copy, emit_pair,
+};
 use crate::assigning::{emit_assign, emit_bump, emit_update};
 use crate::jumps::{Goals, here, jump, pass_unless, put};
+use crate::lengths::plus;
 use crate::looping::{
-    count_goals, count_test, emit_count_start, emit_count_test, emit_count_turn, emit_renewal,
-    emit_test, loop_goals,
+    count_goals, count_test, emit_count_start, emit_count_test, emit_count_turn, emit_key,
+    emit_renewal, emit_test, loop_goals,
 };
 use crate::returning::{emit_return, emit_zeros};
 use crate::shown::{emit_exit, emit_print, emit_raised};
 use crate::slots::Frame;
-use crate::stmt_lengths::stmts_len;
+use crate::stmt_lengths::{key_len, pair_len, stmts_len};
 use crate::values::{emit_expr, emit_values};
 use base::NoMemory;
 use isa::Instr;
@@ -33,18 +37,18 @@ fn emit_stmt(
     h: u16,
     goals: Goals,
 ) -> Result<(), NoMemory>
-    requires fits { StFitsIn (program_of program.now) (slots_in program.now frame) frame.sites (result_words (func_of func.now)) (func_of func.now).named h (st_of s.now) }
-    requires returns { Returns program.now frame (func_of func.now) }
+    requires fits { StFitsIn (program_of program.now) (slots_in program.now frame) frame.sites (result_words (func_in program.now func.now)) (func_in program.now func.now).named h (st_of s.now) }
+    requires returns { Returns program.now frame (func_in program.now func.now) }
     requires frame { IsSmall program.now frame }
     ensures { OnOk result (code.new.items ≡ code.old.items
-        ++ st_code (program_of program.now) (argument_words (func_of func.now)) (func_of func.now).named (slots_in program.now frame) (st_of s.now) h goals.out goals.again (length code.old.items)) }
+        ++ st_code (program_of program.now) (argument_words (func_in program.now func.now)) (func_in program.now func.now).named (slots_in program.now frame) (st_of s.now) h goals.out goals.again (length code.old.items)) }
 {
     let start = here(code)?;
     match s {
         Stmt::Declare(sites) => emit_zeros(code, program, frame, sites)?,
         Stmt::Assign(ls, values) => emit_assign(code, program, frame, ls, values, h)?,
-        Stmt::Update(_, place, op, e) => emit_update(code, program, frame, *place, *op, e, h)?,
-        Stmt::Bump(place, op) => emit_bump(code, program, frame, *place, *op, h)?,
+        Stmt::Update(_, place, op, e) => emit_update(code, program, frame, place, *op, e, h)?,
+        Stmt::Bump(place, op) => emit_bump(code, program, frame, place, *op, h)?,
         Stmt::Discard(values) => emit_values(code, program, frame, values, h)?,
         Stmt::Block(ss) => emit_stmts(code, program, frame, func, ss, h, goals)?,
         Stmt::If(e, a, b) => {
@@ -65,11 +69,28 @@ fn emit_stmt(
         }
         Stmt::Count(e, key, body) => {
             let test = count_test(program, start, e)?;
-            let inner = count_goals(program, func, test, *key, body)?;
+            let inner = count_goals(program, func, test, key, body)?;
             emit_count_start(code, program, frame, e, h)?;
-            emit_count_test(code, program, frame, *key, h, inner.out)?;
+            emit_count_test(code, program, frame, h, inner.out)?;
+            emit_key(code, program, frame, key, h + 2, h + 1)?;
             emit_stmts(code, program, frame, func, body, h + 2, inner)?;
             emit_count_turn(code, program, frame, h, test)?;
+        }
+        Stmt::Indices(count, key, body) => {
+            let inner = array_goals(program, func, start, key_len(program, key)?, body)?;
+            emit_array_start(code, program, frame, *count, h, inner.out)?;
+            emit_key(code, program, frame, key, h + 1, h)?;
+            emit_stmts(code, program, frame, func, body, h + 1, inner)?;
+            emit_array_turn(code, program, frame, h, plus(start, 1)?)?;
+        }
+        Stmt::Elements(site, e, count, key, value, body) => {
+            let begin = copy_end(program, start, e)?;
+            let inner = array_goals(program, func, begin, pair_len(program, key, value)?, body)?;
+            emit_copy(code, program, frame, *site, e, h)?;
+            emit_array_start(code, program, frame, *count, h, inner.out)?;
+            emit_pair(code, program, frame, *site, *count, key, value, h)?;
+            emit_stmts(code, program, frame, func, body, h + 1, inner)?;
+            emit_array_turn(code, program, frame, h, plus(begin, 1)?)?;
         }
         Stmt::Break => put(code, Instr::Jump { to: goals.out })?,
         Stmt::Continue => put(code, Instr::Jump { to: goals.again })?,
@@ -93,11 +114,11 @@ pub fn emit_stmts(
     h: u16,
     goals: Goals,
 ) -> Result<(), NoMemory>
-    requires fits { StsFitIn (program_of program.now) (slots_in program.now frame) frame.sites (result_words (func_of func.now)) (func_of func.now).named h (sts_of ss.now) }
-    requires returns { Returns program.now frame (func_of func.now) }
+    requires fits { StsFitIn (program_of program.now) (slots_in program.now frame) frame.sites (result_words (func_in program.now func.now)) (func_in program.now func.now).named h (sts_of ss.now) }
+    requires returns { Returns program.now frame (func_in program.now func.now) }
     requires frame { IsSmall program.now frame }
     ensures { OnOk result (code.new.items ≡ code.old.items
-        ++ sts_code (program_of program.now) (argument_words (func_of func.now)) (func_of func.now).named (slots_in program.now frame) (sts_of ss.now) h goals.out goals.again (length code.old.items)) }
+        ++ sts_code (program_of program.now) (argument_words (func_in program.now func.now)) (func_in program.now func.now).named (slots_in program.now frame) (sts_of ss.now) h goals.out goals.again (length code.old.items)) }
 {
     for s in ss {
         emit_stmt(code, program, frame, func, s, h, goals)?;

@@ -1,12 +1,15 @@
 //! The numbers of instructions of expressions, which jumps go by.
 ghost use Rattle.std.specs.Prelude.{◌≡◌, ◌+◌, ◌≤◌, IfOk};
-ghost use Rattle.typed.specs.View.{ex_of, exs_of, exs_of_values, program_of, test_of};
-ghost use Rattle.simulated_code.specs.Code.{call_size, exs_size, move_size, size, test_size};
+ghost use Rattle.typed.specs.Syntax.{type_named};
+ghost use Rattle.typed.specs.View.{elements_of, ex_of, exs_of, exs_of_values, place_of, program_of, steps_of as these_steps, test_of};
+ghost use Rattle.simulated_code.specs.Code.{call_size, elements_size, exs_size, move_size, place_size, size, steps_size, test_size};
 
+use crate::literals::{ascends, behind_len};
+use crate::parts::steps_of;
 use crate::reaching::address_len;
-use base::{FuncId, NoMemory};
+use base::{FuncId, NoMemory, TypeId};
 use frame_layout::{arguments_of, results_of};
-use typed::{Expr, Program, Values};
+use typed::{Element, Expr, Place, Program, Step, Values};
 
 /// The sum, where it is a number of 32 bits: a code has no more instructions.
 pub fn plus(a: u32, b: u32) -> Result<u32, NoMemory>
@@ -46,13 +49,18 @@ fn call_len(program: &Program, f: FuncId) -> Result<u32, NoMemory>
 
 /// An expression.
 #[cycle(values)]
-#[tactic(auto, using(crate::proofs::Alone::place_sized))]
+#[tactic(auto, using(typed::proofs::Rows::expr_rows))]
 pub fn expr_len(program: &Program, e: &Expr) -> Result<u32, NoMemory>
     ensures { IfOk result (λ n. n ≡ size (program_of program.now) (ex_of e.now)) }
 {
     match e {
         Expr::Constant(_) => Ok(1),
-        Expr::Read(place) => Ok(address_len(*place) + 1),
+        Expr::Read(place) => {
+            let operands = steps_len(program, steps_of(place))?;
+            let address = address_len(place)?;
+            let n = plus(operands, address)?;
+            plus(n, 1)
+        }
         Expr::Unary(_, a) => {
             let n = expr_len(program, a)?;
             plus(n, 1)
@@ -82,7 +90,45 @@ pub fn expr_len(program: &Program, e: &Expr) -> Result<u32, NoMemory>
             let n = values_len(program, arguments)?;
             plus(n, call_len(program, *f)?)
         }
+        Expr::Part(_, _, e) => {
+            let n = expr_len(program, e)?;
+            plus(n, 1)
+        }
+        Expr::Literal(id, es) => {
+            let n = elements_len(program, *id, ascends(es), es)?;
+            plus(1, n)
+        }
     }
+}
+
+/// The indices among steps.
+#[cycle(values)]
+pub fn steps_len(program: &Program, steps: &[Step]) -> Result<u32, NoMemory>
+    ensures { IfOk result (λ n. n ≡ steps_size (program_of program.now) (these_steps steps.now) 0) }
+{
+    let mut total = 0;
+    for step in steps {
+        if let Step::Index(_, e, _) = step {
+            let n = expr_len(program, e)?;
+            total = plus(total, n)?;
+        }
+    }
+    Ok(total)
+}
+
+/// The elements of a literal, with what stands behind each.
+#[cycle(values)]
+fn elements_len(program: &Program, id: TypeId, is_ordered: bool, es: &[Element]) -> Result<u32, NoMemory>
+    ensures { IfOk result (λ n. n ≡ elements_size (program_of program.now) (type_named (program_of program.now) id.0) is_ordered (elements_of es.now)) }
+{
+    let mut total = 0;
+    for (i, element) in es.iter().enumerate() {
+        let Element::For(number, e) = element;
+        let n = expr_len(program, e)?;
+        total = plus(total, n)?;
+        total = plus(total, behind_len(program, id, is_ordered, *number, &es[i + 1..]))?;
+    }
+    Ok(total)
 }
 
 /// Values.
@@ -112,6 +158,14 @@ fn row_len(program: &Program, es: &[Expr]) -> Result<u32, NoMemory>
         total = plus(total, n)?;
     }
     Ok(total)
+}
+
+/// The operands of a place.
+#[tactic(auto, using(crate::proofs::Steps::size_place))]
+pub fn place_len(program: &Program, place: &Place) -> Result<u32, NoMemory>
+    ensures { IfOk result (λ n. n ≡ place_size (program_of program.now) (place_of place.now) 0) }
+{
+    steps_len(program, steps_of(place))
 }
 
 /// An expression and an instruction behind it.

@@ -20,13 +20,16 @@
 //! where a read failed, the program asks for the next one behind just the output that was written.
 #![tactic(auto)]
 
+mod arrays;
 mod assigning;
 mod beginning;
 mod emitting;
 mod jumps;
 mod lengths;
+mod literals;
 mod looping;
 mod moving;
+mod parts;
 mod program;
 mod reaching;
 mod returning;

@@ -3,12 +3,12 @@ ghost use Rattle.std.specs.Prelude.{◌≡◌, ◌+◌, ◌<◌, ◌≤◌, ◌+
 ghost use Rattle.isa.specs.declared.instr.Instr.{Instr};
 ghost use Rattle.isa.specs.declared.instr.BinOp.{BinOp};
 ghost use Rattle.typed.specs.Syntax.{argument_words};
-ghost use Rattle.typed.specs.View.{ex_of, func_of, left_of, program_of, site_numbers, sts_of, test_of};
-ghost use Rattle.codegen.specs.Frame.{slots_in, left_code, IsSmall};
-ghost use Rattle.codegen.specs.Temps.{Fits, LeftFits, RenewFits, SitesFit, TestFitsIn};
-ghost use Rattle.simulated_code.specs.Code.{ex_code, lefts_above, lefts_size, renew_code, renew_size, size, sts_size, temp, test_code, test_size};
+ghost use Rattle.typed.specs.View.{ex_of, left_of, program_of, site_numbers, sts_of, test_of};
+ghost use Rattle.codegen.specs.Frame.{func_in, slots_in, key_code, IsSmall};
+ghost use Rattle.codegen.specs.Temps.{Fits, LeftFits, ReadyFitIn, RenewFits, SitesFit, TestFitsIn};
+ghost use Rattle.simulated_code.specs.Code.{ex_code, index_round_size, lefts_above, renew_code, renew_size, size, sts_size, temp, test_code, test_size};
 
-use crate::assigning::emit_left;
+use crate::assigning::{above_left, emit_left, ready_left};
 use crate::jumps::{Goals, put};
 use crate::lengths::{last_len, plus, test_len};
 use crate::moving::moves;
@@ -82,9 +82,9 @@ pub fn loop_goals(
     body: &[Stmt],
 ) -> Result<Goals, NoMemory>
     ensures again { IfOk result (λ g. g.again ≡ start + test_size (program_of program.now) (test_of test.now)
-        + sts_size (program_of program.now) (argument_words (func_of func.now)) (func_of func.now).named (sts_of body.now)) }
+        + sts_size (program_of program.now) (argument_words (func_in program.now func.now)) (func_in program.now func.now).named (sts_of body.now)) }
     ensures out { IfOk result (λ g. g.out ≡ g.again + renew_size (site_numbers sites.now)
-        + sts_size (program_of program.now) (argument_words (func_of func.now)) (func_of func.now).named (sts_of post.now) + 1) }
+        + sts_size (program_of program.now) (argument_words (func_in program.now func.now)) (func_in program.now func.now).named (sts_of post.now) + 1) }
 {
     let inside = plus(start, test_len(program, test)?)?;
     let again = plus(inside, stmts_len(program, func, body)?)?;
@@ -106,14 +106,15 @@ pub fn count_goals(
     program: &Program,
     func: &Func,
     test: u32,
-    key: Left,
+    key: &Left,
     body: &[Stmt],
 ) -> Result<Goals, NoMemory>
-    ensures again { IfOk result (λ g. g.again ≡ test + 2 + lefts_size (left_of key ∷ [])
-        + sts_size (program_of program.now) (argument_words (func_of func.now)) (func_of func.now).named (sts_of body.now)) }
+    ensures again { IfOk result (λ g. g.again ≡ test + 2 + index_round_size (program_of program.now) (left_of key.now)
+        + sts_size (program_of program.now) (argument_words (func_in program.now func.now)) (func_in program.now func.now).named (sts_of body.now)) }
     ensures out { IfOk result (λ g. g.out ≡ g.again + 3) }
 {
-    let inside = plus(test, TEST + key_len(key))?;
+    let written = plus(TEST, key_len(program, key)?)?;
+    let inside = plus(test, written)?;
     let again = plus(inside, stmts_len(program, func, body)?)?;
     let out = plus(again, TURN)?;
     Ok(Goals { out, again })
@@ -139,23 +140,40 @@ pub fn emit_count_start(
     Ok(())
 }
 
-/// A round begins: where the index is not below the number, goes on at a place; else the left side gets the index.
-#[tactic(auto, using(crate::proofs::Alone::key_at))]
+/// A left side, with operands in temps from `first` on, gets the index in a temp.
+pub fn emit_key(
+    code: &mut Vec<Instr>,
+    program: &Program,
+    frame: Frame,
+    key: &Left,
+    first: u16,
+    index: u16,
+) -> Result<(), NoMemory>
+    requires index { index ≤ frame.temps }
+    requires first { first ≤ frame.temps }
+    requires ready { ReadyFitIn (program_of program.now) (slots_in program.now frame) frame.sites first (left_of key.now ∷ []) }
+    requires key { LeftFits (slots_in program.now frame) frame.sites (lefts_above (left_of key.now ∷ []) first) (left_of key.now) }
+    requires frame { IsSmall program.now frame }
+    ensures { OnOk result (code.new.items ≡ code.old.items ++ key_code (program_of program.now) (slots_in program.now frame) (left_of key.now) first index (length code.old.items)) }
+{
+    ready_left(code, program, frame, key, first)?;
+    emit_left(code, program, frame, key, first, above_left(key, first), index)?;
+    Ok(())
+}
+
+/// A round begins: where the index is not below the number, goes on at a place.
 pub fn emit_count_test(
     code: &mut Vec<Instr>,
     program: &Program,
     frame: Frame,
-    key: Left,
     h: u16,
     out: u32,
 ) -> Result<(), NoMemory>
     requires temps { h + 2 < frame.temps }
-    requires key { LeftFits (slots_in program.now frame) frame.sites (lefts_above (left_of key ∷ []) (h + 2)) (left_of key) }
     requires frame { IsSmall program.now frame }
     ensures { OnOk result (code.new.items ≡ code.old.items
         ++ Instr.Bin BinOp.Less (temp (slots_in program.now frame) (h + 2)) (temp (slots_in program.now frame) (h + 1)) (temp (slots_in program.now frame) h)
-        ∷ Instr.JumpZero (temp (slots_in program.now frame) (h + 2)) out
-        ∷ left_code (slots_in program.now frame) (left_of key) (h + 2) (h + 2) (h + 1)) }
+        ∷ Instr.JumpZero (temp (slots_in program.now frame) (h + 2)) out ∷ []) }
 {
     let (number, index, below) = (frame.temp(h), frame.temp(h + 1), frame.temp(h + 2));
     let op = isa::BinOp::Less;
@@ -169,7 +187,6 @@ pub fn emit_count_test(
         },
     )?;
     put(code, Instr::JumpZero { a: below, to: out })?;
-    emit_left(code, program, frame, key, h + 2, h + 1)?;
     Ok(())
 }
 

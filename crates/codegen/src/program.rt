@@ -1,9 +1,9 @@
 //! The code of a program: its tables, function by function.
 ghost use Rattle.std.specs.Prelude.{◌≡◌, ◌+◌, ◌<◌, ◌≤◌, ◌^◌, ◌++◌, ◌∷◌, [], IfOk, OnOk, length, map, replicate};
-ghost use Rattle.typed.specs.View.{func_of, program_of};
+ghost use Rattle.typed.specs.View.{program_of};
 ghost use Rattle.typed.specs.Form.{IsInForm};
 ghost use Rattle.frame_layout.specs.Layout.{layout_in, layouts as layouts_of};
-ghost use Rattle.codegen.specs.Frame.{slots_in, IsSmall};
+ghost use Rattle.codegen.specs.Frame.{func_in, slots_in, IsSmall};
 ghost use Rattle.codegen.specs.Temps.{FuncFitsIn};
 ghost use Rattle.simulated_code.specs.Code.{code_of, entry_of, func_code, func_size, slots_of};
 ghost use Rattle.simulated_code.specs.Correct.{Simulated};
@@ -33,11 +33,11 @@ fn emit_func(
     frame: Frame,
     func: &Func,
 ) -> Result<(), NoMemory>
-    requires slots { slots_in program.now frame ≡ slots_of (program_of program.now) (func_of func.now) }
+    requires slots { slots_in program.now frame ≡ slots_of (program_of program.now) (func_in program.now func.now) }
     requires sites { frame.sites ≡ func.now.sites }
-    requires fits { FuncFitsIn (program_of program.now) (func_of func.now) }
+    requires fits { FuncFitsIn (program_of program.now) (func_in program.now func.now) }
     requires frame { IsSmall program.now frame }
-    ensures { OnOk result (code.new.items ≡ code.old.items ++ func_code (program_of program.now) (func_of func.now) (length code.old.items)) }
+    ensures { OnOk result (code.new.items ≡ code.old.items ++ func_code (program_of program.now) (func_in program.now func.now) (length code.old.items)) }
 {
     emit_params(code, program, frame, &func.params, &func.param_types)?;
     emit_zeros(code, program, frame, &func.named)?;
@@ -96,11 +96,11 @@ fn add(
     layout: FrameLayout,
     number: u16,
 ) -> Result<(), NoMemory>
-    requires fits { FuncFitsIn (program_of program.now) (func_of func.now) }
-    requires layout { layout ≡ layout_in (program_of program.now) (func_of func.now) }
-    ensures instrs { OnOk result (parts.new.instrs.items ≡ parts.old.instrs.items ++ func_code (program_of program.now) (func_of func.now) (length parts.old.instrs.items)) }
-    ensures owners { OnOk result (parts.new.owners.items ≡ parts.old.owners.items ++ replicate (func_size (program_of program.now) (func_of func.now)) number) }
-    ensures funcs { OnOk result (parts.new.funcs.items ≡ parts.old.funcs.items ++ entry_of (program_of program.now) (func_of func.now) (length parts.old.instrs.items) ∷ []) }
+    requires fits { FuncFitsIn (program_of program.now) (func_in program.now func.now) }
+    requires layout { layout ≡ layout_in (program_of program.now) (func_in program.now func.now) }
+    ensures instrs { OnOk result (parts.new.instrs.items ≡ parts.old.instrs.items ++ func_code (program_of program.now) (func_in program.now func.now) (length parts.old.instrs.items)) }
+    ensures owners { OnOk result (parts.new.owners.items ≡ parts.old.owners.items ++ replicate (func_size (program_of program.now) (func_in program.now func.now)) number) }
+    ensures funcs { OnOk result (parts.new.funcs.items ≡ parts.old.funcs.items ++ entry_of (program_of program.now) (func_in program.now func.now) (length parts.old.instrs.items) ∷ []) }
 {
     let start = here(&parts.instrs)?;
     let frame = Frame {
@@ -112,8 +112,8 @@ fn add(
     emit_func(&mut parts.instrs, program, frame, func)?;
     let places = parts.instrs.len() - start as usize;
     own(&mut parts.owners, number, places)?;
-    let arguments = all_words(&func.param_types)? as u16;
-    let results = all_words(&func.results)? as u16;
+    let arguments = all_words(program, &func.param_types)? as u16;
+    let results = all_words(program, &func.results)? as u16;
     let entry = isa::Func {
         frame: layout.frame,
         arguments,

@@ -1,8 +1,9 @@
 //! The code at both ends of a function: what it takes, and what it gives back.
 ghost use Rattle.std.specs.Prelude.{◌≡◌, ◌+◌, ◌≤◌, ◌++◌, ◌∷◌, [], length, map, OnOk};
-ghost use Rattle.typed.specs.Syntax.{all_wide, all_width, argument_words, each_width, result_words};
-ghost use Rattle.typed.specs.View.{exs_of_values, func_of, program_of, site_in, site_numbers, type_of};
-ghost use Rattle.codegen.specs.Frame.{slots_in, param_code, IsSmall, Returns};
+ghost use Rattle.type_table.specs.Trees.{trees};
+ghost use Rattle.typed.specs.Syntax.{all_wide, all_width, argument_words, each_width, result_words, type_in};
+ghost use Rattle.typed.specs.View.{exs_of_values, program_of, site_in, site_numbers};
+ghost use Rattle.codegen.specs.Frame.{func_in, slots_in, param_code, IsSmall, Returns};
 ghost use Rattle.codegen.specs.Temps.{ExsFitIn, ParamFits, ParamsFitIn, SitesFit, ValuesFit, sites_words};
 ghost use Rattle.simulated_code.specs.Code.{exs_code, leave_code, named_read_code, named_write_code, params_code, result_code, values_code, zeros_code};
 
@@ -44,14 +45,14 @@ pub fn emit_params(
     params: &[Option<SiteId>],
     types: &[TypeId],
 ) -> Result<(), NoMemory>
-    requires fits { ParamsFitIn (slots_in program.now frame) frame.sites (each_width (map (λ t. type_of t.0) types.now)) (map site_in params.now) }
-    requires small { all_width (map (λ t. type_of t.0) types.now) ≤ 65535 }
+    requires fits { ParamsFitIn (slots_in program.now frame) frame.sites (each_width (map (λ t. type_in (trees program.now.types) t.0) types.now)) (map site_in params.now) }
+    requires small { all_width (map (λ t. type_in (trees program.now.types) t.0) types.now) ≤ 65535 }
     requires frame { IsSmall program.now frame }
-    ensures { OnOk result (code.new.items ≡ code.old.items ++ params_code (slots_in program.now frame) (each_width (map (λ t. type_of t.0) types.now)) (map site_in params.now) 0) }
+    ensures { OnOk result (code.new.items ≡ code.old.items ++ params_code (slots_in program.now frame) (each_width (map (λ t. type_in (trees program.now.types) t.0) types.now)) (map site_in params.now) 0) }
 {
     let mut word: u16 = 0;
     for (i, param) in params.iter().enumerate() {
-        let n = nth_words(types, i) as u16;
+        let n = nth_words(program, types, i) as u16;
         emit_param(code, program, frame, *param, n, word)?;
         word += n;
     }
@@ -149,11 +150,11 @@ pub fn emit_leave(
     frame: Frame,
     func: &Func,
 ) -> Result<(), NoMemory>
-    requires returns { Returns program.now frame (func_of func.now) }
+    requires returns { Returns program.now frame (func_in program.now func.now) }
     requires frame { IsSmall program.now frame }
-    ensures { OnOk result (code.new.items ≡ code.old.items ++ leave_code (slots_in program.now frame) (argument_words (func_of func.now)) (func_of func.now).named) }
+    ensures { OnOk result (code.new.items ≡ code.old.items ++ leave_code (slots_in program.now frame) (argument_words (func_in program.now func.now)) (func_in program.now func.now).named) }
 {
-    let arguments = all_words(&func.param_types)? as u16;
+    let arguments = all_words(program, &func.param_types)? as u16;
     emit_named_reads(code, program, frame, &func.named, arguments)?;
     put(code, Instr::Return)?;
     Ok(())
@@ -168,13 +169,13 @@ fn emit_given(
     words: u64,
     h: u16,
 ) -> Result<(), NoMemory>
-    requires fits { ValuesFit (slots_in program.now frame) (result_words (func_of func.now)) h words (func_of func.now).named }
-    requires returns { Returns program.now frame (func_of func.now) }
+    requires fits { ValuesFit (slots_in program.now frame) (result_words (func_in program.now func.now)) h words (func_in program.now func.now).named }
+    requires returns { Returns program.now frame (func_in program.now func.now) }
     requires frame { IsSmall program.now frame }
-    ensures { OnOk result (code.new.items ≡ code.old.items ++ values_code (slots_in program.now frame) (argument_words (func_of func.now)) words (func_of func.now).named h) }
+    ensures { OnOk result (code.new.items ≡ code.old.items ++ values_code (slots_in program.now frame) (argument_words (func_in program.now func.now)) words (func_in program.now func.now).named h) }
 {
     if func.named.is_empty() {
-        let arguments = all_words(&func.param_types)? as u16;
+        let arguments = all_words(program, &func.param_types)? as u16;
         emit_results(code, words as u16, frame.temp(h), arguments)?;
     } else if words > 0 {
         emit_named_writes(code, program, frame, &func.named, h)?;
@@ -192,12 +193,12 @@ pub fn emit_return(
     h: u16,
 ) -> Result<(), NoMemory>
     requires fits { ExsFitIn (program_of program.now) (slots_in program.now frame) frame.sites h (exs_of_values values.now)
-        × ValuesFit (slots_in program.now frame) (result_words (func_of func.now)) h (all_wide (program_of program.now) (exs_of_values values.now)) (func_of func.now).named }
-    requires returns { Returns program.now frame (func_of func.now) }
+        × ValuesFit (slots_in program.now frame) (result_words (func_in program.now func.now)) h (all_wide (program_of program.now) (exs_of_values values.now)) (func_in program.now func.now).named }
+    requires returns { Returns program.now frame (func_in program.now func.now) }
     requires frame { IsSmall program.now frame }
     ensures { OnOk result (code.new.items ≡ code.old.items ++ (exs_code (program_of program.now) (slots_in program.now frame) (exs_of_values values.now) h (length code.old.items)
-        ++ (values_code (slots_in program.now frame) (argument_words (func_of func.now)) (all_wide (program_of program.now) (exs_of_values values.now)) (func_of func.now).named h
-        ++ leave_code (slots_in program.now frame) (argument_words (func_of func.now)) (func_of func.now).named))) }
+        ++ (values_code (slots_in program.now frame) (argument_words (func_in program.now func.now)) (all_wide (program_of program.now) (exs_of_values values.now)) (func_in program.now func.now).named h
+        ++ leave_code (slots_in program.now frame) (argument_words (func_in program.now func.now)) (func_in program.now func.now).named))) }
 {
     emit_values(code, program, frame, values, h)?;
     emit_given(

@@ -1,10 +1,11 @@
 //! The numbers of instructions of statements.
 ghost use Rattle.std.specs.Prelude.{◌≡◌, ◌+◌, ◌≤◌, IfOk, ◌∷◌, [], map};
 ghost use Rattle.typed.specs.Syntax.{all_wide, argument_words};
-ghost use Rattle.typed.specs.View.{ex_of, exs_of_values, func_of, left_of, piece_of, place_of, program_of, site_numbers, st_of, sts_of, test_of};
-ghost use Rattle.simulated_code.specs.Code.{address_size, exs_size, leave_size, lefts_size, lefts_sized, piece_size, place_size, pieces_size, renew_size, shown_size, size, st_size, sts_size, test_size, values_size};
+ghost use Rattle.typed.specs.View.{ex_of, exs_of_values, left_of, piece_of, place_of, program_of, site_numbers, st_of, sts_of, test_of};
+ghost use Rattle.codegen.specs.Frame.{func_in};
+ghost use Rattle.simulated_code.specs.Code.{address_size, exs_size, element_round_size, index_round_size, leave_size, lefts_size, lefts_sized, piece_size, place_size, pieces_size, renew_size, shown_size, size, st_size, sts_size, test_size, values_size};
 
-use crate::lengths::{expr_len, last_len, move_len, number, plus, test_len, values_len};
+use crate::lengths::{expr_len, last_len, move_len, number, place_len, plus, test_len, values_len};
 use crate::reaching::address_len;
 use base::{NoMemory, SiteId};
 use frame_layout::values_words;
@@ -18,6 +19,12 @@ const COUNT_HEAD: u32 = 3;
 
 /// The instructions at a round's end: a constant, the sum and a jump.
 const COUNT_TURN: u32 = 3;
+
+/// `range` over an array: the first index, and the test with its jump.
+const ARRAY_HEAD: u32 = 4;
+
+/// The index and the element of a round: a move, the address of the copy, that of the element, and a load.
+const ELEMENT: u32 = 4;
 
 fn piece_len(program: &Program, p: &Piece) -> Result<u32, NoMemory>
     ensures { IfOk result (λ n. n ≡ piece_size (program_of program.now) (piece_of p.now)) }
@@ -77,37 +84,66 @@ fn lefts_len(ls: &[Left]) -> Result<u32, NoMemory>
         match left {
             Left::Blank => {}
             Left::New(_) => total = plus(total, 1)?,
-            Left::To(place) => total = plus(total, address_len(*place) + 1)?,
+            Left::To(place) => {
+                let address = address_len(place)?;
+                let write = plus(address, 1)?;
+                total = plus(total, write)?;
+            }
         }
     }
     Ok(total)
 }
 
-#[tactic(auto, using(crate::proofs::Alone::lefts_alone))]
+// The operands of left sides.
+fn ready_len(program: &Program, ls: &[Left]) -> Result<u32, NoMemory>
+    ensures { IfOk result (λ n. n ≡ lefts_sized (program_of program.now) (map left_of ls.now) 0) }
+{
+    let mut total = 0;
+    for left in ls {
+        if let Left::To(place) = left {
+            let n = place_len(program, place)?;
+            total = plus(total, n)?;
+        }
+    }
+    Ok(total)
+}
+
+#[tactic(auto, using(crate::proofs::Sized::lefts_total))]
 fn assign_len(program: &Program, ls: &[Left], values: &Values) -> Result<u32, NoMemory>
     ensures { IfOk result (λ n. n ≡ lefts_sized (program_of program.now) (map left_of ls.now)
         (exs_size (program_of program.now) (exs_of_values values.now) + lefts_size (map left_of ls.now))) }
 {
+    let operands = ready_len(program, ls)?;
     let m = values_len(program, values)?;
     let n = lefts_len(ls)?;
-    plus(m, n)
+    let behind = plus(m, n)?;
+    plus(operands, behind)
 }
 
-// The address, if there is one, and a read stand before the operand, the operation and a write behind it.
-#[tactic(auto, using(crate::proofs::Alone::place_sized))]
-fn update_len(program: &Program, place: Place, e: &Expr) -> Result<u32, NoMemory>
-    ensures { IfOk result (λ n. n ≡ place_size (program_of program.now) (place_of place) (address_size (place_of place) + 1 + size (program_of program.now) (ex_of e.now) + 1 + 1)) }
+// The operands of a place, its address, if there is one, and so many instructions more.
+#[tactic(auto, using(crate::proofs::Sized::place_total))]
+fn reached_len(program: &Program, place: &Place, more: u32) -> Result<u32, NoMemory>
+    ensures { IfOk result (λ n. n ≡ place_size (program_of program.now) (place_of place.now) (address_size (place_of place.now) + more)) }
+{
+    let operands = place_len(program, place)?;
+    let address = address_len(place)?;
+    let reached = plus(operands, address)?;
+    plus(reached, more)
+}
+
+// A read of the place stands before the operand, the operation and a write behind it.
+fn update_len(program: &Program, place: &Place, e: &Expr) -> Result<u32, NoMemory>
+    ensures { IfOk result (λ n. n ≡ place_size (program_of program.now) (place_of place.now) (address_size (place_of place.now) + 1 + size (program_of program.now) (ex_of e.now) + 1 + 1)) }
 {
     let n = expr_len(program, e)?;
-    plus(n, address_len(place) + 3)
+    reached_len(program, place, plus(n, 3)?)
 }
 
 // `++` and `--`.
-#[tactic(auto, using(crate::proofs::Alone::place_sized))]
-fn bump_len(program: &Program, place: Place) -> u32
-    ensures { result ≡ place_size (program_of program.now) (place_of place) (address_size (place_of place) + 1 + 2 + 1) }
+fn bump_len(program: &Program, place: &Place) -> Result<u32, NoMemory>
+    ensures { IfOk result (λ n. n ≡ place_size (program_of program.now) (place_of place.now) (address_size (place_of place.now) + 1 + 2 + 1)) }
 {
-    address_len(place) + BUMP
+    reached_len(program, place, BUMP)
 }
 
 // So many words of values become the results, which have these names or none.
@@ -135,7 +171,7 @@ fn leave_len(named: &[SiteId]) -> Result<u32, NoMemory>
 
 fn return_len(program: &Program, func: &Func, values: &Values) -> Result<u32, NoMemory>
     ensures { IfOk result (λ n. n ≡ exs_size (program_of program.now) (exs_of_values values.now)
-        + (values_size (all_wide (program_of program.now) (exs_of_values values.now)) (func_of func.now).named + leave_size (func_of func.now).named)) }
+        + (values_size (all_wide (program_of program.now) (exs_of_values values.now)) (func_in program.now func.now).named + leave_size (func_in program.now func.now).named)) }
 {
     let n = values_len(program, values)?;
     let given = given_len(values_words(program, values)?, &func.named)?;
@@ -181,39 +217,98 @@ fn loop_len(
     plus(third, 1)
 }
 
-/// The write of a round's index.
-pub fn key_len(key: Left) -> u32
-    ensures len { result ≡ lefts_size (left_of key ∷ []) }
-    ensures few { result ≤ 2 }
+// The operands of a left side.
+fn left_ready_len(program: &Program, left: &Left) -> Result<u32, NoMemory>
+    ensures { IfOk result (λ n. n ≡ lefts_sized (program_of program.now) (left_of left.now ∷ []) 0) }
 {
-    match key {
-        Left::Blank => 0,
-        Left::New(_) => 1,
-        Left::To(place) => address_len(place) + 1,
+    match left {
+        Left::To(place) => place_len(program, place),
+        Left::Blank | Left::New(_) => Ok(0),
     }
 }
 
+// What a left side gets.
+fn left_len(left: &Left) -> Result<u32, NoMemory>
+    ensures { IfOk result (λ n. n ≡ lefts_size (left_of left.now ∷ [])) }
+{
+    match left {
+        Left::Blank => Ok(0),
+        Left::New(_) => Ok(1),
+        Left::To(place) => {
+            let address = address_len(place)?;
+            plus(address, 1)
+        }
+    }
+}
+
+/// The operands of the left side that gets a round's index, and its write.
+#[tactic(auto, using(crate::proofs::Sized::lefts_total))]
+pub fn key_len(program: &Program, key: &Left) -> Result<u32, NoMemory>
+    ensures { IfOk result (λ n. n ≡ index_round_size (program_of program.now) (left_of key.now)) }
+{
+    let operands = left_ready_len(program, key)?;
+    let write = left_len(key)?;
+    plus(operands, write)
+}
+
+/// Those of the left sides that get a round's index and element, and the four instructions that put these down.
+#[tactic(auto, using(crate::proofs::Sized::pair_sized))]
+pub fn pair_len(program: &Program, key: &Left, value: &Left) -> Result<u32, NoMemory>
+    ensures { IfOk result (λ n. n ≡ element_round_size (program_of program.now) (left_of key.now) (left_of value.now)) }
+{
+    let first = key_len(program, key)?;
+    let second = key_len(program, value)?;
+    let both = plus(first, second)?;
+    plus(both, ELEMENT)
+}
+
 // A `range` over a number whose body has so many.
-#[tactic(auto, using(crate::proofs::Alone::key_sized))]
-fn count_len(program: &Program, e: &Expr, key: Left, body: u32) -> Result<u32, NoMemory>
-    ensures { IfOk result (λ n. n ≡ size (program_of program.now) (ex_of e.now) + 1 + 2 + lefts_sized (program_of program.now) (left_of key ∷ []) (lefts_size (left_of key ∷ [])) + body + 3) }
+fn count_len(program: &Program, e: &Expr, key: &Left, body: u32) -> Result<u32, NoMemory>
+    ensures { IfOk result (λ n. n ≡ size (program_of program.now) (ex_of e.now) + 1 + 2 + lefts_sized (program_of program.now) (left_of key.now ∷ []) (lefts_size (left_of key.now ∷ [])) + body + 3) }
 {
     let operand = expr_len(program, e)?;
-    let head = plus(operand, COUNT_HEAD + key_len(key))?;
-    let round = plus(head, body)?;
-    plus(round, COUNT_TURN)
+    let written = key_len(program, key)?;
+    let head = plus(COUNT_HEAD, written)?;
+    let round = plus(operand, head)?;
+    let inside = plus(round, body)?;
+    plus(inside, COUNT_TURN)
+}
+
+// A `range` over an array whose rounds begin with so many and whose body has so many.
+fn array_len(round: u32, body: u32) -> Result<u32, NoMemory>
+    ensures { IfOk result (λ n. n ≡ 4 + round + body + 3) }
+{
+    let head = plus(ARRAY_HEAD, round)?;
+    let inside = plus(head, body)?;
+    plus(inside, COUNT_TURN)
+}
+
+// One over its indices.
+fn indices_len(program: &Program, key: &Left, body: u32) -> Result<u32, NoMemory>
+    ensures { IfOk result (λ n. n ≡ 4 + index_round_size (program_of program.now) (left_of key.now) + body + 3) }
+{
+    array_len(key_len(program, key)?, body)
+}
+
+// One over its elements: the operand and its move to the copy come first.
+fn elements_len(program: &Program, e: &Expr, key: &Left, value: &Left, body: u32) -> Result<u32, NoMemory>
+    ensures { IfOk result (λ n. n ≡ size (program_of program.now) (ex_of e.now) + 1 + (4 + element_round_size (program_of program.now) (left_of key.now) (left_of value.now) + body + 3)) }
+{
+    let copy = last_len(program, e)?;
+    let rounds = array_len(pair_len(program, key, value)?, body)?;
+    plus(copy, rounds)
 }
 
 #[cycle(lengths)]
 #[tactic(auto, using(typed::proofs::Rows::stmt_rows))]
 fn stmt_len(program: &Program, func: &Func, s: &Stmt) -> Result<u32, NoMemory>
-    ensures { IfOk result (λ n. n ≡ st_size (program_of program.now) (argument_words (func_of func.now)) (func_of func.now).named (st_of s.now)) }
+    ensures { IfOk result (λ n. n ≡ st_size (program_of program.now) (argument_words (func_in program.now func.now)) (func_in program.now func.now).named (st_of s.now)) }
 {
     match s {
         Stmt::Declare(sites) => number(sites.len()),
         Stmt::Assign(ls, values) => assign_len(program, ls, values),
-        Stmt::Update(_, place, _, e) => update_len(program, *place, e),
-        Stmt::Bump(place, _) => Ok(bump_len(program, *place)),
+        Stmt::Update(_, place, _, e) => update_len(program, place, e),
+        Stmt::Bump(place, _) => bump_len(program, place),
         Stmt::Discard(values) => values_len(program, values),
         Stmt::Block(ss) => stmts_len(program, func, ss),
         Stmt::If(e, a, b) => {
@@ -228,7 +323,15 @@ fn stmt_len(program: &Program, func: &Func, s: &Stmt) -> Result<u32, NoMemory>
         }
         Stmt::Count(e, key, body) => {
             let inside = stmts_len(program, func, body)?;
-            count_len(program, e, *key, inside)
+            count_len(program, e, key, inside)
+        }
+        Stmt::Indices(_, key, body) => {
+            let inside = stmts_len(program, func, body)?;
+            indices_len(program, key, inside)
+        }
+        Stmt::Elements(_, e, _, key, value, body) => {
+            let inside = stmts_len(program, func, body)?;
+            elements_len(program, e, key, value, inside)
         }
         Stmt::Break => Ok(1),
         Stmt::Continue => Ok(1),
@@ -242,7 +345,7 @@ fn stmt_len(program: &Program, func: &Func, s: &Stmt) -> Result<u32, NoMemory>
 /// Statements.
 #[cycle(lengths)]
 pub fn stmts_len(program: &Program, func: &Func, ss: &[Stmt]) -> Result<u32, NoMemory>
-    ensures { IfOk result (λ n. n ≡ sts_size (program_of program.now) (argument_words (func_of func.now)) (func_of func.now).named (sts_of ss.now)) }
+    ensures { IfOk result (λ n. n ≡ sts_size (program_of program.now) (argument_words (func_in program.now func.now)) (func_in program.now func.now).named (sts_of ss.now)) }
 {
     let mut total = 0;
     for s in ss {

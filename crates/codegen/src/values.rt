@@ -1,20 +1,24 @@
 //! The code of expressions and calls.
-ghost use Rattle.std.specs.Prelude.{◌≡◌, ◌+◌, ◌≤◌, ◌++◌, ◌∷◌, [], length, OnOk};
+ghost use Rattle.std.specs.Prelude.{◌≡◌, ◌+◌, ◌≤◌, ◌++◌, ◌∷◌, [], length, OnOk, true, false};
 ghost use Rattle.isa.specs.declared.instr.Instr.{Instr};
-ghost use Rattle.typed.specs.View.{ex_of, exs_of, exs_of_values, program_of, value_of};
+ghost use Rattle.value_trees.specs.Types.{width};
+ghost use Rattle.typed.specs.Syntax.{type_named};
+ghost use Rattle.typed.specs.View.{elements_of, ex_of, exs_of, exs_of_values, program_of, steps_of as these_steps, value_of};
 ghost use Rattle.codegen.specs.Frame.{slots_in, IsSmall};
-ghost use Rattle.codegen.specs.Temps.{CallFits, Fits, ExsFitIn};
-ghost use Rattle.simulated_code.specs.Code.{binary_code as code_of_binary, call_code, ex_code, exs_code, operation as operation_of, size, temp, unary_code, word_of};
+ghost use Rattle.codegen.specs.Temps.{CallFits, ElementsFitIn, Fits, ExsFitIn, StepsFitIn};
+ghost use Rattle.simulated_code.specs.Code.{binary_code as code_of_binary, call_code, elements_code, ex_code, exs_code, steps_code, operation as operation_of, size, temp, unary_code, word_of};
 
 use crate::jumps::{jump, jump_if_zero, put};
 use crate::lengths::expr_len;
-use crate::moving::emit_move;
-use crate::reaching::emit_read;
+use crate::literals::{ascends, emit_gap, moved, taken};
+use crate::moving::{emit_move, zeros};
+use crate::parts::steps_of;
+use crate::reaching::{above_operands, emit_read};
 use crate::slots::Frame;
-use base::{FuncId, NoMemory};
+use base::{FuncId, NoMemory, TypeId};
 use frame_layout::{arguments_of, expr_words, results_of};
 use isa::Instr;
-use typed::{BinOp, Const, Expr, Program, UnOp, Values};
+use typed::{BinOp, Const, Element, Expr, Program, Step, UnOp, Values};
 
 /// The instruction's operation.
 pub fn operation(op: BinOp) -> isa::BinOp
@@ -196,6 +200,7 @@ pub fn emit_operation(
 
 /// The value lands in temps from h on.
 #[cycle(values)]
+#[tactic(auto, using(typed::proofs::Rows::expr_rows))]
 pub fn emit_expr(
     code: &mut Vec<Instr>,
     program: &Program,
@@ -213,7 +218,8 @@ pub fn emit_expr(
             put(code, Instr::Const { a, word })?;
         }
         Expr::Read(place) => {
-            emit_read(code, program, frame, *place, h)?;
+            emit_steps(code, program, frame, steps_of(place), h)?;
+            emit_read(code, program, frame, place, above_operands(place, h), h)?;
         }
         Expr::Unary(op, a) => {
             let a: &Expr = a;
@@ -247,6 +253,91 @@ pub fn emit_expr(
             emit_values(code, program, frame, arguments, h)?;
             emit_call(code, program, frame, *f, h)?;
         }
+        Expr::Part(id, number, e) => {
+            let e: &Expr = e;
+            emit_expr(code, program, frame, e, h)?;
+            put(code, taken(program, frame, *id, *number, h))?;
+        }
+        Expr::Literal(id, es) => {
+            put(code, zeros(program.types.width(*id) as u16, frame.temp(h)))?;
+            if ascends(es) {
+                emit_ordered(code, program, frame, *id, es, h)?;
+            } else {
+                emit_moved(code, program, frame, *id, es, h)?;
+            }
+        }
+    }
+    Ok(())
+}
+
+/// The indices among steps land in temps from h on.
+#[cycle(values)]
+pub fn emit_steps(
+    code: &mut Vec<Instr>,
+    program: &Program,
+    frame: Frame,
+    steps: &[Step],
+    h: u16,
+) -> Result<(), NoMemory>
+    requires fits { StepsFitIn (program_of program.now) (slots_in program.now frame) frame.sites h (these_steps steps.now) }
+    requires frame { IsSmall program.now frame }
+    ensures { OnOk result (code.new.items ≡ code.old.items ++ steps_code (program_of program.now) (slots_in program.now frame) (these_steps steps.now) h (length code.old.items)) }
+{
+    let mut next = h;
+    for step in steps {
+        if let Step::Index(_, e, _) = step {
+            emit_expr(code, program, frame, e, next)?;
+            next += 1;
+        }
+    }
+    Ok(())
+}
+
+// The elements of a literal in temps from h on, whose numbers ascend: each is worked out in its place.
+#[cycle(values)]
+fn emit_ordered(
+    code: &mut Vec<Instr>,
+    program: &Program,
+    frame: Frame,
+    id: TypeId,
+    es: &[Element],
+    h: u16,
+) -> Result<(), NoMemory>
+    requires fits { ElementsFitIn (program_of program.now) (slots_in program.now frame) frame.sites h (type_named (program_of program.now) id.0) true (elements_of es.now) }
+    requires frame { IsSmall program.now frame }
+    ensures { OnOk result (code.new.items ≡ code.old.items
+        ++ elements_code (program_of program.now) (slots_in program.now frame) (type_named (program_of program.now) id.0) true (elements_of es.now) h (length code.old.items)) }
+{
+    for (i, element) in es.iter().enumerate() {
+        let Element::For(number, e) = element;
+        let place = h + program.types.part_offset(id, *number) as u16;
+        emit_expr(code, program, frame, e, place)?;
+        emit_gap(code, program, frame, id, *number, &es[i + 1..], h)?;
+    }
+    Ok(())
+}
+
+// The elements of a literal in temps from h on: each is worked out behind it and moved.
+#[cycle(values)]
+fn emit_moved(
+    code: &mut Vec<Instr>,
+    program: &Program,
+    frame: Frame,
+    id: TypeId,
+    es: &[Element],
+    h: u16,
+) -> Result<(), NoMemory>
+    requires room { h + width (type_named (program_of program.now) id.0) ≤ frame.temps }
+    requires fits { ElementsFitIn (program_of program.now) (slots_in program.now frame) frame.sites h (type_named (program_of program.now) id.0) false (elements_of es.now) }
+    requires frame { IsSmall program.now frame }
+    ensures { OnOk result (code.new.items ≡ code.old.items
+        ++ elements_code (program_of program.now) (slots_in program.now frame) (type_named (program_of program.now) id.0) false (elements_of es.now) h (length code.old.items)) }
+{
+    let behind = h + program.types.width(id) as u16;
+    for element in es {
+        let Element::For(number, e) = element;
+        emit_expr(code, program, frame, e, behind)?;
+        put(code, moved(program, frame, id, *number, behind, h))?;
     }
     Ok(())
 }

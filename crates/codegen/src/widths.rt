@@ -1,18 +1,19 @@
 //! The words of values by their places among others.
 ghost use Rattle.std.specs.Prelude.{◌≡◌, map, slice_index, IfOk};
-ghost use Rattle.typed.specs.Syntax.{each_width, value_widths};
-ghost use Rattle.typed.specs.View.{exs_of, exs_of_values, program_of, type_of};
+ghost use Rattle.type_table.specs.Trees.{trees};
+ghost use Rattle.typed.specs.Syntax.{each_width, type_in, value_widths};
+ghost use Rattle.typed.specs.View.{exs_of, exs_of_values, program_of};
 
 use base::{NoMemory, TypeId};
-use frame_layout::{expr_words, type_words};
+use frame_layout::expr_words;
 use typed::{Expr, Program, Values};
 
 /// The words of a value of one of these types; 0 where there are fewer.
-pub fn nth_words(types: &[TypeId], i: usize) -> u64
-    ensures { result ≡ slice_index (each_width (map (λ t. type_of t.0) types.now)) i }
+pub fn nth_words(program: &Program, types: &[TypeId], i: usize) -> u64
+    ensures { result ≡ slice_index (each_width (map (λ t. type_in (trees program.now.types) t.0) types.now)) i }
 {
     match types.get(i) {
-        Some(type_id) => type_words(*type_id),
+        Some(type_id) => u64::from(program.types.width(*type_id)),
         None => 0,
     }
 }
@@ -35,7 +36,7 @@ pub fn value_words(program: &Program, values: &Values, i: usize) -> Result<u64, 
     match values {
         Values::Each(es) => nth_expr_words(program, es, i),
         Values::Results(f, _) => match program.funcs.get(f.0 as usize) {
-            Some(func) => Ok(nth_words(&func.results, i)),
+            Some(func) => Ok(nth_words(program, &func.results, i)),
             None => Ok(0),
         },
         Values::ReadInt => Ok(if i < 2 { 1 } else { 0 }),

@@ -35,11 +35,11 @@ use Rattle.compile.specs.declared.fault.CompileFault.TheVariants.{NoMemory}
 record Fits (p : Program) : Type 0 where
   all : (f : ℕ) (func : Func) → slice_get p.funcs f ≡ Some func → frame_of p func ≤ 65535
 
-none_large : (p : Program) (gs : List FuncData) → ((f : ℕ) (func : Func) → slice_get (map func_of gs) f ≡ Some func → frame_of p func ≤ 65535) → first_too_large p gs ≡ None
+none_large : (p : Program) (gs : List FuncData) → ((f : ℕ) (func : Func) → slice_get (map (func_of p.types) gs) f ≡ Some func → frame_of p func ≤ 65535) → first_too_large p gs ≡ None
 none_large p [] fits = refl
 none_large p (g ∷ gs) fits =
-    let small : nat_lt 65535 (frame_of p (func_of g)) ≡ false = le-ltb 65535 (frame_of p (func_of g)) (fits 0 (func_of g) refl) in
-    ap (λ (b : Bool). or_else (if b then Some (record { pos = g.pos; words = frame_of p (func_of g) }) else None) (first_too_large p gs)) small
+    let small : nat_lt 65535 (frame_of p (func_of p.types g)) ≡ false = le-ltb 65535 (frame_of p (func_of p.types g)) (fits 0 (func_of p.types g) refl) in
+    ap (λ (b : Bool). or_else (if b then Some (record { pos = g.pos; words = frame_of p (func_of p.types g) }) else None) (first_too_large p gs)) small
     ∙ none_large p gs (λ f func is. fits (suc f) func is)
 
 or_none : (k l : Option Large) → or_else k l ≡ None → (k ≡ None) × (l ≡ None)
@@ -51,13 +51,13 @@ not_large true k h = absurd cc
 not_large false k h = refl
 
 -- where no frame is too large, all keep the size
-pub fits_all : (p : Program) (gs : List FuncData) → first_too_large p gs ≡ None → (f : ℕ) (func : Func) → slice_get (map func_of gs) f ≡ Some func → frame_of p func ≤ 65535
+pub fits_all : (p : Program) (gs : List FuncData) → first_too_large p gs ≡ None → (f : ℕ) (func : Func) → slice_get (map (func_of p.types) gs) f ≡ Some func → frame_of p func ≤ 65535
 fits_all p [] none f func is = absurd cc
 fits_all p (g ∷ gs) none zero func is =
     let both = or_none _ (first_too_large p gs) none in
-    let small = not_large (nat_lt 65535 (frame_of p (func_of g))) _ both.0 in
-    let same : func_of g ≡ func = cc in
-    subst (λ (h : Func). frame_of p h ≤ 65535) same (ltb-false 65535 (frame_of p (func_of g)) small)
+    let small = not_large (nat_lt 65535 (frame_of p (func_of p.types g))) _ both.0 in
+    let same : func_of p.types g ≡ func = cc in
+    subst (λ (h : Func). frame_of p h ≤ 65535) same (ltb-false 65535 (frame_of p (func_of p.types g)) small)
 fits_all p (g ∷ gs) none (suc f) func is = fits_all p gs (or_none _ (first_too_large p gs) none).1 f func is
 
 module _ (text : List ℕ) where

@@ -174,14 +174,14 @@ fn call_of(alloc: Global, pos: Pos, called: Called, arguments: Listed) -> Result
 }
 
 /// A name as a value.
-fn named(text: &[u8], scope: &Scope, name: Name) -> Checked
+fn named(alloc: Global, text: &[u8], scope: &Scope, name: Name) -> Checked
     ensures pos { result.pos ≡ name.pos }
     ensures gives { option_map gives_of result.gives ≡ gives text.now (scope_of scope.now) (name_of name) }
     ensures fault { IsLeast (Fails text.now (scope_of scope.now) (name_of name)) result.fault }
 {
     Checked {
         pos: name.pos,
-        gives: name_value(text, scope, name),
+        gives: name_value(alloc, text, scope, name),
         fault: name_fault(text, scope, name),
     }
 }
@@ -227,7 +227,7 @@ pub fn check_expr(alloc: Global, text: &[u8], scope: &Scope, e: &Expr) -> Result
     match e {
         Expr::Int(pos, number) => Ok(literal(*pos, *number)),
         Expr::String(pos, behind) => quoted(alloc, text, *pos, *behind),
-        Expr::Name(name) => Ok(named(text, scope, *name)),
+        Expr::Name(name) => Ok(named(alloc, text, scope, *name)),
         Expr::Unary(pos, op, inner) => check_prefix(alloc, text, scope, *pos, *op, inner),
         Expr::Binary(_, op, left, right) => {
             let left = check_single(alloc, text, scope, left)?;

@@ -14,27 +14,35 @@ use crate::gives::Gives;
 use base::Pos;
 use names::{Declared, GlobalId, Scope, declaration, fixed, spelled};
 use operators::Operand;
+use std::alloc::Global;
 use syntax::Name;
 use typed::{Expr, Place};
 use value_types::{Constant, Fault, FaultKind, Fixed, constant_type, untyped};
 
 /// The read of a package variable, of which this is known.
-fn global_read(global: GlobalId, known: Fixed) -> Operand
+#[tactic(auto, using(typed::proofs::Rows::expr_rows))]
+fn global_read(alloc: Global, global: GlobalId, known: Fixed) -> Operand
     ensures { operand_of result ≡ global_read global.0 known }
 {
-    Operand::Value(constant_type(known), Expr::Read(Place::Global(global.0)))
+    Operand::Value(
+        constant_type(known),
+        Expr::Read(Place::Global(global.0, Vec::new(alloc))),
+    )
 }
 
-fn value_of(scope: &Scope, declared: Option<Declared>) -> Option<Gives>
+#[tactic(auto, using(typed::proofs::Rows::expr_rows))]
+fn value_of(alloc: Global, scope: &Scope, declared: Option<Declared>) -> Option<Gives>
     ensures { option_map gives_of result ≡ option_map one (name_operand (scope_of scope.now) declared) }
 {
     let operand = match declared {
         Some(Declared::Variable(site, value_type)) => Operand::Value(
             value_type,
-            Expr::Read(Place::Local(site)),
+            Expr::Read(Place::Local(site, Vec::new(alloc))),
         ),
         Some(Declared::Constant(number)) => Operand::Constant(fixed(scope, number)?),
-        Some(Declared::Global(number, global)) => global_read(global, fixed(scope, number)?),
+        Some(Declared::Global(number, global)) => {
+            global_read(alloc, global, fixed(scope, number)?)
+        }
         Some(Declared::Truth(truth)) => Operand::Constant(untyped(Constant::Truth(truth))),
         _ => return None,
     };
@@ -42,10 +50,10 @@ fn value_of(scope: &Scope, declared: Option<Declared>) -> Option<Gives>
 }
 
 /// The constant or the variable that a name stands for.
-pub fn name_value(text: &[u8], scope: &Scope, name: Name) -> Option<Gives>
+pub fn name_value(alloc: Global, text: &[u8], scope: &Scope, name: Name) -> Option<Gives>
     ensures { option_map gives_of result ≡ gives text.now (scope_of scope.now) (name_of name) }
 {
-    value_of(scope, declaration(scope, spelled(text, name)))
+    value_of(alloc, scope, declaration(scope, spelled(text, name)))
 }
 
 fn declared_fault(declared: Option<Declared>, pos: Pos) -> Option<Fault>

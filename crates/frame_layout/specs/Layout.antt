@@ -1,13 +1,20 @@
 -- The words of each frame, and what a layout is refused for.
 use Rattle.std.specs.Prelude.{◌≡◌, ℕ, nat_lt, if◌then◌else◌, List, [], ◌∷◌, Option, Some, None, map}
 use Rattle.base.specs.declared.pos.Pos.{Pos}
-use Rattle.typed.specs.Syntax.{Func, Program}
+use Rattle.base.specs.declared.ids.TypeId.{TypeId}
+use Rattle.value_trees.specs.Types.{ValueType, ints}
+use Rattle.typed.specs.Syntax.{Func, Program, type_named}
 use Rattle.typed.specs.View.{func_of}
 use Rattle.typed.specs.Frames.{outgoing_of, temps_of, frame_of}
 use Rattle.typed.specs.declared.program.Func.{Func as FuncData}
 use Rattle.frame_layout.specs.declared.layout.FrameLayout.{FrameLayout}
 use Rattle.frame_layout.specs.declared.fault.LayoutFault.{LayoutFault}
 use Rattle.frame_layout.specs.declared.fault.LayoutFault.TheVariants as fault
+
+-- the type of a number, where there is one; what has no type counts as a whole number
+abbrev pub type_or_ints : Program → Option TypeId → ValueType
+type_or_ints p None = ints
+type_or_ints p (Some id) = type_named p id.0
 
 abbrev pub layout_in : Program → Func → FrameLayout
 layout_in p f = record { outgoing = outgoing_of p f; temps = temps_of p f; frame = frame_of p f }
@@ -22,7 +29,7 @@ pub record Large : Type 0 where
   pub words : ℕ
 
 abbrev pub is_large : Program → FuncData → Option Large
-is_large p f = if nat_lt 65535 (frame_of p (func_of f)) then Some (record { pos = f.pos; words = frame_of p (func_of f) }) else None
+is_large p f = if nat_lt 65535 (frame_of p (func_of p.types f)) then Some (record { pos = f.pos; words = frame_of p (func_of p.types f) }) else None
 
 abbrev pub or_else : Option Large → Option Large → Option Large
 or_else None l = l

@@ -2,6 +2,7 @@
 
 ghost use Rattle.std.specs.Prelude.{◌≡◌, ◌+◌, IfOk, IfErr, None};
 ghost use Rattle.typed.specs.View.{func_of, program_of};
+ghost use Rattle.type_table.specs.Trees.{trees};
 ghost use Rattle.frame_layout.specs.Layout.{first_too_large, is_large, layout_in, layouts, IsTooLarge};
 
 use crate::fault::LayoutFault;
@@ -59,13 +60,13 @@ fn words_of(outgoing: u64, temps: u64, sites: u64) -> Result<u64, NoMemory>
 
 /// The layout of the frame of one of a program's functions.
 fn frame_layout(program: &Program, func: &Func) -> Result<FrameLayout, LayoutFault>
-    ensures layout { IfOk result (λ l. l ≡ layout_in (program_of program.now) (func_of func.now)) }
+    ensures layout { IfOk result (λ l. l ≡ layout_in (program_of program.now) (func_of (trees program.now.types) func.now)) }
     ensures small { IfOk result (λ l. is_large (program_of program.now) func.now ≡ None) }
     ensures fault { IfErr result (IsTooLarge (is_large (program_of program.now) func.now)) }
 {
     let outgoing = body_reach(program, &func.body)?;
     let temps = body_temps(program, &func.named, &func.body)?;
-    let sites = sites_words(program, func.first_site, func.sites)?;
+    let sites = sites_words(program, func.first_site, func.sites);
     let words = words_of(outgoing, temps, sites)?;
     if words > MOST_WORDS {
         return Err(LayoutFault::FrameTooLarge {

@@ -1,16 +1,22 @@
 //! The temps that values want. A number of temps that passes 64 bits counts as want of memory.
 
-ghost use Rattle.std.specs.Prelude.{◌≡◌, ◌≤◌, ◌+◌, max, map, IfOk};
-ghost use Rattle.typed.specs.Syntax.{Program as AnyProgram, all_wide, place_width};
-ghost use Rattle.typed.specs.View.{ex_of, exs_of, exs_of_values, place_of, piece_of, test_of, site_numbers, left_of, st_of, sts_of, program_of};
-ghost use Rattle.typed.specs.Frames.{far, left_far, lefts_far, behind_values, need, need_all, place_need, lefts_need, piece_need, need_pieces, test_need, key_need, st_need, sts_need, widest as widest_of};
+ghost use Rattle.std.specs.Prelude.{◌≡◌, ◌≤◌, ◌+◌, [], ◌∷◌, max, map, if◌then◌else◌, IfOk};
+ghost use Rattle.value_trees.specs.Types.{width, part_offset};
+ghost use Rattle.typed.specs.Syntax.{all_wide, ascend, type_named};
+ghost use Rattle.typed.specs.View.{ex_of, exs_of, exs_of_values, place_of, steps_of, elements_of, piece_of, test_of, site_numbers, left_of, st_of, sts_of, program_of};
+ghost use Rattle.typed.specs.Frames.{far, steps_far, left_far, lefts_far, behind_values, need, need_all, place_need, steps_need, elements_need, lefts_need, piece_need, need_pieces, test_need, key_need, pair_need, element_words as words_of_elements, st_need, sts_need, widest as widest_of};
 
-use crate::words::{expr_words, place_words, results_of, values_words, widest};
-use base::{NoMemory, SiteId};
-use typed::{Expr, Left, Piece, Place, Program, Stmt, Values};
+use crate::words::{
+    element_words, expr_words, place_words, results_of, type_words, values_words, widest,
+};
+use base::{NoMemory, SiteId, TypeId};
+use typed::{Element, Expr, Left, Piece, Place, Program, Step, Stmt, Values};
 
-/// What a `range` over a number keeps, the number and the index, and the most that it counts with above them.
+/// What a `range` over a number keeps, the number and the index; what one over an array keeps, the index; and the most that each
+/// counts with above them.
 const KEPT: u64 = 2;
+
+const KEPT_OF_ARRAY: u64 = 1;
 
 const COUNTING: u64 = 2;
 
@@ -21,23 +27,72 @@ fn above(temps: u64) -> Result<u64, NoMemory>
     temps.checked_add(1).ok_or(NoMemory)
 }
 
-/// The temps of a read: the address of a place gives way to its words.
-#[tactic(auto, using(crate::proofs::Operands::place_alone))]
-fn read_temps(program: &Program, place: Place) -> u64
-    ensures { result ≡ max (place_need (program_of program.now) (place_of place) (far (place_of place))) (place_width (program_of program.now) (place_of place)) }
+/// The temp of the address that steps lead to: it's there where an index is worked out.
+fn steps_address(steps: &[Step]) -> u64
+    ensures is { result ≡ steps_far (steps_of steps.now) }
+    ensures few { result ≤ 1 }
 {
-    address_temps(place).max(place_words(program, place))
+    for step in steps {
+        match step {
+            Step::Inner(_) => {}
+            Step::Index(_, _, _) => return 1,
+        }
+    }
+    0
+}
+
+/// The temp of a place's address, where it is reached by one.
+#[tactic(auto, using(typed::proofs::Rows::expr_rows))]
+fn address_temps(place: &Place) -> u64
+    ensures is { result ≡ far (place_of place.now) }
+    ensures few { result ≤ 1 }
+{
+    match place {
+        Place::Local(_, steps) => steps_address(steps),
+        Place::Global(_, _) => 1,
+    }
+}
+
+/// Whether the numbers of elements ascend.
+fn is_ascending(elements: &[Element]) -> bool
+    ensures { result ≡ ascend (elements_of elements.now) }
+{
+    let mut next: u64 = 0;
+    for element in elements {
+        let Element::For(number, _) = element;
+        if u64::from(*number) < next {
+            return false;
+        }
+        next = u64::from(*number) + 1;
+    }
+    true
+}
+
+/// The words in front of those in which an element of a literal is worked out: its place in the literal, where the elements come in order, and
+/// else behind the literal.
+fn words_in_front(program: &Program, type_id: TypeId, in_order: bool, number: u32) -> u64
+    ensures { result ≡ (if in_order then part_offset (type_named (program_of program.now) type_id.0) number else width (type_named (program_of program.now) type_id.0)) }
+{
+    if in_order {
+        program.types.part_offset(type_id, number)
+    } else {
+        type_words(program, type_id)
+    }
 }
 
 /// The temps of an expression, from the one on in which its value lands.
 #[cycle(values)]
+#[tactic(auto, using(typed::proofs::Rows::expr_rows))]
 pub fn expr_temps(program: &Program, e: &Expr) -> Result<u64, NoMemory>
     ensures { IfOk result (λ n. n ≡ need (program_of program.now) (ex_of e.now)) }
 {
     match e {
         Expr::Constant(_) => Ok(1),
-        Expr::Read(place) => Ok(read_temps(program, *place)),
-        Expr::Unary(_, a) => {
+        Expr::Read(place) => {
+            let temps = place_temps(program, place, address_temps(place))?;
+            Ok(temps.max(place_words(program, place)))
+        }
+        Expr::Unary(_, a) | Expr::Part(_, _, a) => {
             let a: &Expr = a;
             expr_temps(program, a)
         }
@@ -50,14 +105,7 @@ pub fn expr_temps(program: &Program, e: &Expr) -> Result<u64, NoMemory>
             let beside = words.checked_add(second).ok_or(NoMemory)?;
             Ok(first.max(beside))
         }
-        Expr::Both(a, b) => {
-            let a: &Expr = a;
-            let b: &Expr = b;
-            let first = expr_temps(program, a)?;
-            let second = expr_temps(program, b)?;
-            Ok(first.max(second))
-        }
-        Expr::Either(a, b) => {
+        Expr::Both(a, b) | Expr::Either(a, b) => {
             let a: &Expr = a;
             let b: &Expr = b;
             let first = expr_temps(program, a)?;
@@ -69,7 +117,62 @@ pub fn expr_temps(program: &Program, e: &Expr) -> Result<u64, NoMemory>
             let temps = values_temps(program, arguments)?;
             Ok(temps.max(results_of(program, *f)?))
         }
+        Expr::Literal(type_id, elements) => {
+            let temps = elements_temps(program, *type_id, elements)?;
+            Ok(temps.max(type_words(program, *type_id)))
+        }
     }
+}
+
+/// The temps of a place's operands, with so many behind them.
+#[cycle(values)]
+#[tactic(auto, using(typed::proofs::Rows::expr_rows))]
+fn place_temps(program: &Program, place: &Place, behind: u64) -> Result<u64, NoMemory>
+    ensures { IfOk result (λ n. n ≡ place_need (program_of program.now) (place_of place.now) behind) }
+{
+    match place {
+        Place::Local(_, steps) => steps_temps(program, steps, behind),
+        Place::Global(_, steps) => steps_temps(program, steps, behind),
+    }
+}
+
+/// The temps of the indices of steps, one behind the other, with so many behind them.
+#[cycle(values)]
+fn steps_temps(program: &Program, steps: &[Step], behind: u64) -> Result<u64, NoMemory>
+    ensures { IfOk result (λ n. n ≡ steps_need (program_of program.now) (steps_of steps.now) behind) }
+{
+    let mut temps: u64 = 0;
+    let mut kept: u64 = 0;
+    for step in steps {
+        match step {
+            Step::Inner(_) => {}
+            Step::Index(_, index, _) => {
+                let top = kept
+                    .checked_add(expr_temps(program, index)?)
+                    .ok_or(NoMemory)?;
+                temps = temps.max(top);
+                kept = above(kept)?;
+            }
+        }
+    }
+    let last = kept.checked_add(behind).ok_or(NoMemory)?;
+    Ok(temps.max(last))
+}
+
+/// The temps of the elements of a literal of a type.
+#[cycle(values)]
+fn elements_temps(program: &Program, type_id: TypeId, elements: &[Element]) -> Result<u64, NoMemory>
+    ensures { IfOk result (λ n. n ≡ elements_need (program_of program.now) (type_named (program_of program.now) type_id.0) (ascend (elements_of elements.now)) (elements_of elements.now)) }
+{
+    let in_order = is_ascending(elements);
+    let mut temps: u64 = 0;
+    for element in elements {
+        let Element::For(number, e) = element;
+        let front = words_in_front(program, type_id, in_order, *number);
+        let top = front.checked_add(expr_temps(program, e)?).ok_or(NoMemory)?;
+        temps = temps.max(top);
+    }
+    Ok(temps)
 }
 
 /// The temps of values.
@@ -152,33 +255,20 @@ fn header_temps(program: &Program, test: &Option<Expr>, sites: &[SiteId]) -> Res
     Ok(temps.max(widest(program, sites)))
 }
 
-/// The temp of a place's address, where it is reached by one.
-fn address_temps(place: Place) -> u64
-    ensures is { result ≡ far (place_of place) }
-    ensures few { result ≤ 1 }
-{
-    match place {
-        Place::Local(_) => 0,
-        Place::Global(_) => 1,
-    }
-}
-
-/// The temp of the index that a left side gets, and that of its address.
-#[tactic(auto, using(crate::proofs::Operands::place_alone))]
-fn key_temps(key: Left) -> u64
-    ensures need { (p : AnyProgram) → result ≡ key_need p (left_of key) }
-    ensures few { result ≤ 2 }
+/// The temps of the index that a left side gets: behind the operands of a place it, and the place's address, if there is one.
+fn key_temps(program: &Program, key: &Left) -> Result<u64, NoMemory>
+    ensures { IfOk result (λ n. n ≡ key_need (program_of program.now) (left_of key.now)) }
 {
     match key {
-        Left::Blank => 0,
-        Left::New(_) => 1,
-        Left::To(place) => 1 + address_temps(place),
+        Left::Blank => Ok(0),
+        Left::New(_) => Ok(1),
+        Left::To(place) => place_temps(program, place, 1 + address_temps(place)),
     }
 }
 
 /// The temp of a left side's address.
-fn left_address(left: Left) -> u64
-    ensures is { result ≡ left_far (left_of left) }
+fn left_address(left: &Left) -> u64
+    ensures is { result ≡ left_far (left_of left.now) }
     ensures few { result ≤ 1 }
 {
     match left {
@@ -195,55 +285,126 @@ fn lefts_address(lefts: &[Left]) -> u64
 {
     let mut most: u64 = 0;
     for left in lefts {
-        most = most.max(left_address(*left));
+        most = most.max(left_address(left));
     }
     most
 }
 
-/// The temps of an assignment: those of its values, and where a left side has an address, the values and this behind
-/// them.
-#[tactic(auto, using(crate::proofs::Operands::lefts_alone))]
+/// The temps of a left side's operands, with so many behind them.
+fn left_temps(program: &Program, left: &Left, behind: u64) -> Result<u64, NoMemory>
+    ensures { IfOk result (λ n. n ≡ lefts_need (program_of program.now) (left_of left.now ∷ []) behind) }
+{
+    match left {
+        Left::Blank => Ok(behind),
+        Left::New(_) => Ok(behind),
+        Left::To(place) => place_temps(program, place, behind),
+    }
+}
+
+/// The temps of the operands of left sides, one behind the other, with so many behind them.
+fn lefts_temps(program: &Program, lefts: &[Left], behind: u64) -> Result<u64, NoMemory>
+    ensures { IfOk result (λ n. n ≡ lefts_need (program_of program.now) (map left_of lefts.now) behind) }
+{
+    let mut temps = behind;
+    for i in (0..lefts.len()).rev() {
+        temps = left_temps(program, &lefts[i], temps)?;
+    }
+    Ok(temps)
+}
+
+/// So many words of values, and behind them an address, if there is one.
+fn words_with_address(values: u64, address: u64) -> Result<u64, NoMemory>
+    ensures { IfOk result (λ n. n ≡ behind_values values address) }
+{
+    if address == 0 {
+        return Ok(0);
+    }
+    values.checked_add(address).ok_or(NoMemory)
+}
+
+/// The temps of an assignment: behind the operands of its left sides those of its values, and where a left side has an address, the values
+/// and this behind them.
 fn assign_temps(program: &Program, lefts: &[Left], values: &Values) -> Result<u64, NoMemory>
     ensures { IfOk result (λ n. n ≡ lefts_need (program_of program.now) (map left_of lefts.now)
         (max (need_all (program_of program.now) (exs_of_values values.now)) (behind_values (all_wide (program_of program.now) (exs_of_values values.now)) (lefts_far (map left_of lefts.now))))) }
 {
     let temps = values_temps(program, values)?;
-    let address = lefts_address(lefts);
-    if address == 0 {
-        return Ok(temps);
-    }
     let words = values_words(program, values)?;
-    let beside = words.checked_add(address).ok_or(NoMemory)?;
-    Ok(temps.max(beside))
+    let beside = words_with_address(words, lefts_address(lefts))?;
+    lefts_temps(program, lefts, temps.max(beside))
 }
 
-/// The temps of an assignment with an operator: an address, if there is one, the value, and those of the operand.
-#[tactic(auto, using(crate::proofs::Operands::place_alone))]
-fn update_temps(program: &Program, place: Place, e: &Expr) -> Result<u64, NoMemory>
-    ensures { IfOk result (λ n. n ≡ place_need (program_of program.now) (place_of place) (far (place_of place) + 1 + need (program_of program.now) (ex_of e.now))) }
+/// The temps of an assignment with an operator: behind the place's operands an address, if there is one, the value, and those of the
+/// operand.
+fn update_temps(program: &Program, place: &Place, e: &Expr) -> Result<u64, NoMemory>
+    ensures { IfOk result (λ n. n ≡ place_need (program_of program.now) (place_of place.now) (far (place_of place.now) + 1 + need (program_of program.now) (ex_of e.now))) }
 {
     let operand = expr_temps(program, e)?;
     let kept = address_temps(place) + 1;
-    operand.checked_add(kept).ok_or(NoMemory)
+    let behind = operand.checked_add(kept).ok_or(NoMemory)?;
+    place_temps(program, place, behind)
 }
 
-/// The temps of `++` and `--`: an address, if there is one, the value, and 1.
-#[tactic(auto, using(crate::proofs::Operands::place_alone))]
-fn bump_temps(program: &Program, place: Place) -> u64
-    ensures { result ≡ place_need (program_of program.now) (place_of place) (far (place_of place) + 2) }
+/// The temps of `++` and `--`: behind the place's operands an address, if there is one, the value, and 1.
+fn bump_temps(program: &Program, place: &Place) -> Result<u64, NoMemory>
+    ensures { IfOk result (λ n. n ≡ place_need (program_of program.now) (place_of place.now) (far (place_of place.now) + 2)) }
 {
-    address_temps(place) + 2
+    place_temps(program, place, address_temps(place) + 2)
+}
+
+/// The temps of a `range` that keeps so many, where what it goes over, what a round gives to left sides, and the body want so many.
+fn range_temps(operand: u64, kept: u64, round: u64, body: u64) -> Result<u64, NoMemory>
+    ensures { IfOk result (λ n. n ≡ max operand (max (kept + 2) (max (kept + round) (kept + body)))) }
+{
+    let inside = COUNTING.max(round).max(body);
+    let all = kept.checked_add(inside).ok_or(NoMemory)?;
+    Ok(operand.max(all))
 }
 
 /// The temps of a `range` over a number whose body wants so many.
-fn count_temps(program: &Program, e: &Expr, key: Left, body: u64) -> Result<u64, NoMemory>
-    ensures { IfOk result (λ n. n ≡ max (need (program_of program.now) (ex_of e.now)) (max (2 + 2) (max (2 + key_need (program_of program.now) (left_of key)) (2 + body)))) }
+fn count_temps(program: &Program, e: &Expr, key: &Left, body: u64) -> Result<u64, NoMemory>
+    ensures { IfOk result (λ n. n ≡ max (need (program_of program.now) (ex_of e.now)) (max (2 + 2) (max (2 + key_need (program_of program.now) (left_of key.now)) (2 + body)))) }
 {
     let operand = expr_temps(program, e)?;
-    let inside = body.checked_add(KEPT).ok_or(NoMemory)?;
-    let index = KEPT + key_temps(key);
-    let counting = KEPT + COUNTING;
-    Ok(operand.max(counting.max(index.max(inside))))
+    let round = key_temps(program, key)?;
+    range_temps(operand, KEPT, round, body)
+}
+
+/// The temps of a `range` over the indices of an array whose body wants so many.
+fn indices_temps(program: &Program, key: &Left, body: u64) -> Result<u64, NoMemory>
+    ensures { IfOk result (λ n. n ≡ max 0 (max (1 + 2) (max (1 + key_need (program_of program.now) (left_of key.now)) (1 + body)))) }
+{
+    let round = key_temps(program, key)?;
+    range_temps(0, KEPT_OF_ARRAY, round, body)
+}
+
+/// The temps of two left sides that get so many words.
+#[tactic(auto, using(crate::proofs::Sides::pair_last))]
+fn pair_temps(program: &Program, key: &Left, value: &Left, words: u64) -> Result<u64, NoMemory>
+    ensures { IfOk result (λ n. n ≡ pair_need (program_of program.now) (left_of key.now ∷ left_of value.now ∷ []) words) }
+{
+    let address = left_address(key).max(left_address(value));
+    let behind = words.max(words_with_address(words, address)?);
+    let inner = left_temps(program, value, behind)?;
+    left_temps(program, key, inner)
+}
+
+/// The temps of a `range` over the elements of a copy, in the variable of a site, whose body wants so many.
+fn copy_temps(
+    program: &Program,
+    site: SiteId,
+    e: &Expr,
+    key: &Left,
+    value: &Left,
+    body: u64,
+) -> Result<u64, NoMemory>
+    ensures { IfOk result (λ n. n ≡ max (need (program_of program.now) (ex_of e.now)) (max (1 + 2) (max
+        (1 + pair_need (program_of program.now) (left_of key.now ∷ left_of value.now ∷ []) (1 + words_of_elements (program_of program.now) site.0)) (1 + body)))) }
+{
+    let operand = expr_temps(program, e)?;
+    let words = above(element_words(program, site))?;
+    let round = pair_temps(program, key, value, words)?;
+    range_temps(operand, KEPT_OF_ARRAY, round, body)
 }
 
 /// The temps of a return from a function whose results have these names: they are moved through temps, one after the other.
@@ -261,10 +422,10 @@ pub fn stmt_temps(program: &Program, named: &[SiteId], s: &Stmt) -> Result<u64, 
     ensures { IfOk result (λ n. n ≡ st_need (program_of program.now) (site_numbers named.now) (st_of s.now)) }
 {
     match s {
-        Stmt::Declare(_) => Ok(0),
+        Stmt::Declare(_) | Stmt::Break | Stmt::Continue => Ok(0),
         Stmt::Assign(lefts, values) => assign_temps(program, lefts, values),
-        Stmt::Update(_, place, _, e) => update_temps(program, *place, e),
-        Stmt::Bump(place, _) => Ok(bump_temps(program, *place)),
+        Stmt::Update(_, place, _, e) => update_temps(program, place, e),
+        Stmt::Bump(place, _) => bump_temps(program, place),
         Stmt::Discard(values) => values_temps(program, values),
         Stmt::Block(ss) => body_temps(program, named, ss),
         Stmt::If(e, a, b) => {
@@ -281,10 +442,16 @@ pub fn stmt_temps(program: &Program, named: &[SiteId], s: &Stmt) -> Result<u64, 
         }
         Stmt::Count(e, key, body) => {
             let round = body_temps(program, named, body)?;
-            count_temps(program, e, *key, round)
+            count_temps(program, e, key, round)
         }
-        Stmt::Break => Ok(0),
-        Stmt::Continue => Ok(0),
+        Stmt::Indices(_, key, body) => {
+            let round = body_temps(program, named, body)?;
+            indices_temps(program, key, round)
+        }
+        Stmt::Elements(site, e, _, key, value, body) => {
+            let round = body_temps(program, named, body)?;
+            copy_temps(program, *site, e, key, value, round)
+        }
         Stmt::Return(values) => return_temps(program, named, values),
         Stmt::Print(_, ps) => line_temps(program, ps),
         Stmt::Panic(_, p) => piece_temps(program, p),

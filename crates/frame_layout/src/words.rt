@@ -1,29 +1,33 @@
 //! The words of types, and of what is typed by them. A number that passes 64 bits counts as want of memory.
 
-ghost use Rattle.std.specs.Prelude.{◌≡◌, ◌-◌, ◌≤◌, map, IfOk};
-ghost use Rattle.value_trees.specs.Types.{width};
-ghost use Rattle.typed.specs.Frames.{widest as widest_of, words_between};
-ghost use Rattle.typed.specs.Syntax.{all_width, all_wide, arguments_of as arguments, global_site, place_width, results_of as results, site_width, wide};
-ghost use Rattle.typed.specs.View.{ex_of, exs_of, exs_of_values, place_of, program_of, site_numbers, type_of};
+ghost use Rattle.std.specs.Prelude.{◌≡◌, ◌-◌, ◌≤◌, ◌<◌, ◌*◌, map, IfOk};
+ghost use Rattle.value_trees.specs.Types.{width, part_type};
+ghost use Rattle.value_trees.specs.Paths.{type_at};
+ghost use Rattle.typed.specs.Frames.{element_words as words_of_elements, widest as widest_of, words_between};
+ghost use Rattle.typed.specs.Syntax.{all_width, all_wide, arguments_of as arguments, global_site, path_of, place_type, place_width, results_of as results, site_type, site_width, type_in, type_named, wide};
+ghost use Rattle.typed.specs.View.{ex_of, exs_of, exs_of_values, place_of, program_of, site_numbers, steps_of};
+ghost use Rattle.type_table.specs.Trees.{trees};
+ghost use Rattle.frame_layout.specs.Layout.{type_or_ints};
 
 use base::{FuncId, NoMemory, SiteId, TypeId};
-use typed::{Expr, INT, Place, Program, Values};
+use typed::{Expr, Place, Program, Step, Values};
 
-/// The words of a value of a type: whole numbers and truth values take one.
-#[tactic(auto, using(crate::proofs::Widths::one_word))]
-pub fn type_words(type_id: TypeId) -> u64
-    ensures { result ≡ width (type_of type_id.0) }
+/// The words of a value of a type.
+pub fn type_words(program: &Program, type_id: TypeId) -> u64
+    ensures is { result ≡ width (type_named (program_of program.now) type_id.0) }
+    ensures few { result < 4294967296 }
 {
-    1
+    u64::from(program.types.width(type_id))
 }
 
 /// The words of values of these types side by side.
-pub fn all_words(types: &[TypeId]) -> Result<u64, NoMemory>
-    ensures { IfOk result (λ n. n ≡ all_width (map (λ t. type_of t.0) types.now)) }
+pub fn all_words(program: &Program, types: &[TypeId]) -> Result<u64, NoMemory>
+    ensures { IfOk result (λ n. n ≡ all_width (map (λ t. type_in (trees program.now.types) t.0) types.now)) }
 {
     let mut words: u64 = 0;
     for type_id in types {
-        words = words.checked_add(type_words(*type_id)).ok_or(NoMemory)?;
+        let next = type_words(program, *type_id);
+        words = words.checked_add(next).ok_or(NoMemory)?;
     }
     Ok(words)
 }
@@ -33,7 +37,7 @@ pub fn arguments_of(program: &Program, f: FuncId) -> Result<u64, NoMemory>
     ensures { IfOk result (λ n. n ≡ arguments (program_of program.now) f.0) }
 {
     match program.funcs.get(f.0 as usize) {
-        Some(func) => all_words(&func.param_types),
+        Some(func) => all_words(program, &func.param_types),
         None => Ok(0),
     }
 }
@@ -43,19 +47,36 @@ pub fn results_of(program: &Program, f: FuncId) -> Result<u64, NoMemory>
     ensures { IfOk result (λ n. n ≡ results (program_of program.now) f.0) }
 {
     match program.funcs.get(f.0 as usize) {
-        Some(func) => all_words(&func.results),
+        Some(func) => all_words(program, &func.results),
         None => Ok(0),
     }
 }
 
+/// The words of a type, where there is one; else those of a whole number.
+fn words_or_one(program: &Program, type_id: Option<TypeId>) -> u64
+    ensures is { result ≡ width (type_or_ints (program_of program.now) type_id) }
+    ensures few { result < 4294967296 }
+{
+    match type_id {
+        Some(type_id) => type_words(program, type_id),
+        None => 1,
+    }
+}
+
+/// The type of a site, by its number in the program's table, where there is such a site.
+fn type_of_site(program: &Program, number: usize) -> Option<TypeId>
+    ensures { type_or_ints (program_of program.now) result ≡ site_type (program_of program.now) number }
+{
+    let site = program.sites.get(number)?;
+    Some(site.type_id)
+}
+
 /// The words of a site's variables, by its number in the program's table; those of a whole number where there is no such site.
 fn words_at(program: &Program, number: usize) -> u64
-    ensures { result ≡ site_width (program_of program.now) number }
+    ensures is { result ≡ site_width (program_of program.now) number }
+    ensures few { result < 4294967296 }
 {
-    match program.sites.get(number) {
-        Some(site) => type_words(site.type_id),
-        None => type_words(INT),
-    }
+    words_or_one(program, type_of_site(program, number))
 }
 
 /// The words of a site's variables.
@@ -63,6 +84,16 @@ pub fn site_words(program: &Program, site: SiteId) -> u64
     ensures { result ≡ site_width (program_of program.now) site.0 }
 {
     words_at(program, site.0 as usize)
+}
+
+/// The words of an element of a site's array.
+pub fn element_words(program: &Program, site: SiteId) -> u64
+    ensures { result ≡ words_of_elements (program_of program.now) site.0 }
+{
+    match type_of_site(program, site.0 as usize) {
+        Some(type_id) => type_words(program, program.types.part(type_id, 0)),
+        None => 1,
+    }
 }
 
 /// The site of a package variable by its number.
@@ -75,23 +106,57 @@ fn site_of_global(program: &Program, number: u32) -> SiteId
     }
 }
 
+/// The type of the part that steps lead to. All elements of an array are of the type of the first.
+fn type_behind(program: &Program, type_id: TypeId, steps: &[Step]) -> TypeId
+    ensures { type_named (program_of program.now) result.0 ≡ type_at (type_named (program_of program.now) type_id.0) (path_of (steps_of steps.now)) }
+{
+    let mut part = type_id;
+    for step in steps {
+        let index = match step {
+            Step::Inner(index) => *index,
+            Step::Index(_, _, _) => 0,
+        };
+        part = program.types.part(part, index);
+    }
+    part
+}
+
+/// The words of the part of a site's variables that steps lead to.
+#[tactic(auto, using(crate::proofs::Widths::ints_alone))]
+fn words_behind(program: &Program, site: SiteId, steps: &[Step]) -> u64
+    ensures { result ≡ width (type_at (site_type (program_of program.now) site.0) (path_of (steps_of steps.now))) }
+{
+    match type_of_site(program, site.0 as usize) {
+        Some(type_id) => type_words(program, type_behind(program, type_id, steps)),
+        None => 1,
+    }
+}
+
 /// The words of a place.
-pub fn place_words(program: &Program, place: Place) -> u64
-    ensures { result ≡ place_width (program_of program.now) (place_of place) }
+#[tactic(auto, using(typed::proofs::Rows::expr_rows))]
+pub fn place_words(program: &Program, place: &Place) -> u64
+    ensures { result ≡ place_width (program_of program.now) (place_of place.now) }
 {
     match place {
-        Place::Local(site) => site_words(program, site),
-        Place::Global(number) => site_words(program, site_of_global(program, number)),
+        Place::Local(site, steps) => words_behind(program, *site, steps),
+        Place::Global(number, steps) => {
+            words_behind(program, site_of_global(program, *number), steps)
+        }
     }
 }
 
 /// The words of an expression's value.
+#[tactic(auto, using(typed::proofs::Rows::expr_rows))]
 pub fn expr_words(program: &Program, e: &Expr) -> Result<u64, NoMemory>
     ensures { IfOk result (λ n. n ≡ wide (program_of program.now) (ex_of e.now)) }
 {
     match e {
-        Expr::Read(place) => Ok(place_words(program, *place)),
+        Expr::Read(place) => Ok(place_words(program, place)),
         Expr::Call(f, _) => results_of(program, *f),
+        Expr::Part(type_id, index, _) => {
+            Ok(type_words(program, program.types.part(*type_id, *index)))
+        }
+        Expr::Literal(type_id, _) => Ok(type_words(program, *type_id)),
         // Operators and constants give whole numbers and truth values.
         Expr::Constant(_)
         | Expr::Unary(_, _)
@@ -125,24 +190,23 @@ pub fn values_words(program: &Program, values: &Values) -> Result<u64, NoMemory>
 }
 
 /// The words of so many sites from one on.
-pub fn sites_words(program: &Program, first: u32, count: u32) -> Result<u64, NoMemory>
-    ensures { IfOk result (λ n. n ≡ words_between (program_of program.now).sites first count) }
+pub fn sites_words(program: &Program, first: u32, count: u32) -> u64
+    ensures { result ≡ words_between (program_of program.now).sites first count }
 {
     let mut words: u64 = 0;
     for i in 0..count {
-        let next = words_at(program, first as usize + i as usize);
-        words = words.checked_add(next).ok_or(NoMemory)?;
+        // No more than 2³² sites of less than 2³² words each.
+        words += words_at(program, first as usize + i as usize);
     }
-    Ok(words)
+    words
 }
 
-/// The words of the sites from one on that stand before another: each has one.
-#[tactic(auto, using(crate::proofs::Widths::one_each))]
+/// The words of the sites from one on that stand before another.
 pub fn words_before(program: &Program, first: u32, site: SiteId) -> u64
     requires { first ≤ site.0 }
     ensures { result ≡ words_between (program_of program.now).sites first (site.0 - first) }
 {
-    u64::from(site.0 - first)
+    sites_words(program, first, site.0 - first)
 }
 
 /// The words of the widest of some sites.

@@ -72,8 +72,8 @@ module _ (F : Family) where
       ev_holds (both a c) p env k j h w = ev_holds a p env _ _ (λ v u. turning F (when_holds (Meaning.is_true v) _ _ _ _ u (ev_holds c p env k j h u) (seeing F (h _ u)))) w
       ev_holds (either a c) p env k j h w = ev_holds a p env _ _ (λ v u. turning F (when_holds (Meaning.is_true v) _ _ _ _ u (seeing F (h _ u)) (ev_holds c p env k j h u))) w
       ev_holds (call f es) p env k j h w = evs_hold es p env _ _ (λ vs. call_holds p f vs env _ _ (λ rs u. seeing F (h _ u))) w
-      ev_holds (part_of t i e) p env k j h w = ev_holds e p env _ _ (λ v u. turning F (seeing F (h _ u))) w
-      ev_holds (literal t es) p env k j h w = turning F (fill_holds es _ p env _ _ (λ v u. seeing F (h v u)) w)
+      ev_holds (part_of number i e) p env k j h w = ev_holds e p env _ _ (λ v u. turning F (seeing F (h _ u))) w
+      ev_holds (literal number es) p env k j h w = turning F (fill_holds es _ p env _ _ (λ v u. seeing F (h v u)) w)
 
       fill_holds : (es : Elements) (x : Value) {b : ℕ} (p : Pair F (suc n) b) (env : Env) (k j : Then Value) → ((v : Value) (w : World) → F.Holds b w (k v w) (j v w)) → (w : World) → F.Holds b w (Meaning.fill around calls es x p.left env k w) (Meaning.fill around dalls es x p.right env j w)
       fill_holds no_elements x p env k j h w = h x w

@@ -5,7 +5,7 @@ use Rattle.base.specs.declared.pos.Pos.{Pos}
 use Rattle.value_trees.specs.Types.{ValueType, ints}
 use Rattle.value_trees.specs.Value.{Value, int, bool, composite, words, zero_of as zero_value}
 use Rattle.value_trees.specs.Paths.{no_value, part, with_part}
-use Rattle.typed.specs.Syntax.{Ex, Exs, Pl, Steps, Left, Piece, Over, St, Sts, Func, Program, constant, read, unary, binary, both, either, call, part_of, literal, Elements, no_elements, element, none, more, results, asked, local, global, here, inner, at_index, blank, new, to, text, shown, over_int, over_length, over_copy, declare, assign, update, bump, discard, block, choose, loop, range, break_off, go_on, give_back, print, raise, quit, done, next}
+use Rattle.typed.specs.Syntax.{Ex, Exs, Pl, Steps, Left, Piece, Over, St, Sts, Func, Program, constant, read, unary, binary, both, either, call, part_of, literal, Elements, no_elements, element, none, more, results, asked, local, global, here, inner, at_index, blank, new, to, text, shown, over_int, over_length, over_copy, declare, assign, update, bump, discard, block, choose, loop, range, break_off, go_on, give_back, print, raise, quit, done, next, type_in}
 use Rattle.meaning.specs.Trace.{Entry, Call, Return, Born, Read, Write, Print, Asked, Fault, index_out_of_range, exit_code, raised_text, raised, Ending, Exit, Panic, World, Cell, Mark, state, entered, ended, copied, Trace, Turn, Note, Seen, End, Cut}
 use Rattle.meaning.specs.Store.{read_at, written, born}
 use Rattle.meaning.specs.Operators.{unary_of, binary_of}
@@ -46,9 +46,10 @@ Calls = ℕ → List Value → Ways → Env → Then (List Value) → Go
 abbrev pub Item : Type 0
 Item = Option ℤ
 
--- what a run takes from around the function: the type of each site, the bytes of each string, and the items of the input in
--- order, without an end
+-- what a run takes from around the function: the types by their numbers, the type of each site, the bytes of each string, and
+-- the items of the input in order, without an end
 pub record Setting : Type 0 where
+  pub types : List ValueType
   pub sites : List ValueType
   pub strings : List (List ℕ)
   pub items : ℕ → Item
@@ -201,8 +202,8 @@ module _ (around : Setting) (calls : Calls) where
     ev (both a b) ws env k = ev a ws env (λ v. turn (branch v (ev b ws env k) (give ws k (bool false))))
     ev (either a b) ws env k = ev a ws env (λ v. turn (branch v (give ws k (bool true)) (ev b ws env k)))
     ev (call f es) ws env k = evs es ws env (λ vs. turn (calls f vs ws env (λ rs. give ws k (only_value rs))))
-    ev (part_of t i e) ws env k = ev e ws env (λ v. turn (give ws k (part v i)))
-    ev (literal t es) ws env k = turn (fill es (zero_value t) ws env (give ws k))
+    ev (part_of n i e) ws env k = ev e ws env (λ v. turn (give ws k (part v i)))
+    ev (literal n es) ws env k = turn (fill es (zero_value (type_in around.types n)) ws env (give ws k))
 
     -- elements of a literal, each of which replaces a part of what stands so far
     pub fill : Elements → Value → Ways → Env → Then Value → Go
@@ -442,7 +443,7 @@ bear_globals around [] g = g
 bear_globals around ((site, v) ∷ gs) g = bear around 0 site v (λ x. bear_globals around gs g)
 
 abbrev pub setting_of : (ℕ → Item) → Program → Setting
-setting_of items p = record { sites = p.sites; strings = p.strings; items = items }
+setting_of items p = record { types = p.types; sites = p.sites; strings = p.strings; items = items }
 
 -- around `main`: a panic ends the run
 abbrev pub at_top : Ways

@@ -6,7 +6,7 @@ use Rattle.syntax.specs.declared.expression.Name.{Name}
 use Rattle.syntax.specs.Expressions.{spelled}
 use Rattle.typed.specs.declared.program.Site.{Site}
 use Rattle.typed.specs.Syntax.{Program, site_type}
-use Rattle.typed.specs.View.{type_of, site_types}
+use Rattle.typed.specs.View.{basic_types, type_of, site_types}
 use Rattle.typed.specs.Form.{LeftsFit, new_sites, scope_behind, scope_with, SitesNext, ParamsFit, NamedFit, named_params as with_sites, params_scope}
 use Rattle.value_trees.specs.Types.{ValueType as TypeTree, ints}
 use Rattle.value_types.specs.declared.value_type.ValueType.{ValueType}
@@ -23,14 +23,14 @@ use Rattle.signatures.proofs.Visible.{HasSite, has_longer, Visible, visible_with
 
 -- ---- the sites of a program
 
-pub get_mapped : (sites : List Site) (k : ℕ) (x : Site) → slice_get sites k ≡ Some x → get_or (site_types sites) k ints ≡ type_of x.type_id.0
+pub get_mapped : (sites : List Site) (k : ℕ) (x : Site) → slice_get sites k ≡ Some x → get_or (site_types basic_types sites) k ints ≡ type_of x.type_id.0
 get_mapped [] k x is = absurd (none_some is)
 get_mapped (y ∷ sites) zero x is = ap (λ (site : Site). type_of site.type_id.0) (same_some is)
 get_mapped (y ∷ sites) (suc k) x is = get_mapped sites k x is
 
 -- a program with the types of these sites
 abbrev pub HasSites : Program → List Site → Type 0
-HasSites p all = p.sites ≡ site_types all
+HasSites p all = p.sites ≡ site_types basic_types all
 
 pub site_is : (p : Program) (all : List Site) → HasSites p all → (site : ℕ) (t : ValueType) → HasSite all site t → site_type p site ≡ type_tree t
 site_is p all has site t h = ap (λ (l : List TypeTree). get_or l site ints) has ∙ get_mapped all site h.0 h.1 ∙ ap type_of h.2 ∙ number_tree t

@@ -45,25 +45,26 @@ pub struct Declaration {
 }
 
 /// A variable with a type, and its place.
-#[derive(Clone, Copy, Debug, PartialEq, Eq)]
+#[derive(Drop)]
 pub struct Variable {
     pub value_type: ValueType,
     pub place: Place,
 }
 
 /// The variable that a name stands for, where its type is known.
-fn variable_of(scope: &Scope, declared: Option<Declared>) -> Option<Variable>
+#[tactic(auto, using(typed::proofs::Rows::expr_rows))]
+fn variable_of(alloc: Global, scope: &Scope, declared: Option<Declared>) -> Option<Variable>
     ensures { option_map variable_view result ≡ variable_of (scope_of scope.now) declared }
 {
     match declared {
         Some(Declared::Variable(site, value_type)) => Some(Variable {
             value_type,
-            place: Place::Local(site),
+            place: Place::Local(site, Vec::new(alloc)),
         }),
         Some(Declared::Global(number, global)) => match fixed(scope, number) {
             Some(known) => Some(Variable {
                 value_type: constant_type(known),
-                place: Place::Global(global.0),
+                place: Place::Global(global.0, Vec::new(alloc)),
             }),
             None => None,
         },
@@ -71,10 +72,10 @@ fn variable_of(scope: &Scope, declared: Option<Declared>) -> Option<Variable>
     }
 }
 
-pub fn variable_named(text: &[u8], scope: &Scope, name: Name) -> Option<Variable>
+pub fn variable_named(alloc: Global, text: &[u8], scope: &Scope, name: Name) -> Option<Variable>
     ensures { option_map variable_view result ≡ variable_named text.now (scope_of scope.now) name }
 {
-    variable_of(scope, declaration(scope, spelled(text, name)))
+    variable_of(alloc, scope, declaration(scope, spelled(text, name)))
 }
 
 /// A variable as a left side.
@@ -175,36 +176,36 @@ fn new_name_fault_of(blank: bool, here: bool, declared: Option<Declared>, pos: P
     }
 }
 
-fn name_left(text: &[u8], scope: &Scope, name: Name) -> Option<Left>
+fn name_left(alloc: Global, text: &[u8], scope: &Scope, name: Name) -> Option<Left>
     ensures { option_map left_view result ≡ left text.now (scope_of scope.now) (Some name) }
 {
     let bytes = spelled(text, name);
-    left_of(is_blank(bytes), variable_named(text, scope, name))
+    left_of(is_blank(bytes), variable_named(alloc, text, scope, name))
 }
 
 /// A left side of a `=`.
-fn left(text: &[u8], scope: &Scope, e: &Expr) -> Option<Left>
+fn left(alloc: Global, text: &[u8], scope: &Scope, e: &Expr) -> Option<Left>
     ensures { option_map left_view result ≡ left text.now (scope_of scope.now) (name_in (tree_of e.now)) }
 {
     match name_in(e) {
-        Some(name) => name_left(text, scope, name),
+        Some(name) => name_left(alloc, text, scope, name),
         None => None,
     }
 }
 
-fn name_wanted(text: &[u8], scope: &Scope, name: Name) -> Option<ValueType>
+fn name_wanted(alloc: Global, text: &[u8], scope: &Scope, name: Name) -> Option<ValueType>
     ensures { result ≡ wanted text.now (scope_of scope.now) (Some name) }
 {
     let bytes = spelled(text, name);
-    wanted_of(is_blank(bytes), variable_named(text, scope, name))
+    wanted_of(is_blank(bytes), variable_named(alloc, text, scope, name))
 }
 
 /// The type that a left side of a `=` asks for.
-pub fn wanted(text: &[u8], scope: &Scope, e: &Expr) -> Option<ValueType>
+pub fn wanted(alloc: Global, text: &[u8], scope: &Scope, e: &Expr) -> Option<ValueType>
     ensures { result ≡ wanted text.now (scope_of scope.now) (name_in (tree_of e.now)) }
 {
     match name_in(e) {
-        Some(name) => name_wanted(text, scope, name),
+        Some(name) => name_wanted(alloc, text, scope, name),
         None => None,
     }
 }
@@ -220,7 +221,7 @@ pub fn all_wanted(
 {
     let mut types = Vec::new(alloc);
     for e in es {
-        types.push(wanted(text, scope, e))?;
+        types.push(wanted(alloc, text, scope, e))?;
     }
     Ok(types)
 }
@@ -290,13 +291,19 @@ pub fn check_lefts(
     for e in es {
         let own = left_fault(alloc, text, scope, e)?;
         fault = lesser(fault, own);
-        lefts = with_left(lefts, left(text, scope, e))?;
+        lefts = with_left(lefts, left(alloc, text, scope, e))?;
     }
     Ok(Lefts { lefts, fault })
 }
 
 /// The left side that a name of a `:=` is, behind so many new ones.
-fn new_left(text: &[u8], scope: &Scope, before: usize, name: Name) -> Result<Option<Left>, NoMemory>
+fn new_left(
+    alloc: Global,
+    text: &[u8],
+    scope: &Scope,
+    before: usize,
+    name: Name,
+) -> Result<Option<Left>, NoMemory>
     ensures { IfOk result (λ l. option_map left_view l ≡ new_left text.now (scope_of scope.now) (length (scope_of scope.now).sites + before) name) }
 {
     let bytes = spelled(text, name);
@@ -304,19 +311,19 @@ fn new_left(text: &[u8], scope: &Scope, before: usize, name: Name) -> Result<Opt
     Ok(new_left_of(
         is_blank(bytes),
         is_here(scope, bytes),
-        variable_named(text, scope, name),
+        variable_named(alloc, text, scope, name),
         site,
     ))
 }
 
-fn new_wanted(text: &[u8], scope: &Scope, name: Name) -> Option<ValueType>
+fn new_wanted(alloc: Global, text: &[u8], scope: &Scope, name: Name) -> Option<ValueType>
     ensures { result ≡ new_wanted text.now (scope_of scope.now) name }
 {
     let bytes = spelled(text, name);
     new_wanted_of(
         is_blank(bytes),
         is_here(scope, bytes),
-        variable_named(text, scope, name),
+        variable_named(alloc, text, scope, name),
     )
 }
 
@@ -331,7 +338,7 @@ pub fn all_new_wanted(
 {
     let mut types = Vec::new(alloc);
     for name in names {
-        types.push(new_wanted(text, scope, *name))?;
+        types.push(new_wanted(alloc, text, scope, *name))?;
     }
     Ok(types)
 }
@@ -385,7 +392,7 @@ pub fn check_new_lefts(
     let mut fault = None;
     for name in names {
         fault = lesser(fault, new_name_fault(text, scope, *name));
-        let left = new_left(text, scope, count, *name)?;
+        let left = new_left(alloc, text, scope, count, *name)?;
         lefts = with_left(lefts, left)?;
         count = next_count(declares(text, scope, *name), count)?;
     }

@@ -53,23 +53,23 @@ fn variable_value(variable: Option<Variable>) -> Option<Operand>
     }
 }
 
-fn name_value(text: &[u8], scope: &Scope, name: Name) -> Option<Operand>
+fn name_value(alloc: Global, text: &[u8], scope: &Scope, name: Name) -> Option<Operand>
     ensures { option_map operand_of result ≡ own_value text.now (scope_of scope.now) (Some name) }
 {
     let bytes = spelled(text, name);
     if is_blank(bytes) {
         None
     } else {
-        variable_value(variable_named(text, scope, name))
+        variable_value(variable_named(alloc, text, scope, name))
     }
 }
 
 /// The value of a variable that is given another one of its own.
-fn own_value(text: &[u8], scope: &Scope, e: &Expr) -> Option<Operand>
+fn own_value(alloc: Global, text: &[u8], scope: &Scope, e: &Expr) -> Option<Operand>
     ensures { option_map operand_of result ≡ own_value text.now (scope_of scope.now) (name_in (tree_of e.now)) }
 {
     match name_in(e) {
-        Some(name) => name_value(text, scope, name),
+        Some(name) => name_value(alloc, text, scope, name),
         None => None,
     }
 }
@@ -112,10 +112,10 @@ fn side_fault(
 }
 
 /// Whether values are known, and that of one more left side.
-fn with_known(text: &[u8], scope: &Scope, known: bool, e: &Expr) -> bool
+fn with_known(alloc: Global, text: &[u8], scope: &Scope, known: bool, e: &Expr) -> bool
     ensures { result ≡ (known && is_some (own_value text.now (scope_of scope.now) (name_in (tree_of e.now)))) }
 {
-    known && own_value(text, scope, e).is_some()
+    known && own_value(alloc, text, scope, e).is_some()
 }
 
 /// Left sides whose values are asked for.
@@ -126,7 +126,7 @@ fn check_sides(alloc: Global, text: &[u8], scope: &Scope, es: &[Expr]) -> Result
     let mut known = true;
     let mut fault = None;
     for e in es {
-        known = with_known(text, scope, known, e);
+        known = with_known(alloc, text, scope, known, e);
         let own = side_fault(alloc, text, scope, e)?;
         fault = lesser(fault, own);
     }
@@ -177,7 +177,7 @@ fn check_one(
 {
     let side = side_fault(alloc, text, scope, e)?;
     let right = check_single(alloc, text, scope, value)?;
-    let left = own_value(text, scope, e);
+    let left = own_value(alloc, text, scope, e);
     let tree_op = syntax::BinOp::Arithmetic(op);
     let own = pair_fault(tree_op, e.pos(), right.pos, &left, &right.operand);
     let operand = paired(alloc, tree_op, e.pos(), left, right.operand)?;
@@ -299,7 +299,7 @@ pub fn check_step(
     ensures fault { IfOk result (λ c. IsLeast (FailsInStep text.now (scope_of scope.now) (tree_of e.now)) c.fault) }
 {
     let side = side_fault(alloc, text, scope, e)?;
-    let operand = own_value(text, scope, e);
+    let operand = own_value(alloc, text, scope, e);
     let own = step_fault(&operand, e.pos());
     Ok(Line {
         statement: stepped(op, operand),

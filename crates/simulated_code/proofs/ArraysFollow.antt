@@ -35,7 +35,7 @@ use Rattle.simulated_code.proofs.Scopes.{Scoped, behind_has, behind_new, scoped_
 use Rattle.simulated_code.proofs.ArrayRounds.{indexed_by, ArrayRound, arrays_follow}
 use Rattle.simulated_code.proofs.Leading.{After, after_later, inside, leads_inside, Leads, Followed, AllFollowed}
 
-module _ (m : Built) (around : Setting) (inputs : around.items ≡ m.items) (callees : Calls) (n : ℕ) (cf : CallsFollow m callees n) (c : Frame) (calls : List Frame) where
+module _ (m : Built) (around : Setting) (types : around.types ≡ m.program.types) (inputs : around.items ≡ m.items) (callees : Calls) (n : ℕ) (cf : CallsFollow m callees n) (c : Frame) (calls : List Frame) where
   -- the element of a copy goes behind the index
   module _ (site x i : ℕ) (r : ValueType) (env : Env) (scope : List ℕ) (w : World) (words : List ℕ) (held ready : List Value) (h v : ℕ) (is : site_type m.program site ≡ array_of x r) (some : 0 < width r) (l : i < x) (among : InScope site scope) (hh : wide_of held ≡ h) (above : wide_of (indexed_by held i ++ ready) ≡ v) (room : v + 1 + width r ≤ temps_of m.program c.func)
       (good : Good m (during c env scope (indexed_by held i ++ ready) ∷ calls) w words) where
@@ -170,7 +170,7 @@ module _ (m : Built) (around : Setting) (inputs : around.items ≡ m.items) (cal
           let room = array_room m.program (temps_of m.program c.func) h key (omega arith) in
           later m {lo = lo} {hi = 0} {b = d} (omega arith) (omega arith) (omega arith)
           (place_is m (let q1 : pc + 4 ≡ pc + 1 + 1 + 1 + 1 = omega arith in q1)
-          (ready_follow m around inputs callees n cf (key ∷ []) (ints ∷ []) (left_far key) (sts_reach m.program body) q (c.func.first + c.func.count) (during c env1 scope all) calls ws (λ xs ws1. Meaning.land around (first_landing xs) (int (pos i)) ws env1 land) w1 words1 (h + 1) (pc + 4) lo d (omega arith) wide leads.panics
+          (ready_follow m around types inputs callees n cf (key ∷ []) (ints ∷ []) (left_far key) (sts_reach m.program body) q (c.func.first + c.func.count) (during c env1 scope all) calls ws (λ xs ws1. Meaning.land around (first_landing xs) (int (pos i)) ws env1 land) w1 words1 (h + 1) (pc + 4) lo d (omega arith) wide leads.panics
           (front m.code c.fn (pc + 4) ready lands (front m.code c.fn (pc + 4) cr (cb ++ counting) has_r)) fit.1 (omega arith) (omega (arith, key_alone m.program key (sts_reach m.program body))) g1 (λ uss ws1 w2 words2 stops1 given there g2.
           let inside_room = lefts_room m.program (temps_of m.program c.func) (h + 1) (left_far key) (key ∷ []) (omega arith) in
           subst (λ t. At m (numbers (c ∷ calls)) lo 0 d t start words2 w2) (sym (land_one around key uss env1 env1 (int (pos i)) ws land w2 given))
@@ -184,7 +184,7 @@ module _ (m : Built) (around : Setting) (inputs : around.items ≡ m.items) (cal
   -- over the elements of a copy
   pub copies_follow : (site : ℕ) (e : Ex) (x : ℕ) (key value : Left) (body : Sts) → AllFollowed m c calls around callees n body → Followed m c calls around callees n (range (over_copy site e x) key value body)
   copies_follow site e x key value body bodies ws env k w words held h looped outer scope q out again pc lo b le hh has (r, is, some, small, next_site, top, fe, fl, fb) enough reaches sc leads g post =
-      ev_follows m around inputs callees n cf e (array_of x r) (during c env scope held) calls ws _ w words h pc lo b le hh leads.panics (front m.code c.fn pc ce (move ∷ rounds) has) fe (omega arith) (omega arith) g (λ v w1 words1 iv g1.
+      ev_follows m around types inputs callees n cf e (array_of x r) (during c env scope held) calls ws _ w words h pc lo b le hh leads.panics (front m.code c.fn pc ce (move ∷ rounds) has) fe (omega arith) (omega arith) g (λ v w1 words1 iv g1.
       let n1 = width (site_type m.program site) in let solid = m.solid site in
       let same : n1 ≡ width (array_of x r) = ap width is in let counted = count_of (array_of x r) v iv ∙ sym same in
       let xs = words_at words1 (temp s h) n1 in
@@ -285,7 +285,7 @@ module _ (m : Built) (around : Setting) (inputs : around.items ≡ m.items) (cal
           let inside_room = lefts_room m.program (temps_of m.program c.func) (h + 1) needs ls (omega arith) in
           let room = address_room (temps_of m.program c.func) above values (lefts_far ls) (omega arith) (omega arith) in
           place_is m (let q1 : start + 4 ≡ start + 1 + 1 + 1 + 1 = omega arith in q1)
-          (ready_follow m around inputs callees n cf ls (ints ∷ r ∷ []) needs (sts_reach m.program body) q (c.func.first + c.func.count) (during c env1 (site ∷ scope) all) calls ws (λ those ws1. Meaning.read_part (env1 site) (i ∷ []) (λ y. Meaning.land_all around those (int (pos i) ∷ y ∷ []) ws env1 land)) w1 words1 (h + 1) (start + 4) (4 + lo) d (omega arith) wide leads.panics
+          (ready_follow m around types inputs callees n cf ls (ints ∷ r ∷ []) needs (sts_reach m.program body) q (c.func.first + c.func.count) (during c env1 (site ∷ scope) all) calls ws (λ those ws1. Meaning.read_part (env1 site) (i ∷ []) (λ y. Meaning.land_all around those (int (pos i) ∷ y ∷ []) ws env1 land)) w1 words1 (h + 1) (start + 4) (4 + lo) d (omega arith) wide leads.panics
           (front m.code c.fn (start + 4) ready (elem ++ lands) has_cr) fl (omega arith) (omega arith) g1 (λ uss ws1 w2 words2 stops1 given there g2.
           let y = at_path (value_of w2 (env1 site)) (i ∷ []) in let ahead = all ++ together uss in
           later m {lo = suc (suc (suc (suc lo)))} {hi = 1} {b = d} (omega arith) (omega arith) (omega arith) (read_of m _ _ _

@@ -3,7 +3,7 @@ use Rattle.std.proofs.Common.{◌≡◌, ℕ, zero, suc, ◌+◌, ◌<◌, ◌�
 use Rattle.std.specs.Prelude.{slice_get, slice_index, slice_set, take, replicate, max, None, IfSome, FitsSigned}
 use Rattle.std.specs.Int.{w64}
 use Rattle.value_trees.specs.Value.{Value, int, bool, IsOf, composite, zero_of}
-use Rattle.typed.specs.Syntax.{Pl, Steps, local, global, here as itself, inner, at_index, site_type, Ex, Exs, Piece, Func, Program, constant, read, unary, binary, both, either, call, part_of, literal, Elements, no_elements, element, none, more, results, asked, text, shown, wide, ascend_from, ascend, words_before, words_through, gap_behind}
+use Rattle.typed.specs.Syntax.{Pl, Steps, local, global, here as itself, inner, at_index, type_in, type_named, site_type, Ex, Exs, Piece, Func, Program, constant, read, unary, binary, both, either, call, part_of, literal, Elements, no_elements, element, none, more, results, asked, text, shown, wide, ascend_from, ascend, words_before, words_through, gap_behind}
 use Rattle.value_trees.proofs.Parts.{words_count, count_of, part_is, with_part_is}
 use Rattle.simulated_code.proofs.Numbers.{truth_of}
 use Rattle.typed.specs.Form.{IsPlain, AreOf, IsWord, PlFits, StepsLead, ExFits, ExsFit, ElementsFit, PiecesFit}
@@ -100,8 +100,8 @@ module _ (m : Built) where
   wide_need scope t (both a b) fit = let l = wide_need scope bools a fit.1 in let e = ap width fit.0 in omega arith
   wide_need scope t (either a b) fit = let l = wide_need scope bools a fit.1 in let e = ap width fit.0 in omega arith
   wide_need scope t (call f es) fit = let r = wide_is m.program scope t (call f es) fit in omega (arith, r)
-  wide_need scope t (part_of s i e) fit = let l = wide_need scope s e fit.3 in let e = ap width fit.1 in let r = part_within s i fit.0 in omega arith
-  wide_need scope t (literal s es) fit = let e = ap width fit.0 in omega arith
+  wide_need scope t (part_of n i e) fit = let s = type_named m.program n in let l = wide_need scope s e fit.3 in let e = ap width fit.1 in let r = part_within s i fit.0 in omega arith
+  wide_need scope t (literal n es) fit = let e = ap width fit.0 in omega arith
 
   pub some_need : (scope : List ℕ) (t : ValueType) (e : Ex) → 0 < width t → ExFits m.program scope t e → 0 < need m.program e
   some_need scope t e some fit = let l = wide_need scope t e fit in omega arith
@@ -110,7 +110,7 @@ module _ (m : Built) where
   plain_need : (scope : List ℕ) (t : ValueType) (e : Ex) → IsPlain t → ExFits m.program scope t e → 0 < need m.program e
   plain_need scope t e plain fit = let one = plain_one t plain in some_need scope t e (omega arith) fit
 
-  module _ (around : Setting) (inputs : around.items ≡ m.items) (callees : Calls) (n : ℕ) (cf : CallsFollow m callees n) where
+  module _ (around : Setting) (types : around.types ≡ m.program.types) (inputs : around.items ≡ m.items) (callees : Calls) (n : ℕ) (cf : CallsFollow m callees n) where
     -- behind the first operand of `&&`, and of `||`, which is in its temp; where it decides, the turn has an instruction to spare
     both_end : (x : Value) (g : Go) (c : Frame) (calls : List Frame) (ws : Ways) (k : Then Value) (w : World) (words : List ℕ) (h goal pc lo b : ℕ) → slice_get m.code.instrs pc ≡ Some (JumpZero (temp (slots_of m.program c.func) h) goal)
         → wide_of c.held ≡ h → IsOf bools x → Good m (hold c (c.held ++ x ∷ []) ∷ calls) w words → At m (numbers (c ∷ calls)) lo 0 b (g w) (pc + 1) words w
@@ -229,8 +229,8 @@ module _ (m : Built) where
           let one : AreOf (t ∷ []) rs = subst (λ ts. AreOf ts rs) fit.2 some in
           seen m _ (place_is m (let e : pc + (nes + call_size m.program f) ≡ pc + nes + call_size m.program f = omega arith in e)
           (post (only_value rs) w2 words2 (only_of t rs one) (subst (λ l. Good m (hold c (c.held ++ l) ∷ calls) w2 words2) (single t rs one) g2)))))
-      ev_pays (part_of u i e) t c calls ws k w words h pc lo b le hh stops has fit enough reaches g post =
-          let s = slots_of m.program c.func in let ne = size m.program e in let count = width (part_type u i) in
+      ev_pays (part_of number i e) t c calls ws k w words h pc lo b le hh stops has fit enough reaches g post =
+          let s = slots_of m.program c.func in let u = type_named m.program number in let ne = size m.program e in let count = width (part_type u i) in
           let ce = ex_code m.program s e h pc in let move = moves count (temp s h) (temp s (h + part_offset u i)) in
           let has_i = back m.code c.fn pc ne ce (move ∷ []) (length_code m.program s e h pc) has in
           ev_pays e u c calls ws _ w words h pc lo b le hh stops (front m.code c.fn pc ce (move ∷ []) has) fit.3 enough reaches g (λ x w1 words1 ix g1. spared m (
@@ -243,22 +243,24 @@ module _ (m : Built) where
           (post v w1 (put_words words1 (temp s h) (words_at words1 (temp s (h + part_offset u i)) count)) (subst (λ y. IsOf y v) fit.1 iv)
           (value_put m c calls w1 words1 (words_at words1 (temp s (h + part_offset u i)) count) h count v hh (count_of (part_type u i) v iv) (omega arith)
           (part_stand m c calls w1 words1 c.held h u x i hh fit.0 ix g1) (fewer m c calls w1 words1 c.held (x ∷ []) g1)))))))))
-      ev_pays (literal u es) t c calls ws k w words h pc lo b le hh stops has fit enough reaches g post =
-          let s = slots_of m.program c.func in let n = width u in let zero = zero_of u in let xs = replicate n 0 in let some = fit.1 in let long = g.long in
+      ev_pays (literal number es) t c calls ws k w words h pc lo b le hh stops has fit enough reaches g post =
+          let s = slots_of m.program c.func in let u = type_named m.program number in let n = width u in let zero = zero_of u in let xs : List ℕ = replicate n 0 in let long = g.long in
+          let some = subst (λ r. 0 < width r) (sym fit.0) fit.1 in let fitting = subst (λ r. ElementsFit m.program c.scope r es) (sym fit.0) fit.2 in
           let words1 = put_words words (temp s h) xs in let count = zero_is u in
           let g1 = value_put m c calls w words xs h n zero hh (count_of u zero (zero_is u)) (omega arith) (zero_stands u) g in
           let typed = λ (y : Value) (iy : IsOf u y). subst (λ r. IsOf r y) fit.0 iy in
-          turned m {lo1 = suc (suc lo)} (omega arith)
+          subst (λ (those : List ValueType). At m (numbers (c ∷ calls)) lo 0 b (Turn (Meaning.fill around callees es (zero_of (type_in those number)) ws c.env (Meaning.give ws k) w)) pc words w) (sym types)
+          (turned m {lo1 = suc (suc lo)} (omega arith)
           (later m {lo = suc (suc lo)} {hi = 1} {b = b} (omega arith) (omega arith) (omega arith)
           (words_zeroed m {lo = suc lo} {hi = 0} n (temp s h) has.0.0 some (omega arith)
           (elim (ascend es) as (λ (o : Bool). ascend es ≡ o → Standing m.code c.fn (pc + 1) (elements_code m.program s u o es h (pc + 1)) → h + max n (elements_need m.program u o es) ≤ temps_of m.program c.func
           → ((y : Value) (w1 : World) (words2 : List ℕ) → IsOf u y → Good m (hold c (c.held ++ y ∷ []) ∷ calls) w1 words2 → At m (numbers (c ∷ calls)) (suc lo) 0 b (Meaning.give ws k y w1) (pc + 1 + elements_size m.program u o es) words2 w1)
           → At m (numbers (c ∷ calls)) (suc lo) 0 b (Meaning.fill around callees es zero ws c.env (Meaning.give ws k) w) (pc + 1) words1 w) [
-            | true ↦ λ order stands room on. placed_follow es 0 u zero c c.held calls ws (Meaning.give ws k) w words1 h (pc + 1) (suc lo) b le hh stops stands order count (λ x from l. zero_behind u x l) fit.2 room reaches (up_to_front m c calls w c.held u zero count (words_before u es) words1 g1) on
-            | false ↦ λ order stands room on. moved_follow es u zero c c.held calls ws (Meaning.give ws k) w words1 h (pc + 1) (suc lo) b le hh stops stands count fit.2 room reaches g1 on
+            | true ↦ λ order stands room on. placed_follow es 0 u zero c c.held calls ws (Meaning.give ws k) w words1 h (pc + 1) (suc lo) b le hh stops stands order count (λ x from l. zero_behind u x l) fitting room reaches (up_to_front m c calls w c.held u zero count (words_before u es) words1 g1) on
+            | false ↦ λ order stands room on. moved_follow es u zero c c.held calls ws (Meaning.give ws k) w words1 h (pc + 1) (suc lo) b le hh stops stands count fitting room reaches g1 on
           ] refl has.1 enough (λ y w1 words2 iy g2.
           seen m _ (place_is m (let q : pc + (1 + elements_size m.program u (ascend es) es) ≡ pc + 1 + elements_size m.program u (ascend es) es = omega arith in q)
-          (post y w1 words2 (typed y iy) g2))))))
+          (post y w1 words2 (typed y iy) g2)))))))
 
       -- the operands of a place, and room for so many words behind them
       pub place_follows : (q : Pl) (t : ValueType) (behind others : ℕ) (c : Frame) (calls : List Frame) (ws : Ways) (k : Then Aim) (w : World) (words : List ℕ) (h pc lo b : ℕ) → b ≤ suc n → wide_of c.held ≡ h → Panics ws → Standing m.code c.fn pc (place_code m.program (slots_of m.program c.func) q h pc)
@@ -357,8 +359,8 @@ module _ (m : Built) where
           place_is m (let q : pc + (ne + nes) ≡ pc + ne + nes = omega arith in q)
           (post (v ∷ vs) w2 words2 (iv, are) (subst (λ l. Good m (hold c l ∷ calls) w2 words2) (append_assoc c.held (v ∷ []) vs) g2)))))
       evs_follow asked ts c calls ws k w words h pc lo b le hh stops has fit enough reaches g post =
-          let types : ts ≡ ints ∷ bools ∷ [] = asked_fits m.program c.scope ts fit in
-          item_read c calls ws k w words h pc lo b hh has enough g (λ vs w1 words1 are g1. post vs w1 words1 (subst (λ us. AreOf us vs) (sym types) are) g1)
+          let two : ts ≡ ints ∷ bools ∷ [] = asked_fits m.program c.scope ts fit in
+          item_read c calls ws k w words h pc lo b hh has enough g (λ vs w1 words1 are g1. post vs w1 words1 (subst (λ us. AreOf us vs) (sym two) are) g1)
       evs_follow (results f es) ts c calls ws k w words h pc lo b le hh stops has fit enough reaches g post =
           let s = slots_of m.program c.func in let nes = exs_size m.program es in
           let last = last_fits m.program c.scope ts f es fit in

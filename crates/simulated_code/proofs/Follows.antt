@@ -67,7 +67,7 @@ none_of : (ts : List ValueType) → length ts ≡ 0 → AreOf ts []
 none_of [] e = tt
 none_of (t ∷ ts) e = absurd (omega arith)
 
-module _ (m : Built) (around : Setting) (strings : around.strings ≡ m.program.strings) (inputs : around.items ≡ m.items) (zero_is : (site : ℕ) → StandIn (contents (Meaning.zero_of around site)) (replicate (width (site_type m.program site)) 0) × IsOf (site_type m.program site) (Meaning.zero_of around site)) where
+module _ (m : Built) (around : Setting) (strings : around.strings ≡ m.program.strings) (types : around.types ≡ m.program.types) (inputs : around.items ≡ m.items) (zero_is : (site : ℕ) → StandIn (contents (Meaning.zero_of around site)) (replicate (width (site_type m.program site)) 0) × IsOf (site_type m.program site) (Meaning.zero_of around site)) where
   no_values : (a : ℕ) (f : Func) → values_code (slots_of m.program f) a 0 f.named 0 ++ leave_code (slots_of m.program f) a f.named ≡ leave_code (slots_of m.program f) a f.named
   no_values a f = none f.named
     where
@@ -138,7 +138,7 @@ module _ (m : Built) (around : Setting) (strings : around.strings ≡ m.program.
         record { panics = λ at x env1 w1. stops at x env0 w1; around = λ v i. i; broken = λ t e. absurd (let f : false ≡ true = t in cc); continued = λ t. absurd (let f : false ≡ true = t in cc); returned = returns } in
         params_follow m around c calls func.params func.param_types vs (λ x. 0) [] entry _ w words func.first 0 place.start lo b typed has_params fit.params (omega arith) (omega arith) (omega (arith, many)) are g (λ env1 w1 words1 g1.
         zeros_follow m around zero_is func.named c env1 (params_scope [] func.params) [] calls entry _ w1 words1 (func.first + named_params func.params) (place.start + params_size func.params) lo b has_zeros next_named (omega arith) g1 (λ env2 w2 words2 g2.
-        place_is m here (all_follow m around strings inputs zero_is callees n cf c calls func.body (Meaning.ways_in func.named entry ws env0 k) env2 (Meaning.leave func.named entry k []) w2 words2 [] 0 false (scope_in func) (scope_in func) (body_first func) 0 0 start lo b le refl
+        place_is m here (all_follow m around strings types inputs zero_is callees n cf c calls func.body (Meaning.ways_in func.named entry ws env0 k) env2 (Meaning.leave func.named entry k []) w2 words2 [] 0 false (scope_in func) (scope_in func) (body_first func) 0 0 start lo b le refl
         (front m.code f start body ending has_rest) fit.body (omega arith) (omega arith) scoped leads g2
         (λ goes env3 w3 words3 g3. returns [] 0 env3 (scope_in func) [] w3 words3 0 (start + sts_size m.program (argument_words func) func.named func.body) refl
         (subst (λ l. Standing m.code f (start + sts_size m.program (argument_words func) func.named func.body) l) (sym (no_values (argument_words func) func)) has_end) refl
@@ -240,7 +240,7 @@ module _ (p : Program) (code : Tables) (compiled : Compiled p code) (texts : cod
         subst (λ o. Follows Sight Event Ending Stop same_event (same_end p.strings) 0 0 b (out (limits p max heap_max) [] (length p.globals) (Meaning.run_body around p.funcs callees (suc n) p.main o [] Meaning.at_top (λ x. 0) (λ rs. Meaning.stop (Exit 0)) begun)) (entered code items max first (slice_get code.funcs p.main))) (sym named)
         (subst (λ o. Follows Sight Event Ending Stop same_event (same_end p.strings) 0 0 b (out (limits p max heap_max) [] (length p.globals) (Meaning.run_body around p.funcs callees (suc n) p.main (Some func) [] Meaning.at_top (λ x. 0) (λ rs. Meaning.stop (Exit 0)) begun)) (λ k. entered code items max first o k)) (sym place.entry)
         (first_gate p.strings (frame_in p (slice_get p.funcs p.main)) (frame_of p func) max b _ _ (ap (frame_in p) named)
-        (λ fits. unread _ place.start b (replicate (frame_of p func) 0) ((body_follows built around refl refl zero_is n callees (calls_follow built around refl refl zero_is n) p.main func named place [] [] Meaning.at_top (λ x. 0) (λ rs. Meaning.stop (Exit 0)) begun (replicate (frame_of p func) 0) 0 b le tt (λ at x env1 w1. refl) typed (omega (arith, of_length func.param_types [] typed, no_words)) (λ j l. absurd (omega arith))
+        (λ fits. unread _ place.start b (replicate (frame_of p func) 0) ((body_follows built around refl refl refl zero_is n callees (calls_follow built around refl refl refl zero_is n) p.main func named place [] [] Meaning.at_top (λ x. 0) (λ rs. Meaning.stop (Exit 0)) begun (replicate (frame_of p func) 0) 0 b le tt (λ at x env1 w1. refl) typed (omega (arith, of_length func.param_types [] typed, no_words)) (λ j l. absurd (omega arith))
         (first_frame built p.main func begun named fits (omega (arith, begun_length)) begun_kinds) (λ rs w1. refl)).at heap begun_heaps))))
 
   -- the births of the package variables, and `main`

@@ -29,7 +29,7 @@ use Rattle.simulated_code.proofs.Leading.{After, after_later, leads_later, leads
 use Rattle.value_trees.specs.Types.{bools, ints}
 use Rattle.simulated_code.proofs.Wide.{plain_value}
 
-module _ (m : Built) (around : Setting) (inputs : around.items ≡ m.items) (callees : Calls) (n : ℕ) (cf : CallsFollow m callees n) (c : Frame) (calls : List Frame) where
+module _ (m : Built) (around : Setting) (types : around.types ≡ m.program.types) (inputs : around.items ≡ m.items) (callees : Calls) (n : ℕ) (cf : CallsFollow m callees n) (c : Frame) (calls : List Frame) where
   pub done_follows : AllFollowed m c calls around callees n done
   done_follows ws env k w words held h looped outer scope q out again pc lo b le hh has fit enough reaches sc leads g post =
       seen m _ (place_is m (let e : pc + 0 ≡ pc = omega arith in e) (post refl env w words g))
@@ -57,7 +57,7 @@ module _ (m : Built) (around : Setting) (inputs : around.items ≡ m.items) (cal
       let has1 = back m.code c.fn pc (size fs e) ce (z ∷ (cx ++ j ∷ cy)) (length_code fs s e h pc) has in
       let has3 = back m.code c.fn p1 lx cx (j ∷ cy) (length_sts fs a named s x h out again p1) has1.1 in
       let q2 : pc + (size fs e + 1 + lx + 1 + ly) ≡ p2 + ly = omega arith in
-      ev_follows m around inputs callees n cf e bools (during c env scope held) calls ws _ w words h pc lo b le hh leads.panics (front m.code c.fn pc ce (z ∷ (cx ++ j ∷ cy)) has) fit.0 (omega arith) (omega arith) g (λ v w1 words1 iv g1.
+      ev_follows m around types inputs callees n cf e bools (during c env scope held) calls ws _ w words h pc lo b le hh leads.panics (front m.code c.fn pc ce (z ∷ (cx ++ j ∷ cy)) has) fit.0 (omega arith) (omega arith) g (λ v w1 words1 iv g1.
       let g2 = fewer m (during c env scope held) calls w1 words1 held (v ∷ []) g1 in
       turned m {lo1 = suc (suc lo)} (omega arith)
       (branches m v (Meaning.exec_all around callees (suc n) x ws env k) (Meaning.exec_all around callees (suc n) y ws env k) w1 (numbers (c ∷ calls)) words1 (temp s h) p2 (pc + size fs e) (suc lo) b has1.0.0 iv (held_word m (during c env scope held) calls w1 words1 held [] v h hh (plain_value bools v (inr refl) iv) g1)
@@ -79,7 +79,7 @@ module _ (m : Built) (around : Setting) (inputs : around.items ≡ m.items) (cal
       let s = slots_of m.program c.func in let fs = m.program in
       let ce = ex_code fs s e h pc in let z = JumpZero (temp s h) behind in
       let has1 = back m.code c.fn pc (size fs e) ce (z ∷ []) (length_code fs s e h pc) has in
-      ev_follows m around inputs callees n cf e bools (during c env scope held) calls ws _ w words h pc lo d (omega arith) hh stops (front m.code c.fn pc ce (z ∷ []) has) fit enough reaches good (λ v w1 words1 iv good1.
+      ev_follows m around types inputs callees n cf e bools (during c env scope held) calls ws _ w words h pc lo d (omega arith) hh stops (front m.code c.fn pc ce (z ∷ []) has) fit enough reaches good (λ v w1 words1 iv good1.
       let good2 = fewer m (during c env scope held) calls w1 words1 held (v ∷ []) good1 in
       turned m {lo1 = suc lo} (omega arith)
       (branches m v g1 g2 w1 (numbers (c ∷ calls)) words1 (temp s h) behind (pc + size fs e) lo d has1.0.0 iv (held_word m (during c env scope held) calls w1 words1 held [] v h hh (plain_value bools v (inr refl) iv) good1)
@@ -157,7 +157,7 @@ module _ (m : Built) (around : Setting) (inputs : around.items ≡ m.items) (cal
   range_follows e key (new site) body bodies ws env k w words held h looped outer scope q out again pc lo b le hh has fit enough reaches sc leads g post = absurd fit
   range_follows e key (to p) body bodies ws env k w words held h looped outer scope q out again pc lo b le hh has fit enough reaches sc leads g post = absurd fit
   range_follows e key blank body bodies ws env k w words held h looped outer scope q out again pc lo b le hh has fit enough reaches sc leads g post =
-      ev_follows m around inputs callees n cf e ints (during c env scope held) calls ws _ w words h pc lo b le hh leads.panics (front m.code c.fn pc ce rest has) fit.0 (omega arith) (omega arith) g over
+      ev_follows m around types inputs callees n cf e ints (during c env scope held) calls ws _ w words h pc lo b le hh leads.panics (front m.code c.fn pc ce rest has) fit.0 (omega arith) (omega arith) g over
     where
       test : ℕ
       test = pc + size m.program e + 1
@@ -250,7 +250,7 @@ module _ (m : Built) (around : Setting) (inputs : around.items ≡ m.items) (cal
           let cb0 = during c env1 scope all in let land = λ (env2 : Env). Meaning.in_loop (Meaning.exec_all around callees (suc n) body) (ways z) first then_next env2 in
           let room = key_room m.program (temps_of m.program c.func) h key (omega arith) in
           place_is m (let q1 : test + 2 ≡ test + 1 + 1 = omega arith in q1)
-          (ready_follow m around inputs callees n cf (key ∷ []) (ints ∷ []) (left_far key) (sts_reach m.program body) q (c.func.first + c.func.count) cb0 calls (ways z) (λ xs ws1. Meaning.land around (first_landing xs) (int (pos i)) (ways z) env1 land) w1 words1 (h + 2) (test + 2) lo d (omega arith) (two_held z held h i hh) leads.panics
+          (ready_follow m around types inputs callees n cf (key ∷ []) (ints ∷ []) (left_far key) (sts_reach m.program body) q (c.func.first + c.func.count) cb0 calls (ways z) (λ xs ws1. Meaning.land around (first_landing xs) (int (pos i)) (ways z) env1 land) w1 words1 (h + 2) (test + 2) lo d (omega arith) (two_held z held h i hh) leads.panics
           (front m.code c.fn (test + 2) cr ck (front m.code c.fn (test + 2) cl (cb ++ counts) has_l)) fit.1 (omega arith) (omega (arith, key_alone m.program key (sts_reach m.program body))) g1 (λ uss ws1 w2 words2 stops1 given there g2.
           let inside_room = lefts_room m.program (temps_of m.program c.func) (h + 2) (left_far key) (key ∷ []) (omega arith) in
           subst (λ t. At m (numbers (c ∷ calls)) lo 0 d t start words2 w2) (sym (land_one around key uss env1 env1 (int (pos i)) (ways z) land w2 given))

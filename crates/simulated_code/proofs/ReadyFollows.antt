@@ -18,7 +18,7 @@ use Rattle.simulated_code.proofs.EvaluationsFollow.{place_follows}
 use Rattle.simulated_code.proofs.Reached.{aimed}
 use Rattle.simulated_code.proofs.LeftsFollow.{Gives, together, landings}
 
-module _ (m : Built) (around : Setting) (inputs : around.items ≡ m.items) (callees : Calls) (n : ℕ) (cf : CallsFollow m callees n) where
+module _ (m : Built) (around : Setting) (types : around.types ≡ m.program.types) (inputs : around.items ≡ m.items) (callees : Calls) (n : ℕ) (cf : CallsFollow m callees n) where
   pub ready_follow : (ls : List Left) (ts : List ValueType) (behind others q limit : ℕ) (c : Frame) (calls : List Frame) (ws : Ways) (k : List Landing → Ways → Go) (w : World) (words : List ℕ) (h pc lo b : ℕ) → b ≤ suc n → wide_of c.held ≡ h → Panics ws → Standing m.code c.fn pc (ready_code m.program (slots_of m.program c.func) ls h pc)
       → LeftsFit m.program c.scope q limit ts ls → h + lefts_need m.program ls behind ≤ temps_of m.program c.func → lefts_reach m.program ls others ≤ outgoing_of m.program c.func → Good m (c ∷ calls) w words
       → ((uss : List (List Value)) (ws1 : Ways) (w1 : World) (words1 : List ℕ) → Panics ws1 → Gives ls uss → wide_of (c.held ++ together uss) ≡ lefts_above ls h → Good m (hold c (c.held ++ together uss) ∷ calls) w1 words1
@@ -35,7 +35,7 @@ module _ (m : Built) (around : Setting) (inputs : around.items ≡ m.items) (cal
       let s = slots_of m.program c.func in let size = place_size m.program p 0 in let above = place_above p h in let next = place_end m.program p pc in
       let cp = place_code m.program s p h pc in let rest = ready_code m.program s ls above next in
       let e : pc + size ≡ next = sym (place_ends m.program p pc) in
-      place_follows m around inputs callees n cf p t (lefts_need m.program ls behind) (lefts_reach m.program ls others) c calls ws _ w words h pc lo b le hh stops (front m.code c.fn pc cp rest has) fit.0 enough reaches g (λ us w1 words1 given there room g1.
+      place_follows m around types inputs callees n cf p t (lefts_need m.program ls behind) (lefts_reach m.program ls others) c calls ws _ w words h pc lo b le hh stops (front m.code c.fn pc cp rest has) fit.0 enough reaches g (λ us w1 words1 given there room g1.
       place_is m (sym e)
       (ready_follow ls ts behind others q limit (hold c (c.held ++ us)) calls (Meaning.holding_all ws (Meaning.aim_values (aimed c.env p us))) (λ xs ws1. k (on (aimed c.env p us) ∷ xs) ws1) w1 words1 above next lo b le there stops
       (subst (λ x. Standing m.code c.fn x rest) e (back m.code c.fn pc size cp rest (length_place m.program s p h pc) has)) fit.1 room (let r = place_others m.program (lefts_reach m.program ls others) p in omega arith) g1 (λ uss ws1 w2 words2 stops1 gives wide g2.

@@ -101,7 +101,7 @@ module _ (m : Built) where
     address_wide zero word at held hh = ap wide_of (append-nil held) ∙ hh
     address_wide (suc n) word at held hh = one_more held (as_number m word) at 1 hh refl
 
-  module _ (around : Setting) (strings : around.strings ≡ m.program.strings) (inputs : around.items ≡ m.items) (zero_is : (site : ℕ) → StandIn (contents (Meaning.zero_of around site)) (replicate (width (site_type m.program site)) 0) × IsOf (site_type m.program site) (Meaning.zero_of around site))
+  module _ (around : Setting) (strings : around.strings ≡ m.program.strings) (types : around.types ≡ m.program.types) (inputs : around.items ≡ m.items) (zero_is : (site : ℕ) → StandIn (contents (Meaning.zero_of around site)) (replicate (width (site_type m.program site)) 0) × IsOf (site_type m.program site) (Meaning.zero_of around site))
       (callees : Calls) (n : ℕ) (cf : CallsFollow m callees n) (c : Frame) (calls : List Frame) where
     pub declare_follows : (sites : List ℕ) → Followed m c calls around callees n (declare sites)
     declare_follows sites ws env k w words held h looped outer scope q out again pc lo b le hh has fit enough reaches sc leads g post =
@@ -118,9 +118,9 @@ module _ (m : Built) where
         (back m.code c.fn behind (exs_size m.program es) ces cls (length_exs m.program s es first behind) has_v) in
         let needs = max (need_all m.program es) (behind_values all (lefts_far ls)) in
         let enough1 = lefts_room m.program (temps_of m.program c.func) h needs ls enough in let reaches1 = lefts_others m.program (reach_all m.program es) ls in
-        ready_follow m around inputs callees n cf ls fit.0 needs (reach_all m.program es) q limit (during c env scope held) calls ws _ w words h pc lo b le hh leads.panics (front m.code c.fn pc cr (ces ++ cls) has) fit.1 enough reaches g (λ uss ws1 w1 words1 stops1 given above g1.
+        ready_follow m around types inputs callees n cf ls fit.0 needs (reach_all m.program es) q limit (during c env scope held) calls ws _ w words h pc lo b le hh leads.panics (front m.code c.fn pc cr (ces ++ cls) has) fit.1 enough reaches g (λ uss ws1 w1 words1 stops1 given above g1.
         place_is m (sym ends)
-        (evs_follow m around inputs callees n cf es fit.0 (during c env scope (held ++ together uss)) calls ws1 (λ vs. Meaning.land_all around (landings env ls uss) vs ws env k) w1 words1 first behind lo b le above stops1 (front m.code c.fn behind ces cls has_v) fit.2 (omega arith) (omega arith) g1 (λ vs w2 words2 are g2.
+        (evs_follow m around types inputs callees n cf es fit.0 (during c env scope (held ++ together uss)) calls ws1 (λ vs. Meaning.land_all around (landings env ls uss) vs ws env k) w1 words1 first behind lo b le above stops1 (front m.code c.fn behind ces cls has_v) fit.2 (omega arith) (omega arith) g1 (λ vs w2 words2 are g2.
         let count : wide_of vs ≡ all = of_length fit.0 vs are ∙ sym (all_wide_is m.program scope fit.0 es fit.2) in
         let long : wide_of ((held ++ together uss) ++ vs) ≡ first + all = omega (arith, wide_joined (held ++ together uss) vs, count, above) in
         let within = g2.stack.0.room in
@@ -143,7 +143,7 @@ module _ (m : Built) where
         let has_e = subst (λ x. Standing m.code c.fn x (ce ++ i ∷ (land ∷ []))) begins has_f.1 in
         let has_o = back m.code c.fn behind (size fs e) ce (i ∷ (land ∷ [])) (length_code fs s e (a + 1) behind) has_e in
         let loc = located m scope ints p fit.1 in let needs = far p + 1 + need fs e in let others = place_others fs (reach fs e) p in
-        place_follows m around inputs callees n cf p ints needs (reach fs e) c0 calls ws _ w words h pc lo b le hh leads.panics (front m.code c.fn pc cp (ca ++ rest) has) fit.1 enough reaches g (λ us w0 words0 given above room g0.
+        place_follows m around types inputs callees n cf p ints needs (reach fs e) c0 calls ws _ w words h pc lo b le hh leads.panics (front m.code c.fn pc cp (ca ++ rest) has) fit.1 enough reaches g (λ us w0 words0 given above room g0.
         settled_follow m p ints us held [] (during c env scope (held ++ us)) calls ws env env _ w0 words0 h there (pc + operands) lo b leads.panics loc given (ap (λ l. held ++ l) (sym (append-nil us))) hh above (omega arith)
         (front m.code c.fn (pc + operands) ca rest has_a) g0 (λ path word words1 part g1.
         let base = (held ++ us) ++ held_by m (far p) word in let v = at_path (value_of w0 (variable_of env p)) path in
@@ -152,7 +152,7 @@ module _ (m : Built) where
         later m {lo = suc (suc (suc lo))} {hi = 1} {b = b} (omega arith) (omega arith) (omega arith) (read_of m _ _ _
         (fetched m c0 calls p ints path word base [] w0 words1 (numbers (c ∷ calls)) there a (pc + operands + address_size p) (suc (suc lo)) 0 b _ has_f.0.0 loc part address wide (omega arith) (subst (λ l. Good m (during c env scope l ∷ calls) w0 words1) (sym (append-nil base)) g1) (λ words2 iv g2.
         place_is m (sym begins)
-        (ev_follows m around inputs callees n cf e ints (hold c0 (base ++ v ∷ [])) calls (Meaning.holding ws v) _ w0 words2 (a + 1) behind (suc (suc lo)) b le (one_more base v a 1 wide (plain_value ints v (inl refl) iv)) leads.panics (front m.code c.fn behind ce (i ∷ (land ∷ [])) has_e) fit.2 (omega arith) (omega arith) g2 (λ u w1 words3 iu g3.
+        (ev_follows m around types inputs callees n cf e ints (hold c0 (base ++ v ∷ [])) calls (Meaning.holding ws v) _ w0 words2 (a + 1) behind (suc (suc lo)) b le (one_more base v a 1 wide (plain_value ints v (inl refl) iv)) leads.panics (front m.code c.fn behind ce (i ∷ (land ∷ [])) has_e) fit.2 (omega arith) (omega arith) g2 (λ u w1 words3 iu g3.
         later m {lo = suc (suc lo)} {hi = 1} {b = b} (omega arith) (omega arith) (omega arith)
         (updated c calls at o p path word there a ws env scope held us v u k w1 words3 (behind + size fs e) lo b has_o.0.0 has_o.1.0.0 above wide loc part leads.panics (arithmetic_takes o fit.0) iv iu g3
         (λ env1 w2 words4 g4. place_is m (let r : pc + place_size fs p (address_size p + 1 + size fs e + 1 + 1) ≡ behind + size fs e + 1 + 1 = omega (arith, place_sum fs p (address_size p + 1 + size fs e + 1 + 1), begins) in r) (post refl env1 w2 words4 g4))))))))))
@@ -167,7 +167,7 @@ module _ (m : Built) where
         let has_a = back m.code c.fn pc size cp (ca ++ rest) (length_place fs s p h pc) has in
         let has_f = back m.code c.fn (pc + size) (address_size p) ca rest (length_address s p h there) has_a in
         let loc = located m scope ints p fit.1 in
-        place_follows m around inputs callees n cf p ints (far p + 2) 0 c0 calls ws _ w words h pc lo b le hh leads.panics (front m.code c.fn pc cp (ca ++ rest) has) fit.1 enough reaches g (λ us w0 words0 given above room g0.
+        place_follows m around types inputs callees n cf p ints (far p + 2) 0 c0 calls ws _ w words h pc lo b le hh leads.panics (front m.code c.fn pc cp (ca ++ rest) has) fit.1 enough reaches g (λ us w0 words0 given above room g0.
         settled_follow m p ints us held [] (during c env scope (held ++ us)) calls ws env env _ w0 words0 h there (pc + size) lo b leads.panics loc given (ap (λ l. held ++ l) (sym (append-nil us))) hh above (omega arith)
         (front m.code c.fn (pc + size) ca rest has_a) g0 (λ path word words1 part g1.
         let base = (held ++ us) ++ held_by m (far p) word in let v = at_path (value_of w0 (variable_of env p)) path in
@@ -183,12 +183,12 @@ module _ (m : Built) where
 
     pub discard_follows : (es : Exs) → Followed m c calls around callees n (discard es)
     discard_follows (results f es) ws env k w words held h looped outer scope q out again pc lo b le hh has fit enough reaches sc leads g post =
-        evs_follow m around inputs callees n cf (results f es) fit.0 (during c env scope held) calls ws (λ vs. k env) w words h pc lo b le hh leads.panics has fit.1 enough reaches g (λ vs w1 words1 are g1.
+        evs_follow m around types inputs callees n cf (results f es) fit.0 (during c env scope held) calls ws (λ vs. k env) w words h pc lo b le hh leads.panics has fit.1 enough reaches g (λ vs w1 words1 are g1.
         post refl env w1 words1 (fewer m (during c env scope held) calls w1 words1 held vs g1))
     discard_follows none ws env k w words held h looped outer scope q out again pc lo b le hh has fit enough reaches sc leads g post = absurd fit
     discard_follows (more e es) ws env k w words held h looped outer scope q out again pc lo b le hh has fit enough reaches sc leads g post = absurd fit
     discard_follows asked ws env k w words held h looped outer scope q out again pc lo b le hh has fit enough reaches sc leads g post =
-        evs_follow m around inputs callees n cf asked fit.0 (during c env scope held) calls ws (λ vs. k env) w words h pc lo b le hh leads.panics has fit.1 enough reaches g (λ vs w1 words1 are g1.
+        evs_follow m around types inputs callees n cf asked fit.0 (during c env scope held) calls ws (λ vs. k env) w words h pc lo b le hh leads.panics has fit.1 enough reaches g (λ vs w1 words1 are g1.
         post refl env w1 words1 (fewer m (during c env scope held) calls w1 words1 held vs g1))
 
     pub break_follows : Followed m c calls around callees n break_off
@@ -223,7 +223,7 @@ module _ (m : Built) where
         let ces = exs_code fs s es h pc in let behind = values_code s a (all_wide fs es) named h ++ leave_code s a named in
         let has_v = back m.code c.fn pc (exs_size fs es) ces behind (length_exs fs s es h pc) has in
         let r = return_values scope es fit in
-        evs_follow m around inputs callees n cf es r.0 (during c env scope held) calls ws (λ vs. ws.returned vs env) w words h pc lo b le hh leads.panics (front m.code c.fn pc ces behind has) r.1 (omega arith) reaches g (λ vs w1 words1 are g1.
+        evs_follow m around types inputs callees n cf es r.0 (during c env scope held) calls ws (λ vs. ws.returned vs env) w words h pc lo b le hh leads.panics (front m.code c.fn pc ces behind has) r.1 (omega arith) reaches g (λ vs w1 words1 are g1.
         leads.returned vs (all_wide fs es) env scope held w1 words1 h (pc + exs_size fs es) hh has_v (r.2 vs are).0 (r.2 vs are).1 (omega arith) sc.named g1)
 
     pub print_follows : (line : Bool) (ps : List Piece) → Followed m c calls around callees n (print line ps)
@@ -232,8 +232,8 @@ module _ (m : Built) where
         let cps = pieces_code fs s ps h pc in let show = show_code s line ps h in
         let has_l = back m.code c.fn pc (pieces_size fs ps) cps show (length_pieces fs s ps h pc) has in
         let e : pc + (pieces_size fs ps + shown_size line ps) ≡ pc + pieces_size fs ps + shown_size line ps = omega arith in
-        pieces_follow m around inputs callees n cf ps (during c env scope held) calls ws _ w words h pc lo b le hh leads.panics (front m.code c.fn pc cps show has) fit enough reaches g (λ vs w1 words1 are g1.
-        showing (pieces_plain m around inputs callees n cf scope ps fit) line vs w1 words1 are has_l g1 (place_is m e (post refl env w1 words1 (fewer m (during c env scope held) calls w1 words1 held vs g1))))
+        pieces_follow m around types inputs callees n cf ps (during c env scope held) calls ws _ w words h pc lo b le hh leads.panics (front m.code c.fn pc cps show has) fit enough reaches g (λ vs w1 words1 are g1.
+        showing (pieces_plain m around types inputs callees n cf scope ps fit) line vs w1 words1 are has_l g1 (place_is m e (post refl env w1 words1 (fewer m (during c env scope held) calls w1 words1 held vs g1))))
       where
         showing : AllPlain (piece_types ps) → (line : Bool) (vs : List Value) (w1 : World) (words1 : List ℕ) → AreOf (piece_types ps) vs → Standing m.code c.fn (pc + pieces_size m.program ps) (show_code (slots_of m.program c.func) line ps h) → Good m (during c env scope (held ++ vs) ∷ calls) w1 words1
             → At m (numbers (c ∷ calls)) lo 0 b (k env w1) (pc + pieces_size m.program ps + shown_size line ps) words1 w1 → At m (numbers (c ∷ calls)) lo 0 b (Meaning.emit line (texts around.strings ps vs) (k env) w1) (pc + pieces_size m.program ps) words1 w1
@@ -263,7 +263,7 @@ module _ (m : Built) where
         let s = slots_of m.program c.func in let fs = m.program in
         let ce = ex_code fs s e h pc in
         let has_p = back m.code c.fn pc (size fs e) ce (raised_code t (temp s h) ∷ []) (length_code fs s e h pc) has in
-        ev_follows m around inputs callees n cf e t (during c env scope held) calls ws _ w words h pc lo b le hh leads.panics (front m.code c.fn pc ce (raised_code t (temp s h) ∷ []) has) fit.1 enough reaches g (λ v w1 words1 iv g1.
+        ev_follows m around types inputs callees n cf e t (during c env scope held) calls ws _ w words h pc lo b le hh leads.panics (front m.code c.fn pc ce (raised_code t (temp s h) ∷ []) has) fit.1 enough reaches g (λ v w1 words1 iv g1.
         turned m {lo1 = suc lo} (omega arith) (raises at t v ws env w1 words1 (temp s h) (pc + size fs e) lo b fit.0 leads.panics has_p.0.0 iv (held_word m (during c env scope held) calls w1 words1 held [] v h hh (plain_value t v fit.0 iv) g1)))
 
     -- an exit, with a status or with a panic
@@ -285,7 +285,7 @@ module _ (m : Built) where
         let s = slots_of m.program c.func in let fs = m.program in
         let ce = ex_code fs s e h pc in
         let has_x = back m.code c.fn pc (size fs e) ce (ExitWith (temp s h) ∷ []) (length_code fs s e h pc) has in
-        ev_follows m around inputs callees n cf e ints (during c env scope held) calls ws _ w words h pc lo b le hh leads.panics (front m.code c.fn pc ce (ExitWith (temp s h) ∷ []) has) fit enough reaches g (λ v w1 words1 iv g1.
+        ev_follows m around types inputs callees n cf e ints (during c env scope held) calls ws _ w words h pc lo b le hh leads.panics (front m.code c.fn pc ce (ExitWith (temp s h) ∷ []) has) fit enough reaches g (λ v w1 words1 iv g1.
         turned m {lo1 = suc lo} (omega arith) (by v w1 words1 iv has_x.0.0 (held_word m (during c env scope held) calls w1 words1 held [] v h hh (plain_value ints v (inl refl) iv) g1)))
       where
         by : (v : Value) (w1 : World) (words1 : List ℕ) → IsOf ints v → slice_get m.code.instrs (pc + size m.program e) ≡ Some (ExitWith (temp (slots_of m.program c.func) h)) → Stands v (slice_index words1 (temp (slots_of m.program c.func) h))

@@ -5,7 +5,7 @@ use Rattle.isa.specs.declared.instr.Instr.{Instr}
 use Rattle.isa.specs.declared.instr.Instr.TheVariants.{Const, Bin, Call, Jump, JumpZero, Return, Exit}
 use Rattle.isa.specs.declared.instr.BinOp.TheVariants as Word
 use Rattle.typed.specs.Frames.{far}
-use Rattle.typed.specs.Syntax.{Ex, Exs, Pl, Steps, here as itself, inner, at_index, Left, Piece, St, Sts, Func, Program, constant, read, unary, binary, both, either, call, part_of, literal, Elements, no_elements, element, local, global, none, more, results, asked, blank, new, to, text, shown, over_int, over_length, over_copy, declare, assign, update, bump, discard, block, choose, loop, range, break_off, go_on, give_back, print, raise, quit, done, next, argument_words, arguments_of, results_of, wide, all_wide, each_width, value_widths, ascend, words_through, gap_behind}
+use Rattle.typed.specs.Syntax.{Ex, Exs, Pl, Steps, here as itself, inner, at_index, Left, Piece, St, Sts, Func, Program, constant, read, unary, binary, both, either, call, part_of, literal, Elements, no_elements, element, local, global, none, more, results, asked, blank, new, to, text, shown, over_int, over_length, over_copy, declare, assign, update, bump, discard, block, choose, loop, range, break_off, go_on, give_back, print, raise, quit, done, next, argument_words, arguments_of, results_of, type_named, wide, all_wide, each_width, value_widths, ascend, words_through, gap_behind}
 use Rattle.value_trees.specs.Types.{ValueType, width, part_type, part_offset}
 use Rattle.simulated_code.specs.Code.{element_code, index_round_code, index_round_size, element_round_code, element_round_size, array_code, Slots, site_slot, site_type, site_words, steps_above, place_above, above_address, lefts_above, index_code, index_count, steps_address, steps_address_size, address_size, place_code, place_size, place_end, steps_code, steps_size, steps_end, ready_code, lefts_sized, lefts_end, first_width, other_widths, temp, operation, binary_code, unary_code, address_code, fetch_code, land_code, read_code, write_code, move_code, move_size, result_code, gap_code, gap_size, moves, elements_code, elements_size, call_code, call_size, ex_code, exs_code, pieces_code, test_code, test_size, size, exs_size, pieces_size, raised_code, show_more, show_plain, show_code, more_size, shown_size, lefts_code, lefts_size, named_write_code, named_read_code, named_read_size, leave_code, leave_size, values_code, values_size, params_code, params_size, zeros_code, renew_code, renew_size, st_code, sts_code, st_size, sts_size, slots_of, entry_code, entry_size, func_code, func_size}
 
@@ -162,9 +162,10 @@ module _ (fs : Program) where
         let one : length (z ∷ j ∷ cb) ≡ suc (suc (length cb)) = refl in
         omega (arith, one, length-append ca (z ∷ j ∷ cb), length_code s a h pc, length_code s b h pb)
     length_code s (call f es) h pc = omega (arith, length-append (exs_code fs s es h pc) (call_code fs s f h), length_exs s es h pc, length_call s f h)
-    length_code s (part_of t i e) h pc =
+    length_code s (part_of n i e) h pc =
+        let t = type_named fs n in
         omega (arith, length_last (ex_code fs s e h pc) (moves (width (part_type t i)) (temp s h) (temp s (h + part_offset t i))), length_code s e h pc)
-    length_code s (literal t es) h pc = omega (arith, length_elements s t (ascend es) es h (pc + 1))
+    length_code s (literal n es) h pc = omega (arith, length_elements s (type_named fs n) (ascend es) es h (pc + 1))
 
     pub length_place : (s : Slots) (p : Pl) (h pc : ℕ) → length (place_code fs s p h pc) ≡ place_size fs p 0
     length_place s (local site steps) h pc = length_steps s steps h pc

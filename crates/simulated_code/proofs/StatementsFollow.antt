@@ -14,28 +14,28 @@ use Rattle.value_trees.specs.Value.{IsOf}
 use Rattle.value_trees.specs.Words.{contents}
 use Rattle.value_trees.specs.Types.{width}
 
-module _ (m : Built) (around : Setting) (strings : around.strings ≡ m.program.strings) (inputs : around.items ≡ m.items) (zero_is : (site : ℕ) → StandIn (contents (Meaning.zero_of around site)) (replicate (width (site_type m.program site)) 0) × IsOf (site_type m.program site) (Meaning.zero_of around site))
+module _ (m : Built) (around : Setting) (strings : around.strings ≡ m.program.strings) (types : around.types ≡ m.program.types) (inputs : around.items ≡ m.items) (zero_is : (site : ℕ) → StandIn (contents (Meaning.zero_of around site)) (replicate (width (site_type m.program site)) 0) × IsOf (site_type m.program site) (Meaning.zero_of around site))
     (callees : Calls) (n : ℕ) (cf : CallsFollow m callees n) (c : Frame) (calls : List Frame) where
   mutual
     exec_follows : (x : St) → Followed m c calls around callees n x
-    exec_follows (declare sites) = declare_follows m around strings inputs zero_is callees n cf c calls sites
-    exec_follows (assign ls es) = assign_follows m around strings inputs zero_is callees n cf c calls ls es
-    exec_follows (update at p op e) = update_follows m around strings inputs zero_is callees n cf c calls at p op e
-    exec_follows (bump p op) = bump_follows m around strings inputs zero_is callees n cf c calls p op
-    exec_follows (discard es) = discard_follows m around strings inputs zero_is callees n cf c calls es
+    exec_follows (declare sites) = declare_follows m around strings types inputs zero_is callees n cf c calls sites
+    exec_follows (assign ls es) = assign_follows m around strings types inputs zero_is callees n cf c calls ls es
+    exec_follows (update at p op e) = update_follows m around strings types inputs zero_is callees n cf c calls at p op e
+    exec_follows (bump p op) = bump_follows m around strings types inputs zero_is callees n cf c calls p op
+    exec_follows (discard es) = discard_follows m around strings types inputs zero_is callees n cf c calls es
     exec_follows (block ss) = all_follow ss
-    exec_follows (choose e x y) = choose_follows m around inputs callees n cf c calls e x y (all_follow x) (all_follow y)
-    exec_follows (loop sites test post body) = loop_follows m around inputs callees n cf c calls sites test post body (all_follow post) (all_follow body)
-    exec_follows (range (over_int e) key value body) = range_follows m around inputs callees n cf c calls e key value body (all_follow body)
-    exec_follows (range (over_length x) key value body) = lengths_follow m around inputs callees n cf c calls x key value body (all_follow body)
-    exec_follows (range (over_copy site e x) key value body) = copies_follow m around inputs callees n cf c calls site e x key value body (all_follow body)
-    exec_follows break_off = break_follows m around strings inputs zero_is callees n cf c calls
-    exec_follows go_on = continue_follows m around strings inputs zero_is callees n cf c calls
-    exec_follows (give_back es) = return_follows m around strings inputs zero_is callees n cf c calls es
-    exec_follows (print line ps) = print_follows m around strings inputs zero_is callees n cf c calls line ps
-    exec_follows (raise at p) = raise_follows m around strings inputs zero_is callees n cf c calls at p
-    exec_follows (quit at e) = quit_follows m around strings inputs zero_is callees n cf c calls at e
+    exec_follows (choose e x y) = choose_follows m around types inputs callees n cf c calls e x y (all_follow x) (all_follow y)
+    exec_follows (loop sites test post body) = loop_follows m around types inputs callees n cf c calls sites test post body (all_follow post) (all_follow body)
+    exec_follows (range (over_int e) key value body) = range_follows m around types inputs callees n cf c calls e key value body (all_follow body)
+    exec_follows (range (over_length x) key value body) = lengths_follow m around types inputs callees n cf c calls x key value body (all_follow body)
+    exec_follows (range (over_copy site e x) key value body) = copies_follow m around types inputs callees n cf c calls site e x key value body (all_follow body)
+    exec_follows break_off = break_follows m around strings types inputs zero_is callees n cf c calls
+    exec_follows go_on = continue_follows m around strings types inputs zero_is callees n cf c calls
+    exec_follows (give_back es) = return_follows m around strings types inputs zero_is callees n cf c calls es
+    exec_follows (print line ps) = print_follows m around strings types inputs zero_is callees n cf c calls line ps
+    exec_follows (raise at p) = raise_follows m around strings types inputs zero_is callees n cf c calls at p
+    exec_follows (quit at e) = quit_follows m around strings types inputs zero_is callees n cf c calls at e
 
     pub all_follow : (xs : Sts) → AllFollowed m c calls around callees n xs
-    all_follow done = done_follows m around inputs callees n cf c calls
-    all_follow (next x xs) = next_follows m around inputs callees n cf c calls x xs (exec_follows x) (all_follow xs)
+    all_follow done = done_follows m around types inputs callees n cf c calls
+    all_follow (next x xs) = next_follows m around types inputs callees n cf c calls x xs (exec_follows x) (all_follow xs)

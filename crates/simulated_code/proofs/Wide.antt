@@ -95,8 +95,8 @@ module _ (p : Program) where
   wide_is scope t (both a b) fit = sym (ap width fit.0)
   wide_is scope t (either a b) fit = sym (ap width fit.0)
   wide_is scope t (call f es) fit = ap results_in fit.1 ∙ one_of fit.0.results t fit.2
-  wide_is scope t (part_of s i e) fit = ap width fit.1
-  wide_is scope t (literal s es) fit = ap width fit.0
+  wide_is scope t (part_of n i e) fit = ap width fit.1
+  wide_is scope t (literal n es) fit = ap width fit.0
 
   pub all_wide_is : (scope : List ℕ) (ts : List ValueType) (es : Exs) → ExsFit p scope ts es → all_wide p es ≡ all_width ts
   all_wide_is scope [] none fit = refl

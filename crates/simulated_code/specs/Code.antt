@@ -16,7 +16,7 @@ use Rattle.typed.specs.declared.operators.UnOp.TheVariants as One
 use Rattle.value_trees.specs.Types.{ValueType, ints, bools, width, part_type, part_offset}
 use Rattle.value_trees.specs.Value.{Value, int, bool, composite}
 use Rattle.value_trees.specs.Paths.{type_at, offset}
-use Rattle.typed.specs.Syntax.{Ex, Exs, Pl, Steps, here, inner, at_index, Left, Piece, St, Sts, Func, Program, constant, read, unary, binary, both, either, call, part_of, literal, Elements, no_elements, element, local, global, none, more, results, asked, blank, new, to, text, shown, over_int, over_length, over_copy, declare, assign, update, bump, discard, block, choose, loop, range, break_off, go_on, give_back, print, raise, quit, done, next, argument_words, result_words, arguments_of, results_of, path_of, wide, all_wide, each_width, value_widths, ascend, words_through, gap_behind}
+use Rattle.typed.specs.Syntax.{Ex, Exs, Pl, Steps, here, inner, at_index, Left, Piece, St, Sts, Func, Program, constant, read, unary, binary, both, either, call, part_of, literal, Elements, no_elements, element, local, global, none, more, results, asked, blank, new, to, text, shown, over_int, over_length, over_copy, declare, assign, update, bump, discard, block, choose, loop, range, break_off, go_on, give_back, print, raise, quit, done, next, argument_words, result_words, arguments_of, results_of, type_named, path_of, wide, all_wide, each_width, value_widths, ascend, words_through, gap_behind}
 use Rattle.typed.specs.Frames.{steps_far, far, words_between, outgoing_of, temps_of, frame_of}
 use Rattle.heap_bump.specs.Words.{first_address}
 
@@ -367,8 +367,8 @@ module _ (p : Program) where
     size (both a b) = size a + 1 + size b
     size (either a b) = size a + 2 + size b
     size (call f es) = exs_size es + call_size f
-    size (part_of t i e) = size e + 1
-    size (literal t es) = 1 + elements_size t (ascend es) es
+    size (part_of n i e) = size e + 1
+    size (literal n es) = 1 + elements_size (type_named p n) (ascend es) es
 
     -- of the operands of a place, and of so many behind them
     pub place_size : Pl → (behind : ℕ) → ℕ
@@ -439,8 +439,8 @@ module _ (p : Program) where
     ex_code s (either a b) h pc =
         ex_code s a h pc ++ JumpZero (temp s h) (pc + size a + 2) ∷ (Jump (pc + size a + 2 + size b) ∷ ex_code s b h (pc + size a + 2))
     ex_code s (call f es) h pc = exs_code s es h pc ++ call_code s f h
-    ex_code s (part_of t i e) h pc = ex_code s e h pc ++ moves (width (part_type t i)) (temp s h) (temp s (h + part_offset t i)) ∷ []
-    ex_code s (literal t es) h pc = zeros (width t) (temp s h) ∷ elements_code s t (ascend es) es h (pc + 1)
+    ex_code s (part_of n i e) h pc = ex_code s e h pc ++ moves (width (part_type (type_named p n) i)) (temp s h) (temp s (h + part_offset (type_named p n) i)) ∷ []
+    ex_code s (literal n es) h pc = zeros (width (type_named p n)) (temp s h) ∷ elements_code s (type_named p n) (ascend es) es h (pc + 1)
 
     -- the operands of a place land in temps from h on
     pub place_code : Slots → Pl → (h pc : ℕ) → List Instr

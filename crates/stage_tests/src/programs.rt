@@ -1,10 +1,14 @@
 //! Typed programs, written down in short: a local variable is the number of its site behind a `v`, a package variable its own behind a `g`, a function that of itself behind an `f`, a
-//! string that of itself behind an `s`; a place is a column behind an `@`.
+//! string that of itself behind an `s`, a type that of itself behind a `t`; a step to a field or an element is its number behind a `.`, one to an element by an index is the
+//! index in brackets; a place in the text is a column behind an `@`.
 
 use base::{Pos, SiteId, TypeId};
 use std::alloc::AllocError;
 use std::str::from_utf8;
-use typed::{BOOL, BinOp, Const, Expr, Func, INT, Left, Piece, Place, Program, Stmt, UnOp, Values};
+use typed::{
+    BOOL, BinOp, Const, Element, Expr, Func, INT, Left, Piece, Place, Program, Step, Stmt, UnOp,
+    Values,
+};
 
 fn prefix_sign(op: UnOp) -> &'static str {
     match op {
@@ -74,11 +78,34 @@ fn write_sites(sites: &[SiteId], out: &mut String) -> Result<(), AllocError> {
 }
 
 /// A place behind a space.
-fn write_place(place: Place, out: &mut String) -> Result<(), AllocError> {
+#[cycle(expressions)]
+fn write_place(place: &Place, out: &mut String) -> Result<(), AllocError> {
     match place {
-        Place::Local(site) => write!(out, " v{}", site.0),
-        Place::Global(number) => write!(out, " g{number}"),
+        Place::Local(site, steps) => {
+            write!(out, " v{}", site.0)?;
+            write_steps(steps, out)
+        }
+        Place::Global(number, steps) => {
+            write!(out, " g{number}")?;
+            write_steps(steps, out)
+        }
     }
+}
+
+/// The steps to a part; an index has its place and the number of elements.
+#[cycle(expressions)]
+fn write_steps(steps: &[Step], out: &mut String) -> Result<(), AllocError> {
+    for step in steps {
+        match step {
+            Step::Inner(number) => write!(out, ".{number}")?,
+            Step::Index(pos, e, count) => {
+                out.push('[')?;
+                write_expr(e, out)?;
+                write!(out, " of {count}]@{}", pos.col)?;
+            }
+        }
+    }
+    Ok(())
 }
 
 /// An expression behind a space.
@@ -87,7 +114,7 @@ fn write_expr(e: &Expr, out: &mut String) -> Result<(), AllocError> {
     match e {
         Expr::Constant(Const::Int(n)) => write!(out, " {n}"),
         Expr::Constant(Const::Bool(b)) => write!(out, " {b}"),
-        Expr::Read(place) => write_place(*place, out),
+        Expr::Read(place) => write_place(place, out),
         Expr::Unary(op, operand) => {
             write!(out, " ({}", prefix_sign(*op))?;
             write_expr(operand, out)?;
@@ -100,24 +127,47 @@ fn write_expr(e: &Expr, out: &mut String) -> Result<(), AllocError> {
             write_expr(right, out)?;
             out.push(')')
         }
-        Expr::Both(left, right) => {
-            out.push_str(" (&&")?;
-            write_expr(left, out)?;
-            write_expr(right, out)?;
-            out.push(')')
-        }
-        Expr::Either(left, right) => {
-            out.push_str(" (||")?;
-            write_expr(left, out)?;
-            write_expr(right, out)?;
-            out.push(')')
-        }
+        Expr::Both(left, right) => write_two("&&", left, right, out),
+        Expr::Either(left, right) => write_two("||", left, right, out),
         Expr::Call(function, arguments) => {
             write!(out, " (f{}", function.0)?;
             write_values(arguments, out)?;
             out.push(')')
         }
+        Expr::Part(type_id, number, whole) => {
+            write!(out, " (t{}", type_id.0)?;
+            write_expr(whole, out)?;
+            write!(out, ").{number}")
+        }
+        Expr::Literal(type_id, elements) => {
+            write!(out, " (t{} of", type_id.0)?;
+            write_elements(elements, out)?;
+            out.push(')')
+        }
     }
+}
+
+/// `&&` or `||`, and its operands.
+#[cycle(expressions)]
+fn write_two(sign: &str, left: &Expr, right: &Expr, out: &mut String) -> Result<(), AllocError> {
+    write!(out, " ({sign}")?;
+    write_expr(left, out)?;
+    write_expr(right, out)?;
+    out.push(')')
+}
+
+/// Elements, each with its number behind a space.
+#[cycle(expressions)]
+fn write_elements(elements: &[Element], out: &mut String) -> Result<(), AllocError> {
+    for element in elements {
+        match element {
+            Element::For(number, e) => {
+                write!(out, " .{number}")?;
+                write_expr(e, out)?;
+            }
+        }
+    }
+    Ok(())
 }
 
 /// Values, each behind a space; all results of one call are behind an `all`.
@@ -140,7 +190,7 @@ fn write_values(values: &Values, out: &mut String) -> Result<(), AllocError> {
 }
 
 /// A left side behind a space; a new variable is behind a `+`.
-fn write_left(left: Left, out: &mut String) -> Result<(), AllocError> {
+fn write_left(left: &Left, out: &mut String) -> Result<(), AllocError> {
     match left {
         Left::Blank => out.push_str(" _"),
         Left::New(site) => write!(out, " +v{}", site.0),
@@ -150,7 +200,7 @@ fn write_left(left: Left, out: &mut String) -> Result<(), AllocError> {
 
 fn write_lefts(lefts: &[Left], out: &mut String) -> Result<(), AllocError> {
     for left in lefts {
-        write_left(*left, out)?;
+        write_left(left, out)?;
     }
     Ok(())
 }
@@ -190,12 +240,12 @@ fn write_plain(stmt: &Stmt, out: &mut String) -> Result<(), AllocError> {
         Stmt::Update(pos, place, op, e) => {
             write_sign(*op, *pos, out)?;
             out.push('=')?;
-            write_place(*place, out)?;
+            write_place(place, out)?;
             write_expr(e, out)
         }
         Stmt::Bump(place, op) => {
             write!(out, "{}1", sign(*op))?;
-            write_place(*place, out)
+            write_place(place, out)
         }
         Stmt::Discard(values) => {
             out.push_str("do")?;
@@ -223,6 +273,28 @@ fn write_plain(stmt: &Stmt, out: &mut String) -> Result<(), AllocError> {
     }
 }
 
+/// The header of a `range`.
+fn write_range(stmt: &Stmt, out: &mut String) -> Result<(), AllocError> {
+    match stmt {
+        Stmt::Count(e, left, _) => {
+            out.push_str(" (count")?;
+            write_expr(e, out)?;
+            write_left(left, out)
+        }
+        Stmt::Indices(count, left, _) => {
+            write!(out, " (indices {count}")?;
+            write_left(left, out)
+        }
+        Stmt::Elements(site, e, count, key, value, _) => {
+            write!(out, " (elements v{} of {count}", site.0)?;
+            write_expr(e, out)?;
+            write_left(key, out)?;
+            write_left(value, out)
+        }
+        _ => out.push('?'),
+    }
+}
+
 #[cycle(statements)]
 fn write_stmt(stmt: &Stmt, out: &mut String) -> Result<(), AllocError> {
     match stmt {
@@ -246,13 +318,12 @@ fn write_stmt(stmt: &Stmt, out: &mut String) -> Result<(), AllocError> {
             write_block(body, out)?;
             out.push(')')
         }
-        Stmt::Count(e, left, body) => {
-            out.push_str(" (count")?;
-            write_expr(e, out)?;
-            write_left(*left, out)?;
-            write_block(body, out)?;
-            out.push(')')
-        }
+        Stmt::Count(_, _, body) | Stmt::Indices(_, _, body) | Stmt::Elements(_, _, _, _, _, body) =>
+            {
+                write_range(stmt, out)?;
+                write_block(body, out)?;
+                out.push(')')
+            }
         plain => {
             out.push_str(" (")?;
             write_plain(plain, out)?;

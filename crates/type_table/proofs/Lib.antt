@@ -10,3 +10,4 @@ pub mod Telling
 pub mod Beginning
 pub mod Offsets
 pub mod Passing
+pub mod PartTrees

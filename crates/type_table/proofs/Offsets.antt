@@ -30,6 +30,17 @@ offset_is T (e ∷ es) xs (suc i) p =
     ap (λ x. widths_before x (suc i)) (sym m.4) ∙ ap₂ (λ a b. a + b) (sym (ap (λ o. unwrap_or (option_map width o) 0) m.2)) (offset_is T es m.1 i m.3)
     ∙ sym (sum_by-cons (λ e. unwrap_or (words_at T e.0) 0) e (take i es))
 
+-- a struct that's told has the tree of its fields
+pub struct_parts : (T : Table) → IsFormed T → (r : StructId) (fs : List TypeId) → fields_of T r.0 ≡ Some fs → (xs : PartTypes) × (parts_by T (tree_of T) fs ≡ Some xs) × (tree_of T (Struct r) ≡ Some (struct_of xs))
+struct_parts T formed r fs p = by (parts_by T (tree_of T) fs) refl
+  where
+    tree : tree_of T (Struct r) ≡ option_map struct_of (parts_by T (tree_of T) fs)
+    tree = made T formed (Struct r) ∙ ap (option_and_then (λ gs. option_map struct_of (parts_by T (tree_of T) gs))) p
+
+    by : (o : Option PartTypes) → parts_by T (tree_of T) fs ≡ o → (xs : PartTypes) × (parts_by T (tree_of T) fs ≡ Some xs) × (tree_of T (Struct r) ≡ Some (struct_of xs))
+    by None e = let x = told_tree T formed r fs p in absurd cc (tree ∙ ap (option_map struct_of) e, x.1)
+    by (Some xs) e = (xs, e, tree ∙ ap (option_map struct_of) e)
+
 module _ (types : List ValueType) (told : List (Option Told)) (words : List (Option ℕ)) (formed : IsFormed (table_of types told)) (counted : IsCounted (table_of types told) words told) where
   abbrev T : Table
   T = table_of types told
@@ -51,27 +62,16 @@ module _ (types : List ValueType) (told : List (Option Told)) (words : List (Opt
   pub sum_known : (es : List TypeId) → sum_by (λ e. known words e.0) es ≡ sum_of T es
   sum_known es = λ j. sum_by (λ e. known_is e.0 j) es
 
-  -- a struct that's told has the tree of its fields
-  struct_parts : (r : StructId) (fs : List TypeId) → fields_of T r.0 ≡ Some fs → (xs : PartTypes) × (parts_by T (tree_of T) fs ≡ Some xs) × (tree_of T (Struct r) ≡ Some (struct_of xs))
-  struct_parts r fs p = by (parts_by T (tree_of T) fs) refl
-    where
-      tree : tree_of T (Struct r) ≡ option_map struct_of (parts_by T (tree_of T) fs)
-      tree = made T formed (Struct r) ∙ ap (option_and_then (λ gs. option_map struct_of (parts_by T (tree_of T) gs))) p
-
-      by : (o : Option PartTypes) → parts_by T (tree_of T) fs ≡ o → (xs : PartTypes) × (parts_by T (tree_of T) fs ≡ Some xs) × (tree_of T (Struct r) ≡ Some (struct_of xs))
-      by None e = let x = told_tree T formed r fs p in absurd cc (tree ∙ ap (option_map struct_of) e, x.1)
-      by (Some xs) e = (xs, e, tree ∙ ap (option_map struct_of) e)
-
   -- the words in front of a field
   pub offset_kept : (r : StructId) (fs : List TypeId) (i : ℕ) → fields_of T r.0 ≡ Some fs → sum_by (λ e. known words e.0) (take i fs) ≡ offset_in (tree_of T (Struct r)) i
   offset_kept r fs i p =
-      let x = struct_parts r fs p in
+      let x = struct_parts T formed r fs p in
       sum_known (take i fs) ∙ sym (offset_is T fs x.0 i x.1) ∙ sym (ap (λ o. offset_in o i) x.2)
 
   -- are within the limit
   pub offset_limit : (r : StructId) (fs : List TypeId) (i : ℕ) → fields_of T r.0 ≡ Some fs → sum_by (λ e. known words e.0) (take i fs) ≤ 65535
   offset_limit r fs i p =
-      let x = struct_parts r fs p in
+      let x = struct_parts T formed r fs p in
       let w : words_of T (Struct r) ≡ Some (widths x.0) = ap (option_map width) x.2 in
       let l = (formed.structs r (widths x.0) w).1 in
       let t = sum_by-take-le (λ e. known words e.0) fs i in

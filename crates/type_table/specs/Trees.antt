@@ -1,6 +1,6 @@
 -- The types of a table as trees.
-use Rattle.std.specs.Prelude.{ℕ, zero, suc, ◌*◌, List, [], ◌∷◌, length, slice_get, Option, None, Some}
-use Rattle.std.specs.Option.{option_map, option_and_then}
+use Rattle.std.specs.Prelude.{ℕ, zero, suc, ◌*◌, List, [], ◌∷◌, length, map, get_or, slice_get, Option, None, Some}
+use Rattle.std.specs.Option.{unwrap_or, option_map, option_and_then}
 use Rattle.value_trees.specs.Types.{ValueType as Tree, PartTypes, ints, bools, struct_of, array_of, no_types, more_types, width, part_offset}
 use Rattle.base.specs.declared.ids.TypeId.{TypeId}
 use Rattle.type_table.specs.declared.value_type.ValueType.{ValueType}
@@ -45,3 +45,10 @@ words_of T t = option_map width (tree_of T t)
 abbrev pub offset_in : Option Tree → ℕ → ℕ
 offset_in None i = 0
 offset_in (Some t) i = part_offset t i
+
+-- the trees of the types by their numbers; what has none counts as a whole number
+abbrev pub trees : Table → List Tree
+trees T = map (λ t. unwrap_or (tree_of T t) ints) T.types
+
+abbrev pub tree_named : Table → ℕ → Tree
+tree_named T i = get_or (trees T) i ints

@@ -11,10 +11,12 @@
 //!
 //! `specs/Tables` says what a contract sees of a table: the list of its types, and the fields of the structs that are told.
 //! `specs/Trees` gives each type its tree (`value_trees`), from which its words and the offsets of its parts follow: a
-//! total function of the table, with `tree_by` as its equation. `specs/Formed` says what holds of each table, and what is refused.
+//! total function of the table, with `tree_by` as its equation. `width`, `part` and `part_offset` answer by the tree of the type that
+//! has a number; where there is none, by that of whole numbers. `specs/Formed` says what holds of each table, and what is refused.
 #![tactic(auto)]
 
 mod fault;
+mod parts;
 mod sizes;
 mod table;
 mod told;

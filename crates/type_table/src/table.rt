@@ -3,10 +3,11 @@
 ghost use Rattle.std.specs.Prelude.{◌≡◌, ◌⊎◌, ◌<◌, ℕ, [], ◌∷◌, Option, None, Some, true, false, IsSome, All, length, map, replicate, OnOk, OnErr, IfOk, IfSome, MatchResult};
 ghost use Rattle.std.specs.List.{list_any};
 ghost use Rattle.std.specs.Option.{option_map, option_copied, unwrap_or};
+ghost use Rattle.value_trees.specs.Types.{ints, bools};
 ghost use Rattle.type_table.specs.declared.value_type.ValueType.TheVariants.{Int, Bool as Truth, Struct};
 ghost use Rattle.type_table.specs.declared.fault.TableFault.TheVariants.{NoMemory as OutOfMemory, TooLarge as TypeTooLarge};
 ghost use Rattle.type_table.specs.Tables.{Holds, finished, type_at, fields_of, number_of, with_type, with_fields};
-ghost use Rattle.type_table.specs.Trees.{tree_of, words_of, offset_in};
+ghost use Rattle.type_table.specs.Trees.{trees, tree_of, words_of, offset_in};
 ghost use Rattle.type_table.specs.Words.{IsInLimits, allowed};
 ghost use Rattle.type_table.specs.Formed.{IsFormed, TreesAreMade, KeepsTrees, Stands, HasWords, words_at, refusal, sum_of, is_too_large, struct_refusal};
 
@@ -55,6 +56,7 @@ impl TypeTable {
     pub fn new(alloc: Global, structs: u32) -> Result<TypeTable, NoMemory>
         ensures basic { IfOk result (λ t. t ≡ record { types = Int ∷ Truth ∷ []; structs = replicate structs None }) }
         ensures formed { IfOk result IsFormed }
+        ensures trees { IfOk result (λ t. trees t ≡ ints ∷ bools ∷ []) }
     {
         let mut types = IndexSet::new(alloc);
         types.insert(ValueType::Int)?;
@@ -77,6 +79,7 @@ impl TypeTable {
         ensures number { option_map (λ id. id.0) result ≡ number_of self.now value_type }
         ensures held { IfSome result (λ id. Holds self.now id.0 value_type) }
         ensures within { IfSome result (λ id. id.0 < length self.now.types) }
+        ensures formed { IsFormed self.now }
     {
         let index = self.types.get_index_of(&value_type)?;
         Some(TypeId(index as u32))
@@ -84,7 +87,8 @@ impl TypeTable {
 
     /// The type that has a number; where none has it, `Int`.
     pub fn type_at(&self, id: TypeId) -> ValueType
-        ensures { result ≡ type_at self.now id.0 }
+        ensures is { result ≡ type_at self.now id.0 }
+        ensures formed { IsFormed self.now }
     {
         match self.types.get_index(id.0 as usize) {
             Some(value_type) => *value_type,

@@ -39,11 +39,22 @@ fn structs_hold_each_other(rt: HostRuntime) -> Result<(), Fail> {
     tell(&mut table, LINE, vec![in rt.alloc(); ends, BOOL]?)?;
     assert_eq!(rt; table.words(ValueType::Struct(LINE)), Some(5));
     assert_eq!(rt; table.field_offset(LINE, 1), 4);
+    let line = table.enter(ValueType::Struct(LINE))?;
+    assert_eq!(rt; table.width(line), 5);
+    assert_eq!(rt; table.part(line, 0), ends);
+    assert_eq!(rt; table.part(line, 1), BOOL);
+    assert_eq!(rt; table.part(line, 2), INT);
+    assert_eq!(rt; table.int(), INT);
+    assert_eq!(rt; table.part_offset(line, 1), 4);
+    assert_eq!(rt; table.part(ends, 1), point);
+    assert_eq!(rt; table.part(ends, 2), INT);
+    assert_eq!(rt; table.part_offset(ends, 1), 2);
+    assert_eq!(rt; table.part_offset(ends, 3), 4);
     assert_eq!(rt; table.type_at(ends), ValueType::Array(2, point));
     assert_eq!(rt; table.find(ValueType::Array(2, point)), Some(ends));
     assert_eq!(rt; table.find(ValueType::Array(3, point)), None);
     let program = table.finish()?;
-    assert_eq!(rt; program.types.len(), 4);
+    assert_eq!(rt; program.types.len(), 5);
     assert_eq!(rt; program.structs.len(), 2);
     Ok(())
 }

@@ -1,5 +1,5 @@
 -- What holds of each program that the checker gives.
-use Rattle.std.specs.Prelude.{◌≡◌, ◌⊎◌, ⊤, ℕ, suc, pos, ◌+◌, ◌<◌, ◌≤◌, ◌^◌, Bool, true, false, not, List, [], ◌∷◌, Option, Some, None, length, map, get_or, slice_get, ◌&&◌, ◌||◌, FitsSigned}
+use Rattle.std.specs.Prelude.{◌≡◌, ◌⊎◌, ⊤, ℕ, suc, ◌+◌, ◌<◌, ◌≤◌, ◌^◌, Bool, true, false, not, List, [], ◌∷◌, Option, Some, None, length, map, slice_get, ◌&&◌, ◌||◌, FitsSigned}
 use Rattle.std.specs.Int.{w64}
 use Rattle.typed.specs.declared.operators.BinOp.{BinOp}
 use Rattle.typed.specs.declared.operators.BinOp.TheVariants.{Add, Sub, Equal, NotEqual, Less, LessEqual, Greater, GreaterEqual}
@@ -7,7 +7,7 @@ use Rattle.typed.specs.declared.operators.UnOp.{UnOp}
 use Rattle.typed.specs.declared.operators.UnOp.TheVariants.{Not}
 use Rattle.value_trees.specs.Types.{ValueType, ints, bools, array_of, width, part_count, part_type}
 use Rattle.value_trees.specs.Value.{Value, int, bool, composite, IsOf}
-use Rattle.typed.specs.Syntax.{Ex, Exs, Pl, Left, Piece, Over, St, Sts, Func, Program, constant, read, unary, binary, both, either, call, part_of, literal, Elements, no_elements, element, local, global, none, more, results, asked, blank, new, to, text, shown, over_int, over_length, over_copy, declare, assign, update, bump, discard, block, choose, loop, range, break_off, go_on, give_back, print, raise, quit, done, next, Steps, here, inner, at_index, argument_words, result_words, site_type, global_type}
+use Rattle.typed.specs.Syntax.{Ex, Exs, Pl, Left, Piece, Over, St, Sts, Func, Program, constant, read, unary, binary, both, either, call, part_of, literal, Elements, no_elements, element, local, global, none, more, results, asked, blank, new, to, text, shown, over_int, over_length, over_copy, declare, assign, update, bump, discard, block, choose, loop, range, break_off, go_on, give_back, print, raise, quit, done, next, Steps, here, inner, at_index, argument_words, result_words, type_named, site_type, global_type}
 
 -- ---- types
 
@@ -181,8 +181,8 @@ module _ (p : Program) where
     ExFits scope t (both a b) = (t ≡ bools) × ExFits scope bools a × ExFits scope bools b
     ExFits scope t (either a b) = (t ≡ bools) × ExFits scope bools a × ExFits scope bools b
     ExFits scope t (call f es) = (func : Func) × (slice_get p.funcs f ≡ Some func) × (func.results ≡ t ∷ []) × ExsFit scope func.param_types es
-    ExFits scope t (part_of s i e) = (i < part_count s) × (part_type s i ≡ t) × (0 < width t) × ExFits scope s e
-    ExFits scope t (literal s es) = (s ≡ t) × (0 < width s) × ElementsFit scope s es
+    ExFits scope t (part_of n i e) = (i < part_count (type_named p n)) × (part_type (type_named p n) i ≡ t) × (0 < width t) × ExFits scope (type_named p n) e
+    ExFits scope t (literal n es) = (type_named p n ≡ t) × (0 < width t) × ElementsFit scope t es
 
     -- elements of a struct or an array of a type; each has a word at least
     pub ElementsFit : List ℕ → ValueType → Elements → Type 0

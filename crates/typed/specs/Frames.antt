@@ -1,9 +1,9 @@
 -- The words of a frame, from its lowest address: the outgoing area, in which the arguments of a call stand and then its
 -- results; the temps that values are worked out in; the words of each site; the link and the return place.
-use Rattle.std.specs.Prelude.{ℕ, zero, suc, ◌+◌, Bool, true, false, List, [], ◌∷◌, Option, Some, None, length, max, get_or, slice_get}
+use Rattle.std.specs.Prelude.{ℕ, zero, suc, ◌+◌, Bool, true, false, List, [], ◌∷◌, Option, Some, None, max, get_or, slice_get}
 use Rattle.value_trees.specs.Types.{ValueType, ints, width, part_type, part_offset}
 use Rattle.value_trees.specs.Value.{words}
-use Rattle.typed.specs.Syntax.{Ex, Exs, Pl, Steps, here, inner, at_index, Left, Piece, Over, St, Sts, Func, Program, constant, read, unary, binary, both, either, call, part_of, literal, Elements, no_elements, element, local, global, none, more, results, asked, blank, new, to, text, shown, over_int, over_length, over_copy, declare, assign, update, bump, discard, block, choose, loop, range, break_off, go_on, give_back, print, raise, quit, done, next, arguments_of, results_of, site_type, site_width, place_width, wide, all_wide, ascend}
+use Rattle.typed.specs.Syntax.{Ex, Exs, Pl, Steps, here, inner, at_index, Left, Piece, Over, St, Sts, Func, Program, constant, read, unary, binary, both, either, call, part_of, literal, Elements, no_elements, element, local, global, none, more, results, asked, blank, new, to, text, shown, over_int, over_length, over_copy, declare, assign, update, bump, discard, block, choose, loop, range, break_off, go_on, give_back, print, raise, quit, done, next, arguments_of, results_of, type_named, site_type, site_width, place_width, wide, all_wide, ascend}
 
 -- the words of the address of a place, where it is reached by one: of a package variable, and of a part by an index that is
 -- worked out
@@ -47,8 +47,8 @@ module _ (p : Program) where
     need (both a b) = max (need a) (need b)
     need (either a b) = max (need a) (need b)
     need (call f es) = max (need_all es) (results_of p f)
-    need (part_of t i e) = need e
-    need (literal t es) = max (width t) (elements_need t (ascend es) es)
+    need (part_of n i e) = need e
+    need (literal n es) = max (width (type_named p n)) (elements_need (type_named p n) (ascend es) es)
 
     -- the operands of a place, one behind the other, and so many behind them
     pub place_need : Pl → (behind : ℕ) → ℕ
@@ -96,8 +96,8 @@ module _ (p : Program) where
     reach (both a b) = max (reach a) (reach b)
     reach (either a b) = max (reach a) (reach b)
     reach (call f es) = max (reach_all es) (arguments_of p f + results_of p f)
-    reach (part_of t i e) = reach e
-    reach (literal t es) = elements_reach es
+    reach (part_of n i e) = reach e
+    reach (literal n es) = elements_reach es
 
     -- of the operands of a place, and of what comes with them
     pub place_reach : Pl → (others : ℕ) → ℕ

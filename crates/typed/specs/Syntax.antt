@@ -1,5 +1,5 @@
 -- The typed program as abstract syntax, without vectors and pointers.
-use Rattle.std.specs.Prelude.{ℕ, zero, suc, pos, ◌+◌, ◌-◌, Bool, true, ◌&&◌, nat_le, List, [], ◌∷◌, Option, Some, None, get_or, slice_get}
+use Rattle.std.specs.Prelude.{ℕ, suc, pos, ◌+◌, ◌-◌, Bool, true, ◌&&◌, nat_le, List, [], ◌∷◌, Option, Some, None, get_or, slice_get}
 use Rattle.base.specs.declared.pos.Pos.{Pos}
 use Rattle.value_trees.specs.Types.{ValueType, ints, width, part_type, part_offset}
 use Rattle.value_trees.specs.Value.{Value, int}
@@ -34,10 +34,10 @@ mutual
     either : Ex → Ex → Ex
     -- a function by its number, with one result
     call : ℕ → Exs → Ex
-    -- a field or an element, by its number, of a value of a type that is no place
-    part_of : ValueType → ℕ → Ex → Ex
-    -- a struct or an array, by its type; what no element is for is zero
-    literal : ValueType → Elements → Ex
+    -- a field or an element, by its number, of a value that is no place, of a type by its number
+    part_of : ℕ → ℕ → Ex → Ex
+    -- a struct or an array of a type by its number; what no element is for is zero
+    literal : ℕ → Elements → Ex
 
   -- the elements of a literal in the order of the text, each with the number of the field or the element that it is for
   pub data Elements : Type 0 where
@@ -114,10 +114,11 @@ pub record Func : Type 0 where
   pub named : List ℕ
   pub body : Sts
 
--- the functions, the type of each site, the bytes of each string, the package variables with their sites and their first
+-- the functions, the types by their numbers, the type of each site, the bytes of each string, the package variables with their sites and their first
 -- values, and the number of `main`
 pub record Program : Type 0 where
   pub funcs : List Func
+  pub types : List ValueType
   pub sites : List ValueType
   pub strings : List (List ℕ)
   pub globals : List (ℕ × Value)
@@ -149,6 +150,13 @@ arguments_of p f = arguments_in (slice_get p.funcs f)
 
 abbrev pub results_of : Program → ℕ → ℕ
 results_of p f = results_in (slice_get p.funcs f)
+
+-- the type that has a number among these; what has none is a number
+abbrev pub type_in : List ValueType → ℕ → ValueType
+type_in types n = get_or types n ints
+
+abbrev pub type_named : Program → ℕ → ValueType
+type_named p n = type_in p.types n
 
 -- the type of a site
 abbrev pub site_type : Program → ℕ → ValueType
@@ -183,8 +191,8 @@ place_width p q = width (place_type p q)
 abbrev pub wide : Program → Ex → ℕ
 wide p (read q) = place_width p q
 wide p (call f es) = results_of p f
-wide p (part_of t i e) = width (part_type t i)
-wide p (literal t es) = width t
+wide p (part_of n i e) = width (part_type (type_named p n) i)
+wide p (literal n es) = width (type_named p n)
 wide p e = 1
 
 abbrev pub all_wide : Program → Exs → ℕ

@@ -1,37 +1,39 @@
 -- The abstract syntax of typed programs.
-use Rattle.std.specs.Prelude.{ℕ, zero, suc, List, [], ◌∷◌, Option, Some, None, map, get_or}
+use Rattle.std.specs.Prelude.{ℕ, List, [], ◌∷◌, Option, Some, None, map, get_or}
 use Rattle.base.specs.declared.ids.SiteId.{SiteId}
 use Rattle.typed.specs.declared.expr.Const.{Const}
 use Rattle.typed.specs.declared.expr.Const.TheVariants.{Int, Bool}
-use Rattle.typed.specs.declared.expr.Place.{Place}
-use Rattle.typed.specs.declared.expr.Place.TheVariants.{Local, Global}
-use Rattle.typed.specs.declared.expr.Expr.{Expr, Constant, Read, Unary', Binary', Both', Either', Call'}
+use Rattle.typed.specs.declared.expr.Step.{Step}
+use Rattle.typed.specs.declared.expr.Step.TheVariants as way
+use Rattle.typed.specs.declared.expr.Place.{Place, Row_of-Step, end_of-Step, more_of-Step, Local', Global'}
+use Rattle.typed.specs.declared.expr.Element.{Element}
+use Rattle.typed.specs.declared.expr.Element.TheVariants as item
+use Rattle.typed.specs.declared.expr.Expr.{Expr, Row_of-Element, end_of-Element, more_of-Element, Constant, Read, Unary', Binary', Both', Either', Call', Part', Literal'}
 use Rattle.typed.specs.declared.expr.Values.{Values, Row_of-Expr, end_of-Expr, more_of-Expr, Each', Results', ReadInt}
 use Rattle.typed.specs.declared.stmt.Left.{Left as LeftData}
 use Rattle.typed.specs.declared.stmt.Left.TheVariants.{Blank, New, To}
 use Rattle.typed.specs.declared.stmt.Piece.{Piece as PieceData}
 use Rattle.typed.specs.declared.stmt.Piece.TheVariants.{Text, Shown}
-use Rattle.typed.specs.declared.stmt.Stmt.{Stmt, Row_of-Stmt, end_of-Stmt, more_of-Stmt, Declare, Assign, Update, Bump, Discard, Block', If', Loop', Count', Break, Continue, Return, Print, Panic, Exit}
+use Rattle.typed.specs.declared.stmt.Stmt.{Stmt, Row_of-Stmt, end_of-Stmt, more_of-Stmt, Declare, Assign, Update, Bump, Discard, Block', If', Loop', Count', Indices', Elements', Break, Continue, Return, Print, Panic, Exit}
 use Rattle.typed.specs.declared.program.Func.{Func as FuncData}
 use Rattle.typed.specs.declared.program.PackageVariable.{PackageVariable}
 use Rattle.typed.specs.declared.program.Site.{Site}
 use Rattle.typed.specs.declared.program.Program.{Program as ProgramData}
+use Rattle.type_table.specs.Trees.{trees}
 use Rattle.value_trees.specs.Types.{ValueType, ints, bools}
 use Rattle.value_trees.specs.Value.{Value, int, bool, zero_of}
-use Rattle.typed.specs.Syntax.{Ex, Exs, Pl, Left, Piece, St, Sts, Func, Program, constant, read, unary, binary, both, either, call, local, global, here, none, more, results, asked, blank, new, to, text, shown, over_int, declare, assign, update, bump, discard, block, choose, loop, range, break_off, go_on, give_back, print, raise, quit, done, next}
+use Rattle.typed.specs.Syntax.{Ex, Exs, Pl, Steps, Elements, Left, Piece, St, Sts, Func, Program, constant, read, unary, binary, both, either, call, part_of, literal, no_elements, element, local, global, here, inner, at_index, none, more, results, asked, blank, new, to, text, shown, over_int, over_length, over_copy, declare, assign, update, bump, discard, block, choose, loop, range, break_off, go_on, give_back, print, raise, quit, done, next, type_in}
 
--- the types of whole numbers and of truth values, by their numbers
+-- the types of whole numbers and of truth values, by their numbers: they come first in each table
+abbrev pub basic_types : List ValueType
+basic_types = ints ∷ bools ∷ []
+
 abbrev pub type_of : ℕ → ValueType
-type_of (suc zero) = bools
-type_of t = ints
+type_of n = type_in basic_types n
 
 abbrev pub value_of : Const → Value
 value_of (Int z) = int z
 value_of (Bool b) = bool b
-
-abbrev pub place_of : Place → Pl
-place_of (Local site) = local site.0 here
-place_of (Global number) = global number here
 
 abbrev mutual
   pub ex_of : Expr → Ex
@@ -42,6 +44,21 @@ abbrev mutual
   ex_of (Both' p a q b) = both (ex_of a) (ex_of b)
   ex_of (Either' p a q b) = either (ex_of a) (ex_of b)
   ex_of (Call' f p vs) = call f.0 (exs_of_values vs)
+  ex_of (Part' t i p e) = part_of t.0 i (ex_of e)
+  ex_of (Literal' t shape row) = literal t.0 (elements_of_row row)
+
+  pub place_of : Place → Pl
+  place_of (Local' site shape row) = local site.0 (steps_of_row row)
+  place_of (Global' number shape row) = global number (steps_of_row row)
+
+  pub steps_of_row : {m : _} → Row_of-Step m → Steps
+  steps_of_row end_of-Step = here
+  steps_of_row (more_of-Step (way.Inner i) rest) = inner i (steps_of_row rest)
+  steps_of_row (more_of-Step (way.Index at e n) rest) = at_index at (ex_of e) n (steps_of_row rest)
+
+  pub elements_of_row : {m : _} → Row_of-Element m → Elements
+  elements_of_row end_of-Element = no_elements
+  elements_of_row (more_of-Element (item.For i e) rest) = element i (ex_of e) (elements_of_row rest)
 
   pub exs_of_row : {m : _} → Row_of-Expr m → Exs
   exs_of_row end_of-Expr = none
@@ -56,6 +73,15 @@ abbrev mutual
 abbrev pub exs_of : List Expr → Exs
 exs_of [] = none
 exs_of (e ∷ es) = more (ex_of e) (exs_of es)
+
+abbrev pub steps_of : List Step → Steps
+steps_of [] = here
+steps_of (way.Inner i ∷ steps) = inner i (steps_of steps)
+steps_of (way.Index at e n ∷ steps) = at_index at (ex_of e) n (steps_of steps)
+
+abbrev pub elements_of : List Element → Elements
+elements_of [] = no_elements
+elements_of (item.For i e ∷ es) = element i (ex_of e) (elements_of es)
 
 abbrev pub left_of : LeftData → Left
 left_of Blank = blank
@@ -84,6 +110,8 @@ abbrev mutual
   st_of (If' e shape row shape' row') = choose (ex_of e) (sts_of_row row) (sts_of_row row')
   st_of (Loop' sites test shape row shape' row') = loop (site_numbers sites.items) (test_of test) (sts_of_row row) (sts_of_row row')
   st_of (Count' e key shape row) = range (over_int (ex_of e)) (left_of key) blank (sts_of_row row)
+  st_of (Indices' n key shape row) = range (over_length n) (left_of key) blank (sts_of_row row)
+  st_of (Elements' site e n key value shape row) = range (over_copy site.0 (ex_of e) n) (left_of key) (left_of value) (sts_of_row row)
   st_of Break = break_off
   st_of Continue = go_on
   st_of (Return vs) = give_back (exs_of_values vs)
@@ -105,13 +133,14 @@ abbrev pub site_in : Option SiteId → Option ℕ
 site_in None = None
 site_in (Some site) = Some site.0
 
-abbrev pub func_of : FuncData → Func
-func_of f = record {
+-- a function, where these are the types
+abbrev pub func_of : List ValueType → FuncData → Func
+func_of types f = record {
   first = f.first_site;
   count = f.sites;
   params = map site_in f.params.items;
-  param_types = map (λ t. type_of t.0) f.param_types.items;
-  results = map (λ t. type_of t.0) f.results.items;
+  param_types = map (λ t. type_in types t.0) f.param_types.items;
+  results = map (λ t. type_in types t.0) f.results.items;
   named = map (λ site. site.0) f.named.items;
   body = sts_of f.body.items;
 }
@@ -121,17 +150,23 @@ abbrev pub first_value : ValueType → Option Const → Value
 first_value t None = zero_of t
 first_value t (Some c) = value_of c
 
-abbrev pub site_types : List Site → List ValueType
-site_types sites = map (λ site. type_of site.type_id.0) sites
+abbrev pub site_types : List ValueType → List Site → List ValueType
+site_types types sites = map (λ site. type_in types site.type_id.0) sites
 
+-- a package variable, where these are the types of the sites
 abbrev pub global_of : List ValueType → PackageVariable → ℕ × Value
 global_of types g = (g.site.0, first_value (get_or types g.site.0 ints) g.value)
 
-abbrev pub program_of : ProgramData → Program
-program_of p = record {
-  funcs = map func_of p.funcs.items;
-  sites = site_types p.sites.items;
+-- a program, where these are its types
+abbrev pub program_in : List ValueType → ProgramData → Program
+program_in types p = record {
+  funcs = map (func_of types) p.funcs.items;
+  types = types;
+  sites = site_types types p.sites.items;
   strings = map (λ bytes. bytes.items) p.strings.items;
-  globals = map (global_of (site_types p.sites.items)) p.globals.items;
+  globals = map (global_of (site_types types p.sites.items)) p.globals.items;
   main = p.main.0;
 }
+
+abbrev pub program_of : ProgramData → Program
+program_of p = program_in (trees p.types) p

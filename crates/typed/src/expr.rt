@@ -1,7 +1,7 @@
 //! Typed expressions.
 
 use crate::operators::{BinOp, UnOp};
-use base::{FuncId, Pos, SiteId};
+use base::{FuncId, Pos, SiteId, TypeId};
 
 /// A constant.
 #[derive(Clone, Copy, Debug, PartialEq, Eq)]
@@ -10,12 +10,33 @@ pub enum Const {
     Bool(bool),
 }
 
-/// A place that can be read and written: a local variable by its site, or a package variable by its number, in the order
-/// of the text.
-#[derive(Clone, Copy, Debug, PartialEq, Eq)]
+/// A step from a value to one of its parts.
+#[derive(Drop)]
+#[cycle(expression)]
+pub enum Step {
+    /// A field or an element, by its number.
+    Inner(u32),
+    /// An element of an array, by an index that is worked out: the place that a panic would name, the index, and how many elements the
+    /// array has.
+    Index(Pos, Expr, u64),
+}
+
+/// A place that can be read and written: where it begins, and the steps from there.
+#[derive(Drop)]
+#[cycle(expression)]
 pub enum Place {
-    Local(SiteId),
-    Global(u32),
+    /// A local variable, by its site.
+    Local(SiteId, Vec<Step>),
+    /// A package variable, by its number in the order of the text.
+    Global(u32, Vec<Step>),
+}
+
+/// An element of a literal.
+#[derive(Drop)]
+#[cycle(expression)]
+pub enum Element {
+    /// The number of the field or the element that it is for, and its value.
+    For(u32, Expr),
 }
 
 /// An expression with one value. An operator that can panic has the place that a panic would name: the first byte of
@@ -34,6 +55,10 @@ pub enum Expr {
     Either(Box<Expr>, Box<Expr>),
     /// A call of a function with one result, and its arguments.
     Call(FuncId, Box<Values>),
+    /// A field or an element, by its number, of a value of a type that is no place.
+    Part(TypeId, u32, Box<Expr>),
+    /// A struct or an array of a type, and its elements in the order of the text; what no element is for is zero.
+    Literal(TypeId, Vec<Element>),
 }
 
 /// The values of a declaration, an assignment, a call or a return.

@@ -3,6 +3,7 @@
 use crate::expr::Const;
 use crate::stmt::Stmt;
 use base::{FuncId, Pos, SiteId, TypeId};
+use type_table::TypeTable;
 
 /// The type of whole numbers, and of truth values.
 pub const INT: TypeId = TypeId(0);
@@ -44,12 +45,14 @@ pub struct PackageVariable {
 }
 
 /// A program: its functions in the order of the text, the one that is `main`, its sites in the order of the text, by
-/// which a `SiteId` counts, the bytes of the strings that it shows, and its package variables in the order of the text.
+/// which a `SiteId` counts, its types, by which a `TypeId` counts, the bytes of the strings that it shows, and its package
+/// variables in the order of the text.
 #[derive(Drop)]
 pub struct Program {
     pub funcs: Vec<Func>,
     pub main: FuncId,
     pub sites: Vec<Site>,
+    pub types: TypeTable,
     pub strings: Vec<Vec<u8>>,
     pub globals: Vec<PackageVariable>,
 }

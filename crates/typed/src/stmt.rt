@@ -5,7 +5,7 @@ use crate::operators::BinOp;
 use base::{Pos, SiteId, TypeId};
 
 /// A left side of a declaration or an assignment.
-#[derive(Clone, Copy, Debug, PartialEq, Eq)]
+#[derive(Drop)]
 pub enum Left {
     /// The value is dropped.
     Blank,
@@ -45,6 +45,11 @@ pub enum Stmt {
     Loop(Vec<SiteId>, Option<Expr>, Vec<Stmt>, Vec<Stmt>),
     /// `range` over the numbers from 0 to one below an int, which the left side gets, and the body.
     Count(Expr, Left, Vec<Stmt>),
+    /// `range` over the indices of an array of so many elements, which is not worked out; the left side gets them.
+    Indices(u64, Left, Vec<Stmt>),
+    /// `range` over the elements of an array of so many, of which a hidden variable of a site gets a copy; the left sides get the index
+    /// and the element.
+    Elements(SiteId, Expr, u64, Left, Left, Vec<Stmt>),
     Break,
     Continue,
     /// A return with these values. Without values, that of a function with named results gives these.

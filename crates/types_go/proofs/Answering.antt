@@ -12,7 +12,8 @@ use Rattle.syntax.specs.Statements.{ValueSpec}
 use Rattle.syntax.specs.Declarations.{TypeSpec, Function as TreeFunction, Declaration, constants, variables, types, Syntax, declarations_of, syntax_of}
 use Rattle.syntax.specs.Declarations as tree
 use Rattle.typed.specs.Syntax.{Func, Program}
-use Rattle.typed.specs.View.{func_of, global_of, site_types, program_of}
+use Rattle.type_table.specs.Trees.{trees}
+use Rattle.typed.specs.View.{basic_types, func_of, global_of, site_types, program_in, program_of}
 use Rattle.typed.specs.declared.program.Program.{Program as ProgramData}
 use Rattle.typed.specs.declared.program.Site.{Site}
 use Rattle.value_trees.specs.Types.{ValueType as TypeTree}
@@ -105,29 +106,32 @@ Sound t = (f : Fault) → ItemsFail t.text (package_scope t) (declarations_in t)
 pub sound : (t : Syntax) → IsLeast (FailsIn t) None → Sound t
 sound t least f h = least f (inr (inl (inr h)))
 
-pub typed : (t : Syntax) (p : ProgramData) → Sound t → program_functions t ≡ Some (map func_of p.funcs.items) → main_number t ≡ Some p.main.0 → p.sites.items ≡ sites_in t
+pub typed : (t : Syntax) (p : ProgramData) → trees p.types ≡ basic_types → Sound t → program_functions t ≡ Some (map (func_of basic_types) p.funcs.items) → main_number t ≡ Some p.main.0 → p.sites.items ≡ sites_in t
     → map (λ (bytes : Vec ℕ). bytes.items) p.strings.items ≡ strings_in t → ((types : List TypeTree) → map (global_of types) p.globals.items ≡ globals_in t) → Types t (program_of p)
-typed t p values_sound funcs main sites strings globals1 = record {
-  funcs = map func_of p.funcs.items;
+typed t p types_are values_sound funcs main sites strings globals1 = record {
+  funcs = map (func_of basic_types) p.funcs.items;
   main = p.main.0;
   functions = funcs;
   main_is = main;
   values = values_sound;
-  is = ap (λ (l : List (ℕ × Value)). record {
-    funcs = map func_of p.funcs.items;
-    sites = site_types p.sites.items;
+  is = ap (λ (types : List TypeTree). program_in types p) types_are ∙ ap (λ (l : List (ℕ × Value)). record {
+    funcs = map (func_of basic_types) p.funcs.items;
+    types = basic_types;
+    sites = site_types basic_types p.sites.items;
     strings = map (λ (bytes : Vec ℕ). bytes.items) p.strings.items;
     globals = l;
     main = p.main.0;
-  }) (globals1 (site_types p.sites.items)) ∙ ap (λ (l : List Site). record {
-    funcs = map func_of p.funcs.items;
-    sites = site_types l;
+  }) (globals1 (site_types basic_types p.sites.items)) ∙ ap (λ (l : List Site). record {
+    funcs = map (func_of basic_types) p.funcs.items;
+    types = basic_types;
+    sites = site_types basic_types l;
     strings = map (λ (bytes : Vec ℕ). bytes.items) p.strings.items;
     globals = globals_in t;
     main = p.main.0;
   }) sites ∙ ap (λ (l : List (List ℕ)). record {
-    funcs = map func_of p.funcs.items;
-    sites = site_types (sites_in t);
+    funcs = map (func_of basic_types) p.funcs.items;
+    types = basic_types;
+    sites = site_types basic_types (sites_in t);
     strings = l;
     globals = globals_in t;
     main = p.main.0;

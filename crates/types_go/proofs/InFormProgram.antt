@@ -11,7 +11,7 @@ use Rattle.syntax.specs.Expressions as expressions
 use Rattle.syntax.specs.Declarations.{Field, Parameters, unnamed, named, Body, Function as TreeFunction, Declaration, Syntax}
 use Rattle.typed.specs.declared.program.Site.{Site}
 use Rattle.typed.specs.Syntax.{Sts, Func, Program, all_width, argument_words, result_words, site_type}
-use Rattle.typed.specs.View.{type_of, site_types}
+use Rattle.typed.specs.View.{basic_types, type_of, site_types}
 use Rattle.typed.specs.Form.{ends_all, ParamsFit, NamedFit, named_params as with_sites, params_scope, scope_in, body_first, StsFit, FuncFits, IsInForm}
 use Rattle.value_trees.specs.Types.{ValueType as TypeTree, ints, width}
 use Rattle.value_types.specs.declared.value_type.ValueType.{ValueType}
@@ -373,7 +373,7 @@ module _ (text : List ℕ) (heads : Scope) where
 
 -- ---- the sites of a program
 
-sites_solid : (sites : List Site) → AllByRecursion IsSite sites → (k : ℕ) → 0 < width (get_or (site_types sites) k ints)
+sites_solid : (sites : List Site) → AllByRecursion IsSite sites → (k : ℕ) → 0 < width (get_or (site_types basic_types sites) k ints)
 sites_solid [] all k = omega arith
 sites_solid (site ∷ sites) all zero = subst (λ (t : TypeTree). 0 < width t) (sym (ap type_of all.0.1 ∙ number_tree all.0.0)) (tree_solid all.0.0)
 sites_solid (site ∷ sites) all (suc k) = sites_solid sites all.1 k

@@ -5,6 +5,7 @@ mod InFormHeads
 mod InFormProgram
 mod InFormStatements
 mod Inside
+mod Keys
 mod Lines
 mod MemberLists
 mod Package

@@ -8,7 +8,7 @@ use Rattle.std.proofs.lemmas.List.{map-append}
 use Rattle.base.specs.declared.pos.Pos.{Pos}
 use Rattle.syntax.specs.Declarations.{Function as TreeFunction}
 use Rattle.typed.specs.Syntax.{Func}
-use Rattle.typed.specs.View.{func_of, global_of}
+use Rattle.typed.specs.View.{basic_types, func_of, global_of}
 use Rattle.value_trees.specs.Types.{ValueType as TypeTree}
 use Rattle.typed.specs.declared.program.Func.{Func as FuncData}
 use Rattle.typed.specs.declared.program.PackageVariable.{PackageVariable}
@@ -29,7 +29,7 @@ abbrev pub places_in : List TreeFunction → List Pos
 places_in gs = map (λ g. g.name.pos) gs
 
 abbrev pub views : Option (List FuncData) → Option (List Func)
-views o = option_map (λ l. map func_of l) o
+views o = option_map (λ l. map (func_of basic_types) l) o
 
 pub record MembersKept (text : List ℕ) (heads start : Scope) (all rest : List Member) (s : Scope) (i : ℕ) (funcs : Option (List FuncData)) (least : Option Fault) : Type 0 where
   pub given : functions text heads start 0 all ≡ joined (views funcs) (functions text heads s i rest)
@@ -42,17 +42,17 @@ pub record MembersKept (text : List ℕ) (heads start : Scope) (all rest : List 
 abbrev pub GlobalsKept : List ℕ → (heads start : Scope) → (all rest : List Member) → Scope → List PackageVariable → Type 0
 GlobalsKept text heads start all rest s gs = (types : List TypeTree) → globals text heads start all ≡ map (global_of types) gs ++ globals text heads s rest
 
-views_more : (funcs : Option (List FuncData)) (f : Option FuncData) → views (with_last funcs f) ≡ with_last (views funcs) (option_map func_of f)
+views_more : (funcs : Option (List FuncData)) (f : Option FuncData) → views (with_last funcs f) ≡ with_last (views funcs) (option_map (func_of basic_types) f)
 views_more None f = refl
 views_more (Some fs) None = refl
-views_more (Some fs) (Some f) = ap Some (map-append func_of fs (f ∷ []))
+views_more (Some fs) (Some f) = ap Some (map-append (func_of basic_types) fs (f ∷ []))
 
 pub members_start : (text : List ℕ) (heads s : Scope) (all : List Member) → 0 < length s.blocks → MembersKept text heads s all all s 0 (Some []) None
 members_start text heads s all inside = record { given = sym (joined_start (functions text heads s 0 all)); kept = kept_start _; scope = refl; places = refl; inside = inside }
 
 module _ (text : List ℕ) (heads start : Scope) (all : List Member) where
   pub function_more : (g : TreeFunction) (ms : List Member) (s : Scope) (i : ℕ) (funcs : Option (List FuncData)) (f : Option FuncData) (least own : Option Fault)
-      → MembersKept text heads start all (of_function g ∷ ms) s i funcs least → option_map func_of f ≡ function text heads s i g → IsAt g.name.pos f → IsLeast (FailsInFunction text heads s i g) own
+      → MembersKept text heads start all (of_function g ∷ ms) s i funcs least → option_map (func_of basic_types) f ≡ function text heads s i g → IsAt g.name.pos f → IsLeast (FailsInFunction text heads s i g) own
       → MembersKept text heads start all ms (behind_function text heads s g) (i + 1) (with_last funcs f) (lesser least own)
   function_more g ms s i funcs f least own k found at fails =
       let s1 = behind_function text heads s g in
@@ -84,12 +84,12 @@ module _ (text : List ℕ) (heads start : Scope) (all : List Member) where
   pub globals_all : (s : Scope) (gs : List PackageVariable) → GlobalsKept text heads start all [] s gs → (types : List TypeTree) → map (global_of types) gs ≡ globals text heads start all
   globals_all s gs k types = sym (k types ∙ append-nil (map (global_of types) gs))
 
-  views_of : (funcs : Option (Vec FuncData)) → option_map (λ (v : Vec FuncData). map func_of v.items) funcs ≡ views (option_map (λ (v : Vec FuncData). v.items) funcs)
+  views_of : (funcs : Option (Vec FuncData)) → option_map (λ (v : Vec FuncData). map (func_of basic_types) v.items) funcs ≡ views (option_map (λ (v : Vec FuncData). v.items) funcs)
   views_of None = refl
   views_of (Some v) = refl
 
   pub functions_all : (s : Scope) (i : ℕ) (funcs : Option (Vec FuncData)) (least : Option Fault) → MembersKept text heads start all [] s i (option_map (λ (v : Vec FuncData). v.items) funcs) least
-      → option_map (λ (v : Vec FuncData). map func_of v.items) funcs ≡ functions text heads start 0 all
+      → option_map (λ (v : Vec FuncData). map (func_of basic_types) v.items) funcs ≡ functions text heads start 0 all
   functions_all s i funcs least k = views_of funcs ∙ sym (k.given ∙ joined_none (views (option_map (λ (v : Vec FuncData). v.items) funcs)))
 
   pub fault_all : (s : Scope) (i : ℕ) (funcs : Option (List FuncData)) (least : Option Fault) → MembersKept text heads start all [] s i funcs least → IsLeast (FailsInFunctions text heads start 0 all) least

@@ -3,7 +3,7 @@ use Rattle.std.specs.Prelude.{◌≡◌, ℕ, List, map, Some, Result, Ok, Err}
 use Rattle.base.specs.declared.pos.Pos.{Pos}
 use Rattle.syntax.specs.Declarations.{Syntax}
 use Rattle.typed.specs.Syntax.{Func, Program}
-use Rattle.typed.specs.View.{site_types, program_of}
+use Rattle.typed.specs.View.{basic_types, site_types, program_of}
 use Rattle.typed.specs.declared.program.Site.{Site}
 use Rattle.typed.specs.declared.program.Program.{Program as ProgramData}
 use Rattle.value_trees.specs.Value.{Value}
@@ -36,7 +36,7 @@ globals_in t = globals t.text (heads_of t) (package_scope t) (members t)
 
 -- the program of these functions with this one as `main`
 abbrev pub program_with : Syntax → List Func → ℕ → Program
-program_with t funcs main = record { funcs = funcs; sites = site_types (sites_in t); strings = strings_in t; globals = globals_in t; main = main }
+program_with t funcs main = record { funcs = funcs; types = basic_types; sites = site_types basic_types (sites_in t); strings = strings_in t; globals = globals_in t; main = main }
 
 -- the rules give a tree this typed program
 pub record Types (t : Syntax) (p : Program) : Type 0 where

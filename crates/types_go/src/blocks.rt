@@ -43,12 +43,12 @@ fn with_statements(
 }
 
 /// One more site, where a left side is a new variable.
-fn with_new(sites: Vec<SiteId>, left: Left) -> Result<Vec<SiteId>, NoMemory>
-    ensures { IfOk result (λ v. site_numbers v.items ≡ site_numbers sites.items ++ new_in (left_view left ∷ [])) }
+fn with_new(sites: Vec<SiteId>, left: &Left) -> Result<Vec<SiteId>, NoMemory>
+    ensures { IfOk result (λ v. site_numbers v.items ≡ site_numbers sites.items ++ new_in (left_view left.now ∷ [])) }
 {
     let mut sites = sites;
     if let Left::New(site) = left {
-        sites.push(site)?;
+        sites.push(*site)?;
     }
     Ok(sites)
 }
@@ -59,7 +59,7 @@ fn new_in(alloc: Global, lefts: &[Left]) -> Result<Vec<SiteId>, NoMemory>
 {
     let mut sites = Vec::new(alloc);
     for left in lefts {
-        sites = with_new(sites, *left)?;
+        sites = with_new(sites, left)?;
     }
     Ok(sites)
 }

@@ -4,7 +4,7 @@ ghost use Rattle.std.specs.Prelude.{◌≡◌, ◌⊎◌, ℕ, List, Option, Som
 ghost use Rattle.std.specs.Option.{option_map};
 ghost use Rattle.syntax.specs.Expressions.{spelled};
 ghost use Rattle.syntax.specs.Declarations.{function as function_item, function_of, declaration_of, declarations_of, syntax_of};
-ghost use Rattle.typed.specs.View.{func_of, global_of, program_of};
+ghost use Rattle.typed.specs.View.{basic_types, func_of, global_of, program_of};
 ghost use Rattle.typed.specs.Form.{IsInForm};
 ghost use Rattle.typed.specs.Syntax.{Program as ProgramOf};
 ghost use Rattle.value_trees.specs.Types.{ValueType as TypeTree};
@@ -32,6 +32,7 @@ use signatures::{
 };
 use std::alloc::Global;
 use syntax::{Decl, Func, Name, Tree};
+use type_table::TypeTable;
 use typed::{PackageVariable, Program, Site};
 use value_types::{Fault, FaultKind, TypeFault, lesser};
 
@@ -279,7 +280,7 @@ struct Passed {
 /// The pass over a tree.
 fn pass(alloc: Global, tree: &Tree) -> Result<Passed, NoMemory>
     ensures main { IfOk result (λ r. option_map (λ f. f.0) r.main ≡ main_number (syntax_of tree.now)) }
-    ensures funcs { IfOk result (λ r. option_map (λ v. map func_of v.items) r.funcs ≡ functions (syntax_of tree.now).text (heads_of (syntax_of tree.now)) (package_scope (syntax_of tree.now)) 0 (members (syntax_of tree.now))) }
+    ensures funcs { IfOk result (λ r. option_map (λ v. map (func_of basic_types) v.items) r.funcs ≡ functions (syntax_of tree.now).text (heads_of (syntax_of tree.now)) (package_scope (syntax_of tree.now)) 0 (members (syntax_of tree.now))) }
     ensures sites { IfOk result (λ r. r.sites.items ≡ sites_in (syntax_of tree.now)) }
     ensures strings { IfOk result (λ r. map (λ string. string.items) r.strings.items ≡ strings_in (syntax_of tree.now)) }
     ensures globals { IfOk result (λ r. (types : List TypeTree) → map (global_of types) r.globals.items ≡ globals_in (syntax_of tree.now)) }
@@ -336,10 +337,12 @@ pub fn check(alloc: Global, tree: &Tree) -> Result<Program, TypeFault>
         None => {
             let Some(main) = main else { unreachable!() };
             let Some(funcs) = funcs else { unreachable!() };
+            let types = TypeTable::new(alloc, 0)?;
             Ok(Program {
                 funcs,
                 main,
                 sites,
+                types,
                 strings,
                 globals,
             })

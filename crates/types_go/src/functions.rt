@@ -6,7 +6,7 @@ ghost use Rattle.std.specs.Str.{bytes_eq};
 ghost use Rattle.base.specs.declared.pos.Pos.{Pos as Place};
 ghost use Rattle.syntax.specs.Expressions.{ex_of, spelled};
 ghost use Rattle.syntax.specs.Declarations.{parameters_of, body_of, function_of};
-ghost use Rattle.typed.specs.View.{type_of, site_in, func_of, sts_of, value_of, global_of};
+ghost use Rattle.typed.specs.View.{basic_types, type_of, site_in, func_of, sts_of, value_of, global_of};
 ghost use Rattle.value_trees.specs.Types.{ValueType as TypeTree};
 ghost use Rattle.value_types.specs.Least.{IsLeast};
 ghost use Rattle.value_types.specs.Given.{allowed};
@@ -186,7 +186,7 @@ fn assemble(
     results: Option<Vec<Option<SiteId>>>,
     body: Option<Vec<typed::Stmt>>,
 ) -> Result<Option<typed::Func>, NoMemory>
-    ensures func { IfOk result (λ r. option_map func_of r ≡ assembled param_slots.now result_slots.now first behind (option_map (λ v. map site_in v.items) params) (option_map (λ v. map site_in v.items) results) (option_map (λ v. sts_of v.items) body)) }
+    ensures func { IfOk result (λ r. option_map (func_of basic_types) r ≡ assembled param_slots.now result_slots.now first behind (option_map (λ v. map site_in v.items) params) (option_map (λ v. map site_in v.items) results) (option_map (λ v. sts_of v.items) body)) }
     ensures pos { IfOk result (λ r. IsAt pos r) }
 {
     match (params, results, body) {
@@ -221,7 +221,7 @@ fn check_parts(
     body: &Body,
 ) -> Result<Function, NoMemory>
     requires { 0 < length scope.old.names }
-    ensures func { IfOk result (λ r. option_map func_of r.func ≡ parts text.now (scope_of heads.now) (scope_of scope.old) (function_of f.now) (body_of body.now)) }
+    ensures func { IfOk result (λ r. option_map (func_of basic_types) r.func ≡ parts text.now (scope_of heads.now) (scope_of scope.old) (function_of f.now) (body_of body.now)) }
     ensures pos { IfOk result (λ r. IsAt f.now.name.pos r.func) }
     ensures fault { IfOk result (λ r. IsLeast (FailsInParts text.now (scope_of heads.now) (scope_of scope.old) (function_of f.now) (body_of body.now)) r.fault) }
     ensures scope { OnOk result (scope_of scope.new ≡ behind_body text.now (scope_of heads.now) (scope_of scope.old) (function_of f.now) (Some (body_of body.now))) }
@@ -251,7 +251,7 @@ fn check_parts(
 }
 
 fn func_where(head: bool, types: bool, end: bool, func: Option<typed::Func>) -> Option<typed::Func>
-    ensures func { option_map func_of result ≡ allowed head (allowed types (allowed end (option_map func_of func))) }
+    ensures func { option_map (func_of basic_types) result ≡ allowed head (allowed types (allowed end (option_map (func_of basic_types) func))) }
     ensures pos { (p : Place) → IsAt p func → IsAt p result }
 {
     if head && types && end { func } else { None }
@@ -268,7 +268,7 @@ fn check_with_body(
     body: &Body,
 ) -> Result<Function, NoMemory>
     requires { 0 < length scope.old.names }
-    ensures func { IfOk result (λ r. option_map func_of r.func ≡ function_with text.now (scope_of heads.now) (scope_of scope.old) number (function_of f.now) (Some (body_of body.now))) }
+    ensures func { IfOk result (λ r. option_map (func_of basic_types) r.func ≡ function_with text.now (scope_of heads.now) (scope_of scope.old) number (function_of f.now) (Some (body_of body.now))) }
     ensures pos { IfOk result (λ r. IsAt f.now.name.pos r.func) }
     ensures fault { IfOk result (λ r. IsLeast (FailsWith text.now (scope_of heads.now) (scope_of scope.old) number (function_of f.now) (Some (body_of body.now))) r.fault) }
     ensures scope { OnOk result (scope_of scope.new ≡ behind_body text.now (scope_of heads.now) (scope_of scope.old) (function_of f.now) (Some (body_of body.now))) }
@@ -301,7 +301,7 @@ fn external_fault(f: &Func) -> Fault
 
 /// A function without a body, by its number.
 fn check_external(text: &[u8], scope: &Scope, number: usize, f: &Func) -> Function
-    ensures func { option_map func_of result.func ≡ None }
+    ensures func { option_map (func_of basic_types) result.func ≡ None }
     ensures pos { (p : Place) → IsAt p result.func }
     ensures fault { IsLeast (λ g. FailsInHead text.now (scope_of scope.now) number (function_of f.now) g ⊎ (g ≡ external_fault (function_of f.now))) result.fault }
 {
@@ -322,7 +322,7 @@ fn check_function(
     f: &Func,
 ) -> Result<Function, NoMemory>
     requires { 0 < length scope.old.names }
-    ensures func { IfOk result (λ r. option_map func_of r.func ≡ function text.now (scope_of heads.now) (scope_of scope.old) number (function_of f.now)) }
+    ensures func { IfOk result (λ r. option_map (func_of basic_types) r.func ≡ function text.now (scope_of heads.now) (scope_of scope.old) number (function_of f.now)) }
     ensures pos { IfOk result (λ r. IsAt f.now.name.pos r.func) }
     ensures fault { IfOk result (λ r. IsLeast (FailsInFunction text.now (scope_of heads.now) (scope_of scope.old) number (function_of f.now)) r.fault) }
     ensures scope { OnOk result (scope_of scope.new ≡ behind_function text.now (scope_of heads.now) (scope_of scope.old) (function_of f.now)) }
@@ -459,7 +459,7 @@ pub fn check_members(
     members: &[Member],
 ) -> Result<Members, NoMemory>
     requires { 0 < length scope.old.names }
-    ensures funcs { IfOk result (λ r. option_map (λ v. map func_of v.items) r.funcs ≡ functions text.now (scope_of heads.now) (scope_of scope.old) 0 (member_views members.now)) }
+    ensures funcs { IfOk result (λ r. option_map (λ v. map (func_of basic_types) v.items) r.funcs ≡ functions text.now (scope_of heads.now) (scope_of scope.old) 0 (member_views members.now)) }
     ensures globals { IfOk result (λ r. (types : List TypeTree) → map (global_of types) r.globals.items ≡ globals text.now (scope_of heads.now) (scope_of scope.old) (member_views members.now)) }
     ensures places { IfOk result (λ r. AreAt (map (λ f. f.name.pos) (functions_of (member_views members.now))) (option_map (λ v. v.items) r.funcs)) }
     ensures fault { IfOk result (λ r. IsLeast (FailsInFunctions text.now (scope_of heads.now) (scope_of scope.old) 0 (member_views members.now)) r.fault) }

@@ -335,12 +335,18 @@ fn given_fault(given: Option<ValueType>, wanted: Option<ValueType>, pos: Pos) ->
     }
 }
 
-fn given_faults(text: &[u8], scope: &Scope, given: Option<ValueType>, es: &[Expr]) -> Option<Fault>
+fn given_faults(
+    alloc: Global,
+    text: &[u8],
+    scope: &Scope,
+    given: Option<ValueType>,
+    es: &[Expr],
+) -> Option<Fault>
     ensures { IsLeast (GivenFail text.now (scope_of scope.now) given (trees_of es.now)) result }
 {
     let mut fault = None;
     for e in es {
-        let own = given_fault(given, wanted(text, scope, e), e.pos());
+        let own = given_fault(given, wanted(alloc, text, scope, e), e.pos());
         fault = lesser(fault, own);
     }
     fault
@@ -406,7 +412,7 @@ fn check_assigned(
 {
     let left = check_lefts(alloc, text, scope, es)?;
     let wanted = all_wanted(alloc, text, scope, es)?;
-    let own = given_faults(text, scope, given, es);
+    let own = given_faults(alloc, text, scope, given, es);
     let count = left_count(&left.lefts);
     Ok(Keys {
         lefts: lefts_where(all_accept(given, &wanted), left.lefts),
@@ -503,18 +509,20 @@ fn keys_fault(pos: Pos, over: &Option<typed::Expr>, count: Option<usize>) -> Opt
 }
 
 /// What gets the number: one left side at most, and a blank one behind it is as if absent.
-fn key_of(lefts: &[Left]) -> Option<Left>
-    ensures { option_map left_view result ≡ key_of (map left_view lefts.now) }
+#[tactic(auto, using(crate::proofs::Keys::no_key, crate::proofs::Keys::one_there, crate::proofs::Keys::one_key, crate::proofs::Keys::more_keys))]
+fn key_of(lefts: Vec<Left>) -> Option<Left>
+    ensures { option_map left_view result ≡ key_of (map left_view lefts.items) }
 {
-    match lefts {
-        [] => Some(Left::Blank),
-        [left] | [left, Left::Blank] => Some(*left),
+    let mut lefts = lefts;
+    match key_count(&lefts) {
+        0 => Some(Left::Blank),
+        1 => Some(lefts.swap_remove(0)),
         _ => None,
     }
 }
 
-fn key_in(lefts: &Option<Vec<Left>>) -> Option<Left>
-    ensures { option_map left_view result ≡ option_and_then key_of (option_map (λ v. map left_view v.items) lefts.now) }
+fn key_in(lefts: Option<Vec<Left>>) -> Option<Left>
+    ensures { option_map left_view result ≡ option_and_then key_of (option_map (λ v. map left_view v.items) lefts) }
 {
     match lefts {
         Some(lefts) => key_of(lefts),
@@ -522,8 +530,8 @@ fn key_in(lefts: &Option<Vec<Left>>) -> Option<Left>
     }
 }
 
-fn range_head(over: Option<typed::Expr>, lefts: &Option<Vec<Left>>) -> Option<Head>
-    ensures { option_map head_view result ≡ range_head (option_map ex_of over) (option_map (λ v. map left_view v.items) lefts.now) }
+fn range_head(over: Option<typed::Expr>, lefts: Option<Vec<Left>>) -> Option<Head>
+    ensures { option_map head_view result ≡ range_head (option_map ex_of over) (option_map (λ v. map left_view v.items) lefts) }
 {
     match (over, key_in(lefts)) {
         (Some(over), Some(key)) => Some(Head::Counted(over, key)),
@@ -550,7 +558,7 @@ fn check_range(
     let keys = check_targets(alloc, text, scope, given, targets)?;
     let own = keys_fault(pos, &over.value, keys.count);
     Ok(Headed {
-        head: range_head(over.value, &keys.lefts),
+        head: range_head(over.value, keys.lefts),
         fault: lesser(lesser(over.fault, keys.fault), own),
     })
 }

@@ -1,9 +1,9 @@
-use Rattle.std.proofs.Common.{◌≡◌, ◌++◌, arith}
+use Rattle.std.proofs.Common.{◌≡◌, [], ◌∷◌, ◌++◌, arith}
 use Rattle.std.proofs.lemmas.Result.{on_ok_weaker}
 use Rattle.typed.proofs.Rows.{stmt_rows}
-use Rattle.typed.specs.View.{ex_of, test_of, st_of, sts_of}
-use Rattle.call_order.specs.Lists.{called, called_in_test, called_by, called_by_all}
-use Rattle.call_order.proofs.Silent.{key_silent}
+use Rattle.typed.specs.Syntax.{blank}
+use Rattle.typed.specs.View.{ex_of, left_of, test_of, st_of, sts_of}
+use Rattle.call_order.specs.Lists.{called, called_in_lefts, called_in_test, called_by, called_by_all}
 use Rattle.call_order.proofs.Chained.{two_lists, three_lists}
 use Rattle.call_order.proofs.calls.+statements.Goals as goal
 
@@ -15,7 +15,7 @@ add_stmt-returns-in_ok-add_stmts-in-If t c =
     let whole : called_by (st_of c.args.s.now) ≡ e ++ (a ++ b) = grind (arith, stmt_rows) in
     let second = rw c.deref-in-If.ensures.value at c.in_ok-add_stmts-in-If.ensures in
     let third = rw c.deref-in-If-2.ensures.value at c.add_stmts-in-If-2.ensures in
-    on_ok_weaker c.add_stmts-in-If-2.result (λ last. three_lists c.args.calls.now.items c.add_expr-in-If.new.calls.items c.add_stmts-in-If.new.calls.items c.add_stmts-in-If-2.new.calls.items e a b (called_by (st_of c.args.s.now)) c.in_ok-add_expr-in-If.ensures second last whole) third
+    on_ok_weaker c.add_stmts-in-If-2.result (λ last. three_lists c.args.calls.now.items c.add_expr.new.calls.items c.add_stmts-in-If.new.calls.items c.add_stmts-in-If-2.new.calls.items e a b (called_by (st_of c.args.s.now)) c.in_ok-add_expr-in-If.ensures second last whole) third
 
 pub add_stmt-returns-in_ok-add_stmts-in-Loop : goal.add_stmt-returns-in_ok-add_stmts-in-Loop
 add_stmt-returns-in_ok-add_stmts-in-Loop t c =
@@ -27,11 +27,28 @@ add_stmt-returns-in_ok-add_stmts-in-Loop t c =
     let third = rw c.deref-in-Loop-2.ensures.value at c.add_stmts-in-Loop-2.ensures in
     on_ok_weaker c.add_stmts-in-Loop-2.result (λ last. three_lists c.args.calls.now.items c.add_test.new.calls.items c.add_stmts-in-Loop.new.calls.items c.add_stmts-in-Loop-2.new.calls.items test post body (called_by (st_of c.args.s.now)) c.in_ok-add_test-in-Loop.ensures second last whole) third
 
-pub add_stmt-returns-in_ok-add_expr-in-Count : goal.add_stmt-returns-in_ok-add_expr-in-Count
-add_stmt-returns-in_ok-add_expr-in-Count t c =
+pub add_stmt-returns-in_ok-add_pair-in-Count : goal.add_stmt-returns-in_ok-add_pair-in-Count
+add_stmt-returns-in_ok-add_pair-in-Count t c =
     let e = called (ex_of c.in-Count.e) in
+    let lefts = called_in_lefts (left_of c.in-Count.key ∷ blank ∷ []) in
     let body = called_by_all (sts_of c.in-Count.body.items) in
-    let silent = key_silent c.in-Count.field-1 in
-    let whole : called_by (st_of c.args.s.now) ≡ e ++ body = grind (arith, stmt_rows, silent) in
-    let second = rw c.deref-in-Count.ensures.value at c.add_stmts-in-Count.ensures in
-    on_ok_weaker c.add_stmts-in-Count.result (λ last. two_lists c.args.calls.now.items c.add_expr-in-Count.new.calls.items c.add_stmts-in-Count.new.calls.items e body (called_by (st_of c.args.s.now)) c.in_ok-add_expr-in-Count.ensures last whole) second
+    let whole : called_by (st_of c.args.s.now) ≡ e ++ (lefts ++ body) = grind (arith, stmt_rows) in
+    let third = rw c.deref-in-Count.ensures.value at c.add_stmts-in-Count.ensures in
+    on_ok_weaker c.add_stmts-in-Count.result (λ last. three_lists c.args.calls.now.items c.add_expr-in-Count.new.calls.items c.add_pair.new.calls.items c.add_stmts-in-Count.new.calls.items e lefts body (called_by (st_of c.args.s.now)) c.in_ok-add_expr-in-Count.ensures c.in_ok-add_pair-in-Count.ensures last whole) third
+
+pub add_stmt-returns-in_ok-add_pair-in-Indices : goal.add_stmt-returns-in_ok-add_pair-in-Indices
+add_stmt-returns-in_ok-add_pair-in-Indices t c =
+    let lefts = called_in_lefts (left_of c.in-Indices.key ∷ blank ∷ []) in
+    let body = called_by_all (sts_of c.in-Indices.body.items) in
+    let whole : called_by (st_of c.args.s.now) ≡ lefts ++ body = grind (arith, stmt_rows) in
+    let second = rw c.deref-in-Indices.ensures.value at c.add_stmts-in-Indices.ensures in
+    on_ok_weaker c.add_stmts-in-Indices.result (λ last. two_lists c.args.calls.now.items c.add_pair-in-Indices.new.calls.items c.add_stmts-in-Indices.new.calls.items lefts body (called_by (st_of c.args.s.now)) c.in_ok-add_pair-in-Indices.ensures last whole) second
+
+pub add_stmt-returns-in_ok-add_pair-in-Elements : goal.add_stmt-returns-in_ok-add_pair-in-Elements
+add_stmt-returns-in_ok-add_pair-in-Elements t c =
+    let e = called (ex_of c.in-Elements.e) in
+    let lefts = called_in_lefts (left_of c.in-Elements.key ∷ left_of c.in-Elements.value ∷ []) in
+    let body = called_by_all (sts_of c.in-Elements.body.items) in
+    let whole : called_by (st_of c.args.s.now) ≡ e ++ (lefts ++ body) = grind (arith, stmt_rows) in
+    let third = rw c.deref-in-Elements.ensures.value at c.add_stmts-in-Elements.ensures in
+    on_ok_weaker c.add_stmts-in-Elements.result (λ last. three_lists c.args.calls.now.items c.add_expr-in-Elements.new.calls.items c.add_pair-in-Elements.new.calls.items c.add_stmts-in-Elements.new.calls.items e lefts body (called_by (st_of c.args.s.now)) c.in_ok-add_expr-in-Elements.ensures c.in_ok-add_pair-in-Elements.ensures last whole) third

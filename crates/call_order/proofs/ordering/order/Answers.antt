@@ -1,7 +1,7 @@
-use Rattle.std.proofs.Common.{rules, ◌≡◌, ◌∙◌, ℕ, List, map, length, subst, sym, arith}
+use Rattle.std.proofs.Common.{rules, ◌≡◌, ◌∙◌, ℕ, List, length, subst, sym, arith}
 use Rattle.std.proofs.lemmas.Grind.{common_steps}
 use Rattle.std.proofs.lemmas.List.{length-map}
-use Rattle.typed.specs.View.{func_of, program_of}
+use Rattle.typed.specs.View.{program_of}
 use Rattle.call_order.specs.Lists.{lists, call_lists}
 use Rattle.call_order.specs.Order.{IsCallOrder}
 use Rattle.call_order.specs.Marks.{mark_lists}
@@ -13,11 +13,11 @@ returns c =
     let p = program_of c.args.program.now in
     let m = mark_lists c.in_ok-marks.marks.items in
     let n = c.in_ok-count.count in
-    let counted : length c.deref-2.result.now ≡ n = first_of (search rules, grind (arith, common_steps)) in
-    let size : length m ≡ length (lists c.deref-2.result.now) = c.in_ok-marks.ensures.size in
-    let is_n : n ≡ length m = sym counted ∙ sym (length-map c.deref-2.result.now _) ∙ sym size in
-    let calls_are : lists c.in_ok-calls.calls.items ≡ call_lists (map func_of c.deref.result.now) = c.in_ok-calls.ensures in
-    let reach = rw (c.deref-2.ensures.value, calls_are, c.deref.ensures.value) at c.in_ok-marks.ensures in
-    let ranked = rw c.deref-3.ensures.value at c.in_ok-firsts.ensures in
-    let listed = rw (c.deref-4.ensures.value, c.deref-5.ensures.value) at c.in_ok-batches.ensures in
+    let counted : length c.deref.result.now ≡ n = first_of (search rules, grind (arith, common_steps)) in
+    let size : length m ≡ length (lists c.deref.result.now) = c.in_ok-marks.ensures.size in
+    let is_n : n ≡ length m = sym counted ∙ sym (length-map c.deref.result.now _) ∙ sym size in
+    let calls_are : lists c.in_ok-calls.calls.items ≡ call_lists p.funcs = c.in_ok-calls.ensures in
+    let reach = rw (c.deref.ensures.value, calls_are) at c.in_ok-marks.ensures in
+    let ranked = rw c.deref-2.ensures.value at c.in_ok-firsts.ensures in
+    let listed = rw (c.deref-3.ensures.value, c.deref-4.ensures.value) at c.in_ok-batches.ensures in
     subst (λ (bs : List (List ℕ)). IsCallOrder p bs) (sym listed) (in_order p m c.in_ok-firsts.firsts.items n reach is_n ranked)

@@ -1,22 +1,22 @@
 use Rattle.std.proofs.Common.{◌≡◌, ◌+◌, ◌++◌, ◌∷◌, [], length, ap, ◌∙◌, arith}
 use Rattle.typed.proofs.Rows.{stmt_rows}
 use Rattle.typed.specs.Syntax.{blank, over_int, choose, loop, range, argument_words, result_words}
-use Rattle.typed.specs.View.{ex_of, func_of, left_of, program_of, site_numbers, st_of, sts_of, test_of}
+use Rattle.typed.specs.View.{ex_of, left_of, program_of, site_numbers, st_of, sts_of, test_of}
 use Rattle.simulated_code.specs.Code.{lefts_size, renew_code, renew_size, sts_code, sts_size, test_size}
-use Rattle.codegen.specs.Frame.{slots_in}
+use Rattle.codegen.specs.Frame.{func_in, slots_in}
 use Rattle.codegen.proofs.Emitted.{next_emitted, next_fits, if_emitted, loop_emitted, count_emitted}
 use Rattle.codegen.proofs.emitting.+emit.Goals as goal
 
 pub emit_stmts-loop-s-preserved : goal.emit_stmts-loop-s-preserved
 emit_stmts-loop-s-preserved t c =
-    let p = program_of c.args.program.now in let f = func_of c.args.func.now in let slots = slots_in c.args.program.now c.args.frame in let g = c.args.goals in (
+    let p = program_of c.args.program.now in let f = func_in c.args.program.now c.args.func.now in let slots = slots_in c.args.program.now c.args.frame in let g = c.args.goals in (
       next_emitted p (argument_words f) f.named slots _ _ _ c.args.ss.now c.loop-s.s-index c.s-item.result c.args.h g.out g.again c.loop-s-test.true c.s-item.is c.loop-s.invariant.0 c.in_ok-emit_stmt.ensures,
       next_fits p (argument_words f) f.named slots c.args.frame.sites (result_words f) c.args.h c.args.ss.now c.loop-s.s-index c.s-item.result c.loop-s-test.true c.s-item.is c.loop-s.invariant.1,
     )
 
 pub emit_stmt-returns-in_ok-emit_stmts-in-If-2 : goal.emit_stmt-returns-in_ok-emit_stmts-in-If-2
 emit_stmt-returns-in_ok-emit_stmts-in-If-2 t c =
-    let p = program_of c.args.program.now in let f = func_of c.args.func.now in let slots = slots_in c.args.program.now c.args.frame in let h = c.args.h in let out = c.args.goals.out in let again = c.args.goals.again in
+    let p = program_of c.args.program.now in let f = func_in c.args.program.now c.args.func.now in let slots = slots_in c.args.program.now c.args.frame in let h = c.args.h in let out = c.args.goals.out in let again = c.args.goals.again in
     let v = c.in-If in
     let shape : st_of c.args.s.now ≡ choose (ex_of v.e) (sts_of v.a.items) (sts_of v.b.items) = grind (arith, stmt_rows) in
     rw shape (if_emitted p (argument_words f) f.named slots c.args.code.now.items _ _ _ _ _ (ex_of v.e) (sts_of v.a.items) (sts_of v.b.items) _ _ h out again
@@ -28,7 +28,7 @@ emit_stmt-returns-in_ok-emit_stmts-in-If-2 t c =
 
 pub emit_stmt-returns-in_ok-put-in-Loop : goal.emit_stmt-returns-in_ok-put-in-Loop
 emit_stmt-returns-in_ok-put-in-Loop t c =
-    let p = program_of c.args.program.now in let f = func_of c.args.func.now in let slots = slots_in c.args.program.now c.args.frame in let h = c.args.h in
+    let p = program_of c.args.program.now in let f = func_in c.args.program.now c.args.func.now in let slots = slots_in c.args.program.now c.args.frame in let h = c.args.h in
     let v = c.in-Loop in let g = c.in_ok-inner-in-Loop.inner in
     let shape : st_of c.args.s.now ≡ loop (site_numbers v.sites.items) (test_of v.test) (sts_of v.post.items) (sts_of v.body.items) = grind (arith, stmt_rows) in
     let start : c.in_ok-start.start ≡ length c.args.code.now.items = omega (arith, c.in_ok-start.ensures) in
@@ -44,7 +44,7 @@ emit_stmt-returns-in_ok-put-in-Loop t c =
 
 pub emit_stmt-returns-in_ok-emit_count_turn-in-Count : goal.emit_stmt-returns-in_ok-emit_count_turn-in-Count
 emit_stmt-returns-in_ok-emit_count_turn-in-Count t c =
-    let p = program_of c.args.program.now in let f = func_of c.args.func.now in let slots = slots_in c.args.program.now c.args.frame in let h = c.args.h in
+    let p = program_of c.args.program.now in let f = func_in c.args.program.now c.args.func.now in let slots = slots_in c.args.program.now c.args.frame in let h = c.args.h in
     let v = c.in-Count in let g = c.in_ok-inner-in-Count.inner in
     let shape : st_of c.args.s.now ≡ range (over_int (ex_of v.e)) (left_of v.key) blank (sts_of v.body.items) = grind (arith, stmt_rows) in
     let start : c.in_ok-start.start ≡ length c.args.code.now.items = omega (arith, c.in_ok-start.ensures) in

@@ -1,12 +1,13 @@
 use Rattle.std.proofs.Common.{◌≡◌, ◌++◌, ◌-◌, ◌∙◌, ap, length, length-append, replicate, arith}
-use Rattle.typed.specs.View.{func_of, program_of}
+use Rattle.typed.specs.View.{program_of}
 use Rattle.simulated_code.specs.Code.{func_code, func_size}
 use Rattle.simulated_code.proofs.Sizes.{length_func}
+use Rattle.codegen.specs.Frame.{func_in}
 use Rattle.codegen.proofs.program.add.Goals as goal
 
 pub returns-clause-owners : goal.returns-clause-owners
 returns-clause-owners c =
-    let p = program_of c.args.program.now in let f = func_of c.args.func.now in let old = c.args.parts.now.instrs.items in
+    let p = program_of c.args.program.now in let f = func_in c.args.program.now c.args.func.now in let old = c.args.parts.now.instrs.items in
     let grown : length c.emit_func.new.code.items ≡ length (old ++ func_code p f (length old)) = ap length c.in_ok-emit_func.ensures in
     let size : c.len.result - c.in_ok-start.start ≡ func_size p f = omega (arith, grown, length-append old (func_code p f (length old)), length_func p f (length old), c.in_ok-start.ensures, c.len.ensures) in
     c.in_ok-own.ensures ∙ ap (λ n. c.args.parts.now.owners.items ++ replicate n c.args.number) size

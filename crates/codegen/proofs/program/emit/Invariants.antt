@@ -1,11 +1,12 @@
 use Rattle.std.proofs.Common.{◌≡◌, ◌++◌, drop, length, map}
-use Rattle.typed.specs.View.{func_of, program_of}
+use Rattle.typed.specs.View.{program_of}
 use Rattle.simulated_code.specs.Code.{funcs_code, funcs_owners, funcs_entries}
+use Rattle.codegen.specs.Frame.{func_in}
 use Rattle.codegen.proofs.program.emit.Given as goal
 
 abbrev pub invariant-loop-func : goal.invariant-loop-func
 invariant-loop-func l =
-    (funcs_code (program_of l.program) (map func_of l.funcs) 0 ≡ l.parts.instrs.items ++ funcs_code (program_of l.program) (map func_of (drop l.func-index l.funcs)) (length l.parts.instrs.items))
-    × (funcs_owners (program_of l.program) (map func_of l.funcs) 0 ≡ l.parts.owners.items ++ funcs_owners (program_of l.program) (map func_of (drop l.func-index l.funcs)) l.number)
-    × (funcs_entries (program_of l.program) (map func_of l.funcs) 0 ≡ l.parts.funcs.items ++ funcs_entries (program_of l.program) (map func_of (drop l.func-index l.funcs)) (length l.parts.instrs.items))
+    (funcs_code (program_of l.program) (map (func_in l.program) l.funcs) 0 ≡ l.parts.instrs.items ++ funcs_code (program_of l.program) (map (func_in l.program) (drop l.func-index l.funcs)) (length l.parts.instrs.items))
+    × (funcs_owners (program_of l.program) (map (func_in l.program) l.funcs) 0 ≡ l.parts.owners.items ++ funcs_owners (program_of l.program) (map (func_in l.program) (drop l.func-index l.funcs)) l.number)
+    × (funcs_entries (program_of l.program) (map (func_in l.program) l.funcs) 0 ≡ l.parts.funcs.items ++ funcs_entries (program_of l.program) (map (func_in l.program) (drop l.func-index l.funcs)) (length l.parts.instrs.items))
     × (l.number ≡ l.func-index)

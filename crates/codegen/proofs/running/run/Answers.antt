@@ -3,7 +3,8 @@ use Rattle.std.specs.Prelude.{nat_le}
 use Rattle.std.proofs.lemmas.Bool.{le-leb, lt-leb}
 use Rattle.machine.specs.Inside.{Inside}
 use Rattle.heap_bump.specs.Words.{Words}
-use Rattle.typed.specs.View.{program_of, site_types}
+use Rattle.typed.specs.View.{program_of}
+use Rattle.codegen.specs.Frame.{sites_in}
 use Rattle.codegen.specs.declared.running.RunFault.TheVariants as Fault
 use Rattle.codegen.proofs.Begun.{begun_words, begun_room, begun_full}
 use Rattle.codegen.proofs.Composed.{full, composed, refused, unready, read_by, read_nothing}
@@ -23,7 +24,7 @@ returns-in_err-heap-clause-runs g c =
       | inl none ↦ rw (same ∙ ap Err none) (read_nothing _ _ _ _ refl (λ items numbers is.
           unready p c.args.code.now is items numbers c.args.stack_max c.args.heap_max c.args.steps c.requires.stack c.requires.heap _ 0))
       | inr more ↦
-          (let passes = begun_full (site_types c.args.program.now.sites.items) c.args.program.now.globals.items c.args.heap_max (rw c.deref.ensures.value at more.0) in
+          (let passes = begun_full (sites_in c.args.program.now) c.args.program.now.globals.items c.args.heap_max (rw c.deref.ensures.value at more.0) in
           rw (same ∙ ap Err more.1) (read_nothing _ _ _ _ refl (λ items numbers is.
           full p c.args.code.now is items numbers c.args.stack_max c.args.heap_max c.args.steps c.requires.stack c.requires.heap _ 0 passes)))
     ]
@@ -32,7 +33,7 @@ pub returns-then-asked-stack_max-clause-runs : goal.returns-then-asked-stack_max
 returns-then-asked-stack_max-clause-runs g c =
     let fn = c.entry-first.result in let p = program_of c.args.program.now in
     let passes : nat_le fn.frame c.args.stack_max ≡ false = lt-leb fn.frame c.args.stack_max (omega (arith, c.if-asked-stack_max.true)) in
-    let room = begun_room (site_types c.args.program.now.sites.items) c.args.program.now.globals.items c.args.heap_max (rw c.deref.ensures.value at c.in_ok-heap.ensures.room) in
+    let room = begun_room (sites_in c.args.program.now) c.args.program.now.globals.items c.args.heap_max (rw c.deref.ensures.value at c.in_ok-heap.ensures.room) in
     read_nothing _ _ _ _ refl (λ items numbers is.
     refused p c.args.code.now is items numbers c.args.stack_max c.args.heap_max c.args.steps c.requires.stack c.requires.heap room fn c.entry-first.ensures.is _ 0 passes)
 
@@ -45,10 +46,10 @@ returns-in_err-words-clause-runs g c =
 pub returns-clause-runs : goal.returns-clause-runs
 returns-clause-runs g c =
     let fn = c.entry-first.result in let p = program_of c.args.program.now in
-    let types = site_types c.args.program.now.sites.items in let gs = c.args.program.now.globals.items in
+    let types = sites_in c.args.program.now in let gs = c.args.program.now.globals.items in
     let zeros : c.in_ok-words.words.items ≡ replicate fn.frame 0 = search rules in
     let fits : nat_le fn.frame c.args.stack_max ≡ true = le-leb fn.frame c.args.stack_max (omega (arith, c.if-asked-stack_max.false)) in
     let room = begun_room types gs c.args.heap_max (rw c.deref.ensures.value at c.in_ok-heap.ensures.room) in
-    let begins = (rw c.deref.ensures.value at c.in_ok-heap.ensures.words) ∙ ap (λ (ws : List ℕ). let h : Words = record { words = ws; max = c.args.heap_max } in h) (sym (begun_words c.args.program.now.sites.items gs)) in
+    let begins = (rw c.deref.ensures.value at c.in_ok-heap.ensures.words) ∙ ap (λ (ws : List ℕ). let h : Words = record { words = ws; max = c.args.heap_max } in h) (sym (begun_words types gs)) in
     rw c.answer.ensures (read_by _ _ _ _ _ _ _ _ c.new-reader.ensures c.run-next.ensures.runs (λ same. same.1) (λ items answered numbers did is.
     composed p c.args.code.now is items numbers c.args.stack_max c.args.heap_max c.args.steps c.requires.stack c.requires.heap room fn c.entry-first.ensures.is _ _ _ _ _ _ _ _ _ fits zeros begins did.0))

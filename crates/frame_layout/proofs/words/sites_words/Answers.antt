@@ -1,10 +1,10 @@
 use Rattle.std.proofs.Common.{arith}
 use Rattle.std.proofs.lemmas.Grind.{common_steps}
-use Rattle.typed.specs.View.{site_types}
+use Rattle.typed.specs.View.{program_of}
 use Rattle.frame_layout.proofs.Widths.{between_more}
 use Rattle.frame_layout.proofs.words.sites_words.Goals as goal
 
 pub loop-i-preserved : goal.loop-i-preserved
 loop-i-preserved c =
-    let more = between_more (site_types c.args.program.now.sites.items) c.args.first c.loop-i.i c.args.count (omega arith) in
-    (grind (arith, common_steps, more), omega arith)
+    let more = between_more (program_of c.args.program.now).sites c.args.first c.loop-i.i c.args.count (omega arith) in
+    record { counted = grind (arith, common_steps, more); within = omega arith; few = omega arith }

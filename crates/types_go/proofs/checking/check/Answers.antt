@@ -2,7 +2,7 @@ use Rattle.std.proofs.Common.{◌≡◌, Option, Some, None, sym, ap, ◌∙◌,
 use Rattle.std.specs.Option.{option_map}
 use Rattle.base.specs.declared.ids.FuncId.{FuncId}
 use Rattle.syntax.specs.Declarations.{syntax_of}
-use Rattle.typed.specs.View.{func_of, program_of}
+use Rattle.typed.specs.View.{basic_types, func_of, program_of}
 use Rattle.typed.specs.declared.program.Program.{Program as ProgramData}
 use Rattle.value_types.specs.declared.fault.Fault.{Fault}
 use Rattle.value_types.specs.Least.{IsLeast}
@@ -25,7 +25,7 @@ unreachable-requires-in_default-funcs c =
     let t = syntax_of c.args.tree.now in
     let passed = c.in_ok-main.field-0 in
     let least : IsLeast (FailsIn t) None = subst (λ (f : Option Fault). IsLeast (FailsIn t) f) c.in-None.is c.in_ok-main.ensures.fault in
-    functions_given t least (option_map (λ v. map func_of v.items) passed.funcs) c.in_ok-main.ensures.funcs (ap (option_map (λ v. map func_of v.items)) c.in_default-funcs.is)
+    functions_given t least (option_map (λ v. map (func_of basic_types) v.items) passed.funcs) c.in_ok-main.ensures.funcs (ap (option_map (λ v. map (func_of basic_types) v.items)) c.in_default-funcs.is)
 
 pub returns-in-Some-clause-fault : goal.returns-in-Some-clause-fault
 returns-in-Some-clause-fault c = subst (λ (f : Option Fault). IsLeast (FailsIn (syntax_of c.args.tree.now)) f) c.in-Some.is c.in_ok-main.ensures.fault
@@ -41,11 +41,11 @@ returns-in-Some-funcs-clause-typed c =
     let t = syntax_of c.args.tree.now in
     let passed = c.in_ok-main.field-0 in
     let least : IsLeast (FailsIn t) None = subst (λ (f : Option Fault). IsLeast (FailsIn t) f) c.in-None.is c.in_ok-main.ensures.fault in
-    let p : ProgramData = record { funcs = c.in-Some-funcs.funcs; main = c.in-Some-main.main; sites = passed.sites; strings = passed.strings; globals = passed.globals } in
-    let all : option_map (λ v. map func_of v.items) passed.funcs ≡ program_functions t = given_functions t least (option_map (λ v. map func_of v.items) passed.funcs) c.in_ok-main.ensures.funcs in
-    let found : program_functions t ≡ Some (map func_of c.in-Some-funcs.funcs.items) = sym all ∙ ap (option_map (λ v. map func_of v.items)) c.in-Some-funcs.is in
+    let p : ProgramData = record { funcs = c.in-Some-funcs.funcs; main = c.in-Some-main.main; sites = passed.sites; types = c.in_ok-types.types; strings = passed.strings; globals = passed.globals } in
+    let all : option_map (λ v. map (func_of basic_types) v.items) passed.funcs ≡ program_functions t = given_functions t least (option_map (λ v. map (func_of basic_types) v.items) passed.funcs) c.in_ok-main.ensures.funcs in
+    let found : program_functions t ≡ Some (map (func_of basic_types) c.in-Some-funcs.funcs.items) = sym all ∙ ap (option_map (λ v. map (func_of basic_types) v.items)) c.in-Some-funcs.is in
     let main_some : main_number t ≡ Some c.in-Some-main.main.0 = sym c.in_ok-main.ensures.main ∙ ap (option_map (λ (f : FuncId). f.0)) c.in-Some-main.is in
-    let whole : Types t (program_of p) = typed t p (sound t least) found main_some c.in_ok-main.ensures.sites c.in_ok-main.ensures.strings c.in_ok-main.ensures.globals in
+    let whole : Types t (program_of p) = typed t p c.in_ok-types.ensures.trees (sound t least) found main_some c.in_ok-main.ensures.sites c.in_ok-main.ensures.strings c.in_ok-main.ensures.globals in
     whole
 
 pub returns-in-Some-funcs-clause-in_form : goal.returns-in-Some-funcs-clause-in_form
@@ -53,11 +53,11 @@ returns-in-Some-funcs-clause-in_form c =
     let t = syntax_of c.args.tree.now in
     let passed = c.in_ok-main.field-0 in
     let least : IsLeast (FailsIn t) None = subst (λ (f : Option Fault). IsLeast (FailsIn t) f) c.in-None.is c.in_ok-main.ensures.fault in
-    let p : ProgramData = record { funcs = c.in-Some-funcs.funcs; main = c.in-Some-main.main; sites = passed.sites; strings = passed.strings; globals = passed.globals } in
-    let all : option_map (λ v. map func_of v.items) passed.funcs ≡ program_functions t = given_functions t least (option_map (λ v. map func_of v.items) passed.funcs) c.in_ok-main.ensures.funcs in
-    let found : program_functions t ≡ Some (map func_of c.in-Some-funcs.funcs.items) = sym all ∙ ap (option_map (λ v. map func_of v.items)) c.in-Some-funcs.is in
+    let p : ProgramData = record { funcs = c.in-Some-funcs.funcs; main = c.in-Some-main.main; sites = passed.sites; types = c.in_ok-types.types; strings = passed.strings; globals = passed.globals } in
+    let all : option_map (λ v. map (func_of basic_types) v.items) passed.funcs ≡ program_functions t = given_functions t least (option_map (λ v. map (func_of basic_types) v.items) passed.funcs) c.in_ok-main.ensures.funcs in
+    let found : program_functions t ≡ Some (map (func_of basic_types) c.in-Some-funcs.funcs.items) = sym all ∙ ap (option_map (λ v. map (func_of basic_types) v.items)) c.in-Some-funcs.is in
     let main_some : main_number t ≡ Some c.in-Some-main.main.0 = sym c.in_ok-main.ensures.main ∙ ap (option_map (λ (f : FuncId). f.0)) c.in-Some-main.is in
-    let whole : Types t (program_of p) = typed t p (sound t least) found main_some c.in_ok-main.ensures.sites c.in_ok-main.ensures.strings c.in_ok-main.ensures.globals in
+    let whole : Types t (program_of p) = typed t p c.in_ok-types.ensures.trees (sound t least) found main_some c.in_ok-main.ensures.sites c.in_ok-main.ensures.strings c.in_ok-main.ensures.globals in
     in_form t (program_of p) whole
 
 pub returns-in-Some-funcs-clause-only : goal.returns-in-Some-funcs-clause-only
@@ -65,9 +65,9 @@ returns-in-Some-funcs-clause-only c =
     let t = syntax_of c.args.tree.now in
     let passed = c.in_ok-main.field-0 in
     let least : IsLeast (FailsIn t) None = subst (λ (f : Option Fault). IsLeast (FailsIn t) f) c.in-None.is c.in_ok-main.ensures.fault in
-    let p : ProgramData = record { funcs = c.in-Some-funcs.funcs; main = c.in-Some-main.main; sites = passed.sites; strings = passed.strings; globals = passed.globals } in
-    let all : option_map (λ v. map func_of v.items) passed.funcs ≡ program_functions t = given_functions t least (option_map (λ v. map func_of v.items) passed.funcs) c.in_ok-main.ensures.funcs in
-    let found : program_functions t ≡ Some (map func_of c.in-Some-funcs.funcs.items) = sym all ∙ ap (option_map (λ v. map func_of v.items)) c.in-Some-funcs.is in
+    let p : ProgramData = record { funcs = c.in-Some-funcs.funcs; main = c.in-Some-main.main; sites = passed.sites; types = c.in_ok-types.types; strings = passed.strings; globals = passed.globals } in
+    let all : option_map (λ v. map (func_of basic_types) v.items) passed.funcs ≡ program_functions t = given_functions t least (option_map (λ v. map (func_of basic_types) v.items) passed.funcs) c.in_ok-main.ensures.funcs in
+    let found : program_functions t ≡ Some (map (func_of basic_types) c.in-Some-funcs.funcs.items) = sym all ∙ ap (option_map (λ v. map (func_of basic_types) v.items)) c.in-Some-funcs.is in
     let main_some : main_number t ≡ Some c.in-Some-main.main.0 = sym c.in_ok-main.ensures.main ∙ ap (option_map (λ (f : FuncId). f.0)) c.in-Some-main.is in
-    let whole : Types t (program_of p) = typed t p (sound t least) found main_some c.in_ok-main.ensures.sites c.in_ok-main.ensures.strings c.in_ok-main.ensures.globals in
+    let whole : Types t (program_of p) = typed t p c.in_ok-types.ensures.trees (sound t least) found main_some c.in_ok-main.ensures.sites c.in_ok-main.ensures.strings c.in_ok-main.ensures.globals in
     λ q a. one_program t (program_of p) q whole a

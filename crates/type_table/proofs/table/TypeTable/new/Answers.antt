@@ -5,6 +5,7 @@ use Rattle.type_table.specs.declared.value_type.ValueType.{ValueType}
 use Rattle.type_table.specs.Formed.{IsFormed}
 use Rattle.type_table.specs.Memory.{fields_in, table_of, IsCounted}
 use Rattle.type_table.proofs.Beginning.{basic, formed_basic, counted_basic}
+use Rattle.type_table.proofs.PartTrees.{basic_trees}
 use Rattle.type_table.proofs.table.TypeTable.new.Goals as goal
 
 basic_at : (types : List ValueType) (told : List (Option Told)) (words : List (Option ℕ)) (n : ℕ) → types ≡ basic → told ≡ replicate n None → words ≡ Some 1 ∷ Some 1 ∷ [] → IsFormed (table_of types told) × IsCounted (table_of types told) words told
@@ -29,3 +30,6 @@ returns-clause-basic c = ap₂ (λ ts ss. record { types = ts; structs = ss }) (
 
 pub returns-clause-formed : goal.returns-clause-formed
 returns-clause-formed c = (invariant_of-result c).0
+
+pub returns-clause-trees : goal.returns-clause-trees
+returns-clause-trees c = basic_trees _ (returns-clause-formed c) (ap (λ T. T.types) (returns-clause-basic c))

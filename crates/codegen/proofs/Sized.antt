@@ -1,0 +1,29 @@
+-- The numbers of instructions of operands and of what stands behind them.
+use Rattle.std.proofs.Common.{◌≡◌, ℕ, ◌+◌, List, [], ◌∷◌, map, arith}
+use Rattle.typed.specs.declared.expr.Place.{Place}
+use Rattle.typed.specs.declared.stmt.Left.{Left as LeftData}
+use Rattle.typed.specs.Syntax.{Left, Program, blank, new, to}
+use Rattle.typed.specs.View.{place_of, left_of}
+use Rattle.simulated_code.specs.Code.{address_size, element_round_size, index_round_size, lefts_size, lefts_sized, place_size}
+use Rattle.simulated_code.proofs.Sizes.{place_sum, lefts_sum}
+
+pub place_total : (p : Program) (q : Place) (behind : ℕ) → place_size p (place_of q) behind ≡ place_size p (place_of q) 0 + behind
+place_total p q behind = place_sum p (place_of q) behind
+
+pub lefts_total : (p : Program) (ls : List Left) (behind : ℕ) → lefts_sized p ls behind ≡ lefts_sized p ls 0 + behind
+lefts_total p ls behind = lefts_sum p ls behind
+
+-- two left sides, one by one
+sizes_two : (l r : Left) → lefts_size (l ∷ r ∷ []) ≡ lefts_size (l ∷ []) + lefts_size (r ∷ [])
+sizes_two blank r = omega arith
+sizes_two (new site) r = omega arith
+sizes_two (to q) r = omega arith
+
+sized_two : (p : Program) (l r : Left) (n : ℕ) → lefts_sized p (l ∷ r ∷ []) n ≡ lefts_sized p (l ∷ []) 0 + lefts_sized p (r ∷ []) n
+sized_two p blank r n = omega arith
+sized_two p (new site) r n = omega arith
+sized_two p (to q) r n = omega (arith, place_sum p q (lefts_sized p (r ∷ []) n))
+
+pub pair_sized : (p : Program) (l r : Left) → element_round_size p l r ≡ index_round_size p l + index_round_size p r + 4
+pair_sized p l r =
+    omega (arith, sized_two p l r (4 + lefts_size (l ∷ r ∷ [])), sizes_two l r, lefts_sum p (l ∷ []) (lefts_size (l ∷ [])), lefts_sum p (r ∷ []) (lefts_size (r ∷ [])), lefts_sum p (r ∷ []) (4 + lefts_size (l ∷ r ∷ [])))
