@@ -37,7 +37,7 @@ split_pieces ps i x l is =
     let one : suc i ≡ i + 1 = omega arith in
     ap (map piece_of) (drop-cons ps i x l) ∙ ap (λ y. piece_of y ∷ map piece_of (drop (suc i) ps)) (sym is) ∙ ap (λ j. piece_of x ∷ map piece_of (drop j ps)) one
 
-split_lefts : (ls : List LeftData) (i : ℕ) (x : LeftData) → i < length ls → x ≡ get_or ls i x → map left_of (drop i ls) ≡ left_of x ∷ map left_of (drop (i + 1) ls)
+pub split_lefts : (ls : List LeftData) (i : ℕ) (x : LeftData) → i < length ls → x ≡ get_or ls i x → map left_of (drop i ls) ≡ left_of x ∷ map left_of (drop (i + 1) ls)
 split_lefts ls i x l is =
     let one : suc i ≡ i + 1 = omega arith in
     ap (map left_of) (drop-cons ls i x l) ∙ ap (λ (y : LeftData). left_of y ∷ map left_of (drop (suc i) ls)) (sym is) ∙ ap (λ j. left_of x ∷ map left_of (drop j ls)) one
@@ -61,17 +61,17 @@ module _ (s : Slots) where
   pub length_left : (l : Left) (first at h : ℕ) → length (left_code s l first at h) ≡ lefts_size (l ∷ [])
   length_left l first at h = ap length (sym (left_alone 0 l first at h)) ∙ length_lefts s (0 ∷ []) (l ∷ []) first at h
 
-  pub left_emitted : (whole code behind : List Instr) (ns : List ℕ) (ls : List LeftData) (i : ℕ) (x : LeftData) (first next at h after : ℕ) → i < length ls → x ≡ get_or ls i x → after ≡ h + slice_index ns i → next ≡ lefts_above (left_of x ∷ []) first
+  pub left_emitted : (whole code behind : List Instr) (ns : List ℕ) (ls : List LeftData) (i : ℕ) (x : LeftData) (first above at h after : ℕ) → i < length ls → x ≡ get_or ls i x → after ≡ h + slice_index ns i → above ≡ lefts_above (left_of x ∷ []) first
       → whole ≡ code ++ lefts_code s (drop i ns) (map left_of (drop i ls)) first at h → behind ≡ code ++ left_code s (left_of x) first at h
-      → whole ≡ behind ++ lefts_code s (drop (i + 1) ns) (map left_of (drop (i + 1) ls)) next at after
-  left_emitted whole code behind ns ls i x first next at h after l is e0 en e1 e2 =
-      let rest = map left_of (drop (i + 1) ls) in let c = left_code s (left_of x) first at h in let above = lefts_above (left_of x ∷ []) first in
+      → whole ≡ behind ++ lefts_code s (drop (i + 1) ns) (map left_of (drop (i + 1) ls)) above at after
+  left_emitted whole code behind ns ls i x first above at h after l is e0 en e1 e2 =
+      let rest = map left_of (drop (i + 1) ls) in let c = left_code s (left_of x) first at h in let own = lefts_above (left_of x ∷ []) first in
       e1 ∙ ap (λ y. code ++ lefts_code s (drop i ns) y first at h) (split_lefts ls i x l is) ∙ ap (λ y. code ++ y) (lefts_first (drop i ns) (left_of x) rest first at h)
-      ∙ sym (append_assoc code c (lefts_code s (other_widths (drop i ns)) rest above at (h + first_width (drop i ns))))
-      ∙ ap (λ y. y ++ lefts_code s (other_widths (drop i ns)) rest above at (h + first_width (drop i ns))) (sym e2)
-      ∙ ap (λ y. behind ++ lefts_code s y rest above at (h + first_width (drop i ns))) (other_drop ns i)
-      ∙ ap (λ w. behind ++ lefts_code s (drop (i + 1) ns) rest above at (h + w)) (first_drop ns i)
-      ∙ ap (λ k. behind ++ lefts_code s (drop (i + 1) ns) rest above at k) (sym e0)
+      ∙ sym (append_assoc code c (lefts_code s (other_widths (drop i ns)) rest own at (h + first_width (drop i ns))))
+      ∙ ap (λ y. y ++ lefts_code s (other_widths (drop i ns)) rest own at (h + first_width (drop i ns))) (sym e2)
+      ∙ ap (λ y. behind ++ lefts_code s y rest own at (h + first_width (drop i ns))) (other_drop ns i)
+      ∙ ap (λ w. behind ++ lefts_code s (drop (i + 1) ns) rest own at (h + w)) (first_drop ns i)
+      ∙ ap (λ k. behind ++ lefts_code s (drop (i + 1) ns) rest own at k) (sym e0)
       ∙ ap (λ k. behind ++ lefts_code s (drop (i + 1) ns) rest k at after) (sym en)
 
   pub lefts_split : (n at h : ℕ) (ns : List ℕ) (ls : List LeftData) (i : ℕ) (x : LeftData) → i < length ls → x ≡ get_or ls i x → LeftsFitIn s n at h (drop i ns) (map left_of (drop i ls))
@@ -90,8 +90,8 @@ module _ (s : Slots) where
   above_first (new site) ls h = refl
   above_first (to q) ls h = refl
 
-  pub above_next : (ls : List LeftData) (i : ℕ) (x : LeftData) (h next : ℕ) → i < length ls → x ≡ get_or ls i x → next ≡ lefts_above (left_of x ∷ []) h → lefts_above (map left_of (drop i ls)) h ≡ lefts_above (map left_of (drop (i + 1) ls)) next
-  above_next ls i x h next l is e =
+  pub above_next : (ls : List LeftData) (i : ℕ) (x : LeftData) (h above : ℕ) → i < length ls → x ≡ get_or ls i x → above ≡ lefts_above (left_of x ∷ []) h → lefts_above (map left_of (drop i ls)) h ≡ lefts_above (map left_of (drop (i + 1) ls)) above
+  above_next ls i x h above l is e =
       ap (λ y. lefts_above y h) (split_lefts ls i x l is) ∙ above_first (left_of x) (map left_of (drop (i + 1) ls)) h ∙ ap (lefts_above (map left_of (drop (i + 1) ls))) (sym e)
 
   pub above_one : (p : Program) (ls : List LeftData) (i : ℕ) (x : LeftData) (h : ℕ) → i < length ls → x ≡ get_or ls i x → lefts_above (left_of x ∷ []) h ≤ lefts_above (map left_of (drop i ls)) h

@@ -13,3 +13,4 @@ pub mod Whole
 pub mod Sized
 pub mod Steps
 pub mod Reached
+pub mod Elements

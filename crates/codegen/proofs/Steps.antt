@@ -115,6 +115,15 @@ module _ (steps : List Step) (i : ℕ) (x : Step) (l : i < length steps) (is : x
         → index_code s t now first at ≡ Index (temp s at) (temp s at) (temp s first) n (width (part_type t 0)) ∷ index_code s (part_type t 0) behind (first + 1) at
     index_index s t first at = ap (λ y. index_code s t y first at) index_split
 
+    pub index_emitted : (s : Slots) (t u : ValueType) (whole code more : List Instr) (first at a c w : ℕ) → a ≡ temp s at → c ≡ temp s first → w ≡ width (part_type t 0) → u ≡ part_type t 0 → whole ≡ code ++ index_code s t now first at
+        → more ≡ code ++ Index a a c n w ∷ [] → whole ≡ more ++ index_code s u behind (first + 1) at
+    index_emitted s t u whole code more first at a c w ea ec ew eu e1 e2 =
+        let one = Index (temp s at) (temp s at) (temp s first) n (width (part_type t 0)) in
+        let rest = index_code s (part_type t 0) behind (first + 1) at in
+        let f2 : more ≡ code ++ one ∷ [] =
+        e2 ∙ ap (λ k. code ++ Index k k c n w ∷ []) ea ∙ ap (λ k. code ++ Index (temp s at) (temp s at) k n w ∷ []) ec ∙ ap (λ k. code ++ Index (temp s at) (temp s at) (temp s first) n k ∷ []) ew in
+        e1 ∙ ap (λ y. code ++ y) (index_index s t first at) ∙ sym (append_assoc code (one ∷ []) rest) ∙ ap (λ l. l ++ rest) (sym f2) ∙ ap (λ (v : ValueType). more ++ index_code s v behind (first + 1) at) (sym eu)
+
     pub address_index : (s : Slots) (slot : ℕ) (t : ValueType) (first at : ℕ) → steps_address s slot t now first at ≡ Address (temp s at) slot ∷ index_code s t now first at
     address_index s slot t first at =
         ap (λ y. steps_address s slot t y first at) index_split ∙ ap (λ y. Address (temp s at) slot ∷ index_code s t y first at) (sym index_split)

@@ -1,7 +1,7 @@
 //! The code of declarations and assignments.
 ghost use Rattle.std.specs.Prelude.{◌≡◌, ◌+◌, ◌<◌, ◌≤◌, ◌++◌, ◌∷◌, [], OnOk, length, map};
 ghost use Rattle.isa.specs.declared.instr.Instr.{Instr};
-ghost use Rattle.typed.specs.View.{ex_of, exs_of_values, left_of, place_of, program_of, steps_of as these_steps};
+ghost use Rattle.typed.specs.View.{ex_of, exs_of_values, left_of, place_of, program_of};
 ghost use Rattle.typed.specs.Syntax.{all_wide, value_widths};
 ghost use Rattle.typed.specs.Frames.{far};
 ghost use Rattle.codegen.specs.Frame.{slots_in, assign_code, bump_code, left_code, update_code, IsSmall};
@@ -10,10 +10,9 @@ ghost use Rattle.simulated_code.specs.Code.{above_address as above_address_of, l
 
 use crate::jumps::put;
 use crate::moving::moves;
-use crate::parts::steps_of;
 use crate::reaching::{above_address, above_operands, emit_address, emit_fetch, emit_land, emit_write};
 use crate::slots::Frame;
-use crate::values::{emit_expr, emit_operation, emit_steps, emit_values};
+use crate::values::{emit_expr, emit_operation, emit_place, emit_values};
 use crate::widths::value_words;
 use base::NoMemory;
 use frame_layout::values_words;
@@ -56,7 +55,7 @@ pub fn ready_left(
     ensures { OnOk result (code.new.items ≡ code.old.items ++ ready_code (program_of program.now) (slots_in program.now frame) (left_of left.now ∷ []) h (length code.old.items)) }
 {
     match left {
-        Left::To(place) => emit_steps(code, program, frame, steps_of(place), h),
+        Left::To(place) => emit_place(code, program, frame, place, h),
         Left::Blank | Left::New(_) => Ok(()),
     }
 }
@@ -183,7 +182,7 @@ pub fn emit_update(
     ensures { OnOk result (code.new.items ≡ code.old.items
         ++ update_code (program_of program.now) (slots_in program.now frame) (place_of place.now) op (ex_of e.now) h (length code.old.items)) }
 {
-    emit_steps(code, program, frame, steps_of(place), h)?;
+    emit_place(code, program, frame, place, h)?;
     let at = above_operands(place, h);
     let value = above_address(place, at);
     emit_address(code, program, frame, place, h, at)?;
@@ -211,7 +210,7 @@ pub fn emit_bump(
     ensures { OnOk result (code.new.items ≡ code.old.items
         ++ bump_code (program_of program.now) (slots_in program.now frame) (place_of place.now) op h (length code.old.items)) }
 {
-    emit_steps(code, program, frame, steps_of(place), h)?;
+    emit_place(code, program, frame, place, h)?;
     let at = above_operands(place, h);
     let value = above_address(place, at);
     emit_address(code, program, frame, place, h, at)?;

@@ -5,7 +5,6 @@ ghost use Rattle.typed.specs.View.{elements_of, ex_of, exs_of, exs_of_values, pl
 ghost use Rattle.simulated_code.specs.Code.{call_size, elements_size, exs_size, move_size, place_size, size, steps_size, test_size};
 
 use crate::literals::{ascends, behind_len};
-use crate::parts::steps_of;
 use crate::reaching::address_len;
 use base::{FuncId, NoMemory, TypeId};
 use frame_layout::{arguments_of, results_of};
@@ -56,7 +55,7 @@ pub fn expr_len(program: &Program, e: &Expr) -> Result<u32, NoMemory>
     match e {
         Expr::Constant(_) => Ok(1),
         Expr::Read(place) => {
-            let operands = steps_len(program, steps_of(place))?;
+            let operands = place_len(program, place)?;
             let address = address_len(place)?;
             let n = plus(operands, address)?;
             plus(n, 1)
@@ -101,9 +100,21 @@ pub fn expr_len(program: &Program, e: &Expr) -> Result<u32, NoMemory>
     }
 }
 
+/// The operands of a place.
+#[cycle(values)]
+#[tactic(auto, using(typed::proofs::Rows::expr_rows))]
+pub fn place_len(program: &Program, place: &Place) -> Result<u32, NoMemory>
+    ensures { IfOk result (λ n. n ≡ place_size (program_of program.now) (place_of place.now) 0) }
+{
+    match place {
+        Place::Local(_, steps) => steps_len(program, steps),
+        Place::Global(_, steps) => steps_len(program, steps),
+    }
+}
+
 /// The indices among steps.
 #[cycle(values)]
-pub fn steps_len(program: &Program, steps: &[Step]) -> Result<u32, NoMemory>
+fn steps_len(program: &Program, steps: &[Step]) -> Result<u32, NoMemory>
     ensures { IfOk result (λ n. n ≡ steps_size (program_of program.now) (these_steps steps.now) 0) }
 {
     let mut total = 0;
@@ -158,14 +169,6 @@ fn row_len(program: &Program, es: &[Expr]) -> Result<u32, NoMemory>
         total = plus(total, n)?;
     }
     Ok(total)
-}
-
-/// The operands of a place.
-#[tactic(auto, using(crate::proofs::Steps::size_place))]
-pub fn place_len(program: &Program, place: &Place) -> Result<u32, NoMemory>
-    ensures { IfOk result (λ n. n ≡ place_size (program_of program.now) (place_of place.now) 0) }
-{
-    steps_len(program, steps_of(place))
 }
 
 /// An expression and an instruction behind it.

@@ -29,12 +29,6 @@ pub fn ascends(es: &[Element]) -> bool
     true
 }
 
-// The words of a value of a type up to the end of a part; more than 64 bits can tell count as all that they can.
-fn words_through(program: &Program, id: TypeId, number: u32) -> u64 {
-    let before = program.types.part_offset(id, number);
-    before.saturating_add(u64::from(program.types.width(program.types.part(id, number))))
-}
-
 /// The words between a part of a literal and the first of the elements behind it.
 pub fn gap_behind(program: &Program, id: TypeId, number: u32, behind: &[Element]) -> u64
     ensures { result ≡ gap_in (type_named (program_of program.now) id.0) number (elements_of behind.now) }
@@ -43,7 +37,10 @@ pub fn gap_behind(program: &Program, id: TypeId, number: u32, behind: &[Element]
         Some(Element::For(next, _)) => program.types.part_offset(id, *next),
         None => u64::from(program.types.width(id)),
     };
-    before.saturating_sub(words_through(program, id, number))
+    let part = program.types.part(id, number);
+    before
+        .saturating_sub(program.types.part_offset(id, number))
+        .saturating_sub(u64::from(program.types.width(part)))
 }
 
 /// The number of instructions behind an element: what zeroes the words up to the next one, or its move.
@@ -71,7 +68,8 @@ pub fn emit_gap(
 {
     let gap = gap_behind(program, id, number, behind) as u16;
     if gap > 0 {
-        let from = h + words_through(program, id, number) as u16;
+        let width = program.types.width(program.types.part(id, number)) as u16;
+        let from = h + program.types.part_offset(id, number) as u16 + width;
         put(code, zeros(gap, frame.temp(from)))?;
     }
     Ok(())

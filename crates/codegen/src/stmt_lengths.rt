@@ -100,10 +100,8 @@ fn ready_len(program: &Program, ls: &[Left]) -> Result<u32, NoMemory>
 {
     let mut total = 0;
     for left in ls {
-        if let Left::To(place) = left {
-            let n = place_len(program, place)?;
-            total = plus(total, n)?;
-        }
+        let n = left_ready_len(program, left)?;
+        total = plus(total, n)?;
     }
     Ok(total)
 }

@@ -3,22 +3,21 @@ ghost use Rattle.std.specs.Prelude.{◌≡◌, ◌+◌, ◌≤◌, ◌++◌, ◌
 ghost use Rattle.isa.specs.declared.instr.Instr.{Instr};
 ghost use Rattle.value_trees.specs.Types.{width};
 ghost use Rattle.typed.specs.Syntax.{type_named};
-ghost use Rattle.typed.specs.View.{elements_of, ex_of, exs_of, exs_of_values, program_of, steps_of as these_steps, value_of};
+ghost use Rattle.typed.specs.View.{elements_of, ex_of, exs_of, exs_of_values, place_of, program_of, steps_of as these_steps, value_of};
 ghost use Rattle.codegen.specs.Frame.{slots_in, IsSmall};
-ghost use Rattle.codegen.specs.Temps.{CallFits, ElementsFitIn, Fits, ExsFitIn, StepsFitIn};
-ghost use Rattle.simulated_code.specs.Code.{binary_code as code_of_binary, call_code, elements_code, ex_code, exs_code, steps_code, operation as operation_of, size, temp, unary_code, word_of};
+ghost use Rattle.codegen.specs.Temps.{CallFits, ElementsFitIn, Fits, ExsFitIn, OperandsFit, StepsFitIn};
+ghost use Rattle.simulated_code.specs.Code.{binary_code as code_of_binary, call_code, elements_code, ex_code, exs_code, place_code, steps_code, operation as operation_of, size, temp, unary_code, word_of};
 
 use crate::jumps::{jump, jump_if_zero, put};
 use crate::lengths::expr_len;
 use crate::literals::{ascends, emit_gap, moved, taken};
 use crate::moving::{emit_move, zeros};
-use crate::parts::steps_of;
 use crate::reaching::{above_operands, emit_read};
 use crate::slots::Frame;
 use base::{FuncId, NoMemory, TypeId};
 use frame_layout::{arguments_of, expr_words, results_of};
 use isa::Instr;
-use typed::{BinOp, Const, Element, Expr, Program, Step, UnOp, Values};
+use typed::{BinOp, Const, Element, Expr, Place, Program, Step, UnOp, Values};
 
 /// The instruction's operation.
 pub fn operation(op: BinOp) -> isa::BinOp
@@ -218,7 +217,7 @@ pub fn emit_expr(
             put(code, Instr::Const { a, word })?;
         }
         Expr::Read(place) => {
-            emit_steps(code, program, frame, steps_of(place), h)?;
+            emit_place(code, program, frame, place, h)?;
             emit_read(code, program, frame, place, above_operands(place, h), h)?;
         }
         Expr::Unary(op, a) => {
@@ -270,9 +269,30 @@ pub fn emit_expr(
     Ok(())
 }
 
-/// The indices among steps land in temps from h on.
+/// The operands of a place land in temps from h on.
 #[cycle(values)]
-pub fn emit_steps(
+#[tactic(auto, using(typed::proofs::Rows::expr_rows))]
+pub fn emit_place(
+    code: &mut Vec<Instr>,
+    program: &Program,
+    frame: Frame,
+    place: &Place,
+    h: u16,
+) -> Result<(), NoMemory>
+    requires fits { OperandsFit (program_of program.now) (slots_in program.now frame) frame.sites h (place_of place.now) }
+    requires frame { IsSmall program.now frame }
+    ensures { OnOk result (code.new.items ≡ code.old.items ++ place_code (program_of program.now) (slots_in program.now frame) (place_of place.now) h (length code.old.items)) }
+{
+    match place {
+        Place::Local(_, steps) => emit_steps(code, program, frame, steps, h)?,
+        Place::Global(_, steps) => emit_steps(code, program, frame, steps, h)?,
+    }
+    Ok(())
+}
+
+// The indices among steps land in temps from h on.
+#[cycle(values)]
+fn emit_steps(
     code: &mut Vec<Instr>,
     program: &Program,
     frame: Frame,
@@ -285,9 +305,12 @@ pub fn emit_steps(
 {
     let mut next = h;
     for step in steps {
-        if let Step::Index(_, e, _) = step {
-            emit_expr(code, program, frame, e, next)?;
-            next += 1;
+        match step {
+            Step::Inner(_) => {}
+            Step::Index(_, e, _) => {
+                emit_expr(code, program, frame, e, next)?;
+                next += 1;
+            }
         }
     }
     Ok(())
@@ -309,10 +332,13 @@ fn emit_ordered(
         ++ elements_code (program_of program.now) (slots_in program.now frame) (type_named (program_of program.now) id.0) true (elements_of es.now) h (length code.old.items)) }
 {
     for (i, element) in es.iter().enumerate() {
-        let Element::For(number, e) = element;
-        let place = h + program.types.part_offset(id, *number) as u16;
-        emit_expr(code, program, frame, e, place)?;
-        emit_gap(code, program, frame, id, *number, &es[i + 1..], h)?;
+        match element {
+            Element::For(number, e) => {
+                let place = h + program.types.part_offset(id, *number) as u16;
+                emit_expr(code, program, frame, e, place)?;
+                emit_gap(code, program, frame, id, *number, &es[i + 1..], h)?;
+            }
+        }
     }
     Ok(())
 }
@@ -335,9 +361,12 @@ fn emit_moved(
 {
     let behind = h + program.types.width(id) as u16;
     for element in es {
-        let Element::For(number, e) = element;
-        emit_expr(code, program, frame, e, behind)?;
-        put(code, moved(program, frame, id, *number, behind, h))?;
+        match element {
+            Element::For(number, e) => {
+                emit_expr(code, program, frame, e, behind)?;
+                put(code, moved(program, frame, id, *number, behind, h))?;
+            }
+        }
     }
     Ok(())
 }
