@@ -19,7 +19,6 @@ use Rattle.codegen.specs.Frame.{assign_code, bump_code, key_code, left_code, par
 use Rattle.codegen.specs.Temps.{ExsFitIn, LeftFits, LeftsFitIn, ParamFits, ParamsFitIn, PiecesFitIn, ReadyFitIn, StsFitIn}
 use Rattle.simulated_code.specs.Code.{Slots, above_address, address_code, address_size, array_code, binary_code, element_round_code, element_round_size, ex_code, exs_code, fetch_code, first_width, index_round_code, index_round_size, land_code, lefts_above, lefts_code, lefts_end, lefts_size, lefts_sized, moves, operation, other_widths, params_code, piece_size, pieces_code, place_above, place_code, place_end, place_size, ready_code, renew_code, renew_size, site_slot, site_words, size, st_code, st_size, sts_code, sts_size, temp, test_code, test_size}
 use Rattle.simulated_code.proofs.Sizes.{length_address, length_code, length_element_round, length_index_round, length_last, length_lefts, length_pieces, length_place, length_ready, length_renew, length_st, length_sts, length_test, lefts_ends, lefts_sum, place_ends}
-use Rattle.codegen.proofs.Operands.{lefts_from}
 use Rattle.codegen.proofs.ByWidth.{first_drop, other_drop}
 
 split : (ss : List Stmt) (i : ℕ) (x : Stmt) → i < length ss → x ≡ get_or ss i x → sts_of (drop i ss) ≡ next (st_of x) (sts_of (drop (i + 1) ss))
@@ -48,7 +47,7 @@ split_params ps i none l = let one : suc i ≡ i + 1 = omega arith in ap (map si
 -- left sides and parameters, which go by widths
 module _ (s : Slots) where
   -- one, and the others
-  lefts_first : (ns : List ℕ) (l : Left) (ls : List Left) (first at h : ℕ)
+  pub lefts_first : (ns : List ℕ) (l : Left) (ls : List Left) (first at h : ℕ)
       → lefts_code s ns (l ∷ ls) first at h ≡ left_code s l first at h ++ lefts_code s (other_widths ns) ls (lefts_above (l ∷ []) first) at (h + first_width ns)
   lefts_first ns blank ls first at h = refl
   lefts_first ns (new site) ls first at h = refl
@@ -83,21 +82,6 @@ module _ (s : Slots) where
         g.1,
         subst (λ w. LeftsFitIn s n at (h + w) (drop (i + 1) ns) rest) (first_drop ns i) (subst (λ y. LeftsFitIn s n at (h + first_width (drop i ns)) y rest) (other_drop ns i) g.3),
       )
-
-  -- the operands of one, and those of the others
-  above_first : (l : Left) (ls : List Left) (h : ℕ) → lefts_above (l ∷ ls) h ≡ lefts_above ls (lefts_above (l ∷ []) h)
-  above_first blank ls h = refl
-  above_first (new site) ls h = refl
-  above_first (to q) ls h = refl
-
-  pub above_next : (ls : List LeftData) (i : ℕ) (x : LeftData) (h above : ℕ) → i < length ls → x ≡ get_or ls i x → above ≡ lefts_above (left_of x ∷ []) h → lefts_above (map left_of (drop i ls)) h ≡ lefts_above (map left_of (drop (i + 1) ls)) above
-  above_next ls i x h above l is e =
-      ap (λ y. lefts_above y h) (split_lefts ls i x l is) ∙ above_first (left_of x) (map left_of (drop (i + 1) ls)) h ∙ ap (lefts_above (map left_of (drop (i + 1) ls))) (sym e)
-
-  pub above_one : (p : Program) (ls : List LeftData) (i : ℕ) (x : LeftData) (h : ℕ) → i < length ls → x ≡ get_or ls i x → lefts_above (left_of x ∷ []) h ≤ lefts_above (map left_of (drop i ls)) h
-  above_one p ls i x h l is =
-      let e = ap (λ y. lefts_above y h) (split_lefts ls i x l is) ∙ above_first (left_of x) (map left_of (drop (i + 1) ls)) h in
-      let k = lefts_from p (map left_of (drop (i + 1) ls)) (lefts_above (left_of x ∷ []) h) in omega (arith, e, k)
 
   params_first : (ns : List ℕ) (q : Option ℕ) (ps : List (Option ℕ)) (word : ℕ) → params_code s ns (q ∷ ps) word ≡ param_code s q (first_width ns) word ++ params_code s (other_widths ns) ps (word + first_width ns)
   params_first ns None ps word = refl
@@ -202,7 +186,7 @@ module _ (p : Program) (s : Slots) where
       by (shown t e) g = g.2
 
   -- the operands of left sides, those of one and those of the others
-  ready_first : (l : Left) (ls : List Left) (h pc : ℕ) → ready_code p s (l ∷ ls) h pc ≡ ready_code p s (l ∷ []) h pc ++ ready_code p s ls (lefts_above (l ∷ []) h) (pc + lefts_sized p (l ∷ []) 0)
+  pub ready_first : (l : Left) (ls : List Left) (h pc : ℕ) → ready_code p s (l ∷ ls) h pc ≡ ready_code p s (l ∷ []) h pc ++ ready_code p s ls (lefts_above (l ∷ []) h) (pc + lefts_sized p (l ∷ []) 0)
   ready_first blank ls h pc = let z : pc ≡ pc + 0 = omega arith in ap (ready_code p s ls h) z
   ready_first (new site) ls h pc = let z : pc ≡ pc + 0 = omega arith in ap (ready_code p s ls h) z
   ready_first (to q) ls h pc =

@@ -14,3 +14,5 @@ pub mod Sized
 pub mod Steps
 pub mod Reached
 pub mod Elements
+pub mod Above
+pub mod Pairs

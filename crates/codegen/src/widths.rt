@@ -1,10 +1,10 @@
 //! The words of values by their places among others.
-ghost use Rattle.std.specs.Prelude.{◌≡◌, map, slice_index, IfOk};
+ghost use Rattle.std.specs.Prelude.{◌≡◌, map, slice_get, slice_index, IfOk};
 ghost use Rattle.type_table.specs.Trees.{trees};
-ghost use Rattle.typed.specs.Syntax.{each_width, type_in, value_widths};
+ghost use Rattle.typed.specs.Syntax.{each_width, result_widths, type_in, value_widths};
 ghost use Rattle.typed.specs.View.{exs_of, exs_of_values, program_of};
 
-use base::{NoMemory, TypeId};
+use base::{FuncId, NoMemory, TypeId};
 use frame_layout::expr_words;
 use typed::{Expr, Program, Values};
 
@@ -28,6 +28,16 @@ fn nth_expr_words(program: &Program, es: &[Expr], i: usize) -> Result<u64, NoMem
     }
 }
 
+// The words of one of a function's results; 0 where there are fewer.
+fn nth_result_words(program: &Program, f: FuncId, i: usize) -> u64
+    ensures { result ≡ slice_index (result_widths (slice_get (program_of program.now).funcs f.0)) i }
+{
+    match program.funcs.get(f.0 as usize) {
+        Some(func) => nth_words(program, &func.results, i),
+        None => 0,
+    }
+}
+
 /// The words of one of some values; 0 where there are fewer.
 #[tactic(auto, using(typed::proofs::Rows::expr_rows))]
 pub fn value_words(program: &Program, values: &Values, i: usize) -> Result<u64, NoMemory>
@@ -35,10 +45,7 @@ pub fn value_words(program: &Program, values: &Values, i: usize) -> Result<u64, 
 {
     match values {
         Values::Each(es) => nth_expr_words(program, es, i),
-        Values::Results(f, _) => match program.funcs.get(f.0 as usize) {
-            Some(func) => Ok(nth_words(program, &func.results, i)),
-            None => Ok(0),
-        },
+        Values::Results(f, _) => Ok(nth_result_words(program, *f, i)),
         Values::ReadInt => Ok(if i < 2 { 1 } else { 0 }),
     }
 }
