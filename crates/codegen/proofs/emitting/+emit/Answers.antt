@@ -1,10 +1,10 @@
 use Rattle.std.proofs.Common.{◌≡◌, ◌+◌, ◌++◌, ◌∷◌, [], length, ap, ◌∙◌, arith}
 use Rattle.typed.proofs.Rows.{stmt_rows}
-use Rattle.typed.specs.Syntax.{blank, over_int, choose, loop, range, argument_words, result_words}
+use Rattle.typed.specs.Syntax.{blank, over_copy, over_int, over_length, choose, loop, range, argument_words, result_words}
 use Rattle.typed.specs.View.{ex_of, left_of, program_of, site_numbers, st_of, sts_of, test_of}
-use Rattle.simulated_code.specs.Code.{lefts_size, renew_code, renew_size, sts_code, sts_size, test_size}
+use Rattle.simulated_code.specs.Code.{element_round_size, index_round_size, renew_code, renew_size, sts_code, sts_size, test_size}
 use Rattle.codegen.specs.Frame.{func_in, slots_in}
-use Rattle.codegen.proofs.Emitted.{next_emitted, next_fits, if_emitted, loop_emitted, count_emitted}
+use Rattle.codegen.proofs.Emitted.{next_emitted, next_fits, if_emitted, loop_emitted, count_emitted, indices_emitted, elements_emitted}
 use Rattle.codegen.proofs.emitting.+emit.Goals as goal
 
 pub emit_stmts-loop-s-preserved : goal.emit_stmts-loop-s-preserved
@@ -48,10 +48,45 @@ emit_stmt-returns-in_ok-emit_count_turn-in-Count t c =
     let v = c.in-Count in let g = c.in_ok-inner-in-Count.inner in
     let shape : st_of c.args.s.now ≡ range (over_int (ex_of v.e)) (left_of v.key) blank (sts_of v.body.items) = grind (arith, stmt_rows) in
     let start : c.in_ok-start.start ≡ length c.args.code.now.items = omega (arith, c.in_ok-start.ensures) in
-    rw shape (count_emitted p (argument_words f) f.named slots c.args.code.now.items _ _ _ _ (ex_of v.e) v.key blank (sts_of v.body.items) _ _ g.again g.out h c.args.goals.out c.args.goals.again start
+    rw shape (count_emitted p (argument_words f) f.named slots c.args.code.now.items _ _ _ _ _ (ex_of v.e) (left_of v.key) blank (sts_of v.body.items) _ _ g.again g.out h c.args.goals.out c.args.goals.again start
     c.in_ok-test-in-Count.ensures
-    (c.in_ok-inner-in-Count.ensures.again ∙ ap (λ x. c.in_ok-test-in-Count.test + 2 + lefts_size (left_of v.key ∷ []) + sts_size p (argument_words f) f.named (sts_of x)) c.deref-in-Count.ensures.value)
+    (c.in_ok-inner-in-Count.ensures.again ∙ ap (λ x. c.in_ok-test-in-Count.test + 2 + index_round_size p (left_of v.key) + sts_size p (argument_words f) f.named (sts_of x)) c.deref-in-Count.ensures.value)
     c.in_ok-inner-in-Count.ensures.out
-    c.in_ok-emit_count_start-in-Count.ensures c.in_ok-emit_count_test-in-Count.ensures
-    (c.in_ok-emit_stmts-in-Count.ensures ∙ ap (λ x. c.emit_count_test.new.code.items ++ sts_code p (argument_words f) f.named slots (sts_of x) (h + 2) g.out g.again (length c.emit_count_test.new.code.items)) c.deref-in-Count-2.ensures.value)
+    c.in_ok-emit_count_start-in-Count.ensures c.in_ok-emit_count_test-in-Count.ensures c.in_ok-emit_key-in-Count.ensures
+    (c.in_ok-emit_stmts-in-Count.ensures ∙ ap (λ x. c.emit_key.new.code.items ++ sts_code p (argument_words f) f.named slots (sts_of x) (h + 2) g.out g.again (length c.emit_key.new.code.items)) c.deref-in-Count-2.ensures.value)
     c.in_ok-emit_count_turn-in-Count.ensures)
+
+pub emit_stmt-returns-in_ok-emit_array_turn-in-Indices : goal.emit_stmt-returns-in_ok-emit_array_turn-in-Indices
+emit_stmt-returns-in_ok-emit_array_turn-in-Indices t c =
+    let p = program_of c.args.program.now in let f = func_in c.args.program.now c.args.func.now in let slots = slots_in c.args.program.now c.args.frame in let h = c.args.h in
+    let v = c.in-Indices in let g = c.in_ok-inner-in-Indices.inner in
+    let shape : st_of c.args.s.now ≡ range (over_length v.count) (left_of v.key) blank (sts_of v.body.items) = grind (arith, stmt_rows) in
+    let start : c.in_ok-start.start ≡ length c.args.code.now.items = omega (arith, c.in_ok-start.ensures) in
+    rw shape (indices_emitted p (argument_words f) f.named slots c.args.code.now.items _ _ _ _ (left_of v.key) blank (sts_of v.body.items) v.count c.in_ok-start.start _ g.again g.out h c.args.goals.out c.args.goals.again start
+    c.in_ok-plus-in-Indices.ensures
+    (c.in_ok-inner-in-Indices.ensures.again
+    ∙ ap (λ n. c.in_ok-start.start + 4 + n + sts_size p (argument_words f) f.named (sts_of c.deref-in-Indices.result.now)) c.in_ok-key_len-in-Indices.ensures
+    ∙ ap (λ x. c.in_ok-start.start + 4 + index_round_size p (left_of v.key) + sts_size p (argument_words f) f.named (sts_of x)) c.deref-in-Indices.ensures.value)
+    c.in_ok-inner-in-Indices.ensures.out
+    c.in_ok-emit_array_start-in-Indices.ensures c.in_ok-emit_key-in-Indices.ensures
+    (c.in_ok-emit_stmts-in-Indices.ensures
+    ∙ ap (λ x. c.emit_key-in-Indices.new.code.items ++ sts_code p (argument_words f) f.named slots (sts_of x) (h + 1) g.out g.again (length c.emit_key-in-Indices.new.code.items)) c.deref-in-Indices-2.ensures.value)
+    c.in_ok-emit_array_turn-in-Indices.ensures)
+
+pub emit_stmt-returns-in_ok-emit_array_turn-in-Elements : goal.emit_stmt-returns-in_ok-emit_array_turn-in-Elements
+emit_stmt-returns-in_ok-emit_array_turn-in-Elements t c =
+    let p = program_of c.args.program.now in let f = func_in c.args.program.now c.args.func.now in let slots = slots_in c.args.program.now c.args.frame in let h = c.args.h in
+    let v = c.in-Elements in let g = c.in_ok-inner-in-Elements.inner in
+    let shape : st_of c.args.s.now ≡ range (over_copy v.site.0 (ex_of v.e) v.count) (left_of v.key) (left_of v.value) (sts_of v.body.items) = grind (arith, stmt_rows) in
+    let start : c.in_ok-start.start ≡ length c.args.code.now.items = omega (arith, c.in_ok-start.ensures) in
+    let begin = c.in_ok-begin-in-Elements.begin in
+    rw shape (elements_emitted p (argument_words f) f.named slots c.args.code.now.items _ _ _ _ _ v.site.0 (ex_of v.e) (left_of v.key) (left_of v.value) (sts_of v.body.items) v.count c.in_ok-start.start begin _ g.again g.out h
+    c.args.goals.out c.args.goals.again start c.in_ok-begin-in-Elements.ensures c.in_ok-plus-in-Elements.ensures
+    (c.in_ok-inner-in-Elements.ensures.again
+    ∙ ap (λ n. begin + 4 + n + sts_size p (argument_words f) f.named (sts_of c.deref-in-Elements.result.now)) c.in_ok-pair_len-in-Elements.ensures
+    ∙ ap (λ x. begin + 4 + element_round_size p (left_of v.key) (left_of v.value) + sts_size p (argument_words f) f.named (sts_of x)) c.deref-in-Elements.ensures.value)
+    c.in_ok-inner-in-Elements.ensures.out
+    c.in_ok-emit_copy-in-Elements.ensures c.in_ok-emit_array_start-in-Elements.ensures c.in_ok-emit_pair-in-Elements.ensures
+    (c.in_ok-emit_stmts-in-Elements.ensures
+    ∙ ap (λ x. c.emit_pair.new.code.items ++ sts_code p (argument_words f) f.named slots (sts_of x) (h + 1) g.out g.again (length c.emit_pair.new.code.items)) c.deref-in-Elements-2.ensures.value)
+    c.in_ok-emit_array_turn-in-Elements.ensures)
