@@ -1,5 +1,5 @@
 -- The temps above the operands of left sides, one by one.
-use Rattle.std.proofs.Common.{◌≡◌, ℕ, ◌+◌, ◌<◌, ◌≤◌, List, [], ◌∷◌, ◌∙◌, ap, drop, get_or, length, map, refl, subst, sym, arith}
+use Rattle.std.proofs.Common.{◌≡◌, ℕ, ◌+◌, ◌<◌, ◌≤◌, List, [], ◌∷◌, ◌∙◌, ap, drop, get_or, length, map, refl, sym, arith}
 use Rattle.typed.specs.declared.stmt.Left.{Left as LeftData}
 use Rattle.typed.specs.Syntax.{Pl, Left, local, global, blank, new, to}
 use Rattle.typed.specs.View.{left_of}

@@ -4,7 +4,7 @@ use Rattle.typed.specs.declared.expr.Place.{Place}
 use Rattle.typed.specs.declared.stmt.Left.{Left as LeftData}
 use Rattle.typed.specs.Syntax.{Left, Program, blank, new, to}
 use Rattle.typed.specs.View.{place_of, left_of}
-use Rattle.simulated_code.specs.Code.{address_size, element_round_size, index_round_size, lefts_size, lefts_sized, place_size}
+use Rattle.simulated_code.specs.Code.{element_round_size, index_round_size, lefts_size, lefts_sized, place_size}
 use Rattle.simulated_code.proofs.Sizes.{place_sum, lefts_sum}
 use Rattle.codegen.proofs.Emitted.{split_lefts}
 

@@ -4,15 +4,15 @@ use Rattle.std.specs.Prelude.{Option, None, max, slice_get}
 use Rattle.std.proofs.lemmas.Option.{slice_get_within}
 use Rattle.value_trees.specs.Types.{ValueType, ints, bools, array_of, width, part_count, part_type, part_offset}
 use Rattle.value_trees.specs.Value.{int, bool, composite}
-use Rattle.value_trees.specs.Paths.{Leads, offset}
+use Rattle.value_trees.specs.Paths.{Leads}
 use Rattle.value_trees.proofs.Parts.{element, leads_to, within}
-use Rattle.typed.specs.Syntax.{Ex, Exs, Pl, Steps, Left, Piece, St, Sts, Func, Program, constant, read, unary, binary, both, either, call, part_of, literal, Elements, no_elements, element as element_then, local, global, here, inner, at_index, none, more, results, asked, blank, new, to, text, shown, over_int, over_length, over_copy, declare, assign, update, bump, discard, block, choose, loop, range, break_off, go_on, give_back, print, raise, quit, done, next, all_width, each_width, arguments_in, result_words, arguments_of, results_of, type_named, site_type, site_width, path_of, place_width, wide, all_wide, ascend, words_before, words_through, gap_behind}
+use Rattle.typed.specs.Syntax.{Ex, Exs, Pl, Steps, Left, Piece, St, Sts, Func, Program, constant, read, unary, binary, both, either, call, part_of, literal, Elements, no_elements, element as element_then, local, global, here, inner, at_index, none, more, results, asked, blank, new, to, text, shown, over_int, over_length, over_copy, declare, assign, update, bump, discard, block, choose, loop, range, break_off, go_on, give_back, print, raise, quit, done, next, all_width, each_width, arguments_in, result_words, arguments_of, results_of, type_named, site_type, site_width, path_of, wide, all_wide, ascend, words_before}
 use Rattle.typed.specs.Form.{PlFits, StepsLead, ElementsFit, InScope, AllInScope, births, births_all, new_sites, scope_behind, scope_with, scope_after, SitesNext, LeftsFit, ExFits, ExsFit, TestFits, PiecesFit, ReturnFits, StFits, StsFit, ParamsFit, NamedFit, named_params, params_scope, scope_in, body_first, FuncFits, IsInForm}
 use Rattle.typed.specs.Frames.{far, left_far, lefts_far, behind_values, place_need, steps_need, elements_need, lefts_need, place_reach, steps_reach, elements_reach, lefts_reach, need, need_all, need_pieces, reach, reach_all, reach_pieces, test_need, test_reach, widest, st_need, sts_need, st_reach, sts_reach}
-use Rattle.simulated_code.specs.Code.{Slots, other_widths, part_words, above_address, place_above, steps_above, lefts_above, slots_of}
+use Rattle.simulated_code.specs.Code.{Slots, other_widths, part_words, above_address, place_above, lefts_above, slots_of}
 use Rattle.simulated_code.proofs.Rooms.{address_room, array_room, key_alone, key_room, lefts_others, lefts_room, place_others, place_room}
 use Rattle.simulated_code.proofs.Wide.{plain_one, takes_some, takes_one, place_is_of, wide_is, all_wide_is, widths_are}
-use Rattle.codegen.specs.Temps.{SiteFits, SitesFit, IndicesFit, PlaceFits, AddressFits, ParamsFitIn, LeftFits, left_words, LeftsFitIn, ValuesFit, RenewFits, CallFits, Fits, OperandsFit, StepsFitIn, ElementsFitIn, ExsFitIn, ReadyFitIn, PiecesFitIn, TestFitsIn, StFitsIn, StsFitIn, FuncFitsIn, reached, sites_words}
+use Rattle.codegen.specs.Temps.{SiteFits, SitesFit, IndicesFit, PlaceFits, ParamsFitIn, LeftFits, left_words, LeftsFitIn, ValuesFit, RenewFits, CallFits, Fits, OperandsFit, StepsFitIn, ElementsFitIn, ExsFitIn, ReadyFitIn, PiecesFitIn, TestFitsIn, StFitsIn, StsFitIn, FuncFitsIn, reached, sites_words}
 use Rattle.codegen.proofs.Operands.{above_sum}
 
 -- the sites in scope are among the n of a frame

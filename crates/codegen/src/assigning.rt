@@ -10,7 +10,9 @@ ghost use Rattle.simulated_code.specs.Code.{above_address as above_address_of, l
 
 use crate::jumps::put;
 use crate::moving::moves;
-use crate::reaching::{above_address, above_operands, emit_address, emit_fetch, emit_land, emit_write};
+use crate::reaching::{
+    above_address, above_operands, emit_address, emit_fetch, emit_land, emit_write,
+};
 use crate::slots::Frame;
 use crate::values::{emit_expr, emit_operation, emit_place, emit_values};
 use crate::widths::value_words;

@@ -129,7 +129,12 @@ fn steps_len(program: &Program, steps: &[Step]) -> Result<u32, NoMemory>
 
 /// The elements of a literal, with what stands behind each.
 #[cycle(values)]
-fn elements_len(program: &Program, id: TypeId, is_ordered: bool, es: &[Element]) -> Result<u32, NoMemory>
+fn elements_len(
+    program: &Program,
+    id: TypeId,
+    is_ordered: bool,
+    es: &[Element],
+) -> Result<u32, NoMemory>
     ensures { IfOk result (λ n. n ≡ elements_size (program_of program.now) (type_named (program_of program.now) id.0) is_ordered (elements_of es.now)) }
 {
     let mut total = 0;
@@ -137,7 +142,10 @@ fn elements_len(program: &Program, id: TypeId, is_ordered: bool, es: &[Element])
         let Element::For(number, e) = element;
         let n = expr_len(program, e)?;
         total = plus(total, n)?;
-        total = plus(total, behind_len(program, id, is_ordered, *number, &es[i + 1..]))?;
+        total = plus(
+            total,
+            behind_len(program, id, is_ordered, *number, &es[i + 1..]),
+        )?;
     }
     Ok(total)
 }

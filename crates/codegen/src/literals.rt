@@ -44,11 +44,21 @@ pub fn gap_behind(program: &Program, id: TypeId, number: u32, behind: &[Element]
 }
 
 /// The number of instructions behind an element: what zeroes the words up to the next one, or its move.
-pub fn behind_len(program: &Program, id: TypeId, is_ordered: bool, number: u32, behind: &[Element]) -> u32
+pub fn behind_len(
+    program: &Program,
+    id: TypeId,
+    is_ordered: bool,
+    number: u32,
+    behind: &[Element],
+) -> u32
     ensures is { result ≡ (if is_ordered then gap_size (gap_in (type_named (program_of program.now) id.0) number (elements_of behind.now)) else 1) }
     ensures few { result ≤ 1 }
 {
-    if is_ordered && gap_behind(program, id, number, behind) == 0 { 0 } else { 1 }
+    if is_ordered && gap_behind(program, id, number, behind) == 0 {
+        0
+    } else {
+        1
+    }
 }
 
 /// The words between a part of a literal, in temps from h on, and the next element get zeros.

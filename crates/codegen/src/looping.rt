@@ -157,7 +157,15 @@ pub fn emit_key(
     ensures { OnOk result (code.new.items ≡ code.old.items ++ key_code (program_of program.now) (slots_in program.now frame) (left_of key.now) first index (length code.old.items)) }
 {
     ready_left(code, program, frame, key, first)?;
-    emit_left(code, program, frame, key, first, above_left(key, first), index)?;
+    emit_left(
+        code,
+        program,
+        frame,
+        key,
+        first,
+        above_left(key, first),
+        index,
+    )?;
     Ok(())
 }
 

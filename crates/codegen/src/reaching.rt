@@ -13,7 +13,9 @@ ghost use Rattle.simulated_code.specs.Code.{above_address as above_address_of, a
 use crate::jumps::put;
 use crate::lengths::plus;
 use crate::moving::moves;
-use crate::parts::{above_steps, end_type, far_offset, is_far, near_offset, part_number, site_type, steps_of};
+use crate::parts::{
+    above_steps, end_type, far_offset, is_far, near_offset, part_number, site_type, steps_of,
+};
 use crate::slots::Frame;
 use base::{NoMemory, SiteId, TypeId};
 use heap_bump::HEAP_LOW;
@@ -107,7 +109,11 @@ fn emit_indices(
         match step {
             Step::Inner(_) => {}
             Step::Index(_, _, length) => {
-                let (c, len, w) = (frame.temp(next), *length as u16, program.types.width(part) as u16);
+                let (c, len, w) = (
+                    frame.temp(next),
+                    *length as u16,
+                    program.types.width(part) as u16,
+                );
                 put(code, Instr::Index { a, b: a, c, len, w })?;
                 next += 1;
             }
@@ -181,7 +187,14 @@ pub fn emit_address(
 }
 
 // The words of a part of a variable go to temps from h on; its address, if there is one, is in temp `at`.
-fn fetch_part(program: &Program, frame: Frame, site: SiteId, steps: &[Step], at: u16, h: u16) -> Instr
+fn fetch_part(
+    program: &Program,
+    frame: Frame,
+    site: SiteId,
+    steps: &[Step],
+    at: u16,
+    h: u16,
+) -> Instr
     requires temp { h ≤ frame.temps }
     requires address { at + steps_far (these_steps steps.now) ≤ frame.temps }
     requires place { PlaceFits (slots_in program.now frame) frame.sites (local site.0 (these_steps steps.now)) }
@@ -200,7 +213,14 @@ fn fetch_part(program: &Program, frame: Frame, site: SiteId, steps: &[Step], at:
 }
 
 // A part of a variable gets the words of temps from h on.
-fn land_part(program: &Program, frame: Frame, site: SiteId, steps: &[Step], at: u16, h: u16) -> Instr
+fn land_part(
+    program: &Program,
+    frame: Frame,
+    site: SiteId,
+    steps: &[Step],
+    at: u16,
+    h: u16,
+) -> Instr
     requires temp { h ≤ frame.temps }
     requires address { at + steps_far (these_steps steps.now) ≤ frame.temps }
     requires place { PlaceFits (slots_in program.now frame) frame.sites (local site.0 (these_steps steps.now)) }

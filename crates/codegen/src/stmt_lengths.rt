@@ -289,7 +289,13 @@ fn indices_len(program: &Program, key: &Left, body: u32) -> Result<u32, NoMemory
 }
 
 // One over its elements: the operand and its move to the copy come first.
-fn elements_len(program: &Program, e: &Expr, key: &Left, value: &Left, body: u32) -> Result<u32, NoMemory>
+fn elements_len(
+    program: &Program,
+    e: &Expr,
+    key: &Left,
+    value: &Left,
+    body: u32,
+) -> Result<u32, NoMemory>
     ensures { IfOk result (λ n. n ≡ size (program_of program.now) (ex_of e.now) + 1 + (4 + element_round_size (program_of program.now) (left_of key.now) (left_of value.now) + body + 3)) }
 {
     let copy = last_len(program, e)?;

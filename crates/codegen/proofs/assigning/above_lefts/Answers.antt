@@ -1,5 +1,5 @@
 use Rattle.std.proofs.Common.{arith}
-use Rattle.codegen.proofs.Above.{above_next, above_one}
+use Rattle.codegen.proofs.Above.{above_one}
 use Rattle.codegen.proofs.assigning.above_lefts.Goals as goal
 
 pub above_left-above-requires : goal.above_left-above-requires

@@ -1,4 +1,4 @@
-use Rattle.std.proofs.Common.{◌≡◌, ◌+◌, ◌≤◌, drop, map, ap, subst, sym, arith}
+use Rattle.std.proofs.Common.{◌≡◌, ◌+◌, drop, map, ap, subst, sym, arith}
 use Rattle.std.specs.Prelude.{slice_index}
 use Rattle.typed.specs.Syntax.{value_widths}
 use Rattle.typed.specs.View.{exs_of_values, left_of, program_of}

@@ -1,4 +1,4 @@
-use Rattle.std.proofs.Common.{◌≡◌, ◌+◌, ◌≤◌, ◌++◌, drop, map}
+use Rattle.std.proofs.Common.{◌≡◌, drop}
 use Rattle.typed.specs.Syntax.{ascend, ascend_from}
 use Rattle.typed.specs.View.{elements_of}
 use Rattle.codegen.proofs.literals.ascends.Given as goal

@@ -1,4 +1,4 @@
-use Rattle.std.proofs.Common.{◌≡◌, ◌+◌, ◌≤◌, ◌++◌, drop, map}
+use Rattle.std.proofs.Common.{◌≡◌, drop}
 use Rattle.typed.specs.Frames.{steps_far}
 use Rattle.typed.specs.View.{steps_of}
 use Rattle.codegen.proofs.parts.is_far.Given as goal

@@ -1,5 +1,5 @@
-use Rattle.std.proofs.Common.{◌≡◌, ◌+◌, ◌≤◌, ◌++◌, drop, map}
-use Rattle.value_trees.specs.Paths.{offset, type_at}
+use Rattle.std.proofs.Common.{◌≡◌, ◌+◌, drop}
+use Rattle.value_trees.specs.Paths.{offset}
 use Rattle.typed.specs.Syntax.{path_of, type_named}
 use Rattle.typed.specs.View.{program_of, steps_of}
 use Rattle.codegen.proofs.parts.near_offset.Given as goal

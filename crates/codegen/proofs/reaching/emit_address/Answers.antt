@@ -1,5 +1,4 @@
-use Rattle.std.proofs.Common.{◌≡◌, ◌+◌, ap, subst, arith}
-use Rattle.value_trees.specs.Types.{width}
+use Rattle.std.proofs.Common.{◌≡◌, ap, subst, arith}
 use Rattle.value_trees.specs.Paths.{offset}
 use Rattle.typed.proofs.Rows.{expr_rows}
 use Rattle.typed.specs.Syntax.{Pl, local, path_of, type_named}

@@ -1,10 +1,9 @@
-use Rattle.std.proofs.Common.{◌≡◌, ◌+◌, ◌≤◌, ◌++◌, ◌∷◌, [], ◌∙◌, drop, ap, subst, sym, arith, append_assoc}
-use Rattle.isa.specs.declared.instr.Instr.TheVariants.{Index}
+use Rattle.std.proofs.Common.{◌≡◌, ◌+◌, ◌≤◌, ◌++◌, ◌∙◌, drop, ap, sym, arith}
 use Rattle.value_trees.specs.Types.{ValueType, part_type, width}
 use Rattle.typed.specs.declared.expr.Step.{Step}
 use Rattle.typed.specs.Syntax.{type_named}
 use Rattle.typed.specs.View.{program_of, steps_of}
-use Rattle.simulated_code.specs.Code.{index_code, temp}
+use Rattle.simulated_code.specs.Code.{index_code}
 use Rattle.codegen.specs.Frame.{slots_in}
 use Rattle.codegen.specs.Parts.{part_number}
 use Rattle.codegen.proofs.Reached.{part_most}
@@ -56,7 +55,7 @@ loop-step-preserved c =
           let e = above_index steps i x l is w.in-Index.field-0 w.in-Index.field-1 w.in-Index.length w.in-Index.is first in let most = inv.3 in
           rw (w.code-is, w.next-is) (
             index_emitted steps i x l is w.in-Index.field-0 w.in-Index.field-1 w.in-Index.length w.in-Index.is slots t u _ c.loop-step.code.items _ first c.args.at _ _ _ c.temp-a.ensures w.temp-c.ensures
-            (w.width.ensures ∙ ap width to) to inv.0 w.in_ok-put-in-Index.ensures,
+                (w.width.ensures ∙ ap width to) to inv.0 w.in_ok-put-in-Index.ensures,
             fit,
             small,
             omega (arith, e, most),

@@ -1,8 +1,7 @@
-use Rattle.std.proofs.Common.{◌≡◌, ◌+◌, ◌≤◌, ◌∙◌, drop, ap, subst, sym, arith}
+use Rattle.std.proofs.Common.{◌≡◌, ◌+◌, ◌∙◌, drop, ap, sym, arith}
 use Rattle.value_trees.specs.Types.{ValueType, part_offset, part_type, width}
-use Rattle.value_trees.specs.Paths.{offset}
 use Rattle.typed.specs.declared.expr.Step.{Step}
-use Rattle.typed.specs.Syntax.{path_of, type_named}
+use Rattle.typed.specs.Syntax.{type_named}
 use Rattle.typed.specs.View.{program_of, steps_of}
 use Rattle.simulated_code.specs.Code.{steps_address}
 use Rattle.codegen.specs.Frame.{slots_in}

@@ -1,4 +1,4 @@
-use Rattle.std.proofs.Common.{◌≡◌, ◌+◌, ◌≤◌, ◌++◌, drop, map}
+use Rattle.std.proofs.Common.{◌≡◌, ◌+◌, ◌≤◌, drop}
 use Rattle.value_trees.specs.Types.{width}
 use Rattle.value_trees.specs.Paths.{offset}
 use Rattle.typed.specs.Syntax.{path_of, type_named}
@@ -9,7 +9,7 @@ use Rattle.simulated_code.specs.Code.{steps_above, steps_address}
 use Rattle.codegen.proofs.reaching.emit_part_address.Given as goal
 
 abbrev pub invariant-loop-i : goal.invariant-loop-i
-invariant-loop-i l = 
+invariant-loop-i l =
     (steps_address (slots_in l.program l.frame) l.whole (type_named (program_of l.program) l.fn.id.0) (steps_of l.steps) l.first l.at
     ≡ steps_address (slots_in l.program l.frame) l.slot (type_named (program_of l.program) l.part.0) (steps_of (drop l.i l.steps)) l.first l.at)
     × (l.fn.code.items ≡ l.code.items)

@@ -1,4 +1,4 @@
-use Rattle.std.proofs.Common.{◌≡◌, ◌+◌, ◌∙◌, ap, arith}
+use Rattle.std.proofs.Common.{◌≡◌, ◌∙◌, ap, arith}
 use Rattle.value_trees.specs.Types.{width}
 use Rattle.value_trees.specs.Paths.{offset, type_at}
 use Rattle.typed.specs.Syntax.{path_of, type_named}

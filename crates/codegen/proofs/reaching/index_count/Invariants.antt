@@ -1,4 +1,4 @@
-use Rattle.std.proofs.Common.{◌≡◌, ◌+◌, ◌≤◌, ◌++◌, drop, map}
+use Rattle.std.proofs.Common.{◌≡◌, ◌+◌, drop}
 use Rattle.typed.specs.View.{steps_of}
 use Rattle.simulated_code.specs.Code.{index_count}
 use Rattle.codegen.proofs.reaching.index_count.Given as goal

@@ -1,4 +1,4 @@
-use Rattle.std.proofs.Common.{◌≡◌, ◌+◌, ◌∷◌, [], arith}
+use Rattle.std.proofs.Common.{◌≡◌, ◌∷◌, [], arith}
 use Rattle.typed.specs.View.{left_of, program_of}
 use Rattle.simulated_code.specs.Code.{lefts_sized}
 use Rattle.codegen.proofs.Sized.{sized_next}

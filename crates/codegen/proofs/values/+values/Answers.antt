@@ -1,14 +1,13 @@
 use Rattle.std.proofs.lemmas.List.{take_rest}
 use Rattle.std.proofs.Common.{◌≡◌, ◌+◌, ◌++◌, ◌∷◌, [], ◌∙◌, ◌-◌, rules, drop, take, length, sym, ap, subst, arith, true, false}
 use Rattle.isa.specs.declared.instr.Instr.{Instr}
-use Rattle.typed.specs.declared.expr.Element.{Element}
 use Rattle.value_trees.specs.Types.{part_offset, part_type, width}
 use Rattle.typed.proofs.Rows.{expr_rows}
 use Rattle.typed.specs.Syntax.{ascend, binary, both, either, gap_behind, literal, type_named, wide, words_through}
-use Rattle.typed.specs.View.{elements_of, ex_of, exs_of, program_of, steps_of}
+use Rattle.typed.specs.View.{elements_of, ex_of, exs_of, program_of}
 use Rattle.codegen.specs.Frame.{slots_in}
-use Rattle.codegen.specs.Temps.{ExsFitIn, StepsFitIn}
-use Rattle.simulated_code.specs.Code.{elements_code, ex_code, gap_code, moves, steps_code, temp, zeros}
+use Rattle.codegen.specs.Temps.{ExsFitIn}
+use Rattle.simulated_code.specs.Code.{elements_code, ex_code, gap_code, moves, temp, zeros}
 use Rattle.codegen.proofs.Elements.{literal_emitted, moved_emitted, moved_rest, number_of, ordered_emitted, ordered_rest, value_of, whole_is}
 use Rattle.codegen.proofs.Steps.{code_inner, fits_index, fits_inner, step_emitted}
 use Rattle.codegen.proofs.Emitted.{binary_emitted, both_emitted, either_emitted, value_emitted, values_split}
