@@ -15,7 +15,7 @@ use Rattle.syntax.specs.Statements.{Simple}
 use Rattle.syntax.specs.Statements as tree
 use Rattle.typed.specs.declared.operators.BinOp.{BinOp as TypedOp}
 use Rattle.typed.specs.declared.operators.BinOp.TheVariants as op
-use Rattle.typed.specs.Syntax.{Ex, Exs, Left, Pl, St, to, binary, read, local, here, none, assign, update, give_back}
+use Rattle.typed.specs.Syntax.{Ex, Exs, Left, Pl, St, to, binary, read, none, assign, update, give_back}
 use Rattle.value_types.specs.declared.fault.FaultKind.TheVariants.{Unknown, Redeclared, NothingNew, NotAssignable, NotUsedValue, ArgCount, ResultCount, BadOperand, OutOfProfile}
 use Rattle.value_types.specs.declared.constant.Fixed.{Fixed}
 use Rattle.value_types.specs.declared.value_type.ValueType.{ValueType}

@@ -249,12 +249,12 @@ fn with_statement(
 ) -> Result<Option<Vec<typed::Stmt>>, NoMemory>
     ensures { IfOk result (λ r. option_map (λ v. v.items) r ≡ with_last (option_map (λ v. v.items) statements) statement) }
 {
-    match (statements, statement) {
-        (Some(mut statements), Some(statement)) => {
+    match statements.zip(statement) {
+        Some((mut statements, statement)) => {
             statements.push(statement)?;
             Ok(Some(statements))
         }
-        _ => Ok(None),
+        None => Ok(None),
     }
 }
 
