@@ -1,19 +1,18 @@
 -- The package variables of a typed program are in form: each has a site of its type, which lies between those of the functions.
-use Rattle.std.proofs.Common.{◌≡◌, ℕ, zero, suc, ℤ, pos, ◌+◌, ◌-◌, ◌<◌, ◌≤◌, Bool, true, false, cond, List, [], ◌∷◌, ◌++◌, ◌⊎◌, inl, inr, map, length, get_or, Option, Some, None, refl, sym, ap, ◌∙◌, subst, arith, append-nil, append_assoc, length-append}
+use Rattle.std.proofs.Common.{◌≡◌, ℕ, zero, suc, ℤ, pos, ◌+◌, ◌<◌, ◌≤◌, Bool, true, false, cond, List, [], ◌∷◌, ◌++◌, ◌⊎◌, inl, inr, map, length, get_or, Option, Some, None, refl, sym, ap, ◌∙◌, subst, arith, length-append}
 use Rattle.std.specs.Prelude.{slice_get, option_and_then}
 use Rattle.std.specs.Option.{option_map}
 use Rattle.std.proofs.lemmas.Int.{ints as int_lemmas}
-use Rattle.std.proofs.lemmas.Option.{slice_get_within}
 use Rattle.syntax.specs.Expressions.{spelled}
 use Rattle.syntax.specs.Declarations.{Function as TreeFunction, Declaration, constants, variables, types}
 use Rattle.syntax.specs.Declarations as tree
 use Rattle.syntax.specs.declared.expression.Name.{Name}
 use Rattle.base.specs.declared.pos.Pos.{Pos}
 use Rattle.typed.specs.declared.program.Site.{Site}
-use Rattle.typed.specs.Syntax.{Func, Program, site_type, global_type}
+use Rattle.typed.specs.Syntax.{Func, Program, site_type}
 use Rattle.typed.specs.Form.{IsPlain, IsWord, GlobalFits}
 use Rattle.value_trees.specs.Types.{ValueType as TypeTree}
-use Rattle.value_trees.specs.Value.{Value, int, bool, IsOf}
+use Rattle.value_trees.specs.Value.{Value, int, IsOf}
 use Rattle.value_types.specs.declared.constant.Constant.{Constant}
 use Rattle.value_types.specs.declared.constant.Constant.TheVariants.{Number, Truth}
 use Rattle.value_types.specs.declared.constant.Fixed.{Fixed}
@@ -24,14 +23,13 @@ use Rattle.value_types.proofs.Options.{and_then_some, map_some, none_some, same_
 use Rattle.names.specs.Universe.{is_blank}
 use Rattle.names.specs.Scope.{Scope, type_number, type_tree, fixed, with_site}
 use Rattle.names.proofs.Trees.{tree_plain}
-use Rattle.expression_types.specs.Typing.{known_type}
 use Rattle.package_values.specs.declared.items.Role.TheVariants as role
 use Rattle.package_values.specs.Values.{Item, items_in_specs}
 use Rattle.signatures.specs.Signatures.{is_external}
 use Rattle.signatures.proofs.Growth.{Extends, Package, package_of}
 use Rattle.signatures.proofs.Visible.{HasSite, has_longer}
 use Rattle.signatures.proofs.InFormEntries.{HasSites, site_is}
-use Rattle.types_go.specs.Functions.{Member, of_function, of_variable, numbered, type_or_int, int_in, first_value, behind_variable, initial, globals_of, members_in, behind_body, behind_function, function, functions, behind_members, globals}
+use Rattle.types_go.specs.Functions.{Member, of_function, of_variable, numbered, type_or_int, int_in, first_value, behind_variable, initial, members_in, behind_body, behind_function, function, functions, behind_members, globals}
 use Rattle.types_go.proofs.SettledFunctions.{function_some}
 use Rattle.types_go.proofs.Growth.{keeps_function, keeps_variable, keeps_members}
 use Rattle.types_go.proofs.InFormStatements.{AreGlobals}

@@ -1,8 +1,8 @@
 -- What gets the number of a `range`, by how many left sides count.
-use Rattle.std.proofs.Common.{◌≡◌, ◌<◌, ℕ, zero, suc, List, [], ◌∷◌, map, get_or, Option, Some, None, refl, ap, arith, length}
+use Rattle.std.proofs.Common.{◌≡◌, ◌<◌, List, [], ◌∷◌, map, get_or, Some, None, refl, ap, arith, length}
 use Rattle.typed.specs.declared.stmt.Left.{Left as LeftData}
 use Rattle.typed.specs.declared.stmt.Left.TheVariants.{Blank, New, To}
-use Rattle.typed.specs.Syntax.{Left, blank}
+use Rattle.typed.specs.Syntax.{blank}
 use Rattle.typed.specs.View.{left_of}
 use Rattle.types_go.specs.Statements.{key_of}
 use Rattle.types_go.specs.StatementFaults.{key_count}

@@ -1,5 +1,5 @@
 -- What a package has one after the other, from the constants and variables of its declarations.
-use Rattle.std.proofs.Common.{◌≡◌, ℕ, zero, suc, ◌+◌, Bool, true, false, cond, List, [], ◌∷◌, ◌++◌, length, map, drop, refl, sym, ap, ◌∙◌, arith, append_assoc, length-append}
+use Rattle.std.proofs.Common.{◌≡◌, ℕ, ◌+◌, Bool, true, false, cond, List, [], ◌∷◌, ◌++◌, length, map, drop, refl, sym, ap, ◌∙◌, arith, append_assoc, length-append}
 use Rattle.syntax.specs.Declarations.{Declaration, constants, variables, types, function}
 use Rattle.names.specs.Scope.{Scope}
 use Rattle.package_values.specs.Values.{Item}

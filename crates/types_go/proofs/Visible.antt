@@ -1,5 +1,5 @@
 -- The package block names no variables of functions, its variables have their numbers, and its constants are held by their types.
-use Rattle.std.proofs.Common.{◌≡◌, ℕ, zero, suc, ◌+◌, Bool, true, false, List, [], ◌∷◌, ◌++◌, length, Option, Some, None, refl}
+use Rattle.std.proofs.Common.{◌≡◌, ℕ, zero, suc, Bool, true, false, List, [], ◌∷◌, ◌++◌, length, Option, Some, None, refl}
 use Rattle.std.specs.Prelude.{slice_get, slice_set}
 use Rattle.typed.specs.declared.program.Site.{Site}
 use Rattle.value_types.specs.declared.constant.Fixed.{Fixed}

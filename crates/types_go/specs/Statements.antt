@@ -1,6 +1,6 @@
 -- The typed statements that the rules of the language give a tree (Go specification, "If statements", "For statements", "Break statements",
 -- "Continue statements", "Return statements").
-use Rattle.std.specs.Prelude.{ℕ, Bool, true, not, ◌&&◌, List, [], ◌∷◌, map, Option, Some, None, option_and_then, if◌then◌else◌}
+use Rattle.std.specs.Prelude.{ℕ, Bool, true, not, ◌&&◌, List, [], ◌∷◌, map, Option, Some, None, option_and_then}
 use Rattle.std.specs.Option.{option_map}
 use Rattle.syntax.specs.declared.expression.Name.{Name}
 use Rattle.syntax.specs.Expressions.{Ex as TreeEx, spelled}

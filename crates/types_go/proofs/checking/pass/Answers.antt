@@ -1,9 +1,7 @@
-use Rattle.std.proofs.Common.{◌≡◌, ℕ, List, ap, ◌∙◌, subst, arith, length, map}
+use Rattle.std.proofs.Common.{◌≡◌, List, ap, ◌∙◌, subst, arith, length, map}
 use Rattle.std.specs.Option.{option_map}
 use Rattle.base.specs.declared.ids.FuncId.{FuncId}
-use Rattle.syntax.specs.declared.declaration.Decl.{Decl}
 use Rattle.syntax.specs.Declarations.{Function as TreeFunction, declarations_of, syntax_of}
-use Rattle.typed.specs.View.{func_of}
 use Rattle.names.specs.Scope.{Scope, scope_of, beginning}
 use Rattle.package_values.specs.Values.{items_in}
 use Rattle.types_go.proofs.checking.pass.Goals as goal

@@ -1,11 +1,11 @@
-use Rattle.std.proofs.Common.{◌≡◌, ℕ, [], ◌∷◌, ◌+◌, List, map, drop, refl, sym, ap, ◌∙◌, subst, arith}
+use Rattle.std.proofs.Common.{◌≡◌, [], ◌∷◌, ◌+◌, List, drop, refl, sym, ap, ◌∙◌, subst, arith}
 use Rattle.std.specs.Option.{option_map}
 use Rattle.syntax.specs.Declarations.{function_of}
-use Rattle.names.specs.Scope.{Scope, scope_of}
+use Rattle.names.specs.Scope.{scope_of}
 use Rattle.value_types.proofs.Lists.{from_one, nothing_left}
 use Rattle.package_values.specs.Passing.{item_of}
 use Rattle.types_go.specs.declared.members.Member.{Member as MemberData}
-use Rattle.types_go.specs.Functions.{Member, behind_members}
+use Rattle.types_go.specs.Functions.{behind_members}
 use Rattle.types_go.specs.Passing.{member_of, member_views}
 use Rattle.types_go.proofs.functions.check_members.Goals as goal
 use Rattle.types_go.proofs.Walk.{MembersKept, GlobalsKept, members_start, function_more, variable_more, globals_more, globals_all, functions_all, fault_all, places_are}

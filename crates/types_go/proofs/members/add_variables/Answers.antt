@@ -1,9 +1,9 @@
-use Rattle.std.proofs.Common.{rules, ◌≡◌, ℕ, [], ◌∷◌, ◌+◌, ◌++◌, List, drop, refl, sym, ap, ◌∙◌, append-nil, arith}
+use Rattle.std.proofs.Common.{rules, ◌≡◌, ℕ, [], ◌∷◌, ◌+◌, ◌++◌, List, drop, sym, ap, ◌∙◌, append-nil, arith}
 use Rattle.value_types.proofs.Lists.{from_one, nothing_left}
 use Rattle.package_values.specs.declared.items.Item.{Item as ItemData}
 use Rattle.package_values.specs.Passing.{item_of, item_views}
 use Rattle.package_values.proofs.ItemLists.{pushed_map}
-use Rattle.types_go.specs.Functions.{Member, of_variable, numbered}
+use Rattle.types_go.specs.Functions.{of_variable, numbered}
 use Rattle.types_go.specs.Passing.{member_of, member_views}
 use Rattle.types_go.proofs.members.add_variables.Goals as goal
 

@@ -1,4 +1,4 @@
-use Rattle.std.proofs.Common.{◌≡◌, ℕ, [], ◌∷◌, ◌+◌, ◌++◌, List, length, drop, refl, sym, ap, ◌∙◌, append-nil, arith}
+use Rattle.std.proofs.Common.{◌≡◌, [], ◌∷◌, ◌+◌, ◌++◌, List, length, drop, refl, sym, ap, ◌∙◌, append-nil, arith}
 use Rattle.syntax.specs.declared.declaration.Decl.{Decl}
 use Rattle.syntax.specs.Declarations.{declaration_of, declarations_of}
 use Rattle.names.specs.Scope.{scope_of}
