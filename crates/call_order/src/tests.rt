@@ -4,9 +4,9 @@ use crate::{Batches, order};
 use base::{FuncId, Pos, SiteId, TypeId};
 use std::alloc::Global;
 use std::test::Fail;
-use type_table::TypeTable;
 use typed::{
-    BinOp, Const, Element, Expr, Func, INT, Left, Piece, Place, Program, Step, Stmt, UnOp, Values,
+    BinOp, Const, Element, Expr, Func, INT, Left, Piece, Place, Program, Step, Stmt, TypeTable,
+    UnOp, Values,
 };
 
 const AT: Pos = Pos {

@@ -9,7 +9,7 @@ use Rattle.isa.specs.declared.func.Func.{Func as Entry}
 use Rattle.isa.specs.declared.instr.Instr.{Instr}
 use Rattle.typed.specs.declared.program.Func.{Func as FuncData}
 use Rattle.typed.specs.declared.program.Program.{Program as ProgramData}
-use Rattle.type_table.specs.Trees.{trees}
+use Rattle.typed.specs.Trees.{trees}
 use Rattle.value_trees.specs.Types.{ValueType}
 use Rattle.typed.specs.Syntax.{Func, Program, argument_words, each_width}
 use Rattle.typed.specs.View.{func_of, program_of}

@@ -1,6 +1,6 @@
 //! The code at both ends of a function: what it takes, and what it gives back.
 ghost use Rattle.std.specs.Prelude.{◌≡◌, ◌+◌, ◌≤◌, ◌++◌, ◌∷◌, [], length, map, OnOk};
-ghost use Rattle.type_table.specs.Trees.{trees};
+ghost use Rattle.typed.specs.Trees.{trees};
 ghost use Rattle.typed.specs.Syntax.{all_wide, all_width, argument_words, each_width, result_words, type_in};
 ghost use Rattle.typed.specs.View.{exs_of_values, program_of, site_in, site_numbers};
 ghost use Rattle.codegen.specs.Frame.{func_in, slots_in, param_code, IsSmall, Returns};

@@ -1,6 +1,6 @@
 //! The words of values by their places among others.
 ghost use Rattle.std.specs.Prelude.{◌≡◌, map, slice_get, slice_index, IfOk};
-ghost use Rattle.type_table.specs.Trees.{trees};
+ghost use Rattle.typed.specs.Trees.{trees};
 ghost use Rattle.typed.specs.Syntax.{each_width, result_widths, type_in, value_widths};
 ghost use Rattle.typed.specs.View.{exs_of, exs_of_values, program_of};
 

@@ -2,7 +2,7 @@
 
 ghost use Rattle.std.specs.Prelude.{◌≡◌, ◌+◌, IfOk, IfErr, None};
 ghost use Rattle.typed.specs.View.{func_of, program_of};
-ghost use Rattle.type_table.specs.Trees.{trees};
+ghost use Rattle.typed.specs.Trees.{trees};
 ghost use Rattle.frame_layout.specs.Layout.{first_too_large, is_large, layout_in, layouts, IsTooLarge};
 
 use crate::fault::LayoutFault;

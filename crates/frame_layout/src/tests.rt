@@ -6,8 +6,9 @@ use crate::{FrameLayout, layout_of};
 use base::{FuncId, Pos, SiteId, TypeId};
 use std::alloc::Global;
 use std::test::Fail;
-use type_table::{TypeTable, ValueType};
-use typed::{Const, Expr, Func, INT, Left, Place, Program, Site, Step, Stmt, Values};
+use typed::{
+    Const, Expr, Func, INT, Left, Place, Program, Site, Step, Stmt, TypeTable, ValueType, Values,
+};
 
 const AT: Pos = Pos {
     offset: 0,

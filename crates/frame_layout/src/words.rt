@@ -6,7 +6,7 @@ ghost use Rattle.value_trees.specs.Paths.{type_at};
 ghost use Rattle.typed.specs.Frames.{element_words as words_of_elements, widest as widest_of, words_between};
 ghost use Rattle.typed.specs.Syntax.{all_width, all_wide, arguments_of as arguments, global_site, path_of, place_type, place_width, results_of as results, site_type, site_width, type_in, type_named, wide};
 ghost use Rattle.typed.specs.View.{ex_of, exs_of, exs_of_values, place_of, program_of, site_numbers, steps_of};
-ghost use Rattle.type_table.specs.Trees.{trees};
+ghost use Rattle.typed.specs.Trees.{trees};
 ghost use Rattle.frame_layout.specs.Layout.{type_or_ints};
 
 use base::{FuncId, NoMemory, SiteId, TypeId};

@@ -3,3 +3,9 @@ pub mod View
 pub mod Form
 pub mod Frames
 pub mod Placement
+pub mod Feeds
+pub mod Words
+pub mod Tables
+pub mod Trees
+pub mod Formed
+pub mod Memory

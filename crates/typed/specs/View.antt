@@ -19,7 +19,7 @@ use Rattle.typed.specs.declared.program.Func.{Func as FuncData}
 use Rattle.typed.specs.declared.program.PackageVariable.{PackageVariable}
 use Rattle.typed.specs.declared.program.Site.{Site}
 use Rattle.typed.specs.declared.program.Program.{Program as ProgramData}
-use Rattle.type_table.specs.Trees.{trees}
+use Rattle.typed.specs.Trees.{trees}
 use Rattle.value_trees.specs.Types.{ValueType, ints, bools}
 use Rattle.value_trees.specs.Value.{Value, int, bool, zero_of}
 use Rattle.typed.specs.Syntax.{Ex, Exs, Pl, Steps, Elements, Left, Piece, St, Sts, Func, Program, constant, read, unary, binary, both, either, call, part_of, literal, no_elements, element, local, global, here, inner, at_index, none, more, results, asked, blank, new, to, text, shown, over_int, over_length, over_copy, declare, assign, update, bump, discard, block, choose, loop, range, break_off, go_on, give_back, print, raise, quit, done, next, type_in}

@@ -1,12 +1,41 @@
-//! The typed program as plain data.
+//! The typed program as plain data, and the types of a program, each once, by numbers.
+//!
+//! A type is a small value: a basic type, a declared struct by its number, or an array of so many elements of a type that stands in the
+//! table. In the table each type stands once, so that two types are identical exactly where these values are equal, and exactly where
+//! their numbers are (Go specification, "Type identity").
+//!
+//! Structs may hold each other in any order of the text, so a table is made with a number of structs, none of which is told yet. A struct is
+//! told once the types of its fields have words; then it has as many as these together. The words of each type are kept beside it:
+//! structs nest, and to count the words of a type part by part could take exponential time. No type of more than 65,535 words, or of none,
+//! stands in the table.
+//!
+//! `specs/Tables` says what a contract sees of a table: the list of its types, and the fields of the structs that are told.
+//! `specs/Trees` gives each type its tree (`value_trees`), from which its words and the offsets of its parts follow: a
+//! total function of the table, with `tree_by` as its equation. `width`, `part` and `part_offset` answer by the tree of the type that
+//! has a number; where there is none, by that of whole numbers. `specs/Formed` says what holds of each table, and what is refused.
+//!
+//! `specs/Syntax` is the abstract syntax of typed programs and `specs/View` how the data is seen as it, `specs/Form` says which programs
+//! are in form, and `specs/Frames` what their frames hold.
 #![tactic(auto)]
 
 mod expr;
+mod fault;
 mod operators;
+mod parts;
 mod program;
+mod sizes;
 mod stmt;
+mod table;
+mod told;
+mod value_type;
 
 pub use expr::{Const, Element, Expr, Place, Step, Values};
+pub use fault::TableFault;
 pub use operators::{BinOp, UnOp};
 pub use program::{BOOL, Func, INT, PackageVariable, Program, Site};
 pub use stmt::{Left, Piece, Stmt};
+pub use table::{ProgramTypes, TypeTable};
+pub use value_type::{StructId, ValueType};
+
+#[cfg(test)]
+mod tests;

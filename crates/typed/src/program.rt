@@ -2,8 +2,8 @@
 
 use crate::expr::Const;
 use crate::stmt::Stmt;
+use crate::table::TypeTable;
 use base::{FuncId, Pos, SiteId, TypeId};
-use type_table::TypeTable;
 
 /// The type of whole numbers, and of truth values.
 pub const INT: TypeId = TypeId(0);

@@ -32,8 +32,7 @@ use signatures::{
 };
 use std::alloc::Global;
 use syntax::{Decl, Func, Name, Tree};
-use type_table::TypeTable;
-use typed::{PackageVariable, Program, Site};
+use typed::{PackageVariable, Program, Site, TypeTable};
 use value_types::{Fault, FaultKind, TypeFault, lesser};
 
 fn number_of(declared: Option<Declared>) -> Option<FuncId>

@@ -1,5 +1,5 @@
 use Rattle.std.proofs.Common.{◌≡◌, ◌++◌, drop, map}
-use Rattle.type_table.specs.Trees.{trees}
+use Rattle.typed.specs.Trees.{trees}
 use Rattle.typed.specs.View.{func_of}
 use Rattle.call_order.specs.Lists.{call_lists, lists}
 use Rattle.call_order.proofs.calls.all_calls.Given as goal

@@ -1,6 +1,6 @@
 use Rattle.std.proofs.Common.{rules, ◌+◌, ◌<◌, ◌∙◌, refl, sym, ap, subst, length, map, arith}
 use Rattle.isa.specs.Code.{Tables, IsCode}
-use Rattle.type_table.specs.Trees.{trees}
+use Rattle.typed.specs.Trees.{trees}
 use Rattle.typed.specs.View.{program_of}
 use Rattle.simulated_code.specs.Code.{code_of}
 use Rattle.simulated_code.specs.Correct.{Simulated}

@@ -1,5 +1,5 @@
 use Rattle.std.proofs.Common.{None, map, refl, arith}
-use Rattle.type_table.specs.Trees.{trees}
+use Rattle.typed.specs.Trees.{trees}
 use Rattle.typed.specs.Syntax.{each_width, type_in}
 use Rattle.codegen.specs.Frame.{slots_in}
 use Rattle.codegen.proofs.ByWidth.{width_behind}

@@ -1,5 +1,5 @@
 use Rattle.std.proofs.Common.{◌≡◌, ◌+◌, ◌++◌, drop, map}
-use Rattle.type_table.specs.Trees.{trees}
+use Rattle.typed.specs.Trees.{trees}
 use Rattle.typed.specs.Syntax.{all_width, each_width, type_in}
 use Rattle.typed.specs.View.{site_in}
 use Rattle.simulated_code.specs.Code.{params_code}

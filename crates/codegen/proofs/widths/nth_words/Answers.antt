@@ -1,6 +1,6 @@
 use Rattle.std.proofs.Common.{◌<◌, ◌≤◌, ◌∙◌, sym, length}
 use Rattle.std.proofs.lemmas.Bool.{ltb-true, ltb-false}
-use Rattle.type_table.specs.Trees.{trees}
+use Rattle.typed.specs.Trees.{trees}
 use Rattle.codegen.proofs.ByWidth.{nth_width, past_widths}
 use Rattle.codegen.proofs.widths.nth_words.Goals as goal
 

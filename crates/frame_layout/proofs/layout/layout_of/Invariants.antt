@@ -1,5 +1,5 @@
 use Rattle.std.proofs.Common.{◌≡◌, ◌++◌, drop, map}
-use Rattle.type_table.specs.Trees.{trees}
+use Rattle.typed.specs.Trees.{trees}
 use Rattle.typed.specs.View.{func_of, program_of}
 use Rattle.frame_layout.specs.Layout.{first_too_large, layout_in, layouts}
 use Rattle.frame_layout.proofs.layout.layout_of.Given as goal

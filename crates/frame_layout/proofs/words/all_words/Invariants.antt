@@ -1,5 +1,5 @@
 use Rattle.std.proofs.Common.{◌≡◌, ◌+◌, drop, map}
-use Rattle.type_table.specs.Trees.{trees}
+use Rattle.typed.specs.Trees.{trees}
 use Rattle.typed.specs.Syntax.{all_width, type_in}
 use Rattle.frame_layout.proofs.words.all_words.Given as goal
 
