@@ -127,8 +127,18 @@ fn write_expr(e: &Expr, out: &mut String) -> Result<(), AllocError> {
             write_expr(right, out)?;
             out.push(')')
         }
-        Expr::Both(left, right) => write_two("&&", left, right, out),
-        Expr::Either(left, right) => write_two("||", left, right, out),
+        Expr::Both(left, right) => {
+            out.push_str(" (&&")?;
+            write_expr(left, out)?;
+            write_expr(right, out)?;
+            out.push(')')
+        }
+        Expr::Either(left, right) => {
+            out.push_str(" (||")?;
+            write_expr(left, out)?;
+            write_expr(right, out)?;
+            out.push(')')
+        }
         Expr::Call(function, arguments) => {
             write!(out, " (f{}", function.0)?;
             write_values(arguments, out)?;
@@ -145,15 +155,6 @@ fn write_expr(e: &Expr, out: &mut String) -> Result<(), AllocError> {
             out.push(')')
         }
     }
-}
-
-/// `&&` or `||`, and its operands.
-#[cycle(expressions)]
-fn write_two(sign: &str, left: &Expr, right: &Expr, out: &mut String) -> Result<(), AllocError> {
-    write!(out, " ({sign}")?;
-    write_expr(left, out)?;
-    write_expr(right, out)?;
-    out.push(')')
 }
 
 /// Elements, each with its number behind a space.
