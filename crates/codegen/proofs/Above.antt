@@ -5,7 +5,7 @@ use Rattle.typed.specs.Syntax.{Pl, Left, local, global, blank, new, to}
 use Rattle.typed.specs.View.{left_of}
 use Rattle.simulated_code.specs.Code.{lefts_above, place_above}
 use Rattle.codegen.proofs.Emitted.{split_lefts}
-use Rattle.codegen.proofs.Steps.{above_least}
+use Rattle.expression_code.proofs.Steps.{above_least}
 
 place_least : (q : Pl) (h : ℕ) → h ≤ place_above q h
 place_least (local site steps) h = above_least h steps

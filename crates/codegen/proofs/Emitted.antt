@@ -16,20 +16,16 @@ use Rattle.typed.specs.Frames.{far}
 use Rattle.typed.specs.Syntax.{Ex, Exs, Pl, Left, Piece, Sts, Program, both, either, more, blank, new, to, text, shown, over_int, over_length, over_copy, choose, loop, range, next, wide, all_wide, value_widths}
 use Rattle.typed.specs.View.{ex_of, exs_of, left_of, piece_of, site_in, st_of, sts_of}
 use Rattle.codegen.specs.Frame.{assign_code, bump_code, key_code, left_code, param_code, temp_behind, update_code}
-use Rattle.codegen.specs.Temps.{ExsFitIn, LeftFits, LeftsFitIn, ParamFits, ParamsFitIn, PiecesFitIn, ReadyFitIn, StsFitIn}
+use Rattle.expression_code.specs.Temps.{ExsFitIn}
+use Rattle.codegen.specs.Temps.{LeftFits, LeftsFitIn, ParamFits, ParamsFitIn, PiecesFitIn, ReadyFitIn, StsFitIn}
 use Rattle.simulated_code.specs.Code.{Slots, above_address, address_code, address_size, array_code, binary_code, element_round_code, element_round_size, ex_code, exs_code, fetch_code, first_width, index_round_code, index_round_size, land_code, lefts_above, lefts_code, lefts_end, lefts_size, lefts_sized, moves, operation, other_widths, params_code, piece_size, pieces_code, place_above, place_code, place_end, place_size, ready_code, renew_code, renew_size, site_slot, site_words, size, st_code, st_size, sts_code, sts_size, temp, test_code, test_size}
 use Rattle.simulated_code.proofs.Sizes.{length_address, length_code, length_element_round, length_index_round, length_last, length_lefts, length_pieces, length_place, length_ready, length_renew, length_st, length_sts, length_test, lefts_ends, lefts_sum, place_ends}
-use Rattle.codegen.proofs.ByWidth.{first_drop, other_drop}
+use Rattle.expression_code.proofs.ByWidth.{first_drop, other_drop}
 
 split : (ss : List Stmt) (i : ℕ) (x : Stmt) → i < length ss → x ≡ get_or ss i x → sts_of (drop i ss) ≡ next (st_of x) (sts_of (drop (i + 1) ss))
 split ss i x l is =
     let one : suc i ≡ i + 1 = omega arith in
     ap sts_of (drop-cons ss i x l) ∙ ap (λ y. next (st_of y) (sts_of (drop (suc i) ss))) (sym is) ∙ ap (λ j. next (st_of x) (sts_of (drop j ss))) one
-
-split_values : (es : List Expr) (i : ℕ) (x : Expr) → i < length es → x ≡ get_or es i x → exs_of (drop i es) ≡ more (ex_of x) (exs_of (drop (i + 1) es))
-split_values es i x l is =
-    let one : suc i ≡ i + 1 = omega arith in
-    ap exs_of (drop-cons es i x l) ∙ ap (λ y. more (ex_of y) (exs_of (drop (suc i) es))) (sym is) ∙ ap (λ j. more (ex_of x) (exs_of (drop j es))) one
 
 split_pieces : (ps : List PieceData) (i : ℕ) (x : PieceData) → i < length ps → x ≡ get_or ps i x → map piece_of (drop i ps) ≡ piece_of x ∷ map piece_of (drop (i + 1) ps)
 split_pieces ps i x l is =
@@ -106,53 +102,6 @@ module _ (s : Slots) where
       (g.0, subst (λ y. ParamsFitIn s n y (map site_in (drop (i + 1) ps))) (other_drop ns i) g.2)
 
 module _ (p : Program) (s : Slots) where
-  pub binary_emitted : (old c1 c2 c3 : List Instr) (o : BinOp) (a b : Ex) (h n : ℕ) → n ≡ wide p a → c1 ≡ old ++ ex_code p s a h (length old) → c2 ≡ c1 ++ ex_code p s b (h + n) (length c1)
-      → c3 ≡ c2 ++ binary_code o n (temp s h) (temp s (h + n)) ∷ []
-      → c3 ≡ old ++ (ex_code p s a h (length old) ++ (ex_code p s b (h + wide p a) (length old + size p a) ++ binary_code o (wide p a) (temp s h) (temp s (h + wide p a)) ∷ []))
-  binary_emitted old c1 c2 c3 o a b h n e0 e1 e2 e3 =
-      let pb = length old + size p a in let w = wide p a in
-      let n1 : length c1 ≡ pb = ap length e1 ∙ omega (arith, length-append old (ex_code p s a h (length old)), length_code p s a h (length old)) in
-      let f2 : c2 ≡ c1 ++ ex_code p s b (h + w) pb = e2 ∙ ap (λ place. c1 ++ ex_code p s b (h + n) place) n1 ∙ ap (λ k. c1 ++ ex_code p s b (h + k) pb) e0 in
-      let f3 : c3 ≡ c2 ++ binary_code o w (temp s h) (temp s (h + w)) ∷ [] = e3 ∙ ap (λ k. c2 ++ binary_code o k (temp s h) (temp s (h + k)) ∷ []) e0 in
-      let all : c3 ≡ ((old ++ ex_code p s a h (length old)) ++ ex_code p s b (h + w) pb) ++ binary_code o w (temp s h) (temp s (h + w)) ∷ [] = cc in
-      all ∙ simp append_assoc
-
-  pub both_emitted : (old c1 c2 c3 : List Instr) (a b : Ex) (h : ℕ) → c1 ≡ old ++ ex_code p s a h (length old) → c2 ≡ c1 ++ JumpZero (temp s h) (length c1 + 1 + size p b) ∷ []
-      → c3 ≡ c2 ++ ex_code p s b h (length c2) → c3 ≡ old ++ ex_code p s (both a b) h (length old)
-  both_emitted old c1 c2 c3 a b h e1 e2 e3 =
-      let pb = length old + size p a + 1 in
-      let n1 : length c1 + 1 ≡ pb = (let n : length c1 ≡ length (old ++ ex_code p s a h (length old)) = ap length e1 in omega (arith, n, length-append old (ex_code p s a h (length old)), length_code p s a h (length old))) in
-      let n2 : length c2 ≡ pb = ap length e2 ∙ length_last c1 (JumpZero (temp s h) (length c1 + 1 + size p b)) ∙ n1 in
-      let f2 : c2 ≡ c1 ++ JumpZero (temp s h) (pb + size p b) ∷ [] = e2 ∙ ap (λ place. c1 ++ JumpZero (temp s h) (place + size p b) ∷ []) n1 in
-      let f3 : c3 ≡ c2 ++ ex_code p s b h pb = e3 ∙ ap (λ place. c2 ++ ex_code p s b h place) n2 in
-      let all : c3 ≡ ((old ++ ex_code p s a h (length old)) ++ JumpZero (temp s h) (pb + size p b) ∷ []) ++ ex_code p s b h pb = cc in
-      all ∙ simp append_assoc
-
-  pub either_emitted : (old c1 c2 c3 : List Instr) (a b : Ex) (h : ℕ) → c1 ≡ old ++ ex_code p s a h (length old)
-      → c2 ≡ c1 ++ JumpZero (temp s h) (length c1 + 2) ∷ Jump (length c1 + 2 + size p b) ∷ [] → c3 ≡ c2 ++ ex_code p s b h (length c2) → c3 ≡ old ++ ex_code p s (either a b) h (length old)
-  either_emitted old c1 c2 c3 a b h e1 e2 e3 =
-      let pb = length old + size p a + 2 in
-      let n1 : length c1 + 2 ≡ pb = (let n : length c1 ≡ length (old ++ ex_code p s a h (length old)) = ap length e1 in omega (arith, n, length-append old (ex_code p s a h (length old)), length_code p s a h (length old))) in
-      let two : length (JumpZero (temp s h) (length c1 + 2) ∷ Jump (length c1 + 2 + size p b) ∷ []) ≡ 2 = refl in
-      let n2 : length c2 ≡ pb = ap length e2 ∙ omega (arith, n1, two, length-append c1 (JumpZero (temp s h) (length c1 + 2) ∷ Jump (length c1 + 2 + size p b) ∷ [])) in
-      let f2 : c2 ≡ c1 ++ JumpZero (temp s h) pb ∷ Jump (pb + size p b) ∷ [] = e2 ∙ ap (λ place. c1 ++ JumpZero (temp s h) place ∷ Jump (place + size p b) ∷ []) n1 in
-      let f3 : c3 ≡ c2 ++ ex_code p s b h pb = e3 ∙ ap (λ place. c2 ++ ex_code p s b h place) n2 in
-      let all : c3 ≡ ((old ++ ex_code p s a h (length old)) ++ JumpZero (temp s h) pb ∷ Jump (pb + size p b) ∷ []) ++ ex_code p s b h pb = cc in
-      all ∙ simp append_assoc
-
-  -- a value of a row, and the others
-  pub value_emitted : (whole code behind : List Instr) (es : List Expr) (i : ℕ) (x : Expr) (h after : ℕ) → i < length es → x ≡ get_or es i x → after ≡ h + wide p (ex_of x) → whole ≡ code ++ exs_code p s (exs_of (drop i es)) h (length code)
-      → behind ≡ code ++ ex_code p s (ex_of x) h (length code) → whole ≡ behind ++ exs_code p s (exs_of (drop (i + 1) es)) after (length behind)
-  value_emitted whole code behind es i x h after l is e0 e1 e2 =
-      let cx = ex_code p s (ex_of x) h (length code) in let rest = exs_of (drop (i + 1) es) in
-      let n : length code + size p (ex_of x) ≡ length behind = omega (arith, length-append code cx, length_code p s (ex_of x) h (length code), ap length e2) in
-      e1 ∙ ap (λ y. code ++ exs_code p s y h (length code)) (split_values es i x l is) ∙ sym (append_assoc code cx (exs_code p s rest (h + wide p (ex_of x)) (length code + size p (ex_of x))))
-      ∙ ap (λ place. (code ++ cx) ++ exs_code p s rest (h + wide p (ex_of x)) place) n ∙ ap (λ l. l ++ exs_code p s rest (h + wide p (ex_of x)) (length behind)) (sym e2)
-      ∙ ap (λ k. behind ++ exs_code p s rest k (length behind)) (sym e0)
-
-  pub values_split : (n : ℕ) (es : List Expr) (i : ℕ) (x : Expr) (h : ℕ) → i < length es → x ≡ get_or es i x → ExsFitIn p s n h (exs_of (drop i es)) → ExsFitIn p s n h (more (ex_of x) (exs_of (drop (i + 1) es)))
-  values_split n es i x h l is f = subst (λ y. ExsFitIn p s n h y) (split_values es i x l is) f
-
   -- an operand of a line, and the others
   operands_first : (q : Piece) (ps : List Piece) (h pc : ℕ) → pieces_code p s (q ∷ ps) h pc ≡ pieces_code p s (q ∷ []) h pc ++ pieces_code p s ps (temp_behind q h) (pc + piece_size p q)
   operands_first (text number) ps h pc = let z : pc ≡ pc + 0 = omega arith in ap (λ place. pieces_code p s ps h place) z

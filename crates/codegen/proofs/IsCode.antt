@@ -17,12 +17,13 @@ use Rattle.value_trees.specs.Paths.{offset}
 use Rattle.typed.specs.Syntax.{Ex, Exs, Steps, here, inner, at_index, Pl, Left, Piece, St, Sts, Func, Program, constant, read, unary, binary, both, either, call, part_of, literal, Elements, no_elements, element, local, global, none, more, results, asked, blank, new, to, text, shown, over_int, over_length, over_copy, declare, assign, update, bump, discard, block, choose, loop, range, break_off, go_on, give_back, print, raise, quit, done, next, all_width, each_width, arguments_in, results_in, argument_words, result_words, arguments_of, results_of, type_named, site_width, path_of, wide, all_wide, value_widths, ascend, words_through, gap_behind}
 use Rattle.typed.specs.Form.{scope_in, body_first, IsInForm}
 use Rattle.typed.specs.Frames.{far, steps_far, words_between, frame_of}
-use Rattle.codegen.specs.Temps.{SiteFits, IndicesFit, PlaceFits, AddressFits, SitesFit, sites_words, reached, ParamsFitIn, LeftFits, LeftsFitIn, ValuesFit, RenewFits, CallFits, Fits, OperandsFit, StepsFitIn, ElementsFitIn, ExsFitIn, ReadyFitIn, PiecesFitIn, TestFitsIn, StFitsIn, StsFitIn, FuncFitsIn}
+use Rattle.expression_code.specs.Temps.{SiteFits, IndicesFit, PlaceFits, AddressFits, reached, CallFits, Fits, OperandsFit, StepsFitIn, ElementsFitIn, ExsFitIn}
+use Rattle.codegen.specs.Temps.{SitesFit, sites_words, ParamsFitIn, LeftFits, LeftsFitIn, ValuesFit, RenewFits, ReadyFitIn, PiecesFitIn, TestFitsIn, StFitsIn, StsFitIn, FuncFitsIn}
 use Rattle.simulated_code.specs.Code.{Slots, temp, site_slot, site_type, part_slot, part_words, moves, zeros, first_width, other_widths, operation, binary_code, unary_code, gap_code, gap_size, above_address, steps_above, place_above, lefts_above, index_code, steps_address, address_code, address_size, fetch_part, fetch_code, land_part, land_code, read_code, write_code, move_code, result_code, call_code, ex_code, exs_code, place_code, steps_code, elements_code, ready_code, place_size, steps_size, place_end, elements_size, lefts_sized, lefts_end, pieces_code, test_code, shown_code, raised_code, show_more, show_plain, show_code, lefts_code, lefts_size, element_code, array_code, named_write_code, named_read_code, leave_code, values_code, params_code, zeros_code, renew_code, renew_size, size, exs_size, pieces_size, test_size, st_size, sts_size, st_code, sts_code, slots_of, entry_code, entry_size, func_code, func_size, entry_of, funcs_code, funcs_owners, funcs_entries, code_of}
 use Rattle.simulated_code.proofs.Rooms.{steps_from}
 use Rattle.simulated_code.proofs.Sizes.{length_func, place_sum, place_ends, lefts_sum, lefts_ends}
 use Rattle.simulated_code.proofs.Stands.{same_some, start_of, some_size, length_owners, stands, located, entered_from, exists}
-use Rattle.codegen.proofs.InSlots.{site_within}
+use Rattle.expression_code.proofs.InSlots.{site_within}
 use Rattle.codegen.proofs.Operands.{above_sum, lefts_from}
 use Rattle.codegen.proofs.Suffice.{func_fits}
 use Rattle.codegen.proofs.Within.{PiecesWithin, StWithin, StsWithin, sts_within}

@@ -1,7 +1,4 @@
-pub mod InSlots
 pub mod Operands
-pub mod Operators
-pub mod ByWidth
 pub mod Begun
 pub mod Suffice
 pub mod Within
@@ -11,8 +8,5 @@ pub mod Emitted
 pub mod Composed
 pub mod Whole
 pub mod Sized
-pub mod Steps
-pub mod Reached
-pub mod Elements
 pub mod Above
 pub mod Pairs

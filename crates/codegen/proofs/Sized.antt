@@ -8,9 +8,6 @@ use Rattle.simulated_code.specs.Code.{element_round_size, index_round_size, left
 use Rattle.simulated_code.proofs.Sizes.{place_sum, lefts_sum}
 use Rattle.codegen.proofs.Emitted.{split_lefts}
 
-pub place_total : (p : Program) (q : Place) (behind : ℕ) → place_size p (place_of q) behind ≡ place_size p (place_of q) 0 + behind
-place_total p q behind = place_sum p (place_of q) behind
-
 pub lefts_total : (p : Program) (ls : List Left) (behind : ℕ) → lefts_sized p ls behind ≡ lefts_sized p ls 0 + behind
 lefts_total p ls behind = lefts_sum p ls behind
 

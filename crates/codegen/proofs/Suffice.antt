@@ -12,7 +12,8 @@ use Rattle.typed.specs.Frames.{far, left_far, lefts_far, behind_values, place_ne
 use Rattle.simulated_code.specs.Code.{Slots, other_widths, part_words, above_address, place_above, lefts_above, slots_of}
 use Rattle.simulated_code.proofs.Rooms.{address_room, array_room, key_alone, key_room, lefts_others, lefts_room, place_others, place_room}
 use Rattle.simulated_code.proofs.Wide.{plain_one, takes_some, takes_one, place_is_of, wide_is, all_wide_is, widths_are}
-use Rattle.codegen.specs.Temps.{SiteFits, SitesFit, IndicesFit, PlaceFits, ParamsFitIn, LeftFits, left_words, LeftsFitIn, ValuesFit, RenewFits, CallFits, Fits, OperandsFit, StepsFitIn, ElementsFitIn, ExsFitIn, ReadyFitIn, PiecesFitIn, TestFitsIn, StFitsIn, StsFitIn, FuncFitsIn, reached, sites_words}
+use Rattle.expression_code.specs.Temps.{SiteFits, IndicesFit, PlaceFits, CallFits, Fits, OperandsFit, StepsFitIn, ElementsFitIn, ExsFitIn, reached}
+use Rattle.codegen.specs.Temps.{SitesFit, ParamsFitIn, LeftFits, left_words, LeftsFitIn, ValuesFit, RenewFits, ReadyFitIn, PiecesFitIn, TestFitsIn, StFitsIn, StsFitIn, FuncFitsIn, sites_words}
 use Rattle.codegen.proofs.Operands.{above_sum}
 
 -- the sites in scope are among the n of a frame

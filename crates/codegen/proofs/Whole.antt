@@ -16,7 +16,7 @@ use Rattle.typed.specs.View.{func_of, program_of}
 use Rattle.typed.specs.Form.{IsInForm}
 use Rattle.frame_layout.specs.declared.layout.FrameLayout.{FrameLayout}
 use Rattle.frame_layout.specs.Layout.{layout_in, layouts}
-use Rattle.codegen.specs.Frame.{func_in}
+use Rattle.expression_code.specs.Frame.{func_in}
 use Rattle.codegen.specs.Temps.{FuncFitsIn}
 use Rattle.simulated_code.specs.Code.{Slots, slots_of, params_code, zeros_code, sts_code, leave_code, entry_size, func_code, func_size, entry_of, funcs_code, funcs_owners, funcs_entries, code_of}
 use Rattle.simulated_code.proofs.Sizes.{length_entry, length_func}

@@ -1,4 +1,4 @@
--- A frame as data.
+-- Functions in frames, and the code of statements by their parts.
 use Rattle.std.specs.Prelude.{ℕ, ◌+◌, ◌<◌, ◌≤◌, List, [], ◌∷◌, ◌++◌, Option, Some, None}
 use Rattle.isa.specs.declared.instr.Instr.{Instr}
 use Rattle.isa.specs.declared.instr.Instr.TheVariants.{ArgumentWords, Bin, Const, PrintText}
@@ -12,21 +12,8 @@ use Rattle.typed.specs.declared.program.Func.{Func as FuncData}
 use Rattle.typed.specs.declared.program.Program.{Program}
 use Rattle.simulated_code.specs.Code.{Slots, temp, site_slot, site_words, moves, operation, shown_code, above_address, place_above, lefts_above, address_code, address_size, fetch_code, land_code, write_code, lefts_code, lefts_end, place_code, place_end, ready_code, ex_code, exs_code}
 use Rattle.codegen.specs.Temps.{SitesFit, sites_words}
-use Rattle.codegen.specs.declared.slots.Frame.{Frame}
-
--- the types of the sites, and a function
-abbrev pub sites_in : Program → List ValueType
-sites_in p = site_types (trees p.types) p.sites.items
-
-abbrev pub func_in : Program → FuncData → Func
-func_in p f = func_of (trees p.types) f
-
-abbrev pub slots_in : Program → Frame → Slots
-slots_in p f = record { outgoing = f.outgoing; temps = f.temps; first = f.first; sites = sites_in p }
-
--- its slots are numbers of 16 bits
-abbrev pub IsSmall : Program → Frame → Type 0
-IsSmall p f = f.outgoing + f.temps + words_between (sites_in p) f.first f.sites ≤ 65535
+use Rattle.expression_code.specs.declared.slots.Frame.{Frame}
+use Rattle.expression_code.specs.Frame.{slots_in}
 
 -- a function's results can be given back from a frame
 abbrev pub Returns : Program → Frame → Func → Type 0

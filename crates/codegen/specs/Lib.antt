@@ -1,4 +1,3 @@
 pub mod Temps
 pub mod Frame
 pub mod Runs
-pub mod Parts

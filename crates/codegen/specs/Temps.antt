@@ -1,40 +1,11 @@
--- That the slots of a frame suffice.
+-- That the slots of a frame suffice for statements and functions.
 use Rattle.std.specs.Prelude.{◌≡◌, ℕ, zero, suc, ◌+◌, ◌<◌, ◌≤◌, Bool, true, false, List, [], ◌∷◌, Option, Some, None, length}
 use Rattle.value_trees.specs.Types.{ValueType, width, part_type, part_offset}
 use Rattle.value_trees.specs.Paths.{offset}
 use Rattle.typed.specs.Syntax.{Ex, Exs, Pl, Steps, here, inner, at_index, Left, Piece, St, Sts, Func, Program, constant, read, unary, binary, both, either, call, part_of, literal, Elements, no_elements, element, local, global, none, more, results, asked, blank, new, to, text, shown, over_int, over_length, over_copy, declare, assign, update, bump, discard, block, choose, loop, range, break_off, go_on, give_back, print, raise, quit, done, next, argument_words, result_words, arguments_of, results_of, type_named, path_of, wide, all_wide, each_width, value_widths, ascend, words_through, gap_behind}
 use Rattle.typed.specs.Frames.{far}
 use Rattle.simulated_code.specs.Code.{Slots, site_type, site_words, part_words, first_width, other_widths, above_address, place_above, lefts_above, slots_of}
-
--- the site is among the n of a frame
-abbrev pub SiteFits : Slots → (n site : ℕ) → Type 0
-SiteFits s n site = (s.first ≤ site) × (site < s.first + n)
-
--- the steps of a place
-abbrev pub steps_in : Pl → Steps
-steps_in (local site steps) = steps
-steps_in (global g steps) = steps
-
--- the arrays with worked-out indices among the steps from values of a type have elements, no more than they have words
-abbrev pub IndicesFit : ValueType → Steps → Type 0
-IndicesFit t here = Unit {0}
-IndicesFit t (inner i steps) = IndicesFit (part_type t i) steps
-IndicesFit t (at_index p e m steps) = (0 < m) × (m ≤ width t) × (0 < width (part_type t 0)) × IndicesFit (part_type t 0) steps
-
--- a part of it has words, and these are within its own
-abbrev pub PlaceFits : Slots → (n : ℕ) → Pl → Type 0
-PlaceFits s n (local site steps) =
-    SiteFits s n site × (0 < part_words s site (path_of steps)) × (offset (site_type s site) (path_of steps) + part_words s site (path_of steps) ≤ site_words s site) × IndicesFit (site_type s site) steps
-PlaceFits s n (global g steps) = Unit {0}
-
--- the words of a place; a package variable has one
-abbrev pub reached : Slots → Pl → ℕ
-reached s (local site steps) = part_words s site (path_of steps)
-reached s (global g steps) = 1
-
--- there is a temp for the address of a place, if it has one
-abbrev pub AddressFits : (temps at : ℕ) → Pl → Type 0
-AddressFits temps at q = at + far q ≤ temps
+use Rattle.expression_code.specs.Temps.{SiteFits, IndicesFit, PlaceFits, reached, AddressFits, Fits, OperandsFit, ExsFitIn}
 
 abbrev pub SitesFit : Slots → (n : ℕ) → List ℕ → Type 0
 SitesFit s n [] = Unit {0}
@@ -88,52 +59,6 @@ RenewFits s h [] = Unit {0}
 RenewFits s h (site ∷ sites) = (h + site_words s site ≤ s.temps) × RenewFits s h sites
 
 module _ (p : Program) (s : Slots) (n : ℕ) where
-  -- there is the function, its words have room, and those in temps from h on too
-  abbrev pub CallFits : (h f : ℕ) → Type 0
-  CallFits h f = (f < length p.funcs) × (f ≤ 65535) × (arguments_of p f + results_of p f ≤ s.outgoing) × (h + arguments_of p f ≤ s.temps) × (h + results_of p f ≤ s.temps)
-
-  -- the sites are among n, and there are temps from h on
-  abbrev mutual
-    pub Fits : (h : ℕ) → Ex → Type 0
-    Fits h (constant v) = h < s.temps
-    Fits h (read q) = (h + reached s q ≤ s.temps) × PlaceFits s n q × AddressFits s.temps (place_above q h) q × OperandsFit h q
-    Fits h (unary op e) = (h < s.temps) × Fits h e
-    Fits h (binary at op a b) = (0 < wide p a) × (h + wide p a + wide p a ≤ s.temps) × Fits h a × Fits (h + wide p a) b
-    Fits h (both a b) = (h < s.temps) × Fits h a × Fits h b
-    Fits h (either a b) = (h < s.temps) × Fits h a × Fits h b
-    Fits h (call f es) = CallFits h f × ExsFitIn h es
-    Fits h (part_of m i e) =
-        let t = type_named p m in
-        (0 < width (part_type t i)) × (h + part_offset t i + width (part_type t i) ≤ s.temps) × Fits h e
-    Fits h (literal m es) =
-        let t = type_named p m in
-        (0 < width t) × (h + width t ≤ s.temps) × ElementsFitIn h t (ascend es) es
-
-    -- the operands of a place, in temps from h on
-    pub OperandsFit : (h : ℕ) → Pl → Type 0
-    OperandsFit h (local site steps) = StepsFitIn h steps
-    OperandsFit h (global g steps) = StepsFitIn h steps
-
-    pub StepsFitIn : (h : ℕ) → Steps → Type 0
-    StepsFitIn h here = Unit {0}
-    StepsFitIn h (inner i steps) = StepsFitIn h steps
-    StepsFitIn h (at_index at e m steps) = (h < s.temps) × Fits h e × StepsFitIn (h + 1) steps
-
-    -- the elements of a literal in temps from h on
-    pub ElementsFitIn : (h : ℕ) → ValueType → (in_order : Bool) → Elements → Type 0
-    ElementsFitIn h t in_order no_elements = Unit {0}
-    ElementsFitIn h t true (element i e es) =
-        (h + words_through t i + gap_behind t i es ≤ s.temps) × Fits (h + part_offset t i) e × ElementsFitIn h t true es
-    ElementsFitIn h t false (element i e es) =
-        (0 < width (part_type t i)) × (h + part_offset t i + width (part_type t i) ≤ s.temps) × (h + width t + width (part_type t i) ≤ s.temps)
-        × Fits (h + width t) e × ElementsFitIn h t false es
-
-    pub ExsFitIn : (h : ℕ) → Exs → Type 0
-    ExsFitIn h none = Unit {0}
-    ExsFitIn h (more e es) = (h + wide p e ≤ s.temps) × Fits h e × ExsFitIn (h + wide p e) es
-    ExsFitIn h (results f es) = CallFits h f × ExsFitIn h es
-    ExsFitIn h asked = h + 2 ≤ s.temps
-
   -- the operands of left sides, in temps from h on
   abbrev pub ReadyFitIn : (h : ℕ) → List Left → Type 0
   ReadyFitIn h [] = Unit {0}

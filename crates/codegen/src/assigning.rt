@@ -4,19 +4,14 @@ ghost use Rattle.isa.specs.declared.instr.Instr.{Instr};
 ghost use Rattle.typed.specs.View.{ex_of, exs_of_values, left_of, place_of, program_of};
 ghost use Rattle.typed.specs.Syntax.{all_wide, value_widths};
 ghost use Rattle.typed.specs.Frames.{far};
-ghost use Rattle.codegen.specs.Frame.{slots_in, assign_code, bump_code, left_code, update_code, IsSmall};
-ghost use Rattle.codegen.specs.Temps.{ExsFitIn, Fits, LeftFits, LeftsFitIn, OperandsFit, PlaceFits, ReadyFitIn, reached};
+ghost use Rattle.expression_code.specs.Frame.{slots_in, IsSmall};
+ghost use Rattle.codegen.specs.Frame.{assign_code, bump_code, left_code, update_code};
+ghost use Rattle.expression_code.specs.Temps.{ExsFitIn, Fits, OperandsFit, PlaceFits, reached};
+ghost use Rattle.codegen.specs.Temps.{LeftFits, LeftsFitIn, ReadyFitIn};
 ghost use Rattle.simulated_code.specs.Code.{above_address as above_address_of, lefts_above as above_all, lefts_code, place_above, ready_code};
 
-use crate::jumps::put;
-use crate::moving::moves;
-use crate::reaching::{
-    above_address, above_operands, emit_address, emit_fetch, emit_land, emit_write,
-};
-use crate::slots::Frame;
-use crate::values::{emit_expr, emit_operation, emit_place, emit_values};
-use crate::widths::value_words;
 use base::NoMemory;
+use expression_code::{Frame, above_address, above_operands, emit_address, emit_expr, emit_fetch, emit_land, emit_operation, emit_place, emit_values, emit_write, moves, put, value_words};
 use frame_layout::values_words;
 use isa::Instr;
 use typed::{BinOp, Expr, Left, Place, Program, Values};

@@ -4,7 +4,7 @@ ghost use Rattle.simulated_code.specs.Correct.{begun_word};
 ghost use Rattle.codegen.specs.declared.running.RunFault.{RunFault};
 
 use crate::RunFault;
-use crate::values::word;
+use expression_code::word;
 use heap_bump::{Heap, HeapFault};
 use std::alloc::Global;
 use typed::{Const, PackageVariable};

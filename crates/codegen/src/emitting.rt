@@ -2,7 +2,8 @@
 ghost use Rattle.std.specs.Prelude.{◌≡◌, ◌++◌, OnOk, length};
 ghost use Rattle.typed.specs.Syntax.{argument_words, result_words};
 ghost use Rattle.typed.specs.View.{program_of, st_of, sts_of};
-ghost use Rattle.codegen.specs.Frame.{func_in, slots_in, IsSmall, Returns};
+ghost use Rattle.expression_code.specs.Frame.{func_in, slots_in, IsSmall};
+ghost use Rattle.codegen.specs.Frame.{Returns};
 ghost use Rattle.codegen.specs.Temps.{StFitsIn, StsFitIn};
 ghost use Rattle.simulated_code.specs.Code.{st_code, sts_code};
 
@@ -10,18 +11,15 @@ use crate::arrays::{
     array_goals, copy_end, emit_array_start, emit_array_turn, emit_copy, emit_pair,
 };
 use crate::assigning::{emit_assign, emit_bump, emit_update};
-use crate::jumps::{Goals, here, jump, pass_unless, put};
-use crate::lengths::plus;
 use crate::looping::{
     count_goals, count_test, emit_count_start, emit_count_test, emit_count_turn, emit_key,
     emit_renewal, emit_test, loop_goals,
 };
 use crate::returning::{emit_return, emit_zeros};
 use crate::shown::{emit_exit, emit_print, emit_raised};
-use crate::slots::Frame;
 use crate::stmt_lengths::{key_len, pair_len, stmts_len};
-use crate::values::{emit_expr, emit_values};
 use base::NoMemory;
+use expression_code::{Frame, Goals, emit_expr, emit_values, here, jump, pass_unless, plus, put};
 use isa::Instr;
 use typed::{Func, Piece, Program, Stmt};
 

@@ -3,16 +3,15 @@ ghost use Rattle.std.specs.Prelude.{◌≡◌, ◌+◌, ◌<◌, ◌≤◌, ◌^
 ghost use Rattle.typed.specs.View.{program_of};
 ghost use Rattle.typed.specs.Form.{IsInForm};
 ghost use Rattle.frame_layout.specs.Layout.{layout_in, layouts as layouts_of};
-ghost use Rattle.codegen.specs.Frame.{func_in, slots_in, IsSmall};
+ghost use Rattle.expression_code.specs.Frame.{func_in, slots_in, IsSmall};
 ghost use Rattle.codegen.specs.Temps.{FuncFitsIn};
 ghost use Rattle.simulated_code.specs.Code.{code_of, entry_of, func_code, func_size, slots_of};
 ghost use Rattle.simulated_code.specs.Correct.{Simulated};
 
 use crate::emitting::emit_stmts;
-use crate::jumps::{Goals, here};
 use crate::returning::{emit_leave, emit_params, emit_zeros};
-use crate::slots::Frame;
 use base::NoMemory;
+use expression_code::{Frame, Goals, here};
 use frame_layout::{FrameLayout, Layouts, all_words};
 use isa::{Code, Instr};
 use std::alloc::Global;

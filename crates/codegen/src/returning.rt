@@ -3,16 +3,14 @@ ghost use Rattle.std.specs.Prelude.{◌≡◌, ◌+◌, ◌≤◌, ◌++◌, ◌
 ghost use Rattle.typed.specs.Trees.{trees};
 ghost use Rattle.typed.specs.Syntax.{all_wide, all_width, argument_words, each_width, result_words, type_in};
 ghost use Rattle.typed.specs.View.{exs_of_values, program_of, site_in, site_numbers};
-ghost use Rattle.codegen.specs.Frame.{func_in, slots_in, param_code, IsSmall, Returns};
-ghost use Rattle.codegen.specs.Temps.{ExsFitIn, ParamFits, ParamsFitIn, SitesFit, ValuesFit, sites_words};
+ghost use Rattle.expression_code.specs.Frame.{func_in, slots_in, IsSmall};
+ghost use Rattle.codegen.specs.Frame.{param_code, Returns};
+ghost use Rattle.expression_code.specs.Temps.{ExsFitIn};
+ghost use Rattle.codegen.specs.Temps.{ParamFits, ParamsFitIn, SitesFit, ValuesFit, sites_words};
 ghost use Rattle.simulated_code.specs.Code.{exs_code, leave_code, named_read_code, named_write_code, params_code, result_code, values_code, zeros_code};
 
-use crate::jumps::put;
-use crate::moving::{moves, zeros};
-use crate::slots::Frame;
-use crate::values::emit_values;
-use crate::widths::nth_words;
 use base::{NoMemory, SiteId, TypeId};
+use expression_code::{Frame, emit_values, moves, nth_words, put, zeros};
 use frame_layout::{all_words, values_words};
 use isa::Instr;
 use typed::{Func, Program, Values};

@@ -2,14 +2,14 @@
 ghost use Rattle.std.specs.Prelude.{◌≡◌, ◌+◌, ◌<◌, ◌≤◌, ◌++◌, ◌∷◌, [], IfOk, OnOk, length, map};
 ghost use Rattle.isa.specs.declared.instr.Instr.{Instr};
 ghost use Rattle.typed.specs.View.{ex_of, piece_of, program_of, type_of};
-ghost use Rattle.codegen.specs.Frame.{slots_in, show_piece, temp_behind, IsSmall, ShownFit};
-ghost use Rattle.codegen.specs.Temps.{Fits, PiecesFitIn};
+ghost use Rattle.expression_code.specs.Frame.{slots_in, IsSmall};
+ghost use Rattle.codegen.specs.Frame.{show_piece, temp_behind, ShownFit};
+ghost use Rattle.expression_code.specs.Temps.{Fits};
+ghost use Rattle.codegen.specs.Temps.{PiecesFitIn};
 ghost use Rattle.simulated_code.specs.Code.{ex_code, pieces_code, raised_code, show_code, show_line, show_more, show_plain, shown_code, temp};
 
-use crate::jumps::put;
-use crate::slots::Frame;
-use crate::values::emit_expr;
 use base::{NoMemory, TypeId};
+use expression_code::{Frame, emit_expr, put};
 use isa::Instr;
 use typed::{BOOL, Expr, Piece, Program};
 

@@ -2,12 +2,11 @@
 ghost use Rattle.std.specs.Prelude.{◌≡◌, ◌+◌, ◌≤◌, IfOk, ◌∷◌, [], map};
 ghost use Rattle.typed.specs.Syntax.{all_wide, argument_words};
 ghost use Rattle.typed.specs.View.{ex_of, exs_of_values, left_of, piece_of, place_of, program_of, site_numbers, st_of, sts_of, test_of};
-ghost use Rattle.codegen.specs.Frame.{func_in};
+ghost use Rattle.expression_code.specs.Frame.{func_in};
 ghost use Rattle.simulated_code.specs.Code.{address_size, exs_size, element_round_size, index_round_size, leave_size, lefts_size, lefts_sized, piece_size, place_size, pieces_size, renew_size, shown_size, size, st_size, sts_size, test_size, values_size};
 
-use crate::lengths::{expr_len, last_len, move_len, number, place_len, plus, test_len, values_len};
-use crate::reaching::address_len;
 use base::{NoMemory, SiteId};
+use expression_code::{address_len, expr_len, last_len, move_len, number, place_len, plus, test_len, values_len};
 use frame_layout::values_words;
 use typed::{Expr, Func, Left, Piece, Place, Program, Stmt, Values};
 
@@ -119,7 +118,7 @@ fn assign_len(program: &Program, ls: &[Left], values: &Values) -> Result<u32, No
 }
 
 // The operands of a place, its address, if there is one, and so many instructions more.
-#[tactic(auto, using(crate::proofs::Sized::place_total))]
+#[tactic(auto, using(expression_code::proofs::Steps::place_total))]
 fn reached_len(program: &Program, place: &Place, more: u32) -> Result<u32, NoMemory>
     ensures { IfOk result (λ n. n ≡ place_size (program_of program.now) (place_of place.now) (address_size (place_of place.now) + more)) }
 {

@@ -1,6 +1,6 @@
 use Rattle.std.proofs.Common.{arith}
-use Rattle.codegen.specs.Frame.{slots_in}
-use Rattle.codegen.proofs.InSlots.{site_within}
+use Rattle.expression_code.specs.Frame.{slots_in}
+use Rattle.expression_code.proofs.InSlots.{site_within}
 use Rattle.codegen.proofs.arrays.emit_element.Goals as goal
 
 pub overflow_cast-len : goal.overflow_cast-len

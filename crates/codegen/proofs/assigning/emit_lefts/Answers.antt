@@ -2,7 +2,7 @@ use Rattle.std.proofs.Common.{◌≡◌, ◌+◌, drop, map, ap, subst, sym, ari
 use Rattle.std.specs.Prelude.{slice_index}
 use Rattle.typed.specs.Syntax.{value_widths}
 use Rattle.typed.specs.View.{exs_of_values, left_of, program_of}
-use Rattle.codegen.specs.Frame.{slots_in}
+use Rattle.expression_code.specs.Frame.{slots_in}
 use Rattle.codegen.specs.Temps.{LeftsFitIn}
 use Rattle.codegen.proofs.Above.{above_next, above_one}
 use Rattle.codegen.proofs.Emitted.{left_emitted, lefts_split}

@@ -1,5 +1,5 @@
 use Rattle.typed.specs.View.{ex_of, place_of, program_of}
-use Rattle.codegen.specs.Frame.{slots_in}
+use Rattle.expression_code.specs.Frame.{slots_in}
 use Rattle.codegen.proofs.Emitted.{update_emitted}
 use Rattle.codegen.proofs.assigning.emit_update.Goals as goal
 

@@ -1,6 +1,6 @@
 use Rattle.std.proofs.Common.{arith}
 use Rattle.typed.specs.View.{program_of}
-use Rattle.codegen.specs.Frame.{slots_in}
+use Rattle.expression_code.specs.Frame.{slots_in}
 use Rattle.codegen.proofs.Above.{above_next, above_one}
 use Rattle.codegen.proofs.Emitted.{left_ready, ready_split}
 use Rattle.codegen.proofs.assigning.ready_lefts.Goals as goal

@@ -3,7 +3,7 @@ use Rattle.typed.proofs.Rows.{stmt_rows}
 use Rattle.typed.specs.Syntax.{blank, over_copy, over_int, over_length, choose, loop, range, argument_words, result_words}
 use Rattle.typed.specs.View.{ex_of, left_of, program_of, site_numbers, st_of, sts_of, test_of}
 use Rattle.simulated_code.specs.Code.{element_round_size, index_round_size, renew_code, renew_size, sts_code, sts_size, test_size}
-use Rattle.codegen.specs.Frame.{func_in, slots_in}
+use Rattle.expression_code.specs.Frame.{func_in, slots_in}
 use Rattle.codegen.proofs.Emitted.{next_emitted, next_fits, if_emitted, loop_emitted, count_emitted, indices_emitted, elements_emitted}
 use Rattle.codegen.proofs.emitting.+emit.Goals as goal
 

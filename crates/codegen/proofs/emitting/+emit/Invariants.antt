@@ -3,7 +3,7 @@ use Rattle.typed.specs.Syntax.{argument_words, result_words}
 use Rattle.typed.specs.View.{program_of, sts_of}
 use Rattle.codegen.specs.Temps.{StsFitIn}
 use Rattle.simulated_code.specs.Code.{sts_code}
-use Rattle.codegen.specs.Frame.{func_in, slots_in}
+use Rattle.expression_code.specs.Frame.{func_in, slots_in}
 use Rattle.codegen.proofs.emitting.+emit.Given as goal
 
 abbrev pub invariant-emit_stmts-loop-s : goal.invariant-emit_stmts-loop-s

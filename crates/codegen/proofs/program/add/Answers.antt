@@ -2,7 +2,7 @@ use Rattle.std.proofs.Common.{◌≡◌, ◌++◌, ◌-◌, ◌∙◌, ap, lengt
 use Rattle.typed.specs.View.{program_of}
 use Rattle.simulated_code.specs.Code.{func_code, func_size}
 use Rattle.simulated_code.proofs.Sizes.{length_func}
-use Rattle.codegen.specs.Frame.{func_in}
+use Rattle.expression_code.specs.Frame.{func_in}
 use Rattle.codegen.proofs.program.add.Goals as goal
 
 pub returns-clause-owners : goal.returns-clause-owners

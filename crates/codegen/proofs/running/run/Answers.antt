@@ -4,7 +4,7 @@ use Rattle.std.proofs.lemmas.Bool.{le-leb, lt-leb}
 use Rattle.machine.specs.Inside.{Inside}
 use Rattle.heap_bump.specs.Words.{Words}
 use Rattle.typed.specs.View.{program_of}
-use Rattle.codegen.specs.Frame.{sites_in}
+use Rattle.expression_code.specs.Frame.{sites_in}
 use Rattle.codegen.specs.declared.running.RunFault.TheVariants as Fault
 use Rattle.codegen.proofs.Begun.{begun_words, begun_room, begun_full}
 use Rattle.codegen.proofs.Composed.{full, composed, refused, unready, read_by, read_nothing}

@@ -1,5 +1,5 @@
 use Rattle.typed.specs.View.{program_of}
-use Rattle.codegen.specs.Frame.{slots_in}
+use Rattle.expression_code.specs.Frame.{slots_in}
 use Rattle.codegen.proofs.Emitted.{operand_emitted, operand_fits, others_fit}
 use Rattle.codegen.proofs.shown.emit_operands.Goals as goal
 

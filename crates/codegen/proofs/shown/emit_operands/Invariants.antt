@@ -1,7 +1,7 @@
 use Rattle.std.proofs.Common.{◌≡◌, ◌++◌, drop, length, map}
 use Rattle.typed.specs.View.{piece_of, program_of}
 use Rattle.simulated_code.specs.Code.{pieces_code}
-use Rattle.codegen.specs.Frame.{slots_in}
+use Rattle.expression_code.specs.Frame.{slots_in}
 use Rattle.codegen.specs.Temps.{PiecesFitIn}
 use Rattle.codegen.proofs.shown.emit_operands.Given as goal
 

@@ -1,7 +1,8 @@
 use Rattle.std.proofs.Common.{◌≡◌, ◌++◌, drop, map}
 use Rattle.typed.specs.View.{piece_of}
 use Rattle.simulated_code.specs.Code.{show_plain}
-use Rattle.codegen.specs.Frame.{slots_in, ShownFit}
+use Rattle.expression_code.specs.Frame.{slots_in}
+use Rattle.codegen.specs.Frame.{ShownFit}
 use Rattle.codegen.proofs.shown.emit_plain.Given as goal
 
 abbrev pub invariant-loop-p : goal.invariant-loop-p

@@ -2,7 +2,7 @@ use Rattle.std.proofs.Common.{◌≡◌, ◌+◌, drop}
 use Rattle.typed.specs.Syntax.{argument_words}
 use Rattle.typed.specs.View.{program_of, sts_of}
 use Rattle.simulated_code.specs.Code.{sts_size}
-use Rattle.codegen.specs.Frame.{func_in}
+use Rattle.expression_code.specs.Frame.{func_in}
 use Rattle.codegen.proofs.stmt_lengths.+lengths.Given as goal
 
 abbrev pub invariant-stmts_len-loop-s : goal.invariant-stmts_len-loop-s

@@ -1,8 +1,0 @@
-use Rattle.std.proofs.Common.{arith}
-use Rattle.codegen.specs.Frame.{slots_in}
-use Rattle.codegen.proofs.InSlots.{site_within}
-use Rattle.codegen.proofs.slots.Frame.width_of.Goals as goal
-
-pub overflow_cast-result : goal.overflow_cast-result
-overflow_cast-result c =
-    let l = site_within (slots_in c.args.program.now c.args.self) c.args.self.sites c.args.site.0 c.requires.site in omega (arith, l, c.site_words.ensures)

@@ -1,0 +1,7 @@
+pub mod InSlots
+pub mod Operators
+pub mod ByWidth
+pub mod Expressions
+pub mod Steps
+pub mod Elements
+pub mod Reached

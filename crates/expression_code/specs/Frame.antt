@@ -1,0 +1,25 @@
+-- A frame as data.
+use Rattle.std.specs.Prelude.{◌+◌, ◌≤◌, List}
+use Rattle.value_trees.specs.Types.{ValueType}
+use Rattle.typed.specs.Syntax.{Func}
+use Rattle.typed.specs.Frames.{words_between}
+use Rattle.typed.specs.Trees.{trees}
+use Rattle.typed.specs.View.{func_of, site_types}
+use Rattle.typed.specs.declared.program.Func.{Func as FuncData}
+use Rattle.typed.specs.declared.program.Program.{Program}
+use Rattle.simulated_code.specs.Code.{Slots}
+use Rattle.expression_code.specs.declared.slots.Frame.{Frame}
+
+-- the types of the sites, and a function
+abbrev pub sites_in : Program → List ValueType
+sites_in p = site_types (trees p.types) p.sites.items
+
+abbrev pub func_in : Program → FuncData → Func
+func_in p f = func_of (trees p.types) f
+
+abbrev pub slots_in : Program → Frame → Slots
+slots_in p f = record { outgoing = f.outgoing; temps = f.temps; first = f.first; sites = sites_in p }
+
+-- its slots are numbers of 16 bits
+abbrev pub IsSmall : Program → Frame → Type 0
+IsSmall p f = f.outgoing + f.temps + words_between (sites_in p) f.first f.sites ≤ 65535

@@ -1,0 +1,30 @@
+//! The code of expressions and places.
+//!
+//! What the code of a program is, is a definition of the crate `simulated_code`. The functions here give just the code of an expression, of a
+//! call's arguments, of the operands of a place, of its address, and of its read and write, form by form, and the numbers of their
+//! instructions, which jumps go by: a place that a jump goes to is known before the jump is emitted. A value has as many temps side by side
+//! as its type has words. Slots are numbers of 16 bits: that those of a frame suffice is asked by each contract (`specs/Temps`), and how many
+//! an expression wants is laid out before, by `frame_layout`.
+//!
+//! `codegen`, the code of statements, functions and programs, stands on this.
+#![tactic(auto)]
+
+mod jumps;
+mod lengths;
+mod literals;
+mod moving;
+mod parts;
+mod reaching;
+mod slots;
+mod values;
+mod widths;
+
+pub use jumps::{Goals, here, jump, pass_unless, put};
+pub use lengths::{expr_len, last_len, move_len, number, place_len, plus, test_len, values_len};
+pub use moving::{moves, zeros};
+pub use reaching::{
+    above_address, above_operands, address_len, emit_address, emit_fetch, emit_land, emit_write,
+};
+pub use slots::Frame;
+pub use values::{emit_expr, emit_operation, emit_place, emit_values, word};
+pub use widths::{nth_words, value_words};

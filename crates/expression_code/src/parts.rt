@@ -1,0 +1,110 @@
+//! Where the parts of variables stand.
+ghost use Rattle.std.specs.Prelude.{◌≡◌, ◌≤◌, if◌then◌else◌};
+ghost use Rattle.value_trees.specs.Types.{width};
+ghost use Rattle.value_trees.specs.Paths.{offset as offset_at, type_at};
+ghost use Rattle.typed.specs.Syntax.{path_of, site_type as type_of_site, type_named};
+ghost use Rattle.typed.specs.Frames.{steps_far};
+ghost use Rattle.typed.specs.View.{place_of, program_of, steps_of as these_steps};
+ghost use Rattle.expression_code.specs.Parts.{part_number as number_of};
+ghost use Rattle.expression_code.specs.Temps.{steps_in};
+ghost use Rattle.simulated_code.specs.Code.{far_offset as offset_behind, steps_above};
+
+use base::{SiteId, TypeId};
+use typed::{Place, Program, Step};
+
+/// The steps of a place.
+#[tactic(auto, using(typed::proofs::Rows::expr_rows))]
+pub fn steps_of(place: &Place) -> &[Step]
+    ensures { steps_in (place_of place.now) ≡ these_steps result.now }
+{
+    match place {
+        Place::Local(_, steps) => steps,
+        Place::Global(_, steps) => steps,
+    }
+}
+
+/// The number of the part that a step leads to; an index that is worked out counts as the first.
+pub fn part_number(step: &Step) -> u32
+    ensures { result ≡ number_of step.now }
+{
+    match step {
+        Step::Inner(i) => *i,
+        Step::Index(..) => 0,
+    }
+}
+
+/// Whether an index is among the steps, so that what they lead to is reached by an address.
+pub fn is_far(steps: &[Step]) -> bool
+    ensures { steps_far (these_steps steps.now) ≡ (if result then 1 else 0) }
+{
+    for step in steps {
+        if let Step::Index(..) = step {
+            return true;
+        }
+    }
+    false
+}
+
+/// The temp above the indices among steps, which are in temps from h on.
+pub fn above_steps(steps: &[Step], h: u16) -> u16
+    requires { steps_above (these_steps steps.now) h ≤ 65535 }
+    ensures { result ≡ steps_above (these_steps steps.now) h }
+{
+    let mut above = h;
+    for step in steps {
+        if let Step::Index(..) = step {
+            above += 1;
+        }
+    }
+    above
+}
+
+/// The type of a site's variables.
+pub fn site_type(program: &Program, site: SiteId) -> TypeId
+    ensures { type_named (program_of program.now) result.0 ≡ type_of_site (program_of program.now) site.0 }
+{
+    match program.sites.get(site.0 as usize) {
+        Some(site) => site.type_id,
+        None => program.types.int(),
+    }
+}
+
+/// The type of the part that steps lead to from values of a type.
+pub fn end_type(program: &Program, id: TypeId, steps: &[Step]) -> TypeId
+    ensures { type_named (program_of program.now) result.0 ≡ type_at (type_named (program_of program.now) id.0) (path_of (these_steps steps.now)) }
+{
+    let mut part = id;
+    for step in steps {
+        part = program.types.part(part, part_number(step));
+    }
+    part
+}
+
+/// The words before that part, but for those before elements by indices that are worked out.
+pub fn near_offset(program: &Program, id: TypeId, steps: &[Step]) -> u16
+    requires { offset_at (type_named (program_of program.now) id.0) (path_of (these_steps steps.now)) ≤ 65535 }
+    ensures { result ≡ offset_at (type_named (program_of program.now) id.0) (path_of (these_steps steps.now)) }
+{
+    let (mut part, mut words) = (id, 0);
+    for step in steps {
+        let i = part_number(step);
+        words += program.types.part_offset(part, i) as u16;
+        part = program.types.part(part, i);
+    }
+    words
+}
+
+/// Those of them that lie behind the first index.
+pub fn far_offset(program: &Program, id: TypeId, steps: &[Step]) -> u16
+    requires { offset_at (type_named (program_of program.now) id.0) (path_of (these_steps steps.now)) ≤ 65535 }
+    ensures { result ≡ offset_behind (type_named (program_of program.now) id.0) (these_steps steps.now) }
+{
+    let mut part = id;
+    for (i, step) in steps.iter().enumerate() {
+        part = program.types.part(part, part_number(step));
+        if let Step::Index(..) = step {
+            return near_offset(program, part, &steps[i + 1..]);
+        }
+    }
+    0
+}

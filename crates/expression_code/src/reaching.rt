@@ -1,0 +1,333 @@
+//! The code that reaches places: local variables in their slots, package variables and parts by indices that are worked out by their
+//! addresses.
+ghost use Rattle.std.specs.Prelude.{◌≡◌, ◌+◌, ◌<◌, ◌≤◌, ◌++◌, ◌∷◌, [], IfOk, OnOk, if◌then◌else◌};
+ghost use Rattle.value_trees.specs.Types.{width};
+ghost use Rattle.value_trees.specs.Paths.{offset};
+ghost use Rattle.typed.specs.Syntax.{local, path_of, type_named};
+ghost use Rattle.typed.specs.View.{place_of, program_of, steps_of as these_steps};
+ghost use Rattle.typed.specs.Frames.{far, steps_far};
+ghost use Rattle.expression_code.specs.Frame.{slots_in, IsSmall};
+ghost use Rattle.expression_code.specs.Temps.{AddressFits, IndicesFit, PlaceFits, reached};
+ghost use Rattle.simulated_code.specs.Code.{above_address as above_address_of, address_code, address_size, fetch_code, fetch_part as part_fetched, index_code, index_count as count_of, land_code, land_part as part_landed, place_above as above_operands, read_code, steps_above, steps_address, write_code, global_address as address_of_global};
+
+use crate::jumps::put;
+use crate::lengths::plus;
+use crate::moving::moves;
+use crate::parts::{
+    above_steps, end_type, far_offset, is_far, near_offset, part_number, site_type, steps_of,
+};
+use crate::slots::Frame;
+use base::{NoMemory, SiteId, TypeId};
+use heap_bump::HEAP_LOW;
+use isa::Instr;
+use typed::{Place, Program, Step};
+
+// So many of the steps are indices.
+fn index_count(steps: &[Step]) -> Result<u32, NoMemory>
+    ensures { IfOk result (λ n. n ≡ count_of (these_steps steps.now)) }
+{
+    let mut count = 0;
+    for step in steps {
+        if let Step::Index(..) = step {
+            count = plus(count, 1)?;
+        }
+    }
+    Ok(count)
+}
+
+/// The number of instructions that put down the address of a place: that of the whole comes first, where there are indices.
+#[tactic(auto, using(typed::proofs::Rows::expr_rows, crate::proofs::Steps::address_none, crate::proofs::Steps::address_some))]
+pub fn address_len(place: &Place) -> Result<u32, NoMemory>
+    ensures { IfOk result (λ n. n ≡ address_size (place_of place.now)) }
+{
+    match place {
+        Place::Local(_, steps) => {
+            let count = index_count(steps)?;
+            if count == 0 { Ok(0) } else { plus(count, 1) }
+        }
+        Place::Global(_, _) => Ok(1),
+    }
+}
+
+// Whether a place is reached by an address.
+#[tactic(auto, using(typed::proofs::Rows::expr_rows))]
+fn has_address(place: &Place) -> bool
+    ensures { far (place_of place.now) ≡ (if result then 1 else 0) }
+{
+    match place {
+        Place::Local(_, steps) => is_far(steps),
+        Place::Global(_, _) => true,
+    }
+}
+
+/// The temp above the operands of a place, which are in temps from h on.
+#[tactic(auto, using(crate::proofs::Steps::above_place))]
+pub fn above_operands(place: &Place, h: u16) -> u16
+    requires { above_operands (place_of place.now) h ≤ 65535 }
+    ensures { result ≡ above_operands (place_of place.now) h }
+{
+    above_steps(steps_of(place), h)
+}
+
+/// The temp above the address of a place in temp `at`, if there is one.
+pub fn above_address(place: &Place, at: u16) -> u16
+    requires { at < 65535 }
+    ensures { result ≡ above_address_of (far (place_of place.now)) at }
+{
+    if has_address(place) { at + 1 } else { at }
+}
+
+// The address of a package variable.
+fn global_address(number: u32) -> u64
+    ensures { result ≡ address_of_global number }
+{
+    HEAP_LOW + u64::from(number)
+}
+
+// The address of a value of a type, in temp `at`, becomes that of an element, for each index among the steps; these are in temps from
+// `first` on.
+fn emit_indices(
+    code: &mut Vec<Instr>,
+    program: &Program,
+    frame: Frame,
+    id: TypeId,
+    steps: &[Step],
+    first: u16,
+    at: u16,
+) -> Result<(), NoMemory>
+    requires address { at ≤ frame.temps }
+    requires operands { steps_above (these_steps steps.now) first ≤ frame.temps }
+    requires indices { IndicesFit (type_named (program_of program.now) id.0) (these_steps steps.now) }
+    requires words { width (type_named (program_of program.now) id.0) ≤ 65535 }
+    requires frame { IsSmall program.now frame }
+    ensures { OnOk result (code.new.items ≡ code.old.items ++ index_code (slots_in program.now frame) (type_named (program_of program.now) id.0) (these_steps steps.now) first at) }
+{
+    let a = frame.temp(at);
+    let (mut part, mut next) = (id, first);
+    for step in steps {
+        part = program.types.part(part, part_number(step));
+        match step {
+            Step::Inner(_) => {}
+            Step::Index(_, _, length) => {
+                let (c, len, w) = (
+                    frame.temp(next),
+                    *length as u16,
+                    program.types.width(part) as u16,
+                );
+                put(code, Instr::Index { a, b: a, c, len, w })?;
+                next += 1;
+            }
+        }
+    }
+    Ok(())
+}
+
+// The address of a part by an index goes to temp `at`; the whole, of a type, begins in a slot.
+fn emit_part_address(
+    code: &mut Vec<Instr>,
+    program: &Program,
+    frame: Frame,
+    whole: u16,
+    id: TypeId,
+    steps: &[Step],
+    first: u16,
+    at: u16,
+) -> Result<(), NoMemory>
+    requires address { at ≤ frame.temps }
+    requires operands { steps_above (these_steps steps.now) first ≤ frame.temps }
+    requires indices { IndicesFit (type_named (program_of program.now) id.0) (these_steps steps.now) }
+    requires words { width (type_named (program_of program.now) id.0) ≤ 65535 }
+    requires slot { whole + offset (type_named (program_of program.now) id.0) (path_of (these_steps steps.now)) ≤ 65535 }
+    requires frame { IsSmall program.now frame }
+    ensures { OnOk result (code.new.items ≡ code.old.items ++ steps_address (slots_in program.now frame) whole (type_named (program_of program.now) id.0) (these_steps steps.now) first at) }
+{
+    let (mut part, mut slot) = (id, whole);
+    for (i, step) in steps.iter().enumerate() {
+        match step {
+            Step::Inner(number) => {
+                slot += program.types.part_offset(part, *number) as u16;
+                part = program.types.part(part, *number);
+            }
+            Step::Index(..) => {
+                let a = frame.temp(at);
+                put(code, Instr::Address { a, b: slot })?;
+                return emit_indices(code, program, frame, part, &steps[i..], first, at);
+            }
+        }
+    }
+    Ok(())
+}
+
+/// The address of a place, where it is reached by one, goes to temp `at`; its operands are in temps from `first` on.
+#[tactic(auto, using(typed::proofs::Rows::expr_rows))]
+pub fn emit_address(
+    code: &mut Vec<Instr>,
+    program: &Program,
+    frame: Frame,
+    place: &Place,
+    first: u16,
+    at: u16,
+) -> Result<(), NoMemory>
+    requires temp { AddressFits frame.temps at (place_of place.now) }
+    requires operands { above_operands (place_of place.now) first ≤ frame.temps }
+    requires place { PlaceFits (slots_in program.now frame) frame.sites (place_of place.now) }
+    requires frame { IsSmall program.now frame }
+    ensures { OnOk result (code.new.items ≡ code.old.items ++ address_code (slots_in program.now frame) (place_of place.now) first at) }
+{
+    match place {
+        Place::Local(site, steps) => {
+            let (whole, id) = (frame.of_site(program, *site), site_type(program, *site));
+            emit_part_address(code, program, frame, whole, id, steps, first, at)
+        }
+        Place::Global(number, _) => {
+            let (a, word) = (frame.temp(at), global_address(*number));
+            put(code, Instr::Const { a, word })
+        }
+    }
+}
+
+// The words of a part of a variable go to temps from h on; its address, if there is one, is in temp `at`.
+fn fetch_part(
+    program: &Program,
+    frame: Frame,
+    site: SiteId,
+    steps: &[Step],
+    at: u16,
+    h: u16,
+) -> Instr
+    requires temp { h ≤ frame.temps }
+    requires address { at + steps_far (these_steps steps.now) ≤ frame.temps }
+    requires place { PlaceFits (slots_in program.now frame) frame.sites (local site.0 (these_steps steps.now)) }
+    requires frame { IsSmall program.now frame }
+    ensures { result ≡ part_fetched (slots_in program.now frame) site.0 (these_steps steps.now) (steps_far (these_steps steps.now)) at h }
+{
+    let id = site_type(program, site);
+    let n = program.types.width(end_type(program, id, steps)) as u16;
+    let a = frame.temp(h);
+    if is_far(steps) {
+        let (b, off) = (frame.temp(at), far_offset(program, id, steps));
+        return Instr::Load { a, b, off, n };
+    }
+    let b = frame.of_site(program, site) + near_offset(program, id, steps);
+    moves(n, a, b)
+}
+
+// A part of a variable gets the words of temps from h on.
+fn land_part(
+    program: &Program,
+    frame: Frame,
+    site: SiteId,
+    steps: &[Step],
+    at: u16,
+    h: u16,
+) -> Instr
+    requires temp { h ≤ frame.temps }
+    requires address { at + steps_far (these_steps steps.now) ≤ frame.temps }
+    requires place { PlaceFits (slots_in program.now frame) frame.sites (local site.0 (these_steps steps.now)) }
+    requires frame { IsSmall program.now frame }
+    ensures { result ≡ part_landed (slots_in program.now frame) site.0 (these_steps steps.now) (steps_far (these_steps steps.now)) at h }
+{
+    let id = site_type(program, site);
+    let n = program.types.width(end_type(program, id, steps)) as u16;
+    let c = frame.temp(h);
+    if is_far(steps) {
+        let (a, off) = (frame.temp(at), far_offset(program, id, steps));
+        return Instr::Store { a, off, c, n };
+    }
+    let a = frame.of_site(program, site) + near_offset(program, id, steps);
+    moves(n, a, c)
+}
+
+/// The words of a place go to temps from h on; its address, if there is one, is in temp `at`.
+#[tactic(auto, using(typed::proofs::Rows::expr_rows))]
+pub fn emit_fetch(
+    code: &mut Vec<Instr>,
+    program: &Program,
+    frame: Frame,
+    place: &Place,
+    at: u16,
+    h: u16,
+) -> Result<(), NoMemory>
+    requires temp { h ≤ frame.temps }
+    requires address { AddressFits frame.temps at (place_of place.now) }
+    requires place { PlaceFits (slots_in program.now frame) frame.sites (place_of place.now) }
+    requires frame { IsSmall program.now frame }
+    ensures { OnOk result (code.new.items ≡ code.old.items ++ fetch_code (slots_in program.now frame) (place_of place.now) at h ∷ []) }
+{
+    match place {
+        Place::Local(site, steps) => put(code, fetch_part(program, frame, *site, steps, at, h)),
+        Place::Global(_, _) => {
+            let (a, b) = (frame.temp(h), frame.temp(at));
+            put(code, Instr::Load { a, b, off: 0, n: 1 })
+        }
+    }
+}
+
+/// A place gets the words of temps from h on; its address, if there is one, is in temp `at`.
+#[tactic(auto, using(typed::proofs::Rows::expr_rows))]
+pub fn emit_land(
+    code: &mut Vec<Instr>,
+    program: &Program,
+    frame: Frame,
+    place: &Place,
+    at: u16,
+    h: u16,
+) -> Result<(), NoMemory>
+    requires temp { h ≤ frame.temps }
+    requires address { AddressFits frame.temps at (place_of place.now) }
+    requires place { PlaceFits (slots_in program.now frame) frame.sites (place_of place.now) }
+    requires frame { IsSmall program.now frame }
+    ensures { OnOk result (code.new.items ≡ code.old.items ++ land_code (slots_in program.now frame) (place_of place.now) at h ∷ []) }
+{
+    match place {
+        Place::Local(site, steps) => put(code, land_part(program, frame, *site, steps, at, h)),
+        Place::Global(_, _) => {
+            let (a, c) = (frame.temp(at), frame.temp(h));
+            put(code, Instr::Store { a, off: 0, c, n: 1 })
+        }
+    }
+}
+
+/// The value of a place goes to temps from h on, where its operands are; temp `at`, above them, is free for the address.
+pub fn emit_read(
+    code: &mut Vec<Instr>,
+    program: &Program,
+    frame: Frame,
+    place: &Place,
+    at: u16,
+    h: u16,
+) -> Result<(), NoMemory>
+    requires temp { h + reached (slots_in program.now frame) (place_of place.now) ≤ frame.temps }
+    requires address { AddressFits frame.temps at (place_of place.now) }
+    requires operands { above_operands (place_of place.now) h ≤ frame.temps }
+    requires place { PlaceFits (slots_in program.now frame) frame.sites (place_of place.now) }
+    requires frame { IsSmall program.now frame }
+    ensures { OnOk result (code.new.items ≡ code.old.items ++ read_code (slots_in program.now frame) (place_of place.now) at h) }
+{
+    emit_address(code, program, frame, place, h, at)?;
+    emit_fetch(code, program, frame, place, at, h)?;
+    Ok(())
+}
+
+/// A place gets the value in temps from h on; its operands are in temps from `first` on, and its address, if there is one, goes to temp
+/// `at`.
+pub fn emit_write(
+    code: &mut Vec<Instr>,
+    program: &Program,
+    frame: Frame,
+    place: &Place,
+    first: u16,
+    at: u16,
+    h: u16,
+) -> Result<(), NoMemory>
+    requires temp { h ≤ frame.temps }
+    requires address { AddressFits frame.temps at (place_of place.now) }
+    requires operands { above_operands (place_of place.now) first ≤ frame.temps }
+    requires place { PlaceFits (slots_in program.now frame) frame.sites (place_of place.now) }
+    requires frame { IsSmall program.now frame }
+    ensures { OnOk result (code.new.items ≡ code.old.items ++ write_code (slots_in program.now frame) (place_of place.now) first at h) }
+{
+    emit_address(code, program, frame, place, first, at)?;
+    emit_land(code, program, frame, place, at, h)?;
+    Ok(())
+}

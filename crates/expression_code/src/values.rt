@@ -1,0 +1,422 @@
+//! The code of expressions and calls.
+ghost use Rattle.std.specs.Prelude.{◌≡◌, ◌+◌, ◌≤◌, ◌++◌, ◌∷◌, [], length, OnOk, true, false};
+ghost use Rattle.isa.specs.declared.instr.Instr.{Instr};
+ghost use Rattle.value_trees.specs.Types.{width};
+ghost use Rattle.typed.specs.Syntax.{type_named};
+ghost use Rattle.typed.specs.View.{elements_of, ex_of, exs_of, exs_of_values, place_of, program_of, steps_of as these_steps, value_of};
+ghost use Rattle.expression_code.specs.Frame.{slots_in, IsSmall};
+ghost use Rattle.expression_code.specs.Temps.{CallFits, ElementsFitIn, Fits, ExsFitIn, OperandsFit, StepsFitIn};
+ghost use Rattle.simulated_code.specs.Code.{binary_code as code_of_binary, call_code, elements_code, ex_code, exs_code, place_code, steps_code, operation as operation_of, size, temp, unary_code, word_of};
+
+use crate::jumps::{jump, jump_if_zero, put};
+use crate::lengths::expr_len;
+use crate::literals::{ascends, emit_gap, moved, taken};
+use crate::moving::{emit_move, zeros};
+use crate::reaching::{above_operands, emit_read};
+use crate::slots::Frame;
+use base::{FuncId, NoMemory, TypeId};
+use frame_layout::{arguments_of, expr_words, results_of};
+use isa::Instr;
+use typed::{BinOp, Const, Element, Expr, Place, Program, Step, UnOp, Values};
+
+/// The instruction's operation.
+pub fn operation(op: BinOp) -> isa::BinOp
+    ensures { result ≡ operation_of op }
+{
+    match op {
+        BinOp::Add => isa::BinOp::Add,
+        BinOp::Sub => isa::BinOp::Sub,
+        BinOp::Mul => isa::BinOp::Mul,
+        BinOp::Div => isa::BinOp::Div,
+        BinOp::Rem => isa::BinOp::Rem,
+        BinOp::And => isa::BinOp::And,
+        BinOp::Or => isa::BinOp::Or,
+        BinOp::Xor => isa::BinOp::Xor,
+        BinOp::AndNot => isa::BinOp::AndNot,
+        BinOp::ShiftLeft => isa::BinOp::ShiftLeft,
+        BinOp::ShiftRight => isa::BinOp::ShiftRight,
+        BinOp::Equal => isa::BinOp::Equal,
+        BinOp::NotEqual => isa::BinOp::NotEqual,
+        BinOp::Less => isa::BinOp::Less,
+        BinOp::LessEqual => isa::BinOp::LessEqual,
+        BinOp::Greater => isa::BinOp::Greater,
+        BinOp::GreaterEqual => isa::BinOp::GreaterEqual,
+    }
+}
+
+/// The word of a constant.
+pub fn word(c: Const) -> u64
+    ensures { result ≡ word_of (value_of c) }
+{
+    match c {
+        Const::Int(z) => z.cast_unsigned(),
+        Const::Bool(true) => 1,
+        Const::Bool(false) => 0,
+    }
+}
+
+fn unary(op: UnOp, a: u16) -> Instr
+    ensures { result ≡ unary_code op a }
+{
+    match op {
+        UnOp::Plus => Instr::Move { a, b: a },
+        UnOp::Negate => Instr::Un {
+            op: isa::UnOp::Negate,
+            a,
+            b: a,
+        },
+        UnOp::Complement => Instr::Un {
+            op: isa::UnOp::Complement,
+            a,
+            b: a,
+        },
+        UnOp::Not => Instr::Un {
+            op: isa::UnOp::IsZero,
+            a,
+            b: a,
+        },
+    }
+}
+
+// A call whose arguments are in temps from h on; its results land there.
+fn emit_call(
+    code: &mut Vec<Instr>,
+    program: &Program,
+    frame: Frame,
+    f: FuncId,
+    h: u16,
+) -> Result<(), NoMemory>
+    requires fits { CallFits (program_of program.now) (slots_in program.now frame) frame.sites h f.0 }
+    requires frame { IsSmall program.now frame }
+    ensures { OnOk result (code.new.items ≡ code.old.items ++ call_code (program_of program.now) (slots_in program.now frame) f.0 h) }
+{
+    let arguments = arguments_of(program, f)? as u16;
+    let results = results_of(program, f)? as u16;
+    let first = frame.temp(h);
+    emit_move(code, arguments, 0, first)?;
+    put(code, Instr::Call { func: f.0 as u16 })?;
+    emit_move(code, results, first, arguments)?;
+    Ok(())
+}
+
+// Where the first operand of `&&`, in temp h, is false, the second is passed over.
+fn pass_both(
+    code: &mut Vec<Instr>,
+    program: &Program,
+    frame: Frame,
+    second: &Expr,
+    h: u16,
+) -> Result<(), NoMemory>
+    requires temp { h ≤ frame.temps }
+    requires frame { IsSmall program.now frame }
+    ensures { OnOk result (code.new.items ≡ code.old.items
+        ++ Instr.JumpZero (temp (slots_in program.now frame) h) (length code.old.items + 1 + size (program_of program.now) (ex_of second.now)) ∷ []) }
+{
+    let len = expr_len(program, second)?;
+    jump_if_zero(code, frame.temp(h), 1, len)?;
+    Ok(())
+}
+
+// Where the first operand of `||`, in temp h, is true, the second is passed over.
+fn pass_either(
+    code: &mut Vec<Instr>,
+    program: &Program,
+    frame: Frame,
+    second: &Expr,
+    h: u16,
+) -> Result<(), NoMemory>
+    requires temp { h ≤ frame.temps }
+    requires frame { IsSmall program.now frame }
+    ensures { OnOk result (code.new.items ≡ code.old.items
+        ++ Instr.JumpZero (temp (slots_in program.now frame) h) (length code.old.items + 2)
+        ∷ Instr.Jump (length code.old.items + 2 + size (program_of program.now) (ex_of second.now)) ∷ []) }
+{
+    let len = expr_len(program, second)?;
+    // The second operand stands behind both jumps.
+    jump_if_zero(code, frame.temp(h), 2, 0)?;
+    jump(code, 1, len)?;
+    Ok(())
+}
+
+// An operator on operands of n words, from slots a and c on; what it gives goes to slot a. Values of one word are compared
+// as words are.
+#[tactic(auto, using(crate::proofs::Operators::binary_one, crate::proofs::Operators::same_many, crate::proofs::Operators::differ_many, crate::proofs::Operators::other_word))]
+fn binary(op: BinOp, n: u16, a: u16, c: u16) -> Instr
+    ensures { result ≡ code_of_binary op n a c }
+{
+    let word = Instr::Bin {
+        op: operation(op),
+        a,
+        b: a,
+        c,
+    };
+    if n == 1 {
+        return word;
+    }
+    match op {
+        BinOp::Equal => Instr::Same { a, b: a, c, n },
+        BinOp::NotEqual => Instr::Differ { a, b: a, c, n },
+        _ => word,
+    }
+}
+
+// An operator on operands of n words, in temps from h and from h + n on, to temp h.
+fn emit_binary(
+    code: &mut Vec<Instr>,
+    program: &Program,
+    frame: Frame,
+    op: BinOp,
+    n: u16,
+    h: u16,
+) -> Result<(), NoMemory>
+    requires temp { h + n ≤ frame.temps }
+    requires frame { IsSmall program.now frame }
+    ensures { OnOk result (code.new.items ≡ code.old.items
+        ++ code_of_binary op n (temp (slots_in program.now frame) h) (temp (slots_in program.now frame) (h + n)) ∷ []) }
+{
+    let (a, c) = (frame.temp(h), frame.temp(h + n));
+    put(code, binary(op, n, a, c))?;
+    Ok(())
+}
+
+/// The operation on temps h and h + 1, to temp h.
+pub fn emit_operation(
+    code: &mut Vec<Instr>,
+    program: &Program,
+    frame: Frame,
+    op: BinOp,
+    h: u16,
+) -> Result<(), NoMemory>
+    requires temp { h + 1 ≤ frame.temps }
+    requires frame { IsSmall program.now frame }
+    ensures { OnOk result (code.new.items ≡ code.old.items
+        ++ Instr.Bin (operation_of op) (temp (slots_in program.now frame) h) (temp (slots_in program.now frame) h) (temp (slots_in program.now frame) (h + 1)) ∷ []) }
+{
+    let (op, a, c) = (operation(op), frame.temp(h), frame.temp(h + 1));
+    put(code, Instr::Bin { op, a, b: a, c })?;
+    Ok(())
+}
+
+/// The value lands in temps from h on.
+#[cycle(values)]
+#[tactic(auto, using(typed::proofs::Rows::expr_rows))]
+pub fn emit_expr(
+    code: &mut Vec<Instr>,
+    program: &Program,
+    frame: Frame,
+    e: &Expr,
+    h: u16,
+) -> Result<(), NoMemory>
+    requires fits { Fits (program_of program.now) (slots_in program.now frame) frame.sites h (ex_of e.now) }
+    requires frame { IsSmall program.now frame }
+    ensures { OnOk result (code.new.items ≡ code.old.items ++ ex_code (program_of program.now) (slots_in program.now frame) (ex_of e.now) h (length code.old.items)) }
+{
+    match e {
+        Expr::Constant(c) => {
+            let (a, word) = (frame.temp(h), word(*c));
+            put(code, Instr::Const { a, word })?;
+        }
+        Expr::Read(place) => {
+            emit_place(code, program, frame, place, h)?;
+            emit_read(code, program, frame, place, above_operands(place, h), h)?;
+        }
+        Expr::Unary(op, a) => {
+            let a: &Expr = a;
+            emit_expr(code, program, frame, a, h)?;
+            put(code, unary(*op, frame.temp(h)))?;
+        }
+        Expr::Binary(_, op, a, b) => {
+            let a: &Expr = a;
+            let b: &Expr = b;
+            let n = expr_words(program, a)? as u16;
+            emit_expr(code, program, frame, a, h)?;
+            emit_expr(code, program, frame, b, h + n)?;
+            emit_binary(code, program, frame, *op, n, h)?;
+        }
+        Expr::Both(a, b) => {
+            let a: &Expr = a;
+            let b: &Expr = b;
+            emit_expr(code, program, frame, a, h)?;
+            pass_both(code, program, frame, b, h)?;
+            emit_expr(code, program, frame, b, h)?;
+        }
+        Expr::Either(a, b) => {
+            let a: &Expr = a;
+            let b: &Expr = b;
+            emit_expr(code, program, frame, a, h)?;
+            pass_either(code, program, frame, b, h)?;
+            emit_expr(code, program, frame, b, h)?;
+        }
+        Expr::Call(f, arguments) => {
+            let arguments: &Values = arguments;
+            emit_values(code, program, frame, arguments, h)?;
+            emit_call(code, program, frame, *f, h)?;
+        }
+        Expr::Part(id, number, e) => {
+            let e: &Expr = e;
+            emit_expr(code, program, frame, e, h)?;
+            put(code, taken(program, frame, *id, *number, h))?;
+        }
+        Expr::Literal(id, es) => {
+            put(code, zeros(program.types.width(*id) as u16, frame.temp(h)))?;
+            if ascends(es) {
+                emit_ordered(code, program, frame, *id, es, h)?;
+            } else {
+                emit_moved(code, program, frame, *id, es, h)?;
+            }
+        }
+    }
+    Ok(())
+}
+
+/// The operands of a place land in temps from h on.
+#[cycle(values)]
+#[tactic(auto, using(typed::proofs::Rows::expr_rows))]
+pub fn emit_place(
+    code: &mut Vec<Instr>,
+    program: &Program,
+    frame: Frame,
+    place: &Place,
+    h: u16,
+) -> Result<(), NoMemory>
+    requires fits { OperandsFit (program_of program.now) (slots_in program.now frame) frame.sites h (place_of place.now) }
+    requires frame { IsSmall program.now frame }
+    ensures { OnOk result (code.new.items ≡ code.old.items ++ place_code (program_of program.now) (slots_in program.now frame) (place_of place.now) h (length code.old.items)) }
+{
+    match place {
+        Place::Local(_, steps) => emit_steps(code, program, frame, steps, h)?,
+        Place::Global(_, steps) => emit_steps(code, program, frame, steps, h)?,
+    }
+    Ok(())
+}
+
+// The indices among steps land in temps from h on.
+#[cycle(values)]
+fn emit_steps(
+    code: &mut Vec<Instr>,
+    program: &Program,
+    frame: Frame,
+    steps: &[Step],
+    h: u16,
+) -> Result<(), NoMemory>
+    requires fits { StepsFitIn (program_of program.now) (slots_in program.now frame) frame.sites h (these_steps steps.now) }
+    requires frame { IsSmall program.now frame }
+    ensures { OnOk result (code.new.items ≡ code.old.items ++ steps_code (program_of program.now) (slots_in program.now frame) (these_steps steps.now) h (length code.old.items)) }
+{
+    let mut next = h;
+    for step in steps {
+        match step {
+            Step::Inner(_) => {}
+            Step::Index(_, e, _) => {
+                emit_expr(code, program, frame, e, next)?;
+                next += 1;
+            }
+        }
+    }
+    Ok(())
+}
+
+// The elements of a literal in temps from h on, whose numbers ascend: each is worked out in its place.
+#[cycle(values)]
+fn emit_ordered(
+    code: &mut Vec<Instr>,
+    program: &Program,
+    frame: Frame,
+    id: TypeId,
+    es: &[Element],
+    h: u16,
+) -> Result<(), NoMemory>
+    requires fits { ElementsFitIn (program_of program.now) (slots_in program.now frame) frame.sites h (type_named (program_of program.now) id.0) true (elements_of es.now) }
+    requires frame { IsSmall program.now frame }
+    ensures { OnOk result (code.new.items ≡ code.old.items
+        ++ elements_code (program_of program.now) (slots_in program.now frame) (type_named (program_of program.now) id.0) true (elements_of es.now) h (length code.old.items)) }
+{
+    for (i, element) in es.iter().enumerate() {
+        match element {
+            Element::For(number, e) => {
+                let place = h + program.types.part_offset(id, *number) as u16;
+                emit_expr(code, program, frame, e, place)?;
+                emit_gap(code, program, frame, id, *number, &es[i + 1..], h)?;
+            }
+        }
+    }
+    Ok(())
+}
+
+// The elements of a literal in temps from h on: each is worked out behind it and moved.
+#[cycle(values)]
+fn emit_moved(
+    code: &mut Vec<Instr>,
+    program: &Program,
+    frame: Frame,
+    id: TypeId,
+    es: &[Element],
+    h: u16,
+) -> Result<(), NoMemory>
+    requires room { h + width (type_named (program_of program.now) id.0) ≤ frame.temps }
+    requires fits { ElementsFitIn (program_of program.now) (slots_in program.now frame) frame.sites h (type_named (program_of program.now) id.0) false (elements_of es.now) }
+    requires frame { IsSmall program.now frame }
+    ensures { OnOk result (code.new.items ≡ code.old.items
+        ++ elements_code (program_of program.now) (slots_in program.now frame) (type_named (program_of program.now) id.0) false (elements_of es.now) h (length code.old.items)) }
+{
+    let behind = h + program.types.width(id) as u16;
+    for element in es {
+        match element {
+            Element::For(number, e) => {
+                emit_expr(code, program, frame, e, behind)?;
+                put(code, moved(program, frame, id, *number, behind, h))?;
+            }
+        }
+    }
+    Ok(())
+}
+
+/// The values land in temps from h on.
+#[cycle(values)]
+#[tactic(auto, using(typed::proofs::Rows::expr_rows))]
+pub fn emit_values(
+    code: &mut Vec<Instr>,
+    program: &Program,
+    frame: Frame,
+    values: &Values,
+    h: u16,
+) -> Result<(), NoMemory>
+    requires fits { ExsFitIn (program_of program.now) (slots_in program.now frame) frame.sites h (exs_of_values values.now) }
+    requires frame { IsSmall program.now frame }
+    ensures { OnOk result (code.new.items ≡ code.old.items ++ exs_code (program_of program.now) (slots_in program.now frame) (exs_of_values values.now) h (length code.old.items)) }
+{
+    match values {
+        Values::Each(es) => emit_row(code, program, frame, es, h)?,
+        Values::Results(f, arguments) => {
+            let arguments: &Values = arguments;
+            emit_values(code, program, frame, arguments, h)?;
+            emit_call(code, program, frame, *f, h)?;
+        }
+        Values::ReadInt => {
+            let a = frame.temp(h);
+            put(code, Instr::ReadInt { a })?;
+        }
+    }
+    Ok(())
+}
+
+// The values of expressions land in temps from h on.
+#[cycle(values)]
+fn emit_row(
+    code: &mut Vec<Instr>,
+    program: &Program,
+    frame: Frame,
+    es: &[Expr],
+    h: u16,
+) -> Result<(), NoMemory>
+    requires fits { ExsFitIn (program_of program.now) (slots_in program.now frame) frame.sites h (exs_of es.now) }
+    requires frame { IsSmall program.now frame }
+    ensures { OnOk result (code.new.items ≡ code.old.items ++ exs_code (program_of program.now) (slots_in program.now frame) (exs_of es.now) h (length code.old.items)) }
+{
+    let mut next = h;
+    for e in es {
+        emit_expr(code, program, frame, e, next)?;
+        next += expr_words(program, e)? as u16;
+    }
+    Ok(())
+}
