@@ -7,18 +7,16 @@ use Rattle.isa.specs.declared.instr.Instr.{Instr}
 use Rattle.isa.specs.declared.instr.Instr.TheVariants.{Const, Bin, Jump, JumpZero}
 use Rattle.isa.specs.declared.instr.BinOp.TheVariants as Word
 use Rattle.typed.specs.declared.operators.BinOp.{BinOp}
-use Rattle.typed.specs.declared.expr.Expr.{Expr}
 use Rattle.base.specs.declared.ids.SiteId.{SiteId}
 use Rattle.typed.specs.declared.stmt.Left.{Left as LeftData}
 use Rattle.typed.specs.declared.stmt.Piece.{Piece as PieceData}
 use Rattle.typed.specs.declared.stmt.Stmt.{Stmt}
 use Rattle.typed.specs.Frames.{far}
-use Rattle.typed.specs.Syntax.{Ex, Exs, Pl, Left, Piece, Sts, Program, both, either, more, blank, new, to, text, shown, over_int, over_length, over_copy, choose, loop, range, next, wide, all_wide, value_widths}
-use Rattle.typed.specs.View.{ex_of, exs_of, left_of, piece_of, site_in, st_of, sts_of}
+use Rattle.typed.specs.Syntax.{Ex, Exs, Pl, Left, Piece, Sts, Program, blank, new, to, text, shown, over_int, over_length, over_copy, choose, loop, range, next, wide, all_wide, value_widths}
+use Rattle.typed.specs.View.{left_of, piece_of, site_in, st_of, sts_of}
 use Rattle.codegen.specs.Frame.{assign_code, bump_code, key_code, left_code, param_code, temp_behind, update_code}
-use Rattle.expression_code.specs.Temps.{ExsFitIn}
 use Rattle.codegen.specs.Temps.{LeftFits, LeftsFitIn, ParamFits, ParamsFitIn, PiecesFitIn, ReadyFitIn, StsFitIn}
-use Rattle.simulated_code.specs.Code.{Slots, above_address, address_code, address_size, array_code, binary_code, element_round_code, element_round_size, ex_code, exs_code, fetch_code, first_width, index_round_code, index_round_size, land_code, lefts_above, lefts_code, lefts_end, lefts_size, lefts_sized, moves, operation, other_widths, params_code, piece_size, pieces_code, place_above, place_code, place_end, place_size, ready_code, renew_code, renew_size, site_slot, site_words, size, st_code, st_size, sts_code, sts_size, temp, test_code, test_size}
+use Rattle.simulated_code.specs.Code.{Slots, above_address, address_code, address_size, array_code, element_round_code, element_round_size, ex_code, exs_code, fetch_code, first_width, index_round_code, index_round_size, land_code, lefts_above, lefts_code, lefts_end, lefts_size, lefts_sized, moves, operation, other_widths, params_code, piece_size, pieces_code, place_above, place_code, place_end, place_size, ready_code, renew_code, renew_size, site_slot, site_words, size, st_code, st_size, sts_code, sts_size, temp, test_code, test_size}
 use Rattle.simulated_code.proofs.Sizes.{length_address, length_code, length_element_round, length_index_round, length_last, length_lefts, length_pieces, length_place, length_ready, length_renew, length_st, length_sts, length_test, lefts_ends, lefts_sum, place_ends}
 use Rattle.expression_code.proofs.ByWidth.{first_drop, other_drop}
 

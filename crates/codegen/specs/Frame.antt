@@ -2,13 +2,9 @@
 use Rattle.std.specs.Prelude.{ℕ, ◌+◌, ◌<◌, ◌≤◌, List, [], ◌∷◌, ◌++◌, Option, Some, None}
 use Rattle.isa.specs.declared.instr.Instr.{Instr}
 use Rattle.isa.specs.declared.instr.Instr.TheVariants.{ArgumentWords, Bin, Const, PrintText}
-use Rattle.value_trees.specs.Types.{ValueType}
 use Rattle.typed.specs.declared.operators.BinOp.{BinOp}
 use Rattle.typed.specs.Syntax.{Ex, Exs, Pl, Func, Program as AnyProgram, Left, Piece, all_wide, value_widths, blank, new, to, text, shown, argument_words, result_words}
-use Rattle.typed.specs.Frames.{far, words_between}
-use Rattle.typed.specs.Trees.{trees}
-use Rattle.typed.specs.View.{func_of, site_types}
-use Rattle.typed.specs.declared.program.Func.{Func as FuncData}
+use Rattle.typed.specs.Frames.{far}
 use Rattle.typed.specs.declared.program.Program.{Program}
 use Rattle.simulated_code.specs.Code.{Slots, temp, site_slot, site_words, moves, operation, shown_code, above_address, place_above, lefts_above, address_code, address_size, fetch_code, land_code, write_code, lefts_code, lefts_end, place_code, place_end, ready_code, ex_code, exs_code}
 use Rattle.codegen.specs.Temps.{SitesFit, sites_words}

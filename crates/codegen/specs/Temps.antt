@@ -1,11 +1,10 @@
 -- That the slots of a frame suffice for statements and functions.
-use Rattle.std.specs.Prelude.{◌≡◌, ℕ, zero, suc, ◌+◌, ◌<◌, ◌≤◌, Bool, true, false, List, [], ◌∷◌, Option, Some, None, length}
-use Rattle.value_trees.specs.Types.{ValueType, width, part_type, part_offset}
-use Rattle.value_trees.specs.Paths.{offset}
-use Rattle.typed.specs.Syntax.{Ex, Exs, Pl, Steps, here, inner, at_index, Left, Piece, St, Sts, Func, Program, constant, read, unary, binary, both, either, call, part_of, literal, Elements, no_elements, element, local, global, none, more, results, asked, blank, new, to, text, shown, over_int, over_length, over_copy, declare, assign, update, bump, discard, block, choose, loop, range, break_off, go_on, give_back, print, raise, quit, done, next, argument_words, result_words, arguments_of, results_of, type_named, path_of, wide, all_wide, each_width, value_widths, ascend, words_through, gap_behind}
+use Rattle.std.specs.Prelude.{◌≡◌, ℕ, zero, suc, ◌+◌, ◌<◌, ◌≤◌, List, [], ◌∷◌, Option, Some, None}
+use Rattle.value_trees.specs.Types.{width, part_type}
+use Rattle.typed.specs.Syntax.{Ex, Left, Piece, St, Sts, Func, Program, blank, new, to, text, shown, over_int, over_length, over_copy, declare, assign, update, bump, discard, block, choose, loop, range, break_off, go_on, give_back, print, raise, quit, done, next, argument_words, result_words, all_wide, each_width, value_widths}
 use Rattle.typed.specs.Frames.{far}
-use Rattle.simulated_code.specs.Code.{Slots, site_type, site_words, part_words, first_width, other_widths, above_address, place_above, lefts_above, slots_of}
-use Rattle.expression_code.specs.Temps.{SiteFits, IndicesFit, PlaceFits, reached, AddressFits, Fits, OperandsFit, ExsFitIn}
+use Rattle.simulated_code.specs.Code.{Slots, site_type, site_words, first_width, other_widths, above_address, place_above, lefts_above, slots_of}
+use Rattle.expression_code.specs.Temps.{SiteFits, PlaceFits, reached, AddressFits, Fits, OperandsFit, ExsFitIn}
 
 abbrev pub SitesFit : Slots → (n : ℕ) → List ℕ → Type 0
 SitesFit s n [] = Unit {0}
@@ -64,16 +63,16 @@ module _ (p : Program) (s : Slots) (n : ℕ) where
   ReadyFitIn h [] = Unit {0}
   ReadyFitIn h (blank ∷ ls) = ReadyFitIn h ls
   ReadyFitIn h (new site ∷ ls) = ReadyFitIn h ls
-  ReadyFitIn h (to q ∷ ls) = OperandsFit h q × ReadyFitIn (place_above q h) ls
+  ReadyFitIn h (to q ∷ ls) = OperandsFit p s n h q × ReadyFitIn (place_above q h) ls
 
   abbrev pub PiecesFitIn : (h : ℕ) → List Piece → Type 0
   PiecesFitIn h [] = Unit {0}
   PiecesFitIn h (text number ∷ ps) = PiecesFitIn h ps
-  PiecesFitIn h (shown t e ∷ ps) = (h < s.temps) × Fits h e × PiecesFitIn (h + 1) ps
+  PiecesFitIn h (shown t e ∷ ps) = (h < s.temps) × Fits p s n h e × PiecesFitIn (h + 1) ps
 
   abbrev pub TestFitsIn : (h : ℕ) → Option Ex → Type 0
   TestFitsIn h None = Unit {0}
-  TestFitsIn h (Some e) = (h < s.temps) × Fits h e
+  TestFitsIn h (Some e) = (h < s.temps) × Fits p s n h e
 
   -- the statements of a function with so many words of results, and these names for them, with temps from h on
   module _ (wanted : ℕ) (named : List ℕ) where
@@ -82,30 +81,30 @@ module _ (p : Program) (s : Slots) (n : ℕ) where
       StFitsIn h (declare sites) = SitesFit s n sites
       StFitsIn h (assign ls es) =
           let first = lefts_above ls h in
-          (first + all_wide p es ≤ s.temps) × ReadyFitIn h ls × ExsFitIn first es × LeftsFitIn s n (first + all_wide p es) first (value_widths p es) ls
+          (first + all_wide p es ≤ s.temps) × ReadyFitIn h ls × ExsFitIn p s n first es × LeftsFitIn s n (first + all_wide p es) first (value_widths p es) ls
       StFitsIn h (update at q op e) =
           let v = above_address (far q) (place_above q h) in
-          (v + 1 < s.temps) × PlaceFits s n q × (reached s q ≤ 1) × OperandsFit h q × Fits (v + 1) e
-      StFitsIn h (bump q op) = (above_address (far q) (place_above q h) + 1 < s.temps) × PlaceFits s n q × (reached s q ≤ 1) × OperandsFit h q
-      StFitsIn h (discard es) = ExsFitIn h es
+          (v + 1 < s.temps) × PlaceFits s n q × (reached s q ≤ 1) × OperandsFit p s n h q × Fits p s n (v + 1) e
+      StFitsIn h (bump q op) = (above_address (far q) (place_above q h) + 1 < s.temps) × PlaceFits s n q × (reached s q ≤ 1) × OperandsFit p s n h q
+      StFitsIn h (discard es) = ExsFitIn p s n h es
       StFitsIn h (block ss) = StsFitIn h ss
-      StFitsIn h (choose e a b) = (h < s.temps) × Fits h e × StsFitIn h a × StsFitIn h b
+      StFitsIn h (choose e a b) = (h < s.temps) × Fits p s n h e × StsFitIn h a × StsFitIn h b
       StFitsIn h (loop sites test post body) = TestFitsIn h test × SitesFit s n sites × RenewFits s h sites × StsFitIn h post × StsFitIn h body
-      StFitsIn h (range (over_int e) key value body) = (h + 2 < s.temps) × Fits h e × ReadyFitIn (h + 2) (key ∷ []) × LeftFits s n (lefts_above (key ∷ []) (h + 2)) key × (left_words s key ≤ 1) × StsFitIn (h + 2) body
+      StFitsIn h (range (over_int e) key value body) = (h + 2 < s.temps) × Fits p s n h e × ReadyFitIn (h + 2) (key ∷ []) × LeftFits s n (lefts_above (key ∷ []) (h + 2)) key × (left_words s key ≤ 1) × StsFitIn (h + 2) body
       StFitsIn h (range (over_length x) key value body) =
           (h + 1 < s.temps) × ReadyFitIn (h + 1) (key ∷ []) × LeftFits s n (lefts_above (key ∷ []) (h + 1)) key × (left_words s key ≤ 1) × StsFitIn (h + 1) body
       -- the copy has elements with words; the left sides get the index and an element
       StFitsIn h (range (over_copy site e x) key value body) =
           let w = width (part_type (site_type s site) 0) in let v = lefts_above (key ∷ value ∷ []) (h + 1) in
-          (h + 1 < s.temps) × SiteFits s n site × (h + site_words s site ≤ s.temps) × (0 < x) × (x ≤ site_words s site) × (0 < w) × Fits h e × ReadyFitIn (h + 1) (key ∷ value ∷ []) × (v + 1 + w ≤ s.temps)
+          (h + 1 < s.temps) × SiteFits s n site × (h + site_words s site ≤ s.temps) × (0 < x) × (x ≤ site_words s site) × (0 < w) × Fits p s n h e × ReadyFitIn (h + 1) (key ∷ value ∷ []) × (v + 1 + w ≤ s.temps)
           × LeftsFitIn s n (v + 1 + w) v (1 ∷ w ∷ []) (key ∷ value ∷ []) × StsFitIn (h + 1) body
       StFitsIn h break_off = Unit {0}
       StFitsIn h go_on = Unit {0}
-      StFitsIn h (give_back es) = ExsFitIn h es × ValuesFit s wanted h (all_wide p es) named
+      StFitsIn h (give_back es) = ExsFitIn p s n h es × ValuesFit s wanted h (all_wide p es) named
       StFitsIn h (print ln ps) = PiecesFitIn h ps
       StFitsIn h (raise at (text number)) = Unit {0}
-      StFitsIn h (raise at (shown t e)) = (h < s.temps) × Fits h e
-      StFitsIn h (quit at e) = (h < s.temps) × Fits h e
+      StFitsIn h (raise at (shown t e)) = (h < s.temps) × Fits p s n h e
+      StFitsIn h (quit at e) = (h < s.temps) × Fits p s n h e
 
       pub StsFitIn : (h : ℕ) → Sts → Type 0
       StsFitIn h done = Unit {0}

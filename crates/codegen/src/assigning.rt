@@ -11,7 +11,10 @@ ghost use Rattle.codegen.specs.Temps.{LeftFits, LeftsFitIn, ReadyFitIn};
 ghost use Rattle.simulated_code.specs.Code.{above_address as above_address_of, lefts_above as above_all, lefts_code, place_above, ready_code};
 
 use base::NoMemory;
-use expression_code::{Frame, above_address, above_operands, emit_address, emit_expr, emit_fetch, emit_land, emit_operation, emit_place, emit_values, emit_write, moves, put, value_words};
+use expression_code::{
+    Frame, above_address, above_operands, emit_address, emit_expr, emit_fetch, emit_land,
+    emit_operation, emit_place, emit_values, emit_write, moves, put, value_words,
+};
 use frame_layout::values_words;
 use isa::Instr;
 use typed::{BinOp, Expr, Left, Place, Program, Values};

@@ -6,7 +6,9 @@ ghost use Rattle.expression_code.specs.Frame.{func_in};
 ghost use Rattle.simulated_code.specs.Code.{address_size, exs_size, element_round_size, index_round_size, leave_size, lefts_size, lefts_sized, piece_size, place_size, pieces_size, renew_size, shown_size, size, st_size, sts_size, test_size, values_size};
 
 use base::{NoMemory, SiteId};
-use expression_code::{address_len, expr_len, last_len, move_len, number, place_len, plus, test_len, values_len};
+use expression_code::{
+    address_len, expr_len, last_len, move_len, number, place_len, plus, test_len, values_len,
+};
 use frame_layout::values_words;
 use typed::{Expr, Func, Left, Piece, Place, Program, Stmt, Values};
 
