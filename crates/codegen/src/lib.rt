@@ -3,9 +3,9 @@
 //! What the code of a program is, is a definition of the crate `simulated_code`, `code_of`, and that it does what the
 //! program means is the law there. `emit` gives just this code, so whatever is said of it is said of the definition, and
 //! the law holds for it. Each function is put behind the others, with the moves of its arguments, its body and its return;
-//! the functions here follow the definition form by form. Their slots are numbers of 16 bits: that the frame which
-//! `frame_layout` has laid out suffices for all that a body holds is proved of each program in form. How many words a
-//! value has is said by its type.
+//! the functions here follow the definition form by form, over the code of expressions and places, which is that of
+//! `expression_code`. Slots are numbers of 16 bits: that the frame which `frame_layout` has laid out suffices for all that a
+//! body holds is proved of each program in form.
 //!
 //! A jump goes to a place that is known before the jump is emitted: the lengths of what it passes over are counted
 //! first, so nothing is patched afterwards, and the statements of a loop are emitted with the places where `break` and
