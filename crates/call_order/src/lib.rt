@@ -16,8 +16,6 @@ mod calls;
 mod firsts;
 mod ordering;
 mod reaching;
-#[cfg(test)]
-mod tests;
 
 pub use batches::{Batch, Batches};
 pub use ordering::order;

@@ -11,8 +11,3 @@ mod fault;
 
 pub use compiling::{Compiled, compile};
 pub use fault::CompileFault;
-
-#[cfg(test)]
-mod checker_tests;
-#[cfg(test)]
-mod tests;

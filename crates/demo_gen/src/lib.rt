@@ -8,6 +8,3 @@
 mod programs;
 
 pub use programs::text;
-
-#[cfg(test)]
-mod tests;

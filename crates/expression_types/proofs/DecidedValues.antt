@@ -1,17 +1,18 @@
 -- Expressions side by side: where each gives something, their values are decided.
 use Rattle.std.proofs.Common.{◌≡◌, ℕ, zero, suc, Bool, true, false, cond, List, [], ◌∷◌, ◌⊎◌, inl, inr, Option, Some, None, refl, sym, ap, ◌∙◌, length, take, arith, subst}
-use Rattle.std.specs.Prelude.{⊤, option_and_then, is_some, is_none, nat_le, ◌≤◌, ◌&&◌, ◌==◌}
+use Rattle.std.specs.Prelude.{⊤, option_and_then, is_some, is_none, nat_le, ◌≤◌, not, ◌&&◌, ◌==◌}
 use Rattle.std.specs.Option.{option_map}
 use Rattle.std.proofs.lemmas.Bool.{eqb-true, leb-true}
 use Rattle.base.specs.declared.pos.Pos.{Pos}
 use Rattle.typed.specs.Syntax.{Ex, Exs}
 use Rattle.typed.specs.Syntax as typed
+use Rattle.value_trees.specs.Types.{ValueType as TypeTree}
 use Rattle.value_trees.specs.Value.{int}
 use Rattle.value_types.specs.declared.fault.Fault.{Fault}
-use Rattle.value_types.specs.declared.fault.FaultKind.TheVariants.{ConstRange, Mismatch}
+use Rattle.value_types.specs.declared.fault.FaultKind.TheVariants.{BadOperand, ConstRange, Mismatch}
 use Rattle.value_types.specs.declared.constant.Constant.{Constant}
 use Rattle.value_types.specs.declared.constant.Constant.TheVariants.{Number, Truth}
-use Rattle.value_types.specs.declared.value_type.ValueType.{ValueType}
+use Rattle.base.specs.declared.value_type.ValueType.{ValueType}
 use Rattle.value_types.specs.Least.{IsLeast}
 use Rattle.value_types.specs.Given.{allowed}
 use Rattle.value_types.specs.Constants.{is_int}
@@ -19,9 +20,8 @@ use Rattle.value_types.specs.Faults.{fault, IsFault, constant_range_fault}
 use Rattle.value_types.proofs.Decided.{Decided, Tested, further, mapped, after, both_tested, same, turned}
 use Rattle.value_types.proofs.Options.{and_then_some, map_some, none_some, same_some}
 use Rattle.operators.specs.Operands.{Operand, constant, value, type_of, constant_value, as_value}
-use Rattle.names.specs.Scope.{type_tree}
-use Rattle.expression_types.specs.Typing.{Part, valued, Gives, one, called, asking, quoted, printed, panicked, exited, Seen, Many, single, operand_in, value_in, as_part, part_in, is_part, listed, values, parts, are_single, are_parts, part_count, many_in, many, count_of, count, each, types_agree, values_agree, fits_with, fits, all_values, taken, types_with, value_types, single_types, taken_types, panicked_with, exit_places, exited_with}
-use Rattle.expression_types.specs.Faults.{single_fault, part_fault, SinglesFail, PartsFail, ValuesFail, range_fault, RangeFails, TypesFail, results_fault, MismatchFails, CountFails, TakeFails, refused_fault}
+use Rattle.expression_types.specs.Typing.{Part, valued, Gives, one, called, asking, quoted, printed, panicked, exited, Seen, Many, single, operand_in, value_in, type_in_one, shown_type, as_part, part_in, is_part, listed, values, parts, are_single, are_parts, is_shown, are_shown, part_count, many_in, many, count_of, count, each, types_agree, values_agree, fits_with, fits, all_values, taken, types_with, value_types, single_types, taken_types, panicked_with, exit_places, exited_with}
+use Rattle.expression_types.specs.Faults.{single_fault, part_fault, SinglesFail, PartsFail, ValuesFail, range_fault, RangeFails, TypesFail, results_fault, MismatchFails, CountFails, TakeFails, refused_fault, shown_fault, PrintFails}
 use Rattle.value_types.proofs.Lists.{and_true}
 use Rattle.expression_types.proofs.Places.{agree_tested}
 
@@ -175,15 +175,32 @@ value_form = record {
   missing = λ o is. no_value (operand_in o) is;
 }
 
--- operands of `print`, `println` or `panic`
-as_part_decided : (at : Pos) (x : Operand) → Decided (as_part x) (IsFault (range_fault at (Some x)))
-as_part_decided at x = mapped (valued (type_tree (type_of x))) (as_value x) (IsFault (range_fault at (Some x))) (as_value_decided at x)
+-- operands of `print`, `println` or `panic`, where each value is of a type that is shown
+abbrev are_printed : List Seen → Bool
+are_printed os = are_parts os && are_shown os
 
-part_decided : (at : Pos) (o : Option Gives) → is_part o ≡ true → Decided (part_in o) (IsFault (range_fault at (operand_in o)))
+abbrev is_printed : Option Gives → Bool
+is_printed o = is_part o && is_shown (type_in_one o)
+
+-- four tests, two by two
+crossed : (a b c d : Bool) → ((a && c) && (b && d)) ≡ ((a && b) && (c && d))
+crossed false b c d = refl
+crossed true b true d = refl
+crossed true false false d = refl
+crossed true true false d = refl
+
+as_part_decided : (at : Pos) (x : Operand) → is_shown (Some (type_of x)) ≡ true → Decided (as_part x) (IsFault (range_fault at (Some x)))
+as_part_decided at x is = by (shown_type (type_of x)) is
+  where
+    by : (o : Option TypeTree) → is_some o ≡ true → Decided (option_and_then (λ t. option_map (valued t) (as_value x)) o) (IsFault (range_fault at (Some x)))
+    by None is1 = cc is1
+    by (Some t) is1 = mapped (valued t) (as_value x) (IsFault (range_fault at (Some x))) (as_value_decided at x)
+
+part_decided : (at : Pos) (o : Option Gives) → is_printed o ≡ true → Decided (part_in o) (IsFault (range_fault at (operand_in o)))
 part_decided at None is = cc is
-part_decided at (Some (one x)) is = as_part_decided at x
+part_decided at (Some (one x)) is = as_part_decided at x is
 part_decided at (Some (called place [] k es)) is = cc is
-part_decided at (Some (called place (t ∷ []) k es)) is = as_part_decided at (value t (typed.call k es))
+part_decided at (Some (called place (t ∷ []) k es)) is = as_part_decided at (value t (typed.call k es)) is
 part_decided at (Some (called place (t ∷ u ∷ ts) k es)) is = cc is
 part_decided at (Some (asking place)) is = cc is
 part_decided at (Some (quoted place bytes)) is = λ f h. h
@@ -191,11 +208,18 @@ part_decided at (Some (printed place line ps)) is = cc is
 part_decided at (Some (panicked place p)) is = cc is
 part_decided at (Some (exited place e)) is = cc is
 
-no_part : (o : Option Gives) → is_part o ≡ false → part_in o ≡ None
+not_shown : (x : Operand) → is_shown (Some (type_of x)) ≡ false → as_part x ≡ None
+not_shown x is = by (shown_type (type_of x)) is
+  where
+    by : (o : Option TypeTree) → is_some o ≡ false → option_and_then (λ t. option_map (valued t) (as_value x)) o ≡ None
+    by None is1 = refl
+    by (Some t) is1 = cc is1
+
+no_part : (o : Option Gives) → is_printed o ≡ false → part_in o ≡ None
 no_part None is = refl
-no_part (Some (one x)) is = cc is
+no_part (Some (one x)) is = not_shown x is
 no_part (Some (called place [] k es)) is = refl
-no_part (Some (called place (t ∷ []) k es)) is = cc is
+no_part (Some (called place (t ∷ []) k es)) is = not_shown (value t (typed.call k es)) is
 no_part (Some (called place (t ∷ u ∷ ts) k es)) is = refl
 no_part (Some (asking place)) is = refl
 no_part (Some (quoted place bytes)) is = cc is
@@ -203,8 +227,26 @@ no_part (Some (printed place line ps)) is = refl
 no_part (Some (panicked place p)) is = refl
 no_part (Some (exited place e)) is = refl
 
-part_form : Form part_in are_parts
-part_form = record { may = is_part; none = refl; more = λ o os. refl; decided = part_decided; missing = no_part }
+part_form : Form part_in are_printed
+part_form = record {
+  may = is_printed;
+  none = refl;
+  more = λ o os. crossed (is_part o.gives) (is_shown (type_in_one o.gives)) (are_parts os) (are_shown os);
+  decided = part_decided;
+  missing = no_part;
+}
+
+-- what may be no operand has a fault, and a value that isn't shown has one of its own
+abbrev NotPrinted : Fault → List Seen → Fault → Type 0
+NotPrinted own os f = PartsFail os f ⊎ IsFault (shown_fault os own) f
+
+printed_tested : (own : Fault) (os : List Seen) → AllGiven os → Tested (are_printed os) (λ f. NotPrinted own os f)
+printed_tested own os all = by (are_parts os) (are_shown os) (parts_tested os all)
+  where
+    by : (a b : Bool) → Tested a (PartsFail os) → Tested (a && b) (λ f. PartsFail os f ⊎ IsFault (cond (a && not b) (Some own) None) f)
+    by false b t = (t.0, inl t.1)
+    by true false t = (own, inr refl)
+    by true true t = λ f h. elim h [ inl k ↦ t f k | inr k ↦ k ]
 
 -- ---- values at places
 
@@ -361,6 +403,9 @@ not_parts (o ∷ os) is = by o.gives is (λ rest. not_parts os rest)
     by None e rest = refl
     by (Some x) e rest = last (is_part (Some x)) (rest e)
 
+not_printed : (os : List Seen) → given_all os ≡ None → are_printed os ≡ false
+not_printed os is = ap (λ b. b && are_shown os) (not_parts os is)
+
 no_many : (os : List Seen) → given_all os ≡ None → many os ≡ None
 no_many [] is = refl
 no_many (o ∷ []) is = by o.gives is
@@ -385,9 +430,9 @@ decided_none (Some x) P f is h = cc is
 -- ---- the one operand of `panic`
 
 counted_parts : (os : List Seen) (xs : List Part) → parts os ≡ Some xs → part_count os ≡ Some (length xs)
-counted_parts os xs is = by (are_parts os) (list_are part_in are_parts part_form os xs is) ∙ ap Some (sym (list_long part_in are_parts part_form os xs is))
+counted_parts os xs is = by (are_parts os) (list_are part_in are_printed part_form os xs is) ∙ ap Some (sym (list_long part_in are_printed part_form os xs is))
   where
-    by : (b : Bool) → b ≡ true → cond b (Some (length os)) None ≡ Some (length os)
+    by : (b : Bool) → (b && are_shown os) ≡ true → cond b (Some (length os)) None ≡ Some (length os)
     by true e = refl
     by false e = cc e
 
@@ -484,27 +529,38 @@ module _ (os : List Seen) (P : Fault → Type 0) (d : Decided (given_all os) P) 
   pub exit_decided : (at : Pos) (own : Fault) → Decided (option_and_then (exited_with at) (allowed (fits exit_places os) (values os))) (λ f. P f ⊎ TakeFails own exit_places os f)
   exit_decided at own = alike_decided (taken exit_places os) _ (λ f. P f ⊎ TakeFails own exit_places os f) (exit_taken at os) (take_decided own exit_places)
 
-  pub print_decided : Decided (parts os) (λ f. P f ⊎ (PartsFail os f ⊎ RangeFails os f))
-  print_decided = by (given_all os) refl d
+  pub print_decided : (at : Pos) → Decided (parts os) (λ f. P f ⊎ PrintFails at os f)
+  print_decided at = by (given_all os) refl d
     where
-      by : (g : Option (Unit {0})) → given_all os ≡ g → Decided g P → Decided (parts os) (λ f. P f ⊎ (PartsFail os f ⊎ RangeFails os f))
-      by None is p = decided_none (parts os) (λ f. P f ⊎ (PartsFail os f ⊎ RangeFails os f)) p.0 (no_list part_in are_parts part_form os (not_parts os is)) (inl p.1)
-      by (Some u) is p = further P (λ f. PartsFail os f ⊎ RangeFails os f) (parts os) p (list_decided part_in are_parts part_form (PartsFail os) os (parts_tested os (given os is)))
+      into : (f : Fault) → NotPrinted (fault BadOperand at) os f ⊎ RangeFails os f → PrintFails at os f
+      into f (inl (inl h)) = inl (inl h)
+      into f (inl (inr h)) = inr h
+      into f (inr h) = inl (inr h)
 
-  pub panic_decided : (at : Pos) (own : Fault) → Decided (option_and_then (panicked_with at) (parts os)) (λ f. P f ⊎ ((PartsFail os f ⊎ RangeFails os f) ⊎ CountFails (part_count os) 1 own f))
+      back : (f : Fault) → PrintFails at os f → NotPrinted (fault BadOperand at) os f ⊎ RangeFails os f
+      back f (inl (inl h)) = inl (inl h)
+      back f (inl (inr h)) = inr h
+      back f (inr h) = inl (inr h)
+
+      by : (g : Option (Unit {0})) → given_all os ≡ g → Decided g P → Decided (parts os) (λ f. P f ⊎ PrintFails at os f)
+      by None is p = decided_none (parts os) (λ f. P f ⊎ PrintFails at os f) p.0 (no_list part_in are_printed part_form os (not_printed os is)) (inl p.1)
+      by (Some u) is p =
+          further P (PrintFails at os) (parts os) p (same (λ f. NotPrinted (fault BadOperand at) os f ⊎ RangeFails os f) (PrintFails at os) (parts os) into back (list_decided part_in are_printed part_form (NotPrinted (fault BadOperand at) os) os (printed_tested (fault BadOperand at) os (given os is))))
+
+  pub panic_decided : (at : Pos) (own : Fault) → Decided (option_and_then (panicked_with at) (parts os)) (λ f. P f ⊎ (PrintFails at os f ⊎ CountFails (part_count os) 1 own f))
   panic_decided at own =
-      let V = λ (f : Fault). PartsFail os f ⊎ RangeFails os f in
+      let V = PrintFails at os in
       let C = CountFails (part_count os) 1 own in
       same (λ f. (P f ⊎ V f) ⊎ C f) (λ f. P f ⊎ (V f ⊎ C f)) (option_and_then (panicked_with at) (parts os)) into back
-      (after (parts os) (panicked_with at) (λ f. P f ⊎ V f) C print_decided (λ xs is.
+      (after (parts os) (panicked_with at) (λ f. P f ⊎ V f) C (print_decided at) (λ xs is.
       subst (λ (n : Option ℕ). Decided (panicked_with at xs) (CountFails n 1 own)) (sym (counted_parts os xs is)) (panicked_decided at own xs)))
     where
-      into : (f : Fault) → (P f ⊎ (PartsFail os f ⊎ RangeFails os f)) ⊎ CountFails (part_count os) 1 own f → P f ⊎ ((PartsFail os f ⊎ RangeFails os f) ⊎ CountFails (part_count os) 1 own f)
+      into : (f : Fault) → (P f ⊎ PrintFails at os f) ⊎ CountFails (part_count os) 1 own f → P f ⊎ (PrintFails at os f ⊎ CountFails (part_count os) 1 own f)
       into f (inl (inl p)) = inl p
       into f (inl (inr v)) = inr (inl v)
       into f (inr c) = inr (inr c)
 
-      back : (f : Fault) → P f ⊎ ((PartsFail os f ⊎ RangeFails os f) ⊎ CountFails (part_count os) 1 own f) → (P f ⊎ (PartsFail os f ⊎ RangeFails os f)) ⊎ CountFails (part_count os) 1 own f
+      back : (f : Fault) → P f ⊎ (PrintFails at os f ⊎ CountFails (part_count os) 1 own f) → (P f ⊎ PrintFails at os f) ⊎ CountFails (part_count os) 1 own f
       back f (inl p) = inl (inl p)
       back f (inr (inl v)) = inl (inr v)
       back f (inr (inr c)) = inr c

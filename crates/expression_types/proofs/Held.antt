@@ -9,7 +9,7 @@ use Rattle.syntax.specs.FirstBytes.{first_place}
 use Rattle.syntax.specs.Expressions.{Ex as TreeEx, number, string, name, unary, binary, paren, call, selector, index, slice, array_type, slice_type, literal, elements, spelled}
 use Rattle.typed.specs.Syntax.{Ex, Exs}
 use Rattle.value_types.specs.declared.constant.Constant.TheVariants.{Number}
-use Rattle.value_types.specs.declared.value_type.ValueType.{ValueType}
+use Rattle.base.specs.declared.value_type.ValueType.{ValueType}
 use Rattle.value_types.specs.Constants.{untyped}
 use Rattle.value_types.specs.Given.{allowed, both}
 use Rattle.value_types.proofs.Options.{and_then_some, none_some, same_some}

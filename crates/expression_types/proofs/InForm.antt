@@ -1,6 +1,6 @@
 -- What expressions give is in form: what they read is in scope and has its type, constants are words, and operators and calls have operands
 -- of the types that they take.
-use Rattle.std.proofs.Common.{◌≡◌, ◌<◌, ℕ, ◌^◌, ℤ, pos, Bool, true, false, cond, List, [], ◌∷◌, inl, inr, Option, Some, None, Result, refl, sym, ap, ◌∙◌, subst, arith, length}
+use Rattle.std.proofs.Common.{◌≡◌, ◌<◌, ℕ, ◌^◌, ℤ, pos, Bool, true, false, cond, List, [], ◌∷◌, inl, inr, Option, Some, None, Result, refl, sym, ap, ap₂, ◌∙◌, subst, arith, length}
 use Rattle.std.specs.Prelude.{option_and_then, nat_lt, nat_le, slice_get, ◌==◌, ◌&&◌}
 use Rattle.std.specs.Option.{option_map}
 use Rattle.std.proofs.lemmas.Int.{ints as int_lemmas}
@@ -14,7 +14,7 @@ use Rattle.syntax.specs.declared.operator.BinOp.TheVariants.{Arithmetic, Compare
 use Rattle.syntax.specs.declared.operator.CompareOp.{CompareOp}
 use Rattle.syntax.specs.declared.operator.CompareOp.TheVariants.{Equal, NotEqual, Less, LessEqual, Greater, GreaterEqual}
 use Rattle.syntax.specs.declared.operator.UnOp.{UnOp}
-use Rattle.syntax.specs.declared.operator.UnOp.TheVariants.{Plus, Negate, Complement, Not, Star, Address}
+use Rattle.syntax.specs.declared.operator.UnOp.TheVariants.{Plus, Negate, Complement, Not}
 use Rattle.syntax.specs.declared.expression.Name.{Name}
 use Rattle.syntax.specs.FirstBytes.{first_place}
 use Rattle.syntax.specs.Expressions.{Ex as TreeEx, Exs as TreeExs, number, string, name, unary, binary, paren, call, selector, index, slice, array_type, slice_type, literal, elements, some, spelled}
@@ -23,16 +23,20 @@ use Rattle.typed.specs.declared.operators.UnOp.{UnOp as TypedPrefix}
 use Rattle.typed.specs.declared.program.Site.{Site}
 use Rattle.typed.specs.Syntax.{Ex, Exs, Func, Program, more, none, site_type, global_type}
 use Rattle.typed.specs.Syntax as typed
-use Rattle.typed.specs.View.{type_of as tree_of}
+use Rattle.typed.specs.Tables.{Table}
+use Rattle.typed.specs.Trees.{trees, tree_named}
+use Rattle.typed.specs.Formed.{IsFormed}
 use Rattle.typed.specs.Form.{IsPlain, InScope, IsWord, TakesOne, PlFits, ExFits, ExsFit}
-use Rattle.value_trees.specs.Types.{ValueType as TypeTree, ints, bools}
+use Rattle.value_trees.specs.Types.{ValueType as TypeTree, ints, bools, width}
 use Rattle.value_trees.specs.Value.{int}
 use Rattle.value_types.specs.declared.constant.Constant.{Constant}
 use Rattle.value_types.specs.declared.constant.Constant.TheVariants.{Number, Truth}
 use Rattle.value_types.specs.declared.constant.Fixed.{Fixed}
-use Rattle.value_types.specs.declared.value_type.ValueType.{ValueType}
-use Rattle.value_types.specs.declared.value_type.ValueType.TheVariants.{Int, Bool as Boolean}
-use Rattle.value_types.specs.Constants.{untyped, same_type, is_int, is_held, constant_type}
+use Rattle.base.specs.declared.value_type.ValueType.{ValueType}
+use Rattle.base.specs.declared.value_type.ValueType.TheVariants.{Int, Bool as Boolean}
+use Rattle.base.specs.Types.{same_type}
+use Rattle.base.proofs.Types.{same_is}
+use Rattle.value_types.specs.Constants.{untyped, is_int, is_held, constant_type}
 use Rattle.value_types.specs.Given.{allowed, both}
 use Rattle.value_types.proofs.Options.{and_then_some, map_some, none_some, same_some}
 use Rattle.operators.specs.declared.folding.Const.{Const}
@@ -48,20 +52,22 @@ use Rattle.names.specs.declared.scope.Declared.TheVariants as declared
 use Rattle.names.specs.declared.scope.External.TheVariants.{ReadInt, Exit}
 use Rattle.names.specs.Scope.{Scope, Signature, type_number, type_tree, type_trees, declaration, signature, fixed}
 use Rattle.names.specs.Naming.{name_in}
-use Rattle.names.proofs.Trees.{number_tree, tree_plain, tree_solid}
-use Rattle.expression_types.specs.Typing.{Part, said, valued, Gives, one, called, asking, quoted, printed, panicked, exited, known_type, global_read, name_operand, prefix_gives, pair_gives, single, operand_in, value_in, as_part, part_in, Seen, values, parts, type_in_one, single_types, Many, many_in, many, types_with, value_types, accepts, types_agree, operand_agrees, values_agree, each, fits_with, fits, all_values, taken, asked, Callee, printer, panicker, reader, exiter, function, conversion, no_function, no_spread, no_text_spread, nothing, function_with, callee_declared, callee_value, spread_over, panicked_with, exit_places, exited_with, called_with, as_condition, callee, gives, seen, condition, test}
+use Rattle.names.proofs.Trees.{int_tree, bool_tree, solid}
+use Rattle.expression_types.specs.Typing.{Part, said, valued, Gives, one, called, asking, quoted, printed, panicked, exited, known_type, global_read, name_operand, prefix_gives, pair_gives, single, operand_in, value_in, shown_type, as_part, part_in, Seen, values, parts, type_in_one, single_types, Many, many_in, many, types_with, value_types, accepts, types_agree, operand_agrees, values_agree, each, fits_with, fits, all_values, taken, asked, Callee, printer, panicker, reader, exiter, function, conversion, no_function, no_spread, no_text_spread, nothing, function_with, callee_declared, callee_value, spread_over, panicked_with, exit_places, exited_with, called_with, as_condition, callee, gives, seen, condition, test}
 use Rattle.expression_types.proofs.DecidedValues.{many_single}
 
 is_word : (z : ℤ) → is_int z ≡ true → IsWord (int z)
 is_word z h = grind (arith, int_lemmas)
 
 -- what a program has at the sites, functions and package variables of a scope: sites of these types, functions with these signatures, and
--- package variables of these types
+-- package variables of these types; and its types are those of the scope's table
 pub record Agrees (s : Scope) (p : Program) : Type 0 where
-  pub sites : (k : ℕ) (site : Site) → slice_get s.sites k ≡ Some site → site_type p k ≡ tree_of site.type_id.0
+  pub sites : (k : ℕ) (site : Site) → slice_get s.sites k ≡ Some site → site_type p k ≡ tree_named s.types site.type_id.0
   pub functions : (f : ℕ) (sig : Signature) → signature s f ≡ Some sig
-      → (func : Func) × (slice_get p.funcs f ≡ Some func) × (func.param_types ≡ type_trees sig.params) × (func.results ≡ type_trees sig.results)
-  pub globals : (g k : ℕ) (f : Fixed) → slice_get s.globals g ≡ Some k → fixed s k ≡ Some f → (g < length p.globals) × (global_type p g ≡ type_tree (known_type f))
+      → (func : Func) × (slice_get p.funcs f ≡ Some func) × (func.param_types ≡ type_trees s.types sig.params) × (func.results ≡ type_trees s.types sig.results)
+  pub globals : (g k : ℕ) (f : Fixed) → slice_get s.globals g ≡ Some k → fixed s k ≡ Some f → (g < length p.globals) × (global_type p g ≡ type_tree s.types (known_type f))
+  pub types : p.types ≡ trees s.types
+  pub formed : IsFormed s.types
 
 -- the package variables that names stand for have their numbers
 abbrev pub AreNumbered : Scope → Type 0
@@ -69,7 +75,7 @@ AreNumbered s = (n : List ℕ) (k : ValueId) (g : GlobalId) → declaration s n 
 
 -- a variable of a scope has a site of its type
 abbrev pub HasSite : Scope → ℕ → ValueType → Type 0
-HasSite s k t = (site : Site) × (slice_get s.sites k ≡ Some site) × (site.type_id.0 ≡ type_number t)
+HasSite s k t = (site : Site) × (slice_get s.sites k ≡ Some site) × (site.type_id.0 ≡ type_number s.types t)
 
 -- the variables that names stand for are in scope
 abbrev pub AreShown : Scope → List ℕ → Type 0
@@ -90,109 +96,46 @@ allowed_some : {A : Type 0} (b : Bool) (o : Option A) (x : A) → allowed b o �
 allowed_some true o x is = (refl, is)
 allowed_some false o x is = absurd (none_some is)
 
-pub same_type_same : (s t : ValueType) → same_type s t ≡ true → s ≡ t
-same_type_same Int Int is = refl
-same_type_same Boolean Boolean is = refl
-same_type_same Int Boolean is = cc is
-same_type_same Boolean Int is = cc is
-
 accepted_all : (ps : List (Option ValueType)) (ts : List ValueType) → length ts ≡ length ps → types_agree ps ts ≡ true → AreAccepted ps ts
 accepted_all [] [] long is = tt
 accepted_all [] (t ∷ ts) long is = absurd (omega (arith, long))
 accepted_all (p ∷ ps) [] long is = absurd (omega (arith, long))
 accepted_all (None ∷ ps) (t ∷ ts) long is = accepted_all ps ts (omega (arith, long)) is
 accepted_all (Some s ∷ ps) (t ∷ ts) long is =
-    let k = both_true (same_type s t) (types_agree ps ts) is in (same_type_same s t k.0, accepted_all ps ts (omega (arith, long)) k.1)
+    let k = both_true (same_type s t) (types_agree ps ts) is in (same_is s t k.0, accepted_all ps ts (omega (arith, long)) k.1)
+
+accepted_one : (q : Option ValueType) (t : ValueType) (ps : List (Option ValueType)) (ts : List ValueType) → accepts q t ≡ true → AreAccepted ps ts → AreAccepted (q ∷ ps) (t ∷ ts)
+accepted_one None t ps ts is all = all
+accepted_one (Some s) t ps ts is all = (same_is s t is, all)
+
+agrees_some : (q : Option ValueType) (o : Option Operand) (x : Operand) → o ≡ Some x → operand_agrees q o ≡ true → accepts q (type_of x) ≡ true
+agrees_some q None x found is = absurd (none_some found)
+agrees_some q (Some y) x found is = ap (λ (z : Operand). accepts q (type_of z)) (sym (same_some found)) ∙ is
+
+-- where places ask for types the values have these
+pub asked_types : (ts us : List ValueType) → AreAccepted (asked ts) us → ts ≡ us
+asked_types [] [] all = refl
+asked_types [] (u ∷ us) all = absurd all
+asked_types (t ∷ ts) [] all = absurd all
+asked_types (t ∷ ts) (u ∷ us) all = let front : t ≡ u = all.0 in let rest : ts ≡ us = asked_types ts us all.1 in cc (front, rest)
 
 -- ---- the types of operators
 
-takes_fits : (op : BinOp) (s t : ValueType) → takes op s t ≡ true → (at : Pos) (x y : Ex) (p : Program) (scope : List ℕ)
-    → ExFits p scope (type_tree s) x → ExFits p scope (type_tree t) y → ExFits p scope (type_tree (result_type op)) (typed_pair at op x y)
-takes_fits (Arithmetic op) Int Int is at x y p scope f g = by op
-  where
-    by : (k : ArithmeticOp) → ExFits p scope ints (typed.binary at (arithmetic_of k) x y)
-    by Add = (ints, (refl, refl), f, g)
-    by Sub = (ints, (refl, refl), f, g)
-    by Mul = (ints, (refl, refl), f, g)
-    by Div = (ints, (refl, refl), f, g)
-    by Rem = (ints, (refl, refl), f, g)
-    by And = (ints, (refl, refl), f, g)
-    by Or = (ints, (refl, refl), f, g)
-    by Xor = (ints, (refl, refl), f, g)
-    by AndNot = (ints, (refl, refl), f, g)
-    by ShiftLeft = (ints, (refl, refl), f, g)
-    by ShiftRight = (ints, (refl, refl), f, g)
-takes_fits (Arithmetic op) Int Boolean is at x y p scope f g = cc is
-takes_fits (Arithmetic op) Boolean Int is at x y p scope f g = cc is
-takes_fits (Arithmetic op) Boolean Boolean is at x y p scope f g = cc is
-takes_fits (Compare op) Int Int is at x y p scope f g = by op
-  where
-    by : (k : CompareOp) → ExFits p scope bools (typed.binary at (compare_of k) x y)
-    by Equal = (ints, (omega arith, refl), f, g)
-    by NotEqual = (ints, (omega arith, refl), f, g)
-    by Less = (ints, (refl, refl), f, g)
-    by LessEqual = (ints, (refl, refl), f, g)
-    by Greater = (ints, (refl, refl), f, g)
-    by GreaterEqual = (ints, (refl, refl), f, g)
-takes_fits (Compare op) Boolean Boolean is at x y p scope f g = by op is
-  where
-    by : (k : CompareOp) → takes (Compare k) Boolean Boolean ≡ true → ExFits p scope bools (typed.binary at (compare_of k) x y)
-    by Equal h = (bools, (omega arith, refl), f, g)
-    by NotEqual h = (bools, (omega arith, refl), f, g)
-    by Less h = cc h
-    by LessEqual h = cc h
-    by Greater h = cc h
-    by GreaterEqual h = cc h
-takes_fits (Compare op) Int Boolean is at x y p scope f g = by op is
-  where
-    by : (k : CompareOp) → takes (Compare k) Int Boolean ≡ true → ExFits p scope bools (typed.binary at (compare_of k) x y)
-    by Equal h = cc h
-    by NotEqual h = cc h
-    by Less h = cc h
-    by LessEqual h = cc h
-    by Greater h = cc h
-    by GreaterEqual h = cc h
-takes_fits (Compare op) Boolean Int is at x y p scope f g = by op is
-  where
-    by : (k : CompareOp) → takes (Compare k) Boolean Int ≡ true → ExFits p scope bools (typed.binary at (compare_of k) x y)
-    by Equal h = cc h
-    by NotEqual h = cc h
-    by Less h = cc h
-    by LessEqual h = cc h
-    by Greater h = cc h
-    by GreaterEqual h = cc h
-takes_fits Both Boolean Boolean is at x y p scope f g = (refl, f, g)
-takes_fits Both Int Int is at x y p scope f g = cc is
-takes_fits Both Int Boolean is at x y p scope f g = cc is
-takes_fits Both Boolean Int is at x y p scope f g = cc is
-takes_fits Either Boolean Boolean is at x y p scope f g = (refl, f, g)
-takes_fits Either Int Int is at x y p scope f g = cc is
-takes_fits Either Int Boolean is at x y p scope f g = cc is
-takes_fits Either Boolean Int is at x y p scope f g = cc is
+takes_numbers : (op : ArithmeticOp) (s t : ValueType) → takes (Arithmetic op) s t ≡ true → (s ≡ Int) × (t ≡ Int)
+takes_numbers op Int Int is = (refl, refl)
+takes_numbers op s t is = absurd cc is
 
-takes_prefix : (op : UnOp) (t : ValueType) (g : TypedPrefix) → takes_one op t ≡ true → prefix_of op ≡ Some g → TakesOne g (type_tree t)
-takes_prefix Plus Int g is found = subst (λ (k : TypedPrefix). TakesOne k ints) (same_some found) refl
-takes_prefix Negate Int g is found = subst (λ (k : TypedPrefix). TakesOne k ints) (same_some found) refl
-takes_prefix Complement Int g is found = subst (λ (k : TypedPrefix). TakesOne k ints) (same_some found) refl
-takes_prefix Not Boolean g is found = subst (λ (k : TypedPrefix). TakesOne k bools) (same_some found) refl
-takes_prefix Plus Boolean g is found = cc is
-takes_prefix Negate Boolean g is found = cc is
-takes_prefix Complement Boolean g is found = cc is
-takes_prefix Not Int g is found = cc is
-takes_prefix Star Int g is found = cc is
-takes_prefix Star Boolean g is found = cc is
-takes_prefix Address Int g is found = cc is
-takes_prefix Address Boolean g is found = cc is
+takes_both : (s t : ValueType) → takes Both s t ≡ true → (s ≡ Boolean) × (t ≡ Boolean)
+takes_both Boolean Boolean is = (refl, refl)
+takes_both s t is = absurd cc is
+
+takes_either : (s t : ValueType) → takes Either s t ≡ true → (s ≡ Boolean) × (t ≡ Boolean)
+takes_either Boolean Boolean is = (refl, refl)
+takes_either s t is = absurd cc is
+
+-- ---- what fits in a program
 
 module _ (p : Program) (scope : List ℕ) where
-  abbrev pub OperandFits : Operand → Type 0
-  OperandFits (constant f) = is_held f.value_type f.value ≡ true
-  OperandFits (value t x) = ExFits p scope (type_tree t) x
-
-  -- a call of a function with these results
-  abbrev pub CallFits : List ValueType → ℕ → Exs → Type 0
-  CallFits ts f es = (func : Func) × (slice_get p.funcs f ≡ Some func) × (func.results ≡ type_trees ts) × ExsFit p scope func.param_types es
-
   -- an operand of `print`, `println` or `panic`
   abbrev pub PartFits : Part → Type 0
   PartFits (said bytes) = Unit {0}
@@ -202,13 +145,26 @@ module _ (p : Program) (scope : List ℕ) where
   PartsFit [] = Unit {0}
   PartsFit (q ∷ qs) = PartFits q × PartsFit qs
 
+  abbrev pub OptionalFits : Option Ex → Type 0
+  OptionalFits None = Unit {0}
+  OptionalFits (Some e) = ExFits p scope bools e
+
+module _ (T : Table) (p : Program) (scope : List ℕ) where
+  abbrev pub OperandFits : Operand → Type 0
+  OperandFits (constant f) = is_held f.value_type f.value ≡ true
+  OperandFits (value t x) = ExFits p scope (type_tree T t) x
+
+  -- a call of a function with these results
+  abbrev pub CallFits : List ValueType → ℕ → Exs → Type 0
+  CallFits ts f es = (func : Func) × (slice_get p.funcs f ≡ Some func) × (func.results ≡ type_trees T ts) × ExsFit p scope func.param_types es
+
   abbrev pub GivesFit : Gives → Type 0
   GivesFit (one x) = OperandFits x
   GivesFit (called at ts f es) = CallFits ts f es
   GivesFit (asking at) = Unit {0}
   GivesFit (quoted at bytes) = Unit {0}
-  GivesFit (printed at line ps) = PartsFit ps
-  GivesFit (panicked at q) = PartFits q
+  GivesFit (printed at line ps) = PartsFit p scope ps
+  GivesFit (panicked at q) = PartFits p scope q
   GivesFit (exited at e) = ExFits p scope ints e
 
   abbrev MaybeFits : Option Gives → Type 0
@@ -226,19 +182,18 @@ module _ (p : Program) (scope : List ℕ) where
   some_fits : (x y : Operand) → OperandFits x → Some x ≡ Some y → OperandFits y
   some_fits x y fits is = subst OperandFits (same_some is) fits
 
-  -- a constant as a value of the type that it has by itself
-  constant_fits : (c : Constant) (e : Ex) → constant_value c ≡ Some e → ExFits p scope (type_tree (constant_type None c)) e
-  constant_fits (Truth b) e is = subst (ExFits p scope bools) (same_some is) (tt, tt)
-  constant_fits (Number z) e is = by (is_int z) refl is
-    where
-      by : (b : Bool) → is_int z ≡ b → cond b (Some (typed.constant (int z))) None ≡ Some e → ExFits p scope ints e
-      by true h is1 = subst (ExFits p scope ints) (same_some is1) (tt, is_word z h)
-      by false h is1 = absurd (none_some is1)
-
-  -- an operand as a value of its type
-  pub value_fits : (x : Operand) (e : Ex) → OperandFits x → as_value x ≡ Some e → ExFits p scope (type_tree (type_of x)) e
-  value_fits (value t x) e fits is = subst (ExFits p scope (type_tree t)) (same_some is) fits
-  value_fits (constant f) e fits is = subst (λ (t : ValueType). ExFits p scope (type_tree t) e) (sym (held_type f.value_type f.value fits)) (constant_fits f.value e is)
+  -- a function that is called has parameters and results of these types
+  abbrev CalleeFits : Callee → Type 0
+  CalleeFits (function f ps ts) = (func : Func) × (us : List ValueType) × (ps ≡ asked us) × (slice_get p.funcs f ≡ Some func) × (func.param_types ≡ type_trees T us) × (func.results ≡ type_trees T ts)
+  CalleeFits (printer line) = Unit {0}
+  CalleeFits panicker = Unit {0}
+  CalleeFits reader = Unit {0}
+  CalleeFits exiter = Unit {0}
+  CalleeFits conversion = Unit {0}
+  CalleeFits no_function = Unit {0}
+  CalleeFits no_spread = Unit {0}
+  CalleeFits no_text_spread = Unit {0}
+  CalleeFits nothing = Unit {0}
 
   single_fits : (g : Gives) (x : Operand) → GivesFit g → single g ≡ Some x → OperandFits x
   single_fits (one y) x fits is = some_fits y x fits is
@@ -255,352 +210,403 @@ module _ (p : Program) (scope : List ℕ) where
   operand_fits None x fits is = absurd (none_some is)
   operand_fits (Some g) x fits is = single_fits g x fits is
 
-  -- ---- values at places
-
   -- the values that there are, with their types
   record Valued (ps : List (Option ValueType)) (os : List Seen) (xs : List Ex) : Type 0 where
     types : List ValueType
     found : single_types os ≡ Some types
     accepted : AreAccepted ps types
-    fit : ExsFit p scope (type_trees types) (each xs)
-
-  accepted_one : (q : Option ValueType) (t : ValueType) (ps : List (Option ValueType)) (ts : List ValueType) → accepts q t ≡ true → AreAccepted ps ts → AreAccepted (q ∷ ps) (t ∷ ts)
-  accepted_one None t ps ts is all = all
-  accepted_one (Some s) t ps ts is all = (same_type_same s t is, all)
-
-  agrees_some : (q : Option ValueType) (o : Option Operand) (x : Operand) → o ≡ Some x → operand_agrees q o ≡ true → accepts q (type_of x) ≡ true
-  agrees_some q None x found is = absurd (none_some found)
-  agrees_some q (Some y) x found is = ap (λ (z : Operand). accepts q (type_of z)) (sym (same_some found)) ∙ is
-
-  values_fit : (ps : List (Option ValueType)) (os : List Seen) (xs : List Ex) → AllFit os → length os ≡ length ps → values_agree ps os ≡ true → values os ≡ Some xs → Valued ps os xs
-  values_fit [] [] xs all long agree is = subst (λ (l : List Ex). Valued [] [] l) (same_some is) (record { types = []; found = refl; accepted = tt; fit = tt })
-  values_fit (q ∷ ps) [] xs all long agree is = absurd (omega (arith, long))
-  values_fit [] (o ∷ os) xs all long agree is = absurd (omega (arith, long))
-  values_fit (q ∷ ps) (o ∷ os) xs all long agree is =
-      let r = and_then_some (λ x. option_map (λ ys. x ∷ ys) (values os)) (value_in o.gives) xs is in
-      let k = map_some (λ ys. r.0 ∷ ys) (values os) xs r.2 in
-      let m = and_then_some as_value (operand_in o.gives) r.0 r.1 in
-      let both1 = both_true (operand_agrees q (operand_in o.gives)) (values_agree ps os) agree in
-      let rest = values_fit ps os k.0 all.1 (omega (arith, long)) both1.1 k.1 in
-      let t = type_of m.0 in
-      let first1 : type_in_one o.gives ≡ Some t = ap (option_map type_of) m.1 in
-      subst (λ (l : List Ex). Valued (q ∷ ps) (o ∷ os) l) k.2 (record {
-        types = t ∷ rest.types;
-        found = ap (λ (y : Option ValueType). option_and_then (λ x. option_map (λ ts. x ∷ ts) (single_types os)) y) first1 ∙ ap (option_map (λ ts. t ∷ ts)) rest.found;
-        accepted = accepted_one q t ps rest.types (agrees_some q (operand_in o.gives) m.0 m.1 both1.0) rest.accepted;
-        fit = (value_fits m.0 r.0 (operand_fits o.gives m.0 all.0 m.1) m.2, rest.fit);
-      })
-
-  as_part_fits : (x : Operand) (q : Part) → OperandFits x → as_part x ≡ Some q → PartFits q
-  as_part_fits x q fits is = let v = map_some (valued (type_tree (type_of x))) (as_value x) q is in subst PartFits v.2 (tree_plain (type_of x), value_fits x v.0 fits v.1)
-
-  part_fits : (o : Option Gives) (q : Part) → MaybeFits o → part_in o ≡ Some q → PartFits q
-  part_fits None q fits is = absurd (none_some is)
-  part_fits (Some (one x)) q fits is = as_part_fits x q fits is
-  part_fits (Some (called at [] f es)) q fits is = absurd (none_some is)
-  part_fits (Some (called at (t ∷ []) f es)) q fits is = as_part_fits (value t (typed.call f es)) q fits is
-  part_fits (Some (called at (t ∷ u ∷ ts) f es)) q fits is = absurd (none_some is)
-  part_fits (Some (asking at)) q fits is = absurd (none_some is)
-  part_fits (Some (quoted at bytes)) q fits is = subst PartFits (same_some is) tt
-  part_fits (Some (printed at line ps)) q fits is = absurd (none_some is)
-  part_fits (Some (panicked at r)) q fits is = absurd (none_some is)
-  part_fits (Some (exited at e)) q fits is = absurd (none_some is)
-
-  parts_fit : (os : List Seen) (qs : List Part) → AllFit os → parts os ≡ Some qs → PartsFit qs
-  parts_fit [] qs all is = subst PartsFit (same_some is) tt
-  parts_fit (o ∷ os) qs all is =
-      let r = and_then_some (λ x. option_map (λ ys. x ∷ ys) (parts os)) (part_in o.gives) qs is in
-      let k = map_some (λ ys. r.0 ∷ ys) (parts os) qs r.2 in
-      subst PartsFit k.2 (part_fits o.gives r.0 all.0 r.1, parts_fit os k.0 all.1 k.1)
+    fit : ExsFit p scope (type_trees T types) (each xs)
 
   -- values at these places: of types that these take
   pub record TakenFit (ps : List (Option ValueType)) (os : List Seen) (es : Exs) : Type 0 where
     pub types : List ValueType
     pub found : value_types os ≡ Some types
     pub accepted : AreAccepted ps types
-    pub fit : ExsFit p scope (type_trees types) es
+    pub fit : ExsFit p scope (type_trees T types) es
 
-  results_fit : (ts : List ValueType) (f : ℕ) (es : Exs) → CallFits ts f es → ExsFit p scope (type_trees ts) (typed.results f es)
-  results_fit [] f es fits = fits
-  results_fit (t ∷ ts) f es fits = fits
+  module _ (formed : IsFormed T) where
+    -- ---- values of the two basic types, and operators on values
 
-  abbrev ManyFit : Many → Type 0
-  ManyFit m = ExsFit p scope (type_trees m.types) m.values
+    as_number : (t : ValueType) (x : Ex) → t ≡ Int → ExFits p scope (type_tree T t) x → ExFits p scope ints x
+    as_number t x is f = subst (λ (u : TypeTree). ExFits p scope u x) (ap (type_tree T) is ∙ int_tree T formed) f
 
-  many_fits : (o : Option Gives) (m : Many) → MaybeFits o → many_in o ≡ Some m → ManyFit m
-  many_fits None m fits is = absurd (none_some is)
-  many_fits (Some (one x)) m fits is = absurd (none_some is)
-  many_fits (Some (asking at)) m fits is = subst ManyFit (same_some is) refl
-  many_fits (Some (quoted at bytes)) m fits is = absurd (none_some is)
-  many_fits (Some (printed at line ps)) m fits is = absurd (none_some is)
-  many_fits (Some (panicked at q)) m fits is = absurd (none_some is)
-  many_fits (Some (exited at e)) m fits is = absurd (none_some is)
-  many_fits (Some (called at ts f es)) m fits is = by (nat_le 2 (length ts)) is
-    where
-      by : (b : Bool) → cond b (Some (record { at = at; types = ts; values = typed.results f es })) None ≡ Some m → ManyFit m
-      by true is1 = subst ManyFit (same_some is1) (results_fit ts f es fits)
-      by false is1 = absurd (none_some is1)
+    as_truth : (t : ValueType) (x : Ex) → t ≡ Boolean → ExFits p scope (type_tree T t) x → ExFits p scope bools x
+    as_truth t x is f = subst (λ (u : TypeTree). ExFits p scope u x) (ap (type_tree T) is ∙ bool_tree T formed) f
 
-  many_all : (os : List Seen) (m : Many) → AllFit os → many os ≡ Some m → ManyFit m
-  many_all [] m all is = absurd (none_some is)
-  many_all (o ∷ []) m all is = many_fits o.gives m all.0 is
-  many_all (o ∷ q ∷ os) m all is = absurd (none_some is)
+    arithmetic_fits : (op : ArithmeticOp) (at : Pos) (x y : Ex) → ExFits p scope ints x → ExFits p scope ints y → ExFits p scope ints (typed.binary at (arithmetic_of op) x y)
+    arithmetic_fits Add at x y f g = (ints, (refl, refl), f, g)
+    arithmetic_fits Sub at x y f g = (ints, (refl, refl), f, g)
+    arithmetic_fits Mul at x y f g = (ints, (refl, refl), f, g)
+    arithmetic_fits Div at x y f g = (ints, (refl, refl), f, g)
+    arithmetic_fits Rem at x y f g = (ints, (refl, refl), f, g)
+    arithmetic_fits And at x y f g = (ints, (refl, refl), f, g)
+    arithmetic_fits Or at x y f g = (ints, (refl, refl), f, g)
+    arithmetic_fits Xor at x y f g = (ints, (refl, refl), f, g)
+    arithmetic_fits AndNot at x y f g = (ints, (refl, refl), f, g)
+    arithmetic_fits ShiftLeft at x y f g = (ints, (refl, refl), f, g)
+    arithmetic_fits ShiftRight at x y f g = (ints, (refl, refl), f, g)
 
-  pub taken_fits : (ps : List (Option ValueType)) (os : List Seen) (es : Exs) → AllFit os → taken ps os ≡ Some es → TakenFit ps os es
-  taken_fits ps os es all is = by (many os) refl is
-    where
-      of_many : (m : Many) → many os ≡ Some m → fits_with ps os (Some m) ≡ true → m.values ≡ es → TakenFit ps os es
-      of_many m found good same =
-          let k = both_true (length m.types == length ps) (types_agree ps m.types) good in
-          subst (λ (e : Exs). TakenFit ps os e) same (record {
-            types = m.types;
-            found = ap (types_with os) found;
-            accepted = accepted_all ps m.types (eqb-true (length m.types) (length ps) k.0) k.1;
-            fit = many_all os m all found;
-          })
+    -- two values of one type, which has a word at least
+    alike_fits : (s t : ValueType) (y : Ex) → same_type s t ≡ true → ExFits p scope (type_tree T t) y → (0 < width (type_tree T s)) × ExFits p scope (type_tree T s) y
+    alike_fits s t y is g = (solid T formed (type_number T s), subst (λ (u : ValueType). ExFits p scope (type_tree T u) y) (sym (same_is s t is)) g)
 
-      of_each : many os ≡ None → fits_with ps os None ≡ true → (xs : List Ex) → values os ≡ Some xs → each xs ≡ es → TakenFit ps os es
-      of_each found good xs list same =
-          let k = both_true (length os == length ps) (values_agree ps os) good in
-          let v = values_fit ps os xs all (eqb-true (length os) (length ps) k.0) k.1 list in
-          subst (λ (e : Exs). TakenFit ps os e) same (record { types = v.types; found = ap (types_with os) found ∙ v.found; accepted = v.accepted; fit = v.fit })
+    order_fits : (op : CompareOp) (s t : ValueType) (at : Pos) (x y : Ex) → takes (Compare op) s t ≡ true → ExFits p scope (type_tree T s) x → ExFits p scope (type_tree T t) y
+        → ExFits p scope bools (typed.binary at (compare_of op) x y)
+    order_fits Equal s t at x y is f g = let k = alike_fits s t y is g in (type_tree T s, (k.0, refl), f, k.1)
+    order_fits NotEqual s t at x y is f g = let k = alike_fits s t y is g in (type_tree T s, (k.0, refl), f, k.1)
+    order_fits Less Int Int at x y is f g = (ints, (refl, refl), as_number Int x refl f, as_number Int y refl g)
+    order_fits LessEqual Int Int at x y is f g = (ints, (refl, refl), as_number Int x refl f, as_number Int y refl g)
+    order_fits Greater Int Int at x y is f g = (ints, (refl, refl), as_number Int x refl f, as_number Int y refl g)
+    order_fits GreaterEqual Int Int at x y is f g = (ints, (refl, refl), as_number Int x refl f, as_number Int y refl g)
+    order_fits op s t at x y is f g = absurd cc is
 
-      by : (m : Option Many) → many os ≡ m → allowed (fits_with ps os m) (all_values os m) ≡ Some es → TakenFit ps os es
-      by None found is1 =
-          let a = allowed_some (fits_with ps os None) (option_map each (values os)) es is1 in
-          let r = map_some each (values os) es a.1 in
-          of_each found a.0 r.0 r.1 r.2
-      by (Some m) found is1 =
-          let a = allowed_some (fits_with ps os (Some m)) (Some m.values) es is1 in
-          of_many m found a.0 (same_some a.1)
+    takes_fits : (op : BinOp) (s t : ValueType) → takes op s t ≡ true → (at : Pos) (x y : Ex) → ExFits p scope (type_tree T s) x → ExFits p scope (type_tree T t) y
+        → ExFits p scope (type_tree T (result_type op)) (typed_pair at op x y)
+    takes_fits (Arithmetic op) s t is at x y f g =
+        let k = takes_numbers op s t is in
+        subst (λ (u : TypeTree). ExFits p scope u (typed.binary at (arithmetic_of op) x y)) (sym (int_tree T formed)) (arithmetic_fits op at x y (as_number s x k.0 f) (as_number t y k.1 g))
+    takes_fits (Compare op) s t is at x y f g =
+        subst (λ (u : TypeTree). ExFits p scope u (typed.binary at (compare_of op) x y)) (sym (bool_tree T formed)) (order_fits op s t at x y is f g)
+    takes_fits Both s t is at x y f g = let k = takes_both s t is in (bool_tree T formed, as_truth s x k.0 f, as_truth t y k.1 g)
+    takes_fits Either s t is at x y f g = let k = takes_either s t is in (bool_tree T formed, as_truth s x k.0 f, as_truth t y k.1 g)
 
-  -- where places ask for types the values have these
-  pub asked_types : (ts us : List ValueType) → AreAccepted (asked ts) us → ts ≡ us
-  asked_types [] [] all = refl
-  asked_types [] (u ∷ us) all = absurd all
-  asked_types (t ∷ ts) [] all = absurd all
-  asked_types (t ∷ ts) (u ∷ us) all = let front : t ≡ u = all.0 in let rest : ts ≡ us = asked_types ts us all.1 in cc (front, rest)
+    takes_prefix : (op : UnOp) (t : ValueType) (g : TypedPrefix) → takes_one op t ≡ true → prefix_of op ≡ Some g → TakesOne g (type_tree T t)
+    takes_prefix Plus Int g is found = subst (λ (k : TypedPrefix). TakesOne k (type_tree T Int)) (same_some found) (int_tree T formed)
+    takes_prefix Negate Int g is found = subst (λ (k : TypedPrefix). TakesOne k (type_tree T Int)) (same_some found) (int_tree T formed)
+    takes_prefix Complement Int g is found = subst (λ (k : TypedPrefix). TakesOne k (type_tree T Int)) (same_some found) (int_tree T formed)
+    takes_prefix Not Boolean g is found = subst (λ (k : TypedPrefix). TakesOne k (type_tree T Boolean)) (same_some found) (bool_tree T formed)
+    takes_prefix op t g is found = absurd cc is
 
-  -- ---- operators
+    -- the types that are shown
+    shown_is : (u : ValueType) (t : TypeTree) → shown_type u ≡ Some t → (type_tree T u ≡ t) × IsPlain t
+    shown_is Int t is = subst (λ (x : TypeTree). (type_tree T Int ≡ x) × IsPlain x) (same_some is) (int_tree T formed, inl refl)
+    shown_is Boolean t is = subst (λ (x : TypeTree). (type_tree T Boolean ≡ x) × IsPlain x) (same_some is) (bool_tree T formed, inr refl)
+    shown_is u t is = absurd (none_some is)
 
-  both_fit : (at : Pos) (op : BinOp) (s t : ValueType) (a b : Option Ex) (x : Operand) → takes op s t ≡ true → ((e : Ex) → a ≡ Some e → ExFits p scope (type_tree s) e) → ((e : Ex) → b ≡ Some e → ExFits p scope (type_tree t) e)
-      → both_values at op a b ≡ Some x → OperandFits x
-  both_fit at op s t None b x k f g is = absurd (none_some is)
-  both_fit at op s t (Some y) None x k f g is = absurd (none_some is)
-  both_fit at op s t (Some y) (Some z) x k f g is = some_fits (value (result_type op) (typed_pair at op y z)) x (takes_fits op s t k at y z p scope (f y refl) (g z refl)) is
+    -- a constant as a value of the type that it has by itself
+    constant_fits : (c : Constant) (e : Ex) → constant_value c ≡ Some e → ExFits p scope (type_tree T (constant_type None c)) e
+    constant_fits (Truth b) e is = subst (λ (u : TypeTree). ExFits p scope u e) (sym (bool_tree T formed)) (subst (ExFits p scope bools) (same_some is) (tt, tt))
+    constant_fits (Number z) e is = subst (λ (u : TypeTree). ExFits p scope u e) (sym (int_tree T formed)) (by (is_int z) refl is)
+      where
+        by : (b : Bool) → is_int z ≡ b → cond b (Some (typed.constant (int z))) None ≡ Some e → ExFits p scope ints e
+        by true h is1 = subst (ExFits p scope ints) (same_some is1) (tt, is_word z h)
+        by false h is1 = absurd (none_some is1)
 
-  value_pair_fits : (at : Pos) (op : BinOp) (x y z : Operand) → OperandFits x → OperandFits y → value_pair at op x y ≡ Some z → OperandFits z
-  value_pair_fits at op x y z f g is =
-      let a = allowed_some (takes op (type_of x) (type_of y) && right_allowed op y) (both_values at op (as_value x) (as_value y)) z is in
-      let k = both_true (takes op (type_of x) (type_of y)) (right_allowed op y) a.0 in
-      both_fit at op (type_of x) (type_of y) (as_value x) (as_value y) z k.0 (λ e h. value_fits x e f h) (λ e h. value_fits y e g h) a.1
+    -- an operand as a value of its type
+    pub value_fits : (x : Operand) (e : Ex) → OperandFits x → as_value x ≡ Some e → ExFits p scope (type_tree T (type_of x)) e
+    value_fits (value t x) e fits is = subst (ExFits p scope (type_tree T t)) (same_some is) fits
+    value_fits (constant f) e fits is = subst (λ (t : ValueType). ExFits p scope (type_tree T t) e) (sym (held_type f.value_type f.value fits)) (constant_fits f.value e is)
 
-  -- what constants are folded to is held by its type
-  folded_fits : (b : Bool) (t : Option ValueType) (r : Result Const ConstFault) (x : Operand) → allowed b (constant_of t r) ≡ Some x → OperandFits x
-  folded_fits b t r x is = constant_is OperandFits (λ f h. h) t r x (allowed_some b (constant_of t r) x is).1
+    -- ---- values at places
 
-  pub pair_fits : (at : Pos) (op : BinOp) (x y z : Operand) → OperandFits x → OperandFits y → combined at op x y ≡ Some z → OperandFits z
-  pair_fits at op (constant a) (constant b) z f g is =
-      folded_fits (takes op (constant_type a.value_type a.value) (constant_type b.value_type b.value) && converts op a b) (joint_type op a.value_type b.value_type) (worked_out op a b) z is
-  pair_fits at op (constant a) (value t y) z f g is = value_pair_fits at op (constant a) (value t y) z f g is
-  pair_fits at op (value s x) (constant b) z f g is = value_pair_fits at op (value s x) (constant b) z f g is
-  pair_fits at op (value s x) (value t y) z f g is = value_pair_fits at op (value s x) (value t y) z f g is
+    values_fit : (ps : List (Option ValueType)) (os : List Seen) (xs : List Ex) → AllFit os → length os ≡ length ps → values_agree ps os ≡ true → values os ≡ Some xs → Valued ps os xs
+    values_fit [] [] xs all long agree is = subst (λ (l : List Ex). Valued [] [] l) (same_some is) (record { types = []; found = refl; accepted = tt; fit = tt })
+    values_fit (q ∷ ps) [] xs all long agree is = absurd (omega (arith, long))
+    values_fit [] (o ∷ os) xs all long agree is = absurd (omega (arith, long))
+    values_fit (q ∷ ps) (o ∷ os) xs all long agree is =
+        let r = and_then_some (λ x. option_map (λ ys. x ∷ ys) (values os)) (value_in o.gives) xs is in
+        let k = map_some (λ ys. r.0 ∷ ys) (values os) xs r.2 in
+        let m = and_then_some as_value (operand_in o.gives) r.0 r.1 in
+        let both1 = both_true (operand_agrees q (operand_in o.gives)) (values_agree ps os) agree in
+        let rest = values_fit ps os k.0 all.1 (omega (arith, long)) both1.1 k.1 in
+        let t = type_of m.0 in
+        let first1 : type_in_one o.gives ≡ Some t = ap (option_map type_of) m.1 in
+        subst (λ (l : List Ex). Valued (q ∷ ps) (o ∷ os) l) k.2 (record {
+          types = t ∷ rest.types;
+          found = ap (λ (y : Option ValueType). option_and_then (λ x. option_map (λ ts. x ∷ ts) (single_types os)) y) first1 ∙ ap (option_map (λ ts. t ∷ ts)) rest.found;
+          accepted = accepted_one q t ps rest.types (agrees_some q (operand_in o.gives) m.0 m.1 both1.0) rest.accepted;
+          fit = (value_fits m.0 r.0 (operand_fits o.gives m.0 all.0 m.1) m.2, rest.fit);
+        })
 
-  prefix_fits : (op : UnOp) (x y : Operand) → OperandFits x → prefixed op x ≡ Some y → OperandFits y
-  prefix_fits op (constant f) y fits is = folded_fits (takes_one op (constant_type f.value_type f.value)) f.value_type (folded_one op (const_of f.value)) y is
-  prefix_fits op (value t x) y fits is =
-      let a = allowed_some (takes_one op t) (option_map (λ g. value t (typed.unary g x)) (prefix_of op)) y is in
-      let r = map_some (λ g. value t (typed.unary g x)) (prefix_of op) y a.1 in
-      subst OperandFits r.2 (takes_prefix op t r.0 a.0 r.1, fits)
+    as_part_fits : (x : Operand) (q : Part) → OperandFits x → as_part x ≡ Some q → PartFits p scope q
+    as_part_fits x q fits is =
+        let r = and_then_some (λ t. option_map (valued t) (as_value x)) (shown_type (type_of x)) q is in
+        let v = map_some (valued r.0) (as_value x) q r.2 in
+        let k = shown_is (type_of x) r.0 r.1 in
+        subst (PartFits p scope) v.2 (k.1, subst (λ (t : TypeTree). ExFits p scope t v.0) k.0 (value_fits x v.0 fits v.1))
 
-  condition_value_fits : (x : Operand) (e : Ex) → OperandFits x → as_condition x ≡ Some e → ExFits p scope bools e
-  condition_value_fits x e fits is =
-      let a = allowed_some (same_type Boolean (type_of x)) (as_value x) e is in
-      subst (λ (t : ValueType). ExFits p scope (type_tree t) e) (sym (same_type_same Boolean (type_of x) a.0)) (value_fits x e fits a.1)
+    part_fits : (o : Option Gives) (q : Part) → MaybeFits o → part_in o ≡ Some q → PartFits p scope q
+    part_fits None q fits is = absurd (none_some is)
+    part_fits (Some (one x)) q fits is = as_part_fits x q fits is
+    part_fits (Some (called at [] f es)) q fits is = absurd (none_some is)
+    part_fits (Some (called at (t ∷ []) f es)) q fits is = as_part_fits (value t (typed.call f es)) q fits is
+    part_fits (Some (called at (t ∷ u ∷ ts) f es)) q fits is = absurd (none_some is)
+    part_fits (Some (asking at)) q fits is = absurd (none_some is)
+    part_fits (Some (quoted at bytes)) q fits is = subst (PartFits p scope) (same_some is) tt
+    part_fits (Some (printed at line ps)) q fits is = absurd (none_some is)
+    part_fits (Some (panicked at r)) q fits is = absurd (none_some is)
+    part_fits (Some (exited at e)) q fits is = absurd (none_some is)
 
-  abbrev pub OptionalFits : Option Ex → Type 0
-  OptionalFits None = Unit {0}
-  OptionalFits (Some e) = ExFits p scope bools e
+    parts_fit : (os : List Seen) (qs : List Part) → AllFit os → parts os ≡ Some qs → PartsFit p scope qs
+    parts_fit [] qs all is = subst (PartsFit p scope) (same_some is) tt
+    parts_fit (o ∷ os) qs all is =
+        let r = and_then_some (λ x. option_map (λ ys. x ∷ ys) (parts os)) (part_in o.gives) qs is in
+        let k = map_some (λ ys. r.0 ∷ ys) (parts os) qs r.2 in
+        subst (PartsFit p scope) k.2 (part_fits o.gives r.0 all.0 r.1, parts_fit os k.0 all.1 k.1)
 
-  panicked_fits : (at : Pos) (qs : List Part) (g : Gives) → PartsFit qs → panicked_with at qs ≡ Some g → GivesFit g
-  panicked_fits at [] g all is = absurd (none_some is)
-  panicked_fits at (q ∷ []) g all is = subst GivesFit (same_some is) all.0
-  panicked_fits at (q ∷ r ∷ qs) g all is = absurd (none_some is)
+    results_fit : (ts : List ValueType) (f : ℕ) (es : Exs) → CallFits ts f es → ExsFit p scope (type_trees T ts) (typed.results f es)
+    results_fit [] f es fits = fits
+    results_fit (t ∷ ts) f es fits = fits
 
-  -- the one argument of `exit` is an int
-  exited_fits : (at : Pos) (ts : List ValueType) (xs : List Ex) (g : Gives) → AreAccepted exit_places ts → ExsFit p scope (type_trees ts) (each xs) → exited_with at xs ≡ Some g → GivesFit g
-  exited_fits at ts [] g all fit is = absurd (none_some is)
-  exited_fits at [] (x ∷ []) g all fit is = absurd all
-  exited_fits at (t ∷ []) (x ∷ []) g all fit is = subst GivesFit (same_some is) (subst (λ (u : ValueType). ExFits p scope (type_tree u) x) (sym all.0) fit.0)
-  exited_fits at (t ∷ u ∷ ts) (x ∷ []) g all fit is = absurd all.1
-  exited_fits at ts (x ∷ y ∷ xs) g all fit is = absurd (none_some is)
+    abbrev ManyFit : Many → Type 0
+    ManyFit m = ExsFit p scope (type_trees T m.types) m.values
 
-  exit_fits : (at : Pos) (os : List Seen) (g : Gives) → AllFit os → option_and_then (exited_with at) (allowed (fits exit_places os) (values os)) ≡ Some g → GivesFit g
-  exit_fits at os g all is =
-      let r = and_then_some (exited_with at) (allowed (fits exit_places os) (values os)) g is in
-      let a = allowed_some (fits exit_places os) (values os) r.0 r.1 in
-      by (many os) refl r.0 a.0 a.1 r.2
-    where
-      by : (m : Option Many) → many os ≡ m → (xs : List Ex) → fits_with exit_places os m ≡ true → values os ≡ Some xs → exited_with at xs ≡ Some g → GivesFit g
-      by None found xs good list given =
-          let k = both_true (length os == length exit_places) (values_agree exit_places os) good in
-          let v = values_fit exit_places os xs all (eqb-true (length os) (length exit_places) k.0) k.1 list in
-          exited_fits at v.types xs g v.accepted v.fit given
-      by (Some m) found xs good list given = absurd (no_values os m found xs list)
-        where
-          no_values : (os1 : List Seen) (m1 : Many) → many os1 ≡ Some m1 → (xs1 : List Ex) → values os1 ≡ Some xs1 → ⊥
-          no_values [] m1 e xs1 f = none_some e
-          no_values (o ∷ []) m1 e xs1 f = none_some (sym (ap (λ (x : Option Operand). option_and_then (λ y. option_map (λ ys. y ∷ ys) (Some [])) (option_and_then as_value x)) (many_single o.gives m1 e)) ∙ f)
-          no_values (o ∷ q ∷ rest) m1 e xs1 f = none_some e
+    many_fits : (o : Option Gives) (m : Many) → MaybeFits o → many_in o ≡ Some m → ManyFit m
+    many_fits None m fits is = absurd (none_some is)
+    many_fits (Some (one x)) m fits is = absurd (none_some is)
+    many_fits (Some (asking at)) m fits is = subst ManyFit (same_some is) (ap₂ (λ a b. a ∷ b ∷ []) (int_tree T formed) (bool_tree T formed))
+    many_fits (Some (quoted at bytes)) m fits is = absurd (none_some is)
+    many_fits (Some (printed at line ps)) m fits is = absurd (none_some is)
+    many_fits (Some (panicked at q)) m fits is = absurd (none_some is)
+    many_fits (Some (exited at e)) m fits is = absurd (none_some is)
+    many_fits (Some (called at ts f es)) m fits is = by (nat_le 2 (length ts)) is
+      where
+        by : (b : Bool) → cond b (Some (record { at = at; types = ts; values = typed.results f es })) None ≡ Some m → ManyFit m
+        by true is1 = subst ManyFit (same_some is1) (results_fit ts f es fits)
+        by false is1 = absurd (none_some is1)
 
-  -- a function that is called has parameters and results of these types
-  abbrev CalleeFits : Callee → Type 0
-  CalleeFits (function f ps ts) = (func : Func) × (us : List ValueType) × (ps ≡ asked us) × (slice_get p.funcs f ≡ Some func) × (func.param_types ≡ type_trees us) × (func.results ≡ type_trees ts)
-  CalleeFits (printer line) = Unit {0}
-  CalleeFits panicker = Unit {0}
-  CalleeFits reader = Unit {0}
-  CalleeFits exiter = Unit {0}
-  CalleeFits conversion = Unit {0}
-  CalleeFits no_function = Unit {0}
-  CalleeFits no_spread = Unit {0}
-  CalleeFits no_text_spread = Unit {0}
-  CalleeFits nothing = Unit {0}
+    many_all : (os : List Seen) (m : Many) → AllFit os → many os ≡ Some m → ManyFit m
+    many_all [] m all is = absurd (none_some is)
+    many_all (o ∷ []) m all is = many_fits o.gives m all.0 is
+    many_all (o ∷ q ∷ os) m all is = absurd (none_some is)
 
-  call_fits : (at : Pos) (k : Callee) (os : List Seen) (g : Gives) → CalleeFits k → AllFit os → called_with at k os ≡ Some g → GivesFit g
-  call_fits at (printer line) os g k all is = let r = map_some (printed at line) (parts os) g is in subst GivesFit r.2 (parts_fit os r.0 all r.1)
-  call_fits at panicker os g k all is = let r = and_then_some (panicked_with at) (parts os) g is in panicked_fits at r.0 g (parts_fit os r.0 all r.1) r.2
-  call_fits at reader os g k all is = let a = allowed_some (fits [] os) (Some (asking at)) g is in subst GivesFit (same_some a.1) tt
-  call_fits at exiter os g k all is = exit_fits at os g all is
-  call_fits at (function f ps ts) os g k all is =
-      let r = map_some (called at ts f) (taken ps os) g is in
-      let t = taken_fits ps os r.0 all r.1 in
-      let same1 : k.1 ≡ t.types = asked_types k.1 t.types (subst (λ (l : List (Option ValueType)). AreAccepted l t.types) k.2 t.accepted) in
-      subst GivesFit r.2 (k.0, k.3, k.5, subst (λ (l : List TypeTree). ExsFit p scope l r.0) (ap type_trees (sym same1) ∙ sym k.4) t.fit)
-  call_fits at conversion os g k all is = absurd (none_some is)
-  call_fits at no_function os g k all is = absurd (none_some is)
-  call_fits at no_spread os g k all is = absurd (none_some is)
-  call_fits at no_text_spread os g k all is = absurd (none_some is)
-  call_fits at nothing os g k all is = absurd (none_some is)
+    pub taken_fits : (ps : List (Option ValueType)) (os : List Seen) (es : Exs) → AllFit os → taken ps os ≡ Some es → TakenFit ps os es
+    taken_fits ps os es all is = by (many os) refl is
+      where
+        of_many : (m : Many) → many os ≡ Some m → fits_with ps os (Some m) ≡ true → m.values ≡ es → TakenFit ps os es
+        of_many m found good same =
+            let k = both_true (length m.types == length ps) (types_agree ps m.types) good in
+            subst (λ (e : Exs). TakenFit ps os e) same (record {
+              types = m.types;
+              found = ap (types_with os) found;
+              accepted = accepted_all ps m.types (eqb-true (length m.types) (length ps) k.0) k.1;
+              fit = many_all os m all found;
+            })
 
-  module _ (text : List ℕ) (s : Scope) (are_shown : AreShown s scope) (are_numbered : AreNumbered s) (held : AreHeld s.values) (agrees : Agrees s p) where
-    variable_fits : (n : List ℕ) (site : SiteId) (t : ValueType) → declaration s n ≡ Some (declared.Variable site t) → PlFits p scope (type_tree t) (typed.local site.0 typed.here)
-    variable_fits n site t is = let k = are_shown n site t is in (k.0, agrees.sites site.0 k.1.0 k.1.1 ∙ ap tree_of k.1.2 ∙ number_tree t, tree_solid t)
+        of_each : many os ≡ None → fits_with ps os None ≡ true → (xs : List Ex) → values os ≡ Some xs → each xs ≡ es → TakenFit ps os es
+        of_each found good xs list same =
+            let k = both_true (length os == length ps) (values_agree ps os) good in
+            let v = values_fit ps os xs all (eqb-true (length os) (length ps) k.0) k.1 list in
+            subst (λ (e : Exs). TakenFit ps os e) same (record { types = v.types; found = ap (types_with os) found ∙ v.found; accepted = v.accepted; fit = v.fit })
 
-    constant_fits_name : (o : Option Fixed) (g : Gives) → ((f : Fixed) → o ≡ Some f → is_held f.value_type f.value ≡ true) → option_map one (option_map constant o) ≡ Some g → GivesFit g
-    constant_fits_name None g known is = absurd (none_some is)
-    constant_fits_name (Some f) g known is = subst GivesFit (same_some is) (known f refl)
+        by : (m : Option Many) → many os ≡ m → allowed (fits_with ps os m) (all_values os m) ≡ Some es → TakenFit ps os es
+        by None found is1 =
+            let a = allowed_some (fits_with ps os None) (option_map each (values os)) es is1 in
+            let r = map_some each (values os) es a.1 in
+            of_each found a.0 r.0 r.1 r.2
+        by (Some m) found is1 =
+            let a = allowed_some (fits_with ps os (Some m)) (Some m.values) es is1 in
+            of_many m found a.0 (same_some a.1)
 
-    global_fits : (g k : ℕ) (o : Option Fixed) (x : Gives) → fixed s k ≡ o → slice_get s.globals g ≡ Some k → option_map one (option_map (global_read g) o) ≡ Some x → GivesFit x
-    global_fits g k None x known at is = absurd (none_some is)
-    global_fits g k (Some f) x known at is = subst GivesFit (same_some is) (agrees.globals g k f at known)
+    -- ---- operators
 
-    name_fits : (d : Option Declared) (g : Gives) → ((site : SiteId) (t : ValueType) → d ≡ Some (declared.Variable site t) → PlFits p scope (type_tree t) (typed.local site.0 typed.here))
-        → ((k : ValueId) (h : GlobalId) → d ≡ Some (declared.Global k h) → slice_get s.globals h.0 ≡ Some k.0) → option_map one (name_operand s d) ≡ Some g → GivesFit g
-    name_fits None g has at is = absurd (none_some is)
-    name_fits (Some (declared.Variable site t)) g has at is = subst GivesFit (same_some is) (has site t refl)
-    name_fits (Some declared.Untyped) g has at is = absurd (none_some is)
-    name_fits (Some (declared.Constant k)) g has at is = constant_fits_name (fixed s k.0) g (λ f known. held k.0 f known) is
-    name_fits (Some (declared.Global k h)) g has at is = global_fits h.0 k.0 (fixed s k.0) g refl (at k h refl) is
-    name_fits (Some (declared.Function f)) g has at is = absurd (none_some is)
-    name_fits (Some (declared.External e place)) g has at is = absurd (none_some is)
-    name_fits (Some declared.TypeName) g has at is = absurd (none_some is)
-    name_fits (Some (declared.«Type» t)) g has at is = absurd (none_some is)
-    name_fits (Some (declared.Truth b)) g has at is = subst GivesFit (same_some is) refl
-    name_fits (Some (declared.Print line)) g has at is = absurd (none_some is)
-    name_fits (Some declared.Panic) g has at is = absurd (none_some is)
-    name_fits (Some declared.LeftOutType) g has at is = absurd (none_some is)
-    name_fits (Some declared.LeftOutValue) g has at is = absurd (none_some is)
+    both_fit : (at : Pos) (op : BinOp) (s t : ValueType) (a b : Option Ex) (x : Operand) → takes op s t ≡ true → ((e : Ex) → a ≡ Some e → ExFits p scope (type_tree T s) e) → ((e : Ex) → b ≡ Some e → ExFits p scope (type_tree T t) e)
+        → both_values at op a b ≡ Some x → OperandFits x
+    both_fit at op s t None b x k f g is = absurd (none_some is)
+    both_fit at op s t (Some y) None x k f g is = absurd (none_some is)
+    both_fit at op s t (Some y) (Some z) x k f g is = some_fits (value (result_type op) (typed_pair at op y z)) x (takes_fits op s t k at y z (f y refl) (g z refl)) is
 
-    callee_signed : (f : ℕ) (sig : Option Signature) → signature s f ≡ sig → CalleeFits (function_with f sig)
-    callee_signed f None is = tt
-    callee_signed f (Some sig) is = let k = agrees.functions f sig is in (k.0, sig.params, refl, k.1, k.2, k.3)
+    value_pair_fits : (at : Pos) (op : BinOp) (x y z : Operand) → OperandFits x → OperandFits y → value_pair at op x y ≡ Some z → OperandFits z
+    value_pair_fits at op x y z f g is =
+        let a = allowed_some (takes op (type_of x) (type_of y) && right_allowed op y) (both_values at op (as_value x) (as_value y)) z is in
+        let k = both_true (takes op (type_of x) (type_of y)) (right_allowed op y) a.0 in
+        both_fit at op (type_of x) (type_of y) (as_value x) (as_value y) z k.0 (λ e h. value_fits x e f h) (λ e h. value_fits y e g h) a.1
 
-    callee_value_fits : (o : Option Operand) → CalleeFits (callee_value o)
-    callee_value_fits None = tt
-    callee_value_fits (Some x) = tt
+    -- what constants are folded to is held by its type
+    folded_fits : (b : Bool) (t : Option ValueType) (r : Result Const ConstFault) (x : Operand) → allowed b (constant_of t r) ≡ Some x → OperandFits x
+    folded_fits b t r x is = constant_is OperandFits (λ f h. h) t r x (allowed_some b (constant_of t r) x is).1
 
-    declared_fits : (d : Option Declared) → CalleeFits (callee_declared s d)
-    declared_fits None = tt
-    declared_fits (Some (declared.Variable site t)) = tt
-    declared_fits (Some declared.Untyped) = tt
-    declared_fits (Some (declared.Constant k)) = callee_value_fits (option_map constant (fixed s k.0))
-    declared_fits (Some (declared.Global k g)) = callee_value_fits (option_map (global_read g.0) (fixed s k.0))
-    declared_fits (Some (declared.Function f)) = callee_signed f.0 (signature s f.0) refl
-    declared_fits (Some (declared.External ReadInt at)) = tt
-    declared_fits (Some (declared.External Exit at)) = tt
-    declared_fits (Some declared.TypeName) = tt
-    declared_fits (Some (declared.«Type» t)) = tt
-    declared_fits (Some (declared.Truth b)) = tt
-    declared_fits (Some (declared.Print line)) = tt
-    declared_fits (Some declared.Panic) = tt
-    declared_fits (Some declared.LeftOutType) = tt
-    declared_fits (Some declared.LeftOutValue) = tt
+    pub pair_fits : (at : Pos) (op : BinOp) (x y z : Operand) → OperandFits x → OperandFits y → combined at op x y ≡ Some z → OperandFits z
+    pair_fits at op (constant a) (constant b) z f g is =
+        folded_fits (takes op (constant_type a.value_type a.value) (constant_type b.value_type b.value) && converts op a b) (joint_type op a.value_type b.value_type) (worked_out op a b) z is
+    pair_fits at op (constant a) (value t y) z f g is = value_pair_fits at op (constant a) (value t y) z f g is
+    pair_fits at op (value s x) (constant b) z f g is = value_pair_fits at op (value s x) (constant b) z f g is
+    pair_fits at op (value s x) (value t y) z f g is = value_pair_fits at op (value s x) (value t y) z f g is
 
-    callee_fits : (n : Option Name) (o : Option Gives) → CalleeFits (callee text s n o)
-    callee_fits None o = callee_value_fits (operand_in o)
-    callee_fits (Some n) o = declared_fits (declaration s (spelled text n))
+    prefix_fits : (op : UnOp) (x y : Operand) → OperandFits x → prefixed op x ≡ Some y → OperandFits y
+    prefix_fits op (constant f) y fits is = folded_fits (takes_one op (constant_type f.value_type f.value)) f.value_type (folded_one op (const_of f.value)) y is
+    prefix_fits op (value t x) y fits is =
+        let a = allowed_some (takes_one op t) (option_map (λ g. value t (typed.unary g x)) (prefix_of op)) y is in
+        let r = map_some (λ g. value t (typed.unary g x)) (prefix_of op) y a.1 in
+        subst OperandFits r.2 (takes_prefix op t r.0 a.0 r.1, fits)
 
-    spread_fits : (spread : Bool) (k : Callee) → CalleeFits k → CalleeFits (spread_over spread k)
-    spread_fits false k fits = fits
-    spread_fits true (printer line) fits = tt
-    spread_fits true panicker fits = tt
-    spread_fits true reader fits = tt
-    spread_fits true exiter fits = tt
-    spread_fits true (function f ps ts) fits = tt
-    spread_fits true conversion fits = tt
-    spread_fits true no_function fits = tt
-    spread_fits true no_spread fits = tt
-    spread_fits true no_text_spread fits = tt
-    spread_fits true nothing fits = tt
+    condition_value_fits : (x : Operand) (e : Ex) → OperandFits x → as_condition x ≡ Some e → ExFits p scope bools e
+    condition_value_fits x e fits is =
+        let a = allowed_some (same_type Boolean (type_of x)) (as_value x) e is in
+        as_truth (type_of x) e (sym (same_is Boolean (type_of x) a.0)) (value_fits x e fits a.1)
 
-    unary_fits : (op : UnOp) (taken1 : Bool) (a : Option Operand) (g : Gives) → ((x : Operand) → a ≡ Some x → OperandFits x) → prefix_gives op taken1 a ≡ Some g → GivesFit g
-    unary_fits op false a g fits is = absurd (none_some is)
-    unary_fits op true a g fits is =
-        let r = map_some one (option_and_then (prefixed op) a) g is in
-        let q = and_then_some (prefixed op) a r.0 r.1 in
-        subst GivesFit r.2 (prefix_fits op q.0 r.0 (fits q.0 q.1) q.2)
+    panicked_fits : (at : Pos) (qs : List Part) (g : Gives) → PartsFit p scope qs → panicked_with at qs ≡ Some g → GivesFit g
+    panicked_fits at [] g all is = absurd (none_some is)
+    panicked_fits at (q ∷ []) g all is = subst GivesFit (same_some is) all.0
+    panicked_fits at (q ∷ r ∷ qs) g all is = absurd (none_some is)
 
-    binary_fits : (at : Pos) (op : BinOp) (a b : Option Operand) (g : Gives) → ((x : Operand) → a ≡ Some x → OperandFits x) → ((x : Operand) → b ≡ Some x → OperandFits x) → pair_gives at op a b ≡ Some g → GivesFit g
-    binary_fits at op a b g left right is =
-        let r = map_some one (both (combined at op) a b) g is in
-        let q = and_then_some (λ x. option_and_then (combined at op x) b) a r.0 r.1 in
-        let k = and_then_some (combined at op q.0) b r.0 q.2 in
-        subst GivesFit r.2 (pair_fits at op q.0 k.0 r.0 (left q.0 q.1) (right k.0 k.1) k.2)
+    -- the one argument of `exit` is an int
+    exited_fits : (at : Pos) (ts : List ValueType) (xs : List Ex) (g : Gives) → AreAccepted exit_places ts → ExsFit p scope (type_trees T ts) (each xs) → exited_with at xs ≡ Some g → GivesFit g
+    exited_fits at ts [] g all fit is = absurd (none_some is)
+    exited_fits at [] (x ∷ []) g all fit is = absurd all
+    exited_fits at (t ∷ []) (x ∷ []) g all fit is = subst GivesFit (same_some is) (as_number t x (sym all.0) fit.0)
+    exited_fits at (t ∷ u ∷ ts) (x ∷ []) g all fit is = absurd all.1
+    exited_fits at ts (x ∷ y ∷ xs) g all fit is = absurd (none_some is)
 
-    mutual
-      pub gives_fit : (e : TreeEx) (g : Gives) → gives text s e ≡ Some g → GivesFit g
-      gives_fit (number at n) g is = by (nat_lt n (2 ^ 127)) is
-        where
-          by : (b : Bool) → cond b (Some (one (constant (untyped (Number (pos n)))))) None ≡ Some g → GivesFit g
-          by true is1 = subst GivesFit (same_some is1) refl
-          by false is1 = absurd (none_some is1)
-      gives_fit (name n) g is = name_fits (declaration s (spelled text n)) g (λ site t h. variable_fits (spelled text n) site t h) (λ k h j. are_numbered (spelled text n) k h j) is
-      gives_fit (unary at op e) g is =
-          unary_fits op (has_rules op) (operand_in (gives text s e)) g (λ x h. operand_fits (gives text s e) x (maybe_fits (gives text s e) (λ k i. gives_fit e k i)) h) is
-      gives_fit (binary at op a b) g is =
-          binary_fits (first_place a) op (operand_in (gives text s a)) (operand_in (gives text s b)) g (λ x h. operand_fits (gives text s a) x (maybe_fits (gives text s a) (λ k i. gives_fit a k i)) h)
-          (λ x h. operand_fits (gives text s b) x (maybe_fits (gives text s b) (λ k i. gives_fit b k i)) h) is
-      gives_fit (paren at e) g is = gives_fit e g is
-      gives_fit (call f es spread) g is =
-          call_fits (first_place f) (spread_over spread (callee text s (name_in f) (gives text s f))) (seen text s es) g (spread_fits spread (callee text s (name_in f) (gives text s f)) (callee_fits (name_in f) (gives text s f))) (seen_fit es) is
-      gives_fit (string at behind) g is = subst GivesFit (same_some is) tt
-      gives_fit (selector e at n) g is = absurd (none_some is)
-      gives_fit (index e at i) g is = absurd (none_some is)
-      gives_fit (slice e at low high) g is = absurd (none_some is)
-      gives_fit (array_type at len e) g is = absurd (none_some is)
-      gives_fit (slice_type at e) g is = absurd (none_some is)
-      gives_fit (literal e es) g is = absurd (none_some is)
-      gives_fit (elements at es) g is = absurd (none_some is)
+    exit_fits : (at : Pos) (os : List Seen) (g : Gives) → AllFit os → option_and_then (exited_with at) (allowed (fits exit_places os) (values os)) ≡ Some g → GivesFit g
+    exit_fits at os g all is =
+        let r = and_then_some (exited_with at) (allowed (fits exit_places os) (values os)) g is in
+        let a = allowed_some (fits exit_places os) (values os) r.0 r.1 in
+        by (many os) refl r.0 a.0 a.1 r.2
+      where
+        by : (m : Option Many) → many os ≡ m → (xs : List Ex) → fits_with exit_places os m ≡ true → values os ≡ Some xs → exited_with at xs ≡ Some g → GivesFit g
+        by None found xs good list given =
+            let k = both_true (length os == length exit_places) (values_agree exit_places os) good in
+            let v = values_fit exit_places os xs all (eqb-true (length os) (length exit_places) k.0) k.1 list in
+            exited_fits at v.types xs g v.accepted v.fit given
+        by (Some m) found xs good list given = absurd (no_values os m found xs list)
+          where
+            no_values : (os1 : List Seen) (m1 : Many) → many os1 ≡ Some m1 → (xs1 : List Ex) → values os1 ≡ Some xs1 → ⊥
+            no_values [] m1 e xs1 f = none_some e
+            no_values (o ∷ []) m1 e xs1 f = none_some (sym (ap (λ (x : Option Operand). option_and_then (λ y. option_map (λ ys. y ∷ ys) (Some [])) (option_and_then as_value x)) (many_single o.gives m1 e)) ∙ f)
+            no_values (o ∷ q ∷ rest) m1 e xs1 f = none_some e
 
-      pub seen_fit : (es : TreeExs) → AllFit (seen text s es)
-      seen_fit tree.none = tt
-      seen_fit (some e es) = (maybe_fits (gives text s e) (λ h i. gives_fit e h i), seen_fit es)
+    call_fits : (at : Pos) (k : Callee) (os : List Seen) (g : Gives) → CalleeFits k → AllFit os → called_with at k os ≡ Some g → GivesFit g
+    call_fits at (printer line) os g k all is = let r = map_some (printed at line) (parts os) g is in subst GivesFit r.2 (parts_fit os r.0 all r.1)
+    call_fits at panicker os g k all is = let r = and_then_some (panicked_with at) (parts os) g is in panicked_fits at r.0 g (parts_fit os r.0 all r.1) r.2
+    call_fits at reader os g k all is = let a = allowed_some (fits [] os) (Some (asking at)) g is in subst GivesFit (same_some a.1) tt
+    call_fits at exiter os g k all is = exit_fits at os g all is
+    call_fits at (function f ps ts) os g k all is =
+        let r = map_some (called at ts f) (taken ps os) g is in
+        let t = taken_fits ps os r.0 all r.1 in
+        let same1 : k.1 ≡ t.types = asked_types k.1 t.types (subst (λ (l : List (Option ValueType)). AreAccepted l t.types) k.2 t.accepted) in
+        subst GivesFit r.2 (k.0, k.3, k.5, subst (λ (l : List TypeTree). ExsFit p scope l r.0) (ap (type_trees T) (sym same1) ∙ sym k.4) t.fit)
+    call_fits at conversion os g k all is = absurd (none_some is)
+    call_fits at no_function os g k all is = absurd (none_some is)
+    call_fits at no_spread os g k all is = absurd (none_some is)
+    call_fits at no_text_spread os g k all is = absurd (none_some is)
+    call_fits at nothing os g k all is = absurd (none_some is)
 
-    pub condition_fits : (e : TreeEx) (x : Ex) → condition text s e ≡ Some x → ExFits p scope bools x
-    condition_fits e x is =
-        let q = and_then_some as_condition (operand_in (gives text s e)) x is in
-        condition_value_fits q.0 x (operand_fits (gives text s e) q.0 (maybe_fits (gives text s e) (λ h i. gives_fit e h i)) q.1) q.2
+module _ (p : Program) (scope : List ℕ) (text : List ℕ) (s : Scope) (are_shown : AreShown s scope) (are_numbered : AreNumbered s) (held : AreHeld s.values) (agrees : Agrees s p) where
+  abbrev Fits : Gives → Type 0
+  Fits g = GivesFit s.types p scope g
 
-    pub test_fits : (o : Option TreeEx) (x : Option Ex) → test text s o ≡ Some x → OptionalFits x
-    test_fits None x is = subst OptionalFits (same_some is) tt
-    test_fits (Some e) x is = let r = map_some Some (condition text s e) x is in subst OptionalFits r.2 (condition_fits e r.0 r.1)
+  abbrev Operates : Operand → Type 0
+  Operates x = OperandFits s.types p scope x
+
+  variable_fits : (n : List ℕ) (site : SiteId) (t : ValueType) → declaration s n ≡ Some (declared.Variable site t) → PlFits p scope (type_tree s.types t) (typed.local site.0 typed.here)
+  variable_fits n site t is = let k = are_shown n site t is in (k.0, agrees.sites site.0 k.1.0 k.1.1 ∙ ap (tree_named s.types) k.1.2, solid s.types agrees.formed (type_number s.types t))
+
+  constant_fits_name : (o : Option Fixed) (g : Gives) → ((f : Fixed) → o ≡ Some f → is_held f.value_type f.value ≡ true) → option_map one (option_map constant o) ≡ Some g → Fits g
+  constant_fits_name None g known is = absurd (none_some is)
+  constant_fits_name (Some f) g known is = subst Fits (same_some is) (known f refl)
+
+  global_fits : (g k : ℕ) (o : Option Fixed) (x : Gives) → fixed s k ≡ o → slice_get s.globals g ≡ Some k → option_map one (option_map (global_read g) o) ≡ Some x → Fits x
+  global_fits g k None x known at is = absurd (none_some is)
+  global_fits g k (Some f) x known at is = subst Fits (same_some is) (agrees.globals g k f at known)
+
+  name_fits : (d : Option Declared) (g : Gives) → ((site : SiteId) (t : ValueType) → d ≡ Some (declared.Variable site t) → PlFits p scope (type_tree s.types t) (typed.local site.0 typed.here))
+      → ((k : ValueId) (h : GlobalId) → d ≡ Some (declared.Global k h) → slice_get s.globals h.0 ≡ Some k.0) → option_map one (name_operand s d) ≡ Some g → Fits g
+  name_fits None g has at is = absurd (none_some is)
+  name_fits (Some (declared.Variable site t)) g has at is = subst Fits (same_some is) (has site t refl)
+  name_fits (Some declared.Untyped) g has at is = absurd (none_some is)
+  name_fits (Some (declared.Constant k)) g has at is = constant_fits_name (fixed s k.0) g (λ f known. held k.0 f known) is
+  name_fits (Some (declared.Global k h)) g has at is = global_fits h.0 k.0 (fixed s k.0) g refl (at k h refl) is
+  name_fits (Some (declared.Function f)) g has at is = absurd (none_some is)
+  name_fits (Some (declared.External e place)) g has at is = absurd (none_some is)
+  name_fits (Some declared.TypeName) g has at is = absurd (none_some is)
+  name_fits (Some (declared.«Type» t)) g has at is = absurd (none_some is)
+  name_fits (Some (declared.Truth b)) g has at is = subst Fits (same_some is) refl
+  name_fits (Some (declared.Print line)) g has at is = absurd (none_some is)
+  name_fits (Some declared.Panic) g has at is = absurd (none_some is)
+  name_fits (Some declared.LeftOutType) g has at is = absurd (none_some is)
+  name_fits (Some declared.LeftOutValue) g has at is = absurd (none_some is)
+
+  callee_signed : (f : ℕ) (sig : Option Signature) → signature s f ≡ sig → CalleeFits s.types p scope (function_with f sig)
+  callee_signed f None is = tt
+  callee_signed f (Some sig) is = let k = agrees.functions f sig is in (k.0, sig.params, refl, k.1, k.2, k.3)
+
+  callee_value_fits : (o : Option Operand) → CalleeFits s.types p scope (callee_value o)
+  callee_value_fits None = tt
+  callee_value_fits (Some x) = tt
+
+  declared_fits : (d : Option Declared) → CalleeFits s.types p scope (callee_declared s d)
+  declared_fits None = tt
+  declared_fits (Some (declared.Variable site t)) = tt
+  declared_fits (Some declared.Untyped) = tt
+  declared_fits (Some (declared.Constant k)) = callee_value_fits (option_map constant (fixed s k.0))
+  declared_fits (Some (declared.Global k g)) = callee_value_fits (option_map (global_read g.0) (fixed s k.0))
+  declared_fits (Some (declared.Function f)) = callee_signed f.0 (signature s f.0) refl
+  declared_fits (Some (declared.External ReadInt at)) = tt
+  declared_fits (Some (declared.External Exit at)) = tt
+  declared_fits (Some declared.TypeName) = tt
+  declared_fits (Some (declared.«Type» t)) = tt
+  declared_fits (Some (declared.Truth b)) = tt
+  declared_fits (Some (declared.Print line)) = tt
+  declared_fits (Some declared.Panic) = tt
+  declared_fits (Some declared.LeftOutType) = tt
+  declared_fits (Some declared.LeftOutValue) = tt
+
+  callee_fits : (n : Option Name) (o : Option Gives) → CalleeFits s.types p scope (callee text s n o)
+  callee_fits None o = callee_value_fits (operand_in o)
+  callee_fits (Some n) o = declared_fits (declaration s (spelled text n))
+
+  spread_fits : (spread : Bool) (k : Callee) → CalleeFits s.types p scope k → CalleeFits s.types p scope (spread_over spread k)
+  spread_fits false k fits = fits
+  spread_fits true (printer line) fits = tt
+  spread_fits true panicker fits = tt
+  spread_fits true reader fits = tt
+  spread_fits true exiter fits = tt
+  spread_fits true (function f ps ts) fits = tt
+  spread_fits true conversion fits = tt
+  spread_fits true no_function fits = tt
+  spread_fits true no_spread fits = tt
+  spread_fits true no_text_spread fits = tt
+  spread_fits true nothing fits = tt
+
+  unary_fits : (op : UnOp) (taken1 : Bool) (a : Option Operand) (g : Gives) → ((x : Operand) → a ≡ Some x → Operates x) → prefix_gives op taken1 a ≡ Some g → Fits g
+  unary_fits op false a g fits is = absurd (none_some is)
+  unary_fits op true a g fits is =
+      let r = map_some one (option_and_then (prefixed op) a) g is in
+      let q = and_then_some (prefixed op) a r.0 r.1 in
+      subst Fits r.2 (prefix_fits s.types p scope agrees.formed op q.0 r.0 (fits q.0 q.1) q.2)
+
+  binary_fits : (at : Pos) (op : BinOp) (a b : Option Operand) (g : Gives) → ((x : Operand) → a ≡ Some x → Operates x) → ((x : Operand) → b ≡ Some x → Operates x) → pair_gives at op a b ≡ Some g → Fits g
+  binary_fits at op a b g left right is =
+      let r = map_some one (both (combined at op) a b) g is in
+      let q = and_then_some (λ x. option_and_then (combined at op x) b) a r.0 r.1 in
+      let k = and_then_some (combined at op q.0) b r.0 q.2 in
+      subst Fits r.2 (pair_fits s.types p scope agrees.formed at op q.0 k.0 r.0 (left q.0 q.1) (right k.0 k.1) k.2)
+
+  mutual
+    pub gives_fit : (e : TreeEx) (g : Gives) → gives text s e ≡ Some g → Fits g
+    gives_fit (number at n) g is = by (nat_lt n (2 ^ 127)) is
+      where
+        by : (b : Bool) → cond b (Some (one (constant (untyped (Number (pos n)))))) None ≡ Some g → Fits g
+        by true is1 = subst Fits (same_some is1) refl
+        by false is1 = absurd (none_some is1)
+    gives_fit (name n) g is = name_fits (declaration s (spelled text n)) g (λ site t h. variable_fits (spelled text n) site t h) (λ k h j. are_numbered (spelled text n) k h j) is
+    gives_fit (unary at op e) g is =
+        unary_fits op (has_rules op) (operand_in (gives text s e)) g (λ x h. operand_fits s.types p scope (gives text s e) x (maybe_fits s.types p scope (gives text s e) (λ k i. gives_fit e k i)) h) is
+    gives_fit (binary at op a b) g is =
+        binary_fits (first_place a) op (operand_in (gives text s a)) (operand_in (gives text s b)) g (λ x h. operand_fits s.types p scope (gives text s a) x (maybe_fits s.types p scope (gives text s a) (λ k i. gives_fit a k i)) h)
+        (λ x h. operand_fits s.types p scope (gives text s b) x (maybe_fits s.types p scope (gives text s b) (λ k i. gives_fit b k i)) h) is
+    gives_fit (paren at e) g is = gives_fit e g is
+    gives_fit (call f es spread) g is =
+        call_fits s.types p scope agrees.formed (first_place f) (spread_over spread (callee text s (name_in f) (gives text s f))) (seen text s es) g (spread_fits spread (callee text s (name_in f) (gives text s f)) (callee_fits (name_in f) (gives text s f))) (seen_fit es) is
+    gives_fit (string at behind) g is = subst Fits (same_some is) tt
+    gives_fit (selector e at n) g is = absurd (none_some is)
+    gives_fit (index e at i) g is = absurd (none_some is)
+    gives_fit (slice e at low high) g is = absurd (none_some is)
+    gives_fit (array_type at len e) g is = absurd (none_some is)
+    gives_fit (slice_type at e) g is = absurd (none_some is)
+    gives_fit (literal e es) g is = absurd (none_some is)
+    gives_fit (elements at es) g is = absurd (none_some is)
+
+    pub seen_fit : (es : TreeExs) → AllFit s.types p scope (seen text s es)
+    seen_fit tree.none = tt
+    seen_fit (some e es) = (maybe_fits s.types p scope (gives text s e) (λ h i. gives_fit e h i), seen_fit es)
+
+  pub condition_fits : (e : TreeEx) (x : Ex) → condition text s e ≡ Some x → ExFits p scope bools x
+  condition_fits e x is =
+      let q = and_then_some as_condition (operand_in (gives text s e)) x is in
+      condition_value_fits s.types p scope agrees.formed q.0 x (operand_fits s.types p scope (gives text s e) q.0 (maybe_fits s.types p scope (gives text s e) (λ h i. gives_fit e h i)) q.1) q.2
+
+  pub test_fits : (o : Option TreeEx) (x : Option Ex) → test text s o ≡ Some x → OptionalFits p scope x
+  test_fits None x is = subst (OptionalFits p scope) (same_some is) tt
+  test_fits (Some e) x is = let r = map_some Some (condition text s e) x is in subst (OptionalFits p scope) r.2 (condition_fits e r.0 r.1)

@@ -13,9 +13,10 @@ use Rattle.value_types.specs.declared.fault.FaultKind.TheVariants.{NotCallable, 
 use Rattle.value_types.specs.declared.constant.Constant.{Constant}
 use Rattle.value_types.specs.declared.constant.Constant.TheVariants.{Number, Truth}
 use Rattle.value_types.specs.declared.constant.Fixed.{Fixed}
-use Rattle.value_types.specs.declared.value_type.ValueType.{ValueType}
-use Rattle.value_types.specs.declared.value_type.ValueType.TheVariants.{Int, Bool as Boolean}
-use Rattle.value_types.specs.Constants.{untyped, same_type, constant_type}
+use Rattle.base.specs.declared.value_type.ValueType.{ValueType}
+use Rattle.base.specs.declared.value_type.ValueType.TheVariants.{Int, Bool as Boolean, Struct, Array}
+use Rattle.base.specs.Types.{same_type}
+use Rattle.value_types.specs.Constants.{untyped, constant_type}
 use Rattle.value_types.specs.Given.{allowed, both}
 use Rattle.value_types.specs.Faults.{fault, IsFault, FormFails}
 use Rattle.value_types.proofs.Decided.{Decided, further, same, mapped, after}
@@ -32,7 +33,7 @@ use Rattle.names.specs.Scope.{Scope, Signature, declaration, signature, fixed}
 use Rattle.names.specs.Naming.{name_in}
 use Rattle.names.proofs.Settled.{HasSignature, HasValue, IsTyped, IsSettled, declared_typed}
 use Rattle.expression_types.specs.Typing.{Gives, one, global_read, name_operand, prefix_gives, operand_in, Seen, parts, taken, Callee, printer, panicker, reader, exiter, function, conversion, no_function, no_spread, no_text_spread, nothing, function_with, callee_declared, callee_value, spread_over, called_with, as_condition, callee, gives, seen, condition, test}
-use Rattle.expression_types.specs.Faults.{WhereTaken, name_fault, callee_name_fault, single_fault, literal_fault, condition_fault, PartsFail, RangeFails, CallFails, CalleeFails, Fails, FailsInEach, FailsAsOperand, FailsInCondition, FailsInTest}
+use Rattle.expression_types.specs.Faults.{WhereTaken, name_fault, callee_name_fault, single_fault, literal_fault, condition_fault, PrintFails, CallFails, CalleeFails, Fails, FailsInEach, FailsAsOperand, FailsInCondition, FailsInTest}
 use Rattle.expression_types.proofs.Held.{operand_held}
 use Rattle.expression_types.proofs.DecidedValues.{operand_decided, given_all, take_decided, print_decided, panic_decided, read_decided, exit_decided, refused, parts_refused}
 
@@ -49,12 +50,16 @@ literal_decided at n = by (nat_lt n (2 ^ 127))
 condition_value_decided : (at : Pos) (x : Operand) → IsHeld x → Decided (as_condition x) (IsFault (condition_fault at (Some x)))
 condition_value_decided at (value Int x) held = (_, refl)
 condition_value_decided at (value Boolean x) held = λ f h. h
+condition_value_decided at (value (Struct k) x) held = (_, refl)
+condition_value_decided at (value (Array n e) x) held = (_, refl)
 condition_value_decided at (constant a) held = by (constant_type a.value_type a.value) a.value (held_type a.value_type a.value held)
   where
     by : (t : ValueType) (c : Constant) → t ≡ constant_type None c → Decided (allowed (same_type Boolean t) (constant_value c)) (IsFault (cond (same_type Boolean t) None (Some (fault BadOperand at))))
     by Int c same1 = (_, refl)
     by Boolean (Truth b) same1 = λ f h. h
     by Boolean (Number z) same1 = cc same1
+    by (Struct k) c same1 = (_, refl)
+    by (Array n e) c same1 = (_, refl)
 
 -- ---- names
 
@@ -66,7 +71,7 @@ global_name_decided : (g : ℕ) (o : Option Fixed) → HasValue o → Decided (o
 global_name_decided g None has = absurd has
 global_name_decided g (Some f) has = λ h k. k
 
-name_decided : (s : Scope) (d : Option Declared) (at : Pos) → ((x : Declared) → d ≡ Some x → IsTyped s.signatures s.values x) → Decided (option_map one (name_operand s d)) (IsFault (name_fault d at))
+name_decided : (s : Scope) (d : Option Declared) (at : Pos) → ((x : Declared) → d ≡ Some x → IsTyped s.types s.signatures s.values x) → Decided (option_map one (name_operand s d)) (IsFault (name_fault d at))
 name_decided s None at typed = (_, refl)
 name_decided s (Some (declared.Variable site t)) at typed = λ f h. h
 name_decided s (Some declared.Untyped) at typed = absurd (typed declared.Untyped refl)
@@ -91,7 +96,7 @@ global_held : (g : ℕ) (o : Option Fixed) (x : Operand) → option_map (global_
 global_held g None x is = absurd (none_some is)
 global_held g (Some f) x is = subst IsHeld (same_some is) tt
 
-name_held : (s : Scope) (d : Option Declared) (x : Operand) → ((y : Declared) → d ≡ Some y → IsTyped s.signatures s.values y) → name_operand s d ≡ Some x → IsHeld x
+name_held : (s : Scope) (d : Option Declared) (x : Operand) → ((y : Declared) → d ≡ Some y → IsTyped s.types s.signatures s.values y) → name_operand s d ≡ Some x → IsHeld x
 name_held s None x typed is = absurd (none_some is)
 name_held s (Some (declared.Variable site t)) x typed is = subst IsHeld (same_some is) tt
 name_held s (Some declared.Untyped) x typed is = absurd (none_some is)
@@ -138,7 +143,7 @@ callee_global_is : (g : ℕ) (o : Option Fixed) (C : Fault → Type 0) → HasVa
 callee_global_is g None C has none = absurd has
 callee_global_is g (Some f) C has none = none
 
-callee_declared_is : (s : Scope) (d : Option Declared) (at : Pos) → ((x : Declared) → d ≡ Some x → IsTyped s.signatures s.values x) → CalleeIs (callee_declared s d) (IsFault (callee_name_fault d at))
+callee_declared_is : (s : Scope) (d : Option Declared) (at : Pos) → ((x : Declared) → d ≡ Some x → IsTyped s.types s.signatures s.values x) → CalleeIs (callee_declared s d) (IsFault (callee_name_fault d at))
 callee_declared_is s None at typed = (_, refl)
 callee_declared_is s (Some (declared.Variable site t)) at typed = λ f h. h
 callee_declared_is s (Some declared.Untyped) at typed = absurd (typed declared.Untyped refl)
@@ -182,7 +187,7 @@ refused_call C E K f (inr h) = inr h
 
 call_decided : (at : Pos) (k : Callee) (os : List Seen) (C E : Fault → Type 0) → CalleeIs k C → Decided (given_all os) E → Decided (called_with at k os) (λ f. (C f ⊎ E f) ⊎ CallFails at k os f)
 call_decided at (printer line) os C E c e =
-    with_callee C E (CallFails at (printer line) os) (called_with at (printer line) os) c (mapped _ (parts os) (λ f. E f ⊎ (PartsFail os f ⊎ RangeFails os f)) (print_decided os E e))
+    with_callee C E (CallFails at (printer line) os) (called_with at (printer line) os) c (mapped _ (parts os) (λ f. E f ⊎ PrintFails at os f) (print_decided os E e at))
 call_decided at panicker os C E c e = with_callee C E (CallFails at panicker os) (called_with at panicker os) c (panic_decided os E e at (fault ArgCount at))
 call_decided at reader os C E c e = with_callee C E (CallFails at reader os) (called_with at reader os) c (read_decided os E e at (fault ArgCount at))
 call_decided at exiter os C E c e = with_callee C E (CallFails at exiter os) (called_with at exiter os) c (exit_decided os E e at (fault ArgCount at))

@@ -4,7 +4,7 @@
 -- A form that is left out of the profile fails at its first byte, and has no other rule of its own. The part that begins at the same byte
 -- keeps its rules, so that the fault with the least number stands there. What stands further right isn't looked at: the fault that is
 -- reported has the least offset.
-use Rattle.std.specs.Prelude.{ℕ, length, ◌^◌, ◌==◌, nat_lt, ◌⊎◌, Bool, true, false, take, List, [], ◌∷◌, Option, Some, None, if◌then◌else◌}
+use Rattle.std.specs.Prelude.{ℕ, length, ◌^◌, ◌==◌, nat_lt, ◌⊎◌, Bool, true, false, not, ◌&&◌, take, List, [], ◌∷◌, Option, Some, None, if◌then◌else◌}
 use Rattle.base.specs.declared.pos.Pos.{Pos}
 use Rattle.syntax.specs.declared.expression.Name.{Name}
 use Rattle.syntax.specs.FirstBytes.{first_place}
@@ -12,9 +12,9 @@ use Rattle.syntax.specs.Expressions.{Ex as TreeEx, Exs as TreeExs, number, strin
 use Rattle.syntax.specs.Expressions as tree
 use Rattle.value_types.specs.declared.fault.Fault.{Fault}
 use Rattle.value_types.specs.declared.fault.FaultKind.TheVariants.{Unknown, Mismatch, NotCallable, ArgCount, ResultCount, ConstRange, BadOperand, OutOfProfile}
-use Rattle.value_types.specs.declared.value_type.ValueType.{ValueType}
-use Rattle.value_types.specs.declared.value_type.ValueType.TheVariants.{Bool as Boolean}
-use Rattle.value_types.specs.Constants.{same_type}
+use Rattle.base.specs.declared.value_type.ValueType.{ValueType}
+use Rattle.base.specs.declared.value_type.ValueType.TheVariants.{Bool as Boolean}
+use Rattle.base.specs.Types.{same_type}
 use Rattle.value_types.specs.Faults.{fault, IsFault, FormFails, constant_range_fault}
 use Rattle.operators.specs.Operands.{Operand, constant, value, type_of}
 use Rattle.operators.specs.Operators.{has_rules}
@@ -24,7 +24,7 @@ use Rattle.names.specs.declared.scope.Declared.TheVariants as declared
 use Rattle.names.specs.Scope.{Scope, declaration}
 use Rattle.names.specs.Naming.{name_in}
 use Rattle.names.specs.Faults.{FailsAsType}
-use Rattle.expression_types.specs.Typing.{Gives, one, called, asking, quoted, printed, panicked, exited, operand_in, Seen, Many, many, count, part_count, types_agree, operand_agrees, Callee, printer, panicker, reader, exiter, function, conversion, no_function, no_spread, no_text_spread, nothing, exit_places, spread_over, callee, gives, seen, taken}
+use Rattle.expression_types.specs.Typing.{Gives, one, called, asking, quoted, printed, panicked, exited, operand_in, Seen, Many, many, count, are_parts, are_shown, part_count, types_agree, operand_agrees, Callee, printer, panicker, reader, exiter, function, conversion, no_function, no_spread, no_text_spread, nothing, exit_places, spread_over, callee, gives, seen, taken}
 
 -- where a form is taken, and where it is left out
 abbrev pub WhereTaken : Bool → (taken left_out : Fault → Type 0) → Fault → Type 0
@@ -154,9 +154,16 @@ abbrev pub refused_fault : Option ℕ → Fault → Option Fault
 refused_fault None own = None
 refused_fault (Some n) own = Some own
 
+-- a value of a type that isn't shown, where all may be operands of `print`, `println` or `panic`
+abbrev pub shown_fault : List Seen → Fault → Option Fault
+shown_fault os own = if are_parts os && not (are_shown os) then Some own else None
+
+abbrev pub PrintFails : Pos → List Seen → Fault → Type 0
+PrintFails at os f = (PartsFail os f ⊎ RangeFails os f) ⊎ IsFault (shown_fault os (fault BadOperand at)) f
+
 abbrev pub CallFails : Pos → Callee → List Seen → Fault → Type 0
-CallFails at (printer line) os f = PartsFail os f ⊎ RangeFails os f
-CallFails at panicker os f = (PartsFail os f ⊎ RangeFails os f) ⊎ CountFails (part_count os) 1 (fault ArgCount at) f
+CallFails at (printer line) os f = PrintFails at os f
+CallFails at panicker os f = PrintFails at os f ⊎ CountFails (part_count os) 1 (fault ArgCount at) f
 CallFails at reader os f = TakeFails (fault ArgCount at) [] os f
 CallFails at exiter os f = TakeFails (fault ArgCount at) exit_places os f
 CallFails at (function g ps ts) os f = TakeFails (fault ArgCount at) ps os f

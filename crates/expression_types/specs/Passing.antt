@@ -1,5 +1,5 @@
 -- What lies in memory as abstract syntax, and what the checker's pass works out of what it knows of the parts.
-use Rattle.std.specs.Prelude.{ℕ, ◌^◌, pos, List, [], ◌∷◌, ◌++◌, map, nat_lt, Option, Some, None, if◌then◌else◌}
+use Rattle.std.specs.Prelude.{ℕ, ◌^◌, pos, List, map, nat_lt, Option, Some, None, if◌then◌else◌}
 use Rattle.std.specs.Option.{option_map}
 use Rattle.typed.specs.Syntax.{Exs}
 use Rattle.typed.specs.View.{type_of, ex_of, exs_of_values}
@@ -14,7 +14,7 @@ use Rattle.expression_types.specs.declared.gives.Gives.TheVariants.{One, Called,
 use Rattle.expression_types.specs.declared.gives.Item.{Item}
 use Rattle.expression_types.specs.declared.gives.Callee.{Callee as CalleeData}
 use Rattle.expression_types.specs.declared.gives.Callee.TheVariants.{Printer, Panicker, Reader, Exiter, Function, Conversion, NoFunction, NoSpread, NoTextSpread, Nothing}
-use Rattle.expression_types.specs.Typing.{Part, said, valued, Gives, one, called, asking, quoted, printed, panicked, exited, Seen, Many, Callee, printer, panicker, reader, exiter, function, conversion, no_function, no_spread, no_text_spread, nothing, values, gives}
+use Rattle.expression_types.specs.Typing.{Part, said, valued, Gives, one, called, asking, quoted, printed, panicked, exited, Seen, Many, Callee, printer, panicker, reader, exiter, function, conversion, no_function, no_spread, no_text_spread, nothing, values}
 
 abbrev pub part_view : PartData → Part
 part_view (Said bytes) = said bytes.items

@@ -11,21 +11,22 @@ use Rattle.syntax.specs.Expressions as tree
 use Rattle.syntax.specs.Statements.{Clause, forever, while_true, counting, ranging}
 use Rattle.typed.specs.Syntax.{Ex, Exs, read, local, global, here, none, more, results, asked as items}
 use Rattle.typed.specs.Syntax as typed
-use Rattle.value_trees.specs.Types.{ValueType as TypeTree}
+use Rattle.value_trees.specs.Types.{ValueType as TypeTree, ints, bools}
 use Rattle.value_types.specs.declared.constant.Constant.TheVariants.{Number, Truth}
 use Rattle.value_types.specs.declared.constant.Fixed.{Fixed}
-use Rattle.value_types.specs.declared.value_type.ValueType.{ValueType}
+use Rattle.base.specs.declared.value_type.ValueType.{ValueType}
 use Rattle.string_value.specs.StringValue.{string_value}
-use Rattle.value_types.specs.declared.value_type.ValueType.TheVariants.{Int, Bool as Boolean}
+use Rattle.base.specs.declared.value_type.ValueType.TheVariants.{Int, Bool as Boolean}
 use Rattle.value_types.specs.Given.{allowed, both}
-use Rattle.value_types.specs.Constants.{same_type, constant_type, untyped}
+use Rattle.base.specs.Types.{same_type}
+use Rattle.value_types.specs.Constants.{constant_type, untyped}
 use Rattle.operators.specs.Operands.{Operand, constant, value, type_of, as_value}
 use Rattle.operators.specs.Operators.{has_rules, prefixed, combined}
 use Rattle.names.specs.declared.scope.Declared.{Declared}
 use Rattle.names.specs.declared.scope.Declared.TheVariants as declared
 use Rattle.names.specs.declared.scope.External.{External as ExternalFunction}
 use Rattle.names.specs.declared.scope.External.TheVariants as external
-use Rattle.names.specs.Scope.{type_tree, Scope, Signature, declaration, signature, fixed}
+use Rattle.names.specs.Scope.{Scope, Signature, declaration, signature, fixed}
 use Rattle.names.specs.Naming.{name_in, between}
 
 -- an operand of `print`, `println` or `panic`: the bytes of a string, or a value and its type
@@ -106,9 +107,18 @@ operand_in o = option_and_then single o
 abbrev pub value_in : Option Gives → Option Ex
 value_in o = option_and_then as_value (operand_in o)
 
+abbrev pub type_in_one : Option Gives → Option ValueType
+type_in_one o = option_map type_of (operand_in o)
+
+-- the types whose values `print`, `println` and `panic` show
+abbrev pub shown_type : ValueType → Option TypeTree
+shown_type Int = Some ints
+shown_type Boolean = Some bools
+shown_type other = None
+
 -- an operand of `print`, `println` or `panic`
 abbrev pub as_part : Operand → Option Part
-as_part x = option_map (valued (type_tree (type_of x))) (as_value x)
+as_part x = option_and_then (λ t. option_map (valued t) (as_value x)) (shown_type (type_of x))
 
 abbrev pub part_of : Gives → Option Part
 part_of (quoted at bytes) = Some (said bytes)
@@ -157,6 +167,15 @@ are_parts (o ∷ os) = is_part o.gives && are_parts os
 abbrev pub part_count : List Seen → Option ℕ
 part_count os = if are_parts os then Some (length os) else None
 
+-- whether each that has one value is of a type whose values are shown
+abbrev pub is_shown : Option ValueType → Bool
+is_shown None = true
+is_shown (Some t) = is_some (shown_type t)
+
+abbrev pub are_shown : List Seen → Bool
+are_shown [] = true
+are_shown (o ∷ os) = is_shown (type_in_one o.gives) && are_shown os
+
 -- a call that stands alone may give more than one value: its place, their types, and the values
 pub record Many : Type 0 where
   pub at : Pos
@@ -187,9 +206,6 @@ abbrev pub count : List Seen → Option ℕ
 count os = count_of os (many os)
 
 -- their types, where all give some
-abbrev pub type_in_one : Option Gives → Option ValueType
-type_in_one o = option_map type_of (operand_in o)
-
 abbrev pub single_types : List Seen → Option (List ValueType)
 single_types os = listed type_in_one os
 

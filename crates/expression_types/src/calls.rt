@@ -11,22 +11,22 @@ ghost use Rattle.operators.specs.Passing.{operand_of};
 ghost use Rattle.names.specs.Scope.{scope_of, declaration, signature};
 ghost use Rattle.names.specs.Naming.{name_in};
 ghost use Rattle.expression_types.specs.Typing.{global_read, operand_in, function_with, callee_declared, callee_value, spread_over, many, count, part_count, exit_places, panicked_with, exited_with, called_with};
-ghost use Rattle.expression_types.specs.Faults.{PartsFail, ValuesFail, RangeFails, TakeFails, CallFails, callee_name_fault, refused_fault};
+ghost use Rattle.expression_types.specs.Faults.{ValuesFail, PrintFails, TakeFails, CallFails, callee_name_fault, refused_fault};
 ghost use Rattle.expression_types.specs.Passing.{part_view, gives_of, seens, callee_of};
 ghost use Rattle.typed.specs.View.{ex_of};
 
 use crate::gives::{Callee, Gives, Item, Part};
 use crate::values::{
-    asked, count, count_fault, fits, part_count, parts, parts_fault, range_faults, take_fault,
-    taken, values, values_fault,
+    asked, count, count_fault, fits, part_count, parts, parts_fault, range_faults, shown_fault,
+    take_fault, taken, values, values_fault,
 };
-use base::{FuncId, NoMemory, Pos};
+use base::{FuncId, NoMemory, Pos, ValueType};
 use names::{Declared, External, Scope, declaration, fixed, spelled};
 use operators::Operand;
 use std::alloc::Global;
 use syntax::Name;
 use typed::Expr as Value;
-use value_types::{Fault, FaultKind, Fixed, ValueType, lesser};
+use value_types::{Fault, FaultKind, Fixed, lesser};
 
 /// A function as what is called, where it has a signature.
 fn callee_function(alloc: Global, scope: &Scope, function: FuncId) -> Result<Callee, NoMemory>
@@ -165,10 +165,15 @@ fn spread_fault(pos: Pos, arguments: &[Item]) -> Option<Fault>
 }
 
 /// The fault of operands of `print`, `println` or `panic`.
-fn print_fault(arguments: &[Item]) -> Option<Fault>
-    ensures { IsLeast (λ f. PartsFail (seens arguments.now) f ⊎ RangeFails (seens arguments.now) f) result }
+fn print_fault(pos: Pos, arguments: &[Item]) -> Option<Fault>
+    ensures { IsLeast (PrintFails pos (seens arguments.now)) result }
 {
-    lesser(parts_fault(arguments), range_faults(arguments))
+    let own = Fault {
+        kind: FaultKind::BadOperand,
+        pos,
+    };
+    let operands = lesser(parts_fault(arguments), range_faults(arguments));
+    lesser(operands, shown_fault(arguments, own))
 }
 
 /// The fault of a `panic`, which has one operand.
@@ -180,7 +185,7 @@ fn panic_fault(pos: Pos, arguments: &[Item]) -> Option<Fault>
         pos,
     };
     lesser(
-        print_fault(arguments),
+        print_fault(pos, arguments),
         count_fault(part_count(arguments), 1, own),
     )
 }
@@ -214,7 +219,7 @@ pub fn call_fault(pos: Pos, callee: &Callee, arguments: &[Item]) -> Option<Fault
     ensures { IsLeast (CallFails pos (callee_of callee.now) (seens arguments.now)) result }
 {
     match callee {
-        Callee::Printer(_) => print_fault(arguments),
+        Callee::Printer(_) => print_fault(pos, arguments),
         Callee::Panicker => panic_fault(pos, arguments),
         Callee::Reader => places_fault(pos, &[], arguments),
         Callee::Exiter => places_fault(pos, &EXIT_PLACES, arguments),

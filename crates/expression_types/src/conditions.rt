@@ -12,13 +12,13 @@ ghost use Rattle.expression_types.specs.Typing.{as_condition, condition_in, cond
 ghost use Rattle.expression_types.specs.Faults.{condition_fault, FailsInCondition, FailsInTest};
 
 use crate::expressions::check_single;
-use base::{NoMemory, Pos};
+use base::{NoMemory, Pos, ValueType, same_type};
 use names::Scope;
 use operators::{Operand, as_value, type_of};
 use std::alloc::Global;
 use syntax::{Clause, Expr as TreeExpr};
 use typed::Expr;
-use value_types::{Fault, FaultKind, ValueType, lesser, same_type};
+use value_types::{Fault, FaultKind, lesser};
 
 /// What is known of a condition: its typed form, and the fault that is reported.
 #[derive(Drop)]

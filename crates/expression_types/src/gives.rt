@@ -4,15 +4,15 @@ ghost use Rattle.std.specs.Prelude.{◌≡◌, is_some};
 ghost use Rattle.std.specs.Option.{option_map};
 ghost use Rattle.operators.specs.Operands.{type_of};
 ghost use Rattle.operators.specs.Passing.{operand_of};
-ghost use Rattle.expression_types.specs.Typing.{as_part, operand_in, part_in, is_part};
+ghost use Rattle.typed.specs.View.{type_of as tree_of};
+ghost use Rattle.expression_types.specs.Typing.{shown_type, as_part, operand_in, type_in_one, part_in, is_part, is_shown};
 ghost use Rattle.expression_types.specs.Faults.{range_fault, single_fault, part_fault};
 ghost use Rattle.expression_types.specs.Passing.{part_view, gives_of};
 
-use base::{FuncId, Pos, TypeId};
-use names::type_id;
+use base::{FuncId, Pos, TypeId, ValueType};
 use operators::{Operand, as_value, type_of};
-use typed::{Expr, Values};
-use value_types::{Fault, FaultKind, ValueType, constant_range_fault};
+use typed::{BOOL, Expr, INT, Values};
+use value_types::{Fault, FaultKind, constant_range_fault};
 
 /// An operand of `print`, `println` or `panic`.
 #[derive(Drop)]
@@ -73,14 +73,25 @@ pub enum Callee {
     Nothing,
 }
 
+/// The number of a type whose values `print`, `println` and `panic` show.
+fn shown_type(value_type: ValueType) -> Option<TypeId>
+    ensures { option_map (λ t. tree_of t.0) result ≡ shown_type value_type }
+{
+    match value_type {
+        ValueType::Int => Some(INT),
+        ValueType::Bool => Some(BOOL),
+        _ => None,
+    }
+}
+
 /// An operand as one of `print`, `println` or `panic`.
 fn as_part(operand: Operand) -> Option<Part>
     ensures { option_map part_view result ≡ as_part (operand_of operand) }
 {
-    let operand_type = type_id(type_of(&operand));
-    match as_value(operand) {
-        Some(value) => Some(Part::Valued(operand_type, value)),
-        None => None,
+    let operand_type = shown_type(type_of(&operand));
+    match (operand_type, as_value(operand)) {
+        (Some(operand_type), Some(value)) => Some(Part::Valued(operand_type, value)),
+        _ => None,
     }
 }
 
@@ -139,6 +150,16 @@ pub fn is_part(gives: &Option<Gives>) -> bool
     match gives {
         Some(Gives::Quoted(_, _)) => true,
         gives => is_single(gives),
+    }
+}
+
+/// Whether the one value of an expression, where it has one, is of a type whose values are shown.
+pub fn is_shown(gives: &Option<Gives>) -> bool
+    ensures { result ≡ is_shown (type_in_one (option_map gives_of gives.now)) }
+{
+    match one_type(gives) {
+        Some(value_type) => shown_type(value_type).is_some(),
+        None => true,
     }
 }
 

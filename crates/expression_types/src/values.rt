@@ -5,20 +5,20 @@ ghost use Rattle.std.specs.Option.{option_map};
 ghost use Rattle.typed.specs.View.{ex_of, exs_of_values};
 ghost use Rattle.value_types.specs.Least.{IsLeast};
 ghost use Rattle.value_types.specs.Faults.{fault as fault_at};
-ghost use Rattle.expression_types.specs.Typing.{values, parts, are_single, are_parts, part_count, single_types, many_in, many, count, value_types, accepts, types_agree, operand_agrees, each, asked, fits, all_values, taken, taken_types};
-ghost use Rattle.expression_types.specs.Faults.{type_fault, SinglesFail, PartsFail, ValuesFail, RangeFails, TypesFail, MismatchFails, PlacedFail, TakeFails, count_fault};
+ghost use Rattle.expression_types.specs.Typing.{values, parts, are_single, are_parts, are_shown, part_count, single_types, many_in, many, count, value_types, accepts, types_agree, operand_agrees, each, asked, fits, all_values, taken, taken_types};
+ghost use Rattle.expression_types.specs.Faults.{type_fault, SinglesFail, PartsFail, ValuesFail, RangeFails, TypesFail, MismatchFails, PlacedFail, TakeFails, count_fault, shown_fault};
 ghost use Rattle.value_types.specs.Given.{with_last};
 ghost use Rattle.expression_types.specs.Passing.{part_view, gives_of, seens, results_of};
 
 use crate::gives::{
-    Gives, Item, Part, is_part, is_single, one_operand, one_type, part_fault, part_in, range_fault,
-    single_fault,
+    Gives, Item, Part, is_part, is_shown, is_single, one_operand, one_type, part_fault, part_in,
+    range_fault, single_fault,
 };
-use base::{NoMemory, Pos};
+use base::{NoMemory, Pos, ValueType, same_type};
 use operators::value_of;
 use std::alloc::Global;
 use typed::{Expr, Values};
-use value_types::{Fault, FaultKind, ValueType, lesser, same_type};
+use value_types::{Fault, FaultKind, lesser};
 
 /// The fault of expressions each of which is to have one value.
 pub fn singles_fault(items: &[Item]) -> Option<Fault>
@@ -123,6 +123,28 @@ pub fn part_count(items: &[Item]) -> Option<usize>
 {
     if are_parts(items) {
         Some(items.len())
+    } else {
+        None
+    }
+}
+
+/// Whether each that has one value is of a type whose values are shown.
+fn are_shown(items: &[Item]) -> bool
+    ensures { result ≡ are_shown (seens items.now) }
+{
+    let mut all = true;
+    for item in items {
+        all = all && is_shown(&item.gives);
+    }
+    all
+}
+
+/// The fault of a value of a type that is not shown, where all may be operands of `print`, `println` or `panic`.
+pub fn shown_fault(items: &[Item], own: Fault) -> Option<Fault>
+    ensures { result ≡ shown_fault (seens items.now) own }
+{
+    if are_parts(items) && !are_shown(items) {
+        Some(own)
     } else {
         None
     }

@@ -12,8 +12,6 @@ mod fault;
 mod layout;
 mod outgoing;
 mod temps;
-#[cfg(test)]
-mod tests;
 mod words;
 
 pub use fault::LayoutFault;

@@ -10,6 +10,3 @@ mod heap;
 
 pub use fault::HeapFault;
 pub use heap::{HEAP_LOW, Heap};
-
-#[cfg(test)]
-mod tests;

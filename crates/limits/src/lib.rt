@@ -5,6 +5,3 @@
 mod limits;
 
 pub use limits::{LimitFault, Limits};
-
-#[cfg(test)]
-mod tests;

@@ -1,5 +1,5 @@
 pub mod Tables
 pub mod LastInsert
+pub mod Trees
 pub mod Settled
 pub mod Places
-pub mod Trees

@@ -9,8 +9,11 @@ use Rattle.syntax.specs.FirstBytes.{first_place}
 use Rattle.syntax.specs.Expressions.{Ex as TreeEx, name, paren, spelled}
 use Rattle.value_types.specs.declared.fault.FaultKind.TheVariants.{OutOfProfile}
 use Rattle.value_types.specs.declared.constant.Fixed.{Fixed}
-use Rattle.value_types.specs.declared.value_type.ValueType.{ValueType}
-use Rattle.value_types.specs.declared.value_type.ValueType.TheVariants.{Int, Bool as Boolean}
+use Rattle.base.specs.declared.value_type.ValueType.{ValueType}
+use Rattle.base.specs.declared.value_type.ValueType.TheVariants.{Int, Bool as Boolean}
+use Rattle.typed.specs.Tables.{Table}
+use Rattle.typed.specs.Formed.{IsFormed}
+use Rattle.value_types.specs.Given.{allowed}
 use Rattle.value_types.specs.Constants.{is_held}
 use Rattle.value_types.specs.Faults.{fault, IsFault}
 use Rattle.value_types.proofs.Decided.{Decided}
@@ -20,7 +23,8 @@ use Rattle.names.specs.declared.scope.Declared.{Declared}
 use Rattle.names.specs.declared.scope.Declared.TheVariants as declared
 use Rattle.names.specs.Universe.{is_type_name, is_value_name, left_out, predeclared_function, predeclared}
 use Rattle.names.specs.Scope.{Scope, Signature, numbered, declaration}
-use Rattle.names.specs.Types.{declared_type, type_in}
+use Rattle.names.specs.Types.{is_known, declared_type, type_in}
+use Rattle.names.proofs.Trees.{int_known, bool_known}
 use Rattle.names.specs.Faults.{type_name_fault, FailsAsType}
 
 abbrev pub HasSignature : Option Signature → Type 0
@@ -32,24 +36,25 @@ abbrev pub HasValue : Option Fixed → Type 0
 HasValue None = ⊥
 HasValue (Some f) = is_held f.value_type f.value ≡ true
 
--- a variable with a type, a constant or package variable of which something is known, a function with a signature, or what needs none; types of a program are left out
-abbrev pub IsTyped : List (Option Signature) → List (Option Fixed) → Declared → Type 0
-IsTyped sigs values (declared.Variable site t) = ⊤
-IsTyped sigs values declared.Untyped = ⊥
-IsTyped sigs values (declared.Constant k) = HasValue (option_and_then (λ o. o) (slice_get values k.0))
-IsTyped sigs values (declared.Global k g) = HasValue (option_and_then (λ o. o) (slice_get values k.0))
-IsTyped sigs values (declared.Function f) = HasSignature (option_and_then (λ o. o) (slice_get sigs f.0))
-IsTyped sigs values (declared.External e at) = ⊤
-IsTyped sigs values declared.TypeName = ⊥
-IsTyped sigs values (declared.«Type» t) = ⊤
-IsTyped sigs values (declared.Truth b) = ⊤
-IsTyped sigs values (declared.Print line) = ⊤
-IsTyped sigs values declared.Panic = ⊤
-IsTyped sigs values declared.LeftOutType = ⊤
-IsTyped sigs values declared.LeftOutValue = ⊤
+-- a variable with a type, a constant or package variable of which something is known, a function with a signature, or what needs none; a type is known
+abbrev pub IsTyped : Table → List (Option Signature) → List (Option Fixed) → Declared → Type 0
+IsTyped T sigs values (declared.Variable site t) = ⊤
+IsTyped T sigs values declared.Untyped = ⊥
+IsTyped T sigs values (declared.Constant k) = HasValue (option_and_then (λ o. o) (slice_get values k.0))
+IsTyped T sigs values (declared.Global k g) = HasValue (option_and_then (λ o. o) (slice_get values k.0))
+IsTyped T sigs values (declared.Function f) = HasSignature (option_and_then (λ o. o) (slice_get sigs f.0))
+IsTyped T sigs values (declared.External e at) = ⊤
+IsTyped T sigs values declared.TypeName = ⊥
+IsTyped T sigs values (declared.«Type» t) = is_known T t ≡ true
+IsTyped T sigs values (declared.Truth b) = ⊤
+IsTyped T sigs values (declared.Print line) = ⊤
+IsTyped T sigs values declared.Panic = ⊤
+IsTyped T sigs values declared.LeftOutType = ⊤
+IsTyped T sigs values declared.LeftOutValue = ⊤
 
 pub record IsSettled (s : Scope) : Type 0 where
-  pub all : AllByRecursion (IsTyped s.signatures s.values) s.declared
+  pub all : AllByRecursion (IsTyped s.types s.signatures s.values) s.declared
+  pub formed : IsFormed s.types
 
 element : (P : Declared → Type 0) (ds : List Declared) (k : ℕ) (d : Declared) → AllByRecursion P ds → slice_get ds k ≡ Some d → P d
 element P [] k d all is = cc is
@@ -63,7 +68,7 @@ by_test : (P : Declared → Type 0) (b : Bool) (e : Declared) (o : Option Declar
 by_test P true e o here further1 d is = subst P (same_some is) here
 by_test P false e o here further1 d is = further1 d is
 
-module _ (P : Declared → Type 0) (type_is : (t : ValueType) → P (declared.«Type» t)) (truth_is : (b : Bool) → P (declared.Truth b)) (print_is : (line : Bool) → P (declared.Print line)) (panic_is : P declared.Panic) (left_type_is : P declared.LeftOutType) (left_value_is : P declared.LeftOutValue) where
+module _ (P : Declared → Type 0) (int_is : P (declared.«Type» Int)) (bool_is : P (declared.«Type» Boolean)) (truth_is : (b : Bool) → P (declared.Truth b)) (print_is : (line : Bool) → P (declared.Print line)) (panic_is : P declared.Panic) (left_type_is : P declared.LeftOutType) (left_value_is : P declared.LeftOutValue) where
   left_out_is : (n : List ℕ) (d : Declared) → left_out n ≡ Some d → P d
   left_out_is n = by_test P (is_type_name n) declared.LeftOutType _ left_type_is (by_test P (is_value_name n) declared.LeftOutValue None left_value_is (λ d is. absurd (none_some is)))
 
@@ -76,21 +81,25 @@ module _ (P : Declared → Type 0) (type_is : (t : ValueType) → P (declared.«
   pub predeclared_is : (n : List ℕ) (d : Declared) → predeclared n ≡ Some d → P d
   unfolding predeclared
   predeclared_is n =
-      by_test P (bytes_eq n (codes "int")) (declared.«Type» Int) _ (type_is Int)
-      (by_test P (bytes_eq n (codes "bool")) (declared.«Type» Boolean) _ (type_is Boolean)
+      by_test P (bytes_eq n (codes "int")) (declared.«Type» Int) _ int_is
+      (by_test P (bytes_eq n (codes "bool")) (declared.«Type» Boolean) _ bool_is
       (by_test P (bytes_eq n (codes "true")) (declared.Truth true) _ (truth_is true) (by_test P (bytes_eq n (codes "false")) (declared.Truth false) _ (truth_is false) (function_is n))))
 
-predeclared_typed : (sigs : List (Option Signature)) (values : List (Option Fixed)) (n : List ℕ) (d : Declared) → predeclared n ≡ Some d → IsTyped sigs values d
-predeclared_typed sigs values n d is = predeclared_is (IsTyped sigs values) (λ t. tt) (λ b. tt) (λ line. tt) tt tt tt n d is
+predeclared_typed : (T : Table) → IsFormed T → (sigs : List (Option Signature)) (values : List (Option Fixed)) (n : List ℕ) (d : Declared) → predeclared n ≡ Some d → IsTyped T sigs values d
+predeclared_typed T formed sigs values n d is = predeclared_is (IsTyped T sigs values) (int_known T formed) (bool_known T formed) (λ b. tt) (λ line. tt) tt tt tt n d is
 
-numbered_typed : (s : Scope) → IsSettled s → (n : List ℕ) (o : Option ℕ) (d : Declared) → numbered s n o ≡ Some d → IsTyped s.signatures s.values d
-numbered_typed s settled n None d is = predeclared_typed s.signatures s.values n d is
-numbered_typed s settled n (Some k) d is = element (IsTyped s.signatures s.values) s.declared k d settled.all is
+numbered_typed : (s : Scope) → IsSettled s → (n : List ℕ) (o : Option ℕ) (d : Declared) → numbered s n o ≡ Some d → IsTyped s.types s.signatures s.values d
+numbered_typed s settled n None d is = predeclared_typed s.types settled.formed s.signatures s.values n d is
+numbered_typed s settled n (Some k) d is = element (IsTyped s.types s.signatures s.values) s.declared k d settled.all is
 
-pub declared_typed : (s : Scope) → IsSettled s → (n : List ℕ) (d : Declared) → declaration s n ≡ Some d → IsTyped s.signatures s.values d
+pub declared_typed : (s : Scope) → IsSettled s → (n : List ℕ) (d : Declared) → declaration s n ≡ Some d → IsTyped s.types s.signatures s.values d
 declared_typed s settled n d is = numbered_typed s settled n (lookup s.blocks n) d is
 
-type_name_decided : (s : Scope) (d : Option Declared) (at : Pos) → ((x : Declared) → d ≡ Some x → IsTyped s.signatures s.values x) → Decided (declared_type d) (IsFault (type_name_fault d at))
+known_decided : (t : ValueType) (b : Bool) → b ≡ true → Decided (allowed b (Some t)) (IsFault None)
+known_decided t true is = λ f h. h
+known_decided t false is = cc is
+
+type_name_decided : (s : Scope) (d : Option Declared) (at : Pos) → ((x : Declared) → d ≡ Some x → IsTyped s.types s.signatures s.values x) → Decided (declared_type s.types d) (IsFault (type_name_fault d at))
 type_name_decided s None at typed = (_, refl)
 type_name_decided s (Some (declared.Variable site t)) at typed = (_, refl)
 type_name_decided s (Some declared.Untyped) at typed = (_, refl)
@@ -99,7 +108,7 @@ type_name_decided s (Some (declared.Global k g)) at typed = (_, refl)
 type_name_decided s (Some (declared.Function g)) at typed = (_, refl)
 type_name_decided s (Some (declared.External e place)) at typed = (_, refl)
 type_name_decided s (Some declared.TypeName) at typed = absurd (typed declared.TypeName refl)
-type_name_decided s (Some (declared.«Type» t)) at typed = λ f h. h
+type_name_decided s (Some (declared.«Type» t)) at typed = known_decided t (is_known s.types t) (typed (declared.«Type» t) refl)
 type_name_decided s (Some (declared.Truth b)) at typed = (_, refl)
 type_name_decided s (Some (declared.Print line)) at typed = (_, refl)
 type_name_decided s (Some declared.Panic) at typed = (_, refl)

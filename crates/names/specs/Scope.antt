@@ -1,11 +1,13 @@
 -- What the names of a program stand for, at a place of it (Go specification, "Declarations and scope").
 use Rattle.std.specs.Prelude.{ℕ, Bool, List, map, [], ◌∷◌, ◌++◌, length, slice_get, slice_set, Option, Some, None, option_and_then, is_some}
-use Rattle.std.specs.Option.{option_map}
+use Rattle.std.specs.Option.{option_map, unwrap_or}
 use Rattle.base.specs.declared.pos.Pos.{Pos}
 use Rattle.typed.specs.declared.program.Site.{Site}
-use Rattle.value_trees.specs.Types.{ValueType as TypeTree, ints, bools}
-use Rattle.value_types.specs.declared.value_type.ValueType.{ValueType}
-use Rattle.value_types.specs.declared.value_type.ValueType.TheVariants.{Int, Bool as Truth}
+use Rattle.value_trees.specs.Types.{ValueType as TypeTree}
+use Rattle.base.specs.declared.value_type.ValueType.{ValueType}
+use Rattle.base.specs.declared.value_type.ValueType.TheVariants.{Int, Bool as Truth}
+use Rattle.typed.specs.Tables.{Table, number_of}
+use Rattle.typed.specs.Trees.{tree_named}
 use Rattle.value_types.specs.declared.constant.Fixed.{Fixed}
 use Rattle.names.specs.Blocks.{Blocks, lookup, innermost, insert}
 use Rattle.names.specs.declared.scope.Signature.{Signature as SignatureData}
@@ -14,18 +16,20 @@ use Rattle.names.specs.declared.scope.Declared.TheVariants.{Variable, Untyped}
 use Rattle.names.specs.declared.scope.Scope.{Scope as ScopeData}
 use Rattle.names.specs.Universe.{predeclared}
 
--- the number of a type in a typed program
-abbrev pub type_number : ValueType → ℕ
-type_number Int = 0
-type_number Truth = 1
+-- the number of a type in a typed program with this table
+abbrev pub type_number : Table → ValueType → ℕ
+type_number T t = unwrap_or (number_of T t) 0
 
 -- a type as those of values are given
-abbrev pub type_tree : ValueType → TypeTree
-type_tree Int = ints
-type_tree Truth = bools
+abbrev pub type_tree : Table → ValueType → TypeTree
+type_tree T t = tree_named T (type_number T t)
 
-abbrev pub type_trees : List ValueType → List TypeTree
-type_trees ts = map type_tree ts
+abbrev pub type_trees : Table → List ValueType → List TypeTree
+type_trees T ts = map (type_tree T) ts
+
+-- the table of the basic types
+abbrev pub basic_table : Table
+basic_table = record { types = Int ∷ Truth ∷ []; structs = [] }
 
 -- the types of a function's parameters and of its results
 pub record Signature : Type 0 where
@@ -37,8 +41,8 @@ signature_of s = record { params = s.params.items; results = s.results.items }
 
 -- the blocks that are open, which number the declarations; the declarations; the sites of the variables with a type; the signatures of the
 -- functions, where they have one; what is known of the constants and the package variables, which are numbered together: the value of a
--- constant, and of a variable the zero value of its type; which of them are the package variables with a name; and the bytes of the strings
--- that stand in statements so far
+-- constant, and of a variable the zero value of its type; which of them are the package variables with a name; the bytes of the strings
+-- that stand in statements so far; and the types of the program
 pub record Scope : Type 0 where
   pub blocks : Blocks
   pub declared : List Declared
@@ -47,9 +51,10 @@ pub record Scope : Type 0 where
   pub values : List (Option Fixed)
   pub globals : List ℕ
   pub strings : List (List ℕ)
+  pub types : Table
 
 abbrev pub scope_of : ScopeData → Scope
-scope_of s = record { blocks = s.names; declared = s.declared.items; sites = s.sites.items; signatures = map (option_map signature_of) s.signatures.items; values = s.values.items; globals = map (λ k. k.0) s.globals.items; strings = map (λ string. string.items) s.strings.items }
+scope_of s = record { blocks = s.names; declared = s.declared.items; sites = s.sites.items; signatures = map (option_map signature_of) s.signatures.items; values = s.values.items; globals = map (λ k. k.0) s.globals.items; strings = map (λ string. string.items) s.strings.items; types = s.types }
 
 -- what the number of a declaration stands for, or else what the language says of the name
 abbrev pub numbered : Scope → List ℕ → Option ℕ → Option Declared
@@ -74,11 +79,11 @@ fixed s k = option_and_then (λ o. o) (slice_get s.values k)
 
 -- one more declaration, of a name of the innermost block
 abbrev pub with_declaration : Scope → List ℕ → Declared → Scope
-with_declaration s name d = record { blocks = insert s.blocks name (length s.declared); declared = s.declared ++ d ∷ []; sites = s.sites; signatures = s.signatures; values = s.values; globals = s.globals; strings = s.strings }
+with_declaration s name d = record s { blocks = insert s.blocks name (length s.declared); declared = s.declared ++ d ∷ [] }
 
 -- one more site, of a type, at a place
 abbrev pub with_site : Scope → ValueType → Pos → Scope
-with_site s t at = record { blocks = s.blocks; declared = s.declared; sites = s.sites ++ record { pos = at; type_id = record { 0 = type_number t } } ∷ []; signatures = s.signatures; values = s.values; globals = s.globals; strings = s.strings }
+with_site s t at = record s { sites = s.sites ++ record { pos = at; type_id = record { 0 = type_number s.types t } } ∷ [] }
 
 -- one more variable: with a type it has a site of its own
 abbrev pub with_variable : Option ValueType → Scope → List ℕ → Pos → Scope
@@ -87,27 +92,27 @@ with_variable None s name at = with_declaration s name Untyped
 
 -- one more function, which has a signature or none
 abbrev pub with_signature : Scope → Option Signature → Scope
-with_signature s o = record { blocks = s.blocks; declared = s.declared; sites = s.sites; signatures = s.signatures ++ o ∷ []; values = s.values; globals = s.globals; strings = s.strings }
+with_signature s o = record s { signatures = s.signatures ++ o ∷ [] }
 
 -- one more constant or package variable, of which something is known or nothing
 abbrev pub with_value : Scope → Option Fixed → Scope
-with_value s o = record { blocks = s.blocks; declared = s.declared; sites = s.sites; signatures = s.signatures; values = s.values ++ o ∷ []; globals = s.globals; strings = s.strings }
+with_value s o = record s { values = s.values ++ o ∷ [] }
 
 -- one more package variable with a name, which is the constant or variable of the next number
 abbrev pub with_global : Scope → Scope
-with_global s = record { blocks = s.blocks; declared = s.declared; sites = s.sites; signatures = s.signatures; values = s.values; globals = s.globals ++ length s.values ∷ []; strings = s.strings }
+with_global s = record s { globals = s.globals ++ length s.values ∷ [] }
 
 -- what is known of the constant or package variable of a number
 abbrev pub with_fixed : Scope → ℕ → Option Fixed → Scope
-with_fixed s k o = record { blocks = s.blocks; declared = s.declared; sites = s.sites; signatures = s.signatures; values = slice_set s.values k o; globals = s.globals; strings = s.strings }
+with_fixed s k o = record s { values = slice_set s.values k o }
 
 -- more strings
 abbrev pub with_strings : Scope → List (List ℕ) → Scope
-with_strings s strings = record { blocks = s.blocks; declared = s.declared; sites = s.sites; signatures = s.signatures; values = s.values; globals = s.globals; strings = s.strings ++ strings }
+with_strings s strings = record s { strings = s.strings ++ strings }
 
 -- where a block begins
 abbrev pub opened : Scope → Scope
-opened s = record { blocks = [] ∷ s.blocks; declared = s.declared; sites = s.sites; signatures = s.signatures; values = s.values; globals = s.globals; strings = s.strings }
+opened s = record s { blocks = [] ∷ s.blocks }
 
 abbrev pub outer : Blocks → Blocks
 outer [] = []
@@ -115,8 +120,8 @@ outer (b ∷ bs) = bs
 
 -- behind a block
 abbrev pub closed : Scope → Scope
-closed s = record { blocks = outer s.blocks; declared = s.declared; sites = s.sites; signatures = s.signatures; values = s.values; globals = s.globals; strings = s.strings }
+closed s = record s { blocks = outer s.blocks }
 
 -- where no name is declared
 abbrev pub beginning : Scope
-beginning = record { blocks = [] ∷ []; declared = []; sites = []; signatures = []; values = []; globals = []; strings = [] }
+beginning = record { blocks = [] ∷ []; declared = []; sites = []; signatures = []; values = []; globals = []; strings = []; types = basic_table }

@@ -3,7 +3,7 @@
 use Rattle.std.specs.Prelude.{ℕ, Bool, true, false, List, [], ◌∷◌, codes, Option, Some, None, if◌then◌else◌}
 use Rattle.std.specs.List.{list_any}
 use Rattle.std.specs.Str.{bytes_eq}
-use Rattle.value_types.specs.declared.value_type.ValueType.TheVariants as value_type
+use Rattle.base.specs.declared.value_type.ValueType.TheVariants as value_type
 use Rattle.names.specs.declared.scope.Declared.{Declared}
 use Rattle.names.specs.declared.scope.Declared.TheVariants.{«Type», Truth, Print, Panic, LeftOutType, LeftOutValue}
 

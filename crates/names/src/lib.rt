@@ -24,6 +24,3 @@ pub use scope::{
 };
 pub use type_names::{type_fault, type_in};
 pub use universe::{is_blank, is_main};
-
-#[cfg(test)]
-mod tests;

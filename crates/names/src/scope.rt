@@ -6,19 +6,16 @@ ghost use Rattle.names.specs.Scope.{type_number, scope_of, signature_of, declara
 
 use crate::block::Block;
 use crate::universe::predeclared;
-use base::{FuncId, NoMemory, Pos, SiteId, TypeId};
+use base::{FuncId, NoMemory, Pos, SiteId, TypeId, ValueType};
 use std::alloc::Global;
-use typed::{BOOL, INT, Site};
-use value_types::{Fixed, ValueType};
+use typed::{INT, Site, TypeTable};
+use value_types::Fixed;
 
-/// The number of a type in a typed program.
-pub fn type_id(value_type: ValueType) -> TypeId
-    ensures { result.0 ≡ type_number value_type }
+/// The number of a type in a typed program with this table.
+pub fn type_id(types: &TypeTable, value_type: ValueType) -> TypeId
+    ensures { result.0 ≡ type_number types.now value_type }
 {
-    match value_type {
-        ValueType::Int => INT,
-        ValueType::Bool => BOOL,
-    }
+    types.find(value_type).unwrap_or(INT)
 }
 
 /// The types of a function's parameters and of its results.
@@ -77,7 +74,7 @@ pub enum Declared {
 /// The declarations that are in scope: the open blocks number them. And the sites of the variables that have a type, the
 /// signature of each function, where it has one, and the bytes of the strings that stand in statements so far. Of each
 /// constant and each package variable, which are numbered together, it says what is known: the value of a constant, and of a
-/// variable the zero value of its type.
+/// variable the zero value of its type. And the types of the program.
 #[derive(Drop)]
 pub struct Scope {
     pub names: Block,
@@ -87,13 +84,14 @@ pub struct Scope {
     pub values: Vec<Option<Fixed>>,
     pub globals: Vec<ValueId>,
     pub strings: Vec<Vec<u8>>,
+    pub types: TypeTable,
 }
 
 /// Where no name is declared.
-pub fn beginning(alloc: Global) -> Scope
-    ensures { scope_of result ≡ beginning }
+pub fn beginning(alloc: Global) -> Result<Scope, NoMemory>
+    ensures { IfOk result (λ s. scope_of s ≡ beginning) }
 {
-    Scope {
+    Ok(Scope {
         names: Block::new(alloc),
         declared: Vec::new(alloc),
         sites: Vec::new(alloc),
@@ -101,7 +99,8 @@ pub fn beginning(alloc: Global) -> Scope
         values: Vec::new(alloc),
         globals: Vec::new(alloc),
         strings: Vec::new(alloc),
-    }
+        types: TypeTable::new(alloc, 0)?,
+    })
 }
 
 /// What a name stands for: the innermost block that declares it says so, and outside of them all the language.
@@ -259,7 +258,7 @@ pub fn site_behind(scope: &Scope, before: usize) -> Result<SiteId, NoMemory>
 pub fn add_site(scope: &mut Scope, value_type: ValueType, pos: Pos) -> Result<(), NoMemory>
     ensures { OnOk result (scope_of scope.new ≡ with_site (scope_of scope.old) value_type pos) }
 {
-    let site_type = type_id(value_type);
+    let site_type = type_id(&scope.types, value_type);
     scope.sites.push(Site {
         pos,
         type_id: site_type,

@@ -5,21 +5,32 @@ ghost use Rattle.syntax.specs.Expressions.{ex_of as tree_of, spelled};
 ghost use Rattle.value_types.specs.Least.{IsLeast};
 ghost use Rattle.value_types.specs.Faults.{IsFault};
 ghost use Rattle.names.specs.Scope.{scope_of, declaration};
-ghost use Rattle.names.specs.Types.{declared_type, type_in};
+ghost use Rattle.names.specs.Types.{is_known, declared_type, type_in};
 ghost use Rattle.names.specs.Faults.{type_name_fault, FailsAsType};
 
 use crate::naming::spelled;
 use crate::scope::{Declared, Scope, declaration};
-use base::Pos;
+use base::{Pos, ValueType};
 use syntax::{Expr, Name};
-use value_types::{Fault, FaultKind, ValueType};
+use typed::TypeTable;
+use value_types::{Fault, FaultKind};
 
-/// The type that a name stands for.
-fn declared_type(declared: Option<Declared>) -> Option<ValueType>
-    ensures { result ≡ declared_type declared }
+/// Whether a type has a number, and words.
+fn is_known(types: &TypeTable, value_type: ValueType) -> bool
+    ensures { result ≡ is_known types.now value_type }
+{
+    match types.find(value_type) {
+        Some(id) => types.words_at(id).is_some(),
+        None => false,
+    }
+}
+
+/// The type that a name stands for; one that is refused is none.
+fn declared_type(types: &TypeTable, declared: Option<Declared>) -> Option<ValueType>
+    ensures { result ≡ declared_type types.now declared }
 {
     match declared {
-        Some(Declared::Type(value_type)) => Some(value_type),
+        Some(Declared::Type(value_type)) if is_known(types, value_type) => Some(value_type),
         _ => None,
     }
 }
@@ -29,7 +40,7 @@ pub fn type_in(text: &[u8], scope: &Scope, e: &Expr) -> Option<ValueType>
     ensures { result ≡ type_in text.now (scope_of scope.now) (tree_of e.now) }
 {
     match e {
-        Expr::Name(name) => declared_type(declaration(scope, spelled(text, *name))),
+        Expr::Name(name) => declared_type(&scope.types, declaration(scope, spelled(text, *name))),
         Expr::Paren(_, inner) => {
             let inner: &Expr = inner;
             type_in(text, scope, inner)

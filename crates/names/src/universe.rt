@@ -6,7 +6,7 @@ ghost use Rattle.std.specs.Str.{bytes_eq};
 ghost use Rattle.names.specs.Universe.{is_type_name, is_value_name, is_blank, is_main, left_out, predeclared_function, predeclared};
 
 use crate::scope::Declared;
-use value_types::ValueType;
+use base::ValueType;
 
 /// The predeclared types of Go 1.22 (Go specification, "Predeclared identifiers").
 static TYPE_NAMES: [&str; 22] = [

@@ -18,8 +18,8 @@ use Rattle.value_types.specs.declared.fault.Fault.{Fault}
 use Rattle.value_types.specs.declared.fault.FaultKind.TheVariants.{ConstRange, BadOperand, ConstZeroDivisor}
 use Rattle.value_types.specs.declared.constant.Constant.{Constant}
 use Rattle.value_types.specs.declared.constant.Constant.TheVariants.{Number, Truth}
-use Rattle.value_types.specs.declared.value_type.ValueType.{ValueType}
-use Rattle.value_types.specs.declared.value_type.ValueType.TheVariants.{Int, Bool as Boolean}
+use Rattle.base.specs.declared.value_type.ValueType.{ValueType}
+use Rattle.base.specs.declared.value_type.ValueType.TheVariants.{Int, Bool as Boolean, Struct, Array}
 use Rattle.value_types.specs.Constants.{constant_type, is_int, is_held, is_zero, is_negative}
 use Rattle.value_types.specs.Given.{allowed, both}
 use Rattle.value_types.specs.Faults.{fault, IsFault, constant_range_fault, held_fault}
@@ -126,8 +126,12 @@ no_prefix Complement t is = cc is
 no_prefix Not t is = cc is
 no_prefix Star Int is = refl
 no_prefix Star Boolean is = refl
+no_prefix Star (Struct k) is = refl
+no_prefix Star (Array n e) is = refl
 no_prefix Address Int is = refl
 no_prefix Address Boolean is = refl
+no_prefix Address (Struct k) is = refl
+no_prefix Address (Array n e) is = refl
 
 pub prefix_decided : (at : Pos) (op : UnOp) (x : Operand) → Decided (prefixed op x) (IsFault (prefix_fault at op (Some x)))
 prefix_decided at op (value t x) = value_prefix_decided (fault BadOperand at) (takes_one op t) (prefix_of op) t x (no_prefix op t)

@@ -11,8 +11,8 @@ use Rattle.typed.specs.Syntax as typed
 use Rattle.value_types.specs.declared.constant.Constant.{Constant}
 use Rattle.value_types.specs.declared.constant.Constant.TheVariants.{Number, Truth}
 use Rattle.value_types.specs.declared.constant.Fixed.{Fixed}
-use Rattle.value_types.specs.declared.value_type.ValueType.{ValueType}
-use Rattle.value_types.specs.declared.value_type.ValueType.TheVariants.{Int, Bool as Boolean}
+use Rattle.base.specs.declared.value_type.ValueType.{ValueType}
+use Rattle.base.specs.declared.value_type.ValueType.TheVariants.{Int, Bool as Boolean, Struct, Array}
 use Rattle.value_types.specs.Constants.{constant_type, is_held}
 use Rattle.value_types.specs.Given.{allowed}
 use Rattle.value_types.proofs.Options.{none_some, same_some}
@@ -38,6 +38,8 @@ held_type (Some Int) (Number z) is = refl
 held_type (Some Boolean) (Truth b) is = refl
 held_type (Some Int) (Truth b) is = cc is
 held_type (Some Boolean) (Number z) is = cc is
+held_type (Some (Struct k)) c is = cc is
+held_type (Some (Array n e)) c is = cc is
 
 module _ (P : Operand → Type 0) (known : (f : Fixed) → is_held f.value_type f.value ≡ true → P (constant f)) where
   of_type_is : (t : Option ValueType) (c : Constant) (x : Operand) → of_type t c ≡ Some x → P x

@@ -9,8 +9,9 @@ use Rattle.value_types.specs.declared.fault.FaultKind.TheVariants.{Mismatch, Con
 use Rattle.value_types.specs.declared.constant.Constant.{Constant}
 use Rattle.value_types.specs.declared.constant.Constant.TheVariants.{Number, Truth}
 use Rattle.value_types.specs.declared.constant.Fixed.{Fixed}
-use Rattle.value_types.specs.declared.value_type.ValueType.{ValueType}
-use Rattle.value_types.specs.Constants.{same_type, is_held, is_zero, is_negative}
+use Rattle.base.specs.declared.value_type.ValueType.{ValueType}
+use Rattle.base.specs.Types.{same_type}
+use Rattle.value_types.specs.Constants.{is_held, is_zero, is_negative}
 use Rattle.value_types.specs.Faults.{fault, IsFault, constant_range_fault, held_fault}
 use Rattle.operators.specs.declared.folding.Const.{Const}
 use Rattle.operators.specs.declared.folding.Const.TheVariants as const

@@ -6,7 +6,7 @@ use Rattle.typed.specs.Syntax as typed
 use Rattle.value_types.specs.declared.constant.Constant.{Constant}
 use Rattle.value_types.specs.declared.constant.Constant.TheVariants.{Number, Truth}
 use Rattle.value_types.specs.declared.constant.Fixed.{Fixed}
-use Rattle.value_types.specs.declared.value_type.ValueType.{ValueType}
+use Rattle.base.specs.declared.value_type.ValueType.{ValueType}
 use Rattle.value_types.specs.Given.{allowed}
 use Rattle.value_types.specs.Constants.{constant_type, is_int, is_held}
 use Rattle.operators.specs.declared.folding.Const.{Const}

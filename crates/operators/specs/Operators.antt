@@ -18,8 +18,9 @@ use Rattle.typed.specs.Syntax.{Ex}
 use Rattle.typed.specs.Syntax as typed
 use Rattle.value_types.specs.declared.constant.Constant.{Constant}
 use Rattle.value_types.specs.declared.constant.Fixed.{Fixed}
-use Rattle.value_types.specs.declared.value_type.ValueType.{ValueType}
-use Rattle.value_types.specs.declared.value_type.ValueType.TheVariants.{Int, Bool as Boolean}
+use Rattle.base.specs.declared.value_type.ValueType.{ValueType}
+use Rattle.base.specs.declared.value_type.ValueType.TheVariants.{Int, Bool as Boolean}
+use Rattle.base.specs.Types.{same_type}
 use Rattle.value_types.specs.Given.{allowed}
 use Rattle.value_types.specs.Constants.{constant_type, is_held, is_zero, is_negative}
 use Rattle.operators.specs.declared.folding.Const.{Const}
@@ -53,9 +54,9 @@ prefix_of other = None
 -- the types of operands that an operator takes
 abbrev pub takes : BinOp → ValueType → ValueType → Bool
 takes (Arithmetic op) Int Int = true
+takes (Compare compare.Equal) s t = same_type s t
+takes (Compare compare.NotEqual) s t = same_type s t
 takes (Compare op) Int Int = true
-takes (Compare compare.Equal) Boolean Boolean = true
-takes (Compare compare.NotEqual) Boolean Boolean = true
 takes Both Boolean Boolean = true
 takes Either Boolean Boolean = true
 takes op s t = false

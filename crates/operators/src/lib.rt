@@ -15,6 +15,3 @@ pub use folding::{Const, ConstFault, compare, fold, fold_one};
 pub use operand::{Operand, as_value, type_of, value_of};
 pub use pairs::{combined, pair_fault, paired};
 pub use prefixes::{has_rules, prefix_fault, prefixed};
-
-#[cfg(test)]
-mod tests;

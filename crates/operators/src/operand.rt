@@ -8,10 +8,10 @@ ghost use Rattle.operators.specs.Passing.{operand_of};
 ghost use Rattle.operators.specs.Faults.{constant_fault};
 
 use crate::folding::{Const, ConstFault};
-use base::Pos;
+use base::{Pos, ValueType};
 use typed::{Const as TypedConst, Expr};
 use value_types::{
-    Constant, Fault, FaultKind, Fixed, ValueType, constant_type, held_fault, int_constant, is_held,
+    Constant, Fault, FaultKind, Fixed, constant_type, held_fault, int_constant, is_held,
 };
 
 /// What an expression gives as one value: a constant, or a value of a type that is worked out when the program runs.

@@ -13,13 +13,13 @@ ghost use Rattle.operators.specs.Passing.{operand_of};
 
 use crate::folding::{Const, ConstFault, fold};
 use crate::operand::{Operand, as_value, const_of, constant, constant_fault, type_of};
-use base::{NoMemory, Pos};
+use base::{NoMemory, Pos, ValueType, same_type};
 use std::alloc::Global;
 use syntax::{ArithmeticOp, BinOp, CompareOp};
 use typed::Expr;
 use value_types::{
-    Constant, Fault, FaultKind, Fixed, ValueType, constant_range_fault, constant_type, is_held,
-    is_negative, is_zero, same_type,
+    Constant, Fault, FaultKind, Fixed, constant_range_fault, constant_type, is_held, is_negative,
+    is_zero,
 };
 
 /// Whether an operator takes operands of two types.
@@ -27,12 +27,10 @@ fn takes(op: BinOp, left: ValueType, right: ValueType) -> bool
     ensures { result ≡ takes op left right }
 {
     match (op, left, right) {
+        (BinOp::Compare(CompareOp::Equal | CompareOp::NotEqual), left, right) => {
+            same_type(left, right)
+        }
         (BinOp::Arithmetic(_) | BinOp::Compare(_), ValueType::Int, ValueType::Int) => true,
-        (
-            BinOp::Compare(CompareOp::Equal | CompareOp::NotEqual),
-            ValueType::Bool,
-            ValueType::Bool,
-        ) => true,
         (BinOp::Both | BinOp::Either, ValueType::Bool, ValueType::Bool) => true,
         _ => false,
     }

@@ -12,11 +12,11 @@ ghost use Rattle.operators.specs.Passing.{operand_of};
 
 use crate::folding::fold_one;
 use crate::operand::{Operand, const_of, constant, constant_fault, type_of};
-use base::{NoMemory, Pos};
+use base::{NoMemory, Pos, ValueType};
 use std::alloc::Global;
 use syntax::UnOp;
 use typed::Expr;
-use value_types::{Fault, FaultKind, Fixed, ValueType, constant_type};
+use value_types::{Fault, FaultKind, Fixed, constant_type};
 
 /// Whether a prefix has rules.
 pub fn has_rules(op: UnOp) -> bool

@@ -36,6 +36,3 @@ pub use reader::IntReader;
 pub use sink::Sink;
 pub use source::Source;
 pub use standard::{StdSink, StdSource};
-
-#[cfg(test)]
-mod tests;

@@ -75,21 +75,3 @@ impl<W: Write + Drop> Sink for StdSink<W> {
         }
     }
 }
-
-#[cfg(test)]
-mod tests {
-    use super::*;
-    use std::test::Fail;
-
-    #[test]
-    fn adapters_carry_bytes(rt: HostRuntime) -> Result<(), Fail> {
-        let mut source = StdSource::new(b"abc".as_slice());
-        let mut buf = [0u8; 2];
-        assert_eq!(rt; source.read(&mut buf), Ok(2));
-        assert_eq!(rt; buf, *b"ab");
-        let mut sink = StdSink::new(Vec::new(rt.alloc()));
-        assert_eq!(rt; sink.write(b"xyz"), Ok(3));
-        assert_eq!(rt; sink.writer.as_slice(), b"xyz".as_slice());
-        Ok(())
-    }
-}

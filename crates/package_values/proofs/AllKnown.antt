@@ -16,8 +16,12 @@ use Rattle.value_types.specs.declared.constant.Constant.TheVariants.{Number, Tru
 use Rattle.value_types.specs.declared.constant.Fixed.{Fixed}
 use Rattle.value_types.specs.declared.fault.Fault.{Fault}
 use Rattle.value_types.specs.declared.fault.FaultKind.TheVariants.{Mismatch, ArgCount, ConstRange, BadOperand, RecursiveType, OutOfProfile}
-use Rattle.value_types.specs.declared.value_type.ValueType.{ValueType}
-use Rattle.value_types.specs.Constants.{untyped, same_type, constant_type, is_held, holds}
+use Rattle.base.specs.declared.value_type.ValueType.{ValueType}
+use Rattle.base.specs.declared.value_type.ValueType.TheVariants.{Int, Bool as Boolean, Struct, Array}
+use Rattle.typed.specs.Tables.{Table}
+use Rattle.typed.specs.Formed.{IsFormed}
+use Rattle.base.specs.Types.{same_type}
+use Rattle.value_types.specs.Constants.{untyped, constant_type, is_held, holds}
 use Rattle.value_types.specs.Given.{allowed, both}
 use Rattle.value_types.specs.Faults.{fault, IsFault}
 use Rattle.value_types.proofs.Decided.{Decided}
@@ -31,7 +35,7 @@ use Rattle.names.specs.Scope.{Scope, Signature, numbered, declaration, fixed}
 use Rattle.names.specs.Types.{type_in}
 use Rattle.names.specs.Faults.{FailsAsType}
 use Rattle.names.proofs.Settled.{HasValue, IsTyped, IsSettled, predeclared_is, type_decided}
-use Rattle.expression_types.specs.Typing.{are_single, Gives, one, name_operand, prefix_gives, accepts, single, operand_in, Seen, Many, many_in, many as many_of, count_of, gives, seen}
+use Rattle.expression_types.specs.Typing.{are_single, Gives, one, name_operand, prefix_gives, accepts, single, operand_in, type_in_one, Seen, Many, many_in, many as many_of, count_of, gives, seen}
 use Rattle.expression_types.specs.Faults.{single_fault, CountFails, SinglesFail, ValuesFail as ManyFail, Fails, FailsInEach}
 use Rattle.expression_types.proofs.DecidedValues.{single_decided}
 use Rattle.expression_types.proofs.Settled.{gives_decided}
@@ -39,7 +43,7 @@ use Rattle.package_values.specs.Values.{Item, as_constant, unvalued, paired, or_
 use Rattle.package_values.specs.declared.items.Role.{Role}
 use Rattle.package_values.specs.declared.items.Role.TheVariants as role
 use Rattle.package_values.specs.Needs.{names_in, names_in_each, names_in_some, names_waited, value_number, also, Among, has_form, have_form, waited_form, numbers_of, needed_as, needed, needed_in, Needs, Reaches, at_once, through}
-use Rattle.package_values.specs.ValueFaults.{single_count, value_fault, ValuesFail, type_asked, TypeFails, SpecFails, SpecsFail, form_fault, FormsFail, wanted, InitialsFail, VariablesFail, AllVariablesFail, cycle_place, DeclarationsFail, ItemsFail}
+use Rattle.package_values.specs.ValueFaults.{single_count, value_fault, ValuesFail, type_asked, TypeFails, SpecFails, SpecsFail, form_fault, FormsFail, left_out_fault, ValuesLeftOut, wanted, InitialsFail, VariablesFail, AllVariablesFail, cycle_place, DeclarationsFail, ItemsFail}
 use Rattle.package_values.specs.Passing.{has_mark, is_marked}
 use Rattle.package_values.proofs.Growth.{known, Consistent, IsEnd, rounds, rounds_good, rounds_settle, all_seen, rounds_hold}
 use Rattle.package_values.proofs.Giving.{holding, give, monotone, type_same, given_held, looks_are}
@@ -95,41 +99,42 @@ filled_value (Some f ∷ cs) held zero l = held zero f refl
 filled_value (c ∷ cs) held (suc k) l = filled_value cs (λ j f h. held (suc j) f h) k (omega (arith, l))
 
 -- what is typed once the constants and variables are known, of which there are so many
-abbrev pub IsTypedOnceKnown : List (Option Signature) → ℕ → Declared → Type 0
-IsTypedOnceKnown sigs n (declared.Constant k) = k.0 < n
-IsTypedOnceKnown sigs n (declared.Global k g) = k.0 < n
-IsTypedOnceKnown sigs n d = IsTyped sigs [] d
+abbrev pub IsTypedOnceKnown : Table → List (Option Signature) → ℕ → Declared → Type 0
+IsTypedOnceKnown T sigs n (declared.Constant k) = k.0 < n
+IsTypedOnceKnown T sigs n (declared.Global k g) = k.0 < n
+IsTypedOnceKnown T sigs n d = IsTyped T sigs [] d
 
-typed_by : (sigs : List (Option Signature)) (cs : List (Option Fixed)) → ((k : ℕ) → k < length cs → HasValue (known cs k)) → (n : ℕ) → n ≡ length cs → (d : Declared) → IsTypedOnceKnown sigs n d → IsTyped sigs cs d
-typed_by sigs cs has n many (declared.Constant k) h = has k.0 (omega (arith, h, many))
-typed_by sigs cs has n many (declared.Global k g) h = has k.0 (omega (arith, h, many))
-typed_by sigs cs has n many d h = h
+typed_by : (T : Table) (sigs : List (Option Signature)) (cs : List (Option Fixed)) → ((k : ℕ) → k < length cs → HasValue (known cs k)) → (n : ℕ) → n ≡ length cs → (d : Declared) → IsTypedOnceKnown T sigs n d → IsTyped T sigs cs d
+typed_by T sigs cs has n many (declared.Constant k) h = has k.0 (omega (arith, h, many))
+typed_by T sigs cs has n many (declared.Global k g) h = has k.0 (omega (arith, h, many))
+typed_by T sigs cs has n many d h = h
 
 -- a declaration has no number among the constants and variables
 abbrev HasNoNumber : Declared → Type 0
 HasNoNumber d = (j : ℕ) → value_number (Some d) ≡ Some j → ⊥
 
 -- the number of one is below how many there are
-number_below : (sigs : List (Option Signature)) (n : ℕ) (d : Declared) → IsTypedOnceKnown sigs n d → (j : ℕ) → value_number (Some d) ≡ Some j → j < n
-number_below sigs n (declared.Constant k) h j e = subst (λ (m : ℕ). m < n) (same_some e) h
-number_below sigs n (declared.Global k g) h j e = subst (λ (m : ℕ). m < n) (same_some e) h
-number_below sigs n d h j e = absurd (none_some e)
+number_below : (T : Table) (sigs : List (Option Signature)) (n : ℕ) (d : Declared) → IsTypedOnceKnown T sigs n d → (j : ℕ) → value_number (Some d) ≡ Some j → j < n
+number_below T sigs n (declared.Constant k) h j e = subst (λ (m : ℕ). m < n) (same_some e) h
+number_below T sigs n (declared.Global k g) h j e = subst (λ (m : ℕ). m < n) (same_some e) h
+number_below T sigs n d h j e = absurd (none_some e)
 
-module _ (text : List ℕ) (s : Scope) (n : ℕ) (typed : AllByRecursion (IsTypedOnceKnown s.signatures n) s.declared) (cs : List (Option Fixed)) (many : length cs ≡ n) (held : AreHeld cs) where
+module _ (text : List ℕ) (s : Scope) (n : ℕ) (formed : IsFormed s.types) (typed : AllByRecursion (IsTypedOnceKnown s.types s.signatures n) s.declared) (cs : List (Option Fixed)) (many : length cs ≡ n) (held : AreHeld cs) where
   many_filled : (xs : List (Option Fixed)) → length (filled xs) ≡ length xs
   many_filled [] = refl
   many_filled (x ∷ xs) = ap suc (many_filled xs)
 
   settled_filled : IsSettled (holding s (filled cs))
   settled_filled = record {
-    all = all_map (IsTypedOnceKnown s.signatures n) (IsTyped s.signatures (filled cs)) s.declared
-        (λ d h. typed_by s.signatures (filled cs) (λ k l. filled_value cs held k (omega (arith, l, many_filled cs))) n (omega (arith, many, many_filled cs)) d h) typed;
+    all = all_map (IsTypedOnceKnown s.types s.signatures n) (IsTyped s.types s.signatures (filled cs)) s.declared
+        (λ d h. typed_by s.types s.signatures (filled cs) (λ k l. filled_value cs held k (omega (arith, l, many_filled cs))) n (omega (arith, many, many_filled cs)) d h) typed;
+    formed = formed;
   }
 
   value_below : (name : List ℕ) (o : Option ℕ) (d : Declared) → numbered s name o ≡ Some d → (j : ℕ) → value_number (Some d) ≡ Some j → j < n
   value_below name None d is j e =
-      absurd (predeclared_is HasNoNumber (λ t k h. none_some h) (λ b k h. none_some h) (λ line k h. none_some h) (λ k h. none_some h) (λ k h. none_some h) (λ k h. none_some h) name d is j e)
-  value_below name (Some i) d is j e = number_below s.signatures n d (element (IsTypedOnceKnown s.signatures n) s.declared i d typed is) j e
+      absurd (predeclared_is HasNoNumber (λ k h. none_some h) (λ k h. none_some h) (λ b k h. none_some h) (λ line k h. none_some h) (λ k h. none_some h) (λ k h. none_some h) (λ k h. none_some h) name d is j e)
+  value_below name (Some i) d is j e = number_below s.types s.signatures n d (element (IsTypedOnceKnown s.types s.signatures n) s.declared i d typed is) j e
 
   name_below : (x : Name) (o : Option Declared) → declaration s (spelled text x) ≡ o → (j : ℕ) → value_number o ≡ Some j → j < n
   name_below x None is j e = absurd (none_some e)
@@ -244,9 +249,11 @@ module _ (text : List ℕ) (s : Scope) (n : ℕ) (typed : AllByRecursion (IsType
 
   -- of the value of a variable without a type
   abbrev HoldsInitial : Option TreeEx → Option TreeEx → TreeExs → Type 0
-  HoldsInitial (Some t) v es = Unit {0}
+  HoldsInitial (Some t) v es = Never (IsFault (left_out_fault (type_in text (holding s cs) t) (first_place t)))
   HoldsInitial None None es = (have_form text (holding s cs) es ≡ true) × (AllSame text s cs (filled cs) (names_in_each es) → ⊥)
-  HoldsInitial None (Some e) es = (has_form text (holding s cs) e ≡ true) × Never (Fails text (holding s cs) e) × Never (IsFault (single_fault (gives text (holding s cs) e)))
+  HoldsInitial None (Some e) es =
+      (has_form text (holding s cs) e ≡ true) × Never (Fails text (holding s cs) e) × Never (IsFault (single_fault (gives text (holding s cs) e)))
+      × Never (IsFault (left_out_fault (type_in_one (gives text (holding s cs) e)) (first_place e)))
 
   abbrev HoldsAs : Role → Option TreeEx → Option TreeEx → TreeExs → Type 0
   HoldsAs role.Constant t v es = Holds t v es
@@ -369,27 +376,31 @@ module _ (text : List ℕ) (s : Scope) (n : ℕ) (typed : AllByRecursion (IsType
   forms_hold (some e es) never =
       ap (λ (b : Bool). b && have_form text (holding s cs) es) (form_holds (has_form text (holding s cs) e) (first_place e) (λ f h. never f (inl h))) ∙ forms_hold es (λ f h. never f (inr h))
 
-  variables_hold : (all es : TreeExs) → have_form text (holding s cs) es ≡ true → Never (FailsInEach text (holding s cs) es) → Never (SinglesFail (seen text (holding s cs) es)) → EachHolds role.Variable None all es
-  variables_hold all none forms each singles = tt
-  variables_hold all (some e es) forms each singles =
+  variables_hold : (all es : TreeExs) → have_form text (holding s cs) es ≡ true → Never (FailsInEach text (holding s cs) es) → Never (SinglesFail (seen text (holding s cs) es)) → Never (ValuesLeftOut (seen text (holding s cs) es))
+      → EachHolds role.Variable None all es
+  variables_hold all none forms each singles plain = tt
+  variables_hold all (some e es) forms each singles plain =
       let form = both_form (has_form text (holding s cs) e) (have_form text (holding s cs) es) forms in
-      ((form.0, λ f h. each f (inl h), λ f h. singles f (inl h)), variables_hold all es form.1 (λ f h. each f (inr h)) (λ f h. singles f (inr h)))
+      ((form.0, λ f h. each f (inl h), λ f h. singles f (inl h), λ f h. plain f (inl h)), variables_hold all es form.1 (λ f h. each f (inr h)) (λ f h. singles f (inr h)) (λ f h. plain f (inr h)))
 
-  typed_hold : (t : TreeEx) (all es : TreeExs) → EachHolds role.Variable (Some t) all es
-  typed_hold t all none = tt
-  typed_hold t all (some e es) = (tt, typed_hold t all es)
+  abbrev IsPlainType : TreeEx → Type 0
+  IsPlainType t = Never (IsFault (left_out_fault (type_in text (holding s cs) t) (first_place t)))
+
+  typed_hold : (t : TreeEx) → IsPlainType t → (all es : TreeExs) → EachHolds role.Variable (Some t) all es
+  typed_hold t plain all none = tt
+  typed_hold t plain all (some e es) = (plain, typed_hold t plain all es)
 
   -- of a declaration with a type, and of one without
-  typed_sound : (t : TreeEx) (ns : List Name) (es : TreeExs) → Never (FailsAsType text (holding s cs) t) → AllByRecursion Sound (items_of role.Variable (record { names = ns; type_expr = Some t; values = es }))
-  typed_sound t ns es never = by (paired role.Variable ns (Some t) es 0 ns es) refl
+  typed_sound : (t : TreeEx) (ns : List Name) (es : TreeExs) → Never (FailsAsType text (holding s cs) t) → IsPlainType t → AllByRecursion Sound (items_of role.Variable (record { names = ns; type_expr = Some t; values = es }))
+  typed_sound t ns es never plain = by (paired role.Variable ns (Some t) es 0 ns es) refl
     where
       by : (o : Option (List Item)) → paired role.Variable ns (Some t) es 0 ns es ≡ o → AllByRecursion Sound (or_unvalued o (unvalued role.Variable ns (Some t) es 0 ns))
-      by None e = unvalued_sound role.Variable ns (Some t) es 0 ns never tt
-      by (Some is) e = paired_sound role.Variable ns (Some t) es 0 ns es is e never (typed_hold t es es)
+      by None e = unvalued_sound role.Variable ns (Some t) es 0 ns never plain
+      by (Some is) e = paired_sound role.Variable ns (Some t) es 0 ns es is e never (typed_hold t plain es es)
 
   untyped_sound : (at : Pos) (ns : List Name) (es : TreeExs) → Never (FailsInEach text (holding s cs) es) → Never (InitialsFail text (holding s cs) false at (record { names = ns; type_expr = None; values = es }))
-      → AllByRecursion Sound (items_of role.Variable (record { names = ns; type_expr = None; values = es }))
-  untyped_sound at ns es each never = by (paired role.Variable ns None es 0 ns es) refl
+      → Never (ValuesLeftOut (seen text (holding s cs) es)) → AllByRecursion Sound (items_of role.Variable (record { names = ns; type_expr = None; values = es }))
+  untyped_sound at ns es each never plain = by (paired role.Variable ns None es 0 ns es) refl
     where
       os : List Seen
       os = seen text (holding s cs) es
@@ -413,12 +424,12 @@ module _ (text : List ℕ) (s : Scope) (n : ℕ) (typed : AllByRecursion (IsType
 
       by : (o : Option (List Item)) → paired role.Variable ns None es 0 ns es ≡ o → AllByRecursion Sound (or_unvalued o (unvalued role.Variable ns None es 0 ns))
       by None e = unvalued_sound role.Variable ns None es 0 ns (λ f h. h) (forms, waits_for_one role.Variable None ns es (fault ArgCount at) e each singles count_never)
-      by (Some is) e = paired_sound role.Variable ns None es 0 ns es is e (λ f h. h) (variables_hold es es forms each singles)
+      by (Some is) e = paired_sound role.Variable ns None es 0 ns es is e (λ f h. h) (variables_hold es es forms each singles plain)
 
   variables_sound : (at : Pos) (t : Option TreeEx) (ns : List Name) (es : TreeExs) → Never (VariablesFail text (holding s cs) at (record { names = ns; type_expr = t; values = es }))
       → AllByRecursion Sound (items_of role.Variable (record { names = ns; type_expr = t; values = es }))
-  variables_sound at (Some t) ns es never = typed_sound t ns es (λ f h. never f (inl (inl h)))
-  variables_sound at None ns es never = untyped_sound at ns es (λ f h. never f (inl (inr h))) (λ f h. never f (inr h))
+  variables_sound at (Some t) ns es never = typed_sound t ns es (λ f h. never f (inl (inl (inl h)))) (λ f h. never f (inr h))
+  variables_sound at None ns es never = untyped_sound at ns es (λ f h. never f (inl (inl (inr h)))) (λ f h. never f (inl (inr h))) (λ f h. never f (inr h))
 
   all_variables_sound : (at : Pos) (vs : List ValueSpec) → Never (AllVariablesFail text (holding s cs) at vs) → AllByRecursion Sound (items_in_specs role.Variable vs)
   all_variables_sound at [] never = tt
@@ -451,8 +462,20 @@ module _ (text : List ℕ) (s : Scope) (n : ℕ) (typed : AllByRecursion (IsType
   with_form : (v : Option TreeEx) (es : TreeExs) → waited_form text (holding s cs) v es ≡ true → Unknown (numbers_of text (holding s cs) (names_waited v es)) → WaitedUnknown v es
   with_form v es form u = subst (λ (b : Bool). Unknown (cond b (numbers_of text (holding s cs) (names_waited v es)) [])) (sym form) u
 
-  variable_needs : (t v : Option TreeEx) (es : TreeExs) (k : ℕ) → Never (TypeFails text (holding s cs) t) → HoldsInitial t v es → variable_type text (holding s cs) t v es k ≡ None → WaitedUnknown v es
-  variable_needs (Some e) v es k type_never holds1 is = let t = type_here e type_never in absurd (none_some (sym is ∙ t.1))
+  -- a type that isn't left out has a zero value
+  zero_there : (t : ValueType) (at : Pos) → Never (IsFault (left_out_fault (Some t) at)) → (f : Fixed) × (zero_of t ≡ Some f)
+  zero_there Int at never = (_, refl)
+  zero_there Boolean at never = (_, refl)
+  zero_there (Struct k) at never = absurd (never _ refl)
+  zero_there (Array n e) at never = absurd (never _ refl)
+
+  never_unknown : (o : Option ValueType) (at : Pos) (t : ValueType) → o ≡ Some t → Never (IsFault (left_out_fault o at)) → option_and_then zero_of o ≡ None → ⊥
+  never_unknown o at t o_is never is =
+      let z = zero_there t at (λ f h. never f (subst (λ (x : Option ValueType). IsFault (left_out_fault x at) f) (sym o_is) h)) in
+      none_some (sym is ∙ ap (option_and_then zero_of) o_is ∙ z.1)
+
+  variable_needs : (t v : Option TreeEx) (es : TreeExs) (k : ℕ) → Never (TypeFails text (holding s cs) t) → HoldsInitial t v es → option_and_then zero_of (variable_type text (holding s cs) t v es k) ≡ None → WaitedUnknown v es
+  variable_needs (Some e) v es k type_never holds1 is = let t = type_here e type_never in absurd (never_unknown (type_in text (holding s cs) e) (first_place e) t.0 t.1 holds1 is)
   variable_needs None None es k type_never holds1 is = by (unknown (names_in_each es))
     where
       by : AllSame text s cs (filled cs) (names_in_each es) ⊎ Unknown (numbers_of text (holding s cs) (names_in_each es)) → WaitedUnknown None es
@@ -461,7 +484,9 @@ module _ (text : List ℕ) (s : Scope) (n : ℕ) (typed : AllByRecursion (IsType
   variable_needs None (Some e) es k type_never holds1 is = by (unknown (names_in e))
     where
       by : AllSame text s cs (filled cs) (names_in e) ⊎ Unknown (numbers_of text (holding s cs) (names_in e)) → WaitedUnknown (Some e) es
-      by (inl all) = let x = operand_here e all holds1.1 holds1.2 in absurd (none_some (sym is ∙ ap (option_map type_of) x.1))
+      by (inl all) =
+          let x = operand_here e all holds1.1 holds1.2 in
+          absurd (never_unknown (type_in_one (gives text (holding s cs) e)) (first_place e) (type_of x.0) (ap (option_map type_of) x.1) holds1.3 is)
       by (inr u) = with_form (Some e) es holds1.0 u
 
   constant_needs : (i : Item) → Never (TypeFails text (holding s cs) i.type_expr) → Holds i.type_expr i.value i.values → given_by text (holding s cs) i.type_expr i.value ≡ None → Unknown (needed_as text (holding s cs) role.Constant i)
@@ -474,7 +499,7 @@ module _ (text : List ℕ) (s : Scope) (n : ℕ) (typed : AllByRecursion (IsType
   needs_as : (r : Role) (i : Item) → Never (TypeFails text (holding s cs) i.type_expr) → HoldsAs r i.type_expr i.value i.values → given_as text r (holding s cs) i ≡ None → Unknown (needed_as text (holding s cs) r i)
   needs_as role.Constant i type_never holds1 is = constant_needs i type_never holds1 is
   needs_as role.Variable i type_never holds1 is =
-      variable_needs i.type_expr i.value i.values i.place type_never holds1 (no_map zero_of (variable_type text (holding s cs) i.type_expr i.value i.values i.place) is)
+      variable_needs i.type_expr i.value i.values i.place type_never holds1 is
 
   item_needs : (i : Item) → Sound i → given text (holding s cs) i ≡ None → Unknown (needed text (holding s cs) i)
   item_needs i sound is = needs_as i.role i sound.type_holds sound.value_holds is
@@ -549,7 +574,8 @@ module _ (text : List ℕ) (s : Scope) (n : ℕ) (typed : AllByRecursion (IsType
 pub record NothingFails (text : List ℕ) (s : Scope) (ds : List Declaration) : Type 0 where
   pub as_many : length s.values ≡ length (items_in ds)
   pub unknown : AllByRecursion (λ o. IsNone o) s.values
-  pub typed : AllByRecursion (IsTypedOnceKnown s.signatures (length s.values)) s.declared
+  pub typed : AllByRecursion (IsTypedOnceKnown s.types s.signatures (length s.values)) s.declared
+  pub formed : IsFormed s.types
   pub never : (f : Fault) → ItemsFail text (settled text s (items_in ds)) ds f → ⊥
 
 module _ (text : List ℕ) (s : Scope) (ds : List Declaration) where
@@ -583,8 +609,8 @@ module _ (text : List ℕ) (s : Scope) (ds : List Declaration) where
     many_behind : length behind ≡ length s.values
     many_behind = (rounds_good (give text s) (monotone text s) (items_in ds) (length (items_in ds)) s.values consistent).as_many
 
-    sound : AllByRecursion (Sound text s (length s.values) h.typed behind many_behind held) (items_in ds)
-    sound = all_sound text s (length s.values) h.typed behind many_behind held ds (λ f x. never_here f (inl x))
+    sound : AllByRecursion (Sound text s (length s.values) h.formed h.typed behind many_behind held) (items_in ds)
+    sound = all_sound text s (length s.values) h.formed h.typed behind many_behind held ds (λ f x. never_here f (inl x))
 
     no_cycle : (k : ℕ) → k < length s.values → Reaches text (holding s behind) (items_in ds) k k → ⊥
     no_cycle k l way =
@@ -592,17 +618,17 @@ module _ (text : List ℕ) (s : Scope) (ds : List Declaration) where
         let i = there (items_in ds) k (omega (arith, l, as_many)) in
         never_here (fault RecursiveType (cycle_place i.0.role i.0.name i.0.names)) (inr (inr (record { number = k; item = i.0; has = i.1; reaches = way; at = refl })))
 
-    next : (k : ℕ) (i : Item) → slice_get (items_in ds) k ≡ Some i → known behind k ≡ None → Unknown text s (length s.values) h.typed behind many_behind held (needed text (holding s behind) i)
+    next : (k : ℕ) (i : Item) → slice_get (items_in ds) k ≡ Some i → known behind k ≡ None → Unknown text s (length s.values) h.formed h.typed behind many_behind held (needed text (holding s behind) i)
     next k i at unknown_at =
-        item_needs text s (length s.values) h.typed behind many_behind held i (element (Sound text s (length s.values) h.typed behind many_behind held) (items_in ds) k i sound at)
+        item_needs text s (length s.values) h.formed h.typed behind many_behind held i (element (Sound text s (length s.values) h.formed h.typed behind many_behind held) (items_in ds) k i sound at)
         (by (give text s behind i) refl)
       where
         by : (o : Option Fixed) → give text s behind i ≡ o → give text s behind i ≡ None
         by None e = e
-        by (Some f) e = absurd (none_some (sym unknown_at ∙ all_seen (give text s) (monotone text s) (items_in ds) behind (rounds_good (give text s) (monotone text s) (items_in ds) (length (items_in ds)) s.values consistent).consistent end k i f at e (let as_many = h.as_many in let many = many_behind in omega (arith, below text s (length s.values) h.typed behind many_behind held (items_in ds) k i at, as_many, many))))
+        by (Some f) e = absurd (none_some (sym unknown_at ∙ all_seen (give text s) (monotone text s) (items_in ds) behind (rounds_good (give text s) (monotone text s) (items_in ds) (length (items_in ds)) s.values consistent).consistent end k i f at e (let as_many = h.as_many in let many = many_behind in omega (arith, below text s (length s.values) h.formed h.typed behind many_behind held (items_in ds) k i at, as_many, many))))
 
     known_behind : (k : ℕ) → k < length s.values → HasValueAt behind k
-    known_behind k l = known_or_not text s (length s.values) h.typed behind many_behind held (items_in ds) (sym h.as_many) next no_cycle k l
+    known_behind k l = known_or_not text s (length s.values) h.formed h.typed behind many_behind held (items_in ds) (sym h.as_many) next no_cycle k l
 
     -- something is known of each
     pub all_known : (k : ℕ) → k < length s.values → (f : Fixed) × (fixed (settled text s (items_in ds)) k ≡ Some f)
@@ -615,4 +641,4 @@ module _ (text : List ℕ) (s : Scope) (ds : List Declaration) where
     pub is_settled : IsSettled (settled text s (items_in ds))
     is_settled =
         subst (λ (r : Scope). IsSettled r) (sym settled_is)
-        (record { all = all_map (IsTypedOnceKnown s.signatures (length s.values)) (IsTyped s.signatures behind) s.declared (λ d x. typed_by s.signatures behind has_value (length s.values) (sym many_behind) d x) h.typed })
+        (record { all = all_map (IsTypedOnceKnown s.types s.signatures (length s.values)) (IsTyped s.types s.signatures behind) s.declared (λ d x. typed_by s.types s.signatures behind has_value (length s.values) (sym many_behind) d x) h.typed; formed = h.formed })

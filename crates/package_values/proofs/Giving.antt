@@ -12,10 +12,11 @@ use Rattle.syntax.specs.Expressions as tree
 use Rattle.syntax.specs.Expressions.{Ex as TreeEx, Exs as TreeExs, some, number, string, name, unary, binary, paren, call, selector, index, slice, array_type, slice_type, literal, elements, spelled}
 use Rattle.typed.specs.Syntax.{Exs}
 use Rattle.value_types.specs.declared.constant.Fixed.{Fixed}
-use Rattle.value_types.specs.declared.value_type.ValueType.{ValueType}
-use Rattle.value_types.specs.declared.value_type.ValueType.TheVariants.{Int, Bool as Boolean}
+use Rattle.base.specs.declared.value_type.ValueType.{ValueType}
+use Rattle.base.specs.declared.value_type.ValueType.TheVariants.{Int, Bool as Boolean}
 use Rattle.value_types.specs.Given.{allowed}
-use Rattle.value_types.specs.Constants.{same_type, constant_type, is_held, holds}
+use Rattle.base.specs.Types.{same_type}
+use Rattle.value_types.specs.Constants.{constant_type, is_held, holds}
 use Rattle.value_types.proofs.Options.{and_then_some, map_some, none_some, same_some}
 use Rattle.operators.specs.Operands.{Operand, constant, value, type_of}
 use Rattle.operators.specs.Operators.{has_rules}
@@ -34,7 +35,7 @@ use Rattle.package_values.proofs.Growth.{known, Within, renewed, rounds}
 
 -- a scope with these constants
 abbrev pub holding : Scope → List (Option Fixed) → Scope
-holding s cs = record { blocks = s.blocks; declared = s.declared; sites = s.sites; signatures = s.signatures; values = cs; globals = s.globals; strings = s.strings }
+holding s cs = record s { values = cs }
 
 -- ---- what is given stays so where more is known
 
@@ -218,8 +219,8 @@ module _ (text : List ℕ) (s : Scope) where
     still_as : (r : Role) (i : Item) (f : Fixed) → given_as text r (holding s cs) i ≡ Some f → given_as text r (holding s ds) i ≡ Some f
     still_as role.Constant i f h = given_still i.type_expr i.value f h
     still_as role.Variable i f h =
-        let p = map_some zero_of (variable_type text (holding s cs) i.type_expr i.value i.values i.place) f h in
-        ap (option_map zero_of) (variable_still i.type_expr i.value i.values i.place p.0 p.1) ∙ ap Some p.2
+        let p = and_then_some zero_of (variable_type text (holding s cs) i.type_expr i.value i.values i.place) f h in
+        ap (option_and_then zero_of) (variable_still i.type_expr i.value i.values i.place p.0 p.1) ∙ p.2
 
   pub monotone : (cs ds : List (Option Fixed)) → Within cs ds → (i : Item) (f : Fixed) → give cs i ≡ Some f → give ds i ≡ Some f
   monotone cs ds within i f h = still_as cs ds within i.role i f h
@@ -254,15 +255,16 @@ module _ (text : List ℕ) (s : Scope) where
       let p = and_then_some (accepted text (holding s cs) t) (constant_in (gives text (holding s cs) e)) f is in
       accepted_held cs t p.0 f (operand_held text (holding s cs) (λ n x h. name_held cs held (declaration s n) x h) e (constant p.0) (a_constant (operand_in (gives text (holding s cs) e)) p.0 p.1)) p.2
 
-  zero_held : (t : ValueType) → is_held (zero_of t).value_type (zero_of t).value ≡ true
-  zero_held Int = refl
-  zero_held Boolean = refl
+  zero_held : (t : ValueType) (f : Fixed) → zero_of t ≡ Some f → is_held f.value_type f.value ≡ true
+  zero_held Int f is = subst (λ (g : Fixed). is_held g.value_type g.value ≡ true) (same_some is) refl
+  zero_held Boolean f is = subst (λ (g : Fixed). is_held g.value_type g.value ≡ true) (same_some is) refl
+  zero_held t f is = absurd (none_some is)
 
   held_as : (cs : List (Option Fixed)) → AreHeld cs → (r : Role) (i : Item) (f : Fixed) → given_as text r (holding s cs) i ≡ Some f → is_held f.value_type f.value ≡ true
   held_as cs held role.Constant i f is = by_value cs held i.type_expr i.value f is
   held_as cs held role.Variable i f is =
-      let p = map_some zero_of (variable_type text (holding s cs) i.type_expr i.value i.values i.place) f is in
-      subst (λ (g : Fixed). is_held g.value_type g.value ≡ true) p.2 (zero_held p.0)
+      let p = and_then_some zero_of (variable_type text (holding s cs) i.type_expr i.value i.values i.place) f is in
+      zero_held p.0 f p.2
 
   pub given_held : (cs : List (Option Fixed)) → AreHeld cs → (i : Item) (f : Fixed) → give cs i ≡ Some f → is_held f.value_type f.value ≡ true
   given_held cs held i f is = held_as cs held i.role i f is

@@ -46,7 +46,7 @@ set_same (x ∷ xs) zero o is = ap (λ y. y ∷ xs) (sym is)
 set_same (x ∷ xs) (suc k) o is = ap (λ l. x ∷ l) (set_same xs k o is)
 
 pub with_fixed_same : (s : Scope) (k : ℕ) (o : Option Fixed) → fixed s k ≡ o → with_fixed s k o ≡ s
-with_fixed_same s k o is = ap (λ (l : List (Option Fixed)). record { blocks = s.blocks; declared = s.declared; sites = s.sites; signatures = s.signatures; values = l; globals = s.globals; strings = s.strings }) (set_same s.values k o is)
+with_fixed_same s k o is = ap (λ (l : List (Option Fixed)). record s { values = l }) (set_same s.values k o is)
 
 module _ (text : List ℕ) where
   pub looks_same : (n : ℕ) (s : Scope) (is : List Item) → look text 0 s is ≡ s → looks text n s is ≡ s

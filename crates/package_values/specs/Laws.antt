@@ -8,7 +8,7 @@ use Rattle.package_values.specs.Values.{Item, given, settled}
 
 -- a scope in which this is known of the constants and variables
 abbrev pub with_known : Scope → List (Option Fixed) → Scope
-with_known s cs = record { blocks = s.blocks; declared = s.declared; sites = s.sites; signatures = s.signatures; values = cs; globals = s.globals; strings = s.strings }
+with_known s cs = record s { values = cs }
 
 module _ (text : List ℕ) (s : Scope) (is : List Item) where
   -- a constant has a value, or a variable a type with this zero value: where some are known, each by what it has, the declaration gives it

@@ -1,6 +1,6 @@
 -- Which rules fail in the declarations of constants and variables of a package, and where each is reported. They are looked at where what can be
 -- known of them is known.
-use Rattle.std.specs.Prelude.{◌≡◌, ◌⊎◌, ℕ, suc, ◌==◌, length, map, Bool, true, false, List, [], ◌∷◌, codes, slice_get, Option, Some, None, if◌then◌else◌}
+use Rattle.std.specs.Prelude.{◌≡◌, ◌⊎◌, ℕ, suc, ◌==◌, length, map, Bool, true, false, List, [], ◌∷◌, codes, slice_get, is_some, Option, Some, None, if◌then◌else◌}
 use Rattle.std.specs.Str.{bytes_eq}
 use Rattle.base.specs.declared.pos.Pos.{Pos}
 use Rattle.syntax.specs.declared.expression.Name.{Name}
@@ -10,7 +10,7 @@ use Rattle.syntax.specs.Statements.{ValueSpec}
 use Rattle.syntax.specs.Declarations.{Declaration, constants, variables, types, function}
 use Rattle.value_types.specs.declared.fault.Fault.{Fault}
 use Rattle.value_types.specs.declared.fault.FaultKind.TheVariants.{Redeclared, Mismatch, ArgCount, ConstRange, BadOperand, RecursiveType, OutOfProfile}
-use Rattle.value_types.specs.declared.value_type.ValueType.{ValueType}
+use Rattle.base.specs.declared.value_type.ValueType.{ValueType}
 use Rattle.value_types.specs.Constants.{is_held}
 use Rattle.value_types.specs.Faults.{fault, IsFault}
 use Rattle.operators.specs.Operands.{Operand, constant, value, type_of}
@@ -20,11 +20,11 @@ use Rattle.names.specs.Universe.{is_blank}
 use Rattle.names.specs.Scope.{Scope, declaration}
 use Rattle.names.specs.Types.{type_in}
 use Rattle.names.specs.Faults.{FailsAsType}
-use Rattle.expression_types.specs.Typing.{accepts, operand_in, Seen, are_single, seen}
+use Rattle.expression_types.specs.Typing.{accepts, operand_in, type_in_one, Seen, are_single, seen}
 use Rattle.expression_types.specs.Faults.{SinglesFail, CountFails, TakeFails, FailsInEach}
 use Rattle.package_values.specs.declared.items.Role.{Role}
 use Rattle.package_values.specs.declared.items.Role.TheVariants as role
-use Rattle.package_values.specs.Values.{Item, items_in}
+use Rattle.package_values.specs.Values.{Item, items_in, zero_of}
 use Rattle.package_values.specs.Needs.{has_form, Reaches}
 
 -- how many values there are, where each gives one
@@ -58,6 +58,16 @@ value_name_fault k false false d at = if is_this_value k d then None else Some (
 -- a value that begins a variable has the form of a constant
 abbrev pub form_fault : Bool → Pos → Option Fault
 form_fault has_form at = if has_form then None else Some (fault OutOfProfile at)
+
+-- a variable of another type than int and bool
+abbrev pub left_out_fault : Option ValueType → Pos → Option Fault
+left_out_fault None at = None
+left_out_fault (Some t) at = if is_some (zero_of t) then None else Some (fault OutOfProfile at)
+
+-- such values, which have no type beside them
+abbrev pub ValuesLeftOut : List Seen → Fault → Type 0
+ValuesLeftOut [] f = ⊥
+ValuesLeftOut (o ∷ os) f = IsFault (left_out_fault (type_in_one o.gives) o.at) f ⊎ ValuesLeftOut os f
 
 -- a variable with a type begins with its zero value where no values stand there
 abbrev pub is_bare : Option TreeEx → TreeExs → Bool
@@ -106,9 +116,15 @@ module _ (text : List ℕ) (s : Scope) where
   InitialsFail true at v f = ⊥
   InitialsFail false at v f = TakeFails (fault ArgCount at) (wanted v) (seen text s v.values) f ⊎ FormsFail v.values f
 
+  -- variables of another type than int and bool: at the type that stands there, or at a value without one
+  abbrev pub LeftOut : Option TreeEx → List Seen → Fault → Type 0
+  LeftOut None os f = ValuesLeftOut os f
+  LeftOut (Some e) os f = IsFault (left_out_fault (type_in text s e) (first_place e)) f
+
   -- one declaration of a `var`, whose word stands at a place: its type, its values, their number and their form
   abbrev pub VariablesFail : Pos → ValueSpec → Fault → Type 0
-  VariablesFail at v f = (TypeFails v.type_expr f ⊎ FailsInEach text s v.values f) ⊎ InitialsFail (is_bare v.type_expr v.values) at v f
+  VariablesFail at v f =
+      ((TypeFails v.type_expr f ⊎ FailsInEach text s v.values f) ⊎ InitialsFail (is_bare v.type_expr v.values) at v f) ⊎ LeftOut v.type_expr (seen text s v.values) f
 
   abbrev pub AllVariablesFail : Pos → List ValueSpec → Fault → Type 0
   AllVariablesFail at [] f = ⊥

@@ -9,10 +9,11 @@ use Rattle.syntax.specs.Statements.{ValueSpec}
 use Rattle.syntax.specs.Declarations.{Declaration, constants, variables, types, function}
 use Rattle.value_types.specs.declared.constant.Constant.TheVariants.{Number, Truth}
 use Rattle.value_types.specs.declared.constant.Fixed.{Fixed}
-use Rattle.value_types.specs.declared.value_type.ValueType.{ValueType}
-use Rattle.value_types.specs.declared.value_type.ValueType.TheVariants.{Int, Bool as Boolean}
+use Rattle.base.specs.declared.value_type.ValueType.{ValueType}
+use Rattle.base.specs.declared.value_type.ValueType.TheVariants.{Int, Bool as Boolean}
 use Rattle.value_types.specs.Given.{allowed}
-use Rattle.value_types.specs.Constants.{same_type, constant_type, holds}
+use Rattle.base.specs.Types.{same_type}
+use Rattle.value_types.specs.Constants.{constant_type, holds}
 use Rattle.operators.specs.Operands.{Operand, constant, value}
 use Rattle.names.specs.Scope.{Scope, with_fixed}
 use Rattle.names.specs.Types.{type_in}
@@ -64,10 +65,11 @@ items_in (function f ∷ ds) = items_in ds
 
 -- ---- values
 
--- a variable of a type is known by the zero value of the type
-abbrev pub zero_of : ValueType → Fixed
-zero_of Int = record { value_type = Some Int; value = Number (pos 0) }
-zero_of Boolean = record { value_type = Some Boolean; value = Truth false }
+-- a variable of a type is known by the zero value of the type; variables of other types than int and bool are left out
+abbrev pub zero_of : ValueType → Option Fixed
+zero_of Int = Some (record { value_type = Some Int; value = Number (pos 0) })
+zero_of Boolean = Some (record { value_type = Some Boolean; value = Truth false })
+zero_of other = None
 
 -- what gives a constant
 abbrev pub as_constant : Operand → Option Fixed
@@ -105,7 +107,7 @@ module _ (text : List ℕ) where
   -- what is known of one of them then
   abbrev pub given_as : Role → Scope → Item → Option Fixed
   given_as role.Constant s i = given_by s i.type_expr i.value
-  given_as role.Variable s i = option_map zero_of (variable_type s i.type_expr i.value i.values i.place)
+  given_as role.Variable s i = option_and_then zero_of (variable_type s i.type_expr i.value i.values i.place)
 
   abbrev pub given : Scope → Item → Option Fixed
   given s i = given_as i.role s i

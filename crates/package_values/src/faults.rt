@@ -13,21 +13,21 @@ ghost use Rattle.names.specs.Scope.{scope_of, declaration};
 ghost use Rattle.expression_types.specs.Typing.{operand_in, seen};
 ghost use Rattle.expression_types.specs.Faults.{SinglesFail, CountFails, FailsInEach};
 ghost use Rattle.expression_types.specs.Passing.{gives_of, seens};
-ghost use Rattle.package_values.specs.ValueFaults.{single_count, fitting_value_fault, value_fault, ValuesFail, is_this_value, value_name_fault, type_asked, TypeFails, SpecFails, SpecsFail, form_fault, FormsFail, wanted, is_bare, InitialsFail, VariablesFail, AllVariablesFail, first_of, cycle_place, DeclarationsFail, NamesFail, Recurs, ItemsFail};
+ghost use Rattle.package_values.specs.ValueFaults.{single_count, fitting_value_fault, value_fault, ValuesFail, is_this_value, value_name_fault, type_asked, TypeFails, SpecFails, SpecsFail, form_fault, FormsFail, left_out_fault, ValuesLeftOut, LeftOut, wanted, is_bare, InitialsFail, VariablesFail, AllVariablesFail, first_of, cycle_place, DeclarationsFail, NamesFail, Recurs, ItemsFail};
 ghost use Rattle.package_values.specs.Passing.{item_views, table_of, DeclarationFails, RecursAt};
 
 use crate::items::{Item, Role, items_in};
 use crate::needs::{has_form, needs};
 use crate::reaching::reaches_itself;
-use crate::values::constant_in;
-use base::{NoMemory, Pos};
+use crate::values::{constant_in, zero_of};
+use base::{NoMemory, Pos, ValueType};
 use expression_types::{
     accepts, are_single, check_list, count_fault, one_type, singles_fault, take_fault,
 };
 use names::{Declared, Scope, declaration, is_blank, spelled, type_fault, type_in};
 use std::alloc::Global;
 use syntax::{Decl, Expr, Name, ValueSpec};
-use value_types::{Fault, FaultKind, ValueType, held_fault, lesser};
+use value_types::{Fault, FaultKind, held_fault, lesser};
 
 /// The type that a declaration has, where it is known.
 fn type_asked(text: &[u8], scope: &Scope, type_expr: &Option<Expr>) -> Option<ValueType>
@@ -155,6 +155,46 @@ fn forms_fault(text: &[u8], scope: &Scope, values: &[Expr]) -> Option<Fault>
     fault
 }
 
+/// The fault of a variable of another type than int and bool.
+fn left_out_fault(value_type: Option<ValueType>, pos: Pos) -> Option<Fault>
+    ensures { result ≡ left_out_fault value_type pos }
+{
+    match value_type {
+        Some(value_type) if zero_of(value_type).is_none() => Some(Fault {
+            kind: FaultKind::OutOfProfile,
+            pos,
+        }),
+        _ => None,
+    }
+}
+
+/// The fault of values of such types, which have no type beside them.
+fn values_left_out(items: &[expression_types::Item]) -> Option<Fault>
+    ensures { IsLeast (ValuesLeftOut (seens items.now)) result }
+{
+    let mut fault = None;
+    for item in items {
+        fault = lesser(fault, left_out_fault(one_type(&item.gives), item.pos));
+    }
+    fault
+}
+
+/// The fault of variables of such types: at the type that stands there, or at a value without one.
+#[tactic(auto, using(value_types::proofs::Leasts::leaf))]
+fn left_out(
+    text: &[u8],
+    scope: &Scope,
+    type_expr: &Option<Expr>,
+    items: &[expression_types::Item],
+) -> Option<Fault>
+    ensures { IsLeast (LeftOut text.now (scope_of scope.now) (ex_in type_expr.now) (seens items.now)) result }
+{
+    match type_expr {
+        Some(e) => left_out_fault(type_in(text, scope, e), e.pos()),
+        None => values_left_out(items),
+    }
+}
+
 /// A type for each of some names.
 fn for_each_name(
     alloc: Global,
@@ -213,7 +253,7 @@ fn initials_fault(
     Ok(lesser(taken, forms_fault(text, scope, &spec.values)))
 }
 
-/// The fault of one declaration of a `var` whose word stands at a place: of its type, its values, their number and their form.
+/// The fault of one declaration of a `var` whose word stands at a place: of its type, its values, their number and their form, or of variables of a type that is left out.
 fn variables_fault(
     alloc: Global,
     text: &[u8],
@@ -226,7 +266,8 @@ fn variables_fault(
     let listed = check_list(alloc, text, scope, &spec.values)?;
     let initials = initials_fault(alloc, text, scope, pos, spec, &listed.items)?;
     let typed = lesser(type_expr_fault(text, scope, &spec.type_expr), listed.fault);
-    Ok(lesser(typed, initials))
+    let others = left_out(text, scope, &spec.type_expr, &listed.items);
+    Ok(lesser(lesser(typed, initials), others))
 }
 
 /// The fault of the declarations of a `var` whose word stands at a place.

@@ -1,6 +1,6 @@
 //! The values of constants and the types of variables.
 
-ghost use Rattle.std.specs.Prelude.{◌≡◌, IfOk, OnOk, true, false, None};
+ghost use Rattle.std.specs.Prelude.{◌≡◌, IfOk, OnOk, true, false, None, option_and_then};
 ghost use Rattle.std.specs.Option.{option_map};
 ghost use Rattle.syntax.specs.Expressions.{ex_in, exs_of};
 ghost use Rattle.syntax.specs.Declarations.{declarations_of};
@@ -10,13 +10,13 @@ ghost use Rattle.package_values.specs.Values.{constant_in, with_type, accepted, 
 ghost use Rattle.package_values.specs.Passing.{item_of, item_views};
 
 use crate::items::{Item, Role, items_in};
-use base::NoMemory;
+use base::{NoMemory, ValueType, same_type};
 use expression_types::{Gives, check_expr, check_list, one_type, value_types};
 use names::{Scope, ValueId, fixed, set_fixed, type_in};
 use operators::Operand;
 use std::alloc::Global;
 use syntax::{Decl, Expr};
-use value_types::{Constant, Fixed, ValueType, constant_type, is_held, same_type};
+use value_types::{Constant, Fixed, constant_type, is_held};
 
 /// The constant that an expression gives.
 pub fn constant_in(gives: &Option<Gives>) -> Option<Fixed>
@@ -74,18 +74,19 @@ fn constant_value(
     }
 }
 
-/// A variable of a type is known by the zero value of the type.
-fn zero_of(value_type: ValueType) -> Fixed
+/// A variable of a type is known by the zero value of the type; variables of other types than int and bool are left out.
+pub fn zero_of(value_type: ValueType) -> Option<Fixed>
     ensures { result ≡ zero_of value_type }
 {
     let value = match value_type {
         ValueType::Int => Constant::Number(0),
         ValueType::Bool => Constant::Truth(false),
+        _ => return None,
     };
-    Fixed {
+    Some(Fixed {
         value_type: Some(value_type),
         value,
-    }
+    })
 }
 
 /// The type of the value at a place among all values of a declaration.
@@ -145,10 +146,10 @@ fn variable_known(
     scope: &Scope,
     item: &Item,
 ) -> Result<Option<Fixed>, NoMemory>
-    ensures { IfOk result (λ r. r ≡ option_map zero_of (variable_type text.now (scope_of scope.now) (item_of item.now).type_expr (item_of item.now).value (item_of item.now).values (item_of item.now).place)) }
+    ensures { IfOk result (λ r. r ≡ option_and_then zero_of (variable_type text.now (scope_of scope.now) (item_of item.now).type_expr (item_of item.now).value (item_of item.now).values (item_of item.now).place)) }
 {
     match variable_type(alloc, text, scope, item)? {
-        Some(value_type) => Ok(Some(zero_of(value_type))),
+        Some(value_type) => Ok(zero_of(value_type)),
         None => Ok(None),
     }
 }

@@ -16,6 +16,3 @@
 mod region;
 
 pub use region::Region;
-
-#[cfg(test)]
-mod tests;

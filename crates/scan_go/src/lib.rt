@@ -34,6 +34,3 @@ pub use scanning::{longest_operator, one_answer, scan};
 pub use spelling::{KEYWORDS, Keyword, OPERATORS, Op};
 pub use token::{Kind, Token};
 pub use tokens::Tokens;
-
-#[cfg(test)]
-mod tests;

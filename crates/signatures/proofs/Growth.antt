@@ -7,15 +7,16 @@ use Rattle.std.specs.List.{AllByRecursion}
 use Rattle.base.specs.declared.pos.Pos.{Pos}
 use Rattle.std.specs.Str.{bytes_eq}
 use Rattle.value_types.specs.declared.constant.Fixed.{Fixed}
-use Rattle.value_types.specs.declared.value_type.ValueType.{ValueType}
+use Rattle.base.specs.declared.value_type.ValueType.{ValueType}
 use Rattle.syntax.specs.declared.expression.Name.{Name}
 use Rattle.syntax.specs.Expressions.{spelled}
 use Rattle.typed.specs.declared.program.Site.{Site}
+use Rattle.typed.specs.Tables.{Table}
 use Rattle.names.specs.Blocks.{Names, Blocks, with_entry, insert}
 use Rattle.names.specs.declared.scope.Declared.{Declared}
 use Rattle.names.specs.declared.scope.Declared.TheVariants.{Variable, Untyped}
 use Rattle.names.specs.Universe.{is_blank}
-use Rattle.names.specs.Scope.{Scope, Signature, type_number, is_here, with_variable, with_strings, outer, opened, closed}
+use Rattle.names.specs.Scope.{Scope, Signature, is_here, with_variable, with_strings, outer, opened, closed}
 use Rattle.signatures.specs.declared.slots.Slot.{Slot}
 use Rattle.signatures.specs.Entries.{behind_entry_name, behind_entry, behind_entries}
 
@@ -29,22 +30,20 @@ IsLocal other = ⊥
 abbrev pub Longer : List Declared → List Declared → Type 0
 Longer ds es = (more : List Declared) × (es ≡ ds ++ more) × AllByRecursion IsLocal more
 
--- a site of a type
-abbrev pub IsSite : Site → Type 0
-IsSite site = (t : ValueType) × (site.type_id.0 ≡ type_number t)
-
 -- some sites, and more behind them
 abbrev pub Extends : List Site → List Site → Type 0
-Extends a b = (more : List Site) × (b ≡ a ++ more) × AllByRecursion IsSite more
+Extends a b = (more : List Site) × (b ≡ a ++ more)
 
--- what a scope has of its package: the signatures of the functions, what is known of the constants and variables, and the numbers of these
+-- what a scope has of its package: the signatures of the functions, what is known of the constants and variables, the numbers of these, and
+-- the types
 pub record Package : Type 0 where
   pub signatures : List (Option Signature)
   pub values : List (Option Fixed)
   pub globals : List ℕ
+  pub types : Table
 
 abbrev pub package_of : Scope → Package
-package_of s = record { signatures = s.signatures; values = s.values; globals = s.globals }
+package_of s = record { signatures = s.signatures; values = s.values; globals = s.globals; types = s.types }
 
 -- the numbers of the names in a block, and in the innermost one, are not below one
 abbrev pub EntriesAbove : ℕ → Names → Type 0
@@ -74,14 +73,10 @@ pub record Keeps (s r : Scope) : Type 0 where
   pub strings : length s.strings ≤ length r.strings
 
 pub extends_none : (a : List Site) → Extends a a
-extends_none a = ([], sym (append-nil a), tt)
+extends_none a = ([], sym (append-nil a))
 
 pub extends_twice : (a b c : List Site) → Extends a b → Extends b c → Extends a c
-extends_twice a b c p q = (p.0 ++ q.0, q.1 ∙ ap (λ l. l ++ q.0) p.1 ∙ append_assoc a p.0 q.0, all_both p.0 p.2)
-  where
-    all_both : (sites : List Site) → AllByRecursion IsSite sites → AllByRecursion IsSite (sites ++ q.0)
-    all_both [] all = q.2
-    all_both (site ∷ sites) all = (all.0, all_both sites all.1)
+extends_twice a b c p q = (p.0 ++ q.0, q.1 ∙ ap (λ l. l ++ q.0) p.1 ∙ append_assoc a p.0 q.0)
 
 pub longer_twice : (a b c : List Declared) → Longer a b → Longer b c → Longer a c
 longer_twice a b c p q = (p.0 ++ q.0, q.1 ∙ ap (λ l. l ++ q.0) p.1 ∙ append_assoc a p.0 q.0, all_both p.0 p.2)
@@ -92,6 +87,10 @@ longer_twice a b c p q = (p.0 ++ q.0, q.1 ∙ ap (λ l. l ++ q.0) p.1 ∙ append
 
 pub longer_length : (a b : List Declared) → Longer a b → length a ≤ length b
 longer_length a b p = let whole = ap length p.1 ∙ length-append a p.0 in omega (arith, whole)
+
+-- the table of types stays
+pub grows_types : (s r : Scope) → Grows s r → r.types ≡ s.types
+grows_types s r g = ap (λ (q : Package). q.types) g.kept
 
 pub grows_none : (s : Scope) → Grows s s
 grows_none s = record { around = refl; depth = refl; newer = λ n le above. above; declared = ([], sym (append-nil s.declared), tt); sites = extends_none s.sites; kept = refl; strings = omega arith }
@@ -156,7 +155,7 @@ insert_above n k le [] name above = tt
 insert_above n k le (b ∷ bs) name above = with_entry_above n k le b name above
 
 pub grows_variable : (t : Option ValueType) (s : Scope) (name : List ℕ) (at : Pos) → Grows s (with_variable t s name at)
-grows_variable (Some t) s name at = record { around = insert_outer s.blocks name _; depth = insert_length s.blocks name _; newer = λ n le above. insert_above n (length s.declared) le s.blocks name above; declared = (_, refl, (tt, tt)); sites = (_, refl, ((t, refl), tt)); kept = refl; strings = omega arith }
+grows_variable (Some t) s name at = record { around = insert_outer s.blocks name _; depth = insert_length s.blocks name _; newer = λ n le above. insert_above n (length s.declared) le s.blocks name above; declared = (_, refl, (tt, tt)); sites = (_, refl); kept = refl; strings = omega arith }
 grows_variable None s name at = record { around = insert_outer s.blocks name _; depth = insert_length s.blocks name _; newer = λ n le above. insert_above n (length s.declared) le s.blocks name above; declared = (_, refl, (tt, tt)); sites = extends_none s.sites; kept = refl; strings = omega arith }
 
 grows_where : (b : Bool) (t : Option ValueType) (s : Scope) (name : List ℕ) (at : Pos) → Grows s (cond b (with_variable t s name at) s)

@@ -1,39 +1,46 @@
 -- Names with types in a block have sites in the order of the text, of these types, and stand for variables that can be named.
-use Rattle.std.proofs.Common.{◌≡◌, ℕ, zero, suc, ◌+◌, ◌≤◌, Bool, true, false, cond, List, [], ◌∷◌, ◌++◌, map, get_or, Option, Some, None, refl, sym, ap, ◌∙◌, subst, arith, length, length-append}
+use Rattle.std.proofs.Common.{◌≡◌, ℕ, zero, suc, ◌+◌, ◌≤◌, Bool, true, false, cond, List, [], ◌∷◌, map, get_or, Option, Some, None, refl, sym, ap, ◌∙◌, subst, arith, length, length-append}
 use Rattle.std.specs.Prelude.{slice_get, not, ◌&&◌}
 use Rattle.std.specs.Option.{option_map}
 use Rattle.syntax.specs.declared.expression.Name.{Name}
 use Rattle.syntax.specs.Expressions.{spelled}
 use Rattle.typed.specs.declared.program.Site.{Site}
-use Rattle.typed.specs.Syntax.{Program, site_type}
-use Rattle.typed.specs.View.{basic_types, type_of, site_types}
+use Rattle.typed.specs.Syntax.{Program, type_in, site_type}
+use Rattle.typed.specs.Tables.{Table}
+use Rattle.typed.specs.Trees.{trees, tree_named}
+use Rattle.typed.specs.View.{site_types}
 use Rattle.typed.specs.Form.{LeftsFit, new_sites, scope_behind, scope_with, SitesNext, ParamsFit, NamedFit, named_params as with_sites, params_scope}
 use Rattle.value_trees.specs.Types.{ValueType as TypeTree, ints}
-use Rattle.value_types.specs.declared.value_type.ValueType.{ValueType}
+use Rattle.base.specs.declared.value_type.ValueType.{ValueType}
 use Rattle.value_types.proofs.Options.{and_then_some, map_some, none_some, same_some}
 use Rattle.names.specs.Universe.{is_blank}
 use Rattle.names.specs.Scope.{Scope, type_number, type_tree, type_trees, is_here, with_variable}
-use Rattle.names.proofs.Trees.{number_tree}
 use Rattle.signatures.specs.declared.slots.Slot.{Slot}
 use Rattle.signatures.specs.declared.entries.Role.{Role}
 use Rattle.signatures.specs.declared.entries.Role.TheVariants.{Parameter, Result}
 use Rattle.signatures.specs.Entries.{blank_entry, variable_entry, entry_of, sites_of, entry_left, slot_with, slots_each, entry_in, behind_entry_name, behind_entry, entries, behind_entries}
 use Rattle.signatures.proofs.Growth.{Extends, extends_twice, Grows, grows_entries}
-use Rattle.signatures.proofs.Visible.{HasSite, has_longer, Visible, visible_with}
+use Rattle.signatures.proofs.Visible.{HasSite, has_longer, new_site, Visible, visible_with}
 
 -- ---- the sites of a program
 
-pub get_mapped : (sites : List Site) (k : ℕ) (x : Site) → slice_get sites k ≡ Some x → get_or (site_types basic_types sites) k ints ≡ type_of x.type_id.0
-get_mapped [] k x is = absurd (none_some is)
-get_mapped (y ∷ sites) zero x is = ap (λ (site : Site). type_of site.type_id.0) (same_some is)
-get_mapped (y ∷ sites) (suc k) x is = get_mapped sites k x is
+pub get_mapped : (types : List TypeTree) (sites : List Site) (k : ℕ) (x : Site) → slice_get sites k ≡ Some x → get_or (site_types types sites) k ints ≡ type_in types x.type_id.0
+get_mapped types [] k x is = absurd (none_some is)
+get_mapped types (y ∷ sites) zero x is = ap (λ (site : Site). type_in types site.type_id.0) (same_some is)
+get_mapped types (y ∷ sites) (suc k) x is = get_mapped types sites k x is
 
--- a program with the types of these sites
-abbrev pub HasSites : Program → List Site → Type 0
-HasSites p all = p.sites ≡ site_types basic_types all
+-- a program with the types of a table, and with those of these sites
+pub record HasSites (T : Table) (p : Program) (all : List Site) : Type 0 where
+  pub types : p.types ≡ trees T
+  pub sites : p.sites ≡ site_types p.types all
 
-pub site_is : (p : Program) (all : List Site) → HasSites p all → (site : ℕ) (t : ValueType) → HasSite all site t → site_type p site ≡ type_tree t
-site_is p all has site t h = ap (λ (l : List TypeTree). get_or l site ints) has ∙ get_mapped all site h.0 h.1 ∙ ap type_of h.2 ∙ number_tree t
+module _ (T : Table) (p : Program) (all : List Site) (has : HasSites T p all) where
+  pub site_is : (site : ℕ) (t : ValueType) → HasSite T all site t → site_type p site ≡ type_tree T t
+  site_is site t h = ap (λ (l : List TypeTree). get_or l site ints) has.sites ∙ get_mapped p.types all site h.0 h.1 ∙ ap (λ ts. type_in ts h.0.type_id.0) has.types ∙ ap (tree_named T) h.2
+
+  -- what a scope with this table shows has its type
+  pub site_shown : (s : Scope) → s.types ≡ T → Extends s.sites all → (site : ℕ) (t : ValueType) → HasSite s.types s.sites site t → site_type p site ≡ type_tree T t
+  site_shown s types_are e site t h = site_is site t (subst (λ (U : Table). HasSite U all site t) types_are (has_longer s.types s.sites all site t e h))
 
 -- a scope before the end: its sites are the first ones of the program, which has its strings
 abbrev pub Within : Program → List Site → Scope → Type 0
@@ -105,8 +112,8 @@ module _ (p : Program) where
 
 -- ---- entries are in form
 
-pub record EntriesFit (text : List ℕ) (p : Program) (s : Scope) (scope : List ℕ) (ps : List Slot) (ts : List ValueType) (es : List (Option ℕ)) : Type 0 where
-  pub fit : ParamsFit p (length s.sites) (type_trees ts) es
+pub record EntriesFit (T : Table) (text : List ℕ) (p : Program) (s : Scope) (scope : List ℕ) (ps : List Slot) (ts : List ValueType) (es : List (Option ℕ)) : Type 0 where
+  pub fit : ParamsFit p (length s.sites) (type_trees T ts) es
   pub visible : Visible (behind_entries text s ps) (params_scope scope es)
   pub count : length s.sites + with_sites es ≡ length (behind_entries text s ps).sites
   pub long : length es ≡ length ps
@@ -120,69 +127,63 @@ pub variable_is : (h : Bool) (site : ℕ) (e : Option ℕ) → variable_entry h 
 variable_is true site e is = absurd (none_some is)
 variable_is false site e is = (refl, sym (same_some is))
 
-module _ (text : List ℕ) (p : Program) (all : List Site) (has : HasSites p all) where
-  pub entries_fit : (role : Role) (s : Scope) (scope : List ℕ) (ps : List Slot) (ts : List ValueType) (es : List (Option ℕ)) → Visible s scope → SlotsHave ps ts → entries text role s ps ≡ Some es → Extends (behind_entries text s ps).sites all
-      → EntriesFit text p s scope ps ts es
-  entries_fit role s scope [] (t ∷ ts) es visible types is ext = absurd types
-  entries_fit role s scope (q ∷ ps) [] es visible types is ext = absurd types
-  entries_fit role s scope [] [] es visible types is ext =
-      subst (λ (l : List (Option ℕ)). EntriesFit text p s scope [] [] l) (same_some is) (record { fit = tt; visible = visible; count = omega arith; long = refl })
-  entries_fit role s scope (q ∷ ps) (t ∷ ts) es visible types is ext =
+-- in a scope with the program's table
+module _ (T : Table) (text : List ℕ) (p : Program) (all : List Site) (has : HasSites T p all) where
+  pub entries_fit : (role : Role) (s : Scope) (scope : List ℕ) (ps : List Slot) (ts : List ValueType) (es : List (Option ℕ)) → s.types ≡ T → Visible s scope → SlotsHave ps ts → entries text role s ps ≡ Some es → Extends (behind_entries text s ps).sites all
+      → EntriesFit T text p s scope ps ts es
+  entries_fit role s scope [] (t ∷ ts) es types_are visible types is ext = absurd types
+  entries_fit role s scope (q ∷ ps) [] es types_are visible types is ext = absurd types
+  entries_fit role s scope [] [] es types_are visible types is ext =
+      subst (λ (l : List (Option ℕ)). EntriesFit T text p s scope [] [] l) (same_some is) (record { fit = tt; visible = visible; count = omega arith; long = refl })
+  entries_fit role s scope (q ∷ ps) (t ∷ ts) es types_are visible types is ext =
       let r = and_then_some (λ e. option_map (λ xs. e ∷ xs) (entries text role (behind_entry text s q) ps)) (entry_in text role s q.name) es is in
       let k = map_some (λ xs. r.0 ∷ xs) (entries text role (behind_entry text s q) ps) es r.2 in
-      subst (λ (l : List (Option ℕ)). EntriesFit text p s scope (q ∷ ps) (t ∷ ts) l) k.2
+      subst (λ (l : List (Option ℕ)). EntriesFit T text p s scope (q ∷ ps) (t ∷ ts) l) k.2
       (by q.name refl r.0 k.0 r.1 (ap (λ (o : Option ValueType). entries text role (behind_entry_name text o s q.name) ps) (sym types.0) ∙ k.1)
       (subst (λ (o : Option ValueType). Extends (behind_entries text (behind_entry_name text o s q.name) ps).sites all) types.0 ext)
-      (λ s1 scope1 xs v i x. entries_fit role s1 scope1 ps ts xs v types.1 i x))
+      (λ s1 scope1 xs k1 v i x. entries_fit role s1 scope1 ps ts xs k1 v types.1 i x))
     where
       Later : Type 0
-      Later = (s1 : Scope) (scope1 : List ℕ) (xs : List (Option ℕ)) → Visible s1 scope1 → entries text role s1 ps ≡ Some xs → Extends (behind_entries text s1 ps).sites all → EntriesFit text p s1 scope1 ps ts xs
+      Later = (s1 : Scope) (scope1 : List ℕ) (xs : List (Option ℕ)) → s1.types ≡ T → Visible s1 scope1 → entries text role s1 ps ≡ Some xs → Extends (behind_entries text s1 ps).sites all → EntriesFit T text p s1 scope1 ps ts xs
 
       Whole : Scope → List (Option ℕ) → Type 0
-      Whole s1 xs = (ParamsFit p (length s.sites) (type_tree t ∷ type_trees ts) xs) × (Visible (behind_entries text s1 ps) (params_scope scope xs)) × (length s.sites + with_sites xs ≡ length (behind_entries text s1 ps).sites) × (length xs ≡ suc (length ps))
+      Whole s1 xs = (ParamsFit p (length s.sites) (type_tree T t ∷ type_trees T ts) xs) × (Visible (behind_entries text s1 ps) (params_scope scope xs)) × (length s.sites + with_sites xs ≡ length (behind_entries text s1 ps).sites) × (length xs ≡ suc (length ps))
 
-      as_fit : (n : Option Name) → q.name ≡ n → (xs : List (Option ℕ)) → Whole (behind_entry_name text (Some t) s n) xs → EntriesFit text p s scope (q ∷ ps) (t ∷ ts) xs
+      as_fit : (n : Option Name) → q.name ≡ n → (xs : List (Option ℕ)) → Whole (behind_entry_name text (Some t) s n) xs → EntriesFit T text p s scope (q ∷ ps) (t ∷ ts) xs
       as_fit n n_is xs w =
           let w1 : Whole (behind_entry text s q) xs = subst (λ (o : Option ValueType). Whole (behind_entry_name text o s q.name) xs) (sym types.0) (subst (λ (m : Option Name). Whole (behind_entry_name text (Some t) s m) xs) (sym n_is) w) in
           record { fit = w1.0; visible = w1.1; count = w1.2; long = w1.3 }
 
-      nothing : (xs : List (Option ℕ)) → EntriesFit text p s scope ps ts xs → Whole s (None ∷ xs)
+      nothing : (xs : List (Option ℕ)) → EntriesFit T text p s scope ps ts xs → Whole s (None ∷ xs)
       nothing xs f = (f.fit, f.visible, f.count, ap suc f.long)
 
-      variable : (n : Name) (xs : List (Option ℕ)) → EntriesFit text p (with_variable (Some t) s (spelled text n) n.pos) (length s.sites ∷ scope) ps ts xs → Extends (behind_entries text (with_variable (Some t) s (spelled text n) n.pos) ps).sites all
+      variable : (n : Name) (xs : List (Option ℕ)) → EntriesFit T text p (with_variable (Some t) s (spelled text n) n.pos) (length s.sites ∷ scope) ps ts xs → Extends (behind_entries text (with_variable (Some t) s (spelled text n) n.pos) ps).sites all
           → Whole (with_variable (Some t) s (spelled text n) n.pos) (Some (length s.sites) ∷ xs)
       variable n xs f x =
           let s1 = with_variable (Some t) s (spelled text n) n.pos in
-          let one1 : length s1.sites ≡ length s.sites + 1 = length-append s.sites (record { pos = n.pos; type_id = record { 0 = type_number t } } ∷ []) in
+          let one1 : length s1.sites ≡ length s.sites + 1 = length-append s.sites (record { pos = n.pos; type_id = record { 0 = type_number s.types t } } ∷ []) in
           let next1 : length s1.sites ≡ suc (length s.sites) = omega (arith, one1) in
-          let here1 : HasSite s1.sites (length s.sites) t = newest n in
-          let type_is = site_is p all has (length s.sites) t (has_longer s1.sites all (length s.sites) t (extends_twice s1.sites (behind_entries text s1 ps).sites all (grows_entries text s1 ps).sites x) here1) in
-          ((refl, type_is, subst (λ j. ParamsFit p j (type_trees ts) xs) next1 f.fit), f.visible, omega (arith, f.count, one1), ap suc f.long)
-        where
-          last_site : (sites : List Site) (x1 : Site) → slice_get (sites ++ x1 ∷ []) (length sites) ≡ Some x1
-          last_site [] x1 = refl
-          last_site (y ∷ sites) x1 = last_site sites x1
-
-          newest : (n1 : Name) → HasSite (with_variable (Some t) s (spelled text n1) n1.pos).sites (length s.sites) t
-          newest n1 = (record { pos = n1.pos; type_id = record { 0 = type_number t } }, last_site s.sites (record { pos = n1.pos; type_id = record { 0 = type_number t } }), refl)
+          let before : Extends s1.sites all = extends_twice s1.sites (behind_entries text s1 ps).sites all (grows_entries text s1 ps).sites x in
+          let type_is = site_shown T p all has s1 types_are before (length s.sites) t (new_site s t n.pos) in
+          ((refl, type_is, subst (λ j. ParamsFit p j (type_trees T ts) xs) next1 f.fit), f.visible, omega (arith, f.count, one1), ap suc f.long)
 
       with_name : (n : Name) (b h : Bool) (e : Option ℕ) (xs : List (Option ℕ)) → entry_of role b h (length s.sites) ≡ Some e
           → entries text role (cond (not b && not h) (with_variable (Some t) s (spelled text n) n.pos) s) ps ≡ Some xs
           → Extends (behind_entries text (cond (not b && not h) (with_variable (Some t) s (spelled text n) n.pos) s) ps).sites all → Later
           → Whole (cond (not b && not h) (with_variable (Some t) s (spelled text n) n.pos) s) (e ∷ xs)
-      with_name n true h e xs e_is xs_is x later = subst (λ (o : Option ℕ). Whole s (o ∷ xs)) (sym (blank_is role e e_is)) (nothing xs (later s scope xs visible xs_is x))
+      with_name n true h e xs e_is xs_is x later = subst (λ (o : Option ℕ). Whole s (o ∷ xs)) (sym (blank_is role e e_is)) (nothing xs (later s scope xs types_are visible xs_is x))
       with_name n false true e xs e_is xs_is x later = let v = variable_is true (length s.sites) e e_is in absurd cc
       with_name n false false e xs e_is xs_is x later =
           let v = variable_is false (length s.sites) e e_is in
           let s1 = with_variable (Some t) s (spelled text n) n.pos in
-          subst (λ (o : Option ℕ). Whole s1 (o ∷ xs)) (sym v.1) (variable n xs (later s1 (length s.sites ∷ scope) xs (visible_with s scope (spelled text n) t n.pos visible) xs_is x) x)
+          subst (λ (o : Option ℕ). Whole s1 (o ∷ xs)) (sym v.1) (variable n xs (later s1 (length s.sites ∷ scope) xs types_are (visible_with s scope (spelled text n) t n.pos visible) xs_is x) x)
 
       by : (n : Option Name) → q.name ≡ n → (e : Option ℕ) (xs : List (Option ℕ)) → entry_in text role s n ≡ Some e → entries text role (behind_entry_name text (Some t) s q.name) ps ≡ Some xs
-          → Extends (behind_entries text (behind_entry_name text (Some t) s q.name) ps).sites all → Later → EntriesFit text p s scope (q ∷ ps) (t ∷ ts) (e ∷ xs)
+          → Extends (behind_entries text (behind_entry_name text (Some t) s q.name) ps).sites all → Later → EntriesFit T text p s scope (q ∷ ps) (t ∷ ts) (e ∷ xs)
       by None n_is e xs e_is xs_is x later =
           let found : entries text role s ps ≡ Some xs = ap (λ (m : Option Name). entries text role (behind_entry_name text (Some t) s m) ps) (sym n_is) ∙ xs_is in
           let x1 : Extends (behind_entries text s ps).sites all = subst (λ (m : Option Name). Extends (behind_entries text (behind_entry_name text (Some t) s m) ps).sites all) n_is x in
-          as_fit None n_is (e ∷ xs) (subst (λ (o : Option ℕ). Whole s (o ∷ xs)) (same_some e_is) (nothing xs (later s scope xs visible found x1)))
+          as_fit None n_is (e ∷ xs) (subst (λ (o : Option ℕ). Whole s (o ∷ xs)) (same_some e_is) (nothing xs (later s scope xs types_are visible found x1)))
       by (Some n) n_is e xs e_is xs_is x later =
           let found : entries text role (behind_entry_name text (Some t) s (Some n)) ps ≡ Some xs = ap (λ (m : Option Name). entries text role (behind_entry_name text (Some t) s m) ps) (sym n_is) ∙ xs_is in
           let x1 : Extends (behind_entries text (behind_entry_name text (Some t) s (Some n)) ps).sites all = subst (λ (m : Option Name). Extends (behind_entries text (behind_entry_name text (Some t) s m) ps).sites all) n_is x in

@@ -2,7 +2,7 @@
 use Rattle.std.proofs.Common.{◌≡◌, ℕ, zero, suc, drop, List, [], ◌∷◌, Option, Some, None, refl}
 use Rattle.std.specs.Prelude.{slice_get, option_and_then}
 use Rattle.std.specs.Option.{option_map}
-use Rattle.value_types.specs.declared.value_type.ValueType.{ValueType}
+use Rattle.base.specs.declared.value_type.ValueType.{ValueType}
 use Rattle.signatures.specs.declared.slots.Slot.{Slot}
 use Rattle.signatures.specs.Entries.{first_type, later_types}
 

@@ -8,7 +8,7 @@ use Rattle.syntax.specs.declared.expression.Name.{Name}
 use Rattle.syntax.specs.Expressions.{spelled}
 use Rattle.value_types.specs.declared.fault.Fault.{Fault}
 use Rattle.value_types.specs.declared.fault.FaultKind.TheVariants.{Redeclared, OutOfProfile}
-use Rattle.value_types.specs.declared.value_type.ValueType.{ValueType}
+use Rattle.base.specs.declared.value_type.ValueType.{ValueType}
 use Rattle.value_types.specs.Faults.{fault, IsFault}
 use Rattle.value_types.proofs.Decided.{Decided, Tested, mapped, after}
 use Rattle.names.specs.declared.scope.Declared.{Declared}
@@ -41,13 +41,13 @@ one_more_declared P [] d all p = (p, tt)
 one_more_declared P (e ∷ ds) d all p = (all.0, one_more_declared P ds d all.1 p)
 
 pub settled_with : (s : Scope) (n : List ℕ) (t : ValueType) (at : Pos) → IsSettled s → IsSettled (with_variable (Some t) s n at)
-settled_with s n t at settled = record { all = one_more_declared (IsTyped s.signatures s.values) s.declared _ settled.all tt }
+settled_with s n t at settled = record { all = one_more_declared (IsTyped s.types s.signatures s.values) s.declared _ settled.all tt; formed = settled.formed }
 
 pub settled_opened : (s : Scope) → IsSettled s → IsSettled (opened s)
-settled_opened s settled = record { all = settled.all }
+settled_opened s settled = record { all = settled.all; formed = settled.formed }
 
 pub settled_closed : (s : Scope) → IsSettled s → IsSettled (closed s)
-settled_closed s settled = record { all = settled.all }
+settled_closed s settled = record { all = settled.all; formed = settled.formed }
 
 -- names with types that are known
 abbrev pub AllTyped : List Slot → Type 0

@@ -4,8 +4,9 @@ use Rattle.std.specs.Prelude.{slice_get}
 use Rattle.std.specs.Str.{bytes_eq}
 use Rattle.base.specs.declared.ids.SiteId.{SiteId}
 use Rattle.base.specs.declared.pos.Pos.{Pos}
-use Rattle.value_types.specs.declared.value_type.ValueType.{ValueType}
+use Rattle.base.specs.declared.value_type.ValueType.{ValueType}
 use Rattle.typed.specs.Form.{InScope}
+use Rattle.typed.specs.Tables.{Table}
 use Rattle.value_types.proofs.Options.{none_some}
 use Rattle.operators.proofs.Held.{AreHeld}
 use Rattle.typed.specs.declared.program.Site.{Site}
@@ -15,7 +16,7 @@ use Rattle.names.specs.declared.scope.ValueId.{ValueId}
 use Rattle.names.specs.declared.scope.GlobalId.{GlobalId}
 use Rattle.names.specs.declared.scope.Declared.TheVariants.{Variable, Global}
 use Rattle.names.specs.Universe.{predeclared}
-use Rattle.names.specs.Scope.{Scope, type_number, numbered, declaration, with_declaration, with_variable, with_strings, opened, beginning}
+use Rattle.names.specs.Scope.{Scope, type_number, numbered, declaration, with_declaration, with_site, with_variable, with_strings, opened, beginning}
 use Rattle.names.proofs.Settled.{predeclared_is}
 use Rattle.signatures.proofs.Growth.{Extends, Package, Keeps}
 
@@ -125,59 +126,63 @@ get_last [] d = refl
 get_last (e ∷ ds) d = get_last ds d
 
 -- a site of a type stands at a place of the list
-abbrev pub HasSite : List Site → ℕ → ValueType → Type 0
-HasSite sites site t = (x : Site) × (slice_get sites site ≡ Some x) × (x.type_id.0 ≡ type_number t)
+abbrev pub HasSite : Table → List Site → ℕ → ValueType → Type 0
+HasSite T sites site t = (x : Site) × (slice_get sites site ≡ Some x) × (x.type_id.0 ≡ type_number T t)
 
 pub got_longer : (a b : List Site) (k : ℕ) (x : Site) → slice_get a k ≡ Some x → slice_get (a ++ b) k ≡ Some x
 got_longer [] b k x is = absurd (none_some is)
 got_longer (y ∷ a) b zero x is = is
 got_longer (y ∷ a) b (suc k) x is = got_longer a b k x is
 
-pub has_longer : (a b : List Site) (site : ℕ) (t : ValueType) → Extends a b → HasSite a site t → HasSite b site t
-has_longer a b site t e h = (h.0, ap (λ (l : List Site). slice_get l site) e.1 ∙ got_longer a e.0 site h.0 h.1, h.2)
+pub has_longer : (T : Table) (a b : List Site) (site : ℕ) (t : ValueType) → Extends a b → HasSite T a site t → HasSite T b site t
+has_longer T a b site t e h = (h.0, ap (λ (l : List Site). slice_get l site) e.1 ∙ got_longer a e.0 site h.0 h.1, h.2)
 
 site_last : (sites : List Site) (x : Site) → slice_get (sites ++ x ∷ []) (length sites) ≡ Some x
 site_last [] x = refl
 site_last (y ∷ sites) x = site_last sites x
 
+-- the one that a new variable gets
+pub new_site : (s : Scope) (t : ValueType) (at : Pos) → HasSite s.types (with_site s t at).sites (length s.sites) t
+new_site s t at = (_, site_last s.sites (record { pos = at; type_id = record { 0 = type_number s.types t } }), refl)
+
 -- what a name stands for that a scope shows: a variable is in scope, with a site of its type; a package variable has its number
-abbrev pub IsShown : List ℕ → List Site → List ℕ → Declared → Type 0
-IsShown scope sites globals (Variable site t) = InScope site.0 scope × HasSite sites site.0 t
-IsShown scope sites globals (Global k g) = slice_get globals g.0 ≡ Some k.0
-IsShown scope sites globals other = Unit {0}
+abbrev pub IsShown : Table → List ℕ → List Site → List ℕ → Declared → Type 0
+IsShown T scope sites globals (Variable site t) = InScope site.0 scope × HasSite T sites site.0 t
+IsShown T scope sites globals (Global k g) = slice_get globals g.0 ≡ Some k.0
+IsShown T scope sites globals other = Unit {0}
 
 -- with more variables in scope, and more sites
-wider_shown : (scope wider : List ℕ) (sites more : List Site) (globals : List ℕ) → ((v : ℕ) → InScope v scope → InScope v wider) → Extends sites more → (d : Declared) → IsShown scope sites globals d → IsShown wider more globals d
-wider_shown scope wider sites more globals into e (Variable site t) h = (into site.0 h.0, has_longer sites more site.0 t e h.1)
-wider_shown scope wider sites more globals into e (Global k g) h = h
-wider_shown scope wider sites more globals into e d h = tt
+wider_shown : (T : Table) (scope wider : List ℕ) (sites more : List Site) (globals : List ℕ) → ((v : ℕ) → InScope v scope → InScope v wider) → Extends sites more → (d : Declared) → IsShown T scope sites globals d → IsShown T wider more globals d
+wider_shown T scope wider sites more globals into e (Variable site t) h = (into site.0 h.0, has_longer T sites more site.0 t e h.1)
+wider_shown T scope wider sites more globals into e (Global k g) h = h
+wider_shown T scope wider sites more globals into e d h = tt
 
 -- a predeclared name is no variable
-predeclared_shown : (scope : List ℕ) (sites : List Site) (globals : List ℕ) (name : List ℕ) (d : Declared) → predeclared name ≡ Some d → IsShown scope sites globals d
-predeclared_shown scope sites globals name d is = predeclared_is (IsShown scope sites globals) (λ u. tt) (λ b. tt) (λ line. tt) tt tt tt name d is
+predeclared_shown : (T : Table) (scope : List ℕ) (sites : List Site) (globals : List ℕ) (name : List ℕ) (d : Declared) → predeclared name ≡ Some d → IsShown T scope sites globals d
+predeclared_shown T scope sites globals name d is = predeclared_is (IsShown T scope sites globals) tt tt (λ b. tt) (λ line. tt) tt tt tt name d is
 
 -- a name that has a number or none
-numbered_shown : (s : Scope) (scope : List ℕ) (sites : List Site) (globals : List ℕ) (name : List ℕ) (o : Option ℕ) (d : Declared) → ((k : ℕ) → o ≡ Some k → slice_get s.declared k ≡ Some d → IsShown scope sites globals d)
-    → numbered s name o ≡ Some d → IsShown scope sites globals d
-numbered_shown s scope sites globals name None d here is = predeclared_shown scope sites globals name d is
+numbered_shown : (s : Scope) (scope : List ℕ) (sites : List Site) (globals : List ℕ) (name : List ℕ) (o : Option ℕ) (d : Declared) → ((k : ℕ) → o ≡ Some k → slice_get s.declared k ≡ Some d → IsShown s.types scope sites globals d)
+    → numbered s name o ≡ Some d → IsShown s.types scope sites globals d
+numbered_shown s scope sites globals name None d here is = predeclared_shown s.types scope sites globals name d is
 numbered_shown s scope sites globals name (Some k) d here is = here k refl is
 
 -- names have numbers of declarations, those of variables are in scope, with sites of their types, package variables have their numbers, and
 -- constants are held by their types
 pub record Visible (s : Scope) (scope : List ℕ) : Type 0 where
   pub bounded : BlocksBelow (length s.declared) s.blocks
-  pub shown : (name : List ℕ) (d : Declared) → declaration s name ≡ Some d → IsShown scope s.sites s.globals d
+  pub shown : (name : List ℕ) (d : Declared) → declaration s name ≡ Some d → IsShown s.types scope s.sites s.globals d
   pub held : AreHeld s.values
 
 -- of a variable, and of a package variable
-pub shown_site : (s : Scope) (scope : List ℕ) → Visible s scope → (name : List ℕ) (site : SiteId) (t : ValueType) → declaration s name ≡ Some (Variable site t) → InScope site.0 scope × HasSite s.sites site.0 t
+pub shown_site : (s : Scope) (scope : List ℕ) → Visible s scope → (name : List ℕ) (site : SiteId) (t : ValueType) → declaration s name ≡ Some (Variable site t) → InScope site.0 scope × HasSite s.types s.sites site.0 t
 shown_site s scope v name site t is = v.shown name (Variable site t) is
 
 pub shown_number : (s : Scope) (scope : List ℕ) → Visible s scope → (name : List ℕ) (k : ValueId) (g : GlobalId) → declaration s name ≡ Some (Global k g) → slice_get s.globals g.0 ≡ Some k.0
 shown_number s scope v name k g is = v.shown name (Global k g) is
 
 pub visible_beginning : Visible beginning []
-visible_beginning = record { bounded = (tt, tt); shown = λ name d is. predeclared_shown [] [] [] name d is; held = λ k f is. absurd (none_some is) }
+visible_beginning = record { bounded = (tt, tt); shown = λ name d is. predeclared_shown beginning.types [] [] [] name d is; held = λ k f is. absurd (none_some is) }
 
 pub visible_opened : (s : Scope) (scope : List ℕ) → Visible s scope → Visible (opened s) scope
 visible_opened s scope v = record { bounded = (tt, v.bounded); shown = v.shown; held = v.held }
@@ -196,18 +201,18 @@ visible_kept s r scope v k = record {
     longer : length r.declared ≡ length s.declared + length k.declared.0
     longer = ap length k.declared.1 ∙ length-append s.declared k.declared.0
 
-    here : (name : List ℕ) (d : Declared) (j : ℕ) → lookup r.blocks name ≡ Some j → slice_get r.declared j ≡ Some d → IsShown scope r.sites r.globals d
+    here : (name : List ℕ) (d : Declared) (j : ℕ) → lookup r.blocks name ≡ Some j → slice_get r.declared j ≡ Some d → IsShown r.types scope r.sites r.globals d
     here name d j j_is got =
         let found : lookup s.blocks name ≡ Some j = ap (λ bs. lookup bs name) (sym k.blocks) ∙ j_is in
         let below = lookup_below (length s.declared) s.blocks name j v.bounded found in
         let old : slice_get s.declared j ≡ Some d = sym (get_left s.declared k.declared.0 j below) ∙ ap (λ ds. slice_get ds j) (sym k.declared.1) ∙ got in
         let known = v.shown name d (ap (numbered s name) found ∙ old) in
-        subst (λ (l : List ℕ). IsShown scope r.sites l d) (sym (ap (λ (q : Package). q.globals) k.kept)) (wider_shown scope scope s.sites r.sites s.globals (λ u h. h) k.sites d known)
+        subst (λ (q : Package). IsShown q.types scope r.sites q.globals d) (sym k.kept) (wider_shown s.types scope scope s.sites r.sites s.globals (λ u h. h) k.sites d known)
 
 -- one more declaration, and perhaps more sites
-pub visible_more : (s : Scope) (sites : List Site) (scope wider : List ℕ) (name : List ℕ) (d : Declared) → Visible s scope → Extends s.sites sites → ((v : ℕ) → InScope v scope → InScope v wider) → IsShown wider sites s.globals d
+pub visible_more : (s : Scope) (sites : List Site) (scope wider : List ℕ) (name : List ℕ) (d : Declared) → Visible s scope → Extends s.sites sites → ((v : ℕ) → InScope v scope → InScope v wider) → IsShown s.types wider sites s.globals d
     → BlocksBelow (length (s.declared ++ d ∷ [])) (insert s.blocks name (length s.declared))
-    × ((other : List ℕ) (e : Declared) → declaration (with_declaration s name d) other ≡ Some e → IsShown wider sites s.globals e)
+    × ((other : List ℕ) (e : Declared) → declaration (with_declaration s name d) other ≡ Some e → IsShown s.types wider sites s.globals e)
 visible_more s sites scope wider name d v more into new1 =
     (insert_below (length (s.declared ++ d ∷ [])) (length s.declared) (omega (arith, one)) s.blocks name (more_blocks (length s.declared) (length (s.declared ++ d ∷ [])) (omega (arith, one)) s.blocks v.bounded), shown)
   where
@@ -217,16 +222,16 @@ visible_more s sites scope wider name d v more into new1 =
     newest : (e : Declared) (k : ℕ) → k ≡ length s.declared → slice_get (s.declared ++ d ∷ []) k ≡ Some e → d ≡ e
     newest e k is got = some_same d e (sym (ap (λ j. slice_get (s.declared ++ d ∷ []) j) is ∙ get_last s.declared d) ∙ got)
 
-    here : (other : List ℕ) (e : Declared) (k : ℕ) → lookup (insert s.blocks name (length s.declared)) other ≡ Some k → slice_get (s.declared ++ d ∷ []) k ≡ Some e → IsShown wider sites s.globals e
+    here : (other : List ℕ) (e : Declared) (k : ℕ) → lookup (insert s.blocks name (length s.declared)) other ≡ Some k → slice_get (s.declared ++ d ∷ []) k ≡ Some e → IsShown s.types wider sites s.globals e
     here other e k k_is got =
         elim (lookup_insert s.blocks name other (length s.declared) k k_is) [
-          | inl n ↦ subst (λ (x : Declared). IsShown wider sites s.globals x) (newest e k n got) new1
+          | inl n ↦ subst (λ (x : Declared). IsShown s.types wider sites s.globals x) (newest e k n got) new1
           | inr o ↦ let below = lookup_below (length s.declared) s.blocks other k v.bounded o in
               let known = v.shown other e (ap (numbered s other) o ∙ (sym (get_left s.declared (d ∷ []) k below) ∙ got)) in
-              wider_shown scope wider s.sites sites s.globals into more e known
+              wider_shown s.types scope wider s.sites sites s.globals into more e known
         ]
 
-    shown : (other : List ℕ) (e : Declared) → declaration (with_declaration s name d) other ≡ Some e → IsShown wider sites s.globals e
+    shown : (other : List ℕ) (e : Declared) → declaration (with_declaration s name d) other ≡ Some e → IsShown s.types wider sites s.globals e
     shown other e is =
         numbered_shown (with_declaration s name d) wider sites s.globals other (lookup (insert s.blocks name (length s.declared)) other) e (λ k k_is got. here other e k k_is got) is
 
@@ -234,6 +239,5 @@ visible_more s sites scope wider name d v more into new1 =
 pub visible_with : (s : Scope) (scope name : List ℕ) (u : ValueType) (at : Pos) → Visible s scope → Visible (with_variable (Some u) s name at) (length s.sites ∷ scope)
 visible_with s scope name u at v =
     let d : Declared = Variable (record { 0 = length s.sites }) u in
-    let x : Site = record { pos = at; type_id = record { 0 = type_number u } } in
-    let w = visible_more s (s.sites ++ x ∷ []) scope (length s.sites ∷ scope) name d v (x ∷ [], refl, ((u, refl), tt)) (λ w h. inr h) (inl refl, (x, site_last s.sites x, refl)) in
+    let w = visible_more s (with_site s u at).sites scope (length s.sites ∷ scope) name d v (_, refl) (λ w h. inr h) (inl refl, new_site s u at) in
     record { bounded = w.0; shown = w.1; held = v.held }

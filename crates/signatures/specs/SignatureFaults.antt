@@ -1,11 +1,11 @@
 -- Which rules fail in the head of a function, and where each is reported.
 use Rattle.std.specs.Prelude.{ℕ, ◌⊎◌, Bool, true, false, not, List, [], ◌∷◌, Option, Some, None, nat_le}
 use Rattle.base.specs.declared.pos.Pos.{Pos}
+use Rattle.typed.specs.Tables.{Table}
 use Rattle.value_types.specs.declared.fault.Fault.{Fault}
 use Rattle.value_types.specs.declared.fault.FaultKind.TheVariants.{Redeclared, TooLarge}
 use Rattle.value_types.specs.Faults.{fault}
 use Rattle.names.specs.declared.scope.Declared.{Declared}
-use Rattle.names.specs.Universe.{is_blank}
 use Rattle.names.specs.Scope.{Scope, Signature}
 use Rattle.names.specs.Faults.{FailsAsType}
 use Rattle.signatures.specs.Signatures.{Param, is_number, words}
@@ -17,9 +17,9 @@ function_name_fault i true d at = None
 function_name_fault i false d at = fault_where (not (is_number i d)) (fault Redeclared at)
 
 -- arguments and results are at most so many words
-abbrev pub size_fault : Option Signature → Pos → Option Fault
-size_fault None at = None
-size_fault (Some sig) at = fault_where (not (nat_le (words sig) 65535)) (fault TooLarge at)
+abbrev pub size_fault : Table → Option Signature → Pos → Option Fault
+size_fault T None at = None
+size_fault T (Some sig) at = fault_where (not (nat_le (words T sig) 65535)) (fault TooLarge at)
 
 module _ (text : List ℕ) (heads : Scope) where
   abbrev pub TypesFail : List Param → Fault → Type 0

@@ -10,14 +10,16 @@ use Rattle.syntax.specs.Statements.{ValueSpec}
 use Rattle.syntax.specs.Declarations.{Field, Parameters, unnamed, named, TypeSpec, Function as TreeFunction, Declaration, constants, variables, types}
 use Rattle.syntax.specs.Declarations as tree
 use Rattle.base.specs.declared.pos.Pos.{Pos}
-use Rattle.value_types.specs.declared.value_type.ValueType.{ValueType}
-use Rattle.value_types.specs.declared.value_type.ValueType.TheVariants.{Int, Bool as Boolean}
+use Rattle.base.specs.declared.value_type.ValueType.{ValueType}
+use Rattle.base.specs.declared.value_type.ValueType.TheVariants.{Int, Bool as Boolean}
+use Rattle.typed.specs.Syntax.{all_width}
+use Rattle.typed.specs.Tables.{Table}
 use Rattle.names.specs.declared.scope.External.{External as ExternalData}
 use Rattle.names.specs.declared.scope.External.TheVariants as external
 use Rattle.names.specs.declared.scope.Declared.{Declared}
 use Rattle.names.specs.declared.scope.Declared.TheVariants.{Untyped, Constant, Global, Function, External, TypeName}
 use Rattle.names.specs.Universe.{is_blank}
-use Rattle.names.specs.Scope.{Scope, Signature, is_here, with_declaration, with_signature, with_value, with_global}
+use Rattle.names.specs.Scope.{Scope, Signature, type_trees, is_here, with_declaration, with_signature, with_value, with_global}
 use Rattle.names.specs.Types.{type_in}
 use Rattle.signatures.specs.declared.slots.Slot.{Slot}
 
@@ -54,12 +56,13 @@ abbrev pub types_of : List Slot → Option (List ValueType)
 types_of [] = Some []
 types_of (p ∷ ps) = option_and_then (λ t. option_map (λ ts. t ∷ ts) (types_of ps)) p.value_type
 
-abbrev pub words : Signature → ℕ
-words sig = length sig.params + length sig.results
+-- the words of the arguments and the results
+abbrev pub words : Table → Signature → ℕ
+words T sig = all_width (type_trees T sig.params) + all_width (type_trees T sig.results)
 
-abbrev pub is_small : Option Signature → Bool
-is_small None = false
-is_small (Some sig) = nat_le (words sig) 65535
+abbrev pub is_small : Table → Option Signature → Bool
+is_small T None = false
+is_small T (Some sig) = nat_le (words T sig) 65535
 
 -- a package has no name `init`
 abbrev pub is_init : List ℕ → Bool

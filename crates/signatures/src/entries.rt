@@ -13,12 +13,12 @@ ghost use Rattle.signatures.specs.EntryFaults.{EntryFails, EntriesFail, named_fa
 ghost use Rattle.value_types.specs.Given.{with_last};
 
 use crate::slots::Slot;
-use base::{NoMemory, Pos, SiteId};
+use base::{NoMemory, Pos, SiteId, ValueType};
 use names::{Scope, declare_variable, is_blank, is_here, next_site, spelled};
 use std::alloc::Global;
 use syntax::Name;
 use typed::Left;
-use value_types::{Fault, FaultKind, ValueType, lesser};
+use value_types::{Fault, FaultKind, lesser};
 
 /// Where a name with a type stands.
 #[derive(Clone, Copy, Debug, PartialEq, Eq)]

@@ -1,27 +1,32 @@
 //! The package block: what it declares, and the names and signatures of functions.
 
-ghost use Rattle.std.specs.Prelude.{◌≡◌, Option, Some, None, IfOk, OnOk, length, option_and_then, not, codes, ◌||◌, ◌&&◌};
+ghost use Rattle.std.specs.Prelude.{◌≡◌, ◌<◌, ◌+◌, Option, Some, None, IfOk, OnOk, MatchOption, length, option_and_then, not, codes, ◌||◌, ◌&&◌};
 ghost use Rattle.std.specs.Option.{option_map};
 ghost use Rattle.std.specs.Str.{bytes_eq};
 ghost use Rattle.syntax.specs.Expressions.{spelled};
 ghost use Rattle.syntax.specs.Statements.{value_specs_of};
 ghost use Rattle.syntax.specs.Declarations.{parameters_of, type_specs_of, function_of, declaration_of, declarations_of};
+ghost use Rattle.typed.specs.Syntax.{all_width};
 ghost use Rattle.names.specs.declared.scope.Declared.TheVariants.{Untyped as NoType};
 ghost use Rattle.names.specs.Universe.{is_blank};
-ghost use Rattle.names.specs.Scope.{scope_of, signature_of, declaration, is_here};
+ghost use Rattle.names.specs.Scope.{scope_of, signature_of, type_trees, declaration, is_here};
 ghost use Rattle.signatures.specs.Signatures.{signature_in, is_init, declares_name, with_name, with_names, with_values, with_types, with_head, with_heads, with_constant_name, with_constant_names, with_constants, with_numbered_name, with_variable_name, with_variable_names, with_package_variables, with_function, with_item, with_items, is_number, may_be_named, is_small, is_named, words, takes_one_int, is_of_exit, gives_int_and_bool, is_of_read_int, external_named, is_external, is_external_at};
 ghost use Rattle.signatures.specs.SignatureFaults.{function_name_fault, size_fault};
 
 use crate::failing::fault_where;
 use crate::slots::{is_named, slots_of, types_of};
-use base::{FuncId, NoMemory, Pos};
+use base::{FuncId, NoMemory, Pos, ValueType};
 use names::{
     Declared, External, GlobalId, Scope, Signature, ValueId, add_global, add_signature, add_value,
-    declare, global_count, is_blank, is_here, spelled, value_count,
+    declare, global_count, is_blank, is_here, spelled, type_id, value_count,
 };
 use std::alloc::Global;
 use syntax::{Decl, Func, Name, TypeSpec, ValueSpec};
-use value_types::{Fault, FaultKind, ValueType};
+use typed::TypeTable;
+use value_types::{Fault, FaultKind};
+
+/// The most words that the arguments and results of a function may have.
+const MOST_WORDS: u32 = 65_535;
 
 fn joined(params: Option<Vec<ValueType>>, results: Option<Vec<ValueType>>) -> Option<Signature>
     ensures { option_map signature_of result ≡ option_and_then (λ ps. option_map (λ rs. record { params = ps; results = rs }) (option_map (λ v. v.items) results)) (option_map (λ v. v.items) params) }
@@ -397,29 +402,43 @@ pub fn is_external_at(place: Pos, declared: Option<Declared>) -> bool
     }
 }
 
-/// Whether the arguments and results of a function are not too many words.
-pub fn is_small(signature: &Option<Signature>) -> bool
-    ensures { result ≡ is_small (option_map signature_of signature.now) }
+/// How many of some words are left behind values of these types; none where the values have more.
+fn words_left(types: &TypeTable, room: u32, value_types: &[ValueType]) -> Option<u32>
+    ensures { MatchOption result
+        (room < all_width (type_trees types.now value_types.now))
+        (λ left. left + all_width (type_trees types.now value_types.now) ≡ room) }
 {
-    match signature {
-        Some(signature) => {
-            let params = signature.params.len();
-            params <= 65535 && signature.results.len() <= 65535 - params
-        }
-        None => false,
+    let mut left = room;
+    for value_type in value_types {
+        let words = types.width(type_id(types, *value_type));
+        left = left.checked_sub(words)?;
     }
+    Some(left)
+}
+
+/// Whether the arguments and results of a function are not too many words, by the table of their types.
+pub fn is_small(types: &TypeTable, signature: &Option<Signature>) -> bool
+    ensures { result ≡ is_small types.now (option_map signature_of signature.now) }
+{
+    let Some(signature) = signature else {
+        return false;
+    };
+    let Some(left) = words_left(types, MOST_WORDS, &signature.params) else {
+        return false;
+    };
+    words_left(types, left, &signature.results).is_some()
 }
 
 /// The fault of a function whose arguments and results are too many words.
-pub fn size_fault(signature: &Option<Signature>, pos: Pos) -> Option<Fault>
-    ensures { result ≡ size_fault (option_map signature_of signature.now) pos }
+pub fn size_fault(types: &TypeTable, signature: &Option<Signature>, pos: Pos) -> Option<Fault>
+    ensures { result ≡ size_fault types.now (option_map signature_of signature.now) pos }
 {
     let own = Fault {
         kind: FaultKind::TooLarge,
         pos,
     };
     match signature {
-        Some(_) => fault_where(!is_small(signature), own),
+        Some(_) => fault_where(!is_small(types, signature), own),
         None => None,
     }
 }

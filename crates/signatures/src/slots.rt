@@ -11,11 +11,11 @@ ghost use Rattle.signatures.specs.Entries.{slot_with, slots_each};
 ghost use Rattle.signatures.specs.Signatures.{param_with, field_params, named_params, unnamed_params, params_of, is_named, slot_of, slots_of, types_of};
 ghost use Rattle.signatures.specs.SignatureFaults.{TypesFail};
 
-use base::NoMemory;
+use base::{NoMemory, ValueType};
 use names::{Scope, type_fault, type_in};
 use std::alloc::Global;
 use syntax::{Expr, Field, Name, Params};
-use value_types::{Fault, ValueType, lesser};
+use value_types::{Fault, lesser};
 
 /// A parameter or a result: its name, if it has one, and its type, where that is known.
 #[derive(Clone, Copy, Debug, PartialEq, Eq)]

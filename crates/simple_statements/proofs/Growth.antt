@@ -4,7 +4,7 @@ use Rattle.syntax.specs.declared.expression.Name.{Name}
 use Rattle.syntax.specs.Expressions.{spelled}
 use Rattle.syntax.specs.Statements.{Simple, ValueSpec}
 use Rattle.syntax.specs.Statements as tree
-use Rattle.value_types.specs.declared.value_type.ValueType.{ValueType}
+use Rattle.base.specs.declared.value_type.ValueType.{ValueType}
 use Rattle.names.specs.Scope.{Scope}
 use Rattle.expression_types.specs.Typing.{gives}
 use Rattle.signatures.specs.declared.slots.Slot.{Slot}

@@ -16,12 +16,14 @@ use Rattle.syntax.specs.Statements as tree
 use Rattle.typed.specs.declared.operators.BinOp.{BinOp as TypedOp}
 use Rattle.typed.specs.declared.operators.BinOp.TheVariants as op
 use Rattle.typed.specs.declared.program.Site.{Site}
-use Rattle.typed.specs.Syntax.{Exs, Left, Pl, St, Program, read, none, more, results, asked as asked_two, blank, new, to, update, give_back}
+use Rattle.typed.specs.Syntax.{Exs, Left, Pl, St, Program, read, global, here, none, more, results, asked as asked_two, blank, new, to, update, give_back}
 use Rattle.typed.specs.Form.{IsArithmetic, IsStep, PlFits, LeftsFit, new_sites, births, scope_behind, scope_after, ExFits, ExsFit, PieceFits, PiecesFit, ReturnFits, StFits}
 use Rattle.value_trees.specs.Types.{ValueType as TypeTree, ints, bools}
 use Rattle.value_types.specs.declared.constant.Fixed.{Fixed}
-use Rattle.value_types.specs.declared.value_type.ValueType.{ValueType}
-use Rattle.value_types.specs.declared.value_type.ValueType.TheVariants.{Int, Bool as Truth}
+use Rattle.base.specs.declared.value_type.ValueType.{ValueType}
+use Rattle.base.specs.declared.value_type.ValueType.TheVariants.{Int, Bool as Truth, Struct, Array}
+use Rattle.typed.specs.Tables.{Table}
+use Rattle.typed.specs.Formed.{IsFormed}
 use Rattle.value_types.specs.Given.{both}
 use Rattle.value_types.proofs.Options.{and_then_some, map_some, none_some, same_some}
 use Rattle.operators.specs.Operands.{value}
@@ -31,23 +33,23 @@ use Rattle.names.specs.declared.scope.Declared.TheVariants as declared
 use Rattle.names.specs.Universe.{is_blank}
 use Rattle.names.specs.Scope.{Scope, type_number, type_tree, type_trees, declaration, is_here, fixed, with_variable, with_strings}
 use Rattle.names.specs.Naming.{name_in}
-use Rattle.names.proofs.Trees.{tree_solid}
-use Rattle.expression_types.specs.Typing.{Part, said, valued, Gives, one, called, asking, quoted, printed, panicked, exited, operand_in, Seen, value_types, asked, taken, gives, seen}
+use Rattle.names.proofs.Trees.{int_tree, solid}
+use Rattle.expression_types.specs.Typing.{known_type, Part, said, valued, Gives, one, called, asking, quoted, printed, panicked, exited, operand_in, Seen, value_types, asked, taken, gives, seen}
 use Rattle.expression_types.proofs.InForm.{Agrees, AreAccepted, PartFits, PartsFit, GivesFit, AllFit, OperandFits, CallFits, value_fits, operand_fits, taken_fits, asked_types, gives_fit, seen_fit, maybe_fits}
 use Rattle.signatures.specs.declared.slots.Slot.{Slot}
 use Rattle.signatures.specs.Entries.{slot_with, slots_each}
 use Rattle.signatures.proofs.Growth.{Extends, extends_twice}
-use Rattle.signatures.proofs.Visible.{has_longer, Visible, shown_site, shown_number, visible_with, visible_strings}
-use Rattle.signatures.proofs.InFormEntries.{HasSites, site_is, Within}
+use Rattle.signatures.proofs.Visible.{new_site, Visible, shown_site, shown_number, visible_with, visible_strings}
+use Rattle.signatures.proofs.InFormEntries.{HasSites, site_shown, Within}
 use Rattle.simple_statements.specs.SimpleStatements.{Returns, Variable, global_variable, variable_of, variable_named, only, target, variable_type, variable_value, left_of, wanted_of, new_left_of, new_wanted_of, declares, strings_of, piece_from, pieces_from, strings_in_call, strings_in, expressed, updated, stepped, returned, assignment, left, wanted, lefts, all_wanted, new_left, new_wanted, new_lefts, all_new_wanted, new_slots, with_variables, may_define, own_value, definition_types, behind_simple, update_one, update_statement, step_statement, simple_statement}
 use Rattle.simple_statements.proofs.SettledSimple.{assignment_some, where_some, own_read, update_some}
 use Rattle.simple_statements.proofs.Growth.{grows_variables}
 
 -- what a `return` may give goes together with the results of a function, and the names for them
-pub record ReturnsFit (r : Returns) (results1 : List TypeTree) (named : ℕ) : Type 0 where
+pub record ReturnsFit (T : Table) (r : Returns) (results1 : List TypeTree) (named : ℕ) : Type 0 where
   pub types : List ValueType
   pub wanted : r.wanted ≡ asked types
-  pub trees : type_trees types ≡ results1
+  pub trees : type_trees T types ≡ results1
   pub bare : r.may_be_bare ≡ true → length results1 ≡ named
   pub no_values : results1 ≡ [] → named ≡ 0
 
@@ -88,9 +90,9 @@ arithmetic_is arithmetic.AndNot = tt
 arithmetic_is arithmetic.ShiftLeft = tt
 arithmetic_is arithmetic.ShiftRight = tt
 
-module _ (p : Program) where
+module _ (T : Table) (p : Program) where
   -- all results of a call as values
-  results_fit : (scope : List ℕ) (ts : List ValueType) (f : ℕ) (es : Exs) → CallFits p scope ts f es → ExsFit p scope (type_trees ts) (results f es)
+  results_fit : (scope : List ℕ) (ts : List ValueType) (f : ℕ) (es : Exs) → CallFits T p scope ts f es → ExsFit p scope (type_trees T ts) (results f es)
   results_fit scope [] f es fits = fits
   results_fit scope (t ∷ ts) f es fits = fits
 
@@ -98,14 +100,14 @@ module _ (p : Program) where
 
   -- a left side that is no new variable: blank, or a variable of the type that the value has
   abbrev IsOld : List ℕ → ValueType → Left → Type 0
-  IsOld scope t l = (l ≡ blank) ⊎ ((q : Pl) × (l ≡ to q) × PlFits p scope (type_tree t) q)
+  IsOld scope t l = (l ≡ blank) ⊎ ((q : Pl) × (l ≡ to q) × PlFits p scope (type_tree T t) q)
 
   abbrev Known : List ℕ → Option Variable → Type 0
-  Known scope o = (v : Variable) → o ≡ Some v → PlFits p scope (type_tree v.value_type) v.place
+  Known scope o = (v : Variable) → o ≡ Some v → PlFits p scope (type_tree T v.value_type) v.place
 
   target_old : (scope : List ℕ) (o : Option Variable) (t : ValueType) (l : Left) → Known scope o → ((u : ValueType) → variable_type o ≡ Some u → u ≡ t) → target o ≡ Some l → IsOld scope t l
   target_old scope None t l has wants is = absurd (none_some is)
-  target_old scope (Some v) t l has wants is = inr (v.place, sym (same_some is), subst (λ (u : ValueType). PlFits p scope (type_tree u) v.place) (wants v.value_type refl) (has v refl))
+  target_old scope (Some v) t l has wants is = inr (v.place, sym (same_some is), subst (λ (u : ValueType). PlFits p scope (type_tree T u) v.place) (wants v.value_type refl) (has v refl))
 
   left_old : (scope : List ℕ) (b : Bool) (o : Option Variable) (t : ValueType) (l : Left) → Known scope o → ((u : ValueType) → wanted_of b o ≡ Some u → u ≡ t) → left_of b o ≡ Some l → IsOld scope t l
   left_old scope true o t l has wants is = inl (sym (same_some is))
@@ -113,7 +115,7 @@ module _ (p : Program) where
 
   -- left sides without new variables
   pub record OldFit (scope : List ℕ) (ts : List ValueType) (ls : List Left) : Type 0 where
-    pub fit : (m n : ℕ) → LeftsFit p scope m n (type_trees ts) ls
+    pub fit : (m n : ℕ) → LeftsFit p scope m n (type_trees T ts) ls
     pub sites : new_sites ls ≡ 0
     pub behind : (wide : List ℕ) → scope_behind wide ls ≡ wide
 
@@ -142,7 +144,7 @@ module _ (p : Program) where
 
     -- left sides in a scope, some of which are new variables, behind others
     record NewFit (scope0 : List ℕ) (s : Scope) (scope : List ℕ) (vs : List Slot) (ts : List ValueType) (ls : List Left) (n : ℕ) : Type 0 where
-      fit : LeftsFit p scope0 (length s.sites) n (type_trees ts) ls
+      fit : LeftsFit p scope0 (length s.sites) n (type_trees T ts) ls
       visible : Visible (with_variables text s vs) (scope_behind scope ls)
       count : length s.sites + new_sites ls ≡ length (with_variables text s vs).sites
 
@@ -150,46 +152,42 @@ module _ (p : Program) where
     old_left scope0 s scope vs t ts l ls n (inl is) k = subst (λ (x : Left). NewFit scope0 s scope vs (t ∷ ts) (x ∷ ls) n) (sym is) (record { fit = k.fit; visible = k.visible; count = k.count })
     old_left scope0 s scope vs t ts l ls n (inr o) k = subst (λ (x : Left). NewFit scope0 s scope vs (t ∷ ts) (x ∷ ls) n) (sym o.1) (record { fit = (o.2, k.fit); visible = k.visible; count = k.count })
 
-    module _ (all : List Site) (has : HasSites p all) where
-      new_left_one : (scope0 : List ℕ) (s : Scope) (scope : List ℕ) (x : Name) (t : ValueType) (vs : List Slot) (ts : List ValueType) (ls : List Left) (n : ℕ) → length (with_variables text (with_variable (Some t) s (spelled text x) x.pos) vs).sites ≤ n
+    module _ (all : List Site) (has : HasSites T p all) where
+      new_left_one : (scope0 : List ℕ) (s : Scope) (scope : List ℕ) (x : Name) (t : ValueType) (vs : List Slot) (ts : List ValueType) (ls : List Left) (n : ℕ) → s.types ≡ T → length (with_variables text (with_variable (Some t) s (spelled text x) x.pos) vs).sites ≤ n
           → Extends (with_variables text (with_variable (Some t) s (spelled text x) x.pos) vs).sites all
           → NewFit scope0 (with_variable (Some t) s (spelled text x) x.pos) (length s.sites ∷ scope) vs ts ls n → NewFit scope0 s scope (slot_with (Some t) x ∷ vs) (t ∷ ts) (new (length s.sites) ∷ ls) n
-      new_left_one scope0 s scope x t vs ts ls n le ext k =
+      new_left_one scope0 s scope x t vs ts ls n types_are le ext k =
           let s1 = with_variable (Some t) s (spelled text x) x.pos in
-          let site : Site = record { pos = x.pos; type_id = record { 0 = type_number t } } in
+          let site : Site = record { pos = x.pos; type_id = record { 0 = type_number s.types t } } in
           let one1 : length s1.sites ≡ length s.sites + 1 = length-append s.sites (site ∷ []) in
           let next1 : length s1.sites ≡ suc (length s.sites) = omega (arith, one1) in
-          let type_is = site_is p all has (length s.sites) t (has_longer s1.sites all (length s.sites) t (extends_twice s1.sites (with_variables text s1 vs).sites all (grows_variables text s1 vs).sites ext) (site, last_site s.sites site, refl)) in
+          let type_is = site_shown T p all has s1 types_are (extends_twice s1.sites (with_variables text s1 vs).sites all (grows_variables text s1 vs).sites ext) (length s.sites) t (new_site s t x.pos) in
           record {
-            fit = (refl, omega (arith, le, k.count, one1), type_is, subst (λ j. LeftsFit p scope0 j n (type_trees ts) ls) next1 k.fit);
+            fit = (refl, omega (arith, le, k.count, one1), type_is, subst (λ j. LeftsFit p scope0 j n (type_trees T ts) ls) next1 k.fit);
             visible = k.visible;
             count = omega (arith, k.count, one1);
           }
-        where
-          last_site : (sites : List Site) (y : Site) → slice_get (sites ++ y ∷ []) (length sites) ≡ Some y
-          last_site [] y = refl
-          last_site (z ∷ sites) y = last_site sites y
 
-      new_lefts_fit : (s0 : Scope) (scope0 : List ℕ) (known0 : KnownAll s0 scope0) (n : ℕ) (ns : List Name) (ts : List ValueType) (s : Scope) (scope : List ℕ) (ls : List Left) → Visible s scope → AreAccepted (all_new_wanted text s0 ns) ts
+      new_lefts_fit : (s0 : Scope) (scope0 : List ℕ) (known0 : KnownAll s0 scope0) (n : ℕ) (ns : List Name) (ts : List ValueType) (s : Scope) (scope : List ℕ) (ls : List Left) → s.types ≡ T → Visible s scope → AreAccepted (all_new_wanted text s0 ns) ts
           → new_lefts text s0 (length s.sites) ns ≡ Some ls → length (with_variables text s (new_slots text s0 (slots_each (Some ts) ns))).sites ≤ n → Extends (with_variables text s (new_slots text s0 (slots_each (Some ts) ns))).sites all
           → NewFit scope0 s scope (new_slots text s0 (slots_each (Some ts) ns)) ts ls n
-      new_lefts_fit s0 scope0 known0 n [] [] s scope ls visible accepted is le ext =
+      new_lefts_fit s0 scope0 known0 n [] [] s scope ls types_are visible accepted is le ext =
           subst (λ (l : List Left). NewFit scope0 s scope [] [] l n) (same_some is) (record { fit = tt; visible = visible; count = omega arith })
-      new_lefts_fit s0 scope0 known0 n [] (t ∷ ts) s scope ls visible accepted is le ext = absurd accepted
-      new_lefts_fit s0 scope0 known0 n (x ∷ ns) [] s scope ls visible accepted is le ext = absurd (omega (arith, accepted_long (new_wanted text s0 x ∷ all_new_wanted text s0 ns) [] accepted))
-      new_lefts_fit s0 scope0 known0 n (x ∷ ns) (t ∷ ts) s scope ls visible accepted is le ext =
+      new_lefts_fit s0 scope0 known0 n [] (t ∷ ts) s scope ls types_are visible accepted is le ext = absurd accepted
+      new_lefts_fit s0 scope0 known0 n (x ∷ ns) [] s scope ls types_are visible accepted is le ext = absurd (omega (arith, accepted_long (new_wanted text s0 x ∷ all_new_wanted text s0 ns) [] accepted))
+      new_lefts_fit s0 scope0 known0 n (x ∷ ns) (t ∷ ts) s scope ls types_are visible accepted is le ext =
           let bytes = spelled text x in
           let a = accepted_head (new_wanted text s0 x) (all_new_wanted text s0 ns) t ts accepted in
           let r = and_then_some (λ l. option_map (λ xs. l ∷ xs) (new_lefts text s0 (cond (declares s0 bytes) (1 + length s.sites) (length s.sites)) ns)) (new_left text s0 (length s.sites) x) ls is in
           let q = map_some (λ xs. r.0 ∷ xs) (new_lefts text s0 (cond (declares s0 bytes) (1 + length s.sites) (length s.sites)) ns) ls r.2 in
           subst (λ (l : List Left). NewFit scope0 s scope (new_slots text s0 (slots_each (Some (t ∷ ts)) (x ∷ ns))) (t ∷ ts) l n) q.2
-          (by (is_blank bytes) (is_here s0 bytes) r.0 q.0 a.0 r.1 q.1 le ext (λ s2 scope2 ls2 v i l e. new_lefts_fit s0 scope0 known0 n ns ts s2 scope2 ls2 v a.1 i l e))
+          (by (is_blank bytes) (is_here s0 bytes) r.0 q.0 a.0 r.1 q.1 le ext (λ s2 scope2 ls2 t2 v i l e. new_lefts_fit s0 scope0 known0 n ns ts s2 scope2 ls2 t2 v a.1 i l e))
         where
           rest_slots : List Slot
           rest_slots = new_slots text s0 (slots_each (Some ts) ns)
 
           Later : Type 0
-          Later = (s2 : Scope) (scope2 : List ℕ) (ls2 : List Left) → Visible s2 scope2 → new_lefts text s0 (length s2.sites) ns ≡ Some ls2 → length (with_variables text s2 rest_slots).sites ≤ n → Extends (with_variables text s2 rest_slots).sites all
+          Later = (s2 : Scope) (scope2 : List ℕ) (ls2 : List Left) → s2.types ≡ T → Visible s2 scope2 → new_lefts text s0 (length s2.sites) ns ≡ Some ls2 → length (with_variables text s2 rest_slots).sites ≤ n → Extends (with_variables text s2 rest_slots).sites all
               → NewFit scope0 s2 scope2 rest_slots ts ls2 n
 
           by : (b h : Bool) (l : Left) (rest : List Left) → ((u : ValueType) → new_wanted_of b h (variable_named text s0 x) ≡ Some u → u ≡ t)
@@ -198,32 +196,32 @@ module _ (p : Program) where
               → length (with_variables text s (cond (not b && not h) (slot_with (Some t) x ∷ rest_slots) rest_slots)).sites ≤ n
               → Extends (with_variables text s (cond (not b && not h) (slot_with (Some t) x ∷ rest_slots) rest_slots)).sites all → Later
               → NewFit scope0 s scope (cond (not b && not h) (slot_with (Some t) x ∷ rest_slots) rest_slots) (t ∷ ts) (l ∷ rest) n
-          by true h l rest wants l_is rest_is le1 ext1 later = old_left scope0 s scope rest_slots t ts l rest n (inl (sym (same_some l_is))) (later s scope rest visible rest_is le1 ext1)
+          by true h l rest wants l_is rest_is le1 ext1 later = old_left scope0 s scope rest_slots t ts l rest n (inl (sym (same_some l_is))) (later s scope rest types_are visible rest_is le1 ext1)
           by false true l rest wants l_is rest_is le1 ext1 later =
-              old_left scope0 s scope rest_slots t ts l rest n (target_old scope0 (variable_named text s0 x) t l (known0 (spelled text x)) wants l_is) (later s scope rest visible rest_is le1 ext1)
+              old_left scope0 s scope rest_slots t ts l rest n (target_old scope0 (variable_named text s0 x) t l (known0 (spelled text x)) wants l_is) (later s scope rest types_are visible rest_is le1 ext1)
           by false false l rest wants l_is rest_is le1 ext1 later =
               let s1 = with_variable (Some t) s (spelled text x) x.pos in
-              let one1 : length s1.sites ≡ length s.sites + 1 = length-append s.sites (record { pos = x.pos; type_id = record { 0 = type_number t } } ∷ []) in
+              let one1 : length s1.sites ≡ length s.sites + 1 = length-append s.sites (record { pos = x.pos; type_id = record { 0 = type_number s.types t } } ∷ []) in
               let site : 1 + length s.sites ≡ length s1.sites = omega (arith, one1) in
               let found : new_lefts text s0 (length s1.sites) ns ≡ Some rest = ap (λ j. new_lefts text s0 j ns) (sym site) ∙ rest_is in
               subst (λ (y : Left). NewFit scope0 s scope (slot_with (Some t) x ∷ rest_slots) (t ∷ ts) (y ∷ rest) n) (same_some l_is)
-              (new_left_one scope0 s scope x t rest_slots ts rest n le1 ext1 (later s1 (length s.sites ∷ scope) rest (visible_with s scope (spelled text x) t x.pos visible) found le1 ext1))
+              (new_left_one scope0 s scope x t rest_slots ts rest n types_are le1 ext1 (later s1 (length s.sites ∷ scope) rest types_are (visible_with s scope (spelled text x) t x.pos visible) found le1 ext1))
 
 -- ---- statements
 
-module _ (text : List ℕ) (p : Program) (all : List Site) (has : HasSites p all) where
+module _ (T : Table) (text : List ℕ) (p : Program) (all : List Site) (has : HasSites T p all) where
   -- what a scope shows has a place of its type in the program
-  pub known_all : (s : Scope) (scope : List ℕ) → Visible s scope → Agrees s p → Extends s.sites all → (n : List ℕ) → Known p scope (variable_of s (declaration s n))
-  known_all s scope visible agrees ext n = by (declaration s n) refl
+  pub known_all : (s : Scope) (scope : List ℕ) → Visible s scope → s.types ≡ T → Agrees s p → Extends s.sites all → (n : List ℕ) → Known T p scope (variable_of s (declaration s n))
+  known_all s scope visible types_are agrees ext n = by (declaration s n) refl
     where
-      global_known : (k g : ℕ) (o : Option Fixed) → fixed s k ≡ o → slice_get s.globals g ≡ Some k → Known p scope (option_map (global_variable g) o)
+      global_known : (k g : ℕ) (o : Option Fixed) → fixed s k ≡ o → slice_get s.globals g ≡ Some k → Known T p scope (option_map (global_variable g) o)
       global_known k g None known at v is = absurd (none_some is)
-      global_known k g (Some f) known at v is = subst (λ (x : Variable). PlFits p scope (type_tree x.value_type) x.place) (same_some is) (agrees.globals g k f at known)
+      global_known k g (Some f) known at v is = subst (λ (x : Variable). PlFits p scope (type_tree T x.value_type) x.place) (same_some is) (subst (λ (U : Table). PlFits p scope (type_tree U (known_type f)) (global g here)) types_are (agrees.globals g k f at known))
 
-      by : (d : Option Declared) → declaration s n ≡ d → Known p scope (variable_of s d)
+      by : (d : Option Declared) → declaration s n ≡ d → Known T p scope (variable_of s d)
       by (Some (declared.Variable site u)) found v is =
           let k = shown_site s scope visible n site u found in
-          subst (λ (x : Variable). PlFits p scope (type_tree x.value_type) x.place) (same_some is) (k.0, site_is p all has site.0 u (has_longer s.sites all site.0 u ext k.1), tree_solid u)
+          subst (λ (x : Variable). PlFits p scope (type_tree T x.value_type) x.place) (same_some is) (k.0, site_shown T p all has s types_are ext site.0 u k.1, solid T (subst IsFormed types_are agrees.formed) (type_number T u))
       by (Some (declared.Global k g)) found v is = global_known k.0 g.0 (fixed s k.0) refl (shown_number s scope visible n k g found) v is
       by other found v is = absurd (none_some is)
 
@@ -238,14 +236,14 @@ module _ (text : List ℕ) (p : Program) (all : List Site) (has : HasSites p all
     pub still_formed : (looped : Bool) (s : Scope) (scope : List ℕ) (t : St) → Visible s scope → Still looped scope t → StFormed looped s scope s t × Visible s (scope_after scope t)
     still_formed looped s scope t v f = (record { count = omega (arith, f.0); fit = λ n le. f.1 (length s.sites) n }, subst (λ w. Visible s w) (sym f.2) v)
 
-    return_still : (looped : Bool) (scope : List ℕ) (r : Returns) (goes : ReturnsFit r wanted1 named) (os : List Seen) (t : St) → AllFit p scope os → returned r os ≡ Some t → Still looped scope t
-    return_still looped scope r goes [] t fits is =
+    return_still : (looped : Bool) (scope : List ℕ) (r : Returns) (goes : ReturnsFit T r wanted1 named) (formed : IsFormed T) (os : List Seen) (t : St) → AllFit T p scope os → returned r os ≡ Some t → Still looped scope t
+    return_still looped scope r goes formed [] t fits is =
         let w = where_some r.may_be_bare (Some (give_back none)) t is in subst (λ (x : St). Still looped scope x) (same_some w.1) (refl, λ m n. goes.bare w.0, refl)
-    return_still looped scope r goes (o ∷ os) t fits is =
+    return_still looped scope r goes formed (o ∷ os) t fits is =
         let q = map_some give_back (taken r.wanted (o ∷ os)) t is in
-        let f = taken_fits p scope r.wanted (o ∷ os) q.0 fits q.1 in
-        let same1 = asked_types p scope goes.types f.types (subst (λ (l : List (Option ValueType)). AreAccepted l f.types) goes.wanted f.accepted) in
-        let whole : ExsFit p scope wanted1 q.0 = subst (λ (l : List TypeTree). ExsFit p scope l q.0) (ap type_trees (sym same1) ∙ goes.trees) f.fit in
+        let f = taken_fits T p scope formed r.wanted (o ∷ os) q.0 fits q.1 in
+        let same1 = asked_types goes.types f.types (subst (λ (l : List (Option ValueType)). AreAccepted l f.types) goes.wanted f.accepted) in
+        let whole : ExsFit p scope wanted1 q.0 = subst (λ (l : List TypeTree). ExsFit p scope l q.0) (ap (type_trees T) (sym same1) ∙ goes.trees) f.fit in
         subst (λ (x : St). Still looped scope x) q.2 (refl, λ m n. by wanted1 goes.no_values q.0 whole, refl)
       where
         by : (l : List TypeTree) → (l ≡ [] → named ≡ 0) → (es : Exs) → ExsFit p scope l es → ReturnFits p scope l named es
@@ -265,22 +263,32 @@ module _ (text : List ℕ) (p : Program) (all : List Site) (has : HasSites p all
     pieces_fit scope n (said bytes ∷ ps) fits le = (omega (arith, le), pieces_fit scope (1 + n) ps fits.1 (omega (arith, le)))
     pieces_fit scope n (valued t e ∷ ps) fits le = (fits.0, pieces_fit scope n ps fits.1 le)
 
-    express_still : (looped : Bool) (scope : List ℕ) (k : ℕ) (g : Gives) (t : St) → GivesFit p scope g → k + length (strings_in_call g) ≤ length p.strings → expressed k g ≡ Some t → Still looped scope t
+    express_still : (looped : Bool) (scope : List ℕ) (k : ℕ) (g : Gives) (t : St) → GivesFit T p scope g → k + length (strings_in_call g) ≤ length p.strings → expressed k g ≡ Some t → Still looped scope t
     express_still looped scope k (one x) t fits le is = absurd (none_some is)
-    express_still looped scope k (called at ts f es) t fits le is = subst (λ (x : St). Still looped scope x) (same_some is) (refl, λ m n. (type_trees ts, results_fit p scope ts f es fits), refl)
+    express_still looped scope k (called at ts f es) t fits le is = subst (λ (x : St). Still looped scope x) (same_some is) (refl, λ m n. (type_trees T ts, results_fit T p scope ts f es fits), refl)
     express_still looped scope k (asking at) t fits le is = subst (λ (x : St). Still looped scope x) (same_some is) (refl, λ m n. (ints ∷ bools ∷ [], refl), refl)
     express_still looped scope k (quoted at bytes) t fits le is = absurd (none_some is)
     express_still looped scope k (printed at line ps) t fits le is = subst (λ (x : St). Still looped scope x) (same_some is) (refl, λ m n. pieces_fit scope k ps fits le, refl)
     express_still looped scope k (panicked at q) t fits le is = subst (λ (x : St). Still looped scope x) (same_some is) (refl, λ m n. piece_fits scope k q fits le, refl)
     express_still looped scope k (exited at e) t fits le is = subst (λ (x : St). Still looped scope x) (same_some is) (refl, λ m n. fits, refl)
 
-    module _ (looped : Bool) (s : Scope) (scope : List ℕ) (visible : Visible s scope) (agrees : Agrees s p) where
+    module _ (looped : Bool) (s : Scope) (scope : List ℕ) (visible : Visible s scope) (types_are : s.types ≡ T) (agrees : Agrees s p) where
+      formed : IsFormed T
+      formed = subst IsFormed types_are agrees.formed
+
+      -- what expressions give is in form
+      given_fits : (e : TreeEx) (g : Gives) → gives text s e ≡ Some g → GivesFit T p scope g
+      given_fits e g is = subst (λ (U : Table). GivesFit U p scope g) types_are (gives_fit p scope text s (shown_site s scope visible) (shown_number s scope visible) visible.held agrees e g is)
+
+      all_given : (es : TreeExs) → AllFit T p scope (seen text s es)
+      all_given es = subst (λ (U : Table). AllFit U p scope (seen text s es)) types_are (seen_fit p scope text s (shown_site s scope visible) (shown_number s scope visible) visible.held agrees es)
+
       assign_still : (ls : TreeExs) (es : TreeExs) (t : St) → Extends s.sites all → assignment (lefts text s ls) (taken (all_wanted text s ls) (seen text s es)) ≡ Some t → Still looped scope t
       assign_still ls es t ext is =
           let a = assignment_some (lefts text s ls) (taken (all_wanted text s ls) (seen text s es)) t is in
-          let values = taken_fits p scope (all_wanted text s ls) (seen text s es) a.1 (seen_fit p scope text s (shown_site s scope visible) (shown_number s scope visible) visible.held agrees es) a.3 in
-          let left1 = lefts_fit p text s scope (known_all s scope visible agrees ext) ls values.types a.0 values.accepted a.2 in
-          subst (λ (x : St). Still looped scope x) a.4 (left1.sites, λ m n. (type_trees values.types, left1.fit m n, values.fit), left1.behind scope)
+          let values = taken_fits T p scope formed (all_wanted text s ls) (seen text s es) a.1 (all_given es) a.3 in
+          let left1 = lefts_fit T p text s scope (known_all s scope visible types_are agrees ext) ls values.types a.0 values.accepted a.2 in
+          subst (λ (x : St). Still looped scope x) a.4 (left1.sites, λ m n. (type_trees T values.types, left1.fit m n, values.fit), left1.behind scope)
 
       define_formed : (ns : List Name) (at : Pos) (es : TreeExs) (t : St) → Extends (behind_simple text s (tree.define ns at es)).sites all → Extends s.sites all → simple_statement text s (tree.define ns at es) ≡ Some t
           → StFormed looped s scope (behind_simple text s (tree.define ns at es)) t × Visible (behind_simple text s (tree.define ns at es)) (scope_after scope t)
@@ -288,34 +296,34 @@ module _ (text : List ℕ) (p : Program) (all : List Site) (has : HasSites p all
           let v = taken (all_new_wanted text s ns) (seen text s es) in
           let w = where_some (may_define text s ns) (assignment (new_lefts text s (length s.sites) ns) v) t is in
           let a = assignment_some (new_lefts text s (length s.sites) ns) v t w.1 in
-          let values = taken_fits p scope (all_new_wanted text s ns) (seen text s es) a.1 (seen_fit p scope text s (shown_site s scope visible) (shown_number s scope visible) visible.held agrees es) a.3 in
-          let types_are : definition_types text s ns es ≡ Some values.types = ap (option_and_then (λ x. value_types (seen text s es))) a.3 ∙ values.found in
+          let values = taken_fits T p scope formed (all_new_wanted text s ns) (seen text s es) a.1 (all_given es) a.3 in
+          let found : definition_types text s ns es ≡ Some values.types = ap (option_and_then (λ x. value_types (seen text s es))) a.3 ∙ values.found in
           let vs = new_slots text s (slots_each (Some values.types) ns) in
           let after = with_variables text s vs in
-          let ext1 : Extends after.sites all = subst (λ (o : Option (List ValueType)). Extends (with_variables text s (new_slots text s (slots_each o ns))).sites all) types_are ext in
-          let fits : (n : ℕ) → length after.sites ≤ n → NewFit p text scope s scope vs values.types a.0 n =
-          λ n le. new_lefts_fit p text all has s scope (known_all s scope visible agrees ext0) n ns values.types s scope a.0 visible values.accepted a.2 le ext1 in
+          let ext1 : Extends after.sites all = subst (λ (o : Option (List ValueType)). Extends (with_variables text s (new_slots text s (slots_each o ns))).sites all) found ext in
+          let fits : (n : ℕ) → length after.sites ≤ n → NewFit T p text scope s scope vs values.types a.0 n =
+          λ n le. new_lefts_fit T p text all has s scope (known_all s scope visible types_are agrees ext0) n ns values.types s scope a.0 types_are visible values.accepted a.2 le ext1 in
           let whole = fits (length after.sites) (omega arith) in
-          subst (λ (o : Option (List ValueType)). StFormed looped s scope (with_variables text s (new_slots text s (slots_each o ns))) t × Visible (with_variables text s (new_slots text s (slots_each o ns))) (scope_after scope t)) (sym types_are)
+          subst (λ (o : Option (List ValueType)). StFormed looped s scope (with_variables text s (new_slots text s (slots_each o ns))) t × Visible (with_variables text s (new_slots text s (slots_each o ns))) (scope_after scope t)) (sym found)
           (subst (λ (x : St). StFormed looped s scope after x × Visible after (scope_after scope x)) a.4
-          (record { count = whole.count; fit = λ n le. (type_trees values.types, (fits n le).fit, values.fit) }, whole.visible))
+          (record { count = whole.count; fit = λ n le. (type_trees T values.types, (fits n le).fit, values.fit) }, whole.visible))
 
       -- the value of a variable is one of its type
-      own_fits : Extends s.sites all → (o : Option Name) (t : ValueType) (q : Pl) → own_value text s o ≡ Some (value t (read q)) → PlFits p scope (type_tree t) q
+      own_fits : Extends s.sites all → (o : Option Name) (t : ValueType) (q : Pl) → own_value text s o ≡ Some (value t (read q)) → PlFits p scope (type_tree T t) q
       own_fits ext None t q is = absurd (none_some is)
       own_fits ext (Some n) t q is = by (is_blank (spelled text n)) is
         where
-          of_variable : (o : Option Variable) → Known p scope o → variable_value o ≡ Some (value t (read q)) → PlFits p scope (type_tree t) q
+          of_variable : (o : Option Variable) → Known T p scope o → variable_value o ≡ Some (value t (read q)) → PlFits p scope (type_tree T t) q
           of_variable None known is1 = absurd (none_some is1)
           of_variable (Some v) known is1 =
               let read_is : value v.value_type (read v.place) ≡ value t (read q) = same_some is1 in
               let type_is : v.value_type ≡ t = cc in
               let place_is : v.place ≡ q = cc in
-              subst (λ (u : ValueType). PlFits p scope (type_tree u) q) type_is (subst (λ (l : Pl). PlFits p scope (type_tree v.value_type) l) place_is (known v refl))
+              subst (λ (u : ValueType). PlFits p scope (type_tree T u) q) type_is (subst (λ (l : Pl). PlFits p scope (type_tree T v.value_type) l) place_is (known v refl))
 
-          by : (b : Bool) → cond b None (variable_value (variable_named text s n)) ≡ Some (value t (read q)) → PlFits p scope (type_tree t) q
+          by : (b : Bool) → cond b None (variable_value (variable_named text s n)) ≡ Some (value t (read q)) → PlFits p scope (type_tree T t) q
           by true is1 = absurd (none_some is1)
-          by false is1 = of_variable (variable_named text s n) (known_all s scope visible agrees ext (spelled text n)) is1
+          by false is1 = of_variable (variable_named text s n) (known_all s scope visible types_are agrees ext (spelled text n)) is1
 
       update_one_still : Extends s.sites all → (tree_op : ArithmeticOp) (e v : TreeEx) (t : St) → update_one text s tree_op e v ≡ Some t → Still looped scope t
       update_one_still ext tree_op e v t is =
@@ -324,9 +332,9 @@ module _ (text : List ℕ) (p : Program) (all : List Site) (has : HasSites p all
           let q = and_then_some updated (both (combined (first_place e) (Arithmetic tree_op)) a b) t is in
           let u = update_some (first_place e) tree_op a b q.0 (λ x x_is. own_read text s (name_in e) x x_is) q.1 in
           let form = u.5 in
-          let place1 : PlFits p scope ints u.1 = subst (λ (k : ValueType). PlFits p scope (type_tree k) u.1) form.2 (own_fits ext (name_in e) u.0 u.1 u.3) in
-          let right : OperandFits p scope u.2 = operand_fits p scope (gives text s v) u.2 (maybe_fits p scope (gives text s v) (λ g g_is. gives_fit p scope text s (shown_site s scope visible) (shown_number s scope visible) visible.held agrees v g g_is)) u.4 in
-          let right1 : ExFits p scope ints form.0 = subst (λ (k : ValueType). ExFits p scope (type_tree k) form.0) form.1 (value_fits p scope u.2 form.0 right form.3) in
+          let place1 : PlFits p scope ints u.1 = subst (λ (x : TypeTree). PlFits p scope x u.1) (int_tree T formed) (subst (λ (k : ValueType). PlFits p scope (type_tree T k) u.1) form.2 (own_fits ext (name_in e) u.0 u.1 u.3)) in
+          let right : OperandFits T p scope u.2 = operand_fits T p scope (gives text s v) u.2 (maybe_fits T p scope (gives text s v) (λ g g_is. given_fits v g g_is)) u.4 in
+          let right1 : ExFits p scope ints form.0 = subst (λ (x : TypeTree). ExFits p scope x form.0) (int_tree T formed) (subst (λ (k : ValueType). ExFits p scope (type_tree T k) form.0) form.1 (value_fits T p scope formed u.2 form.0 right form.3)) in
           let whole : update (first_place e) u.1 (arithmetic_of tree_op) form.0 ≡ t = same_some (ap updated (sym form.4) ∙ q.2) in
           subst (λ (x : St). Still looped scope x) whole (refl, λ m n. (arithmetic_is tree_op, place1, right1), refl)
 
@@ -343,14 +351,16 @@ module _ (text : List ℕ) (p : Program) (all : List Site) (has : HasSites p all
         where
           by : (u : ValueType) (l : Pl) → own_value text s (name_in e) ≡ Some (value u (read l)) → stepped typed_op (value u (read l)) ≡ Some t → Still looped scope t
           by Truth l found is1 = absurd (none_some is1)
-          by Int l found is1 = subst (λ (y : St). Still looped scope y) (same_some is1) (refl, λ m n. (steps, own_fits ext (name_in e) Int l found), refl)
+          by (Struct k) l found is1 = absurd (none_some is1)
+          by (Array n u) l found is1 = absurd (none_some is1)
+          by Int l found is1 = subst (λ (y : St). Still looped scope y) (same_some is1) (refl, λ m n. (steps, subst (λ (x : TypeTree). PlFits p scope x l) (int_tree T formed) (own_fits ext (name_in e) Int l found)), refl)
 
       call_still : (e : TreeEx) (t : St) → Within p all (with_strings s (strings_in (gives text s e))) → option_and_then (expressed (length s.strings)) (gives text s e) ≡ Some t → Still looped scope t
       call_still e t within is =
           let q = and_then_some (expressed (length s.strings)) (gives text s e) t is in
           let count1 : length (strings_in (gives text s e)) ≡ length (strings_in_call q.0) = ap (λ (o : Option Gives). length (strings_in o)) q.1 in
           let count2 = length-append s.strings (strings_in (gives text s e)) in
-          express_still looped scope (length s.strings) q.0 t (gives_fit p scope text s (shown_site s scope visible) (shown_number s scope visible) visible.held agrees e q.0 q.1) (omega (arith, within.1, count1, count2)) q.2
+          express_still looped scope (length s.strings) q.0 t (given_fits e q.0 q.1) (omega (arith, within.1, count1, count2)) q.2
 
       pub simple_still : (m : Simple) (t : St) → DeclaresNone m → Within p all (behind_simple text s m) → simple_statement text s m ≡ Some t → Still looped scope t
       simple_still (tree.express e) t none1 within is = call_still e t within is
@@ -376,5 +386,5 @@ module _ (text : List ℕ) (p : Program) (all : List Site) (has : HasSites p all
       simple_formed (tree.increment e at) t within ext0 is = still_formed looped s scope t visible (simple_still (tree.increment e at) t tt within is)
       simple_formed (tree.decrement e at) t within ext0 is = still_formed looped s scope t visible (simple_still (tree.decrement e at) t tt within is)
 
-      pub return_formed : (r : Returns) (goes : ReturnsFit r wanted1 named) (es : TreeExs) (t : St) → returned r (seen text s es) ≡ Some t → StFormed looped s scope s t × Visible s (scope_after scope t)
-      return_formed r goes es t is = still_formed looped s scope t visible (return_still looped scope r goes (seen text s es) t (seen_fit p scope text s (shown_site s scope visible) (shown_number s scope visible) visible.held agrees es) is)
+      pub return_formed : (r : Returns) (goes : ReturnsFit T r wanted1 named) (es : TreeExs) (t : St) → returned r (seen text s es) ≡ Some t → StFormed looped s scope s t × Visible s (scope_after scope t)
+      return_formed r goes es t is = still_formed looped s scope t visible (return_still looped scope r goes formed (seen text s es) t (all_given es) is)

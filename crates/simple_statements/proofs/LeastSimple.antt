@@ -7,7 +7,7 @@ use Rattle.syntax.specs.Expressions.{Exs as TreeExs}
 use Rattle.typed.specs.Syntax.{Left}
 use Rattle.value_types.specs.declared.fault.Fault.{Fault}
 use Rattle.value_types.specs.declared.fault.FaultKind.TheVariants.{ArgCount, ResultCount, NothingNew}
-use Rattle.value_types.specs.declared.value_type.ValueType.{ValueType}
+use Rattle.base.specs.declared.value_type.ValueType.{ValueType}
 use Rattle.value_types.specs.Least.{IsLeast, lesser}
 use Rattle.value_types.specs.Faults.{fault, IsFault}
 use Rattle.value_types.proofs.Decided.{Tested}

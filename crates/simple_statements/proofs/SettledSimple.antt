@@ -18,8 +18,8 @@ use Rattle.typed.specs.declared.operators.BinOp.TheVariants as op
 use Rattle.typed.specs.Syntax.{Ex, Exs, Left, Pl, St, to, binary, read, none, assign, update, give_back}
 use Rattle.value_types.specs.declared.fault.FaultKind.TheVariants.{Unknown, Redeclared, NothingNew, NotAssignable, NotUsedValue, ArgCount, ResultCount, BadOperand, OutOfProfile}
 use Rattle.value_types.specs.declared.constant.Fixed.{Fixed}
-use Rattle.value_types.specs.declared.value_type.ValueType.{ValueType}
-use Rattle.value_types.specs.declared.value_type.ValueType.TheVariants.{Int, Bool as Truth}
+use Rattle.base.specs.declared.value_type.ValueType.{ValueType}
+use Rattle.base.specs.declared.value_type.ValueType.TheVariants.{Int, Bool as Truth}
 use Rattle.value_types.specs.Given.{both}
 use Rattle.value_types.specs.Faults.{fault, IsFault}
 use Rattle.value_types.proofs.Decided.{Decided, Tested, further, mapped, after, both_tested}
@@ -50,7 +50,7 @@ use Rattle.simple_statements.proofs.SettledValues.{settled_new, allowed_is, take
 
 -- what a name stands for has a type
 abbrev NameTyped : Scope → Option Declared → Type 0
-NameTyped s d = (x : Declared) → d ≡ Some x → IsTyped s.signatures s.values x
+NameTyped s d = (x : Declared) → d ≡ Some x → IsTyped s.types s.signatures s.values x
 
 -- what follows from a package variable of which something is known
 known_decided : {A : Type 0} (h : Variable → A) (g : ℕ) (o : Option Fixed) → HasValue o → Decided (option_map h (option_map (global_variable g) o)) (IsFault None)
@@ -155,9 +155,7 @@ UpdatedAs at typed_op t q y z = (e : Ex) × (type_of y ≡ Int) × (t ≡ Int) �
 
 takes_ints : (tree_op : ArithmeticOp) (s t : ValueType) → takes (Arithmetic tree_op) s t ≡ true → (s ≡ Int) × (t ≡ Int)
 takes_ints tree_op Int Int is = (refl, refl)
-takes_ints tree_op Int Truth is = cc is
-takes_ints tree_op Truth Int is = cc is
-takes_ints tree_op Truth Truth is = cc is
+takes_ints tree_op s t is = absurd cc is
 
 pub combined_as : (at : Pos) (tree_op : ArithmeticOp) (t : ValueType) (q : Pl) (y z : Operand) → combined at (Arithmetic tree_op) (value t (read q)) y ≡ Some z → UpdatedAs at (arithmetic_of tree_op) t q y z
 combined_as at tree_op t q y z is =
@@ -206,7 +204,7 @@ step_decided typed_op (Some x) at P reads d =
   where
     by : (t : ValueType) (q : Pl) → Decided (stepped typed_op (value t (read q))) (λ f. P f ⊎ IsFault (step_fault (Some (value t (read q))) at) f)
     by Int q = λ f h. elim h [ inl k ↦ d f k | inr k ↦ k ]
-    by Truth q = (fault BadOperand at, inr refl)
+    by t q = (fault BadOperand at, inr refl)
 
 module _ (text : List ℕ) where
   value_decided : (s : Scope) (e : TreeEx) (o : Option Gives) → Decided o (Fails text s e) → (f : Fault) × (Fails text s e f ⊎ IsFault (value_left_fault o (first_place e)) f)
@@ -321,7 +319,7 @@ module _ (text : List ℕ) where
   simple_decided s (tree.decrement e at) settled = step_statement_decided s op.Sub e settled
 
   pub settled_simple : (s : Scope) (m : Simple) (t : St) → IsSettled s → simple_statement text s m ≡ Some t → IsSettled (behind_simple text s m)
-  settled_simple s (tree.express e) t settled is = record { all = settled.all }
+  settled_simple s (tree.express e) t settled is = record { all = settled.all; formed = settled.formed }
   settled_simple s (tree.assign ls at es) t settled is = settled
   settled_simple s (tree.update ls at tree_op es) t settled is = settled
   settled_simple s (tree.define ns at es) t settled is =

@@ -10,7 +10,7 @@ use Rattle.syntax.specs.Statements.{ValueSpec}
 use Rattle.typed.specs.Syntax.{Exs, Left, St, Sts, declare, next}
 use Rattle.value_types.specs.declared.fault.Fault.{Fault}
 use Rattle.value_types.specs.declared.fault.FaultKind.TheVariants.{ArgCount}
-use Rattle.value_types.specs.declared.value_type.ValueType.{ValueType}
+use Rattle.base.specs.declared.value_type.ValueType.{ValueType}
 use Rattle.value_types.specs.Faults.{fault}
 use Rattle.value_types.proofs.Decided.{Decided, Tested, further, tested, mapped, after}
 use Rattle.value_types.proofs.Options.{and_then_some, map_some}

@@ -9,10 +9,10 @@ use Rattle.expression_types.specs.Typing.{Part, said, valued}
 use Rattle.simple_statements.specs.SimpleStatements.{strings_of, piece_from, pieces_from}
 
 pub no_strings : (s : Scope) → with_strings s [] ≡ s
-no_strings s = ap (λ (l : List (List ℕ)). record { blocks = s.blocks; declared = s.declared; sites = s.sites; signatures = s.signatures; values = s.values; globals = s.globals; strings = l }) (append-nil s.strings)
+no_strings s = ap (λ (l : List (List ℕ)). record s { strings = l }) (append-nil s.strings)
 
 pub strings_twice : (s : Scope) (a b : List (List ℕ)) → with_strings (with_strings s a) b ≡ with_strings s (a ++ b)
-strings_twice s a b = ap (λ (l : List (List ℕ)). record { blocks = s.blocks; declared = s.declared; sites = s.sites; signatures = s.signatures; values = s.values; globals = s.globals; strings = l }) (append_assoc s.strings a b)
+strings_twice s a b = ap (λ (l : List (List ℕ)). record s { strings = l }) (append_assoc s.strings a b)
 
 pub strings_first : (p : Part) (ps : List Part) → strings_of (p ∷ []) ++ strings_of ps ≡ strings_of (p ∷ ps)
 strings_first (said bytes) ps = refl

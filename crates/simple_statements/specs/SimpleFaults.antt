@@ -12,8 +12,8 @@ use Rattle.syntax.specs.Expressions as expressions
 use Rattle.syntax.specs.Statements.{Simple, ValueSpec}
 use Rattle.syntax.specs.Statements as tree
 use Rattle.value_types.specs.declared.fault.FaultKind.TheVariants.{Unknown, Redeclared, NothingNew, NotAssignable, ArgCount, ResultCount, NotUsedValue, BadOperand, OutOfProfile}
-use Rattle.value_types.specs.declared.value_type.ValueType.TheVariants.{Int}
-use Rattle.value_types.specs.Constants.{same_type}
+use Rattle.base.specs.declared.value_type.ValueType.TheVariants.{Int}
+use Rattle.base.specs.Types.{same_type}
 use Rattle.value_types.specs.Faults.{fault, IsFault}
 use Rattle.operators.specs.Operands.{Operand, type_of}
 use Rattle.operators.specs.Faults.{pair_fault}

@@ -3,7 +3,7 @@
 use Rattle.std.specs.Prelude.{ℕ, ◌+◌, length, Bool, true, false, not, ◌&&◌, ◌||◌, List, [], ◌∷◌, map, Option, Some, None, is_some, option_and_then, if◌then◌else◌}
 use Rattle.std.specs.Option.{option_map}
 use Rattle.value_types.specs.declared.constant.Fixed.{Fixed}
-use Rattle.value_types.specs.declared.value_type.ValueType.{ValueType}
+use Rattle.base.specs.declared.value_type.ValueType.{ValueType}
 use Rattle.syntax.specs.declared.expression.Name.{Name}
 use Rattle.syntax.specs.declared.operator.ArithmeticOp.{ArithmeticOp}
 use Rattle.syntax.specs.declared.operator.BinOp.TheVariants.{Arithmetic}
@@ -16,7 +16,7 @@ use Rattle.typed.specs.declared.operators.BinOp.{BinOp as TypedOp}
 use Rattle.typed.specs.declared.operators.BinOp.TheVariants as op
 use Rattle.typed.specs.View.{place_of}
 use Rattle.typed.specs.Syntax.{Exs, Left, Piece, Pl, St, Sts, text as string_number, shown, binary, read, local, global, here, none, results, asked, blank, new, to, declare, assign, update, bump, discard, give_back, print, raise, quit, done, next}
-use Rattle.value_types.specs.declared.value_type.ValueType.TheVariants.{Int}
+use Rattle.base.specs.declared.value_type.ValueType.TheVariants.{Int}
 use Rattle.value_types.specs.Given.{allowed, both}
 use Rattle.operators.specs.Operands.{Operand, value}
 use Rattle.operators.specs.Operators.{combined}

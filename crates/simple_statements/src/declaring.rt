@@ -18,7 +18,7 @@ ghost use Rattle.simple_statements.specs.SimpleStatements.{variable_view, variab
 ghost use Rattle.signatures.specs.Failing.{fault_where};
 ghost use Rattle.simple_statements.specs.SimpleFaults.{left_fault, new_name_fault, value_left_fault, LeftSideFails, LeftsFail, NewNamesFail, TwiceFails, names_place, lefts_place};
 
-use base::{NoMemory, Pos, SiteId};
+use base::{NoMemory, Pos, SiteId, ValueType};
 use expression_types::{Gives, check_expr};
 use names::{
     Block, Declared, Scope, declaration, declare_variable, fixed, is_blank, is_here, name_in,
@@ -28,7 +28,7 @@ use signatures::{Slot, fault_where};
 use std::alloc::Global;
 use syntax::{Expr, Name};
 use typed::{Left, Place};
-use value_types::{Fault, FaultKind, ValueType, constant_type, lesser};
+use value_types::{Fault, FaultKind, constant_type, lesser};
 
 /// What is known of left sides.
 #[derive(Drop)]

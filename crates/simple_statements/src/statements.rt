@@ -23,7 +23,7 @@ use crate::declaring::{
 };
 use crate::operands::{numbered, pieces};
 use crate::updating::{check_step, check_update};
-use base::{NoMemory, Pos};
+use base::{NoMemory, Pos, ValueType};
 use expression_types::{
     Gives, Item, check_expr, check_list, count, count_fault, placed_fault, take_fault, taken,
     value_types,
@@ -34,7 +34,7 @@ use signatures::{fault_where, slots_each};
 use std::alloc::Global;
 use syntax::{Expr, Name, Simple};
 use typed::{BinOp, Left, Values};
-use value_types::{Fault, FaultKind, ValueType, lesser};
+use value_types::{Fault, FaultKind, lesser};
 
 /// What a function gives back: the types of its values, where they are known, and whether a `return` may have none.
 #[derive(Drop)]

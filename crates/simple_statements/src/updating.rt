@@ -24,7 +24,7 @@ ghost use Rattle.simple_statements.specs.SimpleFaults.{own_fault, step_fault, gi
 
 use crate::declaring::{Variable, left_fault_of, lefts_pos, value_fault, variable_named};
 use crate::statements::Line;
-use base::{NoMemory, Pos};
+use base::{NoMemory, Pos, ValueType, same_type};
 use expression_types::{Item, check_list, check_single, count, values_fault};
 use names::{Declared, Scope, declaration, is_blank, name_in, spelled};
 use operators::{Operand, pair_fault, paired, type_of};
@@ -32,7 +32,7 @@ use signatures::fault_where;
 use std::alloc::Global;
 use syntax::{ArithmeticOp, Expr, Name};
 use typed::BinOp;
-use value_types::{Fault, FaultKind, ValueType, lesser, same_type};
+use value_types::{Fault, FaultKind, lesser};
 
 /// What is known of left sides that have values of their own: whether each has one, and the fault.
 #[derive(Clone, Copy, Debug, PartialEq, Eq)]

@@ -18,7 +18,7 @@ ghost use Rattle.signatures.specs.EntryFaults.{EntriesFail};
 ghost use Rattle.simple_statements.specs.SimpleFaults.{SpecTypeFails, SpecTakeFails, SpecValuesFail, FailsInSpec, FailsInSpecs};
 
 use crate::statements::{Line, Lines, assignment, types_where};
-use base::{NoMemory, Pos, SiteId};
+use base::{NoMemory, Pos, SiteId, ValueType};
 use expression_types::{check_list, take_fault, taken, value_types};
 use names::{Scope, type_fault, type_in};
 use signatures::{
@@ -27,7 +27,7 @@ use signatures::{
 use std::alloc::Global;
 use syntax::{Expr, ValueSpec};
 use typed::Values;
-use value_types::{Fault, FaultKind, ValueType, lesser};
+use value_types::{Fault, FaultKind, lesser};
 
 /// What is known of the values of a declaration: they themselves, their types, and the fault.
 #[derive(Drop)]

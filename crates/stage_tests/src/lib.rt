@@ -10,6 +10,10 @@ mod back_end;
 #[cfg(test)]
 mod checker;
 #[cfg(test)]
+mod checker_faults;
+#[cfg(test)]
+mod compiling;
+#[cfg(test)]
 mod instructions;
 #[cfg(test)]
 mod parser;

@@ -15,6 +15,3 @@ mod number_base;
 mod piece;
 
 pub use literal::string_value;
-
-#[cfg(test)]
-mod tests;

@@ -3,9 +3,9 @@ use Rattle.std.proofs.Common.{◌≡◌, ℕ, zero, suc, List, [], ◌∷◌, re
 use Rattle.std.specs.Option.{option_map}
 use Rattle.value_trees.specs.Types.{width}
 use Rattle.typed.specs.declared.told.Told.{Told}
-use Rattle.typed.specs.declared.value_type.StructId.{StructId}
-use Rattle.typed.specs.declared.value_type.ValueType.{ValueType}
-use Rattle.typed.specs.declared.value_type.ValueType.TheVariants.{Int, Bool as Truth, Struct}
+use Rattle.base.specs.declared.ids.StructId.{StructId}
+use Rattle.base.specs.declared.value_type.ValueType.{ValueType}
+use Rattle.base.specs.declared.value_type.ValueType.TheVariants.{Int, Bool as Truth, Struct}
 use Rattle.typed.specs.Tables.{Table, fields_of}
 use Rattle.typed.specs.Words.{IsInLimits}
 use Rattle.typed.specs.Trees.{words_of}

@@ -4,9 +4,9 @@ use Rattle.std.specs.Option.{unwrap_or, option_map, option_and_then}
 use Rattle.value_trees.specs.Types.{struct_of, array_of, width}
 use Rattle.base.specs.declared.ids.TypeId.{TypeId}
 use Rattle.typed.specs.declared.told.Told.{Told}
-use Rattle.typed.specs.declared.value_type.StructId.{StructId}
-use Rattle.typed.specs.declared.value_type.ValueType.{ValueType}
-use Rattle.typed.specs.declared.value_type.ValueType.TheVariants.{Int, Bool as Truth, Struct, Array}
+use Rattle.base.specs.declared.ids.StructId.{StructId}
+use Rattle.base.specs.declared.value_type.ValueType.{ValueType}
+use Rattle.base.specs.declared.value_type.ValueType.TheVariants.{Int, Bool as Truth, Struct, Array}
 use Rattle.typed.specs.Tables.{Table, fields_of}
 use Rattle.typed.specs.Words.{allowed, within_limit}
 use Rattle.typed.specs.Trees.{parts_by, tree_of, words_of}

@@ -5,9 +5,9 @@ use Rattle.std.proofs.lemmas.Option.{slice_get_within, slice_get-get_or}
 use Rattle.std.proofs.Math.Nat.{mul-le-mul_left}
 use Rattle.value_trees.specs.Types.{ValueType as Tree, PartTypes, struct_of, array_of, more_types, width}
 use Rattle.base.specs.declared.ids.TypeId.{TypeId}
-use Rattle.typed.specs.declared.value_type.StructId.{StructId}
-use Rattle.typed.specs.declared.value_type.ValueType.{ValueType}
-use Rattle.typed.specs.declared.value_type.ValueType.TheVariants.{Int, Bool as Truth, Struct, Array}
+use Rattle.base.specs.declared.ids.StructId.{StructId}
+use Rattle.base.specs.declared.value_type.ValueType.{ValueType}
+use Rattle.base.specs.declared.value_type.ValueType.TheVariants.{Int, Bool as Truth, Struct, Array}
 use Rattle.typed.specs.Tables.{Table, Holds, fields_of, number_of, with_type, told}
 use Rattle.typed.specs.Words.{IsInLimits, refusal_by}
 use Rattle.typed.specs.Trees.{part_by, more_by, parts_by, tree_by, tree_within, tree_of, words_of, depth_of}

@@ -7,17 +7,19 @@ use Rattle.std.proofs.lemmas.List.Folds.{list_any_none}
 use Rattle.std.proofs.lemmas.Option.{slice_get-get_or}
 use Rattle.indexmap.specs.IndexSet.{insert_key}
 use Rattle.typed.specs.declared.told.Told.{Told}
-use Rattle.typed.specs.declared.value_type.StructId.{StructId}
-use Rattle.typed.specs.declared.value_type.ValueType.{ValueType}
-use Rattle.typed.specs.declared.value_type.ValueType.TheVariants.{Int, Bool as Truth, Struct, Array}
-use Rattle.typed.specs.Tables.{Table, Holds, same, number_of, with_type}
+use Rattle.base.specs.declared.ids.StructId.{StructId}
+use Rattle.base.specs.declared.value_type.ValueType.{ValueType}
+use Rattle.base.specs.declared.value_type.ValueType.TheVariants.{Int, Bool as Truth, Struct, Array}
+use Rattle.base.specs.Types.{same_type}
+use Rattle.base.proofs.Types.{same_is}
+use Rattle.typed.specs.Tables.{Table, Holds, number_of, with_type}
 use Rattle.typed.specs.Words.{IsInLimits, refusal_by}
 use Rattle.typed.specs.Trees.{words_of}
 use Rattle.typed.specs.Formed.{IsFormed, KeepsTrees, Stands, words_at, refusal}
 use Rattle.typed.specs.Memory.{table_of, IsCounted, words_by, struct_words}
 use Rattle.typed.proofs.Lists.{map_same}
 use Rattle.typed.proofs.Limits.{not_refused, allowed_within}
-use Rattle.typed.proofs.Numbers.{lacks, same_is, last_number}
+use Rattle.typed.proofs.Numbers.{lacks, last_number}
 use Rattle.typed.proofs.Growing.{keeps}
 use Rattle.typed.proofs.Counted.{array_words, words_kept, struct_kept}
 use Rattle.typed.proofs.Entered.{entered, entered_new, entered_grows, entered_deeper, stands_placed, words_stay, words_fine, formed_entered}
@@ -45,14 +47,14 @@ structs_fine types told words formed counted s =
     ∙ least_fine (words_of (table_of types told) (Struct id)) (λ w e. formed.structs id w e)
 
 -- an insert puts a type without a number last
-none_same : (T : Table) (t : ValueType) → number_of T t ≡ None → list_any (same t) T.types ≡ false
-none_same T t none = list_any_none (same t) T.types (λ k d l. by k (get_or T.types k d) (same t (get_or T.types k d)) refl (slice_get-get_or T.types k d l))
+none_same : (T : Table) (t : ValueType) → number_of T t ≡ None → list_any (same_type t) T.types ≡ false
+none_same T t none = list_any_none (same_type t) T.types (λ k d l. by k (get_or T.types k d) (same_type t (get_or T.types k d)) refl (slice_get-get_or T.types k d l))
   where
-    by : (k : ℕ) (u : ValueType) (b : Bool) → same t u ≡ b → Holds T k u → same t u ≡ false
+    by : (k : ℕ) (u : ValueType) (b : Bool) → same_type t u ≡ b → Holds T k u → same_type t u ≡ false
     by k u true e h = absurd (lacks T t k none (h ∙ ap (λ v. Some v) (sym (same_is t u e))))
     by k u false e h = e
 
-pub inserted_last : (T : Table) (t : ValueType) → number_of T t ≡ None → insert_key same T.types t ≡ T.types ++ t ∷ []
+pub inserted_last : (T : Table) (t : ValueType) → number_of T t ≡ None → insert_key same_type T.types t ≡ T.types ++ t ∷ []
 inserted_last T t none = ap (λ b. if b then T.types else T.types ++ t ∷ []) (none_same T t none)
 
 -- what holds where a type has entered
@@ -90,7 +92,7 @@ module _ (types : List ValueType) (told : List (Option Told)) (words : List (Opt
     number = last_number (table_of types told) t none;
   }
 
-  pub entering : (keys : List ValueType) (kept : List (Option ℕ)) (w : Option ℕ) → keys ≡ insert_key same types t → w ≡ words_by words told t → kept ≡ words ++ w ∷ [] → Entering types keys told kept t
+  pub entering : (keys : List ValueType) (kept : List (Option ℕ)) (w : Option ℕ) → keys ≡ insert_key same_type types t → w ≡ words_by words told t → kept ≡ words ++ w ∷ [] → Entering types keys told kept t
   entering keys kept w at_keys at_w at_kept =
       let k : types ++ t ∷ [] ≡ keys = sym (at_keys ∙ inserted_last (table_of types told) t none) in
       let s : words ++ words_by words told t ∷ [] ≡ kept = ap (λ v. words ++ v ∷ []) (sym at_w) ∙ sym at_kept in

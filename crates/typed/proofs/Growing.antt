@@ -3,8 +3,8 @@ use Rattle.std.proofs.Common.{◌≡◌, ℕ, zero, suc, ◌≤◌, List, [], �
 use Rattle.std.specs.Option.{option_map, option_and_then}
 use Rattle.value_trees.specs.Types.{ValueType as Tree, PartTypes, struct_of, array_of}
 use Rattle.base.specs.declared.ids.TypeId.{TypeId}
-use Rattle.typed.specs.declared.value_type.ValueType.{ValueType}
-use Rattle.typed.specs.declared.value_type.ValueType.TheVariants.{Int, Bool as Truth, Struct, Array}
+use Rattle.base.specs.declared.value_type.ValueType.{ValueType}
+use Rattle.base.specs.declared.value_type.ValueType.TheVariants.{Int, Bool as Truth, Struct, Array}
 use Rattle.typed.specs.Tables.{Table, fields_of}
 use Rattle.typed.specs.Trees.{part_by, more_by, parts_by, tree_by, tree_within, tree_of, depth_of}
 use Rattle.typed.specs.Formed.{KeepsTrees}

@@ -5,9 +5,9 @@ use Rattle.std.specs.Option.{unwrap_or, option_map, option_copied, option_and_th
 use Rattle.std.proofs.lemmas.Bool.{ltb-true, ltb-false}
 use Rattle.value_trees.specs.Types.{ValueType as Tree, PartTypes, ints, bools, array_of, no_types, width, repeated, nth_type, widths_before, part_type, part_offset}
 use Rattle.base.specs.declared.ids.TypeId.{TypeId}
-use Rattle.typed.specs.declared.value_type.StructId.{StructId}
-use Rattle.typed.specs.declared.value_type.ValueType.{ValueType}
-use Rattle.typed.specs.declared.value_type.ValueType.TheVariants.{Int, Bool as Truth, Struct, Array}
+use Rattle.base.specs.declared.ids.StructId.{StructId}
+use Rattle.base.specs.declared.value_type.ValueType.{ValueType}
+use Rattle.base.specs.declared.value_type.ValueType.TheVariants.{Int, Bool as Truth, Struct, Array}
 use Rattle.typed.specs.Tables.{Table, Holds, type_at, fields_of}
 use Rattle.typed.specs.Trees.{parts_by, tree_of, trees, tree_named, offset_in}
 use Rattle.typed.specs.Formed.{IsFormed, tree_at, words_at}

@@ -4,9 +4,9 @@ use Rattle.std.specs.List.{list_any}
 use Rattle.std.specs.Option.{unwrap_or, option_map, option_or}
 use Rattle.value_trees.specs.Types.{ValueType as Tree, width}
 use Rattle.base.specs.declared.ids.TypeId.{TypeId}
-use Rattle.typed.specs.declared.value_type.StructId.{StructId}
-use Rattle.typed.specs.declared.value_type.ValueType.{ValueType}
-use Rattle.typed.specs.declared.value_type.ValueType.TheVariants.{Int, Bool as Truth, Struct, Array}
+use Rattle.base.specs.declared.ids.StructId.{StructId}
+use Rattle.base.specs.declared.value_type.ValueType.{ValueType}
+use Rattle.base.specs.declared.value_type.ValueType.TheVariants.{Int, Bool as Truth, Struct, Array}
 use Rattle.typed.specs.declared.fault.TableFault.{TableFault}
 use Rattle.typed.specs.declared.fault.TableFault.TheVariants.{TooLarge}
 use Rattle.typed.specs.Tables.{Table, Holds, fields_of, with_fields, told}

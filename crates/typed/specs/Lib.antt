@@ -3,7 +3,6 @@ pub mod View
 pub mod Form
 pub mod Frames
 pub mod Placement
-pub mod Feeds
 pub mod Words
 pub mod Tables
 pub mod Trees

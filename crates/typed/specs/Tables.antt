@@ -1,8 +1,9 @@
 -- A table of types as contracts see it.
-use Rattle.std.specs.Prelude.{◌≡◌, ℕ, suc, ◌==◌, Bool, true, false, ◌&&◌, if◌then◌else◌, List, [], ◌∷◌, ◌++◌, map, get_or, slice_get, slice_set, position, is_some, Option, None, Some}
+use Rattle.std.specs.Prelude.{◌≡◌, ℕ, suc, if◌then◌else◌, List, [], ◌∷◌, ◌++◌, map, get_or, slice_get, slice_set, position, is_some, Option, None, Some}
 use Rattle.base.specs.declared.ids.TypeId.{TypeId}
-use Rattle.typed.specs.declared.value_type.ValueType.{ValueType}
-use Rattle.typed.specs.declared.value_type.ValueType.TheVariants.{Int, Bool as Truth, Struct, Array}
+use Rattle.base.specs.declared.value_type.ValueType.{ValueType}
+use Rattle.base.specs.declared.value_type.ValueType.TheVariants.{Int}
+use Rattle.base.specs.Types.{same_type}
 
 -- the types by their numbers, and the fields of each struct by the numbers of their types, where it's told
 pub record Table : Type 0 where
@@ -19,17 +20,9 @@ Holds T i t = slice_get T.types i ≡ Some t
 abbrev pub fields_of : Table → ℕ → Option (List TypeId)
 fields_of T s = get_or T.structs s None
 
--- whether types are equal
-abbrev pub same : ValueType → ValueType → Bool
-same Int Int = true
-same Truth Truth = true
-same (Struct s) (Struct r) = s.0 == r.0
-same (Array n e) (Array m f) = (n == m) && (e.0 == f.0)
-same t u = false
-
 -- the number of a type
 abbrev pub number_of : Table → ValueType → Option ℕ
-number_of T t = position (same t) T.types
+number_of T t = position (same_type t) T.types
 
 -- a table with a type, which gets the next number if it has none
 abbrev pub with_type : Table → ValueType → Table

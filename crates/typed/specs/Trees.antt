@@ -3,8 +3,8 @@ use Rattle.std.specs.Prelude.{ℕ, zero, suc, ◌*◌, List, [], ◌∷◌, leng
 use Rattle.std.specs.Option.{unwrap_or, option_map, option_and_then}
 use Rattle.value_trees.specs.Types.{ValueType as Tree, PartTypes, ints, bools, struct_of, array_of, no_types, more_types, width, part_offset}
 use Rattle.base.specs.declared.ids.TypeId.{TypeId}
-use Rattle.typed.specs.declared.value_type.ValueType.{ValueType}
-use Rattle.typed.specs.declared.value_type.ValueType.TheVariants.{Int, Bool as Truth, Struct, Array}
+use Rattle.base.specs.declared.value_type.ValueType.{ValueType}
+use Rattle.base.specs.declared.value_type.ValueType.TheVariants.{Int, Bool as Truth, Struct, Array}
 use Rattle.typed.specs.Tables.{Table, fields_of, told}
 
 -- the tree of the type that has a number, where these are the trees of the types

@@ -27,7 +27,6 @@ mod sizes;
 mod stmt;
 mod table;
 mod told;
-mod value_type;
 
 pub use expr::{Const, Element, Expr, Place, Step, Values};
 pub use fault::TableFault;
@@ -35,7 +34,3 @@ pub use operators::{BinOp, UnOp};
 pub use program::{BOOL, Func, INT, PackageVariable, Program, Site};
 pub use stmt::{Left, Piece, Stmt};
 pub use table::{ProgramTypes, TypeTable};
-pub use value_type::{StructId, ValueType};
-
-#[cfg(test)]
-mod tests;

@@ -6,8 +6,7 @@ ghost use Rattle.typed.specs.Trees.{tree_named};
 ghost use Rattle.typed.specs.Formed.{IsFormed};
 
 use crate::table::TypeTable;
-use crate::value_type::ValueType;
-use base::TypeId;
+use base::{TypeId, ValueType};
 
 impl TypeTable {
     /// The machine words of each value of the type that has a number; where it has no tree, those of a whole number.

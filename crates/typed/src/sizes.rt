@@ -8,8 +8,7 @@ ghost use Rattle.typed.specs.Memory.{struct_words, words_by, least_by, told_by};
 
 use crate::fault::TableFault;
 use crate::told::Told;
-use crate::value_type::{StructId, ValueType};
-use base::TypeId;
+use base::{StructId, TypeId, ValueType};
 
 /// The most words that a type may have.
 pub const MOST_WORDS: u32 = 65_535;

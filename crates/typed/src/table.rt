@@ -4,7 +4,7 @@ ghost use Rattle.std.specs.Prelude.{◌≡◌, ◌⊎◌, ◌<◌, ℕ, [], ◌�
 ghost use Rattle.std.specs.List.{list_any};
 ghost use Rattle.std.specs.Option.{option_map, option_copied, unwrap_or};
 ghost use Rattle.value_trees.specs.Types.{ints, bools};
-ghost use Rattle.typed.specs.declared.value_type.ValueType.TheVariants.{Int, Bool as Truth, Struct};
+ghost use Rattle.base.specs.declared.value_type.ValueType.TheVariants.{Int, Bool as Truth, Struct};
 ghost use Rattle.typed.specs.declared.fault.TableFault.TheVariants.{NoMemory as OutOfMemory, TooLarge as TypeTooLarge};
 ghost use Rattle.typed.specs.Tables.{Holds, finished, type_at, fields_of, number_of, with_type, with_fields};
 ghost use Rattle.typed.specs.Trees.{trees, tree_of, words_of, offset_in};
@@ -14,8 +14,7 @@ ghost use Rattle.typed.specs.Formed.{IsFormed, TreesAreMade, KeepsTrees, Stands,
 use crate::fault::TableFault;
 use crate::sizes::{entry_words, sum_words, words_by, words_when_told};
 use crate::told::{Told, into_fields};
-use crate::value_type::{StructId, ValueType};
-use base::{NoMemory, TypeId};
+use base::{NoMemory, StructId, TypeId, ValueType};
 use indexmap::IndexSet;
 use std::alloc::Global;
 use std::marker::Model;

@@ -13,7 +13,7 @@ use Rattle.syntax.specs.Declarations.{TypeSpec, Function as TreeFunction, Declar
 use Rattle.syntax.specs.Declarations as tree
 use Rattle.typed.specs.Syntax.{Func, Program}
 use Rattle.typed.specs.Trees.{trees}
-use Rattle.typed.specs.View.{basic_types, func_of, global_of, site_types, program_in, program_of}
+use Rattle.typed.specs.View.{func_of, global_of, site_types, program_in, program_of}
 use Rattle.typed.specs.declared.program.Program.{Program as ProgramData}
 use Rattle.typed.specs.declared.program.Site.{Site}
 use Rattle.value_trees.specs.Types.{ValueType as TypeTree}
@@ -37,7 +37,7 @@ use Rattle.signatures.specs.Signatures.{declares_name, external_named, is_extern
 use Rattle.signatures.specs.Failing.{fault_where}
 use Rattle.types_go.specs.Functions.{Member, number_of, plain_number, functions_in, members_in, are_supported, functions, declarations_in, heads_of, numbered_functions, members, package_scope, main_number, program_functions}
 use Rattle.types_go.specs.FunctionFaults.{DeclarationsFail, FailsInFunctions, FailsIn, first_byte}
-use Rattle.types_go.specs.Checked.{Types, sites_in, strings_in, globals_in, program_with}
+use Rattle.types_go.specs.Checked.{Types, sites_in, types_in, strings_in, globals_in, program_with}
 use Rattle.types_go.proofs.Package.{settled_kept}
 use Rattle.types_go.proofs.SettledFunctions.{all_decided}
 
@@ -106,32 +106,32 @@ Sound t = (f : Fault) → ItemsFail t.text (package_scope t) (declarations_in t)
 pub sound : (t : Syntax) → IsLeast (FailsIn t) None → Sound t
 sound t least f h = least f (inr (inl (inr h)))
 
-pub typed : (t : Syntax) (p : ProgramData) → trees p.types ≡ basic_types → Sound t → program_functions t ≡ Some (map (func_of basic_types) p.funcs.items) → main_number t ≡ Some p.main.0 → p.sites.items ≡ sites_in t
+pub typed : (t : Syntax) (p : ProgramData) → trees p.types ≡ types_in t → Sound t → program_functions t ≡ Some (map (func_of (types_in t)) p.funcs.items) → main_number t ≡ Some p.main.0 → p.sites.items ≡ sites_in t
     → map (λ (bytes : Vec ℕ). bytes.items) p.strings.items ≡ strings_in t → ((types : List TypeTree) → map (global_of types) p.globals.items ≡ globals_in t) → Types t (program_of p)
 typed t p types_are values_sound funcs main sites strings globals1 = record {
-  funcs = map (func_of basic_types) p.funcs.items;
+  funcs = map (func_of (types_in t)) p.funcs.items;
   main = p.main.0;
   functions = funcs;
   main_is = main;
   values = values_sound;
   is = ap (λ (types : List TypeTree). program_in types p) types_are ∙ ap (λ (l : List (ℕ × Value)). record {
-    funcs = map (func_of basic_types) p.funcs.items;
-    types = basic_types;
-    sites = site_types basic_types p.sites.items;
+    funcs = map (func_of (types_in t)) p.funcs.items;
+    types = types_in t;
+    sites = site_types (types_in t) p.sites.items;
     strings = map (λ (bytes : Vec ℕ). bytes.items) p.strings.items;
     globals = l;
     main = p.main.0;
-  }) (globals1 (site_types basic_types p.sites.items)) ∙ ap (λ (l : List Site). record {
-    funcs = map (func_of basic_types) p.funcs.items;
-    types = basic_types;
-    sites = site_types basic_types l;
+  }) (globals1 (site_types (types_in t) p.sites.items)) ∙ ap (λ (l : List Site). record {
+    funcs = map (func_of (types_in t)) p.funcs.items;
+    types = types_in t;
+    sites = site_types (types_in t) l;
     strings = map (λ (bytes : Vec ℕ). bytes.items) p.strings.items;
     globals = globals_in t;
     main = p.main.0;
   }) sites ∙ ap (λ (l : List (List ℕ)). record {
-    funcs = map (func_of basic_types) p.funcs.items;
-    types = basic_types;
-    sites = site_types basic_types (sites_in t);
+    funcs = map (func_of (types_in t)) p.funcs.items;
+    types = types_in t;
+    sites = site_types (types_in t) (sites_in t);
     strings = l;
     globals = globals_in t;
     main = p.main.0;

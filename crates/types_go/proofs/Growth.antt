@@ -5,7 +5,7 @@ use Rattle.syntax.specs.Statements.{Simple, Guard, Clause, forever, while_true, 
 use Rattle.syntax.specs.Statements as tree
 use Rattle.syntax.specs.Declarations.{Body, Function as TreeFunction}
 use Rattle.syntax.specs.Expressions.{spelled}
-use Rattle.value_types.specs.declared.value_type.ValueType.{ValueType}
+use Rattle.base.specs.declared.value_type.ValueType.{ValueType}
 use Rattle.names.specs.Universe.{is_blank}
 use Rattle.names.specs.Scope.{Scope, fixed, with_site, opened, closed}
 use Rattle.package_values.specs.Values.{Item}
@@ -113,7 +113,7 @@ module _ (text : List ℕ) (heads : Scope) where
   -- a package variable adds a site at most
   keeps_named : (s : Scope) (t : ValueType) (at : Pos) (blank : Bool) → Keeps s (cond blank s (with_site s t at))
   keeps_named s t at true = keeps_none s
-  keeps_named s t at false = record { blocks = refl; declared = ([], sym (append-nil s.declared), tt); sites = (_, refl, ((t, refl), tt)); kept = refl; strings = omega arith }
+  keeps_named s t at false = record { blocks = refl; declared = ([], sym (append-nil s.declared), tt); sites = (_, refl); kept = refl; strings = omega arith }
 
   pub keeps_variable : (s : Scope) (k : ℕ) (i : Item) → Keeps s (behind_variable text s k i)
   keeps_variable s k i = keeps_named s (type_or_int (fixed s k)) i.name.pos (is_blank (spelled text i.name))

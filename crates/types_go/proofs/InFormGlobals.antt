@@ -3,6 +3,7 @@ use Rattle.std.proofs.Common.{◌≡◌, ℕ, zero, suc, ℤ, pos, ◌+◌, ◌<
 use Rattle.std.specs.Prelude.{slice_get, option_and_then}
 use Rattle.std.specs.Option.{option_map}
 use Rattle.std.proofs.lemmas.Int.{ints as int_lemmas}
+use Rattle.std.proofs.lemmas.Bool.{false≢true}
 use Rattle.syntax.specs.Expressions.{spelled}
 use Rattle.syntax.specs.Declarations.{Function as TreeFunction, Declaration, constants, variables, types}
 use Rattle.syntax.specs.Declarations as tree
@@ -11,23 +12,26 @@ use Rattle.base.specs.declared.pos.Pos.{Pos}
 use Rattle.typed.specs.declared.program.Site.{Site}
 use Rattle.typed.specs.Syntax.{Func, Program, site_type}
 use Rattle.typed.specs.Form.{IsPlain, IsWord, GlobalFits}
-use Rattle.value_trees.specs.Types.{ValueType as TypeTree}
+use Rattle.value_trees.specs.Types.{ValueType as TypeTree, ints, bools}
 use Rattle.value_trees.specs.Value.{Value, int, IsOf}
 use Rattle.value_types.specs.declared.constant.Constant.{Constant}
 use Rattle.value_types.specs.declared.constant.Constant.TheVariants.{Number, Truth}
 use Rattle.value_types.specs.declared.constant.Fixed.{Fixed}
-use Rattle.value_types.specs.declared.value_type.ValueType.{ValueType}
-use Rattle.value_types.specs.declared.value_type.ValueType.TheVariants.{Int, Bool as Boolean}
-use Rattle.value_types.specs.Constants.{is_int}
+use Rattle.base.specs.declared.value_type.ValueType.{ValueType}
+use Rattle.base.specs.declared.value_type.ValueType.TheVariants.{Int, Bool as Boolean, Struct, Array}
+use Rattle.typed.specs.Tables.{Table}
+use Rattle.typed.specs.Formed.{IsFormed}
+use Rattle.value_types.specs.Constants.{is_int, is_held, constant_type}
 use Rattle.value_types.proofs.Options.{and_then_some, map_some, none_some, same_some}
 use Rattle.names.specs.Universe.{is_blank}
 use Rattle.names.specs.Scope.{Scope, type_number, type_tree, fixed, with_site}
-use Rattle.names.proofs.Trees.{tree_plain}
+use Rattle.operators.proofs.Held.{AreHeld}
+use Rattle.names.proofs.Trees.{int_tree, bool_tree}
 use Rattle.package_values.specs.declared.items.Role.TheVariants as role
 use Rattle.package_values.specs.Values.{Item, items_in_specs}
 use Rattle.signatures.specs.Signatures.{is_external}
 use Rattle.signatures.proofs.Growth.{Extends, Package, package_of}
-use Rattle.signatures.proofs.Visible.{HasSite, has_longer}
+use Rattle.signatures.proofs.Visible.{HasSite, has_longer, new_site}
 use Rattle.signatures.proofs.InFormEntries.{HasSites, site_is}
 use Rattle.types_go.specs.Functions.{Member, of_function, of_variable, numbered, type_or_int, int_in, first_value, behind_variable, initial, members_in, behind_body, behind_function, function, functions, behind_members, globals}
 use Rattle.types_go.proofs.SettledFunctions.{function_some}
@@ -48,11 +52,38 @@ int_word : (c : Constant) → IsWord (int (int_in c))
 int_word (Number z) = word_by z (is_int z) refl
 int_word (Truth b) = is_word (pos 0) refl
 
-first_fits : (t : ValueType) (c : Option Fixed) → IsOf (type_tree t) (first_value t c) × IsWord (first_value t c)
-first_fits Int None = (tt, is_word (pos 0) refl)
-first_fits Int (Some f) = (tt, int_word f.value)
-first_fits Boolean None = (tt, tt)
-first_fits Boolean (Some f) = (tt, tt)
+-- what is known of a package variable is an int or a truth value
+abbrev IsBasic : ValueType → Type 0
+IsBasic t = (t ≡ Int) ⊎ (t ≡ Boolean)
+
+held_basic : (t : Option ValueType) (c : Constant) → is_held t c ≡ true → IsBasic (constant_type t c)
+held_basic None (Number z) is = inl refl
+held_basic None (Truth b) is = inr refl
+held_basic (Some Int) c is = inl refl
+held_basic (Some Boolean) c is = inr refl
+held_basic (Some (Struct k)) c is = absurd (false≢true is)
+held_basic (Some (Array n e)) c is = absurd (false≢true is)
+
+known_basic : (values : List (Option Fixed)) → AreHeld values → (k : ℕ) (o : Option Fixed) → option_and_then (λ (x : Option Fixed). x) (slice_get values k) ≡ o → IsBasic (type_or_int o)
+known_basic values held k None is = inl refl
+known_basic values held k (Some f) is = held_basic f.value_type f.value (held k f is)
+
+module _ (T : Table) (formed : IsFormed T) where
+  first_fits : (t : ValueType) (c : Option Fixed) → IsBasic t → IsOf (type_tree T t) (first_value t c) × IsWord (first_value t c)
+  first_fits t c (inl is) = subst (λ (u : ValueType). IsOf (type_tree T u) (first_value u c) × IsWord (first_value u c)) (sym is) (subst (λ x. IsOf x (first_value Int c) × IsWord (first_value Int c)) (sym (int_tree T formed)) (by c))
+    where
+      by : (o : Option Fixed) → IsOf ints (first_value Int o) × IsWord (first_value Int o)
+      by None = (tt, is_word (pos 0) refl)
+      by (Some f) = (tt, int_word f.value)
+  first_fits t c (inr is) = subst (λ (u : ValueType). IsOf (type_tree T u) (first_value u c) × IsWord (first_value u c)) (sym is) (subst (λ x. IsOf x (first_value Boolean c) × IsWord (first_value Boolean c)) (sym (bool_tree T formed)) (by c))
+    where
+      by : (o : Option Fixed) → IsOf bools (first_value Boolean o) × IsWord (first_value Boolean o)
+      by None = (tt, tt)
+      by (Some f) = (tt, tt)
+
+  plain_tree : (t : ValueType) → IsBasic t → IsPlain (type_tree T t)
+  plain_tree t (inl is) = inl (ap (type_tree T) is ∙ int_tree T formed)
+  plain_tree t (inr is) = inr (ap (type_tree T) is ∙ bool_tree T formed)
 
 extends_length : (a b : List Site) → Extends a b → length a ≤ length b
 extends_length a b e = let whole = ap length e.1 ∙ length-append a e.0 in omega (arith, whole)
@@ -100,21 +131,18 @@ module _ (text : List ℕ) (heads : Scope) where
 
   -- ---- each has a site of its type, and begins with a value of the type
 
-  kept_fixed : (s r : Scope) → package_of r ≡ package_of s → (k : ℕ) → fixed r k ≡ fixed s k
-  kept_fixed s r e k = ap (λ (q : Package). option_and_then (λ o. o) (slice_get q.values k)) e
-
-  -- the site of the next one
-  next_site : (s : Scope) (t : ValueType) (at : Pos) → HasSite (with_site s t at).sites (length s.sites) t
-  next_site s t at = (record { pos = at; type_id = record { 0 = type_number t } }, last_site s.sites (record { pos = at; type_id = record { 0 = type_number t } }), refl)
+  -- a site of the type that is known of a package variable
+  abbrev TypedAt : Package → List Site → (site k : ℕ) → Type 0
+  TypedAt q sites site k = HasSite q.types sites site (type_or_int (option_and_then (λ o. o) (slice_get q.values k)))
 
   -- by the number of a package variable, its site has the type that is known of it
   global_at : (s : Scope) (ms : List Member) (g k : ℕ) → slice_get (member_numbers text ms) g ≡ Some k
-      → (entry : ℕ × Value) × (slice_get (globals text heads s ms) g ≡ Some entry) × HasSite (behind_members text heads s ms).sites entry.0 (type_or_int (fixed s k))
+      → (entry : ℕ × Value) × (slice_get (globals text heads s ms) g ≡ Some entry) × TypedAt (package_of s) (behind_members text heads s ms).sites entry.0 k
   global_at s [] g k is = absurd (none_some is)
   global_at s (of_function h ∷ ms) g k is =
       let s1 = behind_function text heads s h in
       let later = global_at s1 ms g k is in
-      (later.0, later.1, subst (λ (o : Option Fixed). HasSite (behind_members text heads s1 ms).sites later.0.0 (type_or_int o)) (kept_fixed s s1 (keeps_function text heads s h).kept k) later.2)
+      (later.0, later.1, subst (λ (q : Package). TypedAt q (behind_members text heads s1 ms).sites later.0.0 k) (keeps_function text heads s h).kept later.2)
   global_at s (of_variable v x ∷ ms) g k is =
       by (λ j is1. global_at s ms j k is1) (λ j is1. global_at (with_site s (type_or_int (fixed s v)) x.name.pos) ms j k is1) (is_blank (spelled text x.name)) g is
     where
@@ -128,32 +156,32 @@ module _ (text : List ℕ) (heads : Scope) where
       s1 = with_site s t x.name.pos
 
       Found : Scope → ℕ → Type 0
-      Found u j = (entry : ℕ × Value) × (slice_get (globals text heads u ms) j ≡ Some entry) × HasSite (behind_members text heads u ms).sites entry.0 (type_or_int (fixed s k))
+      Found u j = (entry : ℕ × Value) × (slice_get (globals text heads u ms) j ≡ Some entry) × TypedAt (package_of s) (behind_members text heads u ms).sites entry.0 k
 
       by : ((j : ℕ) → slice_get (member_numbers text ms) j ≡ Some k → Found s j) → ((j : ℕ) → slice_get (member_numbers text ms) j ≡ Some k → Found s1 j) → (b : Bool) (j : ℕ)
           → slice_get (cond b (member_numbers text ms) (v ∷ member_numbers text ms)) j ≡ Some k
           → (entry : ℕ × Value) × (slice_get (cond b [] ((length s.sites, first_value t c) ∷ []) ++ globals text heads (cond b s s1) ms) j ≡ Some entry)
-          × HasSite (behind_members text heads (cond b s s1) ms).sites entry.0 (type_or_int (fixed s k))
+          × TypedAt (package_of s) (behind_members text heads (cond b s s1) ms).sites entry.0 k
       by same later true j is1 = same j is1
       by same later false zero is1 = (
         (length s.sites, first_value t c),
         refl,
-        subst (λ (m : ℕ). HasSite (behind_members text heads s1 ms).sites (length s.sites) (type_or_int (fixed s m))) (same_some is1)
-            (has_longer s1.sites (behind_members text heads s1 ms).sites (length s.sites) t (keeps_members text heads s1 ms).sites (next_site s t x.name.pos)),
+        subst (λ (m : ℕ). TypedAt (package_of s) (behind_members text heads s1 ms).sites (length s.sites) m) (same_some is1)
+            (has_longer s.types s1.sites (behind_members text heads s1 ms).sites (length s.sites) t (keeps_members text heads s1 ms).sites (new_site s t x.name.pos)),
       )
       by same later false (suc j) is1 = later j is1
 
   -- one of them, by its place
-  abbrev pub Begins : List Site → ℕ × Value → Type 0
-  Begins sites entry = (t : ValueType) × ((c : Option Fixed) × (HasSite sites entry.0 t × (entry.1 ≡ first_value t c)))
+  abbrev pub Begins : Package → List Site → ℕ × Value → Type 0
+  Begins q sites entry = (k : ℕ) × ((c : Option Fixed) × (TypedAt q sites entry.0 k × (entry.1 ≡ first_value (type_or_int (option_and_then (λ o. o) (slice_get q.values k))) c)))
 
-  global_begins : (s : Scope) (ms : List Member) (j : ℕ) (entry : ℕ × Value) → slice_get (globals text heads s ms) j ≡ Some entry → (length s.sites ≤ entry.0) × Begins (behind_members text heads s ms).sites entry
+  global_begins : (s : Scope) (ms : List Member) (j : ℕ) (entry : ℕ × Value) → slice_get (globals text heads s ms) j ≡ Some entry → (length s.sites ≤ entry.0) × Begins (package_of s) (behind_members text heads s ms).sites entry
   global_begins s [] j entry is = absurd (none_some is)
   global_begins s (of_function h ∷ ms) j entry is =
       let s1 = behind_function text heads s h in
       let later = global_begins s1 ms j entry is in
       let long = extends_length s.sites s1.sites (keeps_function text heads s h).sites in
-      (omega (arith, later.0, long), later.1)
+      (omega (arith, later.0, long), subst (λ (q : Package). Begins q (behind_members text heads s1 ms).sites entry) (keeps_function text heads s h).kept later.1)
   global_begins s (of_variable v x ∷ ms) j entry is =
       by (λ n is1. global_begins s ms n entry is1) (λ n is1. global_begins (with_site s (type_or_int (fixed s v)) x.name.pos) ms n entry is1) (is_blank (spelled text x.name)) j is
     where
@@ -167,18 +195,18 @@ module _ (text : List ℕ) (heads : Scope) where
       s1 = with_site s t x.name.pos
 
       Begun : Scope → Type 0
-      Begun u = (n : ℕ) → slice_get (globals text heads u ms) n ≡ Some entry → (length u.sites ≤ entry.0) × Begins (behind_members text heads u ms).sites entry
+      Begun u = (n : ℕ) → slice_get (globals text heads u ms) n ≡ Some entry → (length u.sites ≤ entry.0) × Begins (package_of s) (behind_members text heads u ms).sites entry
 
       by : Begun s → Begun s1 → (b : Bool) (n : ℕ) → slice_get (cond b [] ((length s.sites, first_value t c) ∷ []) ++ globals text heads (cond b s s1) ms) n ≡ Some entry
-          → (length s.sites ≤ entry.0) × Begins (behind_members text heads (cond b s s1) ms).sites entry
+          → (length s.sites ≤ entry.0) × Begins (package_of s) (behind_members text heads (cond b s s1) ms).sites entry
       by same others true n is1 = same n is1
       by same others false zero is1 =
           let e : (length s.sites, first_value t c) ≡ entry = same_some is1 in
-          subst (λ (y : ℕ × Value). (length s.sites ≤ y.0) × Begins (behind_members text heads s1 ms).sites y) e
-          (omega arith, (t, (c, (has_longer s1.sites (behind_members text heads s1 ms).sites (length s.sites) t (keeps_members text heads s1 ms).sites (next_site s t x.name.pos), refl))))
+          subst (λ (y : ℕ × Value). (length s.sites ≤ y.0) × Begins (package_of s) (behind_members text heads s1 ms).sites y) e
+          (omega arith, (v, (c, (has_longer s.types s1.sites (behind_members text heads s1 ms).sites (length s.sites) t (keeps_members text heads s1 ms).sites (new_site s t x.name.pos), refl))))
       by same others false (suc n) is1 =
           let later = others n is1 in
-          let long = length-append s.sites (record { pos = x.name.pos; type_id = record { 0 = type_number t } } ∷ []) in
+          let long = length-append s.sites (record { pos = x.name.pos; type_id = record { 0 = type_number s.types t } } ∷ []) in
           (omega (arith, later.0, long), later.1)
 
   -- ---- its site is none of a function
@@ -254,36 +282,43 @@ module _ (text : List ℕ) (heads : Scope) where
       by same others false zero is1 at1 =
           λ k f found.
           let e : length s.sites ≡ entry.0 = ap (λ (y : ℕ × Value). y.0) (same_some at1) in
-          let long = length-append s.sites (record { pos = x.name.pos; type_id = record { 0 = type_number t } } ∷ []) in
+          let long = length-append s.sites (record { pos = x.name.pos; type_id = record { 0 = type_number s.types t } } ∷ []) in
           let first1 = firsts_behind s1 i ms fs is1 k f found in
           inl (omega (arith, e, long, first1))
       by same others false (suc n) is1 at1 = others n is1 at1
 
   -- ---- so they fit
 
-  module _ (p : Program) (all : List Site) (has : HasSites p all) (s : Scope) (ms : List Member) where
+  module _ (T : Table) (p : Program) (all : List Site) (has : HasSites T p all) (s : Scope) (types_are : s.types ≡ T) (ms : List Member) where
     got : (gs : List (ℕ × Value)) (g : ℕ) (entry : ℕ × Value) (d : ℕ × Value) → slice_get gs g ≡ Some entry → (g < length gs) × (get_or gs g d ≡ entry)
     got [] g entry d is = absurd (none_some is)
     got (x ∷ gs) zero entry d is = (omega arith, same_some is)
     got (x ∷ gs) (suc g) entry d is = let k = got gs g entry d is in (omega (arith, k.0), k.1)
 
-    pub globals_agree : s.globals ≡ member_numbers text ms → p.globals ≡ globals text heads s ms → (behind_members text heads s ms).sites ≡ all → AreGlobals (package_of s) p
+    -- its type in the program
+    type_of_site : (site k : ℕ) → (behind_members text heads s ms).sites ≡ all → TypedAt (package_of s) (behind_members text heads s ms).sites site k → site_type p site ≡ type_tree T (type_or_int (fixed s k))
+    type_of_site site k sites typed =
+        site_is T p all has site (type_or_int (fixed s k))
+        (subst (λ (U : Table). HasSite U all site (type_or_int (fixed s k))) types_are (subst (λ (l : List Site). HasSite s.types l site (type_or_int (fixed s k))) sites typed))
+
+    pub globals_agree : s.globals ≡ member_numbers text ms → p.globals ≡ globals text heads s ms → (behind_members text heads s ms).sites ≡ all → AreGlobals T (package_of s) p
     globals_agree numbers globals1 sites g k f at known =
         let found = global_at s ms g k (ap (λ l. slice_get l g) (sym numbers) ∙ at) in
         let here = got p.globals g found.0 (0, int (pos 0)) (ap (λ (l : List (ℕ × Value)). slice_get l g) globals1 ∙ found.1) in
-        let typed1 : HasSite all found.0.0 (type_or_int (fixed s k)) = subst (λ (l : List Site). HasSite l found.0.0 (type_or_int (fixed s k))) sites found.2 in
-        let type_is : site_type p found.0.0 ≡ type_tree (type_or_int (fixed s k)) = site_is p all has found.0.0 (type_or_int (fixed s k)) typed1 in
-        (here.0, ap (λ (y : ℕ × Value). site_type p y.0) here.1 ∙ type_is ∙ ap (λ (o : Option Fixed). type_tree (type_or_int o)) known)
+        let type_is = type_of_site found.0.0 k sites found.2 in
+        (here.0, ap (λ (y : ℕ × Value). site_type p y.0) here.1 ∙ type_is ∙ ap (λ (o : Option Fixed). type_tree T (type_or_int o)) known)
 
-    pub globals_fit : (fs : List Func) → functions text heads s 0 ms ≡ Some fs → p.funcs ≡ fs → (behind_members text heads s ms).sites ≡ all → (j : ℕ) (entry : ℕ × Value) → slice_get (globals text heads s ms) j ≡ Some entry → GlobalFits p entry
-    globals_fit fs is funcs sites j entry at =
+    pub globals_fit : IsFormed T → AreHeld s.values → (fs : List Func) → functions text heads s 0 ms ≡ Some fs → p.funcs ≡ fs → (behind_members text heads s ms).sites ≡ all → (j : ℕ) (entry : ℕ × Value) → slice_get (globals text heads s ms) j ≡ Some entry
+        → GlobalFits p entry
+    globals_fit formed held fs is funcs sites j entry at =
         let begins = (global_begins s ms j entry at).1 in
-        let t = begins.0 in
-        let typed1 : HasSite all entry.0 t = subst (λ (l : List Site). HasSite l entry.0 t) sites begins.1.1.0 in
-        let type_is : site_type p entry.0 ≡ type_tree t = site_is p all has entry.0 t typed1 in
-        let fits = first_fits t begins.1.0 in
+        let k = begins.0 in
+        let t = type_or_int (fixed s k) in
+        let basic = known_basic s.values held k (fixed s k) refl in
+        let type_is = type_of_site entry.0 k sites begins.1.1.0 in
+        let fits = first_fits T formed t begins.1.0 basic in
         record {
           value = subst (λ (v : Value). IsOf (site_type p entry.0) v × IsWord v) (sym begins.1.1.1) (subst (λ (u : TypeTree). IsOf u (first_value t begins.1.0)) (sym type_is) fits.0, fits.1);
-          plain = subst IsPlain (sym type_is) (tree_plain t);
-          apart = λ k f found. globals_apart s 0 ms fs is j entry at k f (ap (λ (l : List Func). slice_get l k) (sym funcs) ∙ found);
+          plain = subst IsPlain (sym type_is) (plain_tree T formed t basic);
+          apart = λ n f found. globals_apart s 0 ms fs is j entry at n f (ap (λ (l : List Func). slice_get l n) (sym funcs) ∙ found);
         }

@@ -11,19 +11,23 @@ use Rattle.typed.specs.declared.program.Site.{Site}
 use Rattle.typed.specs.Syntax.{Ex, Left, St, Sts, Program, blank, new, to, declare, assign, update, bump, discard, block, choose, loop, range, break_off, go_on, give_back, print, raise, quit, done}
 use Rattle.value_trees.specs.Types.{ValueType as TypeTree, ints, bools}
 use Rattle.typed.specs.Form.{InScope, AllInScope, LeftsFit, new_sites, births, births_all, scope_behind, scope_after, TestFits, ExFits, StFits, StsFit, named_params as with_sites}
-use Rattle.value_types.specs.declared.value_type.ValueType.{ValueType}
-use Rattle.value_types.specs.declared.value_type.ValueType.TheVariants.{Int}
-use Rattle.value_types.specs.Constants.{same_type}
+use Rattle.base.specs.declared.value_type.ValueType.{ValueType}
+use Rattle.base.specs.declared.value_type.ValueType.TheVariants.{Int}
+use Rattle.base.specs.Types.{same_type}
+use Rattle.base.proofs.Types.{same_is}
+use Rattle.typed.specs.Tables.{Table}
+use Rattle.typed.specs.Formed.{IsFormed}
 use Rattle.value_types.proofs.Options.{and_then_some, map_some, none_some, same_some}
 use Rattle.operators.specs.Operands.{type_of, as_value}
 use Rattle.names.specs.Scope.{Scope, type_tree, type_trees, opened}
 use Rattle.names.specs.Types.{type_in}
+use Rattle.names.proofs.Trees.{int_tree}
 use Rattle.expression_types.specs.Typing.{operand_in, taken, value_types, gives, seen, condition, test}
-use Rattle.expression_types.proofs.InForm.{Agrees, AreAccepted, OptionalFits, same_type_same, value_fits, operand_fits, maybe_fits, taken_fits, gives_fit, seen_fit, condition_fits, test_fits}
+use Rattle.expression_types.proofs.InForm.{Agrees, AreAccepted, OptionalFits, AllFit, value_fits, operand_fits, maybe_fits, taken_fits, gives_fit, seen_fit, condition_fits, test_fits}
 use Rattle.signatures.specs.declared.slots.Slot.{Slot}
 use Rattle.signatures.specs.declared.entries.Role.TheVariants.{Parameter}
 use Rattle.signatures.specs.Entries.{sites_of, entry_left, slot_with, slots_each, entries, behind_entries}
-use Rattle.signatures.proofs.Growth.{Extends, package_of, extends_twice, keeps_grows, grows_entries}
+use Rattle.signatures.proofs.Growth.{Extends, package_of, extends_twice, keeps_grows, grows_types, grows_entries}
 use Rattle.signatures.proofs.Visible.{Visible, shown_site, shown_number, visible_opened, visible_kept}
 use Rattle.signatures.proofs.InFormEntries.{HasSites, Within, within_before, SlotsHave, each_have, with_have, sites_long, left_sites, left_scope, named_scope_of, lefts_of_params, next_of_params, entries_fit}
 use Rattle.simple_statements.specs.SimpleStatements.{is_bare, lefts, all_wanted, simple_statement, spec_type, spec_wanted, spec_slots_of, spec_slots, behind_spec, spec_entries, is_known, spec_declared, spec_assigned, spec_statement, taken_types}
@@ -83,7 +87,7 @@ given_types t (None ∷ ps) is = given_types t ps is
 given_types t (Some s ∷ ps) is = by (λ is1. given_types t ps is1) (same_type s t) refl is
   where
     by : (all_accept (Some t) ps ≡ true → AreAccepted ps (map (λ (p : Option ValueType). t) ps)) → (b : Bool) → same_type s t ≡ b → (b && all_accept (Some t) ps) ≡ true → (s ≡ t) × AreAccepted ps (map (λ (p : Option ValueType). t) ps)
-    by later true same1 is1 = (same_type_same s t same1, later is1)
+    by later true same1 is1 = (same_is s t same1, later is1)
     by later false same1 is1 = cc is1
 
 -- a blank left side has no site
@@ -99,9 +103,9 @@ accepted_same t [] (u ∷ ts) all = absurd all
 accepted_same t (n ∷ ns) [] all = absurd all
 accepted_same t (n ∷ ns) (u ∷ ts) all = ap (λ l. t ∷ l) (accepted_same t ns ts all.1) ∙ ap (λ (x : ValueType). x ∷ ts) all.0
 
-module _ (text : List ℕ) (p : Program) (all : List Site) (has : HasSites p all) (wanted1 : List TypeTree) (named : ℕ) where
+module _ (T : Table) (text : List ℕ) (p : Program) (all : List Site) (has : HasSites T p all) (wanted1 : List TypeTree) (named : ℕ) where
   abbrev pub Formed1 : (looped : Bool) → Scope → List ℕ → Scope → St → Type 0
-  Formed1 looped s scope after t = StFormed text p all has wanted1 named looped s scope after t
+  Formed1 looped s scope after t = StFormed T text p all has wanted1 named looped s scope after t
 
   abbrev pub StsFormed : (looped : Bool) → Scope → List ℕ → Scope → Sts → Type 0
   StsFormed looped s scope after b = Formed s after (births_all b) (λ m n. StsFit p wanted1 named looped scope m n b)
@@ -129,7 +133,7 @@ module _ (text : List ℕ) (p : Program) (all : List Site) (has : HasSites p all
     keeps = λ t still. refl;
   }
 
-  module _ (s : Scope) (scope : List ℕ) (visible : Visible s scope) (agreed : (r : Scope) → package_of r ≡ package_of s → Extends r.sites all → Agrees r p) where
+  module _ (s : Scope) (scope : List ℕ) (visible : Visible s scope) (types_are : s.types ≡ T) (formed : IsFormed T) (agreed : (r : Scope) → package_of r ≡ package_of s → Extends r.sites all → Agrees r p) where
     pub init_fits : (looped : Bool) (init : Option Simple) (i : Option St) → init_statement text s init ≡ Some i → Within p all (header text s init) → InitFits looped s scope (header text s init) i
     init_fits looped None i is ext = subst (λ (o : Option St). InitFits looped s scope (opened s) o) (same_some is) (no_init looped s scope visible)
     init_fits looped (Some m) i is ext =
@@ -137,7 +141,7 @@ module _ (text : List ℕ) (p : Program) (all : List Site) (has : HasSites p all
         let ext0 = (within_before p all (opened s) (header text s (Some m)) (grows_simple text (opened s) m) ext).0 in
         subst (λ (o : Option St). InitFits looped s scope (header text s (Some m)) o) q.2
         (some_init looped s scope (header text s (Some m)) q.0
-        (simple_formed text p all has wanted1 named looped (opened s) scope (visible_opened s scope visible) (agreed (opened s) refl ext0) m q.0 ext ext0 q.1))
+        (simple_formed T text p all has wanted1 named looped (opened s) scope (visible_opened s scope visible) types_are (agreed (opened s) refl ext0) m q.0 ext ext0 q.1))
 
     -- ---- an `if`
 
@@ -207,20 +211,20 @@ module _ (text : List ℕ) (p : Program) (all : List Site) (has : HasSites p all
     abbrev PostFits : List ℕ → Sts → Type 0
     PostFits sc b = (births_all b ≡ 0) × ((m n : ℕ) → StsFit p wanted1 named false sc m n b)
 
-    post_fits : (h : Scope) (sc : List ℕ) (post : Option Simple) (b : Sts) → Visible h sc → Agrees h p → Within p all (behind_post text h post) → post_statement text h post ≡ Some b → PostFits sc b
-    post_fits h sc None b v agrees ext is = subst (λ (x : Sts). PostFits sc x) (same_some is) (refl, λ m n. tt)
-    post_fits h sc (Some k) b v agrees ext is =
+    post_fits : (h : Scope) (sc : List ℕ) (post : Option Simple) (b : Sts) → Visible h sc → h.types ≡ T → Agrees h p → Within p all (behind_post text h post) → post_statement text h post ≡ Some b → PostFits sc b
+    post_fits h sc None b v h_types agrees ext is = subst (λ (x : Sts). PostFits sc x) (same_some is) (refl, λ m n. tt)
+    post_fits h sc (Some k) b v h_types agrees ext is =
         let q = map_some alone (post_simple text h k) b is in
         let f = by k q.0 ext q.1 in
         subst (λ (x : Sts). PostFits sc x) q.2 (omega (arith, f.0), λ m n. (f.1 m n, tt))
       where
-        by : (m : Simple) (t : St) → Within p all (behind_post_simple text h m) → post_simple text h m ≡ Some t → Still text p all has wanted1 named false sc t
-        by (tree.express e) t ext1 is1 = simple_still text p all has wanted1 named false h sc v agrees (tree.express e) t tt ext1 is1
-        by (tree.assign ls at es) t ext1 is1 = simple_still text p all has wanted1 named false h sc v agrees (tree.assign ls at es) t tt ext1 is1
-        by (tree.update ls at tree_op es) t ext1 is1 = simple_still text p all has wanted1 named false h sc v agrees (tree.update ls at tree_op es) t tt ext1 is1
+        by : (m : Simple) (t : St) → Within p all (behind_post_simple text h m) → post_simple text h m ≡ Some t → Still T text p all has wanted1 named false sc t
+        by (tree.express e) t ext1 is1 = simple_still T text p all has wanted1 named false h sc v h_types agrees (tree.express e) t tt ext1 is1
+        by (tree.assign ls at es) t ext1 is1 = simple_still T text p all has wanted1 named false h sc v h_types agrees (tree.assign ls at es) t tt ext1 is1
+        by (tree.update ls at tree_op es) t ext1 is1 = simple_still T text p all has wanted1 named false h sc v h_types agrees (tree.update ls at tree_op es) t tt ext1 is1
         by (tree.define ns at es) t ext1 is1 = absurd (none_some is1)
-        by (tree.increment e at) t ext1 is1 = simple_still text p all has wanted1 named false h sc v agrees (tree.increment e at) t tt ext1 is1
-        by (tree.decrement e at) t ext1 is1 = simple_still text p all has wanted1 named false h sc v agrees (tree.decrement e at) t tt ext1 is1
+        by (tree.increment e at) t ext1 is1 = simple_still T text p all has wanted1 named false h sc v h_types agrees (tree.increment e at) t tt ext1 is1
+        by (tree.decrement e at) t ext1 is1 = simple_still T text p all has wanted1 named false h sc v h_types agrees (tree.decrement e at) t tt ext1 is1
 
     -- what fits before a post statement fits behind it
     post_sites : (h : Scope) (post : Option Simple) → (behind_post text h post).sites ≡ h.sites
@@ -279,17 +283,20 @@ module _ (text : List ℕ) (p : Program) (all : List Site) (has : HasSites p all
     first_fits m n ts (new site) ls fit = (fit.0, fit.1, fit.2, tt)
     first_fits m n ts (to q) ls fit = (fit.0, tt)
 
-    key_fits : {A : Type 0} (m n : ℕ) (xs : List A) (l : List Left) (key : Left) → key_of l ≡ Some key → LeftsFit p scope m n (type_trees (map (λ (x : A). Int) xs)) l → LeftsFit p scope m n (ints ∷ []) (key ∷ [])
+    as_ints : (m n : ℕ) (ts : List TypeTree) (ls : List Left) → LeftsFit p scope m n (type_tree T Int ∷ ts) ls → LeftsFit p scope m n (ints ∷ ts) ls
+    as_ints m n ts ls fit = subst (λ (u : TypeTree). LeftsFit p scope m n (u ∷ ts) ls) (int_tree T formed) fit
+
+    key_fits : {A : Type 0} (m n : ℕ) (xs : List A) (l : List Left) (key : Left) → key_of l ≡ Some key → LeftsFit p scope m n (type_trees T (map (λ (x : A). Int) xs)) l → LeftsFit p scope m n (ints ∷ []) (key ∷ [])
     key_fits m n xs [] key is fit = subst (λ (k : Left). LeftsFit p scope m n (ints ∷ []) (k ∷ [])) (same_some is) tt
     key_fits m n [] (x ∷ l) key is fit = absurd fit
-    key_fits m n (a ∷ xs) (x ∷ []) key is fit = subst (λ (k : Left). LeftsFit p scope m n (ints ∷ []) (k ∷ [])) (same_some is) (first_fits m n (type_trees (map (λ (y : _). Int) xs)) x [] fit)
-    key_fits m n (a ∷ xs) (x ∷ blank ∷ []) key is fit = subst (λ (k : Left). LeftsFit p scope m n (ints ∷ []) (k ∷ [])) (same_some is) (first_fits m n (type_trees (map (λ (y : _). Int) xs)) x (blank ∷ []) fit)
+    key_fits m n (a ∷ xs) (x ∷ []) key is fit = subst (λ (k : Left). LeftsFit p scope m n (ints ∷ []) (k ∷ [])) (same_some is) (first_fits m n (type_trees T (map (λ (y : _). Int) xs)) x [] (as_ints m n (type_trees T (map (λ (y : _). Int) xs)) (x ∷ []) fit))
+    key_fits m n (a ∷ xs) (x ∷ blank ∷ []) key is fit = subst (λ (k : Left). LeftsFit p scope m n (ints ∷ []) (k ∷ [])) (same_some is) (first_fits m n (type_trees T (map (λ (y : _). Int) xs)) x (blank ∷ []) (as_ints m n (type_trees T (map (λ (y : _). Int) xs)) (x ∷ blank ∷ []) fit))
     key_fits m n (a ∷ xs) other key is fit = absurd (none_some is)
 
     assigned_fits : (ls : TreeExs) (l : List Left) (key : Left) → Extends s.sites all → lefts text (opened s) ls ≡ Some l → all_accept (Some Int) (all_wanted text (opened s) ls) ≡ true → key_of l ≡ Some key → KeyFits (opened s) key
     assigned_fits ls l key ext found accept is =
         let ps = all_wanted text (opened s) ls in
-        let old = lefts_fit p text (opened s) scope (known_all text p all has (opened s) scope (visible_opened s scope visible) (agreed (opened s) refl ext) ext) ls (map (λ (q : Option ValueType). Int) ps) l (given_types Int ps accept) found in
+        let old = lefts_fit T p text (opened s) scope (known_all T text p all has (opened s) scope (visible_opened s scope visible) types_are (agreed (opened s) refl ext) ext) ls (map (λ (q : Option ValueType). Int) ps) l (given_types Int ps accept) found in
         let sites_are : new_sites (key ∷ []) ≡ 0 = sym (key_sites l key is) ∙ old.sites in
         record {
           shows = subst (λ (w : List ℕ). Visible (opened s) w) (sym (old.behind scope) ∙ key_scope scope l key is) (visible_opened s scope visible);
@@ -301,12 +308,12 @@ module _ (text : List ℕ) (p : Program) (all : List Site) (has : HasSites p all
         → key_of (map entry_left es) ≡ Some key → KeyFits (behind_entries text (opened s) (map (slot_with (Some Int)) ns)) key
     defined_fits ns es key ext found is =
         let h = behind_entries text (opened s) (map (slot_with (Some Int)) ns) in
-        let f = entries_fit text p all has Parameter (opened s) scope (map (slot_with (Some Int)) ns) (map (λ (n : Name). Int) ns) es (visible_opened s scope visible) (with_have Int ns) found ext in
+        let f = entries_fit T text p all has Parameter (opened s) scope (map (slot_with (Some Int)) ns) (map (λ (n : Name). Int) ns) es types_are (visible_opened s scope visible) (with_have Int ns) found ext in
         let sites_are : new_sites (key ∷ []) ≡ with_sites es = sym (key_sites (map entry_left es) key is) ∙ left_sites es in
         record {
           shows = subst (λ (w : List ℕ). Visible h w) (sym (left_scope scope es) ∙ key_scope scope (map entry_left es) key is) f.visible;
           count = omega (arith, sites_are, f.count);
-          fit = λ n le. key_fits (length s.sites) n ns (map entry_left es) key is (lefts_of_params p scope (length s.sites) n (type_trees (map (λ (m : Name). Int) ns)) es f.fit (omega (arith, le, f.count)));
+          fit = λ n le. key_fits (length s.sites) n ns (map entry_left es) key is (lefts_of_params p scope (length s.sites) n (type_trees T (map (λ (m : Name). Int) ns)) es f.fit (omega (arith, le, f.count)));
         }
 
     keys_fit : (t : Targets) (l : List Left) (key : Left) → Extends s.sites all → Extends (behind_entries text (opened s) (target_slots (Some Int) t)).sites all → target_lefts text (opened s) (Some Int) t ≡ Some l → key_of l ≡ Some key
@@ -325,8 +332,9 @@ module _ (text : List ℕ) (p : Program) (all : List Site) (has : HasSites p all
         let q = and_then_some as_int (operand_in (gives text s e)) x is in
         let a = allowed_is (same_type Int (type_of q.0)) (as_value q.0) x q.2 in
         let agrees = agreed s refl ext in
-        let fits = operand_fits p scope (gives text s e) q.0 (maybe_fits p scope (gives text s e) (λ g g_is. gives_fit p scope text s (shown_site s scope visible) (shown_number s scope visible) visible.held agrees e g g_is)) q.1 in
-        subst (λ (t : ValueType). ExFits p scope (type_tree t) x) (sym (same_type_same Int (type_of q.0) a.0)) (value_fits p scope q.0 x fits a.1)
+        let fits = operand_fits s.types p scope (gives text s e) q.0 (maybe_fits s.types p scope (gives text s e) (λ g g_is. gives_fit p scope text s (shown_site s scope visible) (shown_number s scope visible) visible.held agrees e g g_is)) q.1 in
+        subst (λ (u : TypeTree). ExFits p scope u x) (int_tree s.types agrees.formed)
+        (subst (λ (t : ValueType). ExFits p scope (type_tree s.types t) x) (sym (same_is Int (type_of q.0) a.0)) (value_fits s.types p scope agrees.formed q.0 x fits a.1))
 
     pub clause_fits : (looped : Bool) (c : Clause) (k : Head) → clause_head text s c ≡ Some k → Within p all (clause_scope text s c) → HeadFits looped (clause_scope text s c) k
     clause_fits looped forever k is ext = subst (λ (x : Head). HeadFits looped (opened s) x) (same_some is) (no_init looped s scope visible, tt, refl, λ m n. tt)
@@ -343,7 +351,7 @@ module _ (text : List ℕ) (p : Program) (all : List Site) (has : HasSites p all
         let ext1 = within_before p all h (behind_post text h post) (keeps_grows h (behind_post text h post) (keeps_post text h post)) ext in
         let i = init_fits looped init r.0 r.1 ext1 in
         let agrees = agreed h (grows_header text s init).kept ext1.0 in
-        let last1 = post_fits h (init_scope scope r.0) post o.0 i.visible agrees ext o.1 in
+        let last1 = post_fits h (init_scope scope r.0) post o.0 i.visible (grows_types (opened s) h (grows_header text s init) ∙ types_are) agrees ext o.1 in
         subst (λ (x : Head). HeadFits looped (behind_post text h post) x) o.2 (init_behind looped h post r.0 i, optional_test (init_scope scope r.0) q.0 (test_fits p (init_scope scope r.0) text h (shown_site h (init_scope scope r.0) i.visible) (shown_number h (init_scope scope r.0) i.visible) i.visible.held agrees test1 q.0 q.1), last1.0, last1.1)
     clause_fits looped (ranging t at e) k is ext =
         let n = number_type (over text s e) in
@@ -364,11 +372,11 @@ module _ (text : List ℕ) (p : Program) (all : List Site) (has : HasSites p all
         → Formed1 looped s scope (behind_spec text s v) t × Visible (behind_spec text s v) (scope_after scope t)
     spec_declared_formed looped v ts t have ext is =
         let q = map_some (λ es. declare (sites_of es)) (spec_entries text s v) t is in
-        let f = entries_fit text p all has Parameter s scope (spec_slots text s v) ts q.0 visible have q.1 ext in
+        let f = entries_fit T text p all has Parameter s scope (spec_slots text s v) ts q.0 types_are visible have q.1 ext in
         let after = behind_spec text s v in
         let long = sites_long q.0 in
         subst (λ (x : St). Formed1 looped s scope after x × Visible after (scope_after scope x)) q.2 (
-          record { count = omega (arith, f.count, long); fit = λ n le. next_of_params p (length s.sites) n (type_trees ts) q.0 f.fit (omega (arith, le, f.count)) },
+          record { count = omega (arith, f.count, long); fit = λ n le. next_of_params p (length s.sites) n (type_trees T ts) q.0 f.fit (omega (arith, le, f.count)) },
           subst (λ (w : List ℕ). Visible after w) (named_scope_of scope q.0) f.visible,
         )
 
@@ -378,13 +386,13 @@ module _ (text : List ℕ) (p : Program) (all : List Site) (has : HasSites p all
     spec_assigned_formed looped v t ext0 ext have is =
         let after = behind_spec text s v in
         let a = assignment_some (option_map (map entry_left) (spec_entries text s v)) (taken (spec_wanted text s v) (seen text s v.values)) t is in
-        let values = taken_fits p scope (spec_wanted text s v) (seen text s v.values) a.1 (seen_fit p scope text s (shown_site s scope visible) (shown_number s scope visible) visible.held (agreed s refl ext0) v.values) a.3 in
-        let types_are = ap (option_and_then (λ x. value_types (seen text s v.values))) a.3 ∙ values.found in
+        let values = taken_fits T p scope formed (spec_wanted text s v) (seen text s v.values) a.1 (subst (λ (U : Table). AllFit U p scope (seen text s v.values)) types_are (seen_fit p scope text s (shown_site s scope visible) (shown_number s scope visible) visible.held (agreed s refl ext0) v.values)) a.3 in
+        let found = ap (option_and_then (λ x. value_types (seen text s v.values))) a.3 ∙ values.found in
         let q = map_some (map entry_left) (spec_entries text s v) a.0 a.2 in
-        let f = entries_fit text p all has Parameter s scope (spec_slots text s v) values.types q.0 visible (have values.types types_are values.accepted) q.1 ext in
+        let f = entries_fit T text p all has Parameter s scope (spec_slots text s v) values.types q.0 types_are visible (have values.types found values.accepted) q.1 ext in
         let born = left_sites q.0 in
         subst (λ (x : St). Formed1 looped s scope after x × Visible after (scope_after scope x)) (ap (λ (l : List Left). assign l a.1) q.2 ∙ a.4) (
-          record { count = omega (arith, f.count, born); fit = λ n le. (type_trees values.types, lefts_of_params p scope (length s.sites) n (type_trees values.types) q.0 f.fit (omega (arith, le, f.count)), values.fit) },
+          record { count = omega (arith, f.count, born); fit = λ n le. (type_trees T values.types, lefts_of_params p scope (length s.sites) n (type_trees T values.types) q.0 f.fit (omega (arith, le, f.count)), values.fit) },
           subst (λ (w : List ℕ). Visible after w) (sym (left_scope scope q.0)) f.visible,
         )
 

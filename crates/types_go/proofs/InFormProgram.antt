@@ -11,14 +11,17 @@ use Rattle.syntax.specs.Expressions as expressions
 use Rattle.syntax.specs.Declarations.{Field, Parameters, unnamed, named, Body, Function as TreeFunction, Declaration, Syntax}
 use Rattle.typed.specs.declared.program.Site.{Site}
 use Rattle.typed.specs.Syntax.{Sts, Func, Program, all_width, argument_words, result_words, site_type}
-use Rattle.typed.specs.View.{basic_types, type_of, site_types}
+use Rattle.typed.specs.Tables.{Table}
+use Rattle.typed.specs.Trees.{trees, tree_named}
+use Rattle.typed.specs.Formed.{IsFormed}
+use Rattle.typed.specs.View.{site_types}
 use Rattle.typed.specs.Form.{ends_all, ParamsFit, NamedFit, named_params as with_sites, params_scope, scope_in, body_first, StsFit, FuncFits, IsInForm}
 use Rattle.value_trees.specs.Types.{ValueType as TypeTree, ints, width}
-use Rattle.value_types.specs.declared.value_type.ValueType.{ValueType}
+use Rattle.base.specs.declared.value_type.ValueType.{ValueType}
 use Rattle.value_types.proofs.Options.{and_then_some, map_some, none_some, same_some}
 use Rattle.names.specs.Universe.{is_blank, is_main}
-use Rattle.names.specs.Scope.{Scope, Signature, type_tree, type_trees, declaration, is_here, opened, beginning}
-use Rattle.names.proofs.Trees.{number_tree, tree_width, tree_solid}
+use Rattle.names.specs.Scope.{Scope, Signature, type_tree, type_trees, basic_table, declaration, is_here, opened, beginning}
+use Rattle.names.proofs.Trees.{solid, formed_beginning}
 use Rattle.expression_types.specs.Typing.{asked}
 use Rattle.package_values.specs.Values.{items_in, settled}
 use Rattle.signatures.specs.declared.slots.Slot.{Slot}
@@ -26,16 +29,17 @@ use Rattle.signatures.specs.declared.entries.Role.{Role}
 use Rattle.signatures.specs.declared.entries.Role.TheVariants.{Parameter, Result}
 use Rattle.signatures.specs.Entries.{entry_of, sites_of, entry_in, behind_entry, entries}
 use Rattle.signatures.specs.Signatures.{Param, param_with, unnamed_params, named_params, params_of, is_named, slot_of, slots_of, words, is_small, types_of, signature_in, with_items, may_be_named}
-use Rattle.signatures.proofs.Growth.{IsSite, Package, package_of, extends_twice, keeps_grows, grows_entries}
+use Rattle.signatures.proofs.Growth.{Package, package_of, extends_twice, keeps_grows, grows_entries}
 use Rattle.signatures.proofs.Visible.{Visible, visible_opened, visible_kept}
 use Rattle.signatures.proofs.InFormEntries.{HasSites, Within, within_before, SlotsHave, sites_long, named_of_params, named_scope_of, variable_is, entries_fit}
 use Rattle.simple_statements.proofs.InFormSimple.{ReturnsFit}
 use Rattle.terminating.specs.Terminating.{ends_after}
 use Rattle.types_go.specs.Statements.{behind_all}
-use Rattle.types_go.specs.Functions.{is_plain, number_of, plain_number, tree_or_ints, slot_tree, Member, of_function, of_variable, functions_of, behind_variable, functions_in, members_in, are_supported, behind_params, body_scope, behind_body, behind_function, behind_members, returns_of, func, function, functions, declarations_in, heads_of, numbered_functions, members, package_scope, main_number}
+use Rattle.types_go.specs.Functions.{is_plain, number_of, plain_number, number_or_int, slot_tree, Member, of_function, of_variable, functions_of, behind_variable, functions_in, members_in, are_supported, behind_params, body_scope, behind_body, behind_function, behind_members, returns_of, func, function, functions, declarations_in, heads_of, numbered_functions, members, package_scope, main_number}
 use Rattle.types_go.specs.Checked.{Types, program_with}
 use Rattle.types_go.proofs.SettledFunctions.{allowed_some, signature_parts, small_signed, function_some, members_functions}
 use Rattle.types_go.proofs.Package.{constant_one, variable_one, declared_one, signatures_are, globals_are, items_kept, settled_kept}
+use Rattle.types_go.proofs.Types.{heads_types, block_types}
 use Rattle.types_go.proofs.Growth.{keeps_function, keeps_variable, keeps_members, grows_body, grows_all}
 use Rattle.types_go.proofs.Visible.{visible_package}
 use Rattle.types_go.proofs.InFormStatements.{AreSigned, AreGlobals, formed_all}
@@ -67,19 +71,11 @@ slots_have (p ∷ ps) ts is =
     let q = map_some (λ us. r.0 ∷ us) (types_of ps) ts r.2 in
     subst (λ (l : List ValueType). SlotsHave (p ∷ ps) l) q.2 (r.1, slots_have ps q.0 q.1)
 
-trees_are : (ps : List Slot) (ts : List ValueType) → SlotsHave ps ts → map slot_tree ps ≡ type_trees ts
-trees_are [] [] have = refl
-trees_are (p ∷ ps) (t ∷ ts) have = ap (λ (o : Option ValueType). tree_or_ints o ∷ map slot_tree ps) have.0 ∙ ap (λ l. type_tree t ∷ l) (trees_are ps ts have.1)
-trees_are [] (t ∷ ts) have = absurd have
-trees_are (p ∷ ps) [] have = absurd have
-
-slot_width : (o : Option ValueType) → width (tree_or_ints o) ≡ 1
-slot_width None = refl
-slot_width (Some t) = tree_width t
-
-slots_width : (ps : List Slot) → all_width (map slot_tree ps) ≡ length ps
-slots_width [] = refl
-slots_width (p ∷ ps) = let one = slot_width p.value_type in let rest = slots_width ps in omega (arith, one, rest)
+trees_are : (T : Table) (ps : List Slot) (ts : List ValueType) → SlotsHave ps ts → map (slot_tree T) ps ≡ type_trees T ts
+trees_are T [] [] have = refl
+trees_are T (p ∷ ps) (t ∷ ts) have = ap (λ (o : Option ValueType). tree_named T (number_or_int T o) ∷ map (slot_tree T) ps) have.0 ∙ ap (λ l. type_tree T t ∷ l) (trees_are T ps ts have.1)
+trees_are T [] (t ∷ ts) have = absurd have
+trees_are T (p ∷ ps) [] have = absurd have
 
 wanted_are : (ps : List Slot) (ts : List ValueType) → SlotsHave ps ts → map (λ (p : Slot). p.value_type) ps ≡ asked ts
 wanted_are [] [] have = refl
@@ -178,32 +174,41 @@ module _ (text : List ℕ) (heads : Scope) where
         ap (λ (x : Signature). length x.results) (sym q.2) ∙ types_long (slots_of text heads g.results) q.0 q.1 ∙ slots_long g.results,
       )
 
-  trees_long : (ps : Parameters) → length (map slot_tree (slots_of text heads ps)) ≡ length (params_of ps)
-  trees_long ps = length-map (slots_of text heads ps) slot_tree ∙ slots_long ps
-
-  -- each has one word
-  words_long : (ps : Parameters) → all_width (map slot_tree (slots_of text heads ps)) ≡ length (params_of ps)
-  words_long ps = slots_width (slots_of text heads ps) ∙ slots_long ps
+  trees_long : (ps : Parameters) → length (map (slot_tree heads.types) (slots_of text heads ps)) ≡ length (params_of ps)
+  trees_long ps = length-map (slots_of text heads ps) (slot_tree heads.types) ∙ slots_long ps
 
   results_long : (s : Scope) (i : ℕ) (g : TreeFunction) (t : Func) → function text heads s i g ≡ Some t → length t.results ≡ length (params_of g.results)
   results_long s i g t is = let p = (function_some text heads s i g t is).1.1 in ap (λ (x : Func). length x.results) (sym p.3.6) ∙ trees_long g.results
 
   -- a function has the types that its signature says
-  function_types : (s : Scope) (i : ℕ) (g : TreeFunction) (t : Func) (sig : Signature) → function text heads s i g ≡ Some t → signature_in text heads g ≡ Some sig → (t.param_types ≡ type_trees sig.params) × (t.results ≡ type_trees sig.results)
+  function_types : (s : Scope) (i : ℕ) (g : TreeFunction) (t : Func) (sig : Signature) → function text heads s i g ≡ Some t → signature_in text heads g ≡ Some sig → (t.param_types ≡ type_trees heads.types sig.params) × (t.results ≡ type_trees heads.types sig.results)
   function_types s i g t sig is signed =
       let p = (function_some text heads s i g t is).1.1 in
       let r = and_then_some (λ ps. option_map (λ rs. record { params = ps; results = rs }) (types_of (slots_of text heads g.results))) (types_of (slots_of text heads g.params)) sig signed in
       let q = map_some (λ rs. record { params = r.0; results = rs }) (types_of (slots_of text heads g.results)) sig r.2 in (
-        ap (λ (x : Func). x.param_types) (sym p.3.6) ∙ trees_are (slots_of text heads g.params) r.0 (slots_have (slots_of text heads g.params) r.0 r.1) ∙ ap (λ (x : Signature). type_trees x.params) q.2,
-        ap (λ (x : Func). x.results) (sym p.3.6) ∙ trees_are (slots_of text heads g.results) q.0 (slots_have (slots_of text heads g.results) q.0 q.1) ∙ ap (λ (x : Signature). type_trees x.results) q.2,
+        ap (λ (x : Func). x.param_types) (sym p.3.6) ∙ trees_are heads.types (slots_of text heads g.params) r.0 (slots_have (slots_of text heads g.params) r.0 r.1) ∙ ap (λ (x : Signature). type_trees heads.types x.params) q.2,
+        ap (λ (x : Func). x.results) (sym p.3.6) ∙ trees_are heads.types (slots_of text heads g.results) q.0 (slots_have (slots_of text heads g.results) q.0 q.1) ∙ ap (λ (x : Signature). type_trees heads.types x.results) q.2,
       )
 
-  small_words : (g : TreeFunction) → is_small (signature_in text heads g) ≡ true → length (params_of g.params) + length (params_of g.results) ≤ 65535
+  -- the words of arguments and results are those of the signature
+  abbrev words_of_slots : Parameters → ℕ
+  words_of_slots ps = all_width (map (slot_tree heads.types) (slots_of text heads ps))
+
+  signature_words : (g : TreeFunction) (sig : Signature) → signature_in text heads g ≡ Some sig → words heads.types sig ≡ words_of_slots g.params + words_of_slots g.results
+  signature_words g sig is =
+      let r = and_then_some (λ ps. option_map (λ rs. record { params = ps; results = rs }) (types_of (slots_of text heads g.results))) (types_of (slots_of text heads g.params)) sig is in
+      let q = map_some (λ rs. record { params = r.0; results = rs }) (types_of (slots_of text heads g.results)) sig r.2 in
+      let params1 = ap all_width (trees_are heads.types (slots_of text heads g.params) r.0 (slots_have (slots_of text heads g.params) r.0 r.1)) in
+      let results1 = ap all_width (trees_are heads.types (slots_of text heads g.results) q.0 (slots_have (slots_of text heads g.results) q.0 q.1)) in
+      let whole : all_width (type_trees heads.types r.0) + all_width (type_trees heads.types q.0) ≡ words heads.types sig = ap (words heads.types) q.2 in
+      omega (arith, params1, results1, whole)
+
+  small_words : (g : TreeFunction) → is_small heads.types (signature_in text heads g) ≡ true → words_of_slots g.params + words_of_slots g.results ≤ 65535
   small_words g is = by (signature_in text heads g) refl is
     where
-      by : (sig : Option Signature) → signature_in text heads g ≡ sig → is_small sig ≡ true → length (params_of g.params) + length (params_of g.results) ≤ 65535
+      by : (sig : Option Signature) → signature_in text heads g ≡ sig → is_small heads.types sig ≡ true → words_of_slots g.params + words_of_slots g.results ≤ 65535
       by None found small = absurd cc
-      by (Some sig) found small = let k = signature_counts g sig found in omega (arith, leb-true (words sig) 65535 small, k.0, k.1)
+      by (Some sig) found small = let k = signature_words g sig found in omega (arith, leb-true (words heads.types sig) 65535 small, k)
 
   -- ---- one function
 
@@ -219,16 +224,16 @@ module _ (text : List ℕ) (heads : Scope) where
   bare_of s (named fs) rs found long false zero1 is = sym (all_long rs (entries_named s (slots_of text heads (named fs)) rs (all_names fs) found) ∙ long)
 
   returns_fit : (s : Scope) (g : TreeFunction) (ts : List ValueType) (rs : List (Option ℕ)) → SlotsHave (slots_of text heads g.results) ts → entries text Result s (slots_of text heads g.results) ≡ Some rs → length rs ≡ length (params_of g.results)
-      → ReturnsFit (returns_of text heads g) (map slot_tree (slots_of text heads g.results)) (length (sites_of rs))
+      → ReturnsFit heads.types (returns_of text heads g) (map (slot_tree heads.types) (slots_of text heads g.results)) (length (sites_of rs))
   returns_fit s g ts rs have found long = record {
     types = ts;
     wanted = wanted_are (slots_of text heads g.results) ts have;
-    trees = sym (trees_are (slots_of text heads g.results) ts have);
+    trees = sym (trees_are heads.types (slots_of text heads g.results) ts have);
     bare = λ is. trees_long g.results ∙ bare_of s g.results rs found long (length (params_of g.results) == 0) refl is;
     no_values = λ is. ap (λ l. length (sites_of l)) (empty_list rs (long ∙ (sym (trees_long g.results) ∙ ap length is)));
   }
 
-  module _ (p : Program) (all : List Site) (has : HasSites p all) (own : Package) (agrees : AreSigned own.signatures p.funcs) (numbered : AreGlobals own p) where
+  module _ (p : Program) (all : List Site) (has : HasSites heads.types p all) (formed : IsFormed heads.types) (own : Package) (own_types : own.types ≡ heads.types) (agrees : AreSigned heads.types own.signatures p.funcs) (numbered : AreGlobals heads.types own p) where
     function_fits : (s : Scope) (i : ℕ) (g : TreeFunction) (t : Func) → Visible s [] → package_of s ≡ own → Within p all (behind_function text heads s g) → function text heads s i g ≡ Some t → FuncFits p t
     function_fits s i g t visible signed ext0 is =
         let found = function_some text heads s i g t is in
@@ -237,8 +242,8 @@ module _ (text : List ℕ) (heads : Scope) where
         let ps = k.3.0 in
         let rs = k.3.1 in
         let body = k.3.2 in
-        let results1 = map slot_tree (slots_of text heads g.results) in
-        let types = signature_parts text heads g (small_signed (signature_in text heads g) k.1) in
+        let results1 = map (slot_tree heads.types) (slots_of text heads g.results) in
+        let types = signature_parts text heads g (small_signed heads.types (signature_in text heads g) k.1) in
         let have_params = slots_have (slots_of text heads g.params) types.0 types.2 in
         let have_results = slots_have (slots_of text heads g.results) types.1 types.3 in
         let inner = body_scope text heads s g in
@@ -246,32 +251,32 @@ module _ (text : List ℕ) (heads : Scope) where
         let ext : Within p all last1 = subst (λ (o : Option Body). Within p all (behind_body text heads s g o)) found.1.0 ext0 in
         let ext_inner = extends_twice inner.sites last1.sites all (grows_all text inner b.statements).sites ext.0 in
         let ext_params = extends_twice (behind_params text heads s g).sites inner.sites all (grows_entries text (behind_params text heads s g) (slots_of text heads g.results)).sites ext_inner in
-        let one1 = entries_fit text p all has Parameter (opened s) [] (slots_of text heads g.params) types.0 ps (visible_opened s [] visible) have_params k.3.3 ext_params in
-        let two1 = entries_fit text p all has Result (behind_params text heads s g) (params_scope [] ps) (slots_of text heads g.results) types.1 rs one1.visible have_results k.3.4 ext_inner in
+        let types_are : s.types ≡ heads.types = ap (λ (q : Package). q.types) signed ∙ own_types in
+        let params_types : (behind_params text heads s g).types ≡ heads.types = ap (λ (q : Package). q.types) (grows_entries text (opened s) (slots_of text heads g.params)).kept ∙ types_are in
+        let one1 = entries_fit heads.types text p all has Parameter (opened s) [] (slots_of text heads g.params) types.0 ps types_are (visible_opened s [] visible) have_params k.3.3 ext_params in
+        let two1 = entries_fit heads.types text p all has Result (behind_params text heads s g) (params_scope [] ps) (slots_of text heads g.results) types.1 rs params_types one1.visible have_results k.3.4 ext_inner in
         let long : length rs ≡ length (params_of g.results) = two1.long ∙ slots_long g.results in
         let goes = returns_fit (behind_params text heads s g) g types.1 rs have_results k.3.4 long in
-        let formed = formed_all text p all has own agrees numbered (returns_of text heads g) results1 (length (sites_of rs)) goes false inner (params_scope (params_scope [] ps) rs) b.statements body two1.visible ((grows_body text heads s g).kept ∙ signed) ext k.3.5 in
+        let lines = formed_all heads.types text p all has formed own own_types agrees numbered (returns_of text heads g) results1 (length (sites_of rs)) goes false inner (params_scope (params_scope [] ps) rs) b.statements body two1.visible ((grows_body text heads s g).kept ∙ signed) ext k.3.5 in
         let t0 = func text heads s g b ps rs body in
         let named_long = sites_long rs in
-        let words_are : result_words t0 ≡ length (params_of g.results) = words_long g.results in
-        let arguments_are : argument_words t0 ≡ length (params_of g.params) = words_long g.params in
-        let param_types_are = trees_are (slots_of text heads g.params) types.0 have_params in
-        let result_types_are = trees_are (slots_of text heads g.results) types.1 have_results in
+        let param_types_are = trees_are heads.types (slots_of text heads g.params) types.0 have_params in
+        let result_types_are = trees_are heads.types (slots_of text heads g.results) types.1 have_results in
         let first_is : t0.first + with_sites ps ≡ length (behind_params text heads s g).sites = one1.count in
         let body_is : body_first t0 ≡ length inner.sites = omega (arith, one1.count, two1.count, named_long) in
-        let whole : t0.first + t0.count ≡ length last1.sites = omega (arith, one1.count, two1.count, formed.count) in
-        let statements1 : StsFit p results1 (length (sites_of rs)) false (params_scope (params_scope [] ps) rs) (length inner.sites) (length last1.sites) body = formed.fit (length last1.sites) (omega arith) in
+        let whole : t0.first + t0.count ≡ length last1.sites = omega (arith, one1.count, two1.count, lines.count) in
+        let statements1 : StsFit p results1 (length (sites_of rs)) false (params_scope (params_scope [] ps) rs) (length inner.sites) (length last1.sites) body = lines.fit (length last1.sites) (omega arith) in
         subst (FuncFits p) k.3.6
         (record {
           params = subst (λ l. ParamsFit p (length s.sites) l ps) (sym param_types_are) one1.fit;
-          named = subst (λ m. NamedFit p m (sites_of rs)) (sym first_is) (named_of_params p (length (behind_params text heads s g).sites) (type_trees types.1) rs two1.fit);
+          named = subst (λ m. NamedFit p m (sites_of rs)) (sym first_is) (named_of_params p (length (behind_params text heads s g).sites) (type_trees heads.types types.1) rs two1.fit);
           names = names_of p (length (behind_params text heads s g).sites) (behind_params text heads s g) g.results results1 rs k.3.4 (subst (λ l. ParamsFit p (length (behind_params text heads s g).sites) l rs) (sym result_types_are) two1.fit);
-          count = omega (arith, one1.count, two1.count, formed.count, named_long);
+          count = omega (arith, one1.count, two1.count, lines.count, named_long);
           body = subst (λ n. StsFit p results1 (length (sites_of rs)) false (scope_in t0) (body_first t0) n body) (sym whole)
               (subst (λ m. StsFit p results1 (length (sites_of rs)) false (scope_in t0) m (length last1.sites) body) (sym body_is)
               (subst (λ (l : List ℕ). StsFit p results1 (length (sites_of rs)) false l (length inner.sites) (length last1.sites) body) (named_scope_of (params_scope [] ps) rs) statements1));
           end = finish b body results1 (length (params_of g.results) == 0) refl k.2 (λ ending. sym (ends_same body) ∙ ends_list text (returns_of text heads g) s false inner (inside_grows s (opened s) inner (inside_start s) (grows_body text heads s g)) b.statements body k.3.5 false ending) (trees_long g.results);
-          small = omega (arith, small_words g k.1, words_are, arguments_are);
+          small = small_words g k.1;
         })
       where
         finish : (b : Body) (body : Sts) (ts : List TypeTree) (none1 : Bool) → (length (params_of g.results) == 0) ≡ none1 → (none1 || ends_after text s false b.statements) ≡ true → (ends_after text s false b.statements ≡ true → ends_all body ≡ true) → length ts ≡ length (params_of g.results)
@@ -295,7 +300,7 @@ module _ (text : List ℕ) (heads : Scope) where
       let later = function_at (behind_function text heads s h) (1 + i) ms q.0 q.1 k g found in
       (later.0, (later.1.0, (later.1.1.0, (ap (λ (l : List Func). slice_get l (suc k)) (sym q.2) ∙ later.1.1.1.0, later.1.1.1.1))))
 
-  module _ (p : Program) (all : List Site) (has : HasSites p all) (own : Package) (agrees : AreSigned own.signatures p.funcs) (numbered : AreGlobals own p) where
+  module _ (p : Program) (all : List Site) (has : HasSites heads.types p all) (formed : IsFormed heads.types) (own : Package) (own_types : own.types ≡ heads.types) (agrees : AreSigned heads.types own.signatures p.funcs) (numbered : AreGlobals heads.types own p) where
     all_fit : (s : Scope) (i : ℕ) (ms : List Member) (ts : List Func) → Visible s [] → package_of s ≡ own → Within p all (behind_members text heads s ms) → functions text heads s i ms ≡ Some ts → (k : ℕ) (t : Func) → slice_get ts k ≡ Some t → FuncFits p t
     all_fit s i [] ts visible signed ext is k t found = absurd (none_some (subst (λ (l : List Func). slice_get l k ≡ Some t) (sym (same_some is)) found))
     all_fit s i (of_variable v x ∷ ms) ts visible signed ext is k t found =
@@ -307,7 +312,7 @@ module _ (text : List ℕ) (heads : Scope) where
         let q = map_some (λ us. r.0 ∷ us) (functions text heads s1 (1 + i) ms) ts r.2 in
         let keeps = keeps_function text heads s h in
         let ext1 = within_before p all s1 (behind_members text heads s1 ms) (keeps_grows s1 (behind_members text heads s1 ms) (keeps_members text heads s1 ms)) ext in
-        by k r.0 q.0 (function_fits p all has own agrees numbered s i h r.0 visible signed ext1 r.1)
+        by k r.0 q.0 (function_fits p all has formed own own_types agrees numbered s i h r.0 visible signed ext1 r.1)
         (λ j found1. all_fit s1 (1 + i) ms q.0 (visible_kept s s1 [] visible keeps) (keeps.kept ∙ signed) ext q.1 j t found1)
         (subst (λ (l : List Func). slice_get l k ≡ Some t) (sym q.2) found)
       where
@@ -332,7 +337,7 @@ module _ (text : List ℕ) (heads : Scope) where
   signed_function (g ∷ gs) zero sig is = (g, (refl, is))
   signed_function (g ∷ gs) (suc k) sig is = signed_function gs k sig is
 
-  agree : (s : Scope) (ms : List Member) (ts : List Func) → s.signatures ≡ map (signature_in text heads) (functions_of ms) → functions text heads s 0 ms ≡ Some ts → AreSigned s.signatures ts
+  agree : (s : Scope) (ms : List Member) (ts : List Func) → s.signatures ≡ map (signature_in text heads) (functions_of ms) → functions text heads s 0 ms ≡ Some ts → AreSigned heads.types s.signatures ts
   agree s ms ts signatures is k sig found =
       let g = signed_function (functions_of ms) k sig (ap (λ (l : List (Option Signature)). option_and_then (λ o. o) (slice_get l k)) (sym signatures) ∙ found) in
       let at = function_at s 0 ms ts is k g.0 g.1.0 in
@@ -373,10 +378,10 @@ module _ (text : List ℕ) (heads : Scope) where
 
 -- ---- the sites of a program
 
-sites_solid : (sites : List Site) → AllByRecursion IsSite sites → (k : ℕ) → 0 < width (get_or (site_types basic_types sites) k ints)
-sites_solid [] all k = omega arith
-sites_solid (site ∷ sites) all zero = subst (λ (t : TypeTree). 0 < width t) (sym (ap type_of all.0.1 ∙ number_tree all.0.0)) (tree_solid all.0.0)
-sites_solid (site ∷ sites) all (suc k) = sites_solid sites all.1 k
+sites_solid : (T : Table) → IsFormed T → (sites : List Site) (k : ℕ) → 0 < width (get_or (site_types (trees T) sites) k ints)
+sites_solid T formed [] k = omega arith
+sites_solid T formed (site ∷ sites) zero = solid T formed site.type_id.0
+sites_solid T formed (site ∷ sites) (suc k) = sites_solid T formed sites k
 
 -- a function without parameters and results
 abbrev PlainAt : List TreeFunction → ℕ → Type 0
@@ -428,22 +433,24 @@ in_form t p a =
     let same_functions : functions_of gs ≡ numbered_functions t = members_functions t.text h 0 ds in
     let all = last1.sites in
     let p0 = program_with t a.funcs a.main in
-    let has : HasSites p0 all = refl in
+    let basic : h.types ≡ basic_table = heads_types t.text beginning ds in
+    let formed : IsFormed h.types = subst IsFormed (sym basic) formed_beginning in
+    let own_types : s.types ≡ h.types = block_types t.text h s ds w.0 ∙ sym basic in
+    let has : HasSites h.types p0 all = record { types = refl; sites = refl } in
     let agrees = agree t.text h s gs a.funcs (package_signatures t.text h s ds w.0 ∙ ap (map (signature_in t.text h)) (sym same_functions)) found in
-    let numbered1 : AreGlobals (package_of s) p0 = globals_agree t.text h p0 all has s gs (package_globals t.text h s ds w.0) refl refl in
+    let numbered1 : AreGlobals h.types (package_of s) p0 = globals_agree t.text h h.types p0 all has s own_types gs (package_globals t.text h s ds w.0) refl refl in
     let g = main_some t a.main a.main_is in
     let at = function_at t.text h s 0 gs a.funcs found a.main g.0 (ap (λ (l : List TreeFunction). slice_get l a.main) same_functions ∙ g.1.0) in
     let plain = plain_function t.text h at.0 at.1.0 g.0 at.1.1.0 at.1.1.1.1 g.1.1.0 g.1.1.1 in
     let few0 = few_functions t.text h s 0 gs a.funcs found (omega arith) in
     let few : length a.funcs ≤ 4096 = omega (arith, few0) in
-    let grown = (keeps_members t.text h s gs).sites in
-    let every : AllByRecursion IsSite all = subst (λ (l : List Site). AllByRecursion IsSite l) (sym (grown.1 ∙ ap (λ (l : List Site). l ++ grown.0) (no_sites t.text h s ds w.0))) grown.2 in
-    let within : Within p0 all last1 = (([], sym (append-nil all), tt), omega arith) in
+    let visible = visible_package t.text h s ds w.0 in
+    let within : Within p0 all last1 = (([], sym (append-nil all)), omega arith) in
     subst IsInForm (sym a.is)
     (record {
-      fits = λ k f got. all_fit t.text h p0 all has (package_of s) agrees numbered1 s 0 gs a.funcs (visible_package t.text h s ds w.0) refl within found k f got;
+      fits = λ k f got. all_fit t.text h p0 all has formed (package_of s) own_types agrees numbered1 s 0 gs a.funcs visible refl within found k f got;
       few = few;
       main = (at.1.1.0, at.1.1.1.0, plain.0, plain.1.0, plain.1.1);
-      solid = λ site. subst (λ (l : List TypeTree). 0 < width (get_or l site ints)) (sym has) (sites_solid all every site);
-      globals = λ i g got. globals_fit t.text h p0 all has s gs a.funcs found refl refl i g got;
+      solid = λ site. sites_solid h.types formed all site;
+      globals = λ i g got. globals_fit t.text h h.types p0 all has s own_types gs formed visible.held a.funcs found refl refl i g got;
     })

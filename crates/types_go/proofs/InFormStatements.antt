@@ -5,7 +5,10 @@ use Rattle.std.specs.Option.{option_map}
 use Rattle.syntax.specs.Statements.{ValueSpec, Guard, Stm, Stms, Els}
 use Rattle.syntax.specs.Statements as tree
 use Rattle.typed.specs.declared.program.Site.{Site}
-use Rattle.typed.specs.Syntax.{St, Sts, Func, Program, block, choose, break_off, go_on, done, next, global_type}
+use Rattle.typed.specs.Syntax.{St, Sts, Func, Program, block, choose, break_off, go_on, done, next, type_in, global_type}
+use Rattle.typed.specs.Tables.{Table}
+use Rattle.typed.specs.Trees.{trees}
+use Rattle.typed.specs.Formed.{IsFormed}
 use Rattle.value_trees.specs.Types.{ValueType as TypeTree, ints}
 use Rattle.typed.specs.Form.{births, births_all, scope_after, StFits, StsFit}
 use Rattle.value_types.specs.declared.constant.Fixed.{Fixed}
@@ -27,13 +30,13 @@ use Rattle.types_go.proofs.Growth.{grows_header, grows_clause, keeps_block, keep
 use Rattle.types_go.proofs.InFormHeads.{Formed1, StsFormed, init_scope, head_scope, head_visible, guard_fits, choice_formed, clause_fits, loop_formed, loop_keeps, spec_formed}
 
 -- the functions of a program have the parameters and results that these signatures say
-abbrev pub AreSigned : List (Option Signature) → List Func → Type 0
-AreSigned sigs fs = (f : ℕ) (sig : Signature) → option_and_then (λ o. o) (slice_get sigs f) ≡ Some sig
-    → (func : Func) × (slice_get fs f ≡ Some func) × (func.param_types ≡ type_trees sig.params) × (func.results ≡ type_trees sig.results)
+abbrev pub AreSigned : Table → List (Option Signature) → List Func → Type 0
+AreSigned T sigs fs = (f : ℕ) (sig : Signature) → option_and_then (λ o. o) (slice_get sigs f) ≡ Some sig
+    → (func : Func) × (slice_get fs f ≡ Some func) × (func.param_types ≡ type_trees T sig.params) × (func.results ≡ type_trees T sig.results)
 
 -- the package variables of a program have the types that are known of them
-abbrev pub AreGlobals : Package → Program → Type 0
-AreGlobals own p = (g k : ℕ) (f : Fixed) → slice_get own.globals g ≡ Some k → option_and_then (λ o. o) (slice_get own.values k) ≡ Some f → (g < length p.globals) × (global_type p g ≡ type_tree (known_type f))
+abbrev pub AreGlobals : Table → Package → Program → Type 0
+AreGlobals T own p = (g k : ℕ) (f : Fixed) → slice_get own.globals g ≡ Some k → option_and_then (λ o. o) (slice_get own.values k) ≡ Some f → (g < length p.globals) × (global_type p g ≡ type_tree T (known_type f))
 
 -- the scope behind statements
 abbrev pub scope_behind_all : List ℕ → Sts → List ℕ
@@ -51,25 +54,40 @@ module _ (p : Program) (wanted1 : List TypeTree) (named : ℕ) where
       let e : m + births_all (next t a) ≡ (m + births t) + births_all a = omega arith in
       (fa.0, before_fits looped (scope_after scope t) (m + births t) n a b fa.1 (subst (λ j. StsFit p wanted1 named looped (scope_behind_all (scope_after scope t) a) j n b) e fb))
 
-module _ (text : List ℕ) (p : Program) (all : List Site) (has : HasSites p all) (own : Package) (signed : AreSigned own.signatures p.funcs) (numbered : AreGlobals own p) where
+module _ (T : Table) (text : List ℕ) (p : Program) (all : List Site) (has : HasSites T p all) (table_formed : IsFormed T) (own : Package) (own_types : own.types ≡ T) (signed : AreSigned T own.signatures p.funcs) (numbered : AreGlobals T own p) where
+  -- a scope of the package has its table
+  typed : (s : Scope) → package_of s ≡ own → s.types ≡ T
+  typed s g = ap (λ (q : Package). q.types) g ∙ own_types
+
   -- a scope before the end has what the program has
   pub agreed : (s : Scope) → package_of s ≡ own → Extends s.sites all → Agrees s p
   agreed s g e = record {
-    sites = λ k site is. ap (λ (l : List TypeTree). get_or l k ints) has ∙ get_mapped all k site (ap (λ (l : List Site). slice_get l k) e.1 ∙ got_longer s.sites e.0 k site is);
-    functions = λ f sig is. signed f sig (ap (λ (q : Package). option_and_then (λ o. o) (slice_get q.signatures f)) (sym g) ∙ is);
-    globals = λ j k f at known. numbered j k f (ap (λ (q : Package). slice_get q.globals j) (sym g) ∙ at) (ap (λ (q : Package). option_and_then (λ o. o) (slice_get q.values k)) (sym g) ∙ known);
+    sites = λ k site is.
+        ap (λ (l : List TypeTree). get_or l k ints) has.sites ∙ get_mapped p.types all k site (ap (λ (l : List Site). slice_get l k) e.1 ∙ got_longer s.sites e.0 k site is)
+        ∙ ap (λ (l : List TypeTree). type_in l site.type_id.0) (types_of s g);
+    functions = λ f sig is.
+        subst (λ (U : Table). (func : Func) × (slice_get p.funcs f ≡ Some func) × (func.param_types ≡ type_trees U sig.params) × (func.results ≡ type_trees U sig.results)) (sym (typed s g))
+        (signed f sig (ap (λ (q : Package). option_and_then (λ o. o) (slice_get q.signatures f)) (sym g) ∙ is));
+    globals = λ j k f at known.
+        subst (λ (U : Table). (j < length p.globals) × (global_type p j ≡ type_tree U (known_type f))) (sym (typed s g))
+        (numbered j k f (ap (λ (q : Package). slice_get q.globals j) (sym g) ∙ at) (ap (λ (q : Package). option_and_then (λ o. o) (slice_get q.values k)) (sym g) ∙ known));
+    types = types_of s g;
+    formed = subst IsFormed (sym (typed s g)) table_formed;
   }
+    where
+      types_of : (r1 : Scope) → package_of r1 ≡ own → p.types ≡ trees r1.types
+      types_of r1 same1 = has.types ∙ ap trees (sym (typed r1 same1))
 
-  module _ (r : Returns) (wanted1 : List TypeTree) (named : ℕ) (goes : ReturnsFit r wanted1 named) where
+  module _ (r : Returns) (wanted1 : List TypeTree) (named : ℕ) (goes : ReturnsFit T r wanted1 named) where
     -- statements in form, and what is shown behind them
     abbrev Whole : (looped : Bool) → Scope → List ℕ → Scope → Sts → Type 0
-    Whole looped s scope after b = StsFormed text p all has wanted1 named looped s scope after b × Visible after (scope_behind_all scope b)
+    Whole looped s scope after b = StsFormed T text p all has wanted1 named looped s scope after b × Visible after (scope_behind_all scope b)
 
-    one : (looped : Bool) (s after : Scope) (scope : List ℕ) (t : St) → Formed1 text p all has wanted1 named looped s scope after t × Visible after (scope_after scope t) → Whole looped s scope after (alone t)
+    one : (looped : Bool) (s after : Scope) (scope : List ℕ) (t : St) → Formed1 T text p all has wanted1 named looped s scope after t × Visible after (scope_after scope t) → Whole looped s scope after (alone t)
     one looped s after scope t f = (record { count = omega (arith, f.0.count); fit = λ n le. (f.0.fit n le, tt) }, f.1)
 
     -- a statement that keeps the scope
-    kept : (looped : Bool) (s after : Scope) (scope : List ℕ) (t : St) → Visible s scope → Keeps s after → Formed1 text p all has wanted1 named looped s scope after t → scope_after scope t ≡ scope → Whole looped s scope after (alone t)
+    kept : (looped : Bool) (s after : Scope) (scope : List ℕ) (t : St) → Visible s scope → Keeps s after → Formed1 T text p all has wanted1 named looped s scope after t → scope_after scope t ≡ scope → Whole looped s scope after (alone t)
     kept looped s after scope t v k f is = one looped s after scope t (f, subst (λ (w : List ℕ). Visible after w) (sym is) (visible_kept s after scope v k))
 
     jump : (looped : Bool) (s : Scope) (scope : List ℕ) (t : St) (b : Sts) → births t ≡ 0 → (looped ≡ true → (m n : ℕ) → StFits p wanted1 named looped scope m n t) → scope_after scope t ≡ scope → Visible s scope → allowed looped (Some (alone t)) ≡ Some b → Whole looped s scope s b
@@ -88,7 +106,7 @@ module _ (text : List ℕ) (p : Program) (all : List Site) (has : HasSites p all
         let grow = grows_entries text s (spec_slots text s spec) in
         let ext1 = extends_twice s1.sites (behind_specs text s1 vs).sites all (grows_specs text s1 vs).sites ext in
         let ext0 = extends_twice s.sites s1.sites all grow.sites ext1 in
-        let first = spec_formed text p all has wanted1 named s scope v (λ r1 same1 e. agreed r1 (same1 ∙ g) e) looped spec q.0 ext0 ext1 q.1 in
+        let first = spec_formed T text p all has wanted1 named s scope v (typed s g) table_formed (λ r1 same1 e. agreed r1 (same1 ∙ g) e) looped spec q.0 ext0 ext1 q.1 in
         let rest = specs_formed looped s1 (scope_after scope q.0) vs k.0 first.1 (grow.kept ∙ g) ext k.1 in
         subst (λ (x : Sts). Whole looped s scope (behind_specs text s1 vs) x) k.2 (
           record {
@@ -102,10 +120,10 @@ module _ (text : List ℕ) (p : Program) (all : List Site) (has : HasSites p all
     choice_in : (looped : Bool) (s : Scope) (scope : List ℕ) (g1 : Guard) (body : Stms) (rest : Els) → Visible s scope → package_of s ≡ own
         → Within p all (closed (behind_else text (closed (behind_all text (opened (header text s g1.init)) body)) rest)) → (c : Choice) (y z : Sts) (t : St)
         → guard_head text s g1 ≡ Some c → chosen c y z ≡ t
-        → ((sc : List ℕ) → Visible (header text s g1.init) sc → Within p all (behind_all text (opened (header text s g1.init)) body) → StsFormed text p all has wanted1 named looped (opened (header text s g1.init)) sc (behind_all text (opened (header text s g1.init)) body) y)
+        → ((sc : List ℕ) → Visible (header text s g1.init) sc → Within p all (behind_all text (opened (header text s g1.init)) body) → StsFormed T text p all has wanted1 named looped (opened (header text s g1.init)) sc (behind_all text (opened (header text s g1.init)) body) y)
         → ((sc : List ℕ) → Visible (closed (behind_all text (opened (header text s g1.init)) body)) sc → Within p all (behind_else text (closed (behind_all text (opened (header text s g1.init)) body)) rest)
-        → StsFormed text p all has wanted1 named looped (closed (behind_all text (opened (header text s g1.init)) body)) sc (behind_else text (closed (behind_all text (opened (header text s g1.init)) body)) rest) z)
-        → Formed1 text p all has wanted1 named looped s scope (closed (behind_else text (closed (behind_all text (opened (header text s g1.init)) body)) rest)) t × (scope_after scope t ≡ scope)
+        → StsFormed T text p all has wanted1 named looped (closed (behind_all text (opened (header text s g1.init)) body)) sc (behind_else text (closed (behind_all text (opened (header text s g1.init)) body)) rest) z)
+        → Formed1 T text p all has wanted1 named looped s scope (closed (behind_else text (closed (behind_all text (opened (header text s g1.init)) body)) rest)) t × (scope_after scope t ≡ scope)
     choice_in looped s scope g1 body rest v g ext c y z t found same1 first second =
         let h = header text s g1.init in
         let inner = closed (behind_all text (opened h) body) in
@@ -113,14 +131,14 @@ module _ (text : List ℕ) (p : Program) (all : List Site) (has : HasSites p all
         let grow = grows_header text s g1.init in
         let ext2 = within_before p all inner last1 (keeps_grows inner last1 (keeps_else text inner rest)) ext in
         let ext1 = within_before p all h inner (keeps_grows h inner (keeps_block text h body)) ext2 in
-        let fits = guard_fits text p all has wanted1 named s scope v (λ r1 same2 e. agreed r1 (same2 ∙ g) e) looped g1 c found ext1 grow.kept in
+        let fits = guard_fits T text p all has wanted1 named s scope v (typed s g) table_formed (λ r1 same2 e. agreed r1 (same2 ∙ g) e) looped g1 c found ext1 grow.kept in
         let sc = init_scope scope c.init in
         let shows = fits.0.visible in
         let a = first sc shows ext2 in
         let b1 = second sc (visible_kept h inner sc shows (keeps_block text h body)) ext in
-        let whole = choice_formed text p all has wanted1 named s scope v (λ r1 same2 e. agreed r1 (same2 ∙ g) e) looped h inner (closed last1) c y z fits (record { count = a.count; fit = a.fit }) (record { count = b1.count; fit = b1.fit }) in
+        let whole = choice_formed T text p all has wanted1 named s scope v (typed s g) table_formed (λ r1 same2 e. agreed r1 (same2 ∙ g) e) looped h inner (closed last1) c y z fits (record { count = a.count; fit = a.fit }) (record { count = b1.count; fit = b1.fit }) in
         let keeps = fits.0.keeps (choose c.condition y z) (λ s1. refl) in
-        (subst (λ (x : St). Formed1 text p all has wanted1 named looped s scope (closed last1) x) same1 whole, ap (scope_after scope) (sym same1) ∙ keeps)
+        (subst (λ (x : St). Formed1 T text p all has wanted1 named looped s scope (closed last1) x) same1 whole, ap (scope_after scope) (sym same1) ∙ keeps)
 
     mutual
       formed : (looped : Bool) (s : Scope) (scope : List ℕ) (m : Stm) (b : Sts) → Visible s scope → package_of s ≡ own → Within p all (behind text s m) → statement text r looped s m ≡ Some b → Whole looped s scope (behind text s m) b
@@ -129,7 +147,7 @@ module _ (text : List ℕ) (p : Program) (all : List Site) (has : HasSites p all
           let q = map_some alone (simple_statement text s m) b is in
           let ext0 = (within_before p all s (behind text s (tree.simple m)) (grows text s (tree.simple m)) ext).0 in
           subst (λ (x : Sts). Whole looped s scope (behind text s (tree.simple m)) x) q.2
-          (one looped s (behind text s (tree.simple m)) scope q.0 (simple_formed text p all has wanted1 named looped s scope v (agreed s g ext0) m q.0 ext ext0 q.1))
+          (one looped s (behind text s (tree.simple m)) scope q.0 (simple_formed T text p all has wanted1 named looped s scope v (typed s g) (agreed s g ext0) m q.0 ext ext0 q.1))
       formed looped s scope (tree.block ms) b v g ext is =
           let inner = closed (behind_all text (opened s) ms) in
           let q = map_some (λ x. alone (block x)) (statements text r looped (opened s) ms) b is in
@@ -152,22 +170,22 @@ module _ (text : List ℕ) (p : Program) (all : List Site) (has : HasSites p all
           let q = loop_some (clause_head text s c) (statements text r true (opened h) body) u.0 u.1 in
           let grow = grows_clause text s c in
           let ext1 = within_before p all h inner (keeps_grows h inner (keeps_block text h body)) ext in
-          let fits = clause_fits text p all has wanted1 named s scope v (λ r1 same1 e. agreed r1 (same1 ∙ g) e) looped c q.0 q.2 ext1 in
-          let shows = head_visible text p all has wanted1 named s scope v (λ r1 same1 e. agreed r1 (same1 ∙ g) e) looped h q.0 fits in
-          let a = formed_all true (opened h) (head_scope text p all has wanted1 named s scope v (λ r1 same1 e. agreed r1 (same1 ∙ g) e) q.0) body q.1 (visible_opened h _ shows) (grow.kept ∙ g) ext q.3 in
-          let whole = loop_formed text p all has wanted1 named s scope v (λ r1 same1 e. agreed r1 (same1 ∙ g) e) looped h (closed inner) q.0 q.1 fits (record { count = a.count; fit = a.fit }) in
-          let keeps = loop_keeps text p all has wanted1 named s scope v (λ r1 same1 e. agreed r1 (same1 ∙ g) e) looped h q.0 q.1 fits in
+          let fits = clause_fits T text p all has wanted1 named s scope v (typed s g) table_formed (λ r1 same1 e. agreed r1 (same1 ∙ g) e) looped c q.0 q.2 ext1 in
+          let shows = head_visible T text p all has wanted1 named s scope v (typed s g) table_formed (λ r1 same1 e. agreed r1 (same1 ∙ g) e) looped h q.0 fits in
+          let a = formed_all true (opened h) (head_scope T text p all has wanted1 named s scope v (typed s g) table_formed (λ r1 same1 e. agreed r1 (same1 ∙ g) e) q.0) body q.1 (visible_opened h _ shows) (grow.kept ∙ g) ext q.3 in
+          let whole = loop_formed T text p all has wanted1 named s scope v (typed s g) table_formed (λ r1 same1 e. agreed r1 (same1 ∙ g) e) looped h (closed inner) q.0 q.1 fits (record { count = a.count; fit = a.fit }) in
+          let keeps = loop_keeps T text p all has wanted1 named s scope v (typed s g) table_formed (λ r1 same1 e. agreed r1 (same1 ∙ g) e) looped h q.0 q.1 fits in
           subst (λ (x : Sts). Whole looped s scope (closed inner) x) u.2
-          (kept looped s (closed inner) scope u.0 v (keeps_loop text s c body) (subst (λ (x : St). Formed1 text p all has wanted1 named looped s scope (closed inner) x) q.4 whole) (ap (scope_after scope) (sym q.4) ∙ keeps))
+          (kept looped s (closed inner) scope u.0 v (keeps_loop text s c body) (subst (λ (x : St). Formed1 T text p all has wanted1 named looped s scope (closed inner) x) q.4 whole) (ap (scope_after scope) (sym q.4) ∙ keeps))
       formed looped s scope (tree.break_at at) b v g ext is = jump looped s scope break_off b refl (λ l m n. l) refl v is
       formed looped s scope (tree.continue_at at) b v g ext is = jump looped s scope go_on b refl (λ l m n. l) refl v is
       formed looped s scope (tree.give_back at es) b v g ext is =
           let q = map_some alone (returned r (seen text s es)) b is in
-          subst (λ (x : Sts). Whole looped s scope s x) q.2 (one looped s s scope q.0 (return_formed text p all has wanted1 named looped s scope v (agreed s g ext.0) r goes es q.0 q.1))
+          subst (λ (x : Sts). Whole looped s scope s x) q.2 (one looped s s scope q.0 (return_formed T text p all has wanted1 named looped s scope v (typed s g) (agreed s g ext.0) r goes es q.0 q.1))
 
       formed_else : (looped : Bool) (s : Scope) (scope : List ℕ) (e : Els) (b : Sts) → Visible s scope → package_of s ≡ own → Within p all (behind_else text s e) → alternative text r looped s e ≡ Some b
-          → StsFormed text p all has wanted1 named looped s scope (behind_else text s e) b
-      formed_else looped s scope tree.no_else b v g ext is = subst (λ (x : Sts). StsFormed text p all has wanted1 named looped s scope s x) (same_some is) (record { count = omega arith; fit = λ n le. tt })
+          → StsFormed T text p all has wanted1 named looped s scope (behind_else text s e) b
+      formed_else looped s scope tree.no_else b v g ext is = subst (λ (x : Sts). StsFormed T text p all has wanted1 named looped s scope s x) (same_some is) (record { count = omega arith; fit = λ n le. tt })
       formed_else looped s scope (tree.else_block ms) b v g ext is =
           let a = formed_all looped (opened s) scope ms b (visible_opened s scope v) g ext is in record { count = a.count; fit = a.fit }
       formed_else looped s scope (tree.else_if at g1 body rest) b v g ext is =
@@ -179,11 +197,11 @@ module _ (text : List ℕ) (p : Program) (all : List Site) (has : HasSites p all
           let f = choice_in looped s scope g1 body rest v g ext q.0 q.1 q.2 u.0 q.3 q.6
           (λ sc sv se. formed_all looped (opened h) sc body q.1 (visible_opened h sc sv) ((grows_header text s g1.init).kept ∙ g) se q.4)
           (λ sc sv se. formed_else looped inner sc rest q.2 sv ((keeps_block text h body).kept ∙ ((grows_header text s g1.init).kept ∙ g)) se q.5) in
-          subst (λ (x : Sts). StsFormed text p all has wanted1 named looped s scope (closed last1) x) u.2 (kept looped s (closed last1) scope u.0 v (keeps_choice text s g1 body rest) f.0 f.1).0
+          subst (λ (x : Sts). StsFormed T text p all has wanted1 named looped s scope (closed last1) x) u.2 (kept looped s (closed last1) scope u.0 v (keeps_choice text s g1 body rest) f.0 f.1).0
 
       pub formed_all : (looped : Bool) (s : Scope) (scope : List ℕ) (ms : Stms) (b : Sts) → Visible s scope → package_of s ≡ own → Within p all (behind_all text s ms) → statements text r looped s ms ≡ Some b
-          → StsFormed text p all has wanted1 named looped s scope (behind_all text s ms) b
-      formed_all looped s scope tree.nil b v g ext is = subst (λ (x : Sts). StsFormed text p all has wanted1 named looped s scope s x) (same_some is) (record { count = omega arith; fit = λ n le. tt })
+          → StsFormed T text p all has wanted1 named looped s scope (behind_all text s ms) b
+      formed_all looped s scope tree.nil b v g ext is = subst (λ (x : Sts). StsFormed T text p all has wanted1 named looped s scope s x) (same_some is) (record { count = omega arith; fit = λ n le. tt })
       formed_all looped s scope (tree.cons m ms) b v g ext is =
           let s1 = behind text s m in
           let q = and_then_some (λ t. option_map (before t) (statements text r looped s1 ms)) (statement text r looped s m) b is in
@@ -193,7 +211,7 @@ module _ (text : List ℕ) (p : Program) (all : List Site) (has : HasSites p all
           let first = formed looped s scope m q.0 v g ext1 q.1 in
           let others = formed_all looped s1 (scope_behind_all scope q.0) ms k.0 first.1 (grow.kept ∙ g) ext k.1 in
           let born = before_births q.0 k.0 in
-          subst (λ (x : Sts). StsFormed text p all has wanted1 named looped s scope (behind_all text s1 ms) x) k.2
+          subst (λ (x : Sts). StsFormed T text p all has wanted1 named looped s scope (behind_all text s1 ms) x) k.2
           (record {
             count = omega (arith, first.0.count, others.count, born);
             fit = λ n le. before_fits p wanted1 named looped scope (length s.sites) n q.0 k.0 (first.0.fit n (omega (arith, le, others.count)))

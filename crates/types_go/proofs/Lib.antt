@@ -9,6 +9,7 @@ mod Keys
 mod Lines
 mod MemberLists
 mod Package
+mod Types
 mod Sequences
 mod SettledFunctions
 mod SettledHeads

@@ -12,8 +12,10 @@ use Rattle.syntax.specs.Statements.{ValueSpec}
 use Rattle.syntax.specs.Declarations.{Body, Function as TreeFunction, Declaration, constants, variables, types, Syntax}
 use Rattle.syntax.specs.Declarations as tree
 use Rattle.typed.specs.Syntax.{Sts, Func}
+use Rattle.typed.specs.Tables.{Table}
+use Rattle.typed.specs.Formed.{IsFormed}
 use Rattle.value_types.specs.declared.fault.FaultKind.TheVariants.{Unknown, Redeclared, MissingReturn, BadOperand, OutOfProfile, TooLarge}
-use Rattle.value_types.specs.declared.value_type.ValueType.{ValueType}
+use Rattle.base.specs.declared.value_type.ValueType.{ValueType}
 use Rattle.value_types.specs.declared.constant.Fixed.{Fixed}
 use Rattle.value_types.specs.Given.{allowed}
 use Rattle.value_types.specs.Faults.{fault, IsFault}
@@ -25,7 +27,8 @@ use Rattle.names.specs.declared.scope.Declared.TheVariants.{Untyped, Constant, G
 use Rattle.names.specs.declared.scope.Declared.TheVariants as declared
 use Rattle.names.specs.Universe.{is_blank}
 use Rattle.names.specs.Scope.{Scope, Signature, numbered as numbered_name, declaration, fixed, with_declaration, with_site, opened, beginning}
-use Rattle.names.specs.Types.{declared_type, type_in}
+use Rattle.names.specs.Types.{is_known, declared_type, type_in}
+use Rattle.names.proofs.Trees.{int_known, bool_known, formed_beginning}
 use Rattle.names.specs.Faults.{type_name_fault, FailsAsType}
 use Rattle.names.proofs.Settled.{HasSignature, IsSettled, predeclared_is}
 use Rattle.package_values.specs.declared.items.Role.TheVariants as role
@@ -44,6 +47,7 @@ use Rattle.types_go.specs.Functions.{Member, of_function, of_variable, numbered,
 use Rattle.types_go.specs.StatementFaults.{FailsInStatements}
 use Rattle.types_go.specs.FunctionFaults.{FailsInHead, FailsInTypes, FailsInParts, external_fault, FailsWith, FailsInFunction, FailsInFunctions, init_fault, external_name_fault, DeclarationFails, DeclarationsFail}
 use Rattle.types_go.proofs.Package.{both_second, constant_one, variable_one, declared_one, values_long, signatures_are, items_kept}
+use Rattle.types_go.proofs.Types.{items_types}
 use Rattle.types_go.proofs.SettledStatements.{settled_all, statements_decided}
 
 -- ---- the head and the types of a function
@@ -52,42 +56,48 @@ name_tested : (i : ℕ) (is_blank : Bool) (d : Option Declared) (at : Pos) → T
 name_tested i true d at = λ f h. h
 name_tested i false d at = where_not (is_number i d) (fault Redeclared at)
 
-small_tested : (sig : Option Signature) (at : Pos) (P : Fault → Type 0) → Decided sig P → Tested (is_small sig) (λ f. P f ⊎ IsFault (size_fault sig at) f)
-small_tested None at P d = (d.0, inl d.1)
-small_tested (Some sig) at P d = by (nat_le (words sig) 65535)
+small_tested : (T : Table) (sig : Option Signature) (at : Pos) (P : Fault → Type 0) → Decided sig P → Tested (is_small T sig) (λ f. P f ⊎ IsFault (size_fault T sig at) f)
+small_tested T None at P d = (d.0, inl d.1)
+small_tested T (Some sig) at P d = by (nat_le (words T sig) 65535)
   where
     by : (b : Bool) → Tested b (λ f. P f ⊎ IsFault (fault_where (not b) (fault TooLarge at)) f)
     by true = λ f h. elim h [ inl k ↦ d f k | inr k ↦ k ]
     by false = (fault TooLarge at, inr refl)
 
--- ---- where no type is declared
+-- ---- where the program declares no type of its own
 
-abbrev IsNoType : Declared → Type 0
-IsNoType TypeName = ⊥
-IsNoType other = ⊤
+abbrev IsOfLanguage : Table → Declared → Type 0
+IsOfLanguage T TypeName = ⊥
+IsOfLanguage T (declared.«Type» t) = is_known T t ≡ true
+IsOfLanguage T other = ⊤
 
-abbrev NoTypes : Scope → Type 0
-NoTypes s = AllByRecursion IsNoType s.declared
+record NoTypes (s : Scope) : Type 0 where
+  pub all : AllByRecursion (IsOfLanguage s.types) s.declared
+  pub formed : IsFormed s.types
 
 -- what a list has at a place
-found_type : (ds : List Declared) (k : ℕ) → AllByRecursion IsNoType ds → slice_get ds k ≡ Some TypeName → ⊥
-found_type [] k all is = cc is
-found_type (d ∷ ds) zero all is = subst IsNoType (same_some is) all.0
-found_type (d ∷ ds) (suc k) all is = found_type ds k all.1 is
+found_declared : (T : Table) (ds : List Declared) (k : ℕ) (d : Declared) → AllByRecursion (IsOfLanguage T) ds → slice_get ds k ≡ Some d → IsOfLanguage T d
+found_declared T [] k d all is = cc is
+found_declared T (e ∷ ds) zero d all is = subst (IsOfLanguage T) (same_some is) all.0
+found_declared T (e ∷ ds) (suc k) d all is = found_declared T ds k d all.1 is
 
-no_type_named : (s : Scope) → NoTypes s → (n : List ℕ) → declaration s n ≡ Some TypeName → ⊥
-no_type_named s all n is = by (lookup s.blocks n) is
+of_language : (s : Scope) → NoTypes s → (n : List ℕ) (d : Declared) → declaration s n ≡ Some d → IsOfLanguage s.types d
+of_language s no_types n d is = by (lookup s.blocks n) is
   where
-    by : (o : Option ℕ) → numbered_name s n o ≡ Some TypeName → ⊥
-    by None is1 = predeclared_is IsNoType (λ t. tt) (λ b. tt) (λ line. tt) tt tt tt n TypeName is1
-    by (Some k) is1 = found_type s.declared k all is1
+    by : (o : Option ℕ) → numbered_name s n o ≡ Some d → IsOfLanguage s.types d
+    by None is1 = predeclared_is (IsOfLanguage s.types) (int_known s.types no_types.formed) (bool_known s.types no_types.formed) (λ b. tt) (λ line. tt) tt tt tt n d is1
+    by (Some k) is1 = found_declared s.types s.declared k d no_types.all is1
 
-type_name_decided : (d : Option Declared) (at : Pos) → (d ≡ Some TypeName → ⊥) → Decided (declared_type d) (IsFault (type_name_fault d at))
-type_name_decided None at known = (fault Unknown at, refl)
-type_name_decided (Some TypeName) at known = absurd (known refl)
-type_name_decided (Some (declared.«Type» t)) at known = λ f h. h
-type_name_decided (Some declared.LeftOutType) at known = (fault OutOfProfile at, refl)
-type_name_decided (Some other) at known = (fault BadOperand at, refl)
+known_decided : (t : ValueType) (b : Bool) → b ≡ true → Decided (allowed b (Some t)) (IsFault None)
+known_decided t true is = λ f h. h
+known_decided t false is = cc is
+
+type_name_decided : (T : Table) (d : Option Declared) (at : Pos) → ((x : Declared) → d ≡ Some x → IsOfLanguage T x) → Decided (declared_type T d) (IsFault (type_name_fault d at))
+type_name_decided T None at known = (fault Unknown at, refl)
+type_name_decided T (Some TypeName) at known = absurd (known TypeName refl)
+type_name_decided T (Some (declared.«Type» t)) at known = known_decided t (is_known T t) (known (declared.«Type» t) refl)
+type_name_decided T (Some declared.LeftOutType) at known = (fault OutOfProfile at, refl)
+type_name_decided T (Some other) at known = (fault BadOperand at, refl)
 
 -- three tests before what a function's parts are
 three_decided : {A : Type 0} (a b c : Bool) (o : Option A) (P Q R S : Fault → Type 0) → Tested a P → Tested b Q → Tested c S → (b ≡ true → Decided o R) → Decided (allowed a (allowed b (allowed c o))) (λ f. (P f ⊎ Q f) ⊎ (R f ⊎ S f))
@@ -101,9 +111,9 @@ parts_decided : {A B C D : Type 0} (a : Option A) (b : Option B) (c : Option C) 
     → Decided (option_and_then (λ x. option_and_then (λ y. option_map (k x y) c) b) a) (λ f. (P f ⊎ Q f) ⊎ R f)
 parts_decided a b c k P Q R p q r = both_decided a b (λ x y. option_map (k x y) c) P Q R p q (λ x y x_is y_is. mapped (k x y) c R r)
 
-pub small_signed : (sig : Option Signature) → is_small sig ≡ true → HasSignature sig
-small_signed None is = cc is
-small_signed (Some sig) is = tt
+pub small_signed : (T : Table) (sig : Option Signature) → is_small T sig ≡ true → HasSignature sig
+small_signed T None is = cc is
+small_signed T (Some sig) is = tt
 
 pub allowed_some : {A : Type 0} (b : Bool) (o : Option A) (x : A) → allowed b o ≡ Some x → (b ≡ true) × (o ≡ Some x)
 allowed_some true o x is = (refl, is)
@@ -111,7 +121,7 @@ allowed_some false o x is = cc is
 
 module _ (text : List ℕ) (heads : Scope) where
   type_decided : NoTypes heads → (e : TreeEx) → Decided (type_in text heads e) (FailsAsType text heads e)
-  type_decided known (name n) = type_name_decided (declaration heads (spelled text n)) n.pos (no_type_named heads known (spelled text n))
+  type_decided known (name n) = type_name_decided heads.types (declaration heads (spelled text n)) n.pos (λ x is. of_language heads known (spelled text n) x is)
   type_decided known (paren at e) = type_decided known e
   type_decided known e = (fault OutOfProfile (first_place e), refl)
 
@@ -158,24 +168,24 @@ module _ (text : List ℕ) (heads : Scope) where
   with_decided : (s : Scope) (i : ℕ) (g : TreeFunction) (o : Option Body) → NoTypes heads → IsSettled s → Decided (function_with text heads s i g o) (FailsWith text heads s i g o)
   with_decided s i g None no_types settled = (external_fault g, inr refl)
   with_decided s i g (Some b) no_types settled =
-      three_decided (function_head text s i g) (is_small (signature_in text heads g)) (may_end text heads s g b) (parts text heads s g b) (FailsInHead text s i g) (FailsInTypes text heads g) (FailsInParts text heads s g b) (IsFault (fault_where (not (may_end text heads s g b)) (fault MissingReturn b.end)))
-      (head_tested s i g) (small_tested (signature_in text heads g) g.name.pos (λ f. TypesFail text heads (params_of g.params) f ⊎ TypesFail text heads (params_of g.results) f) (signature_decided no_types g))
+      three_decided (function_head text s i g) (is_small heads.types (signature_in text heads g)) (may_end text heads s g b) (parts text heads s g b) (FailsInHead text s i g) (FailsInTypes text heads g) (FailsInParts text heads s g b) (IsFault (fault_where (not (may_end text heads s g b)) (fault MissingReturn b.end)))
+      (head_tested s i g) (small_tested heads.types (signature_in text heads g) g.name.pos (λ f. TypesFail text heads (params_of g.params) f ⊎ TypesFail text heads (params_of g.results) f) (signature_decided no_types g))
       (where_not (may_end text heads s g b) (fault MissingReturn b.end))
       (λ small. parts_decided (param_entries text heads s g) (result_entries text heads s g) (body_of text heads s g b) (func text heads s g b)
       (EntriesFail text Parameter (opened s) (slots_of text heads g.params)) (EntriesFail text Result (behind_params text heads s g) (slots_of text heads g.results)) (FailsInStatements text (returns_of text heads g) false (body_scope text heads s g) b.statements)
       (entries_decided text Parameter (opened s) (slots_of text heads g.params)) (entries_decided text Result (behind_params text heads s g) (slots_of text heads g.results))
-      (statements_decided text (returns_of text heads g) false (body_scope text heads s g) b.statements (settled_body s g (small_signed (signature_in text heads g) small) settled)))
+      (statements_decided text (returns_of text heads g) false (body_scope text heads s g) b.statements (settled_body s g (small_signed heads.types (signature_in text heads g) small) settled)))
 
   -- what a typed function is made of
   abbrev pub Made : Scope → ℕ → TreeFunction → Func → Body → Type 0
   Made s i g t b =
-      (function_head text s i g ≡ true) × (is_small (signature_in text heads g) ≡ true) × (may_end text heads s g b ≡ true)
+      (function_head text s i g ≡ true) × (is_small heads.types (signature_in text heads g) ≡ true) × (may_end text heads s g b ≡ true)
       × ((ps rs : List (Option ℕ)) × (body : Sts) × (param_entries text heads s g ≡ Some ps) × (result_entries text heads s g ≡ Some rs) × (body_of text heads s g b ≡ Some body) × (func text heads s g b ps rs body ≡ t))
 
   with_some : (s : Scope) (i : ℕ) (g : TreeFunction) (t : Func) (b : Body) → function_with text heads s i g (Some b) ≡ Some t → Made s i g t b
   with_some s i g t b is =
       let a = allowed_some (function_head text s i g) _ t is in
-      let e = allowed_some (is_small (signature_in text heads g)) _ t a.1 in
+      let e = allowed_some (is_small heads.types (signature_in text heads g)) _ t a.1 in
       let c = allowed_some (may_end text heads s g b) _ t e.1 in
       let p = and_then_some (λ ps. option_and_then (λ rs. option_map (func text heads s g b ps rs) (body_of text heads s g b)) (result_entries text heads s g)) (param_entries text heads s g) t c.1 in
       let q = and_then_some (λ rs. option_map (func text heads s g b p.0 rs) (body_of text heads s g b)) (result_entries text heads s g) t p.2 in
@@ -197,11 +207,11 @@ module _ (text : List ℕ) (heads : Scope) where
       let made = p.1.1 in
       subst (λ o. IsSettled (behind_body text heads s g o)) (sym p.1.0)
       (settled_closed (behind_all text (body_scope text heads s g) b.statements)
-      (settled_all text (returns_of text heads g) false (body_scope text heads s g) b.statements made.3.2 (settled_body s g (small_signed (signature_in text heads g) made.1) settled) made.3.5))
+      (settled_all text (returns_of text heads g) false (body_scope text heads s g) b.statements made.3.2 (settled_body s g (small_signed heads.types (signature_in text heads g) made.1) settled) made.3.5))
 
   settled_named : (s : Scope) (t : ValueType) (at : Pos) (blank : Bool) → IsSettled s → IsSettled (cond blank s (with_site s t at))
   settled_named s t at true settled = settled
-  settled_named s t at false settled = record { all = settled.all }
+  settled_named s t at false settled = record { all = settled.all; formed = settled.formed }
 
   settled_variable : (s : Scope) (k : ℕ) (v : Item) → IsSettled s → IsSettled (behind_variable text s k v)
   settled_variable s k v settled = settled_named s (type_or_int (fixed s k)) v.name.pos (is_blank (spelled text v.name)) settled
@@ -226,9 +236,9 @@ module _ (text : List ℕ) (heads : Scope) where
   unsigned_with s i g (Some b) no_types is =
       let d : (f : Fault) × (TypesFail text heads (params_of g.params) f ⊎ TypesFail text heads (params_of g.results) f) =
       subst (λ o. Decided o (λ f. TypesFail text heads (params_of g.params) f ⊎ TypesFail text heads (params_of g.results) f)) is (signature_decided no_types g) in
-      (ap (λ o. allowed (function_head text s i g) (allowed (is_small o) (allowed (may_end text heads s g b) (parts text heads s g b)))) is ∙ by (function_head text s i g), (d.0, inl (inr (inl d.1))))
+      (ap (λ o. allowed (function_head text s i g) (allowed (is_small heads.types o) (allowed (may_end text heads s g b) (parts text heads s g b)))) is ∙ by (function_head text s i g), (d.0, inl (inr (inl d.1))))
     where
-      by : (h : Bool) → allowed h (allowed (is_small None) (allowed (may_end text heads s g b) (parts text heads s g b))) ≡ None
+      by : (h : Bool) → allowed h (allowed (is_small heads.types None) (allowed (may_end text heads s g b) (parts text heads s g b))) ≡ None
       by true = refl
       by false = refl
 
@@ -337,13 +347,13 @@ module _ (text : List ℕ) (heads : Scope) where
   signed_at (Some sig ∷ sigs) zero all lt = tt
   signed_at (sig ∷ sigs) (suc k) all lt = signed_at sigs k all.1 (omega (arith, lt))
 
-  all_waiting : (sigs : List (Option Signature)) (m : ℕ) (ds : List Declared) → AllGiven sigs → AllByRecursion (AreNumbered (length sigs) m) ds → AllByRecursion (IsTypedOnceKnown sigs m) ds
-  all_waiting sigs m [] given all = tt
-  all_waiting sigs m (Function g ∷ ds) given all = (signed_at sigs g.0 given all.0, all_waiting sigs m ds given all.1)
-  all_waiting sigs m (Constant k ∷ ds) given all = (all.0, all_waiting sigs m ds given all.1)
-  all_waiting sigs m (Global k g ∷ ds) given all = (all.0, all_waiting sigs m ds given all.1)
-  all_waiting sigs m (External e at ∷ ds) given all = (tt, all_waiting sigs m ds given all.1)
-  all_waiting sigs m (d ∷ ds) given all = absurd all.0
+  all_waiting : (T : Table) (sigs : List (Option Signature)) (m : ℕ) (ds : List Declared) → AllGiven sigs → AllByRecursion (AreNumbered (length sigs) m) ds → AllByRecursion (IsTypedOnceKnown T sigs m) ds
+  all_waiting T sigs m [] given all = tt
+  all_waiting T sigs m (Function g ∷ ds) given all = (signed_at sigs g.0 given all.0, all_waiting T sigs m ds given all.1)
+  all_waiting T sigs m (Constant k ∷ ds) given all = (all.0, all_waiting T sigs m ds given all.1)
+  all_waiting T sigs m (Global k g ∷ ds) given all = (all.0, all_waiting T sigs m ds given all.1)
+  all_waiting T sigs m (External e at ∷ ds) given all = (tt, all_waiting T sigs m ds given all.1)
+  all_waiting T sigs m (d ∷ ds) given all = absurd all.0
 
   -- where all functions have signatures and no rule of the constants and variables fails, the block is settled
   package_settled : (r : Scope) (ds : List Declaration) → are_supported text heads r ds ≡ true → AllSigned (functions_in text heads ds)
@@ -351,10 +361,11 @@ module _ (text : List ℕ) (heads : Scope) where
   package_settled r ds is signed sound =
       let s = with_items text heads beginning ds in
       let given = subst AllGiven (sym (signatures_are text heads r beginning ds is)) (given_all (functions_in text heads ds) signed) in
-      let waiting = all_waiting s.signatures (length s.values) s.declared given (items_kept text heads r Numbered numbered_constant numbered_variable numbered_function beginning ds is tt) in
+      let waiting = all_waiting s.types s.signatures (length s.values) s.declared given (items_kept text heads r Numbered numbered_constant numbered_variable numbered_function beginning ds is tt) in
       let unknown = items_kept text heads r (λ (v : Scope). AllByRecursion IsUnknown v.values) unknown_constant unknown_variable unknown_function beginning ds is tt in
       let many = values_long text heads r beginning ds is in
-      is_settled text s ds (record { as_many = omega (arith, many); unknown = unknown; typed = waiting; never = sound })
+      let formed : IsFormed s.types = subst IsFormed (sym (items_types text heads r ds is)) formed_beginning in
+      is_settled text s ds (record { as_many = omega (arith, many); unknown = unknown; typed = waiting; formed = formed; never = sound })
     where
       unknown_constant : (s : Scope) (n : Name) (declares : Bool) → AllByRecursion IsUnknown s.values → AllByRecursion IsUnknown (constant_one text s n declares).values
       unknown_constant s n true all = one_more_unknown s.values all
@@ -432,7 +443,7 @@ module _ (text : List ℕ) (heads r : Scope) where
   name_no_type s n all = by (declares_name s (spelled text n))
     where
       by : (b : Bool) → NoTypes (cond b (with_declaration s (spelled text n) Untyped) s)
-      by true = one_more_declared IsNoType s.declared Untyped all tt
+      by true = record { all = one_more_declared (IsOfLanguage s.types) s.declared Untyped all.all tt; formed = all.formed }
       by false = all
 
   names_no_types : (s : Scope) (ns : List Name) → NoTypes s → NoTypes (with_names text Untyped s ns)
@@ -472,4 +483,4 @@ all_decided t sound = by (are_supported t.text h s ds) refl (forms_tested t.text
     by false is forms = (forms.0, inl forms.1)
     by true is forms =
         further (DeclarationsFail t.text h s ds) (FailsInFunctions t.text h s 0 gs) (functions t.text h s 0 gs) forms
-        (all_functions t.text h (heads_no_types t.text h s beginning ds is tt) s ds is sound)
+        (all_functions t.text h (heads_no_types t.text h s beginning ds is (record { all = tt; formed = formed_beginning })) s ds is sound)

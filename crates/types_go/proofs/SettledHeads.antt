@@ -13,10 +13,10 @@ use Rattle.syntax.specs.Statements as tree
 use Rattle.typed.specs.Syntax.{Ex, Left, blank, new, to, St, Sts, done}
 use Rattle.value_types.specs.declared.fault.Fault.{Fault}
 use Rattle.value_types.specs.declared.fault.FaultKind.TheVariants.{NothingNew, Mismatch, ArgCount, BadOperand, OutOfProfile}
-use Rattle.value_types.specs.declared.value_type.ValueType.{ValueType}
-use Rattle.value_types.specs.declared.value_type.ValueType.TheVariants.{Int}
+use Rattle.base.specs.declared.value_type.ValueType.{ValueType}
+use Rattle.base.specs.declared.value_type.ValueType.TheVariants.{Int}
 use Rattle.value_types.specs.Given.{allowed}
-use Rattle.value_types.specs.Constants.{same_type}
+use Rattle.base.specs.Types.{same_type}
 use Rattle.value_types.specs.Faults.{fault, IsFault}
 use Rattle.value_types.proofs.Decided.{Decided, Tested, further, tested, turned, mapped, after, both_tested}
 use Rattle.value_types.proofs.Options.{and_then_some, map_some, none_some, same_some}
@@ -222,7 +222,7 @@ module _ (text : List ℕ) where
   slots_typed t (targets_defined ns at) = with_typed t ns
 
   settled_post_simple : (s : Scope) (m : Simple) → IsSettled s → IsSettled (behind_post_simple text s m)
-  settled_post_simple s (tree.express e) settled = record { all = settled.all }
+  settled_post_simple s (tree.express e) settled = record { all = settled.all; formed = settled.formed }
   settled_post_simple s (tree.assign ls at es) settled = settled
   settled_post_simple s (tree.update ls at tree_op es) settled = settled
   settled_post_simple s (tree.define ns at es) settled = settled

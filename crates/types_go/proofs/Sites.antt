@@ -7,14 +7,12 @@ use Rattle.base.specs.declared.pos.Pos.{Pos}
 use Rattle.base.specs.declared.ids.TypeId.{TypeId}
 use Rattle.typed.specs.declared.program.Func.{Func as FuncData}
 use Rattle.typed.specs.Syntax.{Left, blank, new, to}
-use Rattle.typed.specs.View.{type_of}
-use Rattle.value_trees.specs.Types.{ValueType as TypeTree}
-use Rattle.value_types.specs.declared.value_type.ValueType.{ValueType}
+use Rattle.typed.specs.Tables.{Table}
+use Rattle.typed.specs.Trees.{tree_named}
 use Rattle.value_types.specs.Given.{with_last}
-use Rattle.names.proofs.Trees.{number_tree}
 use Rattle.signatures.specs.declared.slots.Slot.{Slot}
 use Rattle.types_go.specs.Statements.{new_in}
-use Rattle.types_go.specs.Functions.{number_or_int, slot_number, tree_or_ints, slot_tree}
+use Rattle.types_go.specs.Functions.{slot_number, slot_tree}
 use Rattle.types_go.specs.Passing.{IsAt, AreAt}
 
 pub new_more : (so_far : List ℕ) (l : Left) (ls : List Left) → so_far ++ new_in (l ∷ ls) ≡ (so_far ++ new_in (l ∷ [])) ++ new_in ls
@@ -43,17 +41,13 @@ number_more items t n rest is =
 
 -- ---- types by their numbers
 
-number_tree_or_ints : (o : Option ValueType) → type_of (number_or_int o) ≡ tree_or_ints o
-number_tree_or_ints None = refl
-number_tree_or_ints (Some t) = number_tree t
+slot_trees : (T : Table) (ps : List Slot) → map (tree_named T) (map (slot_number T) ps) ≡ map (slot_tree T) ps
+slot_trees T [] = refl
+slot_trees T (p ∷ ps) = ap (λ l. slot_tree T p ∷ l) (slot_trees T ps)
 
-slot_trees : (ps : List Slot) → map type_of (map slot_number ps) ≡ map slot_tree ps
-slot_trees [] = refl
-slot_trees (p ∷ ps) = ap (λ (t : TypeTree). t ∷ map type_of (map slot_number ps)) (number_tree_or_ints p.value_type) ∙ ap (λ l. slot_tree p ∷ l) (slot_trees ps)
+types_of_numbers : (T : Table) (items : List TypeId) → map (λ (x : TypeId). tree_named T x.0) items ≡ map (tree_named T) (map (λ (x : TypeId). x.0) items)
+types_of_numbers T [] = refl
+types_of_numbers T (x ∷ items) = ap (λ l. tree_named T x.0 ∷ l) (types_of_numbers T items)
 
-types_of_numbers : (items : List TypeId) → map (λ (x : TypeId). type_of x.0) items ≡ map type_of (map (λ (x : TypeId). x.0) items)
-types_of_numbers [] = refl
-types_of_numbers (x ∷ items) = ap (λ l. type_of x.0 ∷ l) (types_of_numbers items)
-
-pub trees_of : (items : List TypeId) (ps : List Slot) → map (λ (x : TypeId). x.0) items ≡ map slot_number ps → map (λ (x : TypeId). type_of x.0) items ≡ map slot_tree ps
-trees_of items ps is = types_of_numbers items ∙ ap (map type_of) is ∙ slot_trees ps
+pub trees_of : (T : Table) (items : List TypeId) (ps : List Slot) → map (λ (x : TypeId). x.0) items ≡ map (slot_number T) ps → map (λ (x : TypeId). tree_named T x.0) items ≡ map (slot_tree T) ps
+trees_of T items ps is = types_of_numbers T items ∙ ap (map (tree_named T)) is ∙ slot_trees T ps

@@ -14,7 +14,7 @@ use Rattle.typed.specs.declared.operators.BinOp.{BinOp as TypedOp}
 use Rattle.typed.specs.declared.operators.BinOp.TheVariants as op
 use Rattle.typed.specs.Syntax.{Exs, Left, St, Sts, constant as constant_of, unary as unary_of, binary as binary_of, both as both_of, either as either_of, call as call_of, part_of, literal, read, declare, block, choose, loop, break_off, go_on, give_back, none, done, next}
 use Rattle.typed.specs.Form.{ends, ends_all, breaks, breaks_all}
-use Rattle.value_types.specs.declared.value_type.ValueType.TheVariants.{Int, Bool as Truth}
+use Rattle.base.specs.declared.value_type.ValueType.TheVariants.{Int, Bool as Truth, Struct, Array}
 use Rattle.value_types.specs.Given.{both}
 use Rattle.value_types.proofs.Options.{and_then_some, map_some, none_some, same_some}
 use Rattle.operators.specs.Operands.{Operand, constant, value}
@@ -107,6 +107,8 @@ stepped_still : (o : TypedOp) (x : Operand) (t : St) → stepped o x ≡ Some t 
 stepped_still o (constant c) t is = absurd (none_some is)
 stepped_still o (value Int (read q)) t is = ap breaks (sym (same_some is))
 stepped_still o (value Truth e) t is = absurd (none_some is)
+stepped_still o (value (Struct k) e) t is = absurd (none_some is)
+stepped_still o (value (Array n u) e) t is = absurd (none_some is)
 stepped_still o (value Int (constant_of v)) t is = absurd (none_some is)
 stepped_still o (value Int (unary_of g a)) t is = absurd (none_some is)
 stepped_still o (value Int (binary_of at g a b)) t is = absurd (none_some is)

@@ -11,6 +11,7 @@ use Rattle.value_types.proofs.Options.{none_some}
 use Rattle.operators.proofs.Held.{AreHeld}
 use Rattle.names.specs.declared.scope.Declared.TheVariants.{Variable, Constant, Global, Function, External}
 use Rattle.names.specs.declared.scope.Declared.{Declared}
+use Rattle.typed.specs.Tables.{Table}
 use Rattle.names.specs.Scope.{Scope, with_global, with_fixed, beginning}
 use Rattle.package_values.specs.Values.{Item, items_in, given, settled}
 use Rattle.package_values.proofs.Giving.{given_held}
@@ -53,13 +54,13 @@ module _ (text : List ℕ) where
   get_last [] k = refl
   get_last (x ∷ ks) k = get_last ks k
 
-  shown_more : (sites : List Site) (ks : List ℕ) (k : ℕ) (d : Declared) → IsShown [] sites ks d → IsShown [] sites (ks ++ k ∷ []) d
-  shown_more sites ks k (Variable site t) h = h
-  shown_more sites ks k (Global j g) h = get_more ks k g.0 j.0 h
-  shown_more sites ks k d h = tt
+  shown_more : (T : Table) (sites : List Site) (ks : List ℕ) (k : ℕ) (d : Declared) → IsShown T [] sites ks d → IsShown T [] sites (ks ++ k ∷ []) d
+  shown_more T sites ks k (Variable site t) h = h
+  shown_more T sites ks k (Global j g) h = get_more ks k g.0 j.0 h
+  shown_more T sites ks k d h = tt
 
   visible_numbered : (s : Scope) → Visible s [] → Visible (with_global s) []
-  visible_numbered s v = record { bounded = v.bounded; shown = λ name d is. shown_more s.sites s.globals (length s.values) d (v.shown name d is); held = v.held }
+  visible_numbered s v = record { bounded = v.bounded; shown = λ name d is. shown_more s.types s.sites s.globals (length s.values) d (v.shown name d is); held = v.held }
 
   visible_named : (s : Scope) (n : Name) (declares : Bool) → Visible s [] → Visible (numbered_one text s n declares) []
   visible_named s n false v = visible_numbered s v

@@ -8,7 +8,8 @@ use Rattle.std.proofs.lemmas.List.{map-append}
 use Rattle.base.specs.declared.pos.Pos.{Pos}
 use Rattle.syntax.specs.Declarations.{Function as TreeFunction}
 use Rattle.typed.specs.Syntax.{Func}
-use Rattle.typed.specs.View.{basic_types, func_of, global_of}
+use Rattle.typed.specs.Trees.{trees}
+use Rattle.typed.specs.View.{func_of, global_of}
 use Rattle.value_trees.specs.Types.{ValueType as TypeTree}
 use Rattle.typed.specs.declared.program.Func.{Func as FuncData}
 use Rattle.typed.specs.declared.program.PackageVariable.{PackageVariable}
@@ -28,11 +29,11 @@ use Rattle.types_go.proofs.Sites.{PlacesKept, places_more, places_all}
 abbrev pub places_in : List TreeFunction → List Pos
 places_in gs = map (λ g. g.name.pos) gs
 
-abbrev pub views : Option (List FuncData) → Option (List Func)
-views o = option_map (λ l. map (func_of basic_types) l) o
+abbrev pub views : List TypeTree → Option (List FuncData) → Option (List Func)
+views types o = option_map (λ l. map (func_of types) l) o
 
 pub record MembersKept (text : List ℕ) (heads start : Scope) (all rest : List Member) (s : Scope) (i : ℕ) (funcs : Option (List FuncData)) (least : Option Fault) : Type 0 where
-  pub given : functions text heads start 0 all ≡ joined (views funcs) (functions text heads s i rest)
+  pub given : functions text heads start 0 all ≡ joined (views (trees heads.types) funcs) (functions text heads s i rest)
   pub kept : Kept (FailsInFunctions text heads start 0 all) (FailsInFunctions text heads s i rest) least
   pub scope : behind_members text heads start all ≡ behind_members text heads s rest
   pub places : PlacesKept (places_in (functions_of all)) funcs (places_in (functions_of rest))
@@ -42,26 +43,26 @@ pub record MembersKept (text : List ℕ) (heads start : Scope) (all rest : List 
 abbrev pub GlobalsKept : List ℕ → (heads start : Scope) → (all rest : List Member) → Scope → List PackageVariable → Type 0
 GlobalsKept text heads start all rest s gs = (types : List TypeTree) → globals text heads start all ≡ map (global_of types) gs ++ globals text heads s rest
 
-views_more : (funcs : Option (List FuncData)) (f : Option FuncData) → views (with_last funcs f) ≡ with_last (views funcs) (option_map (func_of basic_types) f)
-views_more None f = refl
-views_more (Some fs) None = refl
-views_more (Some fs) (Some f) = ap Some (map-append (func_of basic_types) fs (f ∷ []))
+views_more : (types : List TypeTree) (funcs : Option (List FuncData)) (f : Option FuncData) → views types (with_last funcs f) ≡ with_last (views types funcs) (option_map (func_of types) f)
+views_more types None f = refl
+views_more types (Some fs) None = refl
+views_more types (Some fs) (Some f) = ap Some (map-append (func_of types) fs (f ∷ []))
 
 pub members_start : (text : List ℕ) (heads s : Scope) (all : List Member) → 0 < length s.blocks → MembersKept text heads s all all s 0 (Some []) None
 members_start text heads s all inside = record { given = sym (joined_start (functions text heads s 0 all)); kept = kept_start _; scope = refl; places = refl; inside = inside }
 
 module _ (text : List ℕ) (heads start : Scope) (all : List Member) where
   pub function_more : (g : TreeFunction) (ms : List Member) (s : Scope) (i : ℕ) (funcs : Option (List FuncData)) (f : Option FuncData) (least own : Option Fault)
-      → MembersKept text heads start all (of_function g ∷ ms) s i funcs least → option_map (func_of basic_types) f ≡ function text heads s i g → IsAt g.name.pos f → IsLeast (FailsInFunction text heads s i g) own
+      → MembersKept text heads start all (of_function g ∷ ms) s i funcs least → option_map (func_of (trees heads.types)) f ≡ function text heads s i g → IsAt g.name.pos f → IsLeast (FailsInFunction text heads s i g) own
       → MembersKept text heads start all ms (behind_function text heads s g) (i + 1) (with_last funcs f) (lesser least own)
   function_more g ms s i funcs f least own k found at fails =
       let s1 = behind_function text heads s g in
       let next1 : 1 + i ≡ i + 1 = omega arith in
       let depth : length s1.blocks ≡ length s.blocks = ap length (keeps_function text heads s g).blocks in
-      let given1 : functions text heads start 0 all ≡ joined (views (with_last funcs f)) (functions text heads s1 (1 + i) ms) =
-      k.given ∙ joined_more (views funcs) (function text heads s i g) (functions text heads s1 (1 + i) ms) ∙ ap (λ o. joined (with_last (views funcs) o) (functions text heads s1 (1 + i) ms)) (sym found) ∙ ap (λ o. joined o (functions text heads s1 (1 + i) ms)) (sym (views_more funcs f)) in
+      let given1 : functions text heads start 0 all ≡ joined (views (trees heads.types) (with_last funcs f)) (functions text heads s1 (1 + i) ms) =
+      k.given ∙ joined_more (views (trees heads.types) funcs) (function text heads s i g) (functions text heads s1 (1 + i) ms) ∙ ap (λ o. joined (with_last (views (trees heads.types) funcs) o) (functions text heads s1 (1 + i) ms)) (sym found) ∙ ap (λ o. joined o (functions text heads s1 (1 + i) ms)) (sym (views_more (trees heads.types) funcs f)) in
       record {
-        given = subst (λ j. functions text heads start 0 all ≡ joined (views (with_last funcs f)) (functions text heads s1 j ms)) next1 given1;
+        given = subst (λ j. functions text heads start 0 all ≡ joined (views (trees heads.types) (with_last funcs f)) (functions text heads s1 j ms)) next1 given1;
         kept = subst (λ j. Kept (FailsInFunctions text heads start 0 all) (FailsInFunctions text heads s1 j ms) (lesser least own)) next1
             (kept_more (FailsInFunctions text heads start 0 all) (FailsInFunction text heads s i g) (FailsInFunctions text heads s1 (1 + i) ms) least own k.kept fails);
         scope = k.scope;
@@ -84,13 +85,13 @@ module _ (text : List ℕ) (heads start : Scope) (all : List Member) where
   pub globals_all : (s : Scope) (gs : List PackageVariable) → GlobalsKept text heads start all [] s gs → (types : List TypeTree) → map (global_of types) gs ≡ globals text heads start all
   globals_all s gs k types = sym (k types ∙ append-nil (map (global_of types) gs))
 
-  views_of : (funcs : Option (Vec FuncData)) → option_map (λ (v : Vec FuncData). map (func_of basic_types) v.items) funcs ≡ views (option_map (λ (v : Vec FuncData). v.items) funcs)
+  views_of : (funcs : Option (Vec FuncData)) → option_map (λ (v : Vec FuncData). map (func_of (trees heads.types)) v.items) funcs ≡ views (trees heads.types) (option_map (λ (v : Vec FuncData). v.items) funcs)
   views_of None = refl
   views_of (Some v) = refl
 
   pub functions_all : (s : Scope) (i : ℕ) (funcs : Option (Vec FuncData)) (least : Option Fault) → MembersKept text heads start all [] s i (option_map (λ (v : Vec FuncData). v.items) funcs) least
-      → option_map (λ (v : Vec FuncData). map (func_of basic_types) v.items) funcs ≡ functions text heads start 0 all
-  functions_all s i funcs least k = views_of funcs ∙ sym (k.given ∙ joined_none (views (option_map (λ (v : Vec FuncData). v.items) funcs)))
+      → option_map (λ (v : Vec FuncData). map (func_of (trees heads.types)) v.items) funcs ≡ functions text heads start 0 all
+  functions_all s i funcs least k = views_of funcs ∙ sym (k.given ∙ joined_none (views (trees heads.types) (option_map (λ (v : Vec FuncData). v.items) funcs)))
 
   pub fault_all : (s : Scope) (i : ℕ) (funcs : Option (List FuncData)) (least : Option Fault) → MembersKept text heads start all [] s i funcs least → IsLeast (FailsInFunctions text heads start 0 all) least
   fault_all s i funcs least k = kept_end (FailsInFunctions text heads start 0 all) (FailsInFunctions text heads s i []) least (λ g h. h) k.kept

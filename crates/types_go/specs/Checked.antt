@@ -3,7 +3,9 @@ use Rattle.std.specs.Prelude.{◌≡◌, ℕ, List, map, Some, Result, Ok, Err}
 use Rattle.base.specs.declared.pos.Pos.{Pos}
 use Rattle.syntax.specs.Declarations.{Syntax}
 use Rattle.typed.specs.Syntax.{Func, Program}
-use Rattle.typed.specs.View.{basic_types, site_types, program_of}
+use Rattle.typed.specs.Trees.{trees}
+use Rattle.typed.specs.View.{site_types, program_of}
+use Rattle.value_trees.specs.Types.{ValueType as TypeTree}
 use Rattle.typed.specs.declared.program.Site.{Site}
 use Rattle.typed.specs.declared.program.Program.{Program as ProgramData}
 use Rattle.value_trees.specs.Value.{Value}
@@ -34,9 +36,13 @@ strings_in t = (behind_members t.text (heads_of t) (package_scope t) (members t)
 abbrev pub globals_in : Syntax → List (ℕ × Value)
 globals_in t = globals t.text (heads_of t) (package_scope t) (members t)
 
+-- its types, by their numbers
+abbrev pub types_in : Syntax → List TypeTree
+types_in t = trees (heads_of t).types
+
 -- the program of these functions with this one as `main`
 abbrev pub program_with : Syntax → List Func → ℕ → Program
-program_with t funcs main = record { funcs = funcs; types = basic_types; sites = site_types basic_types (sites_in t); strings = strings_in t; globals = globals_in t; main = main }
+program_with t funcs main = record { funcs = funcs; types = types_in t; sites = site_types (types_in t) (sites_in t); strings = strings_in t; globals = globals_in t; main = main }
 
 -- the rules give a tree this typed program
 pub record Types (t : Syntax) (p : Program) : Type 0 where

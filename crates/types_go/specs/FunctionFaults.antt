@@ -33,7 +33,7 @@ module _ (text : List ℕ) where
 
 module _ (text : List ℕ) (heads : Scope) where
   abbrev pub FailsInTypes : TreeFunction → Fault → Type 0
-  FailsInTypes g f = (TypesFail text heads (params_of g.params) f ⊎ TypesFail text heads (params_of g.results) f) ⊎ IsFault (size_fault (signature_in text heads g) g.name.pos) f
+  FailsInTypes g f = (TypesFail text heads (params_of g.params) f ⊎ TypesFail text heads (params_of g.results) f) ⊎ IsFault (size_fault heads.types (signature_in text heads g) g.name.pos) f
 
   abbrev pub FailsInParts : Scope → TreeFunction → Body → Fault → Type 0
   FailsInParts s g b f =

@@ -6,19 +6,21 @@ use Rattle.syntax.specs.Expressions.{Ex as TreeEx, spelled}
 use Rattle.syntax.specs.Declarations.{named, Body, Function as TreeFunction, Declaration, constants, variables, types, Syntax}
 use Rattle.syntax.specs.Declarations as tree
 use Rattle.typed.specs.Syntax.{Sts, Func}
-use Rattle.value_trees.specs.Types.{ValueType as TypeTree, ints}
+use Rattle.typed.specs.Tables.{Table}
+use Rattle.typed.specs.Trees.{tree_named}
+use Rattle.value_trees.specs.Types.{ValueType as TypeTree}
 use Rattle.value_trees.specs.Value.{Value, int, bool}
 use Rattle.value_types.specs.declared.constant.Constant.{Constant}
 use Rattle.value_types.specs.declared.constant.Constant.TheVariants.{Number, Truth}
 use Rattle.value_types.specs.declared.constant.Fixed.{Fixed}
-use Rattle.value_types.specs.declared.value_type.ValueType.{ValueType}
-use Rattle.value_types.specs.declared.value_type.ValueType.TheVariants.{Int, Bool as Boolean}
+use Rattle.base.specs.declared.value_type.ValueType.{ValueType}
+use Rattle.base.specs.declared.value_type.ValueType.TheVariants.{Int, Bool as Boolean}
 use Rattle.value_types.specs.Constants.{is_int}
 use Rattle.value_types.specs.Given.{allowed}
 use Rattle.names.specs.declared.scope.Declared.{Declared}
 use Rattle.names.specs.declared.scope.Declared.TheVariants.{Function}
 use Rattle.names.specs.Universe.{is_blank, is_main}
-use Rattle.names.specs.Scope.{Scope, type_number, type_tree, declaration, fixed, with_site, opened, closed, beginning}
+use Rattle.names.specs.Scope.{Scope, type_number, declaration, fixed, with_site, opened, closed, beginning}
 use Rattle.expression_types.specs.Typing.{known_type, gives}
 use Rattle.package_values.specs.declared.items.Role.TheVariants as role
 use Rattle.package_values.specs.Values.{Item, items_in_specs, items_in, constant_in, settled}
@@ -38,21 +40,17 @@ abbrev pub is_plain : Option TreeFunction → Bool
 is_plain None = false
 is_plain (Some f) = (length (params_of f.params) == 0) && (length (params_of f.results) == 0)
 
--- the number of a type, where that is known
-abbrev pub number_or_int : Option ValueType → ℕ
-number_or_int None = 0
-number_or_int (Some t) = type_number t
+-- the number of a type in a table, where the type is known
+abbrev pub number_or_int : Table → Option ValueType → ℕ
+number_or_int T None = 0
+number_or_int T (Some t) = type_number T t
 
-abbrev pub slot_number : Slot → ℕ
-slot_number p = number_or_int p.value_type
+abbrev pub slot_number : Table → Slot → ℕ
+slot_number T p = number_or_int T p.value_type
 
 -- the same type as those of values are given
-abbrev pub tree_or_ints : Option ValueType → TypeTree
-tree_or_ints None = ints
-tree_or_ints (Some t) = type_tree t
-
-abbrev pub slot_tree : Slot → TypeTree
-slot_tree p = tree_or_ints p.value_type
+abbrev pub slot_tree : Table → Slot → TypeTree
+slot_tree T p = tree_named T (slot_number T p)
 
 module _ (text : List ℕ) where
   -- the name and the number of a function, in the package block
@@ -80,7 +78,7 @@ abbrev pub type_or_int : Option Fixed → ValueType
 type_or_int None = Int
 type_or_int (Some f) = known_type f
 
--- what a variable of a type begins with: the constant that its value gives, or else the zero value
+-- what an int or a truth value begins with: the constant that its value gives, or else the zero value; variables of other types are refused
 abbrev pub int_in : Constant → ℤ
 int_in (Number z) = if is_int z then z else pos 0
 int_in (Truth b) = pos 0
@@ -94,6 +92,7 @@ first_value Int None = int (pos 0)
 first_value Int (Some f) = int (int_in f.value)
 first_value Boolean None = bool false
 first_value Boolean (Some f) = bool (truth_in f.value)
+first_value t f = int (pos 0)
 
 module _ (text : List ℕ) where
   -- with a name a variable has a site
@@ -168,8 +167,8 @@ module _ (text : List ℕ) (heads : Scope) where
     first = length s.sites;
     count = length (behind_body s f (Some b)).sites - length s.sites;
     params = params;
-    param_types = map slot_tree (slots_of text heads f.params);
-    results = map slot_tree (slots_of text heads f.results);
+    param_types = map (slot_tree heads.types) (slots_of text heads f.params);
+    results = map (slot_tree heads.types) (slots_of text heads f.results);
     named = sites_of results;
     body = body;
   }
@@ -190,7 +189,7 @@ module _ (text : List ℕ) (heads : Scope) where
   -- its head, its types and their words, its parts, and the end of its body; without a body it has no typed form
   abbrev pub function_with : Scope → ℕ → TreeFunction → Option Body → Option Func
   function_with s i f None = None
-  function_with s i f (Some b) = allowed (function_head text s i f) (allowed (is_small (signature_in text heads f)) (allowed (may_end s f b) (parts s f b)))
+  function_with s i f (Some b) = allowed (function_head text s i f) (allowed (is_small heads.types (signature_in text heads f)) (allowed (may_end s f b) (parts s f b)))
 
   abbrev pub function : Scope → ℕ → TreeFunction → Option Func
   function s i f = function_with s i f f.body

@@ -3,6 +3,7 @@ use Rattle.std.specs.Prelude.{◌≡◌, ⊤, ◌-◌, ℕ, List, [], ◌∷◌,
 use Rattle.std.specs.Option.{option_map}
 use Rattle.base.specs.declared.pos.Pos.{Pos}
 use Rattle.typed.specs.Syntax.{Sts, Func}
+use Rattle.typed.specs.Tables.{Table}
 use Rattle.typed.specs.View.{ex_of, left_of, test_of, st_of, sts_of}
 use Rattle.typed.specs.declared.program.Func.{Func as FuncData}
 use Rattle.signatures.specs.declared.slots.Slot.{Slot}
@@ -29,15 +30,15 @@ abbrev pub head_view : HeadData → Head
 head_view (Repeated init test post) = repeated (option_map st_of init) (test_of test) (sts_of post.items)
 head_view (Counted e key) = counted (ex_of e) (left_of key)
 
--- a function of its parts, with the sites from one number on up to another
-abbrev pub assembled : (params results : List Slot) → (first behind : ℕ) → Option (List (Option ℕ)) → Option (List (Option ℕ)) → Option Sts → Option Func
-assembled param_slots result_slots first behind ps rs body =
+-- a function of its parts in a table of types, with the sites from one number on up to another
+abbrev pub assembled : Table → (params results : List Slot) → (first behind : ℕ) → Option (List (Option ℕ)) → Option (List (Option ℕ)) → Option Sts → Option Func
+assembled T param_slots result_slots first behind ps rs body =
     option_and_then (λ params. option_and_then (λ results. option_map (λ b. record {
       first = first;
       count = behind - first;
       params = params;
-      param_types = map slot_tree param_slots;
-      results = map slot_tree result_slots;
+      param_types = map (slot_tree T) param_slots;
+      results = map (slot_tree T) result_slots;
       named = sites_of results;
       body = b;
     }) body) rs) ps

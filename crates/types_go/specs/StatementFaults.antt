@@ -11,9 +11,9 @@ use Rattle.syntax.specs.Statements as tree
 use Rattle.typed.specs.Syntax.{Ex, Left, blank}
 use Rattle.value_types.specs.declared.fault.Fault.{Fault}
 use Rattle.value_types.specs.declared.fault.FaultKind.TheVariants.{NothingNew, Mismatch, ArgCount, BadOperand, BreakOutside}
-use Rattle.value_types.specs.declared.value_type.ValueType.{ValueType}
-use Rattle.value_types.specs.declared.value_type.ValueType.TheVariants.{Int}
-use Rattle.value_types.specs.Constants.{same_type}
+use Rattle.base.specs.declared.value_type.ValueType.{ValueType}
+use Rattle.base.specs.declared.value_type.ValueType.TheVariants.{Int}
+use Rattle.base.specs.Types.{same_type}
 use Rattle.value_types.specs.Faults.{fault, IsFault, FormFails}
 use Rattle.operators.specs.Operands.{Operand, type_of}
 use Rattle.names.specs.Universe.{is_blank}

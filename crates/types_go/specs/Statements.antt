@@ -7,10 +7,10 @@ use Rattle.syntax.specs.Expressions.{Ex as TreeEx, spelled}
 use Rattle.syntax.specs.Statements.{Simple, Guard, Targets, no_targets, targets_assigned, targets_defined, Clause, forever, while_true, counting, ranging, Stm, Stms, Els}
 use Rattle.syntax.specs.Statements as tree
 use Rattle.typed.specs.Syntax.{Ex, Left, St, Sts, blank, new, to, over_int, assign, block, choose, loop, range, break_off, go_on, done, next}
-use Rattle.value_types.specs.declared.value_type.ValueType.{ValueType}
-use Rattle.value_types.specs.declared.value_type.ValueType.TheVariants.{Int}
+use Rattle.base.specs.declared.value_type.ValueType.{ValueType}
+use Rattle.base.specs.declared.value_type.ValueType.TheVariants.{Int}
 use Rattle.value_types.specs.Given.{allowed}
-use Rattle.value_types.specs.Constants.{same_type}
+use Rattle.base.specs.Types.{same_type}
 use Rattle.operators.specs.Operands.{Operand, type_of, as_value}
 use Rattle.names.specs.Universe.{is_blank}
 use Rattle.names.specs.Scope.{Scope, opened, closed}

@@ -4,9 +4,10 @@ ghost use Rattle.std.specs.Prelude.{◌≡◌, ◌⊎◌, ℕ, List, Option, Som
 ghost use Rattle.std.specs.Option.{option_map};
 ghost use Rattle.syntax.specs.Expressions.{spelled};
 ghost use Rattle.syntax.specs.Declarations.{function as function_item, function_of, declaration_of, declarations_of, syntax_of};
-ghost use Rattle.typed.specs.View.{basic_types, func_of, global_of, program_of};
+ghost use Rattle.typed.specs.View.{func_of, global_of, program_of};
 ghost use Rattle.typed.specs.Form.{IsInForm};
 ghost use Rattle.typed.specs.Syntax.{Program as ProgramOf};
+ghost use Rattle.typed.specs.Trees.{trees};
 ghost use Rattle.value_trees.specs.Types.{ValueType as TypeTree};
 ghost use Rattle.value_types.specs.Least.{IsLeast};
 ghost use Rattle.value_types.specs.Faults.{fault as fault_at, IsFault, FormFails};
@@ -20,7 +21,7 @@ ghost use Rattle.types_go.specs.Functions.{number_of, is_plain, plain_number, fu
 ghost use Rattle.signatures.specs.Failing.{fault_where};
 ghost use Rattle.types_go.specs.FunctionFaults.{init_fault, external_name_fault, DeclarationFails, DeclarationsFail, FailsIn, first_byte};
 ghost use Rattle.types_go.specs.Passing.{AreAt};
-ghost use Rattle.types_go.specs.Checked.{Types, Reports, OnlyProgram, sites_in, strings_in, globals_in, function_places};
+ghost use Rattle.types_go.specs.Checked.{Types, Reports, OnlyProgram, sites_in, types_in, strings_in, globals_in, function_places};
 
 use crate::functions::check_members;
 use crate::members::members_in;
@@ -258,19 +259,20 @@ fn package_block(
 ) -> Result<Scope, NoMemory>
     ensures { IfOk result (λ s. scope_of s ≡ settled text.now (with_items text.now (scope_of heads.now) beginning (declarations_of decls.now)) (items_in (declarations_of decls.now))) }
 {
-    let mut scope = beginning(alloc);
+    let mut scope = beginning(alloc)?;
     add_items(alloc, text, heads, &mut scope, decls)?;
     settle(alloc, text, &mut scope, decls)?;
     Ok(scope)
 }
 
-/// What the pass over a tree finds: the number of `main`, the typed functions, where all have a typed form, the sites, the strings,
+/// What the pass over a tree finds: the number of `main`, the typed functions, where all have a typed form, the sites, the types, the strings,
 /// the package variables with a name, and the fault.
 #[derive(Drop)]
 struct Passed {
     main: Option<FuncId>,
     funcs: Option<Vec<typed::Func>>,
     sites: Vec<Site>,
+    types: TypeTable,
     strings: Vec<Vec<u8>>,
     globals: Vec<PackageVariable>,
     fault: Option<Fault>,
@@ -279,8 +281,9 @@ struct Passed {
 /// The pass over a tree.
 fn pass(alloc: Global, tree: &Tree) -> Result<Passed, NoMemory>
     ensures main { IfOk result (λ r. option_map (λ f. f.0) r.main ≡ main_number (syntax_of tree.now)) }
-    ensures funcs { IfOk result (λ r. option_map (λ v. map (func_of basic_types) v.items) r.funcs ≡ functions (syntax_of tree.now).text (heads_of (syntax_of tree.now)) (package_scope (syntax_of tree.now)) 0 (members (syntax_of tree.now))) }
+    ensures funcs { IfOk result (λ r. option_map (λ v. map (func_of (types_in (syntax_of tree.now))) v.items) r.funcs ≡ functions (syntax_of tree.now).text (heads_of (syntax_of tree.now)) (package_scope (syntax_of tree.now)) 0 (members (syntax_of tree.now))) }
     ensures sites { IfOk result (λ r. r.sites.items ≡ sites_in (syntax_of tree.now)) }
+    ensures types { IfOk result (λ r. trees r.types ≡ types_in (syntax_of tree.now)) }
     ensures strings { IfOk result (λ r. map (λ string. string.items) r.strings.items ≡ strings_in (syntax_of tree.now)) }
     ensures globals { IfOk result (λ r. (types : List TypeTree) → map (global_of types) r.globals.items ≡ globals_in (syntax_of tree.now)) }
     ensures places { IfOk result (λ r. AreAt (function_places (syntax_of tree.now)) (option_map (λ v. v.items) r.funcs)) }
@@ -288,7 +291,7 @@ fn pass(alloc: Global, tree: &Tree) -> Result<Passed, NoMemory>
 {
     let text: &[u8] = &tree.text;
     let decls: &[Decl] = &tree.decls;
-    let mut heads = beginning(alloc);
+    let mut heads = beginning(alloc)?;
     add_heads(text, &mut heads, decls)?;
     let mut scope = package_block(alloc, text, &heads, decls)?;
     let main = main_number(alloc, text, &heads, &scope, tree.package, decls)?;
@@ -301,6 +304,7 @@ fn pass(alloc: Global, tree: &Tree) -> Result<Passed, NoMemory>
         main,
         funcs: checked.funcs,
         sites: scope.sites,
+        types: heads.types,
         strings: scope.strings,
         globals: checked.globals,
         fault: lesser(main_fault, others),
@@ -327,6 +331,7 @@ pub fn check(alloc: Global, tree: &Tree) -> Result<Program, TypeFault>
         main,
         funcs,
         sites,
+        types,
         strings,
         globals,
         fault,
@@ -336,7 +341,6 @@ pub fn check(alloc: Global, tree: &Tree) -> Result<Program, TypeFault>
         None => {
             let Some(main) = main else { unreachable!() };
             let Some(funcs) = funcs else { unreachable!() };
-            let types = TypeTable::new(alloc, 0)?;
             Ok(Program {
                 funcs,
                 main,

@@ -6,7 +6,9 @@ ghost use Rattle.std.specs.Str.{bytes_eq};
 ghost use Rattle.base.specs.declared.pos.Pos.{Pos as Place};
 ghost use Rattle.syntax.specs.Expressions.{ex_of, spelled};
 ghost use Rattle.syntax.specs.Declarations.{parameters_of, body_of, function_of};
-ghost use Rattle.typed.specs.View.{basic_types, type_of, site_in, func_of, sts_of, value_of, global_of};
+ghost use Rattle.typed.specs.View.{site_in, func_of, sts_of, value_of, global_of};
+ghost use Rattle.typed.specs.Syntax.{type_in};
+ghost use Rattle.typed.specs.Trees.{trees};
 ghost use Rattle.value_trees.specs.Types.{ValueType as TypeTree};
 ghost use Rattle.value_types.specs.Least.{IsLeast};
 ghost use Rattle.value_types.specs.Given.{allowed};
@@ -26,7 +28,7 @@ ghost use Rattle.types_go.specs.FunctionFaults.{FailsInHead, FailsInTypes, Fails
 
 use crate::blocks::check_stmts;
 use crate::members::Member;
-use base::{NoMemory, Pos, SiteId, TypeId};
+use base::{NoMemory, Pos, SiteId, TypeId, ValueType};
 use expression_types::check_expr;
 use names::{
     Scope, ValueId, add_site, close, declaration, fixed, is_blank, next_site, open, site_count,
@@ -41,10 +43,8 @@ use simple_statements::Returns;
 use std::alloc::Global;
 use syntax::{Body, Expr, Func, Name, Params};
 use terminating::ends_in_terminating;
-use typed::{Const, INT, PackageVariable};
-use value_types::{
-    Constant, Fault, FaultKind, Fixed, ValueType, constant_type, int_constant, lesser,
-};
+use typed::{Const, INT, PackageVariable, TypeTable};
+use value_types::{Constant, Fault, FaultKind, Fixed, constant_type, int_constant, lesser};
 
 /// What is known of a part of a function: whether it is as it must be, and the fault.
 #[derive(Clone, Copy, Debug, PartialEq, Eq)]
@@ -130,39 +130,39 @@ fn check_head(text: &[u8], scope: &Scope, number: usize, f: &Func) -> Part
 
 /// The types of a function's parameters and results, and their words.
 fn check_types(alloc: Global, text: &[u8], heads: &Scope, f: &Func) -> Result<Part, NoMemory>
-    ensures is_allowed { IfOk result (λ p. p.is_allowed ≡ is_small (signature_in text.now (scope_of heads.now) (function_of f.now))) }
+    ensures is_allowed { IfOk result (λ p. p.is_allowed ≡ is_small (scope_of heads.now).types (signature_in text.now (scope_of heads.now) (function_of f.now))) }
     ensures fault { IfOk result (λ p. IsLeast (FailsInTypes text.now (scope_of heads.now) (function_of f.now)) p.fault) }
 {
     let params_fault = types_fault(text, heads, &f.params);
     let results_fault = types_fault(text, heads, &f.results);
     let signature = signature_in(alloc, text, heads, f)?;
-    let own = size_fault(&signature, f.name.pos);
+    let own = size_fault(&heads.types, &signature, f.name.pos);
     Ok(Part {
-        is_allowed: is_small(&signature),
+        is_allowed: is_small(&heads.types, &signature),
         fault: lesser(lesser(params_fault, results_fault), own),
     })
 }
 
 /// The number of a type, where that is known.
-fn number_or_int(value_type: Option<ValueType>) -> TypeId
-    ensures { result.0 ≡ number_or_int value_type }
+fn number_or_int(types: &TypeTable, value_type: Option<ValueType>) -> TypeId
+    ensures { result.0 ≡ number_or_int types.now value_type }
 {
     match value_type {
-        Some(value_type) => type_id(value_type),
+        Some(value_type) => type_id(types, value_type),
         None => INT,
     }
 }
 
 /// The numbers of the types of parameters or results.
-fn type_numbers(alloc: Global, slots: &[Slot]) -> Result<Vec<TypeId>, NoMemory>
-    ensures numbers { IfOk result (λ v. map (λ t. t.0) v.items ≡ map slot_number slots.now) }
-    ensures trees { IfOk result (λ v. map (λ t. type_of t.0) v.items ≡ map slot_tree slots.now) }
+fn type_numbers(alloc: Global, types: &TypeTable, slots: &[Slot]) -> Result<Vec<TypeId>, NoMemory>
+    ensures numbers { IfOk result (λ v. map (λ t. t.0) v.items ≡ map (slot_number types.now) slots.now) }
+    ensures trees { IfOk result (λ v. map (λ t. type_in (trees types.now) t.0) v.items ≡ map (slot_tree types.now) slots.now) }
 {
-    let mut types = Vec::new(alloc);
+    let mut numbers = Vec::new(alloc);
     for slot in slots {
-        types.push(number_or_int(slot.value_type))?;
+        numbers.push(number_or_int(types, slot.value_type))?;
     }
-    Ok(types)
+    Ok(numbers)
 }
 
 fn number_of(count: usize) -> Result<u32, NoMemory>
@@ -177,6 +177,7 @@ fn number_of(count: usize) -> Result<u32, NoMemory>
 /// A function with a name at a place of its parts, with sites from one number on and before another.
 fn assemble(
     alloc: Global,
+    types: &TypeTable,
     pos: Pos,
     param_slots: &[Slot],
     result_slots: &[Slot],
@@ -186,7 +187,7 @@ fn assemble(
     results: Option<Vec<Option<SiteId>>>,
     body: Option<Vec<typed::Stmt>>,
 ) -> Result<Option<typed::Func>, NoMemory>
-    ensures func { IfOk result (λ r. option_map (func_of basic_types) r ≡ assembled param_slots.now result_slots.now first behind (option_map (λ v. map site_in v.items) params) (option_map (λ v. map site_in v.items) results) (option_map (λ v. sts_of v.items) body)) }
+    ensures func { IfOk result (λ r. option_map (func_of (trees types.now)) r ≡ assembled types.now param_slots.now result_slots.now first behind (option_map (λ v. map site_in v.items) params) (option_map (λ v. map site_in v.items) results) (option_map (λ v. sts_of v.items) body)) }
     ensures pos { IfOk result (λ r. IsAt pos r) }
 {
     match (params, results, body) {
@@ -194,8 +195,8 @@ fn assemble(
             let first_site = number_of(first)?;
             let sites = number_of(behind.saturating_sub(first))?;
             let named = sites_of(alloc, &results)?;
-            let param_types = type_numbers(alloc, param_slots)?;
-            let results = type_numbers(alloc, result_slots)?;
+            let param_types = type_numbers(alloc, types, param_slots)?;
+            let results = type_numbers(alloc, types, result_slots)?;
             Ok(Some(typed::Func {
                 pos,
                 first_site,
@@ -221,7 +222,7 @@ fn check_parts(
     body: &Body,
 ) -> Result<Function, NoMemory>
     requires { 0 < length scope.old.names }
-    ensures func { IfOk result (λ r. option_map (func_of basic_types) r.func ≡ parts text.now (scope_of heads.now) (scope_of scope.old) (function_of f.now) (body_of body.now)) }
+    ensures func { IfOk result (λ r. option_map (func_of (trees (scope_of heads.now).types)) r.func ≡ parts text.now (scope_of heads.now) (scope_of scope.old) (function_of f.now) (body_of body.now)) }
     ensures pos { IfOk result (λ r. IsAt f.now.name.pos r.func) }
     ensures fault { IfOk result (λ r. IsLeast (FailsInParts text.now (scope_of heads.now) (scope_of scope.old) (function_of f.now) (body_of body.now)) r.fault) }
     ensures scope { OnOk result (scope_of scope.new ≡ behind_body text.now (scope_of heads.now) (scope_of scope.old) (function_of f.now) (Some (body_of body.now))) }
@@ -238,6 +239,7 @@ fn check_parts(
     let fault = lesser(lesser(params.fault, results.fault), lines.fault);
     let func = assemble(
         alloc,
+        &heads.types,
         f.name.pos,
         &param_slots,
         &result_slots,
@@ -251,7 +253,7 @@ fn check_parts(
 }
 
 fn func_where(head: bool, types: bool, end: bool, func: Option<typed::Func>) -> Option<typed::Func>
-    ensures func { option_map (func_of basic_types) result ≡ allowed head (allowed types (allowed end (option_map (func_of basic_types) func))) }
+    ensures func { (all : List TypeTree) → option_map (func_of all) result ≡ allowed head (allowed types (allowed end (option_map (func_of all) func))) }
     ensures pos { (p : Place) → IsAt p func → IsAt p result }
 {
     if head && types && end { func } else { None }
@@ -268,7 +270,7 @@ fn check_with_body(
     body: &Body,
 ) -> Result<Function, NoMemory>
     requires { 0 < length scope.old.names }
-    ensures func { IfOk result (λ r. option_map (func_of basic_types) r.func ≡ function_with text.now (scope_of heads.now) (scope_of scope.old) number (function_of f.now) (Some (body_of body.now))) }
+    ensures func { IfOk result (λ r. option_map (func_of (trees (scope_of heads.now).types)) r.func ≡ function_with text.now (scope_of heads.now) (scope_of scope.old) number (function_of f.now) (Some (body_of body.now))) }
     ensures pos { IfOk result (λ r. IsAt f.now.name.pos r.func) }
     ensures fault { IfOk result (λ r. IsLeast (FailsWith text.now (scope_of heads.now) (scope_of scope.old) number (function_of f.now) (Some (body_of body.now))) r.fault) }
     ensures scope { OnOk result (scope_of scope.new ≡ behind_body text.now (scope_of heads.now) (scope_of scope.old) (function_of f.now) (Some (body_of body.now))) }
@@ -301,7 +303,7 @@ fn external_fault(f: &Func) -> Fault
 
 /// A function without a body, by its number.
 fn check_external(text: &[u8], scope: &Scope, number: usize, f: &Func) -> Function
-    ensures func { option_map (func_of basic_types) result.func ≡ None }
+    ensures func { (all : List TypeTree) → option_map (func_of all) result.func ≡ None }
     ensures pos { (p : Place) → IsAt p result.func }
     ensures fault { IsLeast (λ g. FailsInHead text.now (scope_of scope.now) number (function_of f.now) g ⊎ (g ≡ external_fault (function_of f.now))) result.fault }
 {
@@ -322,7 +324,7 @@ fn check_function(
     f: &Func,
 ) -> Result<Function, NoMemory>
     requires { 0 < length scope.old.names }
-    ensures func { IfOk result (λ r. option_map (func_of basic_types) r.func ≡ function text.now (scope_of heads.now) (scope_of scope.old) number (function_of f.now)) }
+    ensures func { IfOk result (λ r. option_map (func_of (trees (scope_of heads.now).types)) r.func ≡ function text.now (scope_of heads.now) (scope_of scope.old) number (function_of f.now)) }
     ensures pos { IfOk result (λ r. IsAt f.now.name.pos r.func) }
     ensures fault { IfOk result (λ r. IsLeast (FailsInFunction text.now (scope_of heads.now) (scope_of scope.old) number (function_of f.now)) r.fault) }
     ensures scope { OnOk result (scope_of scope.new ≡ behind_function text.now (scope_of heads.now) (scope_of scope.old) (function_of f.now)) }
@@ -379,7 +381,7 @@ fn truth_in(constant: Constant) -> bool
     }
 }
 
-/// What a variable of a type begins with: the constant that its value gives, or else the zero value.
+/// What an int or a truth value begins with: the constant that its value gives, or else the zero value. Variables of other types are refused.
 fn first_value(value_type: ValueType, initial: Option<Fixed>) -> Const
     ensures { value_of result ≡ first_value value_type initial }
 {
@@ -388,6 +390,7 @@ fn first_value(value_type: ValueType, initial: Option<Fixed>) -> Const
         (ValueType::Int, Some(fixed)) => Const::Int(int_in(fixed.value)),
         (ValueType::Bool, None) => Const::Bool(false),
         (ValueType::Bool, Some(fixed)) => Const::Bool(truth_in(fixed.value)),
+        _ => Const::Int(0),
     }
 }
 
@@ -459,7 +462,7 @@ pub fn check_members(
     members: &[Member],
 ) -> Result<Members, NoMemory>
     requires { 0 < length scope.old.names }
-    ensures funcs { IfOk result (λ r. option_map (λ v. map (func_of basic_types) v.items) r.funcs ≡ functions text.now (scope_of heads.now) (scope_of scope.old) 0 (member_views members.now)) }
+    ensures funcs { IfOk result (λ r. option_map (λ v. map (func_of (trees (scope_of heads.now).types)) v.items) r.funcs ≡ functions text.now (scope_of heads.now) (scope_of scope.old) 0 (member_views members.now)) }
     ensures globals { IfOk result (λ r. (types : List TypeTree) → map (global_of types) r.globals.items ≡ globals text.now (scope_of heads.now) (scope_of scope.old) (member_views members.now)) }
     ensures places { IfOk result (λ r. AreAt (map (λ f. f.name.pos) (functions_of (member_views members.now))) (option_map (λ v. v.items) r.funcs)) }
     ensures fault { IfOk result (λ r. IsLeast (FailsInFunctions text.now (scope_of heads.now) (scope_of scope.old) 0 (member_views members.now)) r.fault) }

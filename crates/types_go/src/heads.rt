@@ -20,7 +20,7 @@ ghost use Rattle.types_go.specs.Statements.{alone, key_of, range_head, as_int, n
 ghost use Rattle.types_go.specs.StatementFaults.{over_fault, given_fault, keys_fault, key_count, name_count, target_count, FailsInInit, PostFails, FailsInPost, FailsInOver, GivenFail, TargetsFail, FailsInRange, FailsInClause, FailsInGuard};
 ghost use Rattle.types_go.specs.Passing.{choice_view, head_view};
 
-use base::{NoMemory, Pos};
+use base::{NoMemory, Pos, ValueType, same_type};
 use expression_types::{Condition, Test, accepts, check_condition, check_single, check_test};
 use names::{Scope, is_blank, name_in, open, spelled};
 use operators::{Operand, as_value, type_of};
@@ -29,7 +29,7 @@ use simple_statements::{Line, all_wanted, check_lefts, check_simple, left_out, n
 use std::alloc::Global;
 use syntax::{Clause, Expr, Guard, Name, Simple, Targets};
 use typed::Left;
-use value_types::{Fault, FaultKind, ValueType, constant_range_fault, lesser, same_type};
+use value_types::{Fault, FaultKind, constant_range_fault, lesser};
 
 /// The header of an `if`: its init statement, where it has one, and its condition.
 #[derive(Drop)]

@@ -1,15 +1,10 @@
--- The types of values, and constants with their types (Go specification, "Constants", "Representability").
+-- Constants with their types (Go specification, "Constants", "Representability").
 use Rattle.std.specs.Prelude.{◌-◌, ◌^◌, ℤ, pos, negsuc, Bool, true, false, ◌&&◌, Option, Some, None, int_le, int_lt}
 use Rattle.value_types.specs.declared.constant.Constant.{Constant}
 use Rattle.value_types.specs.declared.constant.Constant.TheVariants.{Number, Truth}
 use Rattle.value_types.specs.declared.constant.Fixed.{Fixed}
-use Rattle.value_types.specs.declared.value_type.ValueType.{ValueType}
-use Rattle.value_types.specs.declared.value_type.ValueType.TheVariants.{Int, Bool as Boolean}
-
-abbrev pub same_type : ValueType → ValueType → Bool
-same_type Int Int = true
-same_type Boolean Boolean = true
-same_type s t = false
+use Rattle.base.specs.declared.value_type.ValueType.{ValueType}
+use Rattle.base.specs.declared.value_type.ValueType.TheVariants.{Int, Bool as Boolean}
 
 -- the type of a constant: its own, or else that of numbers or of truth values
 abbrev pub constant_type : Option ValueType → Constant → ValueType

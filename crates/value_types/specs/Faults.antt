@@ -6,7 +6,7 @@ use Rattle.value_types.specs.declared.fault.FaultKind.{FaultKind}
 use Rattle.value_types.specs.declared.fault.FaultKind.TheVariants.{ConstRange, OutOfProfile}
 use Rattle.value_types.specs.declared.constant.Constant.{Constant}
 use Rattle.value_types.specs.declared.constant.Constant.TheVariants.{Number, Truth}
-use Rattle.value_types.specs.declared.value_type.ValueType.{ValueType}
+use Rattle.base.specs.declared.value_type.ValueType.{ValueType}
 use Rattle.value_types.specs.Constants.{is_int, is_held}
 
 abbrev pub fault : FaultKind → Pos → Fault

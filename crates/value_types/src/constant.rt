@@ -5,8 +5,7 @@ ghost use Rattle.value_types.specs.Constants.{is_int, constant_type, untyped, ho
 ghost use Rattle.value_types.specs.Faults.{constant_range_fault, held_fault};
 
 use crate::fault::{Fault, FaultKind};
-use crate::value_type::ValueType;
-use base::Pos;
+use base::{Pos, ValueType};
 
 /// The value of a constant.
 #[derive(Clone, Copy, Debug, PartialEq, Eq)]

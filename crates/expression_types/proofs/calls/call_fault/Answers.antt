@@ -1,6 +1,6 @@
 use Rattle.std.proofs.Common.{List, Option, subst}
 use Rattle.value_types.specs.declared.fault.FaultKind.TheVariants.{ArgCount}
-use Rattle.value_types.specs.declared.value_type.ValueType.{ValueType}
+use Rattle.base.specs.declared.value_type.ValueType.{ValueType}
 use Rattle.value_types.specs.Least.{IsLeast}
 use Rattle.value_types.specs.Faults.{fault}
 use Rattle.expression_types.specs.Faults.{TakeFails}

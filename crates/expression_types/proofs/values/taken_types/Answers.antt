@@ -2,7 +2,7 @@ use Rattle.std.proofs.Common.{◌≡◌, Bool, true, false, cond, Option, List, 
 use Rattle.std.specs.Prelude.{is_none, ◌&&◌}
 use Rattle.std.specs.Option.{option_map}
 use Rattle.value_types.specs.declared.fault.Fault.{Fault}
-use Rattle.value_types.specs.declared.value_type.ValueType.{ValueType}
+use Rattle.base.specs.declared.value_type.ValueType.{ValueType}
 use Rattle.expression_types.specs.Typing.{fits, taken_types, value_types}
 use Rattle.expression_types.specs.Passing.{seens}
 use Rattle.expression_types.proofs.DecidedValues.{types_taken}

@@ -3,7 +3,7 @@ use Rattle.syntax.specs.declared.expression.Expr.{Expr}
 use Rattle.syntax.specs.Expressions.{exs_of}
 use Rattle.syntax.specs.Statements.{value_spec_of}
 use Rattle.value_types.specs.declared.fault.FaultKind.TheVariants.{ArgCount}
-use Rattle.value_types.specs.declared.value_type.ValueType.{ValueType}
+use Rattle.base.specs.declared.value_type.ValueType.{ValueType}
 use Rattle.value_types.specs.Least.{IsLeast}
 use Rattle.value_types.specs.Faults.{fault}
 use Rattle.value_types.proofs.Leasts.{least_join, leaf}

@@ -8,7 +8,7 @@ use Rattle.names.specs.Scope.{scope_of}
 use Rattle.expression_types.specs.Typing.{seen}
 use Rattle.expression_types.specs.Faults.{FailsInEach}
 use Rattle.expression_types.specs.Passing.{seens}
-use Rattle.package_values.specs.ValueFaults.{is_bare, TypeFails, InitialsFail}
+use Rattle.package_values.specs.ValueFaults.{is_bare, TypeFails, LeftOut, InitialsFail}
 use Rattle.package_values.proofs.faults.variables_fault.Goals as goal
 
 pub initials_fault-requires : goal.initials_fault-requires
@@ -25,6 +25,10 @@ returns c =
     let listed = c.in_ok-listed.listed in
     let es : c.deref.result.now ≡ c.args.spec.now.values.items = c.deref.ensures.value in
     let each : IsLeast (FailsInEach text s v.values) listed.fault = subst (λ (l : List Expr). IsLeast (FailsInEach text s (exs_of l)) listed.fault) es c.in_ok-listed.ensures.fault in
-    rw (c.lesser.ensures, c.lesser-typed.ensures)
+    let others : IsLeast (LeftOut text s v.type_expr (seen text s v.values)) c.left_out-others.result =
+    subst (λ os. IsLeast (LeftOut text s v.type_expr os) c.left_out-others.result)
+    (ap seens c.deref-3.ensures.value ∙ (c.in_ok-listed.ensures.seen ∙ ap (λ (l : List Expr). seen text s (exs_of l)) es)) c.left_out-others.ensures in
+    rw (c.lesser-2.ensures, c.lesser.ensures, c.lesser-typed.ensures)
+    (least_join (λ f. (TypeFails text s v.type_expr f ⊎ FailsInEach text s v.values f) ⊎ InitialsFail text s (is_bare v.type_expr v.values) c.args.pos v f) (LeftOut text s v.type_expr (seen text s v.values)) _ _
     (least_join (λ f. TypeFails text s v.type_expr f ⊎ FailsInEach text s v.values f) (InitialsFail text s (is_bare v.type_expr v.values) c.args.pos v) _ _
-    (least_join (TypeFails text s v.type_expr) (FailsInEach text s v.values) _ _ c.type_expr_fault.ensures each) c.in_ok-initials.ensures)
+    (least_join (TypeFails text s v.type_expr) (FailsInEach text s v.values) _ _ c.type_expr_fault.ensures each) c.in_ok-initials.ensures) others)

@@ -3,7 +3,7 @@ use Rattle.std.specs.Prelude.{option_and_then}
 use Rattle.std.specs.Option.{option_map}
 use Rattle.syntax.specs.Expressions.{exs_of}
 use Rattle.typed.specs.View.{left_of}
-use Rattle.value_types.specs.declared.value_type.ValueType.{ValueType}
+use Rattle.base.specs.declared.value_type.ValueType.{ValueType}
 use Rattle.value_types.specs.Least.{IsLeast}
 use Rattle.names.specs.Scope.{scope_of}
 use Rattle.expression_types.specs.declared.gives.Item.{Item}

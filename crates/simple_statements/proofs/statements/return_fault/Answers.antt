@@ -1,7 +1,7 @@
 use Rattle.std.proofs.Common.{◌≡◌, false, List, Option, sym, ◌∙◌, subst, length}
 use Rattle.std.specs.Prelude.{◌==◌}
 use Rattle.value_types.specs.declared.fault.FaultKind.TheVariants.{ResultCount}
-use Rattle.value_types.specs.declared.value_type.ValueType.{ValueType}
+use Rattle.base.specs.declared.value_type.ValueType.{ValueType}
 use Rattle.value_types.specs.Least.{IsLeast}
 use Rattle.value_types.specs.Faults.{fault}
 use Rattle.expression_types.specs.Faults.{TakeFails}

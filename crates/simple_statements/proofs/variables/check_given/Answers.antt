@@ -1,7 +1,7 @@
 use Rattle.std.proofs.Common.{◌≡◌, List, Option, ap, ◌∙◌, subst}
 use Rattle.syntax.specs.Expressions.{ex_in}
 use Rattle.syntax.specs.Statements.{value_spec_of}
-use Rattle.value_types.specs.declared.value_type.ValueType.{ValueType}
+use Rattle.base.specs.declared.value_type.ValueType.{ValueType}
 use Rattle.value_types.specs.Least.{IsLeast}
 use Rattle.value_types.proofs.Leasts.{least_join}
 use Rattle.names.specs.Scope.{scope_of}

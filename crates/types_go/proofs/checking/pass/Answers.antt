@@ -1,7 +1,9 @@
-use Rattle.std.proofs.Common.{◌≡◌, List, ap, ◌∙◌, subst, arith, length, map}
+use Rattle.std.proofs.Common.{◌≡◌, List, sym, ap, ◌∙◌, subst, arith, length, map}
 use Rattle.std.specs.Option.{option_map}
 use Rattle.base.specs.declared.ids.FuncId.{FuncId}
 use Rattle.syntax.specs.Declarations.{Function as TreeFunction, declarations_of, syntax_of}
+use Rattle.typed.specs.Trees.{trees}
+use Rattle.typed.specs.View.{func_of}
 use Rattle.names.specs.Scope.{Scope, scope_of, beginning}
 use Rattle.package_values.specs.Values.{items_in}
 use Rattle.types_go.proofs.checking.pass.Goals as goal
@@ -32,7 +34,7 @@ returns-clause-main c =
     let text_is : text ≡ tree.text.items = c.deref-text.ensures.value in
     let ds_is : ds ≡ tree.decls.items = c.deref-decls.ensures.value in
     let h = scope_of c.add_heads.new.heads in
-    let h_is : h ≡ heads_of t = heads_is tree text ds (scope_of c.beginning-heads.result) h text_is ds_is c.beginning-heads.ensures c.in_ok-add_heads.ensures in
+    let h_is : h ≡ heads_of t = heads_is tree text ds (scope_of c.in_ok-heads.heads) h text_is ds_is c.in_ok-heads.ensures c.in_ok-add_heads.ensures in
     let r = scope_of c.in_ok-scope.scope in
     let r_is : r ≡ package_scope t = package_is tree text ds h r text_is ds_is h_is c.in_ok-scope.ensures in
     main_number_is tree text ds h r (option_map (λ (f : FuncId). f.0) c.in_ok-main.main) text_is ds_is h_is r_is c.in_ok-main.ensures
@@ -46,12 +48,12 @@ returns-clause-funcs c =
     let text_is : text ≡ tree.text.items = c.deref-text.ensures.value in
     let ds_is : ds ≡ tree.decls.items = c.deref-decls.ensures.value in
     let h = scope_of c.add_heads.new.heads in
-    let h_is : h ≡ heads_of t = heads_is tree text ds (scope_of c.beginning-heads.result) h text_is ds_is c.beginning-heads.ensures c.in_ok-add_heads.ensures in
+    let h_is : h ≡ heads_of t = heads_is tree text ds (scope_of c.in_ok-heads.heads) h text_is ds_is c.in_ok-heads.ensures c.in_ok-add_heads.ensures in
     let r = scope_of c.in_ok-scope.scope in
     let r_is : r ≡ package_scope t = package_is tree text ds h r text_is ds_is h_is c.in_ok-scope.ensures in
     let ms = member_views c.deref.result.now in
     let ms_is : ms ≡ members t = ap member_views c.deref.ensures.value ∙ members_are tree text ds h (member_views c.in_ok-members.members.items) text_is ds_is h_is c.in_ok-members.ensures in
-    c.in_ok-checked.ensures.funcs ∙ worked_out tree (λ x v w l. functions x v w 0 l) text h r ms text_is h_is r_is ms_is
+    ap (λ (v : Scope). option_map (λ l. map (func_of (trees v.types)) l.items) c.in_ok-checked.checked.funcs) (sym h_is) ∙ c.in_ok-checked.ensures.funcs ∙ worked_out tree (λ x v w l. functions x v w 0 l) text h r ms text_is h_is r_is ms_is
 
 pub returns-clause-globals : goal.returns-clause-globals
 returns-clause-globals c =
@@ -62,7 +64,7 @@ returns-clause-globals c =
     let text_is : text ≡ tree.text.items = c.deref-text.ensures.value in
     let ds_is : ds ≡ tree.decls.items = c.deref-decls.ensures.value in
     let h = scope_of c.add_heads.new.heads in
-    let h_is : h ≡ heads_of t = heads_is tree text ds (scope_of c.beginning-heads.result) h text_is ds_is c.beginning-heads.ensures c.in_ok-add_heads.ensures in
+    let h_is : h ≡ heads_of t = heads_is tree text ds (scope_of c.in_ok-heads.heads) h text_is ds_is c.in_ok-heads.ensures c.in_ok-add_heads.ensures in
     let r = scope_of c.in_ok-scope.scope in
     let r_is : r ≡ package_scope t = package_is tree text ds h r text_is ds_is h_is c.in_ok-scope.ensures in
     let ms = member_views c.deref.result.now in
@@ -78,12 +80,24 @@ returns-clause-sites c =
     let text_is : text ≡ tree.text.items = c.deref-text.ensures.value in
     let ds_is : ds ≡ tree.decls.items = c.deref-decls.ensures.value in
     let h = scope_of c.add_heads.new.heads in
-    let h_is : h ≡ heads_of t = heads_is tree text ds (scope_of c.beginning-heads.result) h text_is ds_is c.beginning-heads.ensures c.in_ok-add_heads.ensures in
+    let h_is : h ≡ heads_of t = heads_is tree text ds (scope_of c.in_ok-heads.heads) h text_is ds_is c.in_ok-heads.ensures c.in_ok-add_heads.ensures in
     let r = scope_of c.in_ok-scope.scope in
     let r_is : r ≡ package_scope t = package_is tree text ds h r text_is ds_is h_is c.in_ok-scope.ensures in
     let ms = member_views c.deref.result.now in
     let ms_is : ms ≡ members t = ap member_views c.deref.ensures.value ∙ members_are tree text ds h (member_views c.in_ok-members.members.items) text_is ds_is h_is c.in_ok-members.ensures in
     ap (λ (v : Scope). v.sites) (c.in_ok-checked.ensures.scope ∙ worked_out tree (λ x v w l. behind_members x v w l) text h r ms text_is h_is r_is ms_is)
+
+pub returns-clause-types : goal.returns-clause-types
+returns-clause-types c =
+    let tree = c.args.tree.now in
+    let t = syntax_of tree in
+    let text = c.deref-text.result.now in
+    let ds = c.deref-decls.result.now in
+    let text_is : text ≡ tree.text.items = c.deref-text.ensures.value in
+    let ds_is : ds ≡ tree.decls.items = c.deref-decls.ensures.value in
+    let h = scope_of c.add_heads.new.heads in
+    let h_is : h ≡ heads_of t = heads_is tree text ds (scope_of c.in_ok-heads.heads) h text_is ds_is c.in_ok-heads.ensures c.in_ok-add_heads.ensures in
+    ap (λ (v : Scope). trees v.types) h_is
 
 pub returns-clause-strings : goal.returns-clause-strings
 returns-clause-strings c =
@@ -94,7 +108,7 @@ returns-clause-strings c =
     let text_is : text ≡ tree.text.items = c.deref-text.ensures.value in
     let ds_is : ds ≡ tree.decls.items = c.deref-decls.ensures.value in
     let h = scope_of c.add_heads.new.heads in
-    let h_is : h ≡ heads_of t = heads_is tree text ds (scope_of c.beginning-heads.result) h text_is ds_is c.beginning-heads.ensures c.in_ok-add_heads.ensures in
+    let h_is : h ≡ heads_of t = heads_is tree text ds (scope_of c.in_ok-heads.heads) h text_is ds_is c.in_ok-heads.ensures c.in_ok-add_heads.ensures in
     let r = scope_of c.in_ok-scope.scope in
     let r_is : r ≡ package_scope t = package_is tree text ds h r text_is ds_is h_is c.in_ok-scope.ensures in
     let ms = member_views c.deref.result.now in
@@ -110,7 +124,7 @@ returns-clause-places c =
     let text_is : text ≡ tree.text.items = c.deref-text.ensures.value in
     let ds_is : ds ≡ tree.decls.items = c.deref-decls.ensures.value in
     let h = scope_of c.add_heads.new.heads in
-    let h_is : h ≡ heads_of t = heads_is tree text ds (scope_of c.beginning-heads.result) h text_is ds_is c.beginning-heads.ensures c.in_ok-add_heads.ensures in
+    let h_is : h ≡ heads_of t = heads_is tree text ds (scope_of c.in_ok-heads.heads) h text_is ds_is c.in_ok-heads.ensures c.in_ok-add_heads.ensures in
     let r = scope_of c.in_ok-scope.scope in
     let r_is : r ≡ package_scope t = package_is tree text ds h r text_is ds_is h_is c.in_ok-scope.ensures in
     let ms = member_views c.deref.result.now in
@@ -128,7 +142,7 @@ returns-clause-fault c =
     let text_is : text ≡ tree.text.items = c.deref-text.ensures.value in
     let ds_is : ds ≡ tree.decls.items = c.deref-decls.ensures.value in
     let h = scope_of c.add_heads.new.heads in
-    let h_is : h ≡ heads_of t = heads_is tree text ds (scope_of c.beginning-heads.result) h text_is ds_is c.beginning-heads.ensures c.in_ok-add_heads.ensures in
+    let h_is : h ≡ heads_of t = heads_is tree text ds (scope_of c.in_ok-heads.heads) h text_is ds_is c.in_ok-heads.ensures c.in_ok-add_heads.ensures in
     let r = scope_of c.in_ok-scope.scope in
     let r_is : r ≡ package_scope t = package_is tree text ds h r text_is ds_is h_is c.in_ok-scope.ensures in
     let ms = member_views c.deref.result.now in

@@ -5,3 +5,6 @@ returns-in-Some-clause-fault c = rw (c.in-Some.is) c.check_with_body.ensures.fau
 
 pub returns-in-None-clause-fault : goal.returns-in-None-clause-fault
 returns-in-None-clause-fault c = rw (c.in-None.is) c.check_external.ensures.fault
+
+pub returns-in-None-clause-pos : goal.returns-in-None-clause-pos
+returns-in-None-clause-pos c = c.check_external.ensures.pos c.args.f.now.name.pos

@@ -15,6 +15,6 @@ returns-clause-fault c =
     let g = function_of c.args.f.now in
     let sig : option_map signature_of c.in_ok-signature.signature ≡ signature_in text heads g = c.in_ok-signature.ensures in
     rw (c.lesser-2.ensures, c.lesser.ensures, c.size_fault-own.ensures, sig)
-    (least_join _ (IsFault (size_fault (signature_in text heads g) g.name.pos)) _ _
+    (least_join _ (IsFault (size_fault heads.types (signature_in text heads g) g.name.pos)) _ _
     (least_join (TypesFail text heads (params_of g.params)) (TypesFail text heads (params_of g.results)) c.types_fault-params_fault.result c.types_fault-results_fault.result c.types_fault-params_fault.ensures c.types_fault-results_fault.ensures)
-    (leaf (size_fault (signature_in text heads g) g.name.pos)))
+    (leaf (size_fault heads.types (signature_in text heads g) g.name.pos)))

@@ -8,30 +8,33 @@ use Rattle.types_go.specs.Functions.{slot_number}
 use Rattle.types_go.proofs.Sites.{number_more, trees_of}
 
 pub loop-slot-init : goal.loop-slot-init
-loop-slot-init c = rw (c.new-types.ensures.items) refl
+loop-slot-init c = rw (c.new-numbers.ensures.items) refl
 
 pub loop-slot-preserved : goal.loop-slot-preserved
 loop-slot-preserved c =
+    let T = c.args.types.now in
     let xs = c.args.slots.now in
     let k = c.loop-slot.slot-index in
     let p : Slot = get_or xs k no_slot in
-    let so_far = map (λ (t : TypeId). t.0) c.loop-slot.types.items in
+    let so_far = map (λ (t : TypeId). t.0) c.loop-slot.numbers.items in
     let here : drop k xs ≡ p ∷ drop (k + 1) xs = from_there xs k no_slot c.loop-slot-test.true in
     rw (c.in_ok-push.ensures.items)
-    (c.loop-slot.invariant ∙ ap (λ (l : List Slot). so_far ++ map slot_number l) here ∙ number_more c.loop-slot.types.items c.number_or_int.result (slot_number p) (map slot_number (drop (k + 1) xs)) c.number_or_int.ensures)
+    (c.loop-slot.invariant ∙ ap (λ (l : List Slot). so_far ++ map (slot_number T) l) here ∙ number_more c.loop-slot.numbers.items c.number_or_int.result (slot_number T p) (map (slot_number T) (drop (k + 1) xs)) c.number_or_int.ensures)
 
 pub returns-clause-numbers : goal.returns-clause-numbers
 returns-clause-numbers c =
+    let T = c.args.types.now in
     let xs = c.args.slots.now in
     let k = c.loop-slot.slot-index in
-    let so_far = map (λ (t : TypeId). t.0) c.loop-slot.types.items in
+    let so_far = map (λ (t : TypeId). t.0) c.loop-slot.numbers.items in
     let none : drop k xs ≡ [] = nothing_left xs k (λ l. absurd (omega (arith, l, c.loop-slot-test.false))) in
-    sym (c.loop-slot.invariant ∙ ap (λ (l : List Slot). so_far ++ map slot_number l) none ∙ append-nil so_far)
+    sym (c.loop-slot.invariant ∙ ap (λ (l : List Slot). so_far ++ map (slot_number T) l) none ∙ append-nil so_far)
 
 pub returns-clause-trees : goal.returns-clause-trees
 returns-clause-trees c =
+    let T = c.args.types.now in
     let xs = c.args.slots.now in
     let k = c.loop-slot.slot-index in
-    let so_far = map (λ (t : TypeId). t.0) c.loop-slot.types.items in
+    let so_far = map (λ (t : TypeId). t.0) c.loop-slot.numbers.items in
     let none : drop k xs ≡ [] = nothing_left xs k (λ l. absurd (omega (arith, l, c.loop-slot-test.false))) in
-    trees_of c.loop-slot.types.items xs (sym (c.loop-slot.invariant ∙ ap (λ (l : List Slot). so_far ++ map slot_number l) none ∙ append-nil so_far))
+    trees_of T c.loop-slot.numbers.items xs (sym (c.loop-slot.invariant ∙ ap (λ (l : List Slot). so_far ++ map (slot_number T) l) none ∙ append-nil so_far))

@@ -3,4 +3,4 @@ use Rattle.types_go.proofs.functions.type_numbers.Given as goal
 use Rattle.types_go.specs.Functions.{slot_number}
 
 abbrev pub invariant-loop-slot : goal.invariant-loop-slot
-invariant-loop-slot l = map slot_number l.slots ≡ map (λ t. t.0) l.types.items ++ map slot_number (drop l.slot-index l.slots)
+invariant-loop-slot l = map (slot_number l.types) l.slots ≡ map (λ t. t.0) l.numbers.items ++ map (slot_number l.types) (drop l.slot-index l.slots)

@@ -3,7 +3,7 @@ use Rattle.std.specs.Option.{option_map}
 use Rattle.syntax.specs.Expressions.{ex_of as tree_of}
 use Rattle.syntax.specs.Statements.{targets_of}
 use Rattle.typed.specs.View.{ex_of}
-use Rattle.value_types.specs.declared.value_type.ValueType.{ValueType}
+use Rattle.base.specs.declared.value_type.ValueType.{ValueType}
 use Rattle.value_types.specs.Least.{IsLeast}
 use Rattle.value_types.proofs.Leasts.{least_join, leaf}
 use Rattle.names.specs.Scope.{Scope, scope_of, opened}

@@ -5,7 +5,7 @@ use Rattle.indexmap.specs.IndexSet.{insert_key}
 use Rattle.std.proofs.lemmas.Option.{slice_get_within}
 use Rattle.std.proofs.lemmas.Result.{err_from_is_err_and}
 use Rattle.typed.specs.declared.told.Told.{Told}
-use Rattle.typed.specs.declared.value_type.ValueType.{ValueType}
+use Rattle.base.specs.declared.value_type.ValueType.{ValueType}
 use Rattle.typed.specs.Tables.{Table, number_of, with_type}
 use Rattle.typed.specs.Words.{refusal_by}
 use Rattle.typed.specs.Formed.{refusal, Stands, IsFormed, KeepsTrees}

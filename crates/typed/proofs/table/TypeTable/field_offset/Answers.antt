@@ -1,6 +1,6 @@
 -- The fields in front are a part of all.
 use Rattle.std.proofs.Common.{◌≡◌, ◌≤◌, take, sum_by, Some, is_some, sym, ap, subst, ◌∙◌}
-use Rattle.typed.specs.declared.value_type.ValueType.TheVariants.{Struct}
+use Rattle.base.specs.declared.value_type.ValueType.TheVariants.{Struct}
 use Rattle.typed.specs.Words.{known}
 use Rattle.typed.specs.Trees.{tree_of, offset_in}
 use Rattle.typed.proofs.Limits.{within_some}

@@ -1,7 +1,7 @@
 -- The table of the basic types is formed.
 use Rattle.std.proofs.Common.{◌≡◌, rules, ℕ, Option, None, Some, List, [], ◌∷◌, replicate, map, zero, suc, subst, ap, ap₂, ◌∙◌, refl, sym, arith}
 use Rattle.typed.specs.declared.told.Told.{Told}
-use Rattle.typed.specs.declared.value_type.ValueType.{ValueType}
+use Rattle.base.specs.declared.value_type.ValueType.{ValueType}
 use Rattle.typed.specs.Formed.{IsFormed}
 use Rattle.typed.specs.Memory.{fields_in, table_of, IsCounted}
 use Rattle.typed.proofs.Beginning.{basic, formed_basic, counted_basic}

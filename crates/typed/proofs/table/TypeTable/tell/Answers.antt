@@ -3,7 +3,7 @@ use Rattle.std.proofs.Common.{◌≡◌, ◌≤◌, ◌∙◌, ℕ, true, false,
 use Rattle.std.proofs.lemmas.Result.{err_from_is_err_and}
 use Rattle.base.specs.declared.ids.TypeId.{TypeId}
 use Rattle.typed.specs.declared.told.Told.{Told}
-use Rattle.typed.specs.declared.value_type.ValueType.{ValueType}
+use Rattle.base.specs.declared.value_type.ValueType.{ValueType}
 use Rattle.typed.specs.Tables.{Table, with_fields}
 use Rattle.typed.specs.Words.{IsInLimits, known, within_limit}
 use Rattle.typed.specs.Formed.{IsFormed, KeepsTrees, sum_of}

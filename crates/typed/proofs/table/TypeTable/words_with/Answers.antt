@@ -2,8 +2,8 @@
 use Rattle.std.proofs.Common.{◌≡◌, ◌∙◌, ℕ, inr, Option, List, get_or, ap, ap₂, sym, subst, length, ◌+◌, arith}
 use Rattle.std.proofs.lemmas.Result.{err_from_is_err_and}
 use Rattle.typed.specs.declared.told.Told.{Told}
-use Rattle.typed.specs.declared.value_type.ValueType.{ValueType}
-use Rattle.typed.specs.declared.value_type.ValueType.TheVariants.{Int}
+use Rattle.base.specs.declared.value_type.ValueType.{ValueType}
+use Rattle.base.specs.declared.value_type.ValueType.TheVariants.{Int}
 use Rattle.typed.specs.Words.{is_over}
 use Rattle.typed.specs.Memory.{struct_words, told_by}
 use Rattle.typed.proofs.Passing.{Passed, untold_by, structs_not_over, passes, stops}

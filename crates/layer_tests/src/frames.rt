@@ -1,0 +1,130 @@
+//! What no clause of `frame_layout` says: that the call succeeds where memory is ample; and worked frames.
+
+ghost use Rattle.std.specs.Prelude.{◌<◌, length};
+
+use base::{FuncId, Pos, SiteId, TypeId, ValueType};
+use frame_layout::{FrameLayout, layout_of};
+use std::alloc::Global;
+use std::test::Fail;
+use typed::{Const, Expr, Func, INT, Left, Place, Program, Site, Step, Stmt, TypeTable, Values};
+
+const AT: Pos = Pos {
+    offset: 0,
+    line: 1,
+    col: 1,
+};
+
+fn number(alloc: Global) -> Result<Values, Fail> {
+    Ok(Values::Each(vec![in alloc; Expr::Constant(Const::Int(7))]?))
+}
+
+// func f(_ int) int { return 7 }
+fn callee(alloc: Global) -> Result<Func, Fail> {
+    Ok(Func {
+        pos: AT,
+        first_site: 0,
+        sites: 0,
+        params: vec![in alloc; None]?,
+        param_types: vec![in alloc; INT]?,
+        results: vec![in alloc; INT]?,
+        named: Vec::new(alloc),
+        body: vec![in alloc; Stmt::Return(number(alloc)?)]?,
+    })
+}
+
+fn main(alloc: Global, sites: u32, body: Vec<Stmt>) -> Func {
+    Func {
+        pos: AT,
+        first_site: 0,
+        sites,
+        params: Vec::new(alloc),
+        param_types: Vec::new(alloc),
+        results: Vec::new(alloc),
+        named: Vec::new(alloc),
+        body,
+    }
+}
+
+// f(7)
+fn call(alloc: Global) -> Result<Values, Fail> {
+    Ok(Values::Results(FuncId(0), Box::new(alloc, number(alloc)?)?))
+}
+
+// func main() { f(7) }
+fn caller_and_callee(alloc: Global) -> Result<Program, Fail> {
+    let body = vec![in alloc; Stmt::Discard(call(alloc)?)]?;
+    Ok(Program {
+        funcs: vec![in alloc; callee(alloc)?, main(alloc, 0, body)]?,
+        main: FuncId(1),
+        sites: Vec::new(alloc),
+        types: TypeTable::new(alloc, 0)?,
+        strings: Vec::new(alloc),
+        globals: Vec::new(alloc),
+    })
+}
+
+// A table with the type [2]int, and the site of a variable of this type.
+fn array_site(types: &mut TypeTable) -> Result<Site, Fail>
+    requires { 0 < length types.old.types }
+{
+    let type_id = types.enter(ValueType::Array(2, TypeId(0)))?;
+    Ok(Site { pos: AT, type_id })
+}
+
+// a[f(7)] = f(7)
+fn assignment(alloc: Global) -> Result<Stmt, Fail> {
+    let f = Expr::Call(FuncId(0), Box::new(alloc, number(alloc)?)?);
+    let steps = vec![in alloc; Step::Index(AT, f, 2)]?;
+    let left = Left::To(Place::Local(SiteId(0), steps));
+    Ok(Stmt::Assign(vec![in alloc; left]?, call(alloc)?))
+}
+
+// func main() { var a [2]int; a[f(7)] = f(7) }
+fn element_of_an_array(alloc: Global) -> Result<Program, Fail> {
+    let mut types = TypeTable::new(alloc, 0)?;
+    let site = array_site(&mut types)?;
+    let declare = Stmt::Declare(vec![in alloc; SiteId(0)]?);
+    let body = vec![in alloc; declare, assignment(alloc)?]?;
+    Ok(Program {
+        funcs: vec![in alloc; callee(alloc)?, main(alloc, 1, body)]?,
+        main: FuncId(1),
+        sites: vec![in alloc; site]?,
+        types,
+        strings: Vec::new(alloc),
+        globals: Vec::new(alloc),
+    })
+}
+
+#[test]
+fn arrays_are_laid_out(rt: HostRuntime) -> Result<(), Fail> {
+    let program = element_of_an_array(rt.alloc())?;
+    let layouts = layout_of(rt.alloc(), &program)?;
+    // The index, the value and the address of the element; and the array's two words.
+    let want = FrameLayout {
+        outgoing: 2,
+        temps: 3,
+        frame: 9,
+    };
+    assert_eq!(rt; layouts.frames().get(1), Some(&want));
+    Ok(())
+}
+
+#[test]
+fn frames_are_laid_out(rt: HostRuntime) -> Result<(), Fail> {
+    let program = caller_and_callee(rt.alloc())?;
+    let layouts = layout_of(rt.alloc(), &program)?;
+    let want = [
+        FrameLayout {
+            outgoing: 0,
+            temps: 1,
+            frame: 3,
+        },
+        FrameLayout {
+            outgoing: 2,
+            temps: 1,
+            frame: 5,
+        },
+    ];
+    assert_eq!(rt; layouts.frames(), want.as_slice());
+    Ok(())
+}
