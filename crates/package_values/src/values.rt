@@ -68,7 +68,9 @@ fn constant_value(
         return Ok(None);
     };
     let checked = check_expr(alloc, text, scope, value)?;
-    match constant_in(&checked.gives) {
+    let fixed = constant_in(&checked.gives);
+    drop(checked);
+    match fixed {
         Some(fixed) => Ok(accepted(text, scope, item.type_expr, fixed)),
         None => Ok(None),
     }
@@ -118,7 +120,9 @@ fn initial_type(
     match item.value {
         Some(value) => {
             let checked = check_expr(alloc, text, scope, value)?;
-            Ok(one_type(&checked.gives))
+            let found = one_type(&checked.gives);
+            drop(checked);
+            Ok(found)
         }
         None => type_at(alloc, text, scope, item.values, item.place),
     }

@@ -24,6 +24,7 @@ pub fn begin(alloc: Global, reading: Reading, function: Part) -> Result<Progress
         (max (depth_in reading) (suc (height (ex_of function.expr)))) }
 {
     if reading.depth > MOST || function.height >= 200 {
+        drop(function);
         return Err(StepFault::TooDeep);
     }
     let call = opened_call(alloc, function);
@@ -58,6 +59,8 @@ pub fn behind_argument(
     match token {
         Terminal::Comma => {
             if reading.depth >= MOST {
+                drop(pending);
+                drop(part);
                 return Err(StepFault::TooDeep);
             }
             let call = with_argument(pending, part)?;
@@ -65,12 +68,19 @@ pub fn behind_argument(
         }
         Terminal::Ellipsis => {
             if reading.depth >= MOST {
+                drop(pending);
+                drop(part);
                 return Err(StepFault::TooDeep);
             }
-            Ok(Progress::Goes(Open::Spread(reading, with_argument(pending, part)?)))
+            let call = with_argument(pending, part)?;
+            Ok(Progress::Goes(Open::Spread(reading, call)))
         }
         Terminal::RightParen => end(alloc, reading, with_argument(pending, part)?, false),
-        _ => Err(StepFault::Unexpected),
+        _ => {
+            drop(pending);
+            drop(part);
+            Err(StepFault::Unexpected)
+        }
     }
 }
 
@@ -106,12 +116,16 @@ pub fn behind_spread(
     match token {
         Terminal::Comma => {
             if reading.depth >= MOST {
+                drop(call);
                 return Err(StepFault::TooDeep);
             }
             Ok(Progress::Goes(Open::CallEnd(reading, call)))
         }
         Terminal::RightParen => end(alloc, reading, call, true),
-        _ => Err(StepFault::Unexpected),
+        _ => {
+            drop(call);
+            Err(StepFault::Unexpected)
+        }
     }
 }
 
@@ -128,6 +142,9 @@ pub fn call_end(
 {
     match token {
         Terminal::RightParen => end(alloc, reading, call, true),
-        _ => Err(StepFault::Unexpected),
+        _ => {
+            drop(call);
+            Err(StepFault::Unexpected)
+        }
     }
 }

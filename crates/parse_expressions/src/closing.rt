@@ -83,7 +83,10 @@ fn behind_enclosed(
             let part = in_parens(alloc, pos, part)?;
             limited(reading.depth, Open::Operator(reading, part))
         }
-        _ => Err(StepFault::Unexpected),
+        _ => {
+            drop(part);
+            Err(StepFault::Unexpected)
+        }
     }
 }
 
@@ -101,7 +104,10 @@ fn behind_length(
 {
     match token {
         Terminal::RightBracket => deeper_type(reading, Frame::Array(pos, part)),
-        _ => Err(StepFault::Unexpected),
+        _ => {
+            drop(part);
+            Err(StepFault::Unexpected)
+        }
     }
 }
 
@@ -129,7 +135,11 @@ fn closes(
         Some(Frame::Element(braces, key)) => {
             behind_element(alloc, rest, braces, key, part, token)
         }
-        Some(_) => Err(StepFault::Unexpected),
+        Some(frame) => {
+            drop(frame);
+            drop(part);
+            Err(StepFault::Unexpected)
+        }
     }
 }
 

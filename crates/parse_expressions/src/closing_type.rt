@@ -86,12 +86,16 @@ fn behind_enclosed_type(
     match token {
         Terminal::RightParen => {
             if !allows_type(&reading) {
+                drop(part);
                 return Err(StepFault::Unexpected);
             }
             let part = in_parens(alloc, pos, part)?;
             limited(reading.depth, Open::Type(reading, part))
         }
-        _ => Err(StepFault::Unexpected),
+        _ => {
+            drop(part);
+            Err(StepFault::Unexpected)
+        }
     }
 }
 
@@ -110,7 +114,15 @@ fn closes_type(
     match frame {
         Some(Frame::Paren(pos)) => behind_enclosed_type(alloc, rest, pos, part, token),
         Some(Frame::Call(call)) => behind_argument(alloc, rest, call, part, token),
-        _ => Err(StepFault::Unexpected),
+        Some(frame) => {
+            drop(frame);
+            drop(part);
+            Err(StepFault::Unexpected)
+        }
+        None => {
+            drop(part);
+            Err(StepFault::Unexpected)
+        }
     }
 }
 
@@ -130,6 +142,7 @@ fn behind_inner_type(
             if is_bracket_type(&part.expr) {
                 begin_literal(alloc, reading, part)
             } else {
+                drop(part);
                 Err(StepFault::Unexpected)
             }
         }

@@ -33,6 +33,7 @@ pub fn begin_literal(
         (depth_in reading) }
 {
     if reading.depth > MOST {
+        drop(type_part);
         return Err(StepFault::TooDeep);
     }
     let braces = opened_literal(alloc, type_part);
@@ -121,6 +122,7 @@ fn comma(reading: Reading, braces: Braces) -> Result<Progress, StepFault>
         (suc (depth_in reading)) }
 {
     if reading.depth >= MOST {
+        drop(braces);
         return Err(StepFault::TooDeep);
     }
     Ok(Progress::Goes(Open::Element(Opened { outside: reading }, braces)))
@@ -152,6 +154,7 @@ pub fn key_colon(reading: Reading, braces: Braces, key: Name) -> Result<Progress
         (suc (depth_in reading)) }
 {
     if reading.depth >= MOST {
+        drop(braces);
         return Err(StepFault::TooDeep);
     }
     Ok(Progress::Goes(Open::Value(Opened { outside: reading }, braces, key)))
@@ -188,7 +191,11 @@ pub fn behind_element(
     match token {
         Terminal::Comma => comma(reading, with_element(braces, key, part)?),
         Terminal::RightBrace(_) => end(alloc, reading, with_element(braces, key, part)?),
-        _ => Err(StepFault::Unexpected),
+        _ => {
+            drop(braces);
+            drop(part);
+            Err(StepFault::Unexpected)
+        }
     }
 }
 
@@ -206,6 +213,9 @@ pub fn element_end(
     match token {
         Terminal::Comma => comma(reading, braces),
         Terminal::RightBrace(_) => end(alloc, reading, braces),
-        _ => Err(StepFault::Unexpected),
+        _ => {
+            drop(braces);
+            Err(StepFault::Unexpected)
+        }
     }
 }

@@ -25,6 +25,7 @@ pub fn begin_selector(reading: Reading, value: Part, pos: Pos) -> Result<Progres
         (max (depth_in reading) (suc (height (ex_of value.expr)))) }
 {
     if reading.depth > MOST || value.height >= 200 {
+        drop(value);
         return Err(StepFault::TooDeep);
     }
     Ok(Progress::Goes(Open::Selector(reading, value, pos)))
@@ -47,7 +48,10 @@ pub fn behind_period(
             let part = selected(alloc, value, pos, name)?;
             limited(reading.depth, Open::Operator(reading, part))
         }
-        _ => Err(StepFault::Unexpected),
+        _ => {
+            drop(value);
+            Err(StepFault::Unexpected)
+        }
     }
 }
 
@@ -58,6 +62,7 @@ pub fn begin_index(reading: Reading, value: Part, pos: Pos) -> Result<Progress, 
         (max (depth_in reading) (suc (height (ex_of value.expr)))) }
 {
     if reading.depth > MOST || value.height >= 200 {
+        drop(value);
         return Err(StepFault::TooDeep);
     }
     Ok(Progress::Goes(Open::Index(Opened { outside: reading }, value, pos)))
@@ -70,6 +75,8 @@ fn colon(reading: Reading, value: Part, pos: Pos, low: Low) -> Result<Progress, 
         (suc (depth_in reading)) }
 {
     if reading.depth >= MOST {
+        drop(value);
+        drop(low);
         return Err(StepFault::TooDeep);
     }
     Ok(Progress::Goes(Open::High(Opened { outside: reading }, value, pos, low)))
@@ -111,8 +118,18 @@ pub fn behind_index(
             let part = indexed(alloc, value, pos, part)?;
             limited(reading.depth, Open::Operator(reading, part))
         }
-        Terminal::Colon => colon(reading, value, pos, bound_at(alloc, part)?),
-        _ => Err(StepFault::Unexpected),
+        Terminal::Colon => match bound_at(alloc, part) {
+            Ok(low) => colon(reading, value, pos, low),
+            Err(_) => {
+                drop(value);
+                Err(StepFault::NoMemory)
+            }
+        },
+        _ => {
+            drop(value);
+            drop(part);
+            Err(StepFault::Unexpected)
+        }
     }
 }
 
@@ -159,6 +176,11 @@ pub fn behind_high(
             let part = sliced(alloc, value, pos, low, high)?;
             limited(reading.depth, Open::Operator(reading, part))
         }
-        _ => Err(StepFault::Unexpected),
+        _ => {
+            drop(value);
+            drop(low);
+            drop(part);
+            Err(StepFault::Unexpected)
+        }
     }
 }

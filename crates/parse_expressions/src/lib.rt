@@ -9,6 +9,9 @@
 //! with the stack: in the header of a statement only parentheses allow it. Nothing is ever taken back, nothing is read
 //! ahead, and no step calls itself.
 //!
+//! What a refused token leaves behind is let go by a call of `drop`: let go in place, each form that it may have would stand in
+//! the code, and in the proof, of every step that refuses.
+//!
 //! The state knows where the whole expression stands: how many brackets are open around it, whether a literal in it may
 //! begin with a name, and whether it is a type. The parser above gives it one token after another, and takes it back with
 //! the token that ended it.

@@ -27,6 +27,7 @@ pub fn limited(nesting: usize, next: Open) -> Result<Progress, StepFault>
     ensures { Steps result (base_of next) (goes (open_of next)) nesting }
 {
     if nesting > MOST {
+        drop(next);
         return Err(StepFault::TooDeep);
     }
     Ok(Progress::Goes(next))
@@ -78,6 +79,7 @@ fn deeper(reading: Reading, frame: Frame) -> Result<Progress, StepFault>
         (goes (at_operand (frame_of frame ∷ frames_in reading))) (depth_in reading) }
 {
     if reading.depth > MOST {
+        drop(frame);
         return Err(StepFault::TooDeep);
     }
     Ok(Progress::Goes(Open::Operand(push(reading, frame)?)))
@@ -90,6 +92,7 @@ pub fn deeper_type(reading: Reading, frame: Frame) -> Result<Progress, StepFault
         (goes (at_type_operand (frame_of frame ∷ frames_in reading))) (depth_in reading) }
 {
     if reading.depth > MOST {
+        drop(frame);
         return Err(StepFault::TooDeep);
     }
     Ok(Progress::Goes(Open::TypeOperand(push(reading, frame)?)))

@@ -31,6 +31,7 @@ fn operator(reading: Reading, left: Part, pos: Pos, op: BinOp) -> Result<Progres
         (max (depth_in reading) (suc (height (ex_of left.expr)))) }
 {
     if reading.depth > MOST || left.height >= 200 {
+        drop(left);
         return Err(StepFault::TooDeep);
     }
     let reading = push(reading, Frame::Right(left, pos, op))?;
@@ -64,7 +65,11 @@ fn ends_at_brace(
     let (_, frame) = pop(reading);
     match frame {
         None => Ok(Progress::Ends(part)),
-        Some(_) => Err(StepFault::Unexpected),
+        Some(frame) => {
+            drop(frame);
+            drop(part);
+            Err(StepFault::Unexpected)
+        }
     }
 }
 

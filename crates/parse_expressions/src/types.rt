@@ -82,6 +82,9 @@ pub fn type_end(
 {
     match token {
         Terminal::RightParen => whole_type(alloc, reading, in_parens(alloc, pos, part)?),
-        _ => Err(StepFault::Unexpected),
+        _ => {
+            drop(part);
+            Err(StepFault::Unexpected)
+        }
     }
 }

@@ -90,7 +90,10 @@ pub fn behind_results(
     match token {
         Terminal::LeftBrace(_) => Ok(State::InBody(signature, begin_body(alloc))),
         Terminal::Semicolon => Ok(State::Declaration(with_function(signature, None)?)),
-        _ => Err(StepFault::Unexpected),
+        _ => {
+            drop(signature);
+            Err(StepFault::Unexpected)
+        }
     }
 }
 
@@ -194,6 +197,9 @@ pub fn in_body(
     match step_body(alloc, body, token) {
         Ok(BodyProgress::Goes(body)) => Ok(State::InBody(signature, body)),
         Ok(BodyProgress::Ends(body)) => Ok(State::End(with_function(signature, Some(body))?)),
-        Err(fault) => Err(fault),
+        Err(fault) => {
+            drop(signature);
+            Err(fault)
+        }
     }
 }

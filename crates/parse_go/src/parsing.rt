@@ -25,7 +25,10 @@ fn finish(state: State) -> Option<File>
 {
     match state {
         State::Declaration(file) => Some(file),
-        _ => None,
+        other => {
+            drop(other);
+            None
+        }
     }
 }
 

@@ -33,6 +33,7 @@ fn limited(nesting: usize, next: ValueSpecs) -> Result<SpecsProgress, StepFault>
     ensures { Steps result (depth_of next) (goes (specs_of next)) nesting }
 {
     if nesting > MOST {
+        drop(next);
         return Err(StepFault::TooDeep);
     }
     Ok(SpecsProgress::Goes(next))
@@ -185,7 +186,10 @@ fn behind_type(
     match token {
         Terminal::Assign(_) => value_wanted(alloc, valued),
         _ => match kind {
-            Declares::Constants => Err(StepFault::Unexpected),
+            Declares::Constants => {
+                drop(valued);
+                Err(StepFault::Unexpected)
+            }
             Declares::Variables => spec_ends(alloc, valued, token),
         },
     }
@@ -222,7 +226,10 @@ fn in_value(
         (nesting_after d s b o token next) }
 {
     match step(alloc, reading, token) {
-        Err(fault) => Err(fault),
+        Err(fault) => {
+            drop(before);
+            Err(fault)
+        }
         Ok(Progress::Goes(reading)) => {
             Ok(SpecsProgress::Goes(ValueSpecs::Value(InValue { before, reading })))
         }
@@ -295,7 +302,10 @@ fn group_goes_on(
             let specs = with_spec(specs, spec)?;
             limited(depth.brackets, ValueSpecs::GroupEnd(depth, specs))
         }
-        _ => Err(StepFault::Unexpected),
+        _ => {
+            drop(spec);
+            Err(StepFault::Unexpected)
+        }
     }
 }
 

@@ -4,7 +4,7 @@
 //! One machine reads a declaration, and one a simple statement or what stands before a `range`. A token inside an expression
 //! goes to the machine of expressions first; where the expression ended before it, to what stands around that. Left sides
 //! are read as expressions until a `:=` tells that they are names. Nothing is ever taken back, nothing is read ahead, and no
-//! step calls itself.
+//! step calls itself. What a refused token leaves behind is let go by a call of `drop`, as in the machine of expressions.
 #![tactic(auto)]
 
 mod declaration;

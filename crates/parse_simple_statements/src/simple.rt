@@ -40,6 +40,7 @@ fn limited(nesting: usize, next: Simples) -> Result<SimpleProgress, StepFault>
     ensures { Steps result (place_at next) (goes (simples_of next)) nesting }
 {
     if nesting > MOST {
+        drop(next);
         return Err(StepFault::TooDeep);
     }
     Ok(SimpleProgress::Goes(next))
@@ -147,6 +148,7 @@ fn behind_list(
     if before.is_empty() {
         behind_one(place, last, token)
     } else {
+        drop(last);
         Err(StepFault::Unexpected)
     }
 }
@@ -200,6 +202,7 @@ fn ranges(place: Place, listed: Listed, pos: Pos) -> Result<SimpleProgress, Step
         Steps result p next p.depth }
 {
     if !place.ranges {
+        drop(listed);
         return Err(StepFault::Unexpected);
     }
     let targets = match listed {
@@ -208,6 +211,7 @@ fn ranges(place: Place, listed: Listed, pos: Pos) -> Result<SimpleProgress, Step
         Listed::Define(names, operator) => Targets::Define(names, operator),
     };
     if place.depth > MOST {
+        drop(targets);
         return Err(StepFault::TooDeep);
     }
     Ok(SimpleProgress::Ranges(targets, pos))

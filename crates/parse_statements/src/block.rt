@@ -22,6 +22,7 @@ pub fn limited(nesting: usize, next: BodyState) -> Result<BodyProgress, StepFaul
     ensures { Steps result (goes (state_of next)) nesting }
 {
     if nesting > MOST {
+        drop(next);
         return Err(StepFault::TooDeep);
     }
     Ok(BodyProgress::Goes(next))
@@ -143,6 +144,7 @@ pub fn enter(
         (goes (at_statement (around (outer_of inner ∷ outers_of outer.items) nil))) depth }
 {
     if depth > MOST {
+        drop(inner);
         return Err(StepFault::TooDeep);
     }
     outer.push(inner)?;

@@ -42,7 +42,12 @@ pub fn behind_simple(
                 let clause = Clause::Counting(init, condition, Some(simple));
                 enter_for(alloc, blocks, pos, clause)
             }
-            _ => Err(StepFault::Unexpected),
+            _ => {
+                drop(init);
+                drop(condition);
+                drop(simple);
+                Err(StepFault::Unexpected)
+            }
         },
     }
 }
@@ -69,9 +74,15 @@ fn behind_init(
                 };
                 enter_if(alloc, header, guard)
             }
-            _ => Err(StepFault::Unexpected),
+            other => {
+                drop(other);
+                Err(StepFault::Unexpected)
+            }
         },
-        _ => Err(StepFault::Unexpected),
+        _ => {
+            drop(simple);
+            Err(StepFault::Unexpected)
+        }
     }
 }
 
@@ -95,9 +106,15 @@ fn behind_first(
             Simple::Express(condition) => {
                 enter_for(alloc, blocks, pos, Clause::While(condition))
             }
-            _ => Err(StepFault::Unexpected),
+            other => {
+                drop(other);
+                Err(StepFault::Unexpected)
+            }
         },
-        _ => Err(StepFault::Unexpected),
+        _ => {
+            drop(simple);
+            Err(StepFault::Unexpected)
+        }
     }
 }
 
@@ -152,7 +169,10 @@ pub fn condition(
         reading,
     } = state;
     match step(alloc, reading, token) {
-        Err(fault) => Err(fault),
+        Err(fault) => {
+            drop(init);
+            Err(fault)
+        }
         Ok(Progress::Goes(reading)) => Ok(BodyProgress::Goes(BodyState::Condition(InCondition {
             header,
             init,
@@ -166,7 +186,11 @@ pub fn condition(
                 };
                 enter_if(alloc, header, guard)
             }
-            _ => Err(StepFault::Unexpected),
+            _ => {
+                drop(init);
+                drop(part);
+                Err(StepFault::Unexpected)
+            }
         },
     }
 }
@@ -235,7 +259,11 @@ pub fn ranges(
 {
     match spot {
         SimpleSpot::For(blocks, pos) => range_begins(alloc, blocks, pos, targets, at),
-        _ => Err(StepFault::Unexpected),
+        other => {
+            drop(other);
+            drop(targets);
+            Err(StepFault::Unexpected)
+        }
     }
 }
 
@@ -275,7 +303,10 @@ pub fn in_second(
         reading,
     } = header;
     match step(alloc, reading, token) {
-        Err(fault) => Err(fault),
+        Err(fault) => {
+            drop(init);
+            Err(fault)
+        }
         Ok(Progress::Goes(reading)) => {
             let header = InFor {
                 blocks,
@@ -289,7 +320,11 @@ pub fn in_second(
                 let depth = blocks.depth;
                 limited(depth, BodyState::Post(blocks, pos, init, Some(part.expr)))
             }
-            _ => Err(StepFault::Unexpected),
+            _ => {
+                drop(init);
+                drop(part);
+                Err(StepFault::Unexpected)
+            }
         },
     }
 }
@@ -332,7 +367,10 @@ pub fn in_range(
         reading,
     } = header;
     match step(alloc, reading, token) {
-        Err(fault) => Err(fault),
+        Err(fault) => {
+            drop(targets);
+            Err(fault)
+        }
         Ok(Progress::Goes(reading)) => {
             let header = InFor {
                 blocks,
@@ -346,7 +384,11 @@ pub fn in_range(
                 let clause = Clause::Range(targets, at, part.expr);
                 enter_for(alloc, blocks, pos, clause)
             }
-            _ => Err(StepFault::Unexpected),
+            _ => {
+                drop(targets);
+                drop(part);
+                Err(StepFault::Unexpected)
+            }
         },
     }
 }
@@ -402,6 +444,7 @@ pub fn behind_else(
         }
         Terminal::If(pos) => {
             if depth >= MOST {
+                drop(last);
                 return Err(StepFault::TooDeep);
             }
             branches.push(last)?;
@@ -412,6 +455,9 @@ pub fn behind_else(
                 depth: depth + 1,
             })))
         }
-        _ => Err(StepFault::Unexpected),
+        _ => {
+            drop(last);
+            Err(StepFault::Unexpected)
+        }
     }
 }

@@ -4,7 +4,7 @@
 //! the token, to the statement around it. The state of a body holds the blocks that are open in it, each with the
 //! statements before it; a closing brace ends the innermost and gives it to what it belongs to, and an `if` that is an else
 //! waits beside the ones before it until the last of them ends. Nothing is ever taken back, nothing is read ahead, and no
-//! step calls itself.
+//! step calls itself. What a refused token leaves behind is let go by a call of `drop`, as in the machine of expressions.
 #![tactic(auto)]
 
 mod block;

@@ -145,7 +145,10 @@ pub fn in_simple(
         Steps result (step s token) (nesting s token) }
 {
     match step_simple(alloc, simples, token) {
-        Err(fault) => Err(fault),
+        Err(fault) => {
+            drop(spot);
+            Err(fault)
+        }
         Ok(SimpleProgress::Goes(simples)) => {
             Ok(BodyProgress::Goes(BodyState::Simple(InSimple { spot, simples })))
         }

@@ -258,7 +258,9 @@ pub fn value_fault(
 {
     let checked = check_expr(alloc, text, scope, e)?;
     let own = value_left_fault(&checked.gives, checked.pos);
-    Ok(lesser(checked.fault, own))
+    let fault = lesser(checked.fault, own);
+    drop(checked);
+    Ok(fault)
 }
 
 /// The fault of a left side.

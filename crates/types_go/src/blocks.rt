@@ -116,7 +116,11 @@ fn looped_by(alloc: Global, head: Head, body: Vec<typed::Stmt>) -> Result<typed:
 {
     match head {
         Head::Repeated(init, test, post) => {
-            let sites = declared_in(alloc, &init)?;
+            let Ok(sites) = declared_in(alloc, &init) else {
+                drop(init);
+                drop(test);
+                return Err(NoMemory);
+            };
             headed(alloc, init, typed::Stmt::Loop(sites, test, post, body))
         }
         Head::Counted(e, key) => Ok(typed::Stmt::Count(e, key, body)),
@@ -133,7 +137,12 @@ fn choice_of(
 {
     match (choice, body, rest) {
         (Some(choice), Some(body), Some(rest)) => Ok(Some(chosen(alloc, choice, body, rest)?)),
-        _ => Ok(None),
+        (choice, body, rest) => {
+            drop(choice);
+            drop(body);
+            drop(rest);
+            Ok(None)
+        }
     }
 }
 
@@ -146,7 +155,11 @@ fn loop_of(
 {
     match (head, body) {
         (Some(head), Some(body)) => Ok(Some(looped_by(alloc, head, body)?)),
-        _ => Ok(None),
+        (head, body) => {
+            drop(head);
+            drop(body);
+            Ok(None)
+        }
     }
 }
 
@@ -216,7 +229,12 @@ fn check_jump(
         kind: FaultKind::BreakOutside,
         pos,
     };
-    let statement = if looped { Some(statement) } else { None };
+    let statement = if looped {
+        Some(statement)
+    } else {
+        drop(statement);
+        None
+    };
     let statements = alone(alloc, statement)?;
     Ok(Lines {
         statements,

@@ -120,10 +120,13 @@ fn check_init(
 fn choice_head(init: Option<Option<typed::Stmt>>, condition: Option<typed::Expr>) -> Option<Choice>
     ensures { option_map choice_view result ≡ choice_head (option_map (option_map st_of) init) (option_map ex_of condition) }
 {
-    let condition = condition?;
-    match init {
-        Some(init) => Some(Choice { init, condition }),
-        None => None,
+    match (init, condition) {
+        (Some(init), Some(condition)) => Some(Choice { init, condition }),
+        (init, condition) => {
+            drop(init);
+            drop(condition);
+            None
+        }
     }
 }
 
@@ -140,7 +143,10 @@ pub fn check_guard(
     ensures scope { OnOk result (scope_of scope.new ≡ header text.now (scope_of scope.old) (simple_in guard.now.init)) }
 {
     let init = check_init(alloc, text, scope, &guard.init)?;
-    let test = check_condition(alloc, text, scope, pos, &guard.condition)?;
+    let Ok(test) = check_condition(alloc, text, scope, pos, &guard.condition) else {
+        drop(init);
+        return Err(NoMemory);
+    };
     Ok(Guarded {
         choice: choice_head(init.statement, test.value),
         fault: lesser(init.fault, test.fault),
@@ -216,7 +222,12 @@ fn loop_head(
 {
     match (init, test, post) {
         (Some(init), Some(test), Some(post)) => Some(Head::Repeated(init, test, post)),
-        _ => None,
+        (init, test, post) => {
+            drop(init);
+            drop(test);
+            drop(post);
+            None
+        }
     }
 }
 
@@ -235,8 +246,15 @@ fn check_counting(
     ensures scope { OnOk result (scope_of scope.new ≡ behind_post text.now (header text.now (scope_of scope.old) (simple_in init.now)) (simple_in post.now)) }
 {
     let init = check_init(alloc, text, scope, init)?;
-    let test = check_test(alloc, text, scope, pos, clause)?;
-    let post = check_post(alloc, text, scope, post)?;
+    let Ok(test) = check_test(alloc, text, scope, pos, clause) else {
+        drop(init);
+        return Err(NoMemory);
+    };
+    let Ok(post) = check_post(alloc, text, scope, post) else {
+        drop(init);
+        drop(test);
+        return Err(NoMemory);
+    };
     Ok(Headed {
         head: loop_head(init.statement, test.value, post.statements),
         fault: lesser(lesser(init.fault, test.fault), post.fault),

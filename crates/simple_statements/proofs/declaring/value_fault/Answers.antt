@@ -19,5 +19,5 @@ returns c =
     let checked = c.in_ok-checked.checked in
     let given : option_map gives_of checked.gives ≡ gives text s e = c.in_ok-checked.ensures.gives in
     let at : checked.pos ≡ first_place e = c.in_ok-checked.ensures.pos in
-    rw (c.lesser.ensures, c.value_left_fault-own.ensures, given, at)
+    rw (c.lesser-fault.ensures, c.value_left_fault-own.ensures, given, at)
     (least_join (Fails text s e) (IsFault (value_left_fault (gives text s e) (first_place e))) checked.fault (value_left_fault (gives text s e) (first_place e)) c.in_ok-checked.ensures.fault (leaf (value_left_fault (gives text s e) (first_place e))))

@@ -9,5 +9,5 @@ use Rattle.types_go.proofs.heads.check_guard.Goals as goal
 pub returns-clause-fault : goal.returns-clause-fault
 returns-clause-fault c =
     rw (c.lesser.ensures)
-    (least_join _ _ c.in_ok-init.init.fault c.in_ok-test.test.fault c.in_ok-init.ensures.fault
-    (subst (λ (v : Scope). IsLeast (FailsInCondition c.args.text.now v c.args.pos (ex_of c.args.guard.now.condition)) c.in_ok-test.test.fault) c.in_ok-init.ensures.scope c.in_ok-test.ensures.fault))
+    (least_join _ _ c.in_ok-init.init.fault c.in-Ok.test.fault c.in_ok-init.ensures.fault
+    (subst (λ (v : Scope). IsLeast (FailsInCondition c.args.text.now v c.args.pos (ex_of c.args.guard.now.condition)) c.in-Ok.test.fault) c.in_ok-init.ensures.scope c.in-Ok.ensures.fault))
