@@ -2,6 +2,8 @@ pub mod DecidedValues
 pub mod Held
 pub mod InForm
 pub mod Items
+pub mod Parts
+pub mod Selected
 pub mod Nodes
 pub mod Settled
 pub mod Places

@@ -4,3 +4,4 @@ pub mod Scope
 pub mod Naming
 pub mod Types
 pub mod Faults
+pub mod Fields
