@@ -19,7 +19,6 @@ use Rattle.operators.proofs.Held.{IsHeld, prefixed_held, pair_held}
 use Rattle.names.specs.Scope.{Scope, declaration}
 use Rattle.names.specs.Naming.{name_in}
 use Rattle.expression_types.specs.Typing.{Part, one, called, asking, printed, name_operand, prefix_gives, pair_gives, operand_in, Seen, parts, values, fits, taken, Callee, printer, panicker, reader, exiter, function, conversion, no_function, no_spread, no_text_spread, nothing, exit_places, panicked_with, exited_with, called_with, spread_over, callee, gives, seen}
-use Rattle.expression_types.proofs.Selected.{selected_held}
 
 single_one : (o : Option Operand) (P : Operand → Type 0) (x : Operand) → ((y : Operand) → o ≡ Some y → P y) → operand_in (option_map one o) ≡ Some x → P x
 single_one None P x held is = absurd (none_some is)
@@ -90,7 +89,7 @@ module _ (text : List ℕ) (s : Scope) (names_held : (n : List ℕ) (x : Operand
   operand_held (binary at op a b) x is = binary_held (first_place a) op (operand_in (gives text s a)) (operand_in (gives text s b)) x is
   operand_held (paren at e) x is = operand_held e x is
   operand_held (call f es spread) x is = call_held (first_place f) (spread_over spread (callee text s (name_in f) (gives text s f))) (seen text s es) x is
-  operand_held (selector e at n) x is = selected_held text s n (operand_in (gives text s e)) x is
+  operand_held (selector e at n) x is = absurd (none_some is)
   operand_held (index e at i) x is = absurd (none_some is)
   operand_held (slice e at low high) x is = absurd (none_some is)
   operand_held (array_type at len e) x is = absurd (none_some is)

@@ -52,12 +52,9 @@ use Rattle.names.specs.declared.scope.Declared.TheVariants as declared
 use Rattle.names.specs.declared.scope.External.TheVariants.{ReadInt, Exit}
 use Rattle.names.specs.Scope.{Scope, Signature, type_number, type_tree, type_trees, declaration, signature, fixed}
 use Rattle.names.specs.Naming.{name_in}
-use Rattle.names.specs.Fields.{named_field}
-use Rattle.names.proofs.FieldTrees.{field_is}
 use Rattle.names.proofs.Trees.{int_tree, bool_tree, solid}
-use Rattle.expression_types.specs.Typing.{field_value, selected, Part, said, valued, Gives, one, called, asking, quoted, printed, panicked, exited, known_type, global_read, name_operand, prefix_gives, pair_gives, single, operand_in, value_in, shown_type, as_part, part_in, Seen, values, parts, type_in_one, single_types, Many, many_in, many, types_with, value_types, accepts, types_agree, operand_agrees, values_agree, each, fits_with, fits, all_values, taken, asked, Callee, printer, panicker, reader, exiter, function, conversion, no_function, no_spread, no_text_spread, nothing, function_with, callee_declared, callee_value, spread_over, panicked_with, exit_places, exited_with, called_with, as_condition, callee, gives, seen, condition, test}
+use Rattle.expression_types.specs.Typing.{Part, said, valued, Gives, one, called, asking, quoted, printed, panicked, exited, known_type, global_read, name_operand, prefix_gives, pair_gives, single, operand_in, value_in, shown_type, as_part, part_in, Seen, values, parts, type_in_one, single_types, Many, many_in, many, types_with, value_types, accepts, types_agree, operand_agrees, values_agree, each, fits_with, fits, all_values, taken, asked, Callee, printer, panicker, reader, exiter, function, conversion, no_function, no_spread, no_text_spread, nothing, function_with, callee_declared, callee_value, spread_over, panicked_with, exit_places, exited_with, called_with, as_condition, callee, gives, seen, condition, test}
 use Rattle.expression_types.proofs.DecidedValues.{many_single}
-use Rattle.expression_types.proofs.Selected.{field_fits}
 
 is_word : (z : ℤ) → is_int z ≡ true → IsWord (int z)
 is_word z h = grind (arith, int_lemmas)
@@ -576,18 +573,6 @@ module _ (p : Program) (scope : List ℕ) (text : List ℕ) (s : Scope) (are_sho
       let k = and_then_some (combined at op q.0) b r.0 q.2 in
       subst Fits r.2 (pair_fits s.types p scope agrees.formed at op q.0 k.0 r.0 (left q.0 q.1) (right k.0 k.1) k.2)
 
-  selected_fits : (n : Name) (x y : Operand) → Operates x → selected text s n x ≡ Some y → Operates y
-  selected_fits n (constant f) y fits is = absurd (none_some is)
-  selected_fits n (value t e) y fits is =
-      let m = map_some (field_value e) (named_field text s t (spelled text n)) y is in
-      subst Operates m.2 (field_fits p scope s.types agrees.formed agrees.types t m.0 (field_is text s agrees.formed t (spelled text n) m.0 m.1) e fits)
-
-  selector_fits : (n : Name) (a : Option Operand) (g : Gives) → ((x : Operand) → a ≡ Some x → Operates x) → option_map one (option_and_then (selected text s n) a) ≡ Some g → Fits g
-  selector_fits n a g fits is =
-      let r = map_some one (option_and_then (selected text s n) a) g is in
-      let q = and_then_some (selected text s n) a r.0 r.1 in
-      subst Fits r.2 (selected_fits n q.0 r.0 (fits q.0 q.1) q.2)
-
   mutual
     pub gives_fit : (e : TreeEx) (g : Gives) → gives text s e ≡ Some g → Fits g
     gives_fit (number at n) g is = by (nat_lt n (2 ^ 127)) is
@@ -605,7 +590,7 @@ module _ (p : Program) (scope : List ℕ) (text : List ℕ) (s : Scope) (are_sho
     gives_fit (call f es spread) g is =
         call_fits s.types p scope agrees.formed (first_place f) (spread_over spread (callee text s (name_in f) (gives text s f))) (seen text s es) g (spread_fits spread (callee text s (name_in f) (gives text s f)) (callee_fits (name_in f) (gives text s f))) (seen_fit es) is
     gives_fit (string at behind) g is = subst Fits (same_some is) tt
-    gives_fit (selector e at n) g is = selector_fits n (operand_in (gives text s e)) g (λ x h. operand_fits s.types p scope (gives text s e) x (maybe_fits s.types p scope (gives text s e) (λ k i. gives_fit e k i)) h) is
+    gives_fit (selector e at n) g is = absurd (none_some is)
     gives_fit (index e at i) g is = absurd (none_some is)
     gives_fit (slice e at low high) g is = absurd (none_some is)
     gives_fit (array_type at len e) g is = absurd (none_some is)

@@ -2,8 +2,6 @@ pub mod DecidedValues
 pub mod Held
 pub mod InForm
 pub mod Items
-pub mod Parts
-pub mod Selected
 pub mod Nodes
 pub mod Settled
 pub mod Places

@@ -32,10 +32,9 @@ use Rattle.names.specs.declared.scope.External.TheVariants.{ReadInt, Exit}
 use Rattle.names.specs.Scope.{Scope, Signature, declaration, signature, fixed}
 use Rattle.names.specs.Naming.{name_in}
 use Rattle.names.proofs.Settled.{HasSignature, HasValue, IsTyped, IsSettled, declared_typed}
-use Rattle.expression_types.specs.Typing.{Gives, one, selected, global_read, name_operand, prefix_gives, operand_in, Seen, parts, taken, Callee, printer, panicker, reader, exiter, function, conversion, no_function, no_spread, no_text_spread, nothing, function_with, callee_declared, callee_value, spread_over, called_with, as_condition, callee, gives, seen, condition, test}
-use Rattle.expression_types.specs.Faults.{WhereTaken, selector_fault, name_fault, callee_name_fault, single_fault, literal_fault, condition_fault, PrintFails, CallFails, CalleeFails, Fails, FailsInEach, FailsAsOperand, FailsInCondition, FailsInTest}
+use Rattle.expression_types.specs.Typing.{Gives, one, global_read, name_operand, prefix_gives, operand_in, Seen, parts, taken, Callee, printer, panicker, reader, exiter, function, conversion, no_function, no_spread, no_text_spread, nothing, function_with, callee_declared, callee_value, spread_over, called_with, as_condition, callee, gives, seen, condition, test}
+use Rattle.expression_types.specs.Faults.{WhereTaken, name_fault, callee_name_fault, single_fault, literal_fault, condition_fault, PrintFails, CallFails, CalleeFails, Fails, FailsInEach, FailsAsOperand, FailsInCondition, FailsInTest}
 use Rattle.expression_types.proofs.Held.{operand_held}
-use Rattle.expression_types.proofs.Selected.{selected_decided}
 use Rattle.expression_types.proofs.DecidedValues.{operand_decided, given_all, take_decided, print_decided, panic_decided, read_decided, exit_decided, refused, parts_refused}
 
 -- ---- numbers and conditions
@@ -228,9 +227,7 @@ module _ (text : List ℕ) (s : Scope) (settled : IsSettled s) where
         call_decided (first_place g) (spread_over spread (callee text s (name_in g) (gives text s g))) (seen text s es) (CalleeFails text s (name_in g) (λ f. Fails text s g f) (gives text s g)) (FailsInEach text s es)
         (spread_is spread (callee text s (name_in g) (gives text s g)) (CalleeFails text s (name_in g) (λ f. Fails text s g f) (gives text s g)) (callee_is (name_in g) (gives text s g) (λ f. Fails text s g f) (gives_decided g))) (seen_decided es)
     gives_decided (string at behind) = λ f h. h
-    gives_decided (selector e at n) =
-        mapped one (option_and_then (selected text s n) (operand_in (gives text s e))) (λ g. FailsAsOperand text s e g ⊎ IsFault (selector_fault text s (first_place e) n (operand_in (gives text s e))) g)
-        (one_decided (selected text s n) (selector_fault text s (first_place e) n) (operand_in (gives text s e)) (FailsAsOperand text s e) (operand_decided (gives text s e) (Fails text s e) (gives_decided e)) (selected_decided text s (first_place e) n))
+    gives_decided (selector e at n) = (fault OutOfProfile (first_place e), inr refl)
     gives_decided (index e at i) = (fault OutOfProfile (first_place e), inr refl)
     gives_decided (slice e at low high) = (fault OutOfProfile (first_place e), inr refl)
     gives_decided (array_type at len e) = (fault OutOfProfile at, refl)

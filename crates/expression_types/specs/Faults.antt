@@ -4,7 +4,7 @@
 -- A form that is left out of the profile fails at its first byte, and has no other rule of its own. The part that begins at the same byte
 -- keeps its rules, so that the fault with the least number stands there. What stands further right isn't looked at: the fault that is
 -- reported has the least offset.
-use Rattle.std.specs.Prelude.{ℕ, length, ◌^◌, ◌==◌, nat_lt, ◌⊎◌, Bool, true, false, not, ◌&&◌, take, List, [], ◌∷◌, Option, Some, None, is_some, if◌then◌else◌}
+use Rattle.std.specs.Prelude.{ℕ, length, ◌^◌, ◌==◌, nat_lt, ◌⊎◌, Bool, true, false, not, ◌&&◌, take, List, [], ◌∷◌, Option, Some, None, if◌then◌else◌}
 use Rattle.base.specs.declared.pos.Pos.{Pos}
 use Rattle.syntax.specs.declared.expression.Name.{Name}
 use Rattle.syntax.specs.FirstBytes.{first_place}
@@ -13,7 +13,7 @@ use Rattle.syntax.specs.Expressions as tree
 use Rattle.value_types.specs.declared.fault.Fault.{Fault}
 use Rattle.value_types.specs.declared.fault.FaultKind.TheVariants.{Unknown, Mismatch, NotCallable, ArgCount, ResultCount, ConstRange, BadOperand, OutOfProfile}
 use Rattle.base.specs.declared.value_type.ValueType.{ValueType}
-use Rattle.base.specs.declared.value_type.ValueType.TheVariants.{Bool as Boolean, Struct}
+use Rattle.base.specs.declared.value_type.ValueType.TheVariants.{Bool as Boolean}
 use Rattle.base.specs.Types.{same_type}
 use Rattle.value_types.specs.Faults.{fault, IsFault, FormFails, constant_range_fault}
 use Rattle.operators.specs.Operands.{Operand, constant, value, type_of}
@@ -23,7 +23,6 @@ use Rattle.names.specs.declared.scope.Declared.{Declared}
 use Rattle.names.specs.declared.scope.Declared.TheVariants as declared
 use Rattle.names.specs.Scope.{Scope, declaration}
 use Rattle.names.specs.Naming.{name_in}
-use Rattle.names.specs.Fields.{named_field}
 use Rattle.names.specs.Faults.{FailsAsType}
 use Rattle.expression_types.specs.Typing.{Gives, one, called, asking, quoted, printed, panicked, exited, operand_in, Seen, Many, many, count, are_parts, are_shown, part_count, types_agree, operand_agrees, Callee, printer, panicker, reader, exiter, function, conversion, no_function, no_spread, no_text_spread, nothing, exit_places, spread_over, callee, gives, seen, taken}
 
@@ -175,15 +174,6 @@ CallFails at no_text_spread os f = PartsFail os f ⊎ IsFault (refused_fault (pa
 CallFails at nothing os f = ValuesFail (many os) os f
 
 module _ (text : List ℕ) where
-  -- only structs have fields, and each those of its declaration alone
-  abbrev pub field_fault : Scope → Pos → Name → Operand → Option Fault
-  field_fault s at n (value (Struct k) e) = if is_some (named_field text s (Struct k) (spelled text n)) then None else Some (fault Unknown n.pos)
-  field_fault s at n x = Some (fault BadOperand at)
-
-  abbrev pub selector_fault : Scope → Pos → Name → Option Operand → Option Fault
-  selector_fault s at n None = None
-  selector_fault s at n (Some x) = field_fault s at n x
-
   -- what is called is a name, or an expression with one value, in which this fails and which gives this
   abbrev pub CalleeFails : Scope → Option Name → (Fault → Type 0) → Option Gives → Fault → Type 0
   CalleeFails s (Some n) P o f = IsFault (callee_name_fault (declaration s (spelled text n)) n.pos) f
@@ -204,7 +194,7 @@ module _ (text : List ℕ) where
     Fails s (call g es spread) f =
         (CalleeFails s (name_in g) (λ h. Fails s g h) (gives text s g) f ⊎ FailsInEach s es f)
         ⊎ CallFails (first_place g) (spread_over spread (callee text s (name_in g) (gives text s g))) (seen text s es) f
-    Fails s (selector e at n) f = (Fails s e f ⊎ IsFault (single_fault (gives text s e)) f) ⊎ IsFault (selector_fault s (first_place e) n (operand_in (gives text s e))) f
+    Fails s (selector e at n) f = Fails s e f ⊎ FormFails (first_place e) f
     Fails s (index e at i) f = Fails s e f ⊎ FormFails (first_place e) f
     Fails s (slice e at low high) f = Fails s e f ⊎ FormFails (first_place e) f
     Fails s (array_type at len e) f = FormFails at f

@@ -9,7 +9,7 @@ use Rattle.syntax.specs.FirstBytes.{first_place}
 use Rattle.syntax.specs.Expressions.{Ex as TreeEx, Exs as TreeExs, number, string, name, unary, binary, paren, call, selector, index, slice, array_type, slice_type, literal, elements, some, spelled}
 use Rattle.syntax.specs.Expressions as tree
 use Rattle.syntax.specs.Statements.{Clause, forever, while_true, counting, ranging}
-use Rattle.typed.specs.Syntax.{Ex, Exs, Pl, Steps, read, local, global, here, inner, at_index, none, more, results, asked as items}
+use Rattle.typed.specs.Syntax.{Ex, Exs, read, local, global, here, none, more, results, asked as items}
 use Rattle.typed.specs.Syntax as typed
 use Rattle.value_trees.specs.Types.{ValueType as TypeTree, ints, bools}
 use Rattle.value_types.specs.declared.constant.Constant.TheVariants.{Number, Truth}
@@ -28,8 +28,6 @@ use Rattle.names.specs.declared.scope.External.{External as ExternalFunction}
 use Rattle.names.specs.declared.scope.External.TheVariants as external
 use Rattle.names.specs.Scope.{Scope, Signature, declaration, signature, fixed}
 use Rattle.names.specs.Naming.{name_in, between}
-use Rattle.names.specs.declared.fields.Field.{Field}
-use Rattle.names.specs.Fields.{named_field}
 
 -- an operand of `print`, `println` or `panic`: the bytes of a string, or a value and its type
 pub data Part : Type 0 where
@@ -86,22 +84,6 @@ prefix_gives op true a = option_map one (option_and_then (prefixed op) a)
 
 abbrev pub pair_gives : Pos → BinOp → Option Operand → Option Operand → Option Gives
 pair_gives at op a b = option_map one (both (combined at op) a b)
-
--- ---- fields
-
--- the steps to a part, and one more from there
-abbrev pub steps_into : Steps → ℕ → Steps
-steps_into here n = inner n here
-steps_into (inner i steps) n = inner i (steps_into steps n)
-steps_into (at_index at e m steps) n = at_index at e m (steps_into steps n)
-
--- the part of a value of a type by its number; of a local variable it alone is read
-abbrev pub part_read : (owner n : ℕ) → Ex → Ex
-part_read i n (read (local site steps)) = read (local site (steps_into steps n))
-part_read i n e = typed.part_of i n e
-
-abbrev pub field_value : Ex → Field → Operand
-field_value e f = value f.value_type (part_read f.owner.0 f.number e)
 
 -- ---- where one value is wanted
 
@@ -382,11 +364,6 @@ module _ (text : List ℕ) where
   callee s None o = callee_value (operand_in o)
   callee s (Some n) o = callee_declared s (declaration s (spelled text n))
 
-  -- the field of a value that has a name; no constant has fields
-  abbrev pub selected : Scope → Name → Operand → Option Operand
-  selected s n (constant f) = None
-  selected s n (value t e) = option_map (field_value e) (named_field text s t (spelled text n))
-
   -- what an expression gives in a scope, where no rule fails in it; a form that is left out of the profile gives nothing
   abbrev mutual
     pub gives : Scope → TreeEx → Option Gives
@@ -397,7 +374,7 @@ module _ (text : List ℕ) where
     gives s (binary at op a b) = pair_gives (first_place a) op (operand_in (gives s a)) (operand_in (gives s b))
     gives s (paren at e) = gives s e
     gives s (call f es spread) = called_with (first_place f) (spread_over spread (callee s (name_in f) (gives s f))) (seen s es)
-    gives s (selector e at n) = option_map one (option_and_then (selected s n) (operand_in (gives s e)))
+    gives s (selector e at n) = None
     gives s (index e at i) = None
     gives s (slice e at low high) = None
     gives s (array_type at len e) = None

@@ -1,6 +1,6 @@
 //! The types of expressions: what each gives, and the least of the rules that fail in it.
 
-ghost use Rattle.std.specs.Prelude.{◌≡◌, ◌⊎◌, None, Some, IfOk, true, option_and_then};
+ghost use Rattle.std.specs.Prelude.{◌≡◌, ◌⊎◌, None, Some, IfOk, true};
 ghost use Rattle.std.specs.Option.{option_map};
 ghost use Rattle.string_value.specs.StringValue.{string_value};
 ghost use Rattle.syntax.specs.FirstBytes.{first_place};
@@ -12,8 +12,8 @@ ghost use Rattle.operators.specs.Passing.{operand_of};
 ghost use Rattle.names.specs.Scope.{scope_of};
 ghost use Rattle.names.specs.Naming.{between, name_in};
 ghost use Rattle.names.specs.Faults.{FailsAsType};
-ghost use Rattle.expression_types.specs.Typing.{one as one_gives, quoted as quoted_gives, pair_gives, spread_over, called_with, operand_in, callee, selected, gives, seen};
-ghost use Rattle.expression_types.specs.Faults.{CallFails, Fails, FailsInEach, FailsAsOperand, CalleeFails, literal_fault, single_fault, selector_fault};
+ghost use Rattle.expression_types.specs.Typing.{one as one_gives, quoted as quoted_gives, pair_gives, spread_over, called_with, operand_in, callee, gives, seen};
+ghost use Rattle.expression_types.specs.Faults.{CallFails, Fails, FailsInEach, FailsAsOperand, CalleeFails, literal_fault, single_fault};
 ghost use Rattle.expression_types.specs.Passing.{gives_of, seens, callee_of, literal_operand};
 
 use crate::calls::{
@@ -21,7 +21,6 @@ use crate::calls::{
 };
 use crate::gives::{Callee, Gives, Item, one_operand, single_fault};
 use crate::naming::{name_fault, name_value};
-use crate::selectors::{selected, selector_fault};
 use base::{NoMemory, Pos};
 use names::{Scope, between, name_in, type_fault};
 use operators::{Operand, has_rules, pair_fault, paired, prefix_fault, prefixed};
@@ -159,27 +158,6 @@ fn pair(alloc: Global, op: BinOp, left: Single, right: Single) -> Result<Checked
     })
 }
 
-/// A selector behind its value.
-fn selector(
-    alloc: Global,
-    text: &[u8],
-    scope: &Scope,
-    value: Single,
-    name: Name,
-) -> Result<Checked, NoMemory>
-    ensures pos { IfOk result (λ c. c.pos ≡ value.pos) }
-    ensures gives { IfOk result (λ c. option_map gives_of c.gives ≡ option_map one_gives (option_and_then (selected text.now (scope_of scope.now) name) (option_map operand_of value.operand))) }
-    ensures fault { IfOk result (λ c. c.fault ≡ least value.fault (selector_fault text.now (scope_of scope.now) value.pos name (option_map operand_of value.operand))) }
-{
-    let own = selector_fault(text, scope, value.pos, name, &value.operand)?;
-    let operand = selected(alloc, text, scope, name, value.operand)?;
-    Ok(Checked {
-        pos: value.pos,
-        gives: one(operand),
-        fault: lesser(value.fault, own),
-    })
-}
-
 /// A call at a place, of what is called and the arguments.
 fn call_of(alloc: Global, pos: Pos, called: Called, arguments: Listed) -> Result<Checked, NoMemory>
     ensures pos { IfOk result (λ c. c.pos ≡ pos) }
@@ -265,10 +243,7 @@ pub fn check_expr(alloc: Global, text: &[u8], scope: &Scope, e: &Expr) -> Result
             let listed = check_list(alloc, text, scope, arguments)?;
             call_of(alloc, function.pos(), called, listed)
         }
-        Expr::Selector(value, _, name) => {
-            let value = check_single(alloc, text, scope, value)?;
-            selector(alloc, text, scope, value, *name)
-        }
+        Expr::Selector(value, _, _) => check_left_out(alloc, text, scope, value),
         Expr::Index(value, _, _) => check_left_out(alloc, text, scope, value),
         Expr::Slice(value, _, _, _) => check_left_out(alloc, text, scope, value),
         Expr::ArrayType(pos, _, _) => Ok(left_out(*pos)),

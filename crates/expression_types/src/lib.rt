@@ -12,7 +12,6 @@ mod conditions;
 mod expressions;
 mod gives;
 mod naming;
-mod selectors;
 mod values;
 
 pub use conditions::{Condition, Test, check_condition, check_test};

@@ -1,6 +1,5 @@
 pub mod Tables
 pub mod LastInsert
 pub mod Trees
-pub mod FieldTrees
 pub mod Settled
 pub mod Places

@@ -23,7 +23,7 @@ mapped T [] i t is = cc is
 mapped T (u ∷ us) zero t is = let e : u ≡ t = cc is in ap (λ v. unwrap_or (tree_of T v) ints) e
 mapped T (u ∷ us) (suc i) t is = mapped T us i t is
 
-pub tree_there : (T : Table) (i : ℕ) (t : ValueType) → Holds T i t → tree_named T i ≡ unwrap_or (tree_of T t) ints
+tree_there : (T : Table) (i : ℕ) (t : ValueType) → Holds T i t → tree_named T i ≡ unwrap_or (tree_of T t) ints
 tree_there T i t is = mapped T T.types i t is
 
 -- each number of a table is that of a type whose values have a word at least; what has no tree counts as a whole number

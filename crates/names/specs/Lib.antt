@@ -4,4 +4,3 @@ pub mod Scope
 pub mod Naming
 pub mod Types
 pub mod Faults
-pub mod Fields

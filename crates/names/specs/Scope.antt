@@ -2,7 +2,6 @@
 use Rattle.std.specs.Prelude.{ℕ, Bool, List, map, [], ◌∷◌, ◌++◌, length, slice_get, slice_set, Option, Some, None, option_and_then, is_some}
 use Rattle.std.specs.Option.{option_map, unwrap_or}
 use Rattle.base.specs.declared.pos.Pos.{Pos}
-use Rattle.syntax.specs.declared.expression.Name.{Name}
 use Rattle.typed.specs.declared.program.Site.{Site}
 use Rattle.value_trees.specs.Types.{ValueType as TypeTree}
 use Rattle.base.specs.declared.value_type.ValueType.{ValueType}
@@ -43,7 +42,7 @@ signature_of s = record { params = s.params.items; results = s.results.items }
 -- the blocks that are open, which number the declarations; the declarations; the sites of the variables with a type; the signatures of the
 -- functions, where they have one; what is known of the constants and the package variables, which are numbered together: the value of a
 -- constant, and of a variable the zero value of its type; which of them are the package variables with a name; the bytes of the strings
--- that stand in statements so far; and the types of the program, with the names of each struct's fields
+-- that stand in statements so far; and the types of the program
 pub record Scope : Type 0 where
   pub blocks : Blocks
   pub declared : List Declared
@@ -53,10 +52,9 @@ pub record Scope : Type 0 where
   pub globals : List ℕ
   pub strings : List (List ℕ)
   pub types : Table
-  pub fields : List (List Name)
 
 abbrev pub scope_of : ScopeData → Scope
-scope_of s = record { blocks = s.names; declared = s.declared.items; sites = s.sites.items; signatures = map (option_map signature_of) s.signatures.items; values = s.values.items; globals = map (λ k. k.0) s.globals.items; strings = map (λ string. string.items) s.strings.items; types = s.types; fields = map (λ names. names.items) s.fields.items }
+scope_of s = record { blocks = s.names; declared = s.declared.items; sites = s.sites.items; signatures = map (option_map signature_of) s.signatures.items; values = s.values.items; globals = map (λ k. k.0) s.globals.items; strings = map (λ string. string.items) s.strings.items; types = s.types }
 
 -- what the number of a declaration stands for, or else what the language says of the name
 abbrev pub numbered : Scope → List ℕ → Option ℕ → Option Declared
@@ -126,4 +124,4 @@ closed s = record s { blocks = outer s.blocks }
 
 -- where no name is declared
 abbrev pub beginning : Scope
-beginning = record { blocks = [] ∷ []; declared = []; sites = []; signatures = []; values = []; globals = []; strings = []; types = basic_table; fields = [] }
+beginning = record { blocks = [] ∷ []; declared = []; sites = []; signatures = []; values = []; globals = []; strings = []; types = basic_table }

@@ -9,14 +9,12 @@
 #![tactic(auto)]
 
 mod block;
-mod fields;
 mod naming;
 mod scope;
 mod type_names;
 mod universe;
 
 pub use block::Block;
-pub use fields::{Field, named_field};
 pub use naming::{between, name_in, spelled};
 pub use scope::{
     Declared, External, GlobalId, Scope, Signature, ValueId, add_global, add_signature, add_site,

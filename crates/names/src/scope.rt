@@ -8,7 +8,6 @@ use crate::block::Block;
 use crate::universe::predeclared;
 use base::{FuncId, NoMemory, Pos, SiteId, TypeId, ValueType};
 use std::alloc::Global;
-use syntax::Name;
 use typed::{INT, Site, TypeTable};
 use value_types::Fixed;
 
@@ -75,7 +74,7 @@ pub enum Declared {
 /// The declarations that are in scope: the open blocks number them. And the sites of the variables that have a type, the
 /// signature of each function, where it has one, and the bytes of the strings that stand in statements so far. Of each
 /// constant and each package variable, which are numbered together, it says what is known: the value of a constant, and of a
-/// variable the zero value of its type. And the types of the program, and the names of each struct's fields.
+/// variable the zero value of its type. And the types of the program.
 #[derive(Drop)]
 pub struct Scope {
     pub names: Block,
@@ -86,7 +85,6 @@ pub struct Scope {
     pub globals: Vec<ValueId>,
     pub strings: Vec<Vec<u8>>,
     pub types: TypeTable,
-    pub fields: Vec<Vec<Name>>,
 }
 
 /// Where no name is declared.
@@ -102,7 +100,6 @@ pub fn beginning(alloc: Global) -> Result<Scope, NoMemory>
         globals: Vec::new(alloc),
         strings: Vec::new(alloc),
         types: TypeTable::new(alloc, 0)?,
-        fields: Vec::new(alloc),
     })
 }
 

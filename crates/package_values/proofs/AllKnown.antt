@@ -46,8 +46,7 @@ use Rattle.package_values.specs.Needs.{names_in, names_in_each, names_in_some, n
 use Rattle.package_values.specs.ValueFaults.{single_count, value_fault, ValuesFail, type_asked, TypeFails, SpecFails, SpecsFail, form_fault, FormsFail, left_out_fault, ValuesLeftOut, wanted, InitialsFail, VariablesFail, AllVariablesFail, cycle_place, DeclarationsFail, ItemsFail}
 use Rattle.package_values.specs.Passing.{has_mark, is_marked}
 use Rattle.package_values.proofs.Growth.{known, Consistent, IsEnd, rounds, rounds_good, rounds_settle, all_seen, rounds_hold}
-use Rattle.package_values.proofs.Holding.{holding}
-use Rattle.package_values.proofs.Giving.{give, monotone, type_same, given_held, looks_are}
+use Rattle.package_values.proofs.Giving.{holding, give, monotone, type_same, given_held, looks_are}
 use Rattle.package_values.proofs.Same.{NameSame, AllSame, all_left, all_right, gives_same, fails_back, type_fails_back}
 use Rattle.package_values.proofs.Walks.{unmarked, set_count, set_only, set_length}
 

@@ -26,13 +26,16 @@ use Rattle.names.specs.declared.scope.Declared.TheVariants as declared
 use Rattle.names.specs.Scope.{Scope, declaration}
 use Rattle.names.specs.Naming.{name_in}
 use Rattle.names.specs.Types.{type_in}
-use Rattle.expression_types.specs.Typing.{selected, Gives, one, called, asking, printed, global_read, name_operand, prefix_gives, pair_gives, single, operand_in, value_in, part_in, Seen, listed, values, parts, type_in_one, Many, many_in, many, types_with, value_types, values_agree, each, fits_with, fits, all_values, taken, Callee, printer, panicker, reader, exiter, function, conversion, no_function, no_spread, no_text_spread, nothing, callee_value, callee_declared, exit_places, panicked_with, exited_with, called_with, spread_over, callee, gives, seen}
+use Rattle.expression_types.specs.Typing.{Gives, one, called, asking, printed, global_read, name_operand, prefix_gives, pair_gives, single, operand_in, value_in, part_in, Seen, listed, values, parts, type_in_one, Many, many_in, many, types_with, value_types, values_agree, each, fits_with, fits, all_values, taken, Callee, printer, panicker, reader, exiter, function, conversion, no_function, no_spread, no_text_spread, nothing, callee_value, callee_declared, exit_places, panicked_with, exited_with, called_with, spread_over, callee, gives, seen}
 use Rattle.expression_types.proofs.Held.{operand_held}
 use Rattle.package_values.specs.declared.items.Role.{Role}
 use Rattle.package_values.specs.declared.items.Role.TheVariants as role
 use Rattle.package_values.specs.Values.{Item, as_constant, constant_in, with_type, zero_of, accepted, given_by, initial_type, variable_type, given_as, given, look, looks}
 use Rattle.package_values.proofs.Growth.{known, Within, renewed, rounds}
-use Rattle.package_values.proofs.Holding.{holding, select_same}
+
+-- a scope with these constants
+abbrev pub holding : Scope → List (Option Fixed) → Scope
+holding s cs = record s { values = cs }
 
 -- ---- what is given stays so where more is known
 
@@ -174,12 +177,7 @@ module _ (text : List ℕ) (s : Scope) where
           let os_is : os ≡ seen text (holding s ds) es = seen_still es (call_gives (first_place f) (spread_over spread k) os g h) in
           sym (ap (λ (x : Callee). called_with (first_place f) (spread_over spread x) os) k_is
           ∙ ap (λ (l : List Seen). called_with (first_place f) (spread_over spread (callee text (holding s ds) (name_in f) (gives text (holding s ds) f))) l) os_is) ∙ h
-      gives_still (selector e at n) g h =
-          let p = map_some one (option_and_then (selected text (holding s cs) n) (operand_in (gives text (holding s cs) e))) g h in
-          let q = and_then_some (selected text (holding s cs) n) (operand_in (gives text (holding s cs) e)) p.0 p.1 in
-          let r = and_then_some single (gives text (holding s cs) e) q.0 q.1 in
-          ap (λ (o : Option Operand). option_map one (option_and_then (selected text (holding s ds) n) o)) (ap operand_in (gives_still e r.0 r.1) ∙ r.2)
-          ∙ ap (option_map one) (sym (select_same text s cs ds n q.0) ∙ q.2) ∙ ap Some p.2
+      gives_still (selector e at n) g h = h
       gives_still (index e at i) g h = h
       gives_still (slice e at low high) g h = h
       gives_still (array_type at len e) g h = h

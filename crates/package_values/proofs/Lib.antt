@@ -2,7 +2,6 @@ pub mod AllKnown
 pub mod ItemLists
 pub mod Giving
 pub mod Growth
-pub mod Holding
 pub mod Leaving
 pub mod Least
 pub mod Rules

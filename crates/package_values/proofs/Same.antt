@@ -1,6 +1,5 @@
 -- What an expression gives, and which rules fail in it, rest on the constants and variables that it names and on no others.
 use Rattle.std.proofs.Common.{◌≡◌, ℕ, Bool, true, false, List, [], ◌∷◌, ◌++◌, ◌⊎◌, inl, inr, Option, Some, None, refl, sym, ap, ◌∙◌, subst}
-use Rattle.std.specs.Prelude.{option_and_then}
 use Rattle.std.specs.Option.{option_map}
 use Rattle.base.specs.declared.pos.Pos.{Pos}
 use Rattle.syntax.specs.declared.operator.BinOp.{BinOp}
@@ -21,11 +20,11 @@ use Rattle.names.specs.declared.scope.Declared.TheVariants as declared
 use Rattle.names.specs.Scope.{Scope, declaration}
 use Rattle.names.specs.Naming.{name_in}
 use Rattle.names.specs.Faults.{FailsAsType}
-use Rattle.expression_types.specs.Typing.{selected, Gives, one, global_read, name_operand, prefix_gives, pair_gives, operand_in, Seen, Callee, callee_value, callee_declared, called_with, spread_over, callee, gives, seen}
-use Rattle.expression_types.specs.Faults.{selector_fault, WhereTaken, single_fault, CallFails, CalleeFails, Fails, FailsInEach}
+use Rattle.expression_types.specs.Typing.{Gives, one, global_read, name_operand, prefix_gives, pair_gives, operand_in, Seen, Callee, callee_value, callee_declared, called_with, spread_over, callee, gives, seen}
+use Rattle.expression_types.specs.Faults.{WhereTaken, single_fault, CallFails, CalleeFails, Fails, FailsInEach}
 use Rattle.package_values.specs.Needs.{names_in, names_in_each, names_in_bound}
-use Rattle.package_values.proofs.Holding.{holding, selected_same, selector_fault_same}
 use Rattle.package_values.proofs.Growth.{known}
+use Rattle.package_values.proofs.Giving.{holding}
 
 where_taken : (b : Bool) (P Q R : Fault → Type 0) (f : Fault) → (P f → Q f) → WhereTaken b P R f → WhereTaken b Q R f
 where_taken true P Q R f into h = into h
@@ -90,9 +89,7 @@ module _ (text : List ℕ) (s : Scope) (cs ds : List (Option Fixed)) where
         (callee_same f (all_left (names_in f) (names_in_each es) all) (gives_same f (all_left (names_in f) (names_in_each es) all)))
         ∙ ap (λ (os : List Seen). called_with (first_place f) (spread_over spread (callee text (holding s ds) (name_in f) (gives text (holding s ds) f))) os)
         (seen_same es (all_right (names_in f) (names_in_each es) all))
-    gives_same (selector e at n) all =
-        ap (λ (o : Option Gives). option_map one (option_and_then (selected text (holding s cs) n) (operand_in o))) (gives_same e all)
-        ∙ ap (option_map one) (selected_same text s cs ds n (operand_in (gives text (holding s ds) e)))
+    gives_same (selector e at n) all = refl
     gives_same (index e at i) all = refl
     gives_same (slice e at low high) all = refl
     gives_same (array_type at len e) all = refl
@@ -158,16 +155,6 @@ module _ (text : List ℕ) (s : Scope) (cs ds : List (Option Fixed)) where
       inr (subst (λ (c : Callee). CallFails (first_place g) (spread_over spread c) (seen text (holding s cs) es) f) (sym k)
       (subst (λ (l : List Seen). CallFails (first_place g) (spread_over spread (callee text (holding s ds) (name_in g) (gives text (holding s ds) g))) l f) (sym os) h))
 
-  abbrev SelectorFault : List (Option Fixed) → TreeEx → Name → Fault → Type 0
-  SelectorFault xs e n f = IsFault (selector_fault text (holding s xs) (first_place e) n (operand_in (gives text (holding s xs) e))) f
-
-  selector_back : (e : TreeEx) (n : Name) (f : Fault) → gives text (holding s cs) e ≡ gives text (holding s ds) e → (Fails text (holding s ds) e f → Fails text (holding s cs) e f)
-      → OperandFails ds e f ⊎ SelectorFault ds e n f → OperandFails cs e f ⊎ SelectorFault cs e n f
-  selector_back e n f g into (inl h) = inl (operand_back e f g into h)
-  selector_back e n f g into (inr h) =
-      inr (subst (λ (o : Option Gives). IsFault (selector_fault text (holding s cs) (first_place e) n (operand_in o)) f) (sym g)
-      (subst (λ (x : Option Fault). IsFault x f) (sym (selector_fault_same text s cs ds (first_place e) n (operand_in (gives text (holding s ds) e)))) h))
-
   left_out_back : (e : TreeEx) (f : Fault) → (Fails text (holding s ds) e f → Fails text (holding s cs) e f) → Fails text (holding s ds) e f ⊎ FormFails (first_place e) f → Fails text (holding s cs) e f ⊎ FormFails (first_place e) f
   left_out_back e f into (inl h) = inl (into h)
   left_out_back e f into (inr h) = inr h
@@ -193,7 +180,7 @@ module _ (text : List ℕ) (s : Scope) (cs ds : List (Option Fixed)) where
         let left = all_left (names_in g) (names_in_each es) all in
         let right = all_right (names_in g) (names_in_each es) all in
         call_back g es spread f (gives_same g left) (callee_same g left (gives_same g left)) (seen_same es right) (fails_back g f left) (fails_each es f right) h
-    fails_back (selector e at n) f all h = selector_back e n f (gives_same e all) (fails_back e f all) h
+    fails_back (selector e at n) f all h = left_out_back e f (fails_back e f all) h
     fails_back (index e at i) f all h = left_out_back e f (fails_back e f (all_left (names_in e) (names_in i) all)) h
     fails_back (slice e at low high) f all h = left_out_back e f (fails_back e f (all_left (names_in e) (names_in_bound low ++ names_in_bound high) all)) h
     fails_back (array_type at len e) f all h = h

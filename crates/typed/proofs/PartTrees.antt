@@ -73,7 +73,7 @@ named_width T i = by (tree_at T i) ∙ sym (ap width (named T i))
     by (Some x) = refl
 
 -- the types of a struct's fields, and behind them
-pub nth_field : (T : Table) (es : List TypeId) (xs : PartTypes) (j : ℕ) (d : TypeId) → parts_by T (tree_of T) es ≡ Some xs → j < length es → tree_named T (get_or es j d).0 ≡ nth_type xs j
+nth_field : (T : Table) (es : List TypeId) (xs : PartTypes) (j : ℕ) (d : TypeId) → parts_by T (tree_of T) es ≡ Some xs → j < length es → tree_named T (get_or es j d).0 ≡ nth_type xs j
 nth_field T [] xs j d p l = absurd (omega arith)
 nth_field T (e ∷ es) xs zero d p l =
     let m = more_is (tree_at T e.0) (parts_by T (tree_of T) es) xs p in

@@ -3,7 +3,7 @@ use Rattle.std.specs.Option.{option_map}
 use Rattle.base.specs.declared.pos.Pos.{Pos}
 use Rattle.syntax.specs.declared.expression.Expr.{Expr}
 use Rattle.syntax.specs.FirstBytes.{first_place}
-use Rattle.syntax.specs.Expressions.{ex_of, exs_of, binary, call, selector}
+use Rattle.syntax.specs.Expressions.{ex_of, exs_of, binary, call}
 use Rattle.syntax.proofs.Views.{expr_rows}
 use Rattle.value_types.specs.Least.{IsLeast, IsLesserWith, lesser}
 use Rattle.value_types.specs.Faults.{IsFault, FormFails}
@@ -17,7 +17,7 @@ use Rattle.names.specs.Faults.{FailsAsType}
 use Rattle.expression_types.specs.declared.gives.Item.{Item}
 use Rattle.expression_types.specs.declared.expressions.Checked.{Checked}
 use Rattle.expression_types.specs.Typing.{operand_in, callee, spread_over, gives, seen}
-use Rattle.expression_types.specs.Faults.{CallFails, Fails, FailsInEach, FailsAsOperand, CalleeFails, single_fault, selector_fault}
+use Rattle.expression_types.specs.Faults.{CallFails, Fails, FailsInEach, FailsAsOperand, CalleeFails, single_fault}
 use Rattle.expression_types.specs.Passing.{gives_of, callee_of, seen_of, seens}
 use Rattle.value_types.proofs.Lists.{from_one, nothing_left}
 use Rattle.expression_types.proofs.Items.{pushed}
@@ -88,27 +88,17 @@ check_expr-returns-in_ok-listed-in-Call-clause-fault t c =
     subst (λ (p : Pos). IfOk c.call_of.result (λ r. IsLesserWith (CallFails p k os) (lesser called.fault listed.fault) r.fault)) at c.call_of.ensures.fault in
     rw (shape) (if_ok _ _ c.call_of.result (λ r h. call_least text s (ex_of g) (exs_of es) spread k os called.fault listed.fault r.fault k_is os_is a b h) own)
 
-pub check_expr-returns-in_ok-value-in-Selector-clause-fault : goal.check_expr-returns-in_ok-value-in-Selector-clause-fault
-check_expr-returns-in_ok-value-in-Selector-clause-fault t c =
+pub check_expr-returns-in-Selector-clause-fault : goal.check_expr-returns-in-Selector-clause-fault
+check_expr-returns-in-Selector-clause-fault t c =
     let text = c.args.text.now in
     let s = scope_of c.args.scope.now in
-    let n = c.in-Selector.name in
-    let a : Expr = c.in-Selector.value.value in
-    let left = c.in_ok-value-in-Selector.value in
-    let o = option_map operand_of left.operand in
-    let l : IsLeast (FailsAsOperand text s (ex_of a)) left.fault = subst (λ (x : Expr). IsLeast (FailsAsOperand text s (ex_of x)) left.fault) c.deref-in-Selector.ensures c.in_ok-value-in-Selector.ensures.fault in
-    let o_is : o ≡ operand_in (gives text s (ex_of a)) = subst (λ (x : Expr). o ≡ operand_in (gives text s (ex_of x))) c.deref-in-Selector.ensures c.in_ok-value-in-Selector.ensures.operand in
-    let at : left.pos ≡ first_place (ex_of a) = subst (λ (x : Expr). left.pos ≡ first_place (ex_of x)) c.deref-in-Selector.ensures c.in_ok-value-in-Selector.ensures.pos in
-    let own = selector_fault text s (first_place (ex_of a)) n (operand_in (gives text s (ex_of a))) in
-    let whole : (x : Checked) → x.fault ≡ lesser left.fault (selector_fault text s left.pos n o) → IsLeast (Fails text s (selector (ex_of a) c.in-Selector.field-1 n)) x.fault =
-    λ x is. rw (is, at, o_is) (least_join (FailsAsOperand text s (ex_of a)) (IsFault own) left.fault own l (leaf own)) in
-    rw (c.in-Selector.is) (if_ok _ _ c.selector.result whole c.selector.ensures.fault)
+    rw (c.in-Selector.is) (subst (λ (x : Expr). IfOk c.check_left_out.result (λ r. IsLeast (λ f. Fails text s (ex_of x) f ⊎ FormFails (first_place (ex_of x)) f) r.fault)) c.deref-in-Selector.ensures c.check_left_out.ensures.fault)
 
 pub check_expr-returns-in-Index-clause-fault : goal.check_expr-returns-in-Index-clause-fault
 check_expr-returns-in-Index-clause-fault t c =
     let text = c.args.text.now in
     let s = scope_of c.args.scope.now in
-    rw (c.in-Index.is) (subst (λ (x : Expr). IfOk c.check_left_out.result (λ r. IsLeast (λ f. Fails text s (ex_of x) f ⊎ FormFails (first_place (ex_of x)) f) r.fault)) c.deref-in-Index.ensures c.check_left_out.ensures.fault)
+    rw (c.in-Index.is) (subst (λ (x : Expr). IfOk c.check_left_out-in-Index.result (λ r. IsLeast (λ f. Fails text s (ex_of x) f ⊎ FormFails (first_place (ex_of x)) f) r.fault)) c.deref-in-Index.ensures c.check_left_out-in-Index.ensures.fault)
 
 pub check_expr-returns-in-Slice-clause-fault : goal.check_expr-returns-in-Slice-clause-fault
 check_expr-returns-in-Slice-clause-fault t c =
