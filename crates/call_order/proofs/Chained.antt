@@ -1,4 +1,4 @@
--- Calls that are added one list behind the other.
+-- Calls that are added one list after the other.
 use Rattle.std.proofs.Common.{◌≡◌, ℕ, List, ◌++◌, refl, sym, ap, ◌∙◌}
 use Rattle.std.proofs.lemmas.List.{append_assoc}
 

@@ -5,7 +5,7 @@ use Rattle.std.specs.List.{Contains}
 use Rattle.std.proofs.lemmas.List.{get_or-map, length-map}
 use Rattle.std.proofs.lemmas.Option.{slice_get_cases, slice_get_within, get_or_from_slice_get}
 use Rattle.std.proofs.lemmas.List.Elements.{Contains-append_left, Contains-append_right, Contains-push, Contains-push_cases, Contains-append_cases}
-use Rattle.typed.specs.Syntax.{Ex, Exs, Pl, Steps, local, global, here, inner, at_index, Left, blank, new, to, Piece, Over, St, Sts, Func, Program, constant, read, unary, binary, both, either, call, part_of, literal, Elements, no_elements, element, none, more, results, asked, text, shown, over_int, over_length, over_copy, declare, assign, update, bump, discard, block, choose, loop, range, break_off, go_on, give_back, print, raise, quit, done, next}
+use Rattle.typed_syntax.specs.Syntax.{Ex, Exs, Pl, Steps, local, global, here, inner, at_index, Left, blank, new, to, Piece, Over, St, Sts, Func, Program, constant, read, unary, binary, logical_and, logical_or, call, part_of, literal, Elements, no_elements, element, none, more, results, read_int, text, shown, over_int, over_length, over_copy, declare, assign, update, bump, discard, block, if_stmt, for_stmt, range, break_stmt, continue_stmt, return_stmt, print, panic, exit, done, next}
 use Rattle.call_order.specs.Calls.{ExCalls, ExsCall, PlaceCalls, StepsCall, ElementsCall, LeftCalls, LeftsCall, PieceCalls, PiecesCall, TestCalls, OverCalls, StCalls, StsCall, Calls}
 use Rattle.call_order.specs.Lists.{called, called_all, called_in_place, called_in_steps, called_in_elements, called_in_left, called_in_lefts, called_in_piece, called_in_pieces, called_in_test, called_in_over, called_by, called_by_all, call_lists}
 use Rattle.call_order.specs.Order.{Reaches, itself, by_call}
@@ -35,8 +35,8 @@ mutual
   ex_calls (read q) g c = place_calls q g c
   ex_calls (unary op e) g c = ex_calls e g c
   ex_calls (binary at op a b) g c = apart (called a) (called b) g (ex_calls a g) (ex_calls b g) c
-  ex_calls (both a b) g c = apart (called a) (called b) g (ex_calls a g) (ex_calls b g) c
-  ex_calls (either a b) g c = apart (called a) (called b) g (ex_calls a g) (ex_calls b g) c
+  ex_calls (logical_and a b) g c = apart (called a) (called b) g (ex_calls a g) (ex_calls b g) c
+  ex_calls (logical_or a b) g c = apart (called a) (called b) g (ex_calls a g) (ex_calls b g) c
   ex_calls (call f es) g c = apart (f ∷ []) (called_all es) g (alone f g) (exs_call es g) c
   ex_calls (part_of n i e) g c = ex_calls e g c
   ex_calls (literal n es) g c = elements_call es g c
@@ -58,7 +58,7 @@ mutual
   exs_call none g c = contains_nil g c
   exs_call (more e es) g c = apart (called e) (called_all es) g (ex_calls e g) (exs_call es g) c
   exs_call (results f es) g c = apart (f ∷ []) (called_all es) g (alone f g) (exs_call es g) c
-  exs_call asked g c = contains_nil g c
+  exs_call read_int g c = contains_nil g c
 
 piece_calls : (p : Piece) (g : ℕ) → Contains (called_in_piece p) g → PieceCalls p g
 piece_calls (text number) g c = contains_nil g c
@@ -91,19 +91,19 @@ mutual
   st_calls (declare sites) g c = contains_nil g c
   st_calls (assign ls es) g c = apart (called_in_lefts ls) (called_all es) g (lefts_call ls g) (exs_call es g) c
   st_calls (update at q op e) g c = apart (called_in_place q) (called e) g (place_calls q g) (ex_calls e g) c
-  st_calls (bump q op) g c = place_calls q g c
+  st_calls (bump at q op) g c = place_calls q g c
   st_calls (discard es) g c = exs_call es g c
   st_calls (block ss) g c = sts_call ss g c
-  st_calls (choose e a b) g c = apart (called e) (called_by_all a ++ called_by_all b) g (ex_calls e g) (λ d. apart (called_by_all a) (called_by_all b) g (sts_call a g) (sts_call b g) d) c
-  st_calls (loop sites test post body) g c = apart (called_in_test test) (called_by_all post ++ called_by_all body) g (test_calls test g) (λ d. apart (called_by_all post) (called_by_all body) g (sts_call post g) (sts_call body g) d) c
+  st_calls (if_stmt e a b) g c = apart (called e) (called_by_all a ++ called_by_all b) g (ex_calls e g) (λ d. apart (called_by_all a) (called_by_all b) g (sts_call a g) (sts_call b g) d) c
+  st_calls (for_stmt sites test post body) g c = apart (called_in_test test) (called_by_all post ++ called_by_all body) g (test_calls test g) (λ d. apart (called_by_all post) (called_by_all body) g (sts_call post g) (sts_call body g) d) c
   st_calls (range over key value body) g c = apart (called_in_over over) (called_in_lefts (key ∷ value ∷ []) ++ called_by_all body) g (over_calls over g)
       (λ d. apart (called_in_lefts (key ∷ value ∷ [])) (called_by_all body) g (lefts_call (key ∷ value ∷ []) g) (sts_call body g) d) c
-  st_calls break_off g c = contains_nil g c
-  st_calls go_on g c = contains_nil g c
-  st_calls (give_back es) g c = exs_call es g c
+  st_calls break_stmt g c = contains_nil g c
+  st_calls continue_stmt g c = contains_nil g c
+  st_calls (return_stmt es) g c = exs_call es g c
   st_calls (print ln ps) g c = pieces_call ps g c
-  st_calls (raise at p) g c = piece_calls p g c
-  st_calls (quit at e) g c = ex_calls e g c
+  st_calls (panic at p) g c = piece_calls p g c
+  st_calls (exit at e) g c = ex_calls e g c
 
   sts_call : (ss : Sts) (g : ℕ) → Contains (called_by_all ss) g → StsCall ss g
   sts_call done g c = contains_nil g c
@@ -117,8 +117,8 @@ mutual
   in_ex (read q) g c = in_place q g c
   in_ex (unary op e) g c = in_ex e g c
   in_ex (binary at op a b) g c = joined (called a) (called b) g (in_ex a g) (in_ex b g) c
-  in_ex (both a b) g c = joined (called a) (called b) g (in_ex a g) (in_ex b g) c
-  in_ex (either a b) g c = joined (called a) (called b) g (in_ex a g) (in_ex b g) c
+  in_ex (logical_and a b) g c = joined (called a) (called b) g (in_ex a g) (in_ex b g) c
+  in_ex (logical_or a b) g c = joined (called a) (called b) g (in_ex a g) (in_ex b g) c
   in_ex (call f es) g c = joined (f ∷ []) (called_all es) g (alone_is f g) (in_exs es g) c
   in_ex (part_of n i e) g c = in_ex e g c
   in_ex (literal n es) g c = in_elements es g c
@@ -140,7 +140,7 @@ mutual
   in_exs none g c = absurd c
   in_exs (more e es) g c = joined (called e) (called_all es) g (in_ex e g) (in_exs es g) c
   in_exs (results f es) g c = joined (f ∷ []) (called_all es) g (alone_is f g) (in_exs es g) c
-  in_exs asked g c = absurd c
+  in_exs read_int g c = absurd c
 
 in_piece : (p : Piece) (g : ℕ) → PieceCalls p g → Contains (called_in_piece p) g
 in_piece (text number) g c = absurd c
@@ -173,19 +173,19 @@ mutual
   in_st (declare sites) g c = absurd c
   in_st (assign ls es) g c = joined (called_in_lefts ls) (called_all es) g (in_lefts ls g) (in_exs es g) c
   in_st (update at q op e) g c = joined (called_in_place q) (called e) g (in_place q g) (in_ex e g) c
-  in_st (bump q op) g c = in_place q g c
+  in_st (bump at q op) g c = in_place q g c
   in_st (discard es) g c = in_exs es g c
   in_st (block ss) g c = in_sts ss g c
-  in_st (choose e a b) g c = joined (called e) (called_by_all a ++ called_by_all b) g (in_ex e g) (λ d. joined (called_by_all a) (called_by_all b) g (in_sts a g) (in_sts b g) d) c
-  in_st (loop sites test post body) g c = joined (called_in_test test) (called_by_all post ++ called_by_all body) g (in_test test g) (λ d. joined (called_by_all post) (called_by_all body) g (in_sts post g) (in_sts body g) d) c
+  in_st (if_stmt e a b) g c = joined (called e) (called_by_all a ++ called_by_all b) g (in_ex e g) (λ d. joined (called_by_all a) (called_by_all b) g (in_sts a g) (in_sts b g) d) c
+  in_st (for_stmt sites test post body) g c = joined (called_in_test test) (called_by_all post ++ called_by_all body) g (in_test test g) (λ d. joined (called_by_all post) (called_by_all body) g (in_sts post g) (in_sts body g) d) c
   in_st (range over key value body) g c = joined (called_in_over over) (called_in_lefts (key ∷ value ∷ []) ++ called_by_all body) g (in_over over g)
       (λ d. joined (called_in_lefts (key ∷ value ∷ [])) (called_by_all body) g (in_lefts (key ∷ value ∷ []) g) (in_sts body g) d) c
-  in_st break_off g c = absurd c
-  in_st go_on g c = absurd c
-  in_st (give_back es) g c = in_exs es g c
+  in_st break_stmt g c = absurd c
+  in_st continue_stmt g c = absurd c
+  in_st (return_stmt es) g c = in_exs es g c
   in_st (print ln ps) g c = in_pieces ps g c
-  in_st (raise at p) g c = in_piece p g c
-  in_st (quit at e) g c = in_ex e g c
+  in_st (panic at p) g c = in_piece p g c
+  in_st (exit at e) g c = in_ex e g c
 
   in_sts : (ss : Sts) (g : ℕ) → StsCall ss g → Contains (called_by_all ss) g
   in_sts done g c = absurd c

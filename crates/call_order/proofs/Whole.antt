@@ -8,7 +8,7 @@ use Rattle.std.proofs.lemmas.List.{length-map, get_or-map, get_or_default}
 use Rattle.std.proofs.lemmas.List.Sums.{sum_by-cons, count_by-le-length}
 use Rattle.std.proofs.lemmas.List.Elements.{Contains-get_or}
 use Rattle.std.proofs.lemmas.Option.{slice_get_within, slice_get-get_or, get_or_from_slice_get}
-use Rattle.typed.specs.Syntax.{Program, Func}
+use Rattle.typed_syntax.specs.Syntax.{Program, Func}
 use Rattle.call_order.specs.Lists.{call_lists, called_by_all}
 use Rattle.call_order.specs.Order.{Stands, times, IsCallOrder}
 use Rattle.call_order.specs.Marks.{onward, same as none_between, IsReach, mark, mutually, IsFirst, IsBefore, reach_size, AreFirsts, members, marks_from}

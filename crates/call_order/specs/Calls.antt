@@ -1,6 +1,6 @@
 -- Which functions a function calls: a call counts wherever it stands in the text of the body.
 use Rattle.std.specs.Prelude.{◌≡◌, ◌⊎◌, ℕ, List, [], ◌∷◌, Option, Some, None, slice_get}
-use Rattle.typed.specs.Syntax.{Ex, Exs, Pl, Steps, local, global, here, inner, at_index, Left, blank, new, to, Piece, Over, St, Sts, Func, Program, constant, read, unary, binary, both, either, call, part_of, literal, Elements, no_elements, element, none, more, results, asked, text, shown, over_int, over_length, over_copy, declare, assign, update, bump, discard, block, choose, loop, range, break_off, go_on, give_back, print, raise, quit, done, next}
+use Rattle.typed_syntax.specs.Syntax.{Ex, Exs, Pl, Steps, local, global, here, inner, at_index, Left, blank, new, to, Piece, Over, St, Sts, Func, Program, constant, read, unary, binary, logical_and, logical_or, call, part_of, literal, Elements, no_elements, element, none, more, results, read_int, text, shown, over_int, over_length, over_copy, declare, assign, update, bump, discard, block, if_stmt, for_stmt, range, break_stmt, continue_stmt, return_stmt, print, panic, exit, done, next}
 
 -- an expression, or some expressions, have a call of a function
 abbrev mutual
@@ -9,8 +9,8 @@ abbrev mutual
   ExCalls (read q) g = PlaceCalls q g
   ExCalls (unary op e) g = ExCalls e g
   ExCalls (binary at op a b) g = ExCalls a g ⊎ ExCalls b g
-  ExCalls (both a b) g = ExCalls a g ⊎ ExCalls b g
-  ExCalls (either a b) g = ExCalls a g ⊎ ExCalls b g
+  ExCalls (logical_and a b) g = ExCalls a g ⊎ ExCalls b g
+  ExCalls (logical_or a b) g = ExCalls a g ⊎ ExCalls b g
   ExCalls (call f es) g = (f ≡ g) ⊎ ExsCall es g
   ExCalls (part_of n i e) g = ExCalls e g
   ExCalls (literal n es) g = ElementsCall es g
@@ -33,7 +33,7 @@ abbrev mutual
   ExsCall none g = ⊥
   ExsCall (more e es) g = ExCalls e g ⊎ ExsCall es g
   ExsCall (results f es) g = (f ≡ g) ⊎ ExsCall es g
-  ExsCall asked g = ⊥
+  ExsCall read_int g = ⊥
 
 -- an operand of `print`, `println` or `panic`
 abbrev pub PieceCalls : Piece → ℕ → Type 0
@@ -69,18 +69,18 @@ abbrev mutual
   StCalls (declare sites) g = ⊥
   StCalls (assign ls es) g = LeftsCall ls g ⊎ ExsCall es g
   StCalls (update at q op e) g = PlaceCalls q g ⊎ ExCalls e g
-  StCalls (bump q op) g = PlaceCalls q g
+  StCalls (bump at q op) g = PlaceCalls q g
   StCalls (discard es) g = ExsCall es g
   StCalls (block ss) g = StsCall ss g
-  StCalls (choose e a b) g = ExCalls e g ⊎ (StsCall a g ⊎ StsCall b g)
-  StCalls (loop sites test post body) g = TestCalls test g ⊎ (StsCall post g ⊎ StsCall body g)
+  StCalls (if_stmt e a b) g = ExCalls e g ⊎ (StsCall a g ⊎ StsCall b g)
+  StCalls (for_stmt sites test post body) g = TestCalls test g ⊎ (StsCall post g ⊎ StsCall body g)
   StCalls (range over key value body) g = OverCalls over g ⊎ (LeftsCall (key ∷ value ∷ []) g ⊎ StsCall body g)
-  StCalls break_off g = ⊥
-  StCalls go_on g = ⊥
-  StCalls (give_back es) g = ExsCall es g
+  StCalls break_stmt g = ⊥
+  StCalls continue_stmt g = ⊥
+  StCalls (return_stmt es) g = ExsCall es g
   StCalls (print ln ps) g = PiecesCall ps g
-  StCalls (raise at p) g = PieceCalls p g
-  StCalls (quit at e) g = ExCalls e g
+  StCalls (panic at p) g = PieceCalls p g
+  StCalls (exit at e) g = ExCalls e g
 
   pub StsCall : Sts → ℕ → Type 0
   StsCall done g = ⊥

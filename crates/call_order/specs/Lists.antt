@@ -1,7 +1,7 @@
 -- The calls of a body as a list, in the order of the text.
 use Rattle.std.specs.Prelude.{ℕ, List, [], ◌∷◌, ◌++◌, Option, Some, None, map, Vec}
 use Rattle.std.specs.declared.alloc.Global.{Global}
-use Rattle.typed.specs.Syntax.{Ex, Exs, Pl, Steps, local, global, here, inner, at_index, Left, blank, new, to, Piece, Over, St, Sts, Func, constant, read, unary, binary, both, either, call, part_of, literal, Elements, no_elements, element, none, more, results, asked, text, shown, over_int, over_length, over_copy, declare, assign, update, bump, discard, block, choose, loop, range, break_off, go_on, give_back, print, raise, quit, done, next}
+use Rattle.typed_syntax.specs.Syntax.{Ex, Exs, Pl, Steps, local, global, here, inner, at_index, Left, blank, new, to, Piece, Over, St, Sts, Func, constant, read, unary, binary, logical_and, logical_or, call, part_of, literal, Elements, no_elements, element, none, more, results, read_int, text, shown, over_int, over_length, over_copy, declare, assign, update, bump, discard, block, if_stmt, for_stmt, range, break_stmt, continue_stmt, return_stmt, print, panic, exit, done, next}
 
 abbrev mutual
   pub called : Ex → List ℕ
@@ -9,8 +9,8 @@ abbrev mutual
   called (read q) = called_in_place q
   called (unary op e) = called e
   called (binary at op a b) = called a ++ called b
-  called (both a b) = called a ++ called b
-  called (either a b) = called a ++ called b
+  called (logical_and a b) = called a ++ called b
+  called (logical_or a b) = called a ++ called b
   called (call f es) = f ∷ called_all es
   called (part_of n i e) = called e
   called (literal n es) = called_in_elements es
@@ -33,7 +33,7 @@ abbrev mutual
   called_all none = []
   called_all (more e es) = called e ++ called_all es
   called_all (results f es) = f ∷ called_all es
-  called_all asked = []
+  called_all read_int = []
 
 abbrev pub called_in_piece : Piece → List ℕ
 called_in_piece (text number) = []
@@ -66,18 +66,18 @@ abbrev mutual
   called_by (declare sites) = []
   called_by (assign ls es) = called_in_lefts ls ++ called_all es
   called_by (update at q op e) = called_in_place q ++ called e
-  called_by (bump q op) = called_in_place q
+  called_by (bump at q op) = called_in_place q
   called_by (discard es) = called_all es
   called_by (block ss) = called_by_all ss
-  called_by (choose e a b) = called e ++ (called_by_all a ++ called_by_all b)
-  called_by (loop sites test post body) = called_in_test test ++ (called_by_all post ++ called_by_all body)
+  called_by (if_stmt e a b) = called e ++ (called_by_all a ++ called_by_all b)
+  called_by (for_stmt sites test post body) = called_in_test test ++ (called_by_all post ++ called_by_all body)
   called_by (range over key value body) = called_in_over over ++ (called_in_lefts (key ∷ value ∷ []) ++ called_by_all body)
-  called_by break_off = []
-  called_by go_on = []
-  called_by (give_back es) = called_all es
+  called_by break_stmt = []
+  called_by continue_stmt = []
+  called_by (return_stmt es) = called_all es
   called_by (print ln ps) = called_in_pieces ps
-  called_by (raise at p) = called_in_piece p
-  called_by (quit at e) = called e
+  called_by (panic at p) = called_in_piece p
+  called_by (exit at e) = called e
 
   pub called_by_all : Sts → List ℕ
   called_by_all done = []

@@ -66,7 +66,7 @@ count_in marks = count_by (λ b. b) marks
 abbrev pub reach_size : List (List Bool) → ℕ → ℕ
 reach_size m f = count_in (marks_from m f)
 
--- a function reaches fewer than so many, or as many and stands before a place of the text
+-- a function reaches fewer than `size` functions, or `size` of them and stands before a place of the text
 abbrev pub IsBefore : List (List Bool) → (size place : ℕ) → ℕ → Type 0
 IsBefore m size place f = (reach_size m f ≤ size) × (reach_size m f ≡ size → f < place)
 

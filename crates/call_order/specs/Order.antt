@@ -2,7 +2,7 @@
 use Rattle.std.specs.Prelude.{◌≡◌, ℕ, ◌<◌, ◌≤◌, ◌==◌, ◌↔◌, List, length, map, Some, slice_get}
 use Rattle.std.specs.List.{Contains, count_by, sum_by}
 use Rattle.std.specs.List.Sorted.{IsStrictlyIncreasing}
-use Rattle.typed.specs.Syntax.{Program}
+use Rattle.typed_syntax.specs.Syntax.{Program}
 use Rattle.call_order.specs.declared.batches.Batch.{Batch}
 use Rattle.call_order.specs.Calls.{Calls}
 

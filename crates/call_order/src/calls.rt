@@ -21,7 +21,7 @@ fn add_expr(calls: &mut Vec<u32>, e: &Expr) -> Result<(), NoMemory>
             let a: &Expr = a;
             add_expr(calls, a)
         }
-        Expr::Binary(_, _, a, b) | Expr::Both(a, b) | Expr::Either(a, b) => {
+        Expr::Binary(_, _, a, b) | Expr::LogicalAnd(a, b) | Expr::LogicalOr(a, b) => {
             let a: &Expr = a;
             let b: &Expr = b;
             add_expr(calls, a)?;
@@ -187,7 +187,7 @@ fn add_stmt(calls: &mut Vec<u32>, s: &Stmt) -> Result<(), NoMemory>
         Stmt::Declare(_) | Stmt::Break | Stmt::Continue => Ok(()),
         Stmt::Assign(lefts, values) => add_assign(calls, lefts, values),
         Stmt::Update(_, place, _, e) => add_update(calls, place, e),
-        Stmt::Bump(place, _) => add_place(calls, place),
+        Stmt::Bump(_, place, _) => add_place(calls, place),
         Stmt::Discard(values) | Stmt::Return(values) => add_values(calls, values),
         Stmt::Block(ss) => add_stmts(calls, ss),
         Stmt::If(e, a, b) => {
@@ -195,7 +195,7 @@ fn add_stmt(calls: &mut Vec<u32>, s: &Stmt) -> Result<(), NoMemory>
             add_stmts(calls, a)?;
             add_stmts(calls, b)
         }
-        Stmt::Loop(_, test, post, body) => {
+        Stmt::For(_, test, post, body) => {
             add_test(calls, test)?;
             add_stmts(calls, post)?;
             add_stmts(calls, body)

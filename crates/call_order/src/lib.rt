@@ -1,6 +1,6 @@
 //! The functions of a program in batches, callees first.
 //!
-//! An analysis that goes from callees to callers wants each function behind those that it calls. Functions that reach one another
+//! An analysis that goes from callees to callers wants each function after those that it calls. Functions that reach one another
 //! by calls have no such order among them, so they stand in one batch: a batch is a strongly connected component of the graph
 //! whose edges are the calls [Tarjan, Depth-first search and linear graph algorithms, 1972]. Go's compiler orders functions so
 //! before its escape analysis (cmd/compile/internal/ir, VisitFuncsBottomUp).

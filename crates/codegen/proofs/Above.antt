@@ -1,9 +1,9 @@
 -- The temps above the operands of left sides, one by one.
 use Rattle.std.proofs.Common.{◌≡◌, ℕ, ◌+◌, ◌<◌, ◌≤◌, List, [], ◌∷◌, ◌∙◌, ap, drop, get_or, length, map, refl, sym, arith}
 use Rattle.typed.specs.declared.stmt.Left.{Left as LeftData}
-use Rattle.typed.specs.Syntax.{Pl, Left, local, global, blank, new, to}
+use Rattle.typed_syntax.specs.Syntax.{Pl, Left, local, global, blank, new, to}
 use Rattle.typed.specs.View.{left_of}
-use Rattle.simulated_code.specs.Code.{lefts_above, place_above}
+use Rattle.program_code.specs.Code.{lefts_above, place_above}
 use Rattle.codegen.proofs.Emitted.{split_lefts}
 use Rattle.expression_code.proofs.Steps.{above_least}
 

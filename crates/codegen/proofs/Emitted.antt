@@ -6,18 +6,18 @@ use Rattle.std.proofs.lemmas.List.{append-nil}
 use Rattle.isa.specs.declared.instr.Instr.{Instr}
 use Rattle.isa.specs.declared.instr.Instr.TheVariants.{Const, Bin, Jump, JumpZero}
 use Rattle.isa.specs.declared.instr.BinOp.TheVariants as Word
-use Rattle.typed.specs.declared.operators.BinOp.{BinOp}
+use Rattle.typed_syntax.specs.declared.operators.BinOp.{BinOp}
 use Rattle.base.specs.declared.ids.SiteId.{SiteId}
 use Rattle.typed.specs.declared.stmt.Left.{Left as LeftData}
 use Rattle.typed.specs.declared.stmt.Piece.{Piece as PieceData}
 use Rattle.typed.specs.declared.stmt.Stmt.{Stmt}
-use Rattle.typed.specs.Frames.{far}
-use Rattle.typed.specs.Syntax.{Ex, Exs, Pl, Left, Piece, Sts, Program, blank, new, to, text, shown, over_int, over_length, over_copy, choose, loop, range, next, wide, all_wide, value_widths}
+use Rattle.typed_syntax.specs.Frames.{far}
+use Rattle.typed_syntax.specs.Syntax.{Ex, Exs, Pl, Left, Piece, Sts, Program, blank, new, to, text, shown, over_int, over_length, over_copy, if_stmt, for_stmt, range, next, wide, all_wide, value_widths}
 use Rattle.typed.specs.View.{left_of, piece_of, site_in, st_of, sts_of}
 use Rattle.codegen.specs.Frame.{assign_code, bump_code, key_code, left_code, param_code, temp_behind, update_code}
 use Rattle.codegen.specs.Temps.{LeftFits, LeftsFitIn, ParamFits, ParamsFitIn, PiecesFitIn, ReadyFitIn, StsFitIn}
-use Rattle.simulated_code.specs.Code.{Slots, above_address, address_code, address_size, array_code, element_round_code, element_round_size, ex_code, exs_code, fetch_code, first_width, index_round_code, index_round_size, land_code, lefts_above, lefts_code, lefts_end, lefts_size, lefts_sized, moves, operation, other_widths, params_code, piece_size, pieces_code, place_above, place_code, place_end, place_size, ready_code, renew_code, renew_size, site_slot, site_words, size, st_code, st_size, sts_code, sts_size, temp, test_code, test_size}
-use Rattle.simulated_code.proofs.Sizes.{length_address, length_code, length_element_round, length_index_round, length_last, length_lefts, length_pieces, length_place, length_ready, length_renew, length_st, length_sts, length_test, lefts_ends, lefts_sum, place_ends}
+use Rattle.program_code.specs.Code.{Slots, above_address, address_code, address_size, array_code, element_round_code, element_round_size, ex_code, exs_code, fetch_code, first_width, index_round_code, index_round_size, land_code, lefts_above, lefts_code, lefts_end, lefts_size, lefts_sized, moves, operation, other_widths, params_code, piece_size, pieces_code, place_above, place_code, place_end, place_size, ready_code, renew_code, renew_size, site_slot, site_words, size, st_code, st_size, sts_code, sts_size, temp, test_code, test_size}
+use Rattle.program_code.proofs.Sizes.{length_address, length_code, length_element_round, length_index_round, length_last, length_lefts, length_pieces, length_place, length_ready, length_renew, length_st, length_sts, length_test, lefts_ends, lefts_sum, place_ends}
 use Rattle.expression_code.proofs.ByWidth.{first_drop, other_drop}
 
 split : (ss : List Stmt) (i : ℕ) (x : Stmt) → i < length ss → x ≡ get_or ss i x → sts_of (drop i ss) ≡ next (st_of x) (sts_of (drop (i + 1) ss))
@@ -243,7 +243,7 @@ module _ (p : Program) (arguments : ℕ) (named : List ℕ) (s : Slots) where
   next_fits n wanted h ss i x l is f = (subst (λ y. StsFitIn p s n wanted named h y) (split ss i x l is) f).1
 
   pub if_emitted : (old c1 c2 c3 c4 c5 : List Instr) (e : Ex) (a b : Sts) (m n h out again : ℕ) → m ≡ long a → n ≡ long b → c1 ≡ old ++ ex_code p s e h (length old) → c2 ≡ c1 ++ JumpZero (temp s h) (length c1 + m + 2) ∷ []
-      → c3 ≡ c2 ++ code_at a h out again (length c2) → c4 ≡ c3 ++ Jump (length c3 + n + 1) ∷ [] → c5 ≡ c4 ++ code_at b h out again (length c4) → c5 ≡ old ++ st_code p arguments named s (choose e a b) h out again (length old)
+      → c3 ≡ c2 ++ code_at a h out again (length c2) → c4 ≡ c3 ++ Jump (length c3 + n + 1) ∷ [] → c5 ≡ c4 ++ code_at b h out again (length c4) → c5 ≡ old ++ st_code p arguments named s (if_stmt e a b) h out again (length old)
   if_emitted old c1 c2 c3 c4 c5 e a b m n h out again em en e1 e2 e3 e4 e5 =
       let pa = length old + size p e + 1 in let pb = pa + long a + 1 in
       let n1 : length c1 ≡ length old + size p e = ap length e1 ∙ omega (arith, length-append old (ex_code p s e h (length old)), length_code p s e h (length old)) in
@@ -261,7 +261,7 @@ module _ (p : Program) (arguments : ℕ) (named : List ℕ) (s : Slots) where
 
   pub loop_emitted : (old c1 c2 c3 c4 c5 : List Instr) (sites : List ℕ) (test : Option Ex) (post body : Sts) (start turn behind h out again : ℕ) → start ≡ length old → turn ≡ start + test_size p test + long body
       → behind ≡ turn + renew_size sites + long post + 1 → c1 ≡ old ++ test_code p s test h (length old) behind → c2 ≡ c1 ++ code_at body h behind turn (length c1) → c3 ≡ c2 ++ renew_code s sites h
-      → c4 ≡ c3 ++ code_at post h behind turn (length c3) → c5 ≡ c4 ++ Jump start ∷ [] → c5 ≡ old ++ st_code p arguments named s (loop sites test post body) h out again (length old)
+      → c4 ≡ c3 ++ code_at post h behind turn (length c3) → c5 ≡ c4 ++ Jump start ∷ [] → c5 ≡ old ++ st_code p arguments named s (for_stmt sites test post body) h out again (length old)
   loop_emitted old c1 c2 c3 c4 c5 sites test post body start turn behind h out again es et eb e1 e2 e3 e4 e5 =
       let pc = length old in
       let pi = pc + test_size p test in let pt = pi + long body in let pp = pt + renew_size sites in let pb = pp + long post + 1 in
@@ -277,7 +277,7 @@ module _ (p : Program) (arguments : ℕ) (named : List ℕ) (s : Slots) where
       let all : c5 ≡ ((((old ++ test_code p s test h pc pb) ++ code_at body h pb pt pi) ++ renew_code s sites h) ++ code_at post h pb pt pp) ++ Jump pc ∷ [] = cc in
       all ∙ simp append_assoc
 
-  -- a left side that gets an index, behind its operands
+  -- a left side that gets an index, after its operands
   key_is : (key : Left) (first v pc : ℕ) → key_code p s key first v pc ≡ ready_code p s (key ∷ []) first pc ++ lefts_code s (1 ∷ []) (key ∷ []) first (lefts_above (key ∷ []) first) v
   key_is key first v pc = ap (λ is. ready_code p s (key ∷ []) first pc ++ is) (sym (left_alone s 1 key first (lefts_above (key ∷ []) first) v))
 
@@ -319,7 +319,7 @@ module _ (p : Program) (arguments : ℕ) (named : List ℕ) (s : Slots) where
       let flat : c5 ≡ old ++ (ex_code p s e h pc ++ (zero ∷ less ∷ JumpZero (temp s (h + 2)) pb ∷ (round ++ (code_at body (h + 2) pb pu pi ++ one ∷ sum ∷ Jump pt ∷ [])))) = all ∙ simp append_assoc in
       flat ∙ ap (λ l. old ++ (ex_code p s e h pc ++ (zero ∷ less ∷ JumpZero (temp s (h + 2)) pb ∷ (l ++ (code_at body (h + 2) pb pu pi ++ one ∷ sum ∷ Jump pt ∷ []))))) (key_is key (h + 2) (h + 1) (pt + 2))
 
-  -- The rounds of `range` over an array, behind what stands before them: the start, a round's left sides, the body and the turn.
+  -- The rounds of `range` over an array, after what stands before them: the start, a round's left sides, the body and the turn.
   rounds_emitted : (old c1 c2 c3 c4 round : List Instr) (body : Sts) (x wide begin test turn behind h : ℕ) → begin ≡ length old → test ≡ begin + 1 → turn ≡ begin + 4 + wide + long body → behind ≡ turn + 3
       → c1 ≡ old ++ Const (temp s h) 0 ∷ Const (temp s (h + 1)) x ∷ Bin Word.Less (temp s (h + 1)) (temp s h) (temp s (h + 1)) ∷ JumpZero (temp s (h + 1)) behind ∷ []
       → length round ≡ wide → c2 ≡ c1 ++ round → c3 ≡ c2 ++ code_at body (h + 1) behind turn (length c2)

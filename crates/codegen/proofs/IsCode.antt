@@ -7,28 +7,27 @@ use Rattle.isa.specs.declared.func.Func.{Func as Entry}
 use Rattle.isa.specs.declared.instr.Instr.{Instr}
 use Rattle.isa.specs.declared.instr.BinOp.TheVariants as Word
 use Rattle.isa.specs.declared.instr.Instr.TheVariants.{Const, Zero, Move, MoveWords, Same, Differ, Bin, Un, Jump, JumpZero, Call, Argument, ArgumentWords, SetResults, Load, Store, Address, Offset, Index, ReadInt, PrintInt, PrintBool, PrintText, PrintSpace, PrintLine, Return, Exit, PanicText, PanicInt, PanicBool}
-use Rattle.machine.specs.Inside.{Inside}
-use Rattle.typed.specs.declared.operators.BinOp.{BinOp}
-use Rattle.typed.specs.declared.operators.BinOp.TheVariants.{Add, Sub, Mul, Div, Rem, And, Or, Xor, AndNot, ShiftLeft, ShiftRight, Equal, NotEqual, Less, LessEqual, Greater, GreaterEqual}
-use Rattle.typed.specs.declared.operators.UnOp.{UnOp}
-use Rattle.typed.specs.declared.operators.UnOp.TheVariants as One
-use Rattle.value_trees.specs.Types.{ValueType, ints, bools, struct_of, array_of, width, part_type, part_offset}
-use Rattle.value_trees.specs.Paths.{offset}
-use Rattle.typed.specs.Syntax.{Ex, Exs, Steps, here, inner, at_index, Pl, Left, Piece, St, Sts, Func, Program, constant, read, unary, binary, both, either, call, part_of, literal, Elements, no_elements, element, local, global, none, more, results, asked, blank, new, to, text, shown, over_int, over_length, over_copy, declare, assign, update, bump, discard, block, choose, loop, range, break_off, go_on, give_back, print, raise, quit, done, next, all_width, each_width, arguments_in, results_in, argument_words, result_words, arguments_of, results_of, type_named, site_width, path_of, wide, all_wide, value_widths, ascend, words_through, gap_behind}
-use Rattle.typed.specs.Form.{scope_in, body_first, IsInForm}
-use Rattle.typed.specs.Frames.{far, steps_far, words_between, frame_of}
+use Rattle.typed_syntax.specs.declared.operators.BinOp.{BinOp}
+use Rattle.typed_syntax.specs.declared.operators.BinOp.TheVariants.{Add, Sub, Mul, Div, Rem, And, Or, Xor, AndNot, ShiftLeft, ShiftRight, Equal, NotEqual, Less, LessEqual, Greater, GreaterEqual}
+use Rattle.typed_syntax.specs.declared.operators.UnOp.{UnOp}
+use Rattle.typed_syntax.specs.declared.operators.UnOp.TheVariants as One
+use Rattle.typed_syntax.specs.Types.{TypeTree, ints, bools, struct_of, array_of, width, part_type, part_offset}
+use Rattle.typed_syntax.specs.Paths.{offset}
+use Rattle.typed_syntax.specs.Syntax.{Ex, Exs, Steps, here, inner, at_index, Pl, Left, Piece, St, Sts, Func, Program, constant, read, unary, binary, logical_and, logical_or, call, part_of, literal, Elements, no_elements, element, local, global, none, more, results, read_int, blank, new, to, text, shown, over_int, over_length, over_copy, declare, assign, update, bump, discard, block, if_stmt, for_stmt, range, break_stmt, continue_stmt, return_stmt, print, panic, exit, done, next, all_width, each_width, arguments_in, results_in, argument_words, result_words, arguments_of, results_of, type_named, site_width, path_of, wide, all_wide, value_widths, ascend, words_through, gap_behind}
+use Rattle.typed_syntax.specs.Form.{scope_in, body_first, IsInForm}
+use Rattle.typed_syntax.specs.Frames.{far, steps_far, words_between, frame_of}
 use Rattle.expression_code.specs.Temps.{SiteFits, IndicesFit, PlaceFits, AddressFits, reached, CallFits, Fits, OperandsFit, StepsFitIn, ElementsFitIn, ExsFitIn}
 use Rattle.codegen.specs.Temps.{SitesFit, sites_words, ParamsFitIn, LeftFits, LeftsFitIn, ValuesFit, RenewFits, ReadyFitIn, PiecesFitIn, TestFitsIn, StFitsIn, StsFitIn, FuncFitsIn}
-use Rattle.simulated_code.specs.Code.{Slots, temp, site_slot, site_type, part_slot, part_words, moves, zeros, first_width, other_widths, operation, binary_code, unary_code, gap_code, gap_size, above_address, steps_above, place_above, lefts_above, index_code, steps_address, address_code, address_size, fetch_part, fetch_code, land_part, land_code, read_code, write_code, move_code, result_code, call_code, ex_code, exs_code, place_code, steps_code, elements_code, ready_code, place_size, steps_size, place_end, elements_size, lefts_sized, lefts_end, pieces_code, test_code, shown_code, raised_code, show_more, show_plain, show_code, lefts_code, lefts_size, element_code, array_code, named_write_code, named_read_code, leave_code, values_code, params_code, zeros_code, renew_code, renew_size, size, exs_size, pieces_size, test_size, st_size, sts_size, st_code, sts_code, slots_of, entry_code, entry_size, func_code, func_size, entry_of, funcs_code, funcs_owners, funcs_entries, code_of}
-use Rattle.simulated_code.proofs.Rooms.{steps_from}
-use Rattle.simulated_code.proofs.Sizes.{length_func, place_sum, place_ends, lefts_sum, lefts_ends}
-use Rattle.simulated_code.proofs.Stands.{same_some, start_of, some_size, length_owners, stands, located, entered_from, exists}
+use Rattle.program_code.specs.Code.{Slots, temp, site_slot, site_type, part_slot, part_words, moves, zeros, first_width, other_widths, operation, binary_code, unary_code, gap_code, gap_size, above_address, steps_above, place_above, lefts_above, index_code, steps_address, address_code, address_size, fetch_part, fetch_code, land_part, land_code, read_code, write_code, move_code, result_code, call_code, ex_code, exs_code, place_code, steps_code, elements_code, ready_code, place_size, steps_size, place_end, elements_size, lefts_sized, lefts_end, pieces_code, test_code, shown_code, raised_code, show_more, show_plain, show_code, lefts_code, lefts_size, element_code, array_code, named_write_code, named_read_code, leave_code, values_code, params_code, zeros_code, renew_code, renew_size, size, exs_size, pieces_size, test_size, st_size, sts_size, st_code, sts_code, slots_of, entry_code, entry_size, func_code, func_size, entry_of, funcs_code, funcs_owners, funcs_entries, code_of}
+use Rattle.program_code.proofs.Rooms.{steps_from}
+use Rattle.program_code.proofs.Sizes.{length_func, place_sum, place_ends, lefts_sum, lefts_ends}
+use Rattle.program_code.proofs.Stands.{same_some, start_of, some_size, length_owners, stands, located, entered_from, exists}
 use Rattle.expression_code.proofs.InSlots.{site_within}
 use Rattle.codegen.proofs.Operands.{above_sum, lefts_from}
 use Rattle.codegen.proofs.Suffice.{func_fits}
 use Rattle.codegen.proofs.Within.{PiecesWithin, StWithin, StsWithin, sts_within}
 
--- an instruction of a function with so many slots and incoming words, in a code with so many strings: its jumps lead to places
+-- an instruction of a function with these slots and incoming words, in a code with these strings: its jumps lead to places
 -- of the function
 module _ (fns : List Entry) (strings slots incoming start end : ℕ) where
   abbrev Ok : Instr → Type 0
@@ -151,14 +150,14 @@ module _ (p : Program) (solid : (site : ℕ) → 0 < site_width p site) (outgoin
   binary_ok GreaterEqual m a b some f g = ((omega (arith, some, f), omega (arith, some, f), omega (arith, some, g)), tt)
 
   -- the indices of a place, in temps from `first` on, and its address in temp `at`
-  index_ok : (t : ValueType) (steps : Steps) (first at : ℕ) (is : List Instr) → at < temps → steps_above steps first ≤ temps → IndicesFit t steps → Are is → Are (index_code s t steps first at ++ is)
+  index_ok : (t : TypeTree) (steps : Steps) (first at : ℕ) (is : List Instr) → at < temps → steps_above steps first ≤ temps → IndicesFit t steps → Are is → Are (index_code s t steps first at ++ is)
   index_ok t here first at is a l f g = g
   index_ok t (inner i steps) first at is a l f g = index_ok (part_type t i) steps first at is a l f g
   index_ok t (at_index place e m steps) first at is a l f g =
       let k = steps_from p (first + 1) steps in
       ((f.0, f.2, omega (arith, a), omega (arith, a), omega (arith, k, l)), index_ok (part_type t 0) steps (first + 1) at is a l f.3 g)
 
-  steps_address_ok : (slot : ℕ) (t : ValueType) (steps : Steps) (first at : ℕ) (is : List Instr) → at + steps_far steps ≤ temps → steps_above steps first ≤ temps → IndicesFit t steps → slot + offset t (path_of steps) < room
+  steps_address_ok : (slot : ℕ) (t : TypeTree) (steps : Steps) (first at : ℕ) (is : List Instr) → at + steps_far steps ≤ temps → steps_above steps first ≤ temps → IndicesFit t steps → slot + offset t (path_of steps) < room
       → Are is → Are (steps_address s slot t steps first at ++ is)
   steps_address_ok slot t here first at is a l f r g = g
   steps_address_ok slot t (inner i steps) first at is a l f r g = steps_address_ok (slot + part_offset t i) (part_type t i) steps first at is a l f (omega (arith, r)) g
@@ -189,7 +188,7 @@ module _ (p : Program) (solid : (site : ℕ) → 0 < site_width p site) (outgoin
   land_ok (local site steps) at h is l f a g = land_part_ok site steps (steps_far steps) at h is l f a g
   land_ok (global number steps) at h is l f a g = ((omega arith, omega (arith, a), omega (arith, l)), g)
 
-  -- the address of a place behind its operands, which are in temps from h on
+  -- the address of a place after its operands, which are in temps from h on
   read_ok : (q : Pl) (h : ℕ) → h + reached s q ≤ temps → PlaceFits s n q → AddressFits temps (place_above q h) q → Are (read_code s q (place_above q h) h)
   read_ok q h l f a = address_ok q h (place_above q h) (fetch_code s q (place_above q h) h ∷ []) a (omega (arith, a)) f (fetch_ok q (place_above q h) h [] l f a tt)
 
@@ -205,11 +204,11 @@ module _ (p : Program) (solid : (site : ℕ) → 0 < site_width p site) (outgoin
         let k = f.1 in let w = wide p x in let py = pc + size p x in let i = binary_code o w (temp s h) (temp s (h + w)) in
         join (ex_code p s x h pc) (ex_code p s y (h + w) py ++ i ∷ []) (ex_ok x h pc f.2 a (omega arith))
         (join (ex_code p s y (h + w) py) (i ∷ []) (ex_ok y (h + w) py f.3 (omega arith) (omega arith)) (binary_ok o w (temp s h) (temp s (h + w)) f.0 (omega (arith, k)) (omega (arith, k))))
-    ex_ok (both x y) h pc f a l =
+    ex_ok (logical_and x y) h pc f a l =
         let k = f.0 in let py = pc + size p x + 1 in
         join (ex_code p s x h pc) (JumpZero (temp s h) (py + size p y) ∷ ex_code p s y h py) (ex_ok x h pc f.1 a (omega arith))
         ((omega arith, (omega arith, omega arith)), ex_ok y h py f.2 (omega arith) (omega arith))
-    ex_ok (either x y) h pc f a l =
+    ex_ok (logical_or x y) h pc f a l =
         let k = f.0 in let py = pc + size p x + 2 in
         join (ex_code p s x h pc) (JumpZero (temp s h) py ∷ Jump (py + size p y) ∷ ex_code p s y h py) (ex_ok x h pc f.1 a (omega arith))
         ((omega arith, (omega arith, omega arith)), ((omega arith, omega arith), ex_ok y h py f.2 (omega arith) (omega arith)))
@@ -220,7 +219,7 @@ module _ (p : Program) (solid : (site : ℕ) → 0 < site_width p site) (outgoin
     ex_ok (literal m es) h pc f a l =
         let t = type_named p m in let k = f.1 in zeroed_ok (width t) (temp s h) (elements_code p s t (ascend es) es h (pc + 1)) f.0 (omega (arith, k)) (elements_ok t (ascend es) es h (pc + 1) f.2 (omega arith) (omega arith))
 
-    -- the operands of a place, and so many instructions behind them
+    -- the operands of a place, and some instructions after them
     place_ok : (q : Pl) (h pc behind : ℕ) → OperandsFit p s n h q → start ≤ pc → pc + place_size p q behind < end → Are (place_code p s q h pc)
     place_ok (local site steps) h pc behind f a l = steps_ok steps h pc behind f a l
     place_ok (global g steps) h pc behind f a l = steps_ok steps h pc behind f a l
@@ -231,7 +230,7 @@ module _ (p : Program) (solid : (site : ℕ) → 0 < site_width p site) (outgoin
     steps_ok (at_index at e m steps) h pc behind f a l =
         join (ex_code p s e h pc) (steps_code p s steps (h + 1) (pc + size p e)) (ex_ok e h pc f.1 a (omega arith)) (steps_ok steps (h + 1) (pc + size p e) behind f.2 (omega arith) (omega arith))
 
-    elements_ok : (t : ValueType) (in_order : Bool) (es : Elements) (h pc : ℕ) → ElementsFitIn p s n h t in_order es → start ≤ pc → pc + elements_size p t in_order es < end → Are (elements_code p s t in_order es h pc)
+    elements_ok : (t : TypeTree) (in_order : Bool) (es : Elements) (h pc : ℕ) → ElementsFitIn p s n h t in_order es → start ≤ pc → pc + elements_size p t in_order es < end → Are (elements_code p s t in_order es h pc)
     elements_ok t in_order no_elements h pc f a l = tt
     elements_ok t true (element i e es) h pc f a l =
         let gap = gap_behind t i es in let k = f.0 in let behind = temp s (h + words_through t i) in let next = pc + size p e + gap_size gap in
@@ -248,7 +247,7 @@ module _ (p : Program) (solid : (site : ℕ) → 0 < site_width p site) (outgoin
     exs_ok (more e es) h pc f a l =
         join (ex_code p s e h pc) (exs_code p s es (h + wide p e) (pc + size p e)) (ex_ok e h pc f.1 a (omega arith)) (exs_ok es (h + wide p e) (pc + size p e) f.2 (omega arith) (omega arith))
     exs_ok (results g es) h pc f a l = join (exs_code p s es h pc) (call_code p s g h) (exs_ok es h pc f.1 a (omega arith)) (call_ok g h f.0)
-    exs_ok asked h pc f a l = (omega arith, tt)
+    exs_ok read_int h pc f a l = (omega arith, tt)
 
   ready_ok : (ls : List Left) (h pc behind : ℕ) → ReadyFitIn p s n h ls → start ≤ pc → pc + lefts_sized p ls behind < end → Are (ready_code p s ls h pc)
   ready_ok [] h pc behind f a l = tt
@@ -271,13 +270,13 @@ module _ (p : Program) (solid : (site : ℕ) → 0 < site_width p site) (outgoin
       let k = f.0 in join (ex_code p s e h pc) (JumpZero (temp s h) goal ∷ []) (ex_ok e h pc f.1 a (omega arith)) ((omega arith, g), tt)
 
   -- a value of any type
-  value_ok : (t : ValueType) (h : ℕ) (is : List Instr) → h < temps → Are is → Are (shown_code t (temp s h) ∷ is)
+  value_ok : (t : TypeTree) (h : ℕ) (is : List Instr) → h < temps → Are is → Are (shown_code t (temp s h) ∷ is)
   value_ok ints h is l g = (omega arith, g)
   value_ok bools h is l g = (omega arith, g)
   value_ok (struct_of ts) h is l g = (omega arith, g)
   value_ok (array_of m t) h is l g = (omega arith, g)
 
-  raised_ok : (t : ValueType) (h : ℕ) → h < temps → Are (raised_code t (temp s h) ∷ [])
+  raised_ok : (t : TypeTree) (h : ℕ) → h < temps → Are (raised_code t (temp s h) ∷ [])
   raised_ok ints h l = (omega arith, tt)
   raised_ok bools h l = (omega arith, tt)
   raised_ok (struct_of ts) h l = (omega arith, tt)
@@ -360,7 +359,7 @@ module _ (p : Program) (solid : (site : ℕ) → 0 < site_width p site) (outgoin
   values_ok (site ∷ sites) zero h f v = tt
   values_ok (site ∷ sites) (suc k) h f v = named_write_ok (site ∷ sites) h f v
 
-  params_ok : (ts : List ValueType) (ps : List (Option ℕ)) (i : ℕ) → ParamsFitIn s n (each_width ts) ps → i + all_width ts ≤ arguments → Are (params_code s (each_width ts) ps i)
+  params_ok : (ts : List TypeTree) (ps : List (Option ℕ)) (i : ℕ) → ParamsFitIn s n (each_width ts) ps → i + all_width ts ≤ arguments → Are (params_code s (each_width ts) ps i)
   params_ok ts [] i f l = tt
   params_ok [] (None ∷ ps) i f l = params_ok [] ps (i + 0) f.2 (omega (arith, l))
   params_ok [] (Some site ∷ ps) i f l = absurd (let some = solid site in let none = f.1 in omega (arith, some, none))
@@ -413,7 +412,7 @@ module _ (p : Program) (solid : (site : ℕ) → 0 < site_width p site) (outgoin
           (fetch_ok q at v (ce ++ i ∷ (cl ∷ [])) (omega (arith, k, one)) f.1 address
           (join ce (i ∷ (cl ∷ [])) (ex_ok e (v + 1) pe f.4 (omega (arith, ends, a)) (omega (arith, ends, sizes, l)))
           ((omega (arith, k), omega (arith, k), omega (arith, k)), land_ok q at v [] (omega (arith, k, one)) f.1 address tt))))
-      st_ok looped (bump q o) h out again pc f w r a l =
+      st_ok looped (bump at q o) h out again pc f w r a l =
           let k = f.0 in let one = f.2 in let at = place_above q h in let v = above_address (far q) at in let sum = above_sum q at in
           let i = Bin (operation o) (temp s v) (temp s v) (temp s (v + 1)) in let c1 = Const (temp s (v + 1)) 1 in let cl = land_code s q at v in
           let address : AddressFits temps at q = omega (arith, sum, k) in
@@ -423,14 +422,14 @@ module _ (p : Program) (solid : (site : ℕ) → 0 < site_width p site) (outgoin
           (omega (arith, k), ((omega (arith, k), omega (arith, k), omega (arith, k)), land_ok q at v [] (omega (arith, k, one)) f.1 address tt))))
       st_ok looped (discard es) h out again pc f w r a l = exs_ok es h pc f a l
       st_ok looped (block ss) h out again pc f w r a l = sts_ok looped ss h out again pc f w r a l
-      st_ok looped (choose e x y) h out again pc f w r a l =
+      st_ok looped (if_stmt e x y) h out again pc f w r a l =
           let k = f.0 in let pa = pc + size p e + 1 in let pb = pa + sts_len x + 1 in
           join (ex_code p s e h pc) (JumpZero (temp s h) pb ∷ (code x h out again pa ++ Jump (pb + sts_len y) ∷ code y h out again pb)) (ex_ok e h pc f.1 a (omega arith)) (
             (omega arith, (omega arith, omega arith)),
             join (code x h out again pa) (Jump (pb + sts_len y) ∷ code y h out again pb) (sts_ok looped x h out again pa f.2 w.0 r (omega arith) (omega arith))
                 ((omega arith, omega arith), sts_ok looped y h out again pb f.3 w.1 r (omega arith) (omega arith)),
           )
-      st_ok looped (loop births test post body) h out again pc f w r a l =
+      st_ok looped (for_stmt births test post body) h out again pc f w r a l =
           let inside = pc + test_size p test in
           let turn = inside + sts_len body in
           let last = turn + renew_size births in
@@ -498,15 +497,15 @@ module _ (p : Program) (solid : (site : ℕ) → 0 < site_width p site) (outgoin
           (join ready (element ++ lefts) (ready_ok ls (h + 1) (begin + 4) (4 + lefts_size ls) f.7 (omega arith) (omega arith))
           (join element lefts (element_ok site x h v f.1 f.3 f.5 (omega (arith, k)) above) (lefts_ok (1 ∷ wide ∷ []) ls (h + 1) (v + 1 + wide) v (omega (arith, above)) f.9)))
           (sts_ok true body (h + 1) behind turn inside f.10 w (λ e. (here_behind, here_turn)) (omega arith) (omega arith))))
-      st_ok looped break_off h out again pc f w r a l = ((r w).0, tt)
-      st_ok looped go_on h out again pc f w r a l = ((r w).1, tt)
-      st_ok looped (give_back es) h out again pc f w r a l =
+      st_ok looped break_stmt h out again pc f w r a l = ((r w).0, tt)
+      st_ok looped continue_stmt h out again pc f w r a l = ((r w).1, tt)
+      st_ok looped (return_stmt es) h out again pc f w r a l =
           let values = values_code s arguments (all_wide p es) named h in let leave = leave_code s arguments named in
           join (exs_code p s es h pc) (values ++ leave) (exs_ok es h pc f.0 a (omega arith)) (join values leave (values_ok named (all_wide p es) h sites f.1) (leave_ok named sites names))
       st_ok looped (print line ps) h out again pc f w r a l = join (pieces_code p s ps h pc) (show_code s line ps h) (pieces_ok ps h pc f a (omega arith)) (shown_ok line ps h f w)
-      st_ok looped (raise at (text number)) h out again pc f w r a l = (w, tt)
-      st_ok looped (raise at (shown t e)) h out again pc f w r a l = join (ex_code p s e h pc) (raised_code t (temp s h) ∷ []) (ex_ok e h pc f.1 a (omega arith)) (raised_ok t h f.0)
-      st_ok looped (quit at e) h out again pc f w r a l = let k = f.0 in join (ex_code p s e h pc) (Exit (temp s h) ∷ []) (ex_ok e h pc f.1 a (omega arith)) (omega arith, tt)
+      st_ok looped (panic at (text number)) h out again pc f w r a l = (w, tt)
+      st_ok looped (panic at (shown t e)) h out again pc f w r a l = join (ex_code p s e h pc) (raised_code t (temp s h) ∷ []) (ex_ok e h pc f.1 a (omega arith)) (raised_ok t h f.0)
+      st_ok looped (exit at e) h out again pc f w r a l = let k = f.0 in join (ex_code p s e h pc) (Exit (temp s h) ∷ []) (ex_ok e h pc f.1 a (omega arith)) (omega arith, tt)
 
       sts_ok : (looped : Bool) (ss : Sts) (h out again pc : ℕ) → StsFitIn p s n wanted named h ss → StsWithin strings looped ss → Around looped out again → start ≤ pc → pc + sts_len ss < end → Are (code ss h out again pc)
       sts_ok looped done h out again pc f w r a l = tt
@@ -521,7 +520,7 @@ all_at fns strings slots incoming start end [] p i f h = absurd (no h)
 all_at fns strings slots incoming start end (x ∷ xs) zero i f h = subst (λ y. Ok fns strings slots incoming start end y) (same_some h) f.0
 all_at fns strings slots incoming start end (x ∷ xs) (suc p) i f h = all_at fns strings slots incoming start end xs p i f.1 h
 
--- behind each instruction but the last one, which returns, there is another
+-- after each instruction but the last one, which returns, there is another
 before_last : (xs : List Instr) (p : ℕ) (i : Instr) → slice_get (xs ++ Return ∷ []) p ≡ Some i → (i ≡ Return) ⊎ (p + 1 < length (xs ++ Return ∷ []))
 before_last [] zero i h = inl (sym (same_some h))
 before_last [] (suc p) i h = absurd (no h)
@@ -659,7 +658,3 @@ module _ (p : Program) (form : IsInForm p) where
 
   pub is_code : IsCode (code_of p)
   is_code = record { same = length_owners p p.funcs 0 0; fits = fits_place; linked = linked }
-
--- the frame of a function lies inside its words where it is entered
-pub begins : (t : Tables) → IsCode t → (f : ℕ) (fn : Entry) → slice_get t.funcs f ≡ Some fn → Inside t fn.frame fn.start 0
-begins t is f fn e = record { f = f; fn = fn; owner = (is.linked f fn e).start; is = e; room = omega arith }

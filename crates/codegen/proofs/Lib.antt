@@ -1,11 +1,9 @@
 pub mod Operands
-pub mod Begun
 pub mod Suffice
 pub mod Within
 pub mod IsCode
 pub mod Pieces
 pub mod Emitted
-pub mod Composed
 pub mod Whole
 pub mod Sized
 pub mod Above

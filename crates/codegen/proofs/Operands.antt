@@ -1,9 +1,9 @@
 -- Temps above the operands of places and left sides, and above an address.
 use Rattle.std.proofs.Common.{◌≡◌, ℕ, ◌+◌, ◌≤◌, List, [], ◌∷◌, arith}
-use Rattle.typed.specs.Syntax.{Program, Pl, Steps, Left, local, global, here, inner, at_index, blank, new, to}
-use Rattle.typed.specs.Frames.{far, steps_far}
-use Rattle.simulated_code.specs.Code.{above_address, place_above, lefts_above}
-use Rattle.simulated_code.proofs.Rooms.{place_from}
+use Rattle.typed_syntax.specs.Syntax.{Program, Pl, Steps, Left, local, global, here, inner, at_index, blank, new, to}
+use Rattle.typed_syntax.specs.Frames.{far, steps_far}
+use Rattle.program_code.specs.Code.{above_address, place_above, lefts_above}
+use Rattle.program_code.proofs.Rooms.{place_from}
 
 steps_sum : (steps : Steps) (at : ℕ) → above_address (steps_far steps) at ≡ at + steps_far steps
 steps_sum here at = omega arith

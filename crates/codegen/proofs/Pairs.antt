@@ -1,10 +1,10 @@
 -- The left sides that get the index and the element of a round over an array.
 use Rattle.std.proofs.Common.{◌≡◌, ℕ, ◌+◌, List, [], ◌∷◌, ◌++◌, length, sym, ap, ◌∙◌, arith, length-append, append_assoc}
 use Rattle.isa.specs.declared.instr.Instr.{Instr}
-use Rattle.value_trees.specs.Types.{part_type, width}
-use Rattle.typed.specs.Syntax.{Left, Program}
-use Rattle.simulated_code.specs.Code.{Slots, element_code, element_round_code, lefts_above, lefts_code, lefts_sized, ready_code, site_type}
-use Rattle.simulated_code.proofs.Sizes.{length_ready}
+use Rattle.typed_syntax.specs.Types.{part_type, width}
+use Rattle.typed_syntax.specs.Syntax.{Left, Program}
+use Rattle.program_code.specs.Code.{Slots, element_code, element_round_code, lefts_above, lefts_code, lefts_sized, ready_code, site_type}
+use Rattle.program_code.proofs.Sizes.{length_ready}
 use Rattle.codegen.specs.Frame.{left_code}
 use Rattle.codegen.proofs.Above.{above_first}
 use Rattle.codegen.proofs.Emitted.{left_alone, lefts_first, ready_first}

@@ -3,10 +3,10 @@ use Rattle.std.proofs.Common.{◌≡◌, ◌≢◌, ℕ, zero, suc, ◌+◌, ◌
 use Rattle.base.specs.declared.ids.SiteId.{SiteId}
 use Rattle.isa.specs.declared.instr.Instr.TheVariants.{PrintSpace}
 use Rattle.typed.specs.declared.stmt.Piece.{Piece as PieceData}
-use Rattle.value_trees.specs.Types.{ints, bools}
-use Rattle.typed.specs.Syntax.{Piece, Program, text, shown}
+use Rattle.typed_syntax.specs.Types.{ints, bools}
+use Rattle.typed_syntax.specs.Syntax.{Piece, Program, text, shown}
 use Rattle.typed.specs.View.{piece_of, type_of}
-use Rattle.simulated_code.specs.Code.{Slots, more_size, shown_size, named_read_size, renew_size, show_line, show_more, show_plain}
+use Rattle.program_code.specs.Code.{Slots, more_size, shown_size, named_read_size, renew_size, show_line, show_more, show_plain}
 use Rattle.codegen.specs.Frame.{show_piece, temp_behind, ShownFit}
 use Rattle.codegen.specs.Temps.{PiecesFitIn}
 

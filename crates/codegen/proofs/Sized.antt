@@ -1,10 +1,10 @@
--- The numbers of instructions of operands and of what stands behind them.
+-- The numbers of instructions of operands and of what stands after them.
 use Rattle.std.proofs.Common.{◌≡◌, ℕ, ◌+◌, ◌<◌, List, [], ◌∷◌, ◌∙◌, ap, drop, get_or, length, map, arith}
 use Rattle.typed.specs.declared.stmt.Left.{Left as LeftData}
-use Rattle.typed.specs.Syntax.{Left, Program, blank, new, to}
+use Rattle.typed_syntax.specs.Syntax.{Left, Program, blank, new, to}
 use Rattle.typed.specs.View.{left_of}
-use Rattle.simulated_code.specs.Code.{element_round_size, index_round_size, lefts_size, lefts_sized}
-use Rattle.simulated_code.proofs.Sizes.{place_sum, lefts_sum}
+use Rattle.program_code.specs.Code.{element_round_size, index_round_size, lefts_size, lefts_sized}
+use Rattle.program_code.proofs.Sizes.{place_sum, lefts_sum}
 use Rattle.codegen.proofs.Emitted.{split_lefts}
 
 pub lefts_total : (p : Program) (ls : List Left) (behind : ℕ) → lefts_sized p ls behind ≡ lefts_sized p ls 0 + behind

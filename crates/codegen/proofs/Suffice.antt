@@ -2,16 +2,16 @@
 use Rattle.std.proofs.Common.{◌≡◌, ◌⊎◌, inl, inr, ℕ, zero, suc, ◌+◌, ◌<◌, ◌≤◌, pos, Bool, true, false, List, [], ◌∷◌, Some, length, map, get_or, arith, sym, subst, ap, ◌∙◌, refl, suc-mul}
 use Rattle.std.specs.Prelude.{Option, None, max, slice_get}
 use Rattle.std.proofs.lemmas.Option.{slice_get_within}
-use Rattle.value_trees.specs.Types.{ValueType, ints, bools, array_of, width, part_count, part_type, part_offset}
-use Rattle.value_trees.specs.Value.{int, bool, composite}
-use Rattle.value_trees.specs.Paths.{Leads}
-use Rattle.value_trees.proofs.Parts.{element, leads_to, within}
-use Rattle.typed.specs.Syntax.{Ex, Exs, Pl, Steps, Left, Piece, St, Sts, Func, Program, constant, read, unary, binary, both, either, call, part_of, literal, Elements, no_elements, element as element_then, local, global, here, inner, at_index, none, more, results, asked, blank, new, to, text, shown, over_int, over_length, over_copy, declare, assign, update, bump, discard, block, choose, loop, range, break_off, go_on, give_back, print, raise, quit, done, next, all_width, each_width, arguments_in, result_words, arguments_of, results_of, type_named, site_type, site_width, path_of, wide, all_wide, ascend, words_before}
-use Rattle.typed.specs.Form.{PlFits, StepsLead, ElementsFit, InScope, AllInScope, births, births_all, new_sites, scope_behind, scope_with, scope_after, SitesNext, LeftsFit, ExFits, ExsFit, TestFits, PiecesFit, ReturnFits, StFits, StsFit, ParamsFit, NamedFit, named_params, params_scope, scope_in, body_first, FuncFits, IsInForm}
-use Rattle.typed.specs.Frames.{far, left_far, lefts_far, behind_values, place_need, steps_need, elements_need, lefts_need, place_reach, steps_reach, elements_reach, lefts_reach, need, need_all, need_pieces, reach, reach_all, reach_pieces, test_need, test_reach, widest, st_need, sts_need, st_reach, sts_reach}
-use Rattle.simulated_code.specs.Code.{Slots, other_widths, part_words, above_address, place_above, lefts_above, slots_of}
-use Rattle.simulated_code.proofs.Rooms.{address_room, array_room, key_alone, key_room, lefts_others, lefts_room, place_others, place_room}
-use Rattle.simulated_code.proofs.Wide.{plain_one, takes_some, takes_one, place_is_of, wide_is, all_wide_is, widths_are}
+use Rattle.typed_syntax.specs.Types.{TypeTree, ints, bools, array_of, width, part_count, part_type, part_offset}
+use Rattle.typed_syntax.specs.Value.{int, bool, composite}
+use Rattle.typed_syntax.specs.Paths.{Leads}
+use Rattle.value_laws.proofs.Parts.{element, leads_to, within}
+use Rattle.typed_syntax.specs.Syntax.{Ex, Exs, Pl, Steps, Left, Piece, St, Sts, Func, Program, constant, read, unary, binary, logical_and, logical_or, call, part_of, literal, Elements, no_elements, element as element_then, local, global, here, inner, at_index, none, more, results, read_int, blank, new, to, text, shown, over_int, over_length, over_copy, declare, assign, update, bump, discard, block, if_stmt, for_stmt, range, break_stmt, continue_stmt, return_stmt, print, panic, exit, done, next, all_width, each_width, arguments_in, result_words, arguments_of, results_of, type_named, site_type, site_width, path_of, wide, all_wide, ascend, words_before}
+use Rattle.typed_syntax.specs.Form.{PlFits, StepsLead, ElementsFit, InScope, AllInScope, births, births_all, new_sites, scope_behind, scope_with, scope_after, SitesNext, LeftsFit, ExFits, ExsFit, TestFits, PiecesFit, ReturnFits, StFits, StsFit, ParamsFit, NamedFit, named_params, params_scope, scope_in, body_first, FuncFits, IsInForm}
+use Rattle.typed_syntax.specs.Frames.{far, left_far, lefts_far, behind_values, place_need, steps_need, elements_need, lefts_need, place_reach, steps_reach, elements_reach, lefts_reach, need, need_all, need_pieces, reach, reach_all, reach_pieces, test_need, test_reach, widest, st_need, sts_need, st_reach, sts_reach}
+use Rattle.program_code.specs.Code.{Slots, other_widths, part_words, above_address, place_above, lefts_above, slots_of}
+use Rattle.program_code.proofs.Rooms.{address_room, array_room, key_alone, key_room, lefts_others, lefts_room, place_others, place_room}
+use Rattle.program_code.proofs.Wide.{plain_one, takes_some, takes_one, place_is_of, wide_is, all_wide_is, widths_are}
 use Rattle.expression_code.specs.Temps.{SiteFits, IndicesFit, PlaceFits, CallFits, Fits, OperandsFit, StepsFitIn, ElementsFitIn, ExsFitIn, reached}
 use Rattle.codegen.specs.Temps.{SitesFit, ParamsFitIn, LeftFits, left_words, LeftsFitIn, ValuesFit, RenewFits, ReadyFitIn, PiecesFitIn, TestFitsIn, StFitsIn, StsFitIn, FuncFitsIn, sites_words}
 use Rattle.codegen.proofs.Operands.{above_sum}
@@ -41,28 +41,28 @@ next_fit s n m (site ∷ sites) a f = (
 )
 
 -- a part is within its whole
-part_within : (t : ValueType) (i : ℕ) → i < part_count t → part_offset t i + width (part_type t i) ≤ width t
+part_within : (t : TypeTree) (i : ℕ) → i < part_count t → part_offset t i + width (part_type t i) ≤ width t
 part_within t i l = let k = within t (part_type t i) (i ∷ []) (l, refl) in omega (arith, k)
 
 -- an array with words has elements
-array_some : (x : ℕ) (r : ValueType) → 0 < width (array_of x r) → 0 < x
+array_some : (x : ℕ) (r : TypeTree) → 0 < width (array_of x r) → 0 < x
 array_some zero r l = absurd (omega (arith, l))
 array_some (suc x) r l = omega arith
 
 -- and no more than it has words
-array_long : (x : ℕ) (r : ValueType) → 0 < width r → x ≤ width (array_of x r)
+array_long : (x : ℕ) (r : TypeTree) → 0 < width r → x ≤ width (array_of x r)
 array_long zero r l = omega arith
 array_long (suc x) r l = let k = array_long x r l in omega (arith, k, l, suc-mul x (width r))
 
 module _ (p : Program) (form : IsInForm p) where
   -- steps lead to a part, whatever their indices are
-  steps_lead : (scope : List ℕ) (t s : ValueType) (steps : Steps) → StepsLead p scope t steps s → Leads t (path_of steps) s
+  steps_lead : (scope : List ℕ) (t s : TypeTree) (steps : Steps) → StepsLead p scope t steps s → Leads t (path_of steps) s
   steps_lead scope t s here f = f
   steps_lead scope t s (inner i steps) f = (f.0, steps_lead scope (part_type t i) s steps f.1)
   steps_lead scope t s (at_index at e m steps) (r, is, some, index, f) = subst (λ u. Leads u (0 ∷ path_of steps) s) (sym is) ((element m r s 0 (path_of steps) some).leads (steps_lead scope r s steps f))
 
   -- the arrays on the way to a part with words have elements with words
-  indices_fit : (scope : List ℕ) (t s : ValueType) (steps : Steps) → StepsLead p scope t steps s → 0 < width s → IndicesFit t steps
+  indices_fit : (scope : List ℕ) (t s : TypeTree) (steps : Steps) → StepsLead p scope t steps s → 0 < width s → IndicesFit t steps
   indices_fit scope t s here f w = tt
   indices_fit scope t s (inner i steps) f w = indices_fit scope (part_type t i) s steps f.1 w
   indices_fit scope t s (at_index at e m steps) (r, is, some, index, f) w =
@@ -71,7 +71,7 @@ module _ (p : Program) (form : IsInForm p) where
       (some, subst (λ u. m ≤ width u) (sym is) (array_long m r (omega (arith, l, w))), omega (arith, l, w, wide), subst (λ u. IndicesFit u steps) (sym same) (indices_fit scope r s steps f w))
 
   -- an expression's value lands in its temps, and so do values side by side
-  wide_need : (scope : List ℕ) (t : ValueType) (e : Ex) → ExFits p scope t e → wide p e ≤ need p e
+  wide_need : (scope : List ℕ) (t : TypeTree) (e : Ex) → ExFits p scope t e → wide p e ≤ need p e
   wide_need scope t (constant (int z)) f = omega arith
   wide_need scope t (constant (bool b)) f = omega arith
   wide_need scope t (constant (composite vs)) f = absurd f.1
@@ -79,22 +79,22 @@ module _ (p : Program) (form : IsInForm p) where
   wide_need scope t (unary op e) f = let l = wide_need scope t e f.1 in let w = wide_is p scope t e f.1 in let one = plain_one t (takes_one op t f.0) in omega arith
   wide_need scope t (binary at op a b) f =
       let l = wide_need scope f.0 a f.2 in let w = wide_is p scope f.0 a f.2 in let some = takes_some op f.0 t f.1 in omega (arith, l, w, some)
-  wide_need scope t (both a b) f = let l = wide_need scope bools a f.1 in let w = wide_is p scope bools a f.1 in omega arith
-  wide_need scope t (either a b) f = let l = wide_need scope bools a f.1 in let w = wide_is p scope bools a f.1 in omega arith
+  wide_need scope t (logical_and a b) f = let l = wide_need scope bools a f.1 in let w = wide_is p scope bools a f.1 in omega arith
+  wide_need scope t (logical_or a b) f = let l = wide_need scope bools a f.1 in let w = wide_is p scope bools a f.1 in omega arith
   wide_need scope t (call g es) f = omega arith
   wide_need scope t (part_of m i e) f =
       let s = type_named p m in let l = wide_need scope s e f.3 in let w = wide_is p scope s e f.3 in let part = part_within s i f.0 in omega (arith, l, w, part)
   wide_need scope t (literal m es) f = omega arith
 
-  values_need : (scope : List ℕ) (ts : List ValueType) (es : Exs) → ExsFit p scope ts es → all_wide p es ≤ need_all p es
+  values_need : (scope : List ℕ) (ts : List TypeTree) (es : Exs) → ExsFit p scope ts es → all_wide p es ≤ need_all p es
   values_need scope ts none f = omega arith
   values_need scope [] (more e es) f = absurd f
   values_need scope (t ∷ ts) (more e es) f = let l = values_need scope ts es f.1 in omega arith
   values_need scope ts (results g es) f = omega arith
-  values_need scope ts asked f = omega arith
+  values_need scope ts read_int f = omega arith
 
   -- a number or a truth value wants a temp
-  some_need : (scope : List ℕ) (t : ValueType) (e : Ex) → width t ≡ 1 → ExFits p scope t e → 0 < need p e
+  some_need : (scope : List ℕ) (t : TypeTree) (e : Ex) → width t ≡ 1 → ExFits p scope t e → 0 < need p e
   some_need scope t e one f = let l = wide_need scope t e f in let w = wide_is p scope t e f in omega arith
 
   -- the frame's slots
@@ -106,7 +106,7 @@ module _ (p : Program) (form : IsInForm p) where
     renew_fits h [] l = tt
     renew_fits h (site ∷ sites) l = (omega arith, renew_fits h sites (omega arith))
 
-    place_fits : (scope : List ℕ) (t : ValueType) (q : Pl) → Below s n scope → PlFits p scope t q → PlaceFits s n q
+    place_fits : (scope : List ℕ) (t : TypeTree) (q : Pl) → Below s n scope → PlFits p scope t q → PlaceFits s n q
     place_fits scope t (local v steps) b f =
         let own = site_type p v in let path = path_of steps in let leads = steps_lead scope own t steps f.1 in
         let is : part_words s v path ≡ width t = ap width (leads_to own t path leads) in
@@ -115,14 +115,14 @@ module _ (p : Program) (form : IsInForm p) where
     place_fits scope t (global g steps) b f = tt
 
     -- the words of a place are those of its type, and a package variable's are some
-    reached_is : (scope : List ℕ) (t : ValueType) (q : Pl) → PlFits p scope t q → reached s q ≤ width t
+    reached_is : (scope : List ℕ) (t : TypeTree) (q : Pl) → PlFits p scope t q → reached s q ≤ width t
     reached_is scope t (local v steps) f = let is : part_words s v (path_of steps) ≡ width t = ap width (leads_to (site_type p v) t (path_of steps) (steps_lead scope (site_type p v) t steps f.1)) in omega (arith, is)
     reached_is scope t (global g here) f = let some = form.solid (get_or p.globals g (0, int (pos 0))).0 in let is = ap width f.1 in omega (arith, some, is)
     reached_is scope t (global g (inner i steps)) f = absurd f
     reached_is scope t (global g (at_index at e m steps)) f = absurd f
 
     -- the words of a place are among those that it needs
-    reached_need : (scope : List ℕ) (t : ValueType) (q : Pl) → PlFits p scope t q → reached s q ≤ need p (read q)
+    reached_need : (scope : List ℕ) (t : TypeTree) (q : Pl) → PlFits p scope t q → reached s q ≤ need p (read q)
     reached_need scope t q f = let l = reached_is scope t q f in let w = ap width (place_is_of p scope t q f) in omega (arith, l, w)
 
     call_fits : (h f : ℕ) (func : Func) (scope : List ℕ) (es : Exs) → slice_get p.funcs f ≡ Some func → ExsFit p scope func.param_types es → h + need_all p es ≤ temps → h + results_of p f ≤ temps → arguments_of p f + results_of p f ≤ outgoing → CallFits p s n h f
@@ -132,12 +132,12 @@ module _ (p : Program) (form : IsInForm p) where
         (w, omega (arith, w, form.few), o, omega (arith, values_need scope func.param_types es fit, all_wide_is p scope func.param_types es fit, given, l), r)
 
     -- what stands before the next element is within the whole
-    before_within : (scope : List ℕ) (t : ValueType) (es : Elements) → ElementsFit p scope t es → words_before t es ≤ width t
+    before_within : (scope : List ℕ) (t : TypeTree) (es : Elements) → ElementsFit p scope t es → words_before t es ≤ width t
     before_within scope t no_elements f = omega arith
     before_within scope t (element_then i e es) f = let part = part_within t i f.0 in omega (arith, part)
 
     mutual
-      ex_fits : (h : ℕ) (scope : List ℕ) (t : ValueType) (e : Ex) → Below s n scope → ExFits p scope t e → h + need p e ≤ temps → reach p e ≤ outgoing → Fits p s n h e
+      ex_fits : (h : ℕ) (scope : List ℕ) (t : TypeTree) (e : Ex) → Below s n scope → ExFits p scope t e → h + need p e ≤ temps → reach p e ≤ outgoing → Fits p s n h e
       ex_fits h scope t (constant (int z)) b f l o = omega arith
       ex_fits h scope t (constant (bool c)) b f l o = omega arith
       ex_fits h scope t (constant (composite vs)) b f l o = absurd f.1
@@ -150,9 +150,9 @@ module _ (p : Program) (form : IsInForm p) where
         ex_fits h scope f.0 a b f.2 (omega arith) (omega arith),
         ex_fits (h + wide p a) scope f.0 c b f.3 (omega arith) (omega arith),
       )
-      ex_fits h scope t (both a c) b f l o =
+      ex_fits h scope t (logical_and a c) b f l o =
           ((let k = some_need scope bools a refl f.1 in omega arith), ex_fits h scope bools a b f.1 (omega arith) (omega arith), ex_fits h scope bools c b f.2 (omega arith) (omega arith))
-      ex_fits h scope t (either a c) b f l o =
+      ex_fits h scope t (logical_or a c) b f l o =
           ((let k = some_need scope bools a refl f.1 in omega arith), ex_fits h scope bools a b f.1 (omega arith) (omega arith), ex_fits h scope bools c b f.2 (omega arith) (omega arith))
       ex_fits h scope t (call g es) b (func, is, one, f) l o =
           (call_fits h g func scope es is f (omega arith) (omega arith) (omega arith), exs_fit h scope func.param_types es b f (omega arith) (omega arith))
@@ -169,14 +169,14 @@ module _ (p : Program) (form : IsInForm p) where
             elements_fit h scope s (ascend es) es b (subst (λ u. ElementsFit p scope u es) (sym f.0) f.2) (omega (arith, l)) (omega (arith, l)) o,
           )
 
-      -- the operands of a place, and so many temps behind them
-      operands_fit : (h : ℕ) (scope : List ℕ) (t : ValueType) (q : Pl) (behind others : ℕ) → Below s n scope → PlFits p scope t q → h + place_need p q behind ≤ temps → place_reach p q others ≤ outgoing → OperandsFit p s n h q
+      -- the operands of a place, and some temps after them
+      operands_fit : (h : ℕ) (scope : List ℕ) (t : TypeTree) (q : Pl) (behind others : ℕ) → Below s n scope → PlFits p scope t q → h + place_need p q behind ≤ temps → place_reach p q others ≤ outgoing → OperandsFit p s n h q
       operands_fit h scope t (local v steps) behind others b f l o = steps_fit h scope (site_type p v) t steps behind others b f.1 l o
       operands_fit h scope t (global g here) behind others b f l o = tt
       operands_fit h scope t (global g (inner i steps)) behind others b f l o = absurd f
       operands_fit h scope t (global g (at_index at e m steps)) behind others b f l o = absurd f
 
-      steps_fit : (h : ℕ) (scope : List ℕ) (u t : ValueType) (steps : Steps) (behind others : ℕ) → Below s n scope → StepsLead p scope u steps t → h + steps_need p steps behind ≤ temps → steps_reach p steps others ≤ outgoing
+      steps_fit : (h : ℕ) (scope : List ℕ) (u t : TypeTree) (steps : Steps) (behind others : ℕ) → Below s n scope → StepsLead p scope u steps t → h + steps_need p steps behind ≤ temps → steps_reach p steps others ≤ outgoing
           → StepsFitIn p s n h steps
       steps_fit h scope u t here behind others b f l o = tt
       steps_fit h scope u t (inner i steps) behind others b f l o = steps_fit h scope (part_type u i) t steps behind others b f.1 l o
@@ -184,7 +184,7 @@ module _ (p : Program) (form : IsInForm p) where
           (omega (arith, l), ex_fits h scope ints e b index (omega (arith, l)) (omega (arith, o)), steps_fit (h + 1) scope r t steps behind others b f (omega (arith, l)) (omega (arith, o)))
 
       -- the elements of a literal, which has its temps
-      elements_fit : (h : ℕ) (scope : List ℕ) (t : ValueType) (in_order : Bool) (es : Elements) → Below s n scope → ElementsFit p scope t es → h + width t ≤ temps → h + elements_need p t in_order es ≤ temps → elements_reach p es ≤ outgoing
+      elements_fit : (h : ℕ) (scope : List ℕ) (t : TypeTree) (in_order : Bool) (es : Elements) → Below s n scope → ElementsFit p scope t es → h + width t ≤ temps → h + elements_need p t in_order es ≤ temps → elements_reach p es ≤ outgoing
           → ElementsFitIn p s n h t in_order es
       elements_fit h scope t in_order no_elements b f r l o = tt
       elements_fit h scope t true (element_then i e es) b f r l o = (
@@ -200,7 +200,7 @@ module _ (p : Program) (form : IsInForm p) where
         elements_fit h scope t false es b f.3 r (omega (arith, l)) (omega (arith, o)),
       )
 
-      exs_fit : (h : ℕ) (scope : List ℕ) (ts : List ValueType) (es : Exs) → Below s n scope → ExsFit p scope ts es → h + need_all p es ≤ temps → reach_all p es ≤ outgoing → ExsFitIn p s n h es
+      exs_fit : (h : ℕ) (scope : List ℕ) (ts : List TypeTree) (es : Exs) → Below s n scope → ExsFit p scope ts es → h + need_all p es ≤ temps → reach_all p es ≤ outgoing → ExsFitIn p s n h es
       exs_fit h scope ts none b f l o = tt
       exs_fit h scope [] (more e es) b f l o = absurd f
       exs_fit h scope (t ∷ ts) (more e es) b f l o =
@@ -209,8 +209,8 @@ module _ (p : Program) (form : IsInForm p) where
           (call_fits h g func scope es is f (omega arith) (omega arith) (omega arith), exs_fit h scope func.param_types es b f (omega arith) (omega arith))
       exs_fit h scope (t ∷ ts) (results g es) b (func, is, same, f) l o =
           (call_fits h g func scope es is f (omega arith) (omega arith) (omega arith), exs_fit h scope func.param_types es b f (omega arith) (omega arith))
-      exs_fit h scope [] asked b f l o = l
-      exs_fit h scope (t ∷ ts) asked b f l o = l
+      exs_fit h scope [] read_int b f l o = l
+      exs_fit h scope (t ∷ ts) read_int b f l o = l
 
     pieces_fit : (h : ℕ) (scope : List ℕ) (ps : List Piece) → Below s n scope → PiecesFit p scope ps → h + need_pieces p ps ≤ temps → reach_pieces p ps ≤ outgoing → PiecesFitIn p s n h ps
     pieces_fit h scope [] b f l o = tt
@@ -226,7 +226,7 @@ module _ (p : Program) (form : IsInForm p) where
     test_fits h scope (Some e) b f l o = ((let k = some_need scope bools e refl f in omega arith), ex_fits h scope bools e b f l o)
 
     -- left sides for values of these types
-    lefts_fit : (at h : ℕ) (scope : List ℕ) (m : ℕ) (ts : List ValueType) (ls : List Left) → first ≤ m → Below s n scope → LeftsFit p scope m (first + n) ts ls → h + all_width ts ≤ temps → at + lefts_far ls ≤ temps → LeftsFitIn s n at h (each_width ts) ls
+    lefts_fit : (at h : ℕ) (scope : List ℕ) (m : ℕ) (ts : List TypeTree) (ls : List Left) → first ≤ m → Below s n scope → LeftsFit p scope m (first + n) ts ls → h + all_width ts ≤ temps → at + lefts_far ls ≤ temps → LeftsFitIn s n at h (each_width ts) ls
     lefts_fit at h scope m ts [] a b f l k = tt
     lefts_fit at h scope m [] (left ∷ ls) a b f l k = absurd f
     lefts_fit at h scope m (t ∷ ts) (blank ∷ ls) a b f l k = (omega arith, tt, omega arith, lefts_fit at (h + width t) scope m ts ls a b f (omega arith) (omega arith))
@@ -243,8 +243,8 @@ module _ (p : Program) (form : IsInForm p) where
       lefts_fit at (h + width t) scope m ts ls a b f.1 (omega arith) (omega arith),
     )
 
-    -- the operands of left sides, and so many temps behind them
-    ready_fit : (h : ℕ) (scope : List ℕ) (m e : ℕ) (ts : List ValueType) (ls : List Left) (behind others : ℕ) → Below s n scope → LeftsFit p scope m e ts ls → h + lefts_need p ls behind ≤ temps → lefts_reach p ls others ≤ outgoing
+    -- the operands of left sides, and some temps after them
+    ready_fit : (h : ℕ) (scope : List ℕ) (m e : ℕ) (ts : List TypeTree) (ls : List Left) (behind others : ℕ) → Below s n scope → LeftsFit p scope m e ts ls → h + lefts_need p ls behind ≤ temps → lefts_reach p ls others ≤ outgoing
         → ReadyFitIn p s n h ls
     ready_fit h scope m e ts [] behind others b f l o = tt
     ready_fit h scope m e [] (left ∷ ls) behind others b f l o = absurd f
@@ -261,7 +261,7 @@ module _ (p : Program) (form : IsInForm p) where
     key_fits at scope m (new site) a b f l = (((let e = f.0 in omega (arith, e)), (let e = f.0 in let u = f.1 in omega (arith, e, u))), (let e = ap width f.2 in omega (arith, e)))
     key_fits at scope m (to q) a b f l = ((place_fits scope ints q b f.0, l), reached_is scope ints q f.0)
 
-    below_behind : (m : ℕ) (scope around : List ℕ) (ts : List ValueType) (ls : List Left) → first ≤ m → Below s n scope → LeftsFit p around m (first + n) ts ls → Below s n (scope_behind scope ls)
+    below_behind : (m : ℕ) (scope around : List ℕ) (ts : List TypeTree) (ls : List Left) → first ≤ m → Below s n scope → LeftsFit p around m (first + n) ts ls → Below s n (scope_behind scope ls)
     below_behind m scope around ts [] a b f = b
     below_behind m scope around [] (left ∷ ls) a b f = absurd f
     below_behind m scope around (t ∷ ts) (blank ∷ ls) a b f = below_behind m scope around ts ls a b f
@@ -274,30 +274,30 @@ module _ (p : Program) (form : IsInForm p) where
     names_words [] = refl
     names_words (site ∷ sites) = ap (λ k. site_width p site + k) (names_words sites)
 
-    module _ (wanted : List ValueType) (named : List ℕ) where
+    module _ (wanted : List TypeTree) (named : List ℕ) where
       below_after : (looped : Bool) (m : ℕ) (scope : List ℕ) (t : St) → first ≤ m → Below s n scope → StFits p wanted (length named) looped scope m (first + n) t → Below s n (scope_after scope t)
       below_after looped m scope (declare sites) a b f = below_with s n scope sites b (next_fit s n m sites a f)
       below_after looped m scope (assign ls es) a b f = below_behind m scope scope f.0 ls a b f.1
       below_after looped m scope (update at q op e) a b f = b
-      below_after looped m scope (bump q op) a b f = b
+      below_after looped m scope (bump at q op) a b f = b
       below_after looped m scope (discard es) a b f = b
       below_after looped m scope (block ss) a b f = b
-      below_after looped m scope (choose e x y) a b f = b
-      below_after looped m scope (loop sites test post body) a b f = b
+      below_after looped m scope (if_stmt e x y) a b f = b
+      below_after looped m scope (for_stmt sites test post body) a b f = b
       below_after looped m scope (range over key value body) a b f = b
-      below_after looped m scope break_off a b f = b
-      below_after looped m scope go_on a b f = b
-      below_after looped m scope (give_back es) a b f = b
+      below_after looped m scope break_stmt a b f = b
+      below_after looped m scope continue_stmt a b f = b
+      below_after looped m scope (return_stmt es) a b f = b
       below_after looped m scope (print ln ps) a b f = b
-      below_after looped m scope (raise at q) a b f = b
-      below_after looped m scope (quit at e) a b f = b
+      below_after looped m scope (panic at q) a b f = b
+      below_after looped m scope (exit at e) a b f = b
 
       -- no values, or one for each result
       given : (scope : List ℕ) (k : ℕ) (es : Exs) → ReturnFits p scope wanted k es → (all_wide p es ≡ 0) ⊎ ((all_wide p es ≡ all_width wanted) × (all_width wanted ≤ need_all p es))
       given scope k none f = inl refl
       given scope k (more e es) f = inr (all_wide_is p scope wanted (more e es) f, omega (arith, values_need scope wanted (more e es) f, all_wide_is p scope wanted (more e es) f))
       given scope k (results g es) f = inr (all_wide_is p scope wanted (results g es) f, omega (arith, values_need scope wanted (results g es) f, all_wide_is p scope wanted (results g es) f))
-      given scope k asked f = inr (all_wide_is p scope wanted asked f, omega (arith, values_need scope wanted asked f, all_wide_is p scope wanted asked f))
+      given scope k read_int f = inr (all_wide_is p scope wanted read_int f, omega (arith, values_need scope wanted read_int f, all_wide_is p scope wanted read_int f))
 
       module _ (names : (named ≡ []) ⊎ (sites_words s named ≡ all_width wanted)) where
         return_fits : (h : ℕ) (scope : List ℕ) (es : Exs) → ReturnFits p scope wanted (length named) es → h + need_all p es ≤ temps → ValuesFit s (all_width wanted) h (all_wide p es) named
@@ -315,7 +315,7 @@ module _ (p : Program) (form : IsInForm p) where
         returned h scope none b f l o = tt
         returned h scope (more e es) b f l o = exs_fit h scope wanted (more e es) b f l o
         returned h scope (results g es) b f l o = exs_fit h scope wanted (results g es) b f l o
-        returned h scope asked b f l o = exs_fit h scope wanted asked b f l o
+        returned h scope read_int b f l o = exs_fit h scope wanted read_int b f l o
 
         mutual
           st_fits : (looped : Bool) (h m : ℕ) (scope : List ℕ) (t : St) → first ≤ m → Below s n scope → StFits p wanted (length named) looped scope m (first + n) t → h + st_need p named t ≤ temps → st_reach p t ≤ outgoing → StFitsIn p s n (all_width wanted) named h t
@@ -341,21 +341,21 @@ module _ (p : Program) (form : IsInForm p) where
                 operands_fit h scope ints q (far q + 1 + need p e) (reach p e) b f.1 k o,
                 ex_fits (v + 1) scope ints e b f.2 (omega (arith, above, sum)) (omega (arith, calls, o)),
               )
-          st_fits looped h m scope (bump q op) a b f k o =
+          st_fits looped h m scope (bump at q op) a b f k o =
               let sum = above_sum q (place_above q h) in let above = place_room p temps h (far q + 2) q k in
               (omega (arith, above, sum), place_fits scope ints q b f.1, reached_is scope ints q f.1, operands_fit h scope ints q (far q + 2) 0 b f.1 k o)
           st_fits looped h m scope (discard (results g es)) a b (ts, fit) k o = exs_fit h scope ts (results g es) b fit k o
           st_fits looped h m scope (discard none) a b f k o = absurd f
           st_fits looped h m scope (discard (more e es)) a b f k o = absurd f
-          st_fits looped h m scope (discard asked) a b f k o = k
+          st_fits looped h m scope (discard read_int) a b f k o = k
           st_fits looped h m scope (block ss) a b f k o = sts_fit looped h m scope ss a b f k o
-          st_fits looped h m scope (choose e x y) a b f k o = (
+          st_fits looped h m scope (if_stmt e x y) a b f k o = (
             (let c = some_need scope bools e refl f.0 in omega arith),
             ex_fits h scope bools e b f.0 (omega arith) (omega arith),
             sts_fit looped h m scope x a b f.1 (omega arith) (omega arith),
             sts_fit looped h (m + births_all x) scope y (omega arith) b f.2 (omega arith) (omega arith),
           )
-          st_fits looped h m scope (loop sites test post body) a b f k o = (
+          st_fits looped h m scope (for_stmt sites test post body) a b f k o = (
             test_fits h scope test b f.1 (omega arith) (omega arith),
             sites_below s n scope sites b f.0,
             renew_fits h sites (omega arith),
@@ -407,13 +407,13 @@ module _ (p : Program) (form : IsInForm p) where
                 subst (λ j. LeftsFitIn s n (v + 1 + w) v (1 ∷ j ∷ []) ls) (sym same) (lefts_fit (v + 1 + w) v (site ∷ scope) m (ints ∷ r ∷ []) ls a around lefts (omega (arith, room, same)) (omega (arith, address))),
                 sts_fit true (h + 1) (m + new_sites ls + 1) (scope_behind (site ∷ scope) ls) body (omega (arith, a)) (below_behind m (site ∷ scope) (site ∷ scope) (ints ∷ r ∷ []) ls a around lefts) inner_fit (omega arith) (omega (arith, calls, o)),
               )
-          st_fits looped h m scope break_off a b f k o = tt
-          st_fits looped h m scope go_on a b f k o = tt
-          st_fits looped h m scope (give_back es) a b f k o = (returned h scope es b f (omega arith) o, return_fits h scope es f (omega arith))
+          st_fits looped h m scope break_stmt a b f k o = tt
+          st_fits looped h m scope continue_stmt a b f k o = tt
+          st_fits looped h m scope (return_stmt es) a b f k o = (returned h scope es b f (omega arith) o, return_fits h scope es f (omega arith))
           st_fits looped h m scope (print ln ps) a b f k o = pieces_fit h scope ps b f k o
-          st_fits looped h m scope (raise at (text number)) a b f k o = tt
-          st_fits looped h m scope (raise at (shown t e)) a b f k o = ((let c = some_need scope t e (plain_one t f.0) f.1 in omega arith), ex_fits h scope t e b f.1 k o)
-          st_fits looped h m scope (quit at e) a b f k o = ((let c = some_need scope ints e refl f in omega arith), ex_fits h scope ints e b f k o)
+          st_fits looped h m scope (panic at (text number)) a b f k o = tt
+          st_fits looped h m scope (panic at (shown t e)) a b f k o = ((let c = some_need scope t e (plain_one t f.0) f.1 in omega arith), ex_fits h scope t e b f.1 k o)
+          st_fits looped h m scope (exit at e) a b f k o = ((let c = some_need scope ints e refl f in omega arith), ex_fits h scope ints e b f k o)
 
           sts_fit : (looped : Bool) (h m : ℕ) (scope : List ℕ) (ss : Sts) → first ≤ m → Below s n scope → StsFit p wanted (length named) looped scope m (first + n) ss → h + sts_need p named ss ≤ temps → sts_reach p ss ≤ outgoing → StsFitIn p s n (all_width wanted) named h ss
           sts_fit looped h m scope done a b f k o = tt
@@ -421,7 +421,7 @@ module _ (p : Program) (form : IsInForm p) where
               (st_fits looped h m scope x a b f.0 (omega arith) (omega arith), sts_fit looped h (m + births x) (scope_after scope x) xs (omega arith) (below_after looped m scope x a b f.0) f.1 (omega arith) (omega arith))
 
 -- parameters and results with names are sites of the frame
-params_fit : (p : Program) (f : Func) (m : ℕ) (ts : List ValueType) (ps : List (Option ℕ)) → f.first ≤ m → m + named_params ps ≤ f.first + f.count → ParamsFit p m ts ps → ParamsFitIn (slots_of p f) f.count (each_width ts) ps
+params_fit : (p : Program) (f : Func) (m : ℕ) (ts : List TypeTree) (ps : List (Option ℕ)) → f.first ≤ m → m + named_params ps ≤ f.first + f.count → ParamsFit p m ts ps → ParamsFitIn (slots_of p f) f.count (each_width ts) ps
 params_fit p f m ts [] a l fit = tt
 params_fit p f m [] (None ∷ ps) a l fit = absurd fit
 params_fit p f m [] (Some site ∷ ps) a l fit = absurd fit

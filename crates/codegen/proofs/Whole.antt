@@ -10,19 +10,19 @@ use Rattle.isa.specs.declared.instr.Instr.{Instr}
 use Rattle.typed.specs.declared.program.Func.{Func as FuncData}
 use Rattle.typed.specs.declared.program.Program.{Program as ProgramData}
 use Rattle.typed.specs.Trees.{trees}
-use Rattle.value_trees.specs.Types.{ValueType}
-use Rattle.typed.specs.Syntax.{Func, Program, argument_words, each_width}
+use Rattle.typed_syntax.specs.Types.{TypeTree}
+use Rattle.typed_syntax.specs.Syntax.{Func, Program, argument_words, each_width}
 use Rattle.typed.specs.View.{func_of, program_of}
-use Rattle.typed.specs.Form.{IsInForm}
+use Rattle.typed_syntax.specs.Form.{IsInForm}
 use Rattle.frame_layout.specs.declared.layout.FrameLayout.{FrameLayout}
 use Rattle.frame_layout.specs.Layout.{layout_in, layouts}
 use Rattle.expression_code.specs.Frame.{func_in}
 use Rattle.codegen.specs.Temps.{FuncFitsIn}
-use Rattle.simulated_code.specs.Code.{Slots, slots_of, params_code, zeros_code, sts_code, leave_code, entry_size, func_code, func_size, entry_of, funcs_code, funcs_owners, funcs_entries, code_of}
-use Rattle.simulated_code.proofs.Sizes.{length_entry, length_func}
+use Rattle.program_code.specs.Code.{Slots, slots_of, params_code, zeros_code, sts_code, leave_code, entry_size, func_code, func_size, entry_of, funcs_code, funcs_owners, funcs_entries, code_of}
+use Rattle.program_code.proofs.Sizes.{length_entry, length_func}
 use Rattle.codegen.proofs.IsCode.{all_fit}
 
--- a function's parts, one behind the other
+-- a function's parts, one after the other
 pub func_emitted : (p : Program) (f : Func) (s : Slots) (old c1 c2 c3 c4 : List Instr) → s ≡ slots_of p f → c1 ≡ old ++ params_code s (each_width f.param_types) f.params 0 → c2 ≡ c1 ++ zeros_code s f.named
     → c3 ≡ c2 ++ sts_code p (argument_words f) f.named s f.body 0 0 0 (length c2) → c4 ≡ c3 ++ leave_code s (argument_words f) f.named → c4 ≡ old ++ func_code p f (length old)
 func_emitted p f s old c1 c2 c3 c4 same e1 e2 e3 e4 =
@@ -40,12 +40,12 @@ func_emitted p f s old c1 c2 c3 c4 same e1 e2 e3 e4 =
     ∙ append_assoc old (params ++ zeros) (body ++ leave) in
     all ∙ ap (λ (x : Slots). old ++ ((params_code x (each_width f.param_types) f.params 0 ++ zeros_code x f.named) ++ (sts_code p m f.named x f.body 0 0 0 here ++ leave_code x m f.named))) same
 
-split : (types : List ValueType) (gs : List FuncData) (i : ℕ) (g : FuncData) → i < length gs → g ≡ get_or gs i g → map (func_of types) (drop i gs) ≡ func_of types g ∷ map (func_of types) (drop (i + 1) gs)
+split : (types : List TypeTree) (gs : List FuncData) (i : ℕ) (g : FuncData) → i < length gs → g ≡ get_or gs i g → map (func_of types) (drop i gs) ≡ func_of types g ∷ map (func_of types) (drop (i + 1) gs)
 split types gs i g l is =
     let one : suc i ≡ i + 1 = omega arith in
     ap (map (func_of types)) (drop-cons gs i g l) ∙ ap (λ (y : FuncData). func_of types y ∷ map (func_of types) (drop (suc i) gs)) (sym is) ∙ ap (λ j. func_of types g ∷ map (func_of types) (drop j gs)) one
 
-module _ (p : Program) (types : List ValueType) (gs : List FuncData) (i : ℕ) (g : FuncData) (l : i < length gs) (is : g ≡ get_or gs i g) where
+module _ (p : Program) (types : List TypeTree) (gs : List FuncData) (i : ℕ) (g : FuncData) (l : i < length gs) (is : g ≡ get_or gs i g) where
   abbrev now : List Func
   now = map (func_of types) (drop i gs)
 
@@ -80,7 +80,7 @@ module _ (p : Program) (types : List ValueType) (gs : List FuncData) (i : ℕ) (
       ∙ ap (λ x. x ++ funcs_entries p rest after) (sym e2)
 
 -- a function by its number
-pub there : (types : List ValueType) (gs : List FuncData) (i : ℕ) (g : FuncData) → i < length gs → g ≡ get_or gs i g → slice_get (map (func_of types) gs) i ≡ Some (func_of types g)
+pub there : (types : List TypeTree) (gs : List FuncData) (i : ℕ) (g : FuncData) → i < length gs → g ≡ get_or gs i g → slice_get (map (func_of types) gs) i ≡ Some (func_of types g)
 there types gs i g l is = slice_get-map (func_of types) gs i ∙ ap (option_map (func_of types)) (slice_get_read gs (length gs) i g refl l is)
 
 module _ (p : ProgramData) (gs : List FuncData) (same : gs ≡ p.funcs.items) (i : ℕ) (g : FuncData) (l : i < length gs) (is : g ≡ get_or gs i g) where
@@ -125,7 +125,7 @@ past [] (suc i) l = refl
 past (g ∷ gs) zero l = absurd (omega arith)
 past (g ∷ gs) (suc i) l = past gs i (omega arith)
 
--- behind the last function the tables are the program's
+-- after the last function the tables are the program's
 pub finished : (p : ProgramData) (gs : List FuncData) (i number : ℕ) (instrs : List Instr) (owners : List ℕ) (entries : List Entry) (strings : List (List ℕ)) → gs ≡ p.funcs.items → length gs ≤ i
     → funcs_code (program_of p) (map (func_in p) gs) 0 ≡ instrs ++ funcs_code (program_of p) (map (func_in p) (drop i gs)) (length instrs)
     → funcs_owners (program_of p) (map (func_in p) gs) 0 ≡ owners ++ funcs_owners (program_of p) (map (func_in p) (drop i gs)) number

@@ -2,11 +2,11 @@
 use Rattle.std.specs.Prelude.{ℕ, ◌+◌, ◌<◌, ◌≤◌, List, [], ◌∷◌, ◌++◌, Option, Some, None}
 use Rattle.isa.specs.declared.instr.Instr.{Instr}
 use Rattle.isa.specs.declared.instr.Instr.TheVariants.{ArgumentWords, Bin, Const, PrintText}
-use Rattle.typed.specs.declared.operators.BinOp.{BinOp}
-use Rattle.typed.specs.Syntax.{Ex, Exs, Pl, Func, Program as AnyProgram, Left, Piece, all_wide, value_widths, blank, new, to, text, shown, argument_words, result_words}
-use Rattle.typed.specs.Frames.{far}
+use Rattle.typed_syntax.specs.declared.operators.BinOp.{BinOp}
+use Rattle.typed_syntax.specs.Syntax.{Ex, Exs, Pl, Func, Program as AnyProgram, Left, Piece, all_wide, value_widths, blank, new, to, text, shown, argument_words, result_words}
+use Rattle.typed_syntax.specs.Frames.{far}
 use Rattle.typed.specs.declared.program.Program.{Program}
-use Rattle.simulated_code.specs.Code.{Slots, temp, site_slot, site_words, moves, operation, shown_code, above_address, place_above, lefts_above, address_code, address_size, fetch_code, land_code, write_code, lefts_code, lefts_end, place_code, place_end, ready_code, ex_code, exs_code}
+use Rattle.program_code.specs.Code.{Slots, temp, site_slot, site_words, moves, operation, shown_code, above_address, place_above, lefts_above, address_code, address_size, fetch_code, land_code, write_code, lefts_code, lefts_end, place_code, place_end, ready_code, ex_code, exs_code}
 use Rattle.codegen.specs.Temps.{SitesFit, sites_words}
 use Rattle.expression_code.specs.declared.slots.Frame.{Frame}
 use Rattle.expression_code.specs.Frame.{slots_in}
@@ -21,7 +21,7 @@ left_code s blank first at h = []
 left_code s (new site) first at h = moves (site_words s site) (site_slot s site) (temp s h) ∷ []
 left_code s (to p) first at h = write_code s p first at h
 
--- the left side that gets the index in a temp, behind its operands
+-- the left side that gets the index in a temp, after its operands
 abbrev pub key_code : AnyProgram → Slots → Left → (first index pc : ℕ) → List Instr
 key_code p s key first index pc = ready_code p s (key ∷ []) first pc ++ left_code s key first (lefts_above (key ∷ []) first) index
 

@@ -1,9 +1,9 @@
 -- That the slots of a frame suffice for statements and functions.
 use Rattle.std.specs.Prelude.{◌≡◌, ℕ, zero, suc, ◌+◌, ◌<◌, ◌≤◌, List, [], ◌∷◌, Option, Some, None}
-use Rattle.value_trees.specs.Types.{width, part_type}
-use Rattle.typed.specs.Syntax.{Ex, Left, Piece, St, Sts, Func, Program, blank, new, to, text, shown, over_int, over_length, over_copy, declare, assign, update, bump, discard, block, choose, loop, range, break_off, go_on, give_back, print, raise, quit, done, next, argument_words, result_words, all_wide, each_width, value_widths}
-use Rattle.typed.specs.Frames.{far}
-use Rattle.simulated_code.specs.Code.{Slots, site_type, site_words, first_width, other_widths, above_address, place_above, lefts_above, slots_of}
+use Rattle.typed_syntax.specs.Types.{width, part_type}
+use Rattle.typed_syntax.specs.Syntax.{Ex, Left, Piece, St, Sts, Func, Program, blank, new, to, text, shown, over_int, over_length, over_copy, declare, assign, update, bump, discard, block, if_stmt, for_stmt, range, break_stmt, continue_stmt, return_stmt, print, panic, exit, done, next, argument_words, result_words, all_wide, each_width, value_widths}
+use Rattle.typed_syntax.specs.Frames.{far}
+use Rattle.program_code.specs.Code.{Slots, site_type, site_words, first_width, other_widths, above_address, place_above, lefts_above, slots_of}
 use Rattle.expression_code.specs.Temps.{SiteFits, PlaceFits, reached, AddressFits, Fits, OperandsFit, ExsFitIn}
 
 abbrev pub SitesFit : Slots → (n : ℕ) → List ℕ → Type 0
@@ -19,12 +19,12 @@ abbrev pub ParamFits : Slots → (n : ℕ) → Option ℕ → Type 0
 ParamFits s n None = Unit {0}
 ParamFits s n (Some site) = SiteFits s n site
 
--- a parameter has so many words
+-- a parameter has n words
 abbrev pub HasWords : Slots → (words : ℕ) → Option ℕ → Type 0
 HasWords s words None = Unit {0}
 HasWords s words (Some site) = site_words s site ≡ words
 
--- parameters of so many words each
+-- parameters of as many words each as the list says
 abbrev pub ParamsFitIn : Slots → (n : ℕ) → (each : List ℕ) → List (Option ℕ) → Type 0
 ParamsFitIn s n ns [] = Unit {0}
 ParamsFitIn s n ns (q ∷ ps) = ParamFits s n q × HasWords s (first_width ns) q × ParamsFitIn s n (other_widths ns) ps
@@ -41,12 +41,12 @@ left_words s blank = 0
 left_words s (new site) = site_words s site
 left_words s (to p) = reached s p
 
--- left sides, the temps from h on whose words they get, so many each
+-- left sides, the temps from h on whose words they get, as many each as the list says
 abbrev pub LeftsFitIn : Slots → (n at h : ℕ) → (each : List ℕ) → List Left → Type 0
 LeftsFitIn s n at h ns [] = Unit {0}
 LeftsFitIn s n at h ns (l ∷ ls) = (h + first_width ns ≤ s.temps) × LeftFits s n at l × (left_words s l ≤ first_width ns) × LeftsFitIn s n at (h + first_width ns) (other_widths ns) ls
 
--- n words of values in temps from h on, for so many words of results with these names or none
+-- n words of values in temps from h on, for words of results with these names or none
 abbrev pub ValuesFit : Slots → (wanted h n : ℕ) → List ℕ → Type 0
 ValuesFit s wanted h n [] = (h + n ≤ s.temps) × (n ≤ wanted)
 ValuesFit s wanted h zero (site ∷ sites) = Unit {0}
@@ -74,7 +74,7 @@ module _ (p : Program) (s : Slots) (n : ℕ) where
   TestFitsIn h None = Unit {0}
   TestFitsIn h (Some e) = (h < s.temps) × Fits p s n h e
 
-  -- the statements of a function with so many words of results, and these names for them, with temps from h on
+  -- the statements of a function with these words of results, and these names for them, with temps from h on
   module _ (wanted : ℕ) (named : List ℕ) where
     abbrev mutual
       pub StFitsIn : (h : ℕ) → St → Type 0
@@ -85,11 +85,11 @@ module _ (p : Program) (s : Slots) (n : ℕ) where
       StFitsIn h (update at q op e) =
           let v = above_address (far q) (place_above q h) in
           (v + 1 < s.temps) × PlaceFits s n q × (reached s q ≤ 1) × OperandsFit p s n h q × Fits p s n (v + 1) e
-      StFitsIn h (bump q op) = (above_address (far q) (place_above q h) + 1 < s.temps) × PlaceFits s n q × (reached s q ≤ 1) × OperandsFit p s n h q
+      StFitsIn h (bump at q op) = (above_address (far q) (place_above q h) + 1 < s.temps) × PlaceFits s n q × (reached s q ≤ 1) × OperandsFit p s n h q
       StFitsIn h (discard es) = ExsFitIn p s n h es
       StFitsIn h (block ss) = StsFitIn h ss
-      StFitsIn h (choose e a b) = (h < s.temps) × Fits p s n h e × StsFitIn h a × StsFitIn h b
-      StFitsIn h (loop sites test post body) = TestFitsIn h test × SitesFit s n sites × RenewFits s h sites × StsFitIn h post × StsFitIn h body
+      StFitsIn h (if_stmt e a b) = (h < s.temps) × Fits p s n h e × StsFitIn h a × StsFitIn h b
+      StFitsIn h (for_stmt sites test post body) = TestFitsIn h test × SitesFit s n sites × RenewFits s h sites × StsFitIn h post × StsFitIn h body
       StFitsIn h (range (over_int e) key value body) = (h + 2 < s.temps) × Fits p s n h e × ReadyFitIn (h + 2) (key ∷ []) × LeftFits s n (lefts_above (key ∷ []) (h + 2)) key × (left_words s key ≤ 1) × StsFitIn (h + 2) body
       StFitsIn h (range (over_length x) key value body) =
           (h + 1 < s.temps) × ReadyFitIn (h + 1) (key ∷ []) × LeftFits s n (lefts_above (key ∷ []) (h + 1)) key × (left_words s key ≤ 1) × StsFitIn (h + 1) body
@@ -98,13 +98,13 @@ module _ (p : Program) (s : Slots) (n : ℕ) where
           let w = width (part_type (site_type s site) 0) in let v = lefts_above (key ∷ value ∷ []) (h + 1) in
           (h + 1 < s.temps) × SiteFits s n site × (h + site_words s site ≤ s.temps) × (0 < x) × (x ≤ site_words s site) × (0 < w) × Fits p s n h e × ReadyFitIn (h + 1) (key ∷ value ∷ []) × (v + 1 + w ≤ s.temps)
           × LeftsFitIn s n (v + 1 + w) v (1 ∷ w ∷ []) (key ∷ value ∷ []) × StsFitIn (h + 1) body
-      StFitsIn h break_off = Unit {0}
-      StFitsIn h go_on = Unit {0}
-      StFitsIn h (give_back es) = ExsFitIn p s n h es × ValuesFit s wanted h (all_wide p es) named
+      StFitsIn h break_stmt = Unit {0}
+      StFitsIn h continue_stmt = Unit {0}
+      StFitsIn h (return_stmt es) = ExsFitIn p s n h es × ValuesFit s wanted h (all_wide p es) named
       StFitsIn h (print ln ps) = PiecesFitIn h ps
-      StFitsIn h (raise at (text number)) = Unit {0}
-      StFitsIn h (raise at (shown t e)) = (h < s.temps) × Fits p s n h e
-      StFitsIn h (quit at e) = (h < s.temps) × Fits p s n h e
+      StFitsIn h (panic at (text number)) = Unit {0}
+      StFitsIn h (panic at (shown t e)) = (h < s.temps) × Fits p s n h e
+      StFitsIn h (exit at e) = (h < s.temps) × Fits p s n h e
 
       pub StsFitIn : (h : ℕ) → Sts → Type 0
       StsFitIn h done = Unit {0}

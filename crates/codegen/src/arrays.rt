@@ -2,13 +2,13 @@
 ghost use Rattle.std.specs.Prelude.{◌≡◌, ◌+◌, ◌<◌, ◌≤◌, ◌++◌, ◌∷◌, [], IfOk, OnOk, length};
 ghost use Rattle.isa.specs.declared.instr.Instr.{Instr};
 ghost use Rattle.isa.specs.declared.instr.BinOp.{BinOp};
-ghost use Rattle.value_trees.specs.Types.{width, part_type};
-ghost use Rattle.typed.specs.Syntax.{argument_words};
+ghost use Rattle.typed_syntax.specs.Types.{width, part_type};
+ghost use Rattle.typed_syntax.specs.Syntax.{argument_words};
 ghost use Rattle.typed.specs.View.{ex_of, left_of, program_of, sts_of};
 ghost use Rattle.expression_code.specs.Frame.{func_in, slots_in, IsSmall};
 ghost use Rattle.expression_code.specs.Temps.{Fits, SiteFits};
 ghost use Rattle.codegen.specs.Temps.{LeftsFitIn, ReadyFitIn};
-ghost use Rattle.simulated_code.specs.Code.{element_code, element_round_code, ex_code, lefts_above, moves as moves_of, site_slot, site_type, site_words, size, sts_size, temp};
+ghost use Rattle.program_code.specs.Code.{element_code, element_round_code, ex_code, lefts_above, moves as moves_of, site_slot, site_type, site_words, size, sts_size, temp};
 
 use crate::assigning::{above_left, emit_left, ready_left};
 use crate::stmt_lengths::stmts_len;
@@ -31,7 +31,7 @@ pub fn copy_end(program: &Program, start: u32, e: &Expr) -> Result<u32, NoMemory
     plus(start, last_len(program, e)?)
 }
 
-/// Where `break` and `continue` go from the body of rounds that begin at a place with so many instructions.
+/// Where `break` and `continue` go from the body of rounds that begin at a place with `round` instructions.
 pub fn array_goals(
     program: &Program,
     func: &Func,
@@ -144,7 +144,7 @@ pub fn emit_array_turn(
     Ok(())
 }
 
-// The index in temp h and the element of a site's array, of so many, go to temps from v on.
+// The index in temp h and the element of a site's array, of `count`, go to temps from v on.
 fn emit_element(
     code: &mut Vec<Instr>,
     program: &Program,
@@ -199,7 +199,7 @@ fn emit_element(
     Ok(())
 }
 
-/// A round over the elements of a copy, of so many: left sides get the index and the element.
+/// A round over the elements of a copy, of `count`: left sides get the index and the element.
 pub fn emit_pair(
     code: &mut Vec<Instr>,
     program: &Program,

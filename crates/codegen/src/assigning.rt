@@ -2,13 +2,13 @@
 ghost use Rattle.std.specs.Prelude.{◌≡◌, ◌+◌, ◌<◌, ◌≤◌, ◌++◌, ◌∷◌, [], OnOk, length, map};
 ghost use Rattle.isa.specs.declared.instr.Instr.{Instr};
 ghost use Rattle.typed.specs.View.{ex_of, exs_of_values, left_of, place_of, program_of};
-ghost use Rattle.typed.specs.Syntax.{all_wide, value_widths};
-ghost use Rattle.typed.specs.Frames.{far};
+ghost use Rattle.typed_syntax.specs.Syntax.{all_wide, value_widths};
+ghost use Rattle.typed_syntax.specs.Frames.{far};
 ghost use Rattle.expression_code.specs.Frame.{slots_in, IsSmall};
 ghost use Rattle.codegen.specs.Frame.{assign_code, bump_code, left_code, update_code};
 ghost use Rattle.expression_code.specs.Temps.{ExsFitIn, Fits, OperandsFit, PlaceFits, reached};
 ghost use Rattle.codegen.specs.Temps.{LeftFits, LeftsFitIn, ReadyFitIn};
-ghost use Rattle.simulated_code.specs.Code.{above_address as above_address_of, lefts_above as above_all, lefts_code, place_above, ready_code};
+ghost use Rattle.program_code.specs.Code.{above_address as above_address_of, lefts_above as above_all, lefts_code, place_above, ready_code};
 
 use base::NoMemory;
 use expression_code::{
@@ -136,7 +136,7 @@ fn emit_lefts(
 }
 
 /// The operands of all left sides come first, in temps from h on, and all values are there before the first left side gets its own; an
-/// address goes behind them.
+/// address goes after them.
 #[tactic(auto, using(crate::proofs::Emitted::assign_emitted))]
 pub fn emit_assign(
     code: &mut Vec<Instr>,

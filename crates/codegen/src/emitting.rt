@@ -1,11 +1,11 @@
 //! The code of statements.
 ghost use Rattle.std.specs.Prelude.{◌≡◌, ◌++◌, OnOk, length};
-ghost use Rattle.typed.specs.Syntax.{argument_words, result_words};
+ghost use Rattle.typed_syntax.specs.Syntax.{argument_words, result_words};
 ghost use Rattle.typed.specs.View.{program_of, st_of, sts_of};
 ghost use Rattle.expression_code.specs.Frame.{func_in, slots_in, IsSmall};
 ghost use Rattle.codegen.specs.Frame.{Returns};
 ghost use Rattle.codegen.specs.Temps.{StFitsIn, StsFitIn};
-ghost use Rattle.simulated_code.specs.Code.{st_code, sts_code};
+ghost use Rattle.program_code.specs.Code.{st_code, sts_code};
 
 use crate::arrays::{
     array_goals, copy_end, emit_array_start, emit_array_turn, emit_copy, emit_pair,
@@ -46,7 +46,7 @@ fn emit_stmt(
         Stmt::Declare(sites) => emit_zeros(code, program, frame, sites)?,
         Stmt::Assign(ls, values) => emit_assign(code, program, frame, ls, values, h)?,
         Stmt::Update(_, place, op, e) => emit_update(code, program, frame, place, *op, e, h)?,
-        Stmt::Bump(place, op) => emit_bump(code, program, frame, place, *op, h)?,
+        Stmt::Bump(_, place, op) => emit_bump(code, program, frame, place, *op, h)?,
         Stmt::Discard(values) => emit_values(code, program, frame, values, h)?,
         Stmt::Block(ss) => emit_stmts(code, program, frame, func, ss, h, goals)?,
         Stmt::If(e, a, b) => {
@@ -57,7 +57,7 @@ fn emit_stmt(
             jump(code, no, 1)?;
             emit_stmts(code, program, frame, func, b, h, goals)?;
         }
-        Stmt::Loop(sites, test, post, body) => {
+        Stmt::For(sites, test, post, body) => {
             let inner = loop_goals(program, func, start, sites, test, post, body)?;
             emit_test(code, program, frame, test, h, inner.out)?;
             emit_stmts(code, program, frame, func, body, h, inner)?;

@@ -2,13 +2,13 @@
 ghost use Rattle.std.specs.Prelude.{◌≡◌, ◌+◌, ◌<◌, ◌≤◌, ◌++◌, ◌∷◌, [], IfOk, OnOk, length, map};
 ghost use Rattle.isa.specs.declared.instr.Instr.{Instr};
 ghost use Rattle.isa.specs.declared.instr.BinOp.{BinOp};
-ghost use Rattle.typed.specs.Syntax.{argument_words};
+ghost use Rattle.typed_syntax.specs.Syntax.{argument_words};
 ghost use Rattle.typed.specs.View.{ex_of, left_of, program_of, site_numbers, sts_of, test_of};
 ghost use Rattle.expression_code.specs.Frame.{func_in, slots_in, IsSmall};
 ghost use Rattle.codegen.specs.Frame.{key_code};
 ghost use Rattle.expression_code.specs.Temps.{Fits};
 ghost use Rattle.codegen.specs.Temps.{LeftFits, ReadyFitIn, RenewFits, SitesFit, TestFitsIn};
-ghost use Rattle.simulated_code.specs.Code.{ex_code, index_round_size, lefts_above, renew_code, renew_size, size, sts_size, temp, test_code, test_size};
+ghost use Rattle.program_code.specs.Code.{ex_code, index_round_size, lefts_above, renew_code, renew_size, size, sts_size, temp, test_code, test_size};
 
 use crate::assigning::{above_left, emit_left, ready_left};
 use crate::stmt_lengths::{key_len, renew_len, stmts_len};

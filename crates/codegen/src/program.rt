@@ -1,12 +1,11 @@
 //! The code of a program: its tables, function by function.
 ghost use Rattle.std.specs.Prelude.{◌≡◌, ◌+◌, ◌<◌, ◌≤◌, ◌^◌, ◌++◌, ◌∷◌, [], IfOk, OnOk, length, map, replicate};
 ghost use Rattle.typed.specs.View.{program_of};
-ghost use Rattle.typed.specs.Form.{IsInForm};
+ghost use Rattle.typed_syntax.specs.Form.{IsInForm};
 ghost use Rattle.frame_layout.specs.Layout.{layout_in, layouts as layouts_of};
 ghost use Rattle.expression_code.specs.Frame.{func_in, slots_in, IsSmall};
 ghost use Rattle.codegen.specs.Temps.{FuncFitsIn};
-ghost use Rattle.simulated_code.specs.Code.{code_of, entry_of, func_code, func_size, slots_of};
-ghost use Rattle.simulated_code.specs.Correct.{Simulated};
+ghost use Rattle.program_code.specs.Code.{code_of, entry_of, func_code, func_size, slots_of};
 
 use crate::emitting::emit_stmts;
 use crate::returning::{emit_leave, emit_params, emit_zeros};
@@ -25,7 +24,7 @@ struct Parts {
     funcs: Vec<isa::Func>,
 }
 
-// A function's code stands behind the others'.
+// A function's code stands after the others'.
 fn emit_func(
     code: &mut Vec<Instr>,
     program: &Program,
@@ -47,7 +46,7 @@ fn emit_func(
     Ok(())
 }
 
-// So many places belong to a function.
+// `places` places belong to a function.
 #[tactic(auto, using(crate::proofs::Whole::own_next))]
 fn own(owners: &mut Vec<u16>, number: u16, places: usize) -> Result<(), NoMemory>
     ensures { OnOk result (owners.new.items ≡ owners.old.items ++ replicate places number) }
@@ -87,7 +86,7 @@ fn copied(alloc: Global, strings: &[Vec<u8>]) -> Result<Vec<Vec<u8>>, NoMemory>
     Ok(all)
 }
 
-// A function comes behind the others, with this number.
+// A function comes after the others, with this number.
 fn add(
     parts: &mut Parts,
     program: &Program,
@@ -129,7 +128,6 @@ pub fn emit(alloc: Global, program: &Program, layouts: &Layouts) -> Result<Code,
     requires form { IsInForm (program_of program.now) }
     requires layouts { layouts.now ≡ layouts_of (program_of program.now) }
     ensures is { IfOk result (λ code. code ≡ code_of (program_of program.now)) }
-    ensures simulates { IfOk result (λ code. Simulated (program_of program.now) code) }
     ensures main { IfOk result (λ code. program.now.main.0 < length code.funcs) }
     ensures small { IfOk result (λ code. length code.instrs < 2 ^ 40) }
 {

@@ -1,13 +1,13 @@
 //! The code at both ends of a function: what it takes, and what it gives back.
 ghost use Rattle.std.specs.Prelude.{◌≡◌, ◌+◌, ◌≤◌, ◌++◌, ◌∷◌, [], length, map, OnOk};
 ghost use Rattle.typed.specs.Trees.{trees};
-ghost use Rattle.typed.specs.Syntax.{all_wide, all_width, argument_words, each_width, result_words, type_in};
+ghost use Rattle.typed_syntax.specs.Syntax.{all_wide, all_width, argument_words, each_width, result_words, type_in};
 ghost use Rattle.typed.specs.View.{exs_of_values, program_of, site_in, site_numbers};
 ghost use Rattle.expression_code.specs.Frame.{func_in, slots_in, IsSmall};
 ghost use Rattle.codegen.specs.Frame.{param_code, Returns};
 ghost use Rattle.expression_code.specs.Temps.{ExsFitIn};
 ghost use Rattle.codegen.specs.Temps.{ParamFits, ParamsFitIn, SitesFit, ValuesFit, sites_words};
-ghost use Rattle.simulated_code.specs.Code.{exs_code, leave_code, named_read_code, named_write_code, params_code, result_code, values_code, zeros_code};
+ghost use Rattle.program_code.specs.Code.{exs_code, leave_code, named_read_code, named_write_code, params_code, result_code, values_code, zeros_code};
 
 use base::{NoMemory, SiteId, TypeId};
 use expression_code::{Frame, emit_values, moves, nth_words, put, zeros};
@@ -15,7 +15,7 @@ use frame_layout::{all_words, values_words};
 use isa::Instr;
 use typed::{Func, Program, Values};
 
-// A parameter with a site gets so many incoming words from one on.
+// A parameter with a site gets `n` incoming words from one on.
 fn emit_param(
     code: &mut Vec<Instr>,
     program: &Program,

@@ -6,7 +6,7 @@ ghost use Rattle.expression_code.specs.Frame.{slots_in, IsSmall};
 ghost use Rattle.codegen.specs.Frame.{show_piece, temp_behind, ShownFit};
 ghost use Rattle.expression_code.specs.Temps.{Fits};
 ghost use Rattle.codegen.specs.Temps.{PiecesFitIn};
-ghost use Rattle.simulated_code.specs.Code.{ex_code, pieces_code, raised_code, show_code, show_line, show_more, show_plain, shown_code, temp};
+ghost use Rattle.program_code.specs.Code.{ex_code, pieces_code, raised_code, show_code, show_line, show_more, show_plain, shown_code, temp};
 
 use base::{NoMemory, TypeId};
 use expression_code::{Frame, emit_expr, put};

@@ -1,9 +1,9 @@
 //! The numbers of instructions of statements.
 ghost use Rattle.std.specs.Prelude.{◌≡◌, ◌+◌, ◌≤◌, IfOk, ◌∷◌, [], map};
-ghost use Rattle.typed.specs.Syntax.{all_wide, argument_words};
+ghost use Rattle.typed_syntax.specs.Syntax.{all_wide, argument_words};
 ghost use Rattle.typed.specs.View.{ex_of, exs_of_values, left_of, piece_of, place_of, program_of, site_numbers, st_of, sts_of, test_of};
 ghost use Rattle.expression_code.specs.Frame.{func_in};
-ghost use Rattle.simulated_code.specs.Code.{address_size, exs_size, element_round_size, index_round_size, leave_size, lefts_size, lefts_sized, piece_size, place_size, pieces_size, renew_size, shown_size, size, st_size, sts_size, test_size, values_size};
+ghost use Rattle.program_code.specs.Code.{address_size, exs_size, element_round_size, index_round_size, leave_size, lefts_size, lefts_sized, piece_size, place_size, pieces_size, renew_size, shown_size, size, st_size, sts_size, test_size, values_size};
 
 use base::{NoMemory, SiteId};
 use expression_code::{
@@ -119,7 +119,7 @@ fn assign_len(program: &Program, ls: &[Left], values: &Values) -> Result<u32, No
     plus(operands, behind)
 }
 
-// The operands of a place, its address, if there is one, and so many instructions more.
+// The operands of a place, its address, if there is one, and `more` instructions.
 #[tactic(auto, using(expression_code::proofs::Steps::place_total))]
 fn reached_len(program: &Program, place: &Place, more: u32) -> Result<u32, NoMemory>
     ensures { IfOk result (λ n. n ≡ place_size (program_of program.now) (place_of place.now) (address_size (place_of place.now) + more)) }
@@ -130,7 +130,7 @@ fn reached_len(program: &Program, place: &Place, more: u32) -> Result<u32, NoMem
     plus(reached, more)
 }
 
-// A read of the place stands before the operand, the operation and a write behind it.
+// A read of the place stands before the operand, the operation and a write after it.
 fn update_len(program: &Program, place: &Place, e: &Expr) -> Result<u32, NoMemory>
     ensures { IfOk result (λ n. n ≡ place_size (program_of program.now) (place_of place.now) (address_size (place_of place.now) + 1 + size (program_of program.now) (ex_of e.now) + 1 + 1)) }
 {
@@ -179,7 +179,7 @@ fn return_len(program: &Program, func: &Func, values: &Values) -> Result<u32, No
     plus(n, end)
 }
 
-// An `if` whose condition and branches have so many.
+// An `if` whose branches have `yes` and `no`.
 fn choice_len(program: &Program, e: &Expr, yes: u32, no: u32) -> Result<u32, NoMemory>
     ensures { IfOk result (λ n. n ≡ size (program_of program.now) (ex_of e.now) + 1 + yes + 1 + no) }
 {
@@ -198,7 +198,7 @@ pub fn renew_len(sites: &[SiteId]) -> Result<u32, NoMemory>
     plus(n, n)
 }
 
-// A loop whose body and post statement have so many.
+// A loop whose body and post statement have `body` and `post`.
 fn loop_len(
     program: &Program,
     test: &Option<Expr>,
@@ -261,7 +261,7 @@ pub fn pair_len(program: &Program, key: &Left, value: &Left) -> Result<u32, NoMe
     plus(both, ELEMENT)
 }
 
-// A `range` over a number whose body has so many.
+// A `range` over a number whose body has `body`.
 fn count_len(program: &Program, e: &Expr, key: &Left, body: u32) -> Result<u32, NoMemory>
     ensures { IfOk result (λ n. n ≡ size (program_of program.now) (ex_of e.now) + 1 + 2 + lefts_sized (program_of program.now) (left_of key.now ∷ []) (lefts_size (left_of key.now ∷ [])) + body + 3) }
 {
@@ -273,7 +273,7 @@ fn count_len(program: &Program, e: &Expr, key: &Left, body: u32) -> Result<u32, 
     plus(inside, COUNT_TURN)
 }
 
-// A `range` over an array whose rounds begin with so many and whose body has so many.
+// A `range` over an array whose rounds begin with `round` and whose body has `body`.
 fn array_len(round: u32, body: u32) -> Result<u32, NoMemory>
     ensures { IfOk result (λ n. n ≡ 4 + round + body + 3) }
 {
@@ -313,7 +313,7 @@ fn stmt_len(program: &Program, func: &Func, s: &Stmt) -> Result<u32, NoMemory>
         Stmt::Declare(sites) => number(sites.len()),
         Stmt::Assign(ls, values) => assign_len(program, ls, values),
         Stmt::Update(_, place, _, e) => update_len(program, place, e),
-        Stmt::Bump(place, _) => bump_len(program, place),
+        Stmt::Bump(_, place, _) => bump_len(program, place),
         Stmt::Discard(values) => values_len(program, values),
         Stmt::Block(ss) => stmts_len(program, func, ss),
         Stmt::If(e, a, b) => {
@@ -321,7 +321,7 @@ fn stmt_len(program: &Program, func: &Func, s: &Stmt) -> Result<u32, NoMemory>
             let no = stmts_len(program, func, b)?;
             choice_len(program, e, yes, no)
         }
-        Stmt::Loop(sites, test, post, body) => {
+        Stmt::For(sites, test, post, body) => {
             let inside = stmts_len(program, func, body)?;
             let behind = stmts_len(program, func, post)?;
             loop_len(program, test, sites, inside, behind)

@@ -15,12 +15,12 @@ use Rattle.parse_go.specs.declared.fault.ParseFault.TheVariants as parse
 use Rattle.syntax.specs.Declarations.{Syntax}
 use Rattle.parse_go.specs.Grammar.{IsText}
 use Rattle.parse_go.specs.Faults.{GivesTree}
-use Rattle.value_types.specs.declared.fault.TypeFault.{TypeFault}
-use Rattle.value_types.specs.declared.fault.TypeFault.TheVariants as typing
+use Rattle.type_faults.specs.declared.fault.TypeFault.{TypeFault}
+use Rattle.type_faults.specs.declared.fault.TypeFault.TheVariants as typing
 use Rattle.types_go.specs.Checked.{Types, Reports, OnlyProgram}
-use Rattle.typed.specs.Syntax.{Func, Program}
+use Rattle.typed_syntax.specs.Syntax.{Func, Program}
 use Rattle.typed.specs.View.{func_of, program_of}
-use Rattle.typed.specs.Frames.{frame_of}
+use Rattle.typed_syntax.specs.Frames.{frame_of}
 use Rattle.typed.specs.declared.program.Func.{Func as FuncData}
 use Rattle.typed.specs.declared.program.Program.{Program as ProgramData}
 use Rattle.frame_layout.specs.declared.fault.LayoutFault.{LayoutFault}

@@ -8,11 +8,11 @@ use Rattle.parse_go.specs.declared.fault.ParseFault.TheVariants as parse
 use Rattle.syntax.specs.Declarations.{Syntax}
 use Rattle.parse_go.specs.Grammar.{IsText}
 use Rattle.parse_go.specs.Faults.{IsFirstFault}
-use Rattle.value_types.specs.declared.fault.TypeFault.TheVariants as typing
+use Rattle.type_faults.specs.declared.fault.TypeFault.TheVariants as typing
 use Rattle.types_go.specs.Checked.{Types, Reports, function_places}
-use Rattle.typed.specs.Syntax.{Func, Program}
+use Rattle.typed_syntax.specs.Syntax.{Func, Program}
 use Rattle.typed.specs.View.{program_of}
-use Rattle.typed.specs.Frames.{frame_of}
+use Rattle.typed_syntax.specs.Frames.{frame_of}
 use Rattle.typed.specs.declared.program.Func.{Func as FuncData}
 use Rattle.typed.specs.declared.program.Program.{Program as ProgramData}
 use Rattle.frame_layout.specs.declared.fault.LayoutFault.TheVariants as layout
@@ -49,7 +49,7 @@ pub record HasParseFault (text : List ℕ) (f : Rattle.parse_go.specs.declared.f
   pub fault : f ≢ parse.NoMemory
 
 -- a text's tree has no typed program, because of this fault
-pub record HasTypeFault (text : List ℕ) (f : Rattle.value_types.specs.declared.fault.TypeFault.TypeFault) : Type 0 where
+pub record HasTypeFault (text : List ℕ) (f : Rattle.type_faults.specs.declared.fault.TypeFault.TypeFault) : Type 0 where
   pub tree : Syntax
   pub has : HasTree text tree
   pub least : Reports tree f

@@ -3,8 +3,8 @@ use Rattle.scan_go.specs.declared.fault.ScanFault.{ScanFault}
 use Rattle.scan_go.specs.declared.fault.ScanFault.TheVariants as scan
 use Rattle.parse_go.specs.declared.fault.ParseFault.{ParseFault}
 use Rattle.parse_go.specs.declared.fault.ParseFault.TheVariants as parse
-use Rattle.value_types.specs.declared.fault.TypeFault.{TypeFault}
-use Rattle.value_types.specs.declared.fault.TypeFault.TheVariants as typing
+use Rattle.type_faults.specs.declared.fault.TypeFault.{TypeFault}
+use Rattle.type_faults.specs.declared.fault.TypeFault.TheVariants as typing
 use Rattle.frame_layout.specs.declared.fault.LayoutFault.{LayoutFault}
 use Rattle.frame_layout.specs.declared.fault.LayoutFault.TheVariants as layout
 use Rattle.compile.specs.declared.fault.CompileFault.{CompileFault}

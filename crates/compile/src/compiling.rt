@@ -1,7 +1,7 @@
 //! The stages of the compiler.
 
 ghost use Rattle.std.specs.Prelude.{◌≡◌, IfOk, IfErr};
-ghost use Rattle.typed.specs.Syntax.{Program as ProgramOf};
+ghost use Rattle.typed_syntax.specs.Syntax.{Program as ProgramOf};
 ghost use Rattle.compile.specs.Accepted.{Accepted, Refuses};
 ghost use Rattle.compile.specs.Compiled.{Does, OnlyCompiled, compiled_program};
 
@@ -25,7 +25,7 @@ pub struct Compiled {
 
 /// Compiles a source text.
 pub fn compile(alloc: Global, text: &[u8]) -> Result<Compiled, CompileFault>
-    // What is answered is the program with which the text is accepted, and a code that does what the program means.
+    // What is answered is the program with which the text is accepted, and its code, which does what the program means.
     ensures accepted { IfOk result (λ c. Accepted text.now (compiled_program c)) }
     ensures does { IfOk result Does }
 

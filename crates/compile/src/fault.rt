@@ -8,7 +8,7 @@ use frame_layout::LayoutFault;
 use parse_go::ParseFault;
 use scan_go::ScanFault;
 use thiserror::Error;
-use value_types::TypeFault;
+use type_faults::TypeFault;
 
 /// Why a text is not compiled: the fault of the first stage that refuses it. Want of memory in any stage is `NoMemory`.
 #[derive(Clone, Copy, Debug, PartialEq, Eq, Error)]

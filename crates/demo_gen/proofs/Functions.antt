@@ -1,4 +1,4 @@
--- One function more behind a text.
+-- One function more after a text.
 use Rattle.std.proofs.Common.{◌≡◌, ℕ, suc, ◌+◌, List, ◌++◌, ap, ◌∙◌, sym, subst, arith}
 use mathlib.Core.List.{append_assoc}
 use Rattle.demo_gen.specs.Text.{function_text, functions}

@@ -1,1 +1,2 @@
+-- All of it is the contract.
 pub mod Text

@@ -1,6 +1,10 @@
 -- The text of the program of a number.
 use Rattle.std.specs.Prelude.{ℕ, zero, suc, ◌-◌, ◌%◌, ◌==◌, List, [], ◌++◌, codes, decimal, if◌then◌else◌}
 
+-- the greatest number of a program, which is the number of its functions but the first and `main`
+abbrev pub most_functions : ℕ
+most_functions = 400
+
 abbrev pub beginning_text : List ℕ
 beginning_text = codes "package main\n\nvar keep *int\n\nfunc f0(p *int, d int) *int {\n\t*p += d\n\treturn p\n}\n"
 

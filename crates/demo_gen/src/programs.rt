@@ -1,7 +1,7 @@
 //! The text of such a program.
 
 ghost use Rattle.std.specs.Prelude.{◌≡◌, ◌≤◌, ◌++◌, string_bytes, IfOk, OnOk};
-ghost use Rattle.demo_gen.specs.Text.{text, main_text, kept_text, function_text};
+ghost use Rattle.demo_gen.specs.Text.{most_functions, text, main_text, kept_text, function_text};
 
 use base::NoMemory;
 use std::alloc::{AllocError, Global};
@@ -18,7 +18,7 @@ fn kept_line(number: u32) -> &'static str
     if number % 3 == 0 { "\tkeep = q\n" } else { "" }
 }
 
-/// Puts the function of a number behind a text.
+/// Puts the function of a number after a text.
 fn put_function(text: &mut String, number: u32) -> Result<(), AllocError>
     requires { 1 ≤ number }
     ensures { OnOk result (string_bytes text.new ≡ string_bytes text.old ++ function_text number) }
@@ -31,7 +31,7 @@ fn put_function(text: &mut String, number: u32) -> Result<(), AllocError>
     )
 }
 
-/// Puts `main` behind a text, which calls the function of a number.
+/// Puts `main`, which calls the function of a number, after a text.
 fn put_main(text: &mut String, number: u32) -> Result<(), AllocError>
     ensures { OnOk result (string_bytes text.new ≡ string_bytes text.old ++ main_text number) }
 {
@@ -41,10 +41,10 @@ fn put_main(text: &mut String, number: u32) -> Result<(), AllocError>
     )
 }
 
-/// The text of the program of a number, from 1 to 400.
+/// The text of the program of a number, from 1 to `most_functions`.
 pub fn text(alloc: Global, number: u32) -> Result<Vec<u8>, NoMemory>
     requires low { 1 ≤ number }
-    requires high { number ≤ 400 }
+    requires high { number ≤ most_functions }
     ensures { IfOk result (λ bytes. bytes.items ≡ text number) }
 {
     let mut text = String::from_str(alloc, BEGINNING)?;

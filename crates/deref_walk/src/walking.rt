@@ -2,7 +2,7 @@
 
 ghost use Rattle.std.specs.Prelude.{◌≡◌, ◌<◌, pos, negsuc, ◌≤ℤ◌, List, [], ◌∷◌, length, slice_get, Some, IfOk, OnOk};
 ghost use Rattle.std.specs.List.{Contains};
-ghost use Rattle.deref_walk.specs.Flow.{behind};
+ghost use Rattle.deref_walk.specs.Flow.{farthest, number_after};
 ghost use Rattle.deref_walk.specs.Found.{IsLowest, IsWalked, IsKept, IsLook};
 ghost use Rattle.deref_walk.specs.declared.found.Way.TheVariants.{Along};
 ghost use Rattle.deref_walk.specs.declared.found.Found.{Found as AnyFound};
@@ -18,9 +18,9 @@ use std::alloc::Global;
 /// What lies further away counts as lying this far away.
 const FARTHEST: i64 = 1000;
 
-/// The number behind an edge from what is found at its near end.
-fn behind(near: &Found, edge: &Edge) -> i32
-    ensures { result ≡ behind near.now.number edge.now.weight }
+/// The number after an edge from what is found at its near end.
+fn number_after(near: &Found, edge: &Edge) -> i32
+    ensures { result ≡ number_after near.now.number edge.now.weight }
 {
     let sum = i64::from(near.number.max(0)) + i64::from(edge.weight);
     sum.min(FARTHEST) as i32
@@ -31,13 +31,13 @@ fn far_end(found: &[Found], before: usize, edge: &Edge) -> Found
     requires { before < length found.now }
     ensures loc { result.loc ≡ edge.now.from }
     ensures way { result.way ≡ Along before edge.now.weight }
-    ensures number { (g : AnyFound) → slice_get found.now before ≡ Some g → result.number ≡ behind g.number edge.now.weight }
+    ensures number { (g : AnyFound) → slice_get found.now before ≡ Some g → result.number ≡ number_after g.number edge.now.weight }
     ensures low { negsuc 0 ≤ℤ result.number }
-    ensures high { result.number ≤ℤ pos 1000 }
+    ensures high { result.number ≤ℤ pos farthest }
 {
     Found {
         loc: edge.from,
-        number: behind(&found[before], edge),
+        number: number_after(&found[before], edge),
         way: Way::Along(before, edge.weight),
     }
 }

@@ -2,18 +2,18 @@
 use Rattle.std.proofs.Common.{◌≡◌, ℕ, zero, suc, ◌+◌, ◌<◌, ◌≤◌, List, [], ◌∷◌, drop, get_or, length, map, refl, sym, ap, ◌∙◌, arith}
 use Rattle.std.specs.Prelude.{slice_index}
 use Rattle.base.specs.declared.ids.TypeId.{TypeId}
-use Rattle.value_trees.specs.Types.{ValueType, width}
+use Rattle.typed_syntax.specs.Types.{TypeTree, width}
 use Rattle.typed.specs.declared.expr.Expr.{Expr}
-use Rattle.typed.specs.Syntax.{Program, type_in, all_width, each_width, value_widths, wide}
+use Rattle.typed_syntax.specs.Syntax.{Program, type_in, all_width, each_width, value_widths, wide}
 use Rattle.typed.specs.View.{ex_of, exs_of}
-use Rattle.simulated_code.specs.Code.{first_width, other_widths}
+use Rattle.program_code.specs.Code.{first_width, other_widths}
 
-pub nth_width : (known : List ValueType) (types : List TypeId) (i : ℕ) (t : TypeId) → i < length types → t ≡ get_or types i t → slice_index (each_width (map (λ t. type_in known t.0) types)) i ≡ width (type_in known t.0)
+pub nth_width : (known : List TypeTree) (types : List TypeId) (i : ℕ) (t : TypeId) → i < length types → t ≡ get_or types i t → slice_index (each_width (map (λ t. type_in known t.0) types)) i ≡ width (type_in known t.0)
 nth_width known [] i t l is = absurd (omega (arith, l))
 nth_width known (x ∷ types) zero t l is = ap (λ (y : TypeId). width (type_in known y.0)) (sym is)
 nth_width known (x ∷ types) (suc i) t l is = nth_width known types i t (omega (arith, l)) is
 
-pub past_widths : (known : List ValueType) (types : List TypeId) (i : ℕ) → length types ≤ i → slice_index (each_width (map (λ t. type_in known t.0) types)) i ≡ 0
+pub past_widths : (known : List TypeTree) (types : List TypeId) (i : ℕ) → length types ≤ i → slice_index (each_width (map (λ t. type_in known t.0) types)) i ≡ 0
 past_widths known [] i l = refl
 past_widths known (x ∷ types) zero l = absurd (omega (arith, l))
 past_widths known (x ∷ types) (suc i) l = past_widths known types i (omega (arith, l))
@@ -45,13 +45,13 @@ pub other_drop : (ns : List ℕ) (i : ℕ) → other_widths (drop i ns) ≡ drop
 other_drop ns i = let one : suc i ≡ i + 1 = omega arith in others_drop ns i ∙ ap (λ k. drop k ns) one
 
 -- the words of types from one on
-drop_width : (known : List ValueType) (types : List TypeId) (i : ℕ) → all_width (map (λ t. type_in known t.0) (drop i types)) ≡ slice_index (each_width (map (λ t. type_in known t.0) types)) i + all_width (map (λ t. type_in known t.0) (drop (suc i) types))
+drop_width : (known : List TypeTree) (types : List TypeId) (i : ℕ) → all_width (map (λ t. type_in known t.0) (drop i types)) ≡ slice_index (each_width (map (λ t. type_in known t.0) types)) i + all_width (map (λ t. type_in known t.0) (drop (suc i) types))
 drop_width known [] zero = refl
 drop_width known [] (suc i) = refl
 drop_width known (t ∷ types) zero = refl
 drop_width known (t ∷ types) (suc i) = drop_width known types i
 
-pub width_behind : (known : List ValueType) (types : List TypeId) (i : ℕ) → all_width (map (λ t. type_in known t.0) (drop i types)) ≡ slice_index (each_width (map (λ t. type_in known t.0) types)) i + all_width (map (λ t. type_in known t.0) (drop (i + 1) types))
+pub width_behind : (known : List TypeTree) (types : List TypeId) (i : ℕ) → all_width (map (λ t. type_in known t.0) (drop i types)) ≡ slice_index (each_width (map (λ t. type_in known t.0) types)) i + all_width (map (λ t. type_in known t.0) (drop (i + 1) types))
 width_behind known types i =
     let one : suc i ≡ i + 1 = omega arith in
     drop_width known types i ∙ ap (λ k. slice_index (each_width (map (λ t. type_in known t.0) types)) i + all_width (map (λ t. type_in known t.0) (drop k types))) one

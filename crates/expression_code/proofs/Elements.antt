@@ -5,21 +5,21 @@ use Rattle.isa.specs.declared.instr.Instr.{Instr}
 use Rattle.typed.specs.declared.expr.Expr.{Expr}
 use Rattle.typed.specs.declared.expr.Element.{Element}
 use Rattle.typed.specs.declared.expr.Element.TheVariants as item
-use Rattle.value_trees.specs.Types.{ValueType, part_offset, part_type, width}
-use Rattle.typed.specs.Syntax.{Elements, Program, ascend, element, gap_behind, literal, type_named, words_through}
+use Rattle.typed_syntax.specs.Types.{TypeTree, part_offset, part_type, width}
+use Rattle.typed_syntax.specs.Syntax.{Elements, Program, ascend, element, gap_behind, literal, type_named, words_through}
 use Rattle.typed.specs.View.{elements_of, ex_of}
 use Rattle.expression_code.specs.Temps.{ElementsFitIn, Fits}
-use Rattle.simulated_code.specs.Code.{Slots, elements_code, ex_code, gap_code, gap_size, moves, size, temp, zeros}
-use Rattle.simulated_code.proofs.Sizes.{length_code, length_gap, length_last}
+use Rattle.program_code.specs.Code.{Slots, elements_code, ex_code, gap_code, gap_size, moves, size, temp, zeros}
+use Rattle.program_code.proofs.Sizes.{length_code, length_gap, length_last}
 
--- one, and those behind it
+-- one, and those after it
 pub split_elements : (es : List Element) (i : ℕ) (x : Element) (number : ℕ) (e : Expr) → i < length es → x ≡ get_or es i x → x ≡ item.For number e
     → elements_of (drop i es) ≡ element number (ex_of e) (elements_of (drop (i + 1) es))
 split_elements es i x number e l is for =
     let one : suc i ≡ i + 1 = omega arith in
     ap elements_of (drop-cons es i x l) ∙ ap (λ (y : Element). elements_of (y ∷ drop (suc i) es)) (sym is ∙ for) ∙ ap (λ j. element number (ex_of e) (elements_of (drop j es))) one
 
-module _ (p : Program) (s : Slots) (t : ValueType) (es : List Element) (i : ℕ) (x : Element) (number : ℕ) (e : Expr) (l : i < length es) (is : x ≡ get_or es i x) where
+module _ (p : Program) (s : Slots) (t : TypeTree) (es : List Element) (i : ℕ) (x : Element) (number : ℕ) (e : Expr) (l : i < length es) (is : x ≡ get_or es i x) where
   abbrev behind : Elements
   behind = elements_of (drop (i + 1) es)
 
@@ -73,7 +73,7 @@ literal_emitted p s old c1 c2 m es h e1 e2 =
     e2 ∙ ap (λ pc. c1 ++ rest pc) n ∙ ap (λ c. c ++ rest (length old + 1)) e1 ∙ append_assoc old (zero ∷ []) (rest (length old + 1))
 
 -- the others have their temps
-module _ (p : Program) (s : Slots) (t : ValueType) (es : List Element) (i n h : ℕ) where
+module _ (p : Program) (s : Slots) (t : TypeTree) (es : List Element) (i n h : ℕ) where
   pub ordered_rest : (x : Element) → i < length es → x ≡ get_or es i x → ElementsFitIn p s n h t true (elements_of (drop i es)) → ElementsFitIn p s n h t true (elements_of (drop (i + 1) es))
   ordered_rest (item.For number e) l is f = (ordered_fits p s t es i (item.For number e) number e l is n h refl f).2
 

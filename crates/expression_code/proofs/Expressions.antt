@@ -3,13 +3,13 @@ use Rattle.std.proofs.Common.{◌≡◌, ℕ, suc, ◌+◌, ◌<◌, List, [], �
 use Rattle.std.proofs.Math.Seq.{drop-cons}
 use Rattle.isa.specs.declared.instr.Instr.{Instr}
 use Rattle.isa.specs.declared.instr.Instr.TheVariants.{Jump, JumpZero}
-use Rattle.typed.specs.declared.operators.BinOp.{BinOp}
+use Rattle.typed_syntax.specs.declared.operators.BinOp.{BinOp}
 use Rattle.typed.specs.declared.expr.Expr.{Expr}
-use Rattle.typed.specs.Syntax.{Ex, Program, both, either, more, wide}
+use Rattle.typed_syntax.specs.Syntax.{Ex, Program, logical_and, logical_or, more, wide}
 use Rattle.typed.specs.View.{ex_of, exs_of}
 use Rattle.expression_code.specs.Temps.{ExsFitIn}
-use Rattle.simulated_code.specs.Code.{Slots, binary_code, ex_code, exs_code, size, temp}
-use Rattle.simulated_code.proofs.Sizes.{length_code, length_last}
+use Rattle.program_code.specs.Code.{Slots, binary_code, ex_code, exs_code, size, temp}
+use Rattle.program_code.proofs.Sizes.{length_code, length_last}
 
 split_values : (es : List Expr) (i : ℕ) (x : Expr) → i < length es → x ≡ get_or es i x → exs_of (drop i es) ≡ more (ex_of x) (exs_of (drop (i + 1) es))
 split_values es i x l is =
@@ -29,7 +29,7 @@ module _ (p : Program) (s : Slots) where
       all ∙ simp append_assoc
 
   pub both_emitted : (old c1 c2 c3 : List Instr) (a b : Ex) (h : ℕ) → c1 ≡ old ++ ex_code p s a h (length old) → c2 ≡ c1 ++ JumpZero (temp s h) (length c1 + 1 + size p b) ∷ []
-      → c3 ≡ c2 ++ ex_code p s b h (length c2) → c3 ≡ old ++ ex_code p s (both a b) h (length old)
+      → c3 ≡ c2 ++ ex_code p s b h (length c2) → c3 ≡ old ++ ex_code p s (logical_and a b) h (length old)
   both_emitted old c1 c2 c3 a b h e1 e2 e3 =
       let pb = length old + size p a + 1 in
       let n1 : length c1 + 1 ≡ pb = (let n : length c1 ≡ length (old ++ ex_code p s a h (length old)) = ap length e1 in omega (arith, n, length-append old (ex_code p s a h (length old)), length_code p s a h (length old))) in
@@ -40,7 +40,7 @@ module _ (p : Program) (s : Slots) where
       all ∙ simp append_assoc
 
   pub either_emitted : (old c1 c2 c3 : List Instr) (a b : Ex) (h : ℕ) → c1 ≡ old ++ ex_code p s a h (length old)
-      → c2 ≡ c1 ++ JumpZero (temp s h) (length c1 + 2) ∷ Jump (length c1 + 2 + size p b) ∷ [] → c3 ≡ c2 ++ ex_code p s b h (length c2) → c3 ≡ old ++ ex_code p s (either a b) h (length old)
+      → c2 ≡ c1 ++ JumpZero (temp s h) (length c1 + 2) ∷ Jump (length c1 + 2 + size p b) ∷ [] → c3 ≡ c2 ++ ex_code p s b h (length c2) → c3 ≡ old ++ ex_code p s (logical_or a b) h (length old)
   either_emitted old c1 c2 c3 a b h e1 e2 e3 =
       let pb = length old + size p a + 2 in
       let n1 : length c1 + 2 ≡ pb = (let n : length c1 ≡ length (old ++ ex_code p s a h (length old)) = ap length e1 in omega (arith, n, length-append old (ex_code p s a h (length old)), length_code p s a h (length old))) in

@@ -1,13 +1,13 @@
 -- Sites in their slots, and how words are moved there.
 use Rattle.std.proofs.Common.{◌≡◌, ◌≢◌, ℕ, zero, suc, ◌+◌, ◌-◌, ◌<◌, ◌≤◌, List, get_or, refl, ap, arith}
 use Rattle.isa.specs.declared.instr.Instr.TheVariants.{MoveWords, Zero}
-use Rattle.value_trees.specs.Types.{ValueType, ints, width}
-use Rattle.typed.specs.Frames.{words_between}
-use Rattle.simulated_code.specs.Code.{Slots, site_words, moves, zeros}
+use Rattle.typed_syntax.specs.Types.{TypeTree, ints, width}
+use Rattle.typed_syntax.specs.Frames.{words_between}
+use Rattle.program_code.specs.Code.{Slots, site_words, moves, zeros}
 use Rattle.expression_code.specs.Temps.{SiteFits}
 
 -- the words of a site stand before those of a later one
-between_next : (sites : List ValueType) (from k n : ℕ) → k < n → words_between sites from k + width (get_or sites (from + k) ints) ≤ words_between sites from n
+between_next : (sites : List TypeTree) (from k n : ℕ) → k < n → words_between sites from k + width (get_or sites (from + k) ints) ≤ words_between sites from n
 between_next sites from k zero l = absurd (omega arith)
 between_next sites from zero (suc n) l = let e : from + 0 ≡ from = omega arith in let q = ap (λ i. width (get_or sites i ints)) e in omega arith
 between_next sites from (suc k) (suc n) l =

@@ -1,9 +1,9 @@
 -- The instruction of an operator, by the words of its operands.
 use Rattle.std.proofs.Common.{◌≡◌, ◌≢◌, ℕ, zero, suc, refl}
 use Rattle.isa.specs.declared.instr.Instr.TheVariants.{Bin, Same, Differ}
-use Rattle.typed.specs.declared.operators.BinOp.{BinOp}
-use Rattle.typed.specs.declared.operators.BinOp.TheVariants.{Add, Sub, Mul, Div, Rem, And, Or, Xor, AndNot, ShiftLeft, ShiftRight, Equal, NotEqual, Less, LessEqual, Greater, GreaterEqual}
-use Rattle.simulated_code.specs.Code.{operation, binary_code}
+use Rattle.typed_syntax.specs.declared.operators.BinOp.{BinOp}
+use Rattle.typed_syntax.specs.declared.operators.BinOp.TheVariants.{Add, Sub, Mul, Div, Rem, And, Or, Xor, AndNot, ShiftLeft, ShiftRight, Equal, NotEqual, Less, LessEqual, Greater, GreaterEqual}
+use Rattle.program_code.specs.Code.{operation, binary_code}
 
 -- an operator on operands of one word, and of other numbers of words
 pub binary_one : (op : BinOp) (a b : ℕ) → binary_code op 1 a b ≡ Bin (operation op) a a b

@@ -1,12 +1,12 @@
 -- The parts of variables that are within the slots of a frame.
 use Rattle.std.proofs.Common.{◌≡◌, ℕ, zero, suc, ◌+◌, ◌≤◌, sym, subst, arith}
-use Rattle.value_trees.specs.Types.{ValueType, PartTypes, ints, bools, struct_of, array_of, no_types, more_types, width, widths, part_type, nth_type, repeated}
-use Rattle.value_trees.specs.Paths.{offset, type_at}
-use Rattle.value_trees.proofs.Parts.{width_repeated}
-use Rattle.typed.specs.Syntax.{Steps, local, path_of, site_type}
+use Rattle.typed_syntax.specs.Types.{TypeTree, PartTypes, ints, bools, struct_of, array_of, no_types, more_types, width, widths, part_type, nth_type, repeated}
+use Rattle.typed_syntax.specs.Paths.{offset, type_at}
+use Rattle.value_laws.proofs.Parts.{width_repeated}
+use Rattle.typed_syntax.specs.Syntax.{Steps, local, path_of, site_type}
 use Rattle.typed.specs.View.{program_of}
 use Rattle.typed.specs.declared.program.Program.{Program}
-use Rattle.simulated_code.specs.Code.{site_slot}
+use Rattle.program_code.specs.Code.{site_slot}
 use Rattle.expression_code.specs.declared.slots.Frame.{Frame}
 use Rattle.expression_code.specs.Frame.{slots_in, IsSmall}
 use Rattle.expression_code.specs.Temps.{PlaceFits}
@@ -18,14 +18,14 @@ nth_most no_types i m one l = one
 nth_most (more_types t ts) zero m one l = omega arith
 nth_most (more_types t ts) (suc i) m one l = nth_most ts i m one (omega arith)
 
-pub part_most : (t : ValueType) (i m : ℕ) → 1 ≤ m → width t ≤ m → width (part_type t i) ≤ m
+pub part_most : (t : TypeTree) (i m : ℕ) → 1 ≤ m → width t ≤ m → width (part_type t i) ≤ m
 part_most ints i m one l = one
 part_most bools i m one l = one
 part_most (struct_of ts) i m one l = nth_most ts i m one l
 part_most (array_of n t) i m one l = nth_most (repeated n t) i m one (let e = width_repeated n t in omega (arith, e, l))
 
 -- a place's words, and those before it, are told by 16 bits
-pub place_small : (p : Program) (frame : Frame) (site : ℕ) (steps : Steps) (t : ValueType) → IsSmall p frame → PlaceFits (slots_in p frame) frame.sites (local site steps) → t ≡ site_type (program_of p) site
+pub place_small : (p : Program) (frame : Frame) (site : ℕ) (steps : Steps) (t : TypeTree) → IsSmall p frame → PlaceFits (slots_in p frame) frame.sites (local site steps) → t ≡ site_type (program_of p) site
     → (width t ≤ 65535) × (offset t (path_of steps) ≤ 65535) × (width (type_at t (path_of steps)) ≤ 65535) × (site_slot (slots_in p frame) site + offset t (path_of steps) ≤ 65535)
 place_small p frame site steps t small f same =
     let s = slots_in p frame in let own = site_within s frame.sites site f.0 in let part = f.2 in

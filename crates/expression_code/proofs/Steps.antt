@@ -8,28 +8,29 @@ use Rattle.typed.specs.declared.expr.Expr.{Expr}
 use Rattle.typed.specs.declared.expr.Place.{Place}
 use Rattle.typed.specs.declared.expr.Step.{Step}
 use Rattle.typed.specs.declared.expr.Step.TheVariants as way
-use Rattle.value_trees.specs.Types.{ValueType, width, part_type, part_offset}
-use Rattle.value_trees.specs.Paths.{offset, type_at}
-use Rattle.typed.specs.Syntax.{Program, Pl, local, global, Steps, here, inner, at_index, path_of}
-use Rattle.typed.specs.Frames.{steps_far}
+use Rattle.typed_syntax.specs.Types.{TypeTree, width, part_type, part_offset}
+use Rattle.typed_syntax.specs.Paths.{offset, type_at}
+use Rattle.typed.specs.Positions.{position}
+use Rattle.typed_syntax.specs.Syntax.{Program, Pl, local, global, Steps, here, inner, at_index, path_of}
+use Rattle.typed_syntax.specs.Frames.{steps_far}
 use Rattle.typed.specs.View.{ex_of, place_of, steps_of}
 use Rattle.expression_code.specs.Parts.{part_number}
 use Rattle.expression_code.specs.Temps.{IndicesFit, OperandsFit, StepsFitIn, steps_in}
-use Rattle.simulated_code.specs.Code.{Slots, temp, far_offset, index_code, index_count, steps_above, steps_address, steps_address_size, steps_code, steps_size, ex_code, place_above, place_code, place_size, size}
-use Rattle.simulated_code.proofs.Sizes.{length_code, place_sum}
+use Rattle.program_code.specs.Code.{Slots, temp, far_offset, index_code, index_count, steps_above, steps_address, steps_address_size, steps_code, steps_size, ex_code, place_above, place_code, place_size, size}
+use Rattle.program_code.proofs.Sizes.{length_code, place_sum}
 
--- one, and those behind it
+-- one, and those after it
 pub split_steps : (steps : List Step) (i : ℕ) (x : Step) → i < length steps → x ≡ get_or steps i x → steps_of (drop i steps) ≡ steps_of (x ∷ drop (i + 1) steps)
 split_steps steps i x l is =
     let one : suc i ≡ i + 1 = omega arith in
     ap steps_of (drop-cons steps i x l) ∙ ap (λ (y : Step). steps_of (y ∷ drop (suc i) steps)) (sym is) ∙ ap (λ j. steps_of (x ∷ drop j steps)) one
 
--- the type of the part that the first step leads to, and what comes behind it
-type_first : (t : ValueType) (x : Step) (rest : List Step) → type_at t (path_of (steps_of (x ∷ rest))) ≡ type_at (part_type t (part_number x)) (path_of (steps_of rest))
+-- the type of the part that the first step leads to, and what comes after it
+type_first : (t : TypeTree) (x : Step) (rest : List Step) → type_at t (path_of (steps_of (x ∷ rest))) ≡ type_at (part_type t (part_number x)) (path_of (steps_of rest))
 type_first t (way.Inner i) rest = refl
 type_first t (way.Index at e n) rest = refl
 
-offset_first : (t : ValueType) (x : Step) (rest : List Step) → offset t (path_of (steps_of (x ∷ rest))) ≡ part_offset t (part_number x) + offset (part_type t (part_number x)) (path_of (steps_of rest))
+offset_first : (t : TypeTree) (x : Step) (rest : List Step) → offset t (path_of (steps_of (x ∷ rest))) ≡ part_offset t (part_number x) + offset (part_type t (part_number x)) (path_of (steps_of rest))
 offset_first t (way.Inner i) rest = refl
 offset_first t (way.Index at e n) rest = refl
 
@@ -44,7 +45,7 @@ module _ (steps : List Step) (i : ℕ) (x : Step) (l : i < length steps) (is : x
   rest = drop (i + 1) steps
 
   -- the types of the parts are told by their numbers
-  module _ (t next : ValueType) (leads : next ≡ part_type t (part_number x)) where
+  module _ (t next : TypeTree) (leads : next ≡ part_type t (part_number x)) where
     pub type_next : type_at t (path_of now) ≡ type_at next (path_of behind)
     type_next = ap (λ y. type_at t (path_of y)) (split_steps steps i x l is) ∙ type_first t x rest ∙ ap (λ u. type_at u (path_of behind)) (sym leads)
 
@@ -74,13 +75,13 @@ module _ (steps : List Step) (i : ℕ) (x : Step) (l : i < length steps) (is : x
     pub above_inner : (h : ℕ) → steps_above now h ≡ steps_above behind h
     above_inner h = ap (λ y. steps_above y h) inner_split
 
-    pub offset_inner : (t : ValueType) → far_offset t now ≡ far_offset (part_type t k) behind
+    pub offset_inner : (t : TypeTree) → far_offset t now ≡ far_offset (part_type t k) behind
     offset_inner t = ap (far_offset t) inner_split
 
-    pub index_inner : (s : Slots) (t : ValueType) (first at : ℕ) → index_code s t now first at ≡ index_code s (part_type t k) behind first at
+    pub index_inner : (s : Slots) (t : TypeTree) (first at : ℕ) → index_code s t now first at ≡ index_code s (part_type t k) behind first at
     index_inner s t first at = ap (λ y. index_code s t y first at) inner_split
 
-    pub address_inner : (s : Slots) (slot : ℕ) (t : ValueType) (first at : ℕ) → steps_address s slot t now first at ≡ steps_address s (slot + part_offset t k) (part_type t k) behind first at
+    pub address_inner : (s : Slots) (slot : ℕ) (t : TypeTree) (first at : ℕ) → steps_address s slot t now first at ≡ steps_address s (slot + part_offset t k) (part_type t k) behind first at
     address_inner s slot t first at = ap (λ y. steps_address s slot t y first at) inner_split
 
     pub size_inner : (p : Program) → steps_size p now 0 ≡ steps_size p behind 0
@@ -94,7 +95,7 @@ module _ (steps : List Step) (i : ℕ) (x : Step) (l : i < length steps) (is : x
 
   -- an index that is worked out
   module _ (at_pos : Pos) (e : Expr) (n : ℕ) (index_is : x ≡ way.Index at_pos e n) where
-    index_split : now ≡ at_index at_pos (ex_of e) n behind
+    index_split : now ≡ at_index (position at_pos) (ex_of e) n behind
     index_split = split_steps steps i x l is ∙ ap (λ (y : Step). steps_of (y ∷ rest)) index_is
 
     pub far_index : steps_far now ≡ 1
@@ -106,33 +107,33 @@ module _ (steps : List Step) (i : ℕ) (x : Step) (l : i < length steps) (is : x
     pub above_index : (h : ℕ) → steps_above now h ≡ steps_above behind (h + 1)
     above_index h = ap (λ y. steps_above y h) index_split
 
-    pub offset_index : (t : ValueType) → far_offset t now ≡ offset (part_type t 0) (path_of behind)
+    pub offset_index : (t : TypeTree) → far_offset t now ≡ offset (part_type t 0) (path_of behind)
     offset_index t = ap (far_offset t) index_split
 
-    pub indices_index : (t : ValueType) → IndicesFit t now → (0 < n) × (n ≤ width t) × (0 < width (part_type t 0)) × IndicesFit (part_type t 0) behind
+    pub indices_index : (t : TypeTree) → IndicesFit t now → (0 < n) × (n ≤ width t) × (0 < width (part_type t 0)) × IndicesFit (part_type t 0) behind
     indices_index t f = subst (IndicesFit t) index_split f
 
-    pub index_index : (s : Slots) (t : ValueType) (first at : ℕ)
+    pub index_index : (s : Slots) (t : TypeTree) (first at : ℕ)
         → index_code s t now first at ≡ Index (temp s at) (temp s at) (temp s first) n (width (part_type t 0)) ∷ index_code s (part_type t 0) behind (first + 1) at
     index_index s t first at = ap (λ y. index_code s t y first at) index_split
 
-    pub index_emitted : (s : Slots) (t u : ValueType) (whole code more : List Instr) (first at a c w : ℕ) → a ≡ temp s at → c ≡ temp s first → w ≡ width (part_type t 0) → u ≡ part_type t 0 → whole ≡ code ++ index_code s t now first at
+    pub index_emitted : (s : Slots) (t u : TypeTree) (whole code more : List Instr) (first at a c w : ℕ) → a ≡ temp s at → c ≡ temp s first → w ≡ width (part_type t 0) → u ≡ part_type t 0 → whole ≡ code ++ index_code s t now first at
         → more ≡ code ++ Index a a c n w ∷ [] → whole ≡ more ++ index_code s u behind (first + 1) at
     index_emitted s t u whole code more first at a c w ea ec ew eu e1 e2 =
         let one = Index (temp s at) (temp s at) (temp s first) n (width (part_type t 0)) in
         let rest = index_code s (part_type t 0) behind (first + 1) at in
         let f2 : more ≡ code ++ one ∷ [] =
         e2 ∙ ap (λ k. code ++ Index k k c n w ∷ []) ea ∙ ap (λ k. code ++ Index (temp s at) (temp s at) k n w ∷ []) ec ∙ ap (λ k. code ++ Index (temp s at) (temp s at) (temp s first) n k ∷ []) ew in
-        e1 ∙ ap (λ y. code ++ y) (index_index s t first at) ∙ sym (append_assoc code (one ∷ []) rest) ∙ ap (λ l. l ++ rest) (sym f2) ∙ ap (λ (v : ValueType). more ++ index_code s v behind (first + 1) at) (sym eu)
+        e1 ∙ ap (λ y. code ++ y) (index_index s t first at) ∙ sym (append_assoc code (one ∷ []) rest) ∙ ap (λ l. l ++ rest) (sym f2) ∙ ap (λ (v : TypeTree). more ++ index_code s v behind (first + 1) at) (sym eu)
 
-    pub address_index : (s : Slots) (slot : ℕ) (t : ValueType) (first at : ℕ) → steps_address s slot t now first at ≡ Address (temp s at) slot ∷ index_code s t now first at
+    pub address_index : (s : Slots) (slot : ℕ) (t : TypeTree) (first at : ℕ) → steps_address s slot t now first at ≡ Address (temp s at) slot ∷ index_code s t now first at
     address_index s slot t first at =
         ap (λ y. steps_address s slot t y first at) index_split ∙ ap (λ y. Address (temp s at) slot ∷ index_code s t y first at) (sym index_split)
 
     pub size_index : (p : Program) → steps_size p now 0 ≡ size p (ex_of e) + steps_size p behind 0
     size_index p = ap (λ y. steps_size p y 0) index_split
 
-    pub fits_index : (p : Program) (s : Slots) (m h : ℕ) → StepsFitIn p s m h now → (h < s.temps) × StepsFitIn p s m h (at_index at_pos (ex_of e) n behind)
+    pub fits_index : (p : Program) (s : Slots) (m h : ℕ) → StepsFitIn p s m h now → (h < s.temps) × StepsFitIn p s m h (at_index (position at_pos) (ex_of e) n behind)
     fits_index p s m h f = let g = subst (StepsFitIn p s m h) index_split f in (g.0, g)
 
     pub step_emitted : (p : Program) (s : Slots) (whole code more : List Instr) (h : ℕ) → whole ≡ code ++ steps_code p s now h (length code) → more ≡ code ++ ex_code p s (ex_of e) h (length code)
@@ -177,6 +178,6 @@ pub fits_place : (p : Program) (s : Slots) (n h : ℕ) (q : Pl) → OperandsFit 
 fits_place p s n h (local site steps) f = f
 fits_place p s n h (global g steps) f = f
 
--- and so many behind them
+-- and some after them
 pub place_total : (p : Program) (q : Place) (behind : ℕ) → place_size p (place_of q) behind ≡ place_size p (place_of q) 0 + behind
 place_total p q behind = place_sum p (place_of q) behind

@@ -1,17 +1,17 @@
 -- A frame as data.
 use Rattle.std.specs.Prelude.{◌+◌, ◌≤◌, List}
-use Rattle.value_trees.specs.Types.{ValueType}
-use Rattle.typed.specs.Syntax.{Func}
-use Rattle.typed.specs.Frames.{words_between}
+use Rattle.typed_syntax.specs.Types.{TypeTree}
+use Rattle.typed_syntax.specs.Syntax.{Func}
+use Rattle.typed_syntax.specs.Frames.{words_between}
 use Rattle.typed.specs.Trees.{trees}
 use Rattle.typed.specs.View.{func_of, site_types}
 use Rattle.typed.specs.declared.program.Func.{Func as FuncData}
 use Rattle.typed.specs.declared.program.Program.{Program}
-use Rattle.simulated_code.specs.Code.{Slots}
+use Rattle.program_code.specs.Code.{Slots}
 use Rattle.expression_code.specs.declared.slots.Frame.{Frame}
 
 -- the types of the sites, and a function
-abbrev pub sites_in : Program → List ValueType
+abbrev pub sites_in : Program → List TypeTree
 sites_in p = site_types (trees p.types) p.sites.items
 
 abbrev pub func_in : Program → FuncData → Func

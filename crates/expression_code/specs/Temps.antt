@@ -1,10 +1,10 @@
 -- That the slots of a frame suffice for expressions and places.
 use Rattle.std.specs.Prelude.{ℕ, ◌+◌, ◌<◌, ◌≤◌, Bool, true, false, length}
-use Rattle.value_trees.specs.Types.{ValueType, width, part_type, part_offset}
-use Rattle.value_trees.specs.Paths.{offset}
-use Rattle.typed.specs.Syntax.{Ex, Exs, Pl, Steps, here, inner, at_index, Program, constant, read, unary, binary, both, either, call, part_of, literal, Elements, no_elements, element, local, global, none, more, results, asked, arguments_of, results_of, type_named, path_of, wide, ascend, words_through, gap_behind}
-use Rattle.typed.specs.Frames.{far}
-use Rattle.simulated_code.specs.Code.{Slots, site_type, site_words, part_words, place_above}
+use Rattle.typed_syntax.specs.Types.{TypeTree, width, part_type, part_offset}
+use Rattle.typed_syntax.specs.Paths.{offset}
+use Rattle.typed_syntax.specs.Syntax.{Ex, Exs, Pl, Steps, here, inner, at_index, Program, constant, read, unary, binary, logical_and, logical_or, call, part_of, literal, Elements, no_elements, element, local, global, none, more, results, read_int, arguments_of, results_of, type_named, path_of, wide, ascend, words_through, gap_behind}
+use Rattle.typed_syntax.specs.Frames.{far}
+use Rattle.program_code.specs.Code.{Slots, site_type, site_words, part_words, place_above}
 
 -- the site is among the n of a frame
 abbrev pub SiteFits : Slots → (n site : ℕ) → Type 0
@@ -16,7 +16,7 @@ steps_in (local site steps) = steps
 steps_in (global g steps) = steps
 
 -- the arrays with worked-out indices among the steps from values of a type have elements, no more than they have words
-abbrev pub IndicesFit : ValueType → Steps → Type 0
+abbrev pub IndicesFit : TypeTree → Steps → Type 0
 IndicesFit t here = Unit {0}
 IndicesFit t (inner i steps) = IndicesFit (part_type t i) steps
 IndicesFit t (at_index p e m steps) = (0 < m) × (m ≤ width t) × (0 < width (part_type t 0)) × IndicesFit (part_type t 0) steps
@@ -48,8 +48,8 @@ module _ (p : Program) (s : Slots) (n : ℕ) where
     Fits h (read q) = (h + reached s q ≤ s.temps) × PlaceFits s n q × AddressFits s.temps (place_above q h) q × OperandsFit h q
     Fits h (unary op e) = (h < s.temps) × Fits h e
     Fits h (binary at op a b) = (0 < wide p a) × (h + wide p a + wide p a ≤ s.temps) × Fits h a × Fits (h + wide p a) b
-    Fits h (both a b) = (h < s.temps) × Fits h a × Fits h b
-    Fits h (either a b) = (h < s.temps) × Fits h a × Fits h b
+    Fits h (logical_and a b) = (h < s.temps) × Fits h a × Fits h b
+    Fits h (logical_or a b) = (h < s.temps) × Fits h a × Fits h b
     Fits h (call f es) = CallFits h f × ExsFitIn h es
     Fits h (part_of m i e) =
         let t = type_named p m in
@@ -69,7 +69,7 @@ module _ (p : Program) (s : Slots) (n : ℕ) where
     StepsFitIn h (at_index at e m steps) = (h < s.temps) × Fits h e × StepsFitIn (h + 1) steps
 
     -- the elements of a literal in temps from h on
-    pub ElementsFitIn : (h : ℕ) → ValueType → (in_order : Bool) → Elements → Type 0
+    pub ElementsFitIn : (h : ℕ) → TypeTree → (in_order : Bool) → Elements → Type 0
     ElementsFitIn h t in_order no_elements = Unit {0}
     ElementsFitIn h t true (element i e es) =
         (h + words_through t i + gap_behind t i es ≤ s.temps) × Fits (h + part_offset t i) e × ElementsFitIn h t true es
@@ -81,4 +81,4 @@ module _ (p : Program) (s : Slots) (n : ℕ) where
     ExsFitIn h none = Unit {0}
     ExsFitIn h (more e es) = (h + wide p e ≤ s.temps) × Fits h e × ExsFitIn (h + wide p e) es
     ExsFitIn h (results f es) = CallFits h f × ExsFitIn h es
-    ExsFitIn h asked = h + 2 ≤ s.temps
+    ExsFitIn h read_int = h + 2 ≤ s.temps

@@ -1,7 +1,7 @@
 //! Places in the code, and jumps to them.
 ghost use Rattle.std.specs.Prelude.{◌≡◌, ◌+◌, ◌≤◌, ◌++◌, ◌∷◌, [], length, IfOk, OnOk};
 ghost use Rattle.isa.specs.declared.instr.Instr.{Instr};
-ghost use Rattle.simulated_code.specs.Code.{temp};
+ghost use Rattle.program_code.specs.Code.{temp};
 ghost use Rattle.expression_code.specs.Frame.{slots_in, IsSmall};
 
 use crate::lengths::{number, plus};
@@ -17,7 +17,7 @@ pub struct Goals {
     pub again: u32,
 }
 
-/// Puts an instruction behind the code.
+/// Puts an instruction after the code.
 pub fn put(code: &mut Vec<Instr>, instr: Instr) -> Result<(), NoMemory>
     ensures { OnOk result (code.new.items ≡ code.old.items ++ instr ∷ []) }
 {
@@ -25,14 +25,14 @@ pub fn put(code: &mut Vec<Instr>, instr: Instr) -> Result<(), NoMemory>
     Ok(())
 }
 
-/// The place behind the code.
+/// The place after the code.
 pub fn here(code: &Vec<Instr>) -> Result<u32, NoMemory>
     ensures { IfOk result (λ n. n ≡ length code.now.items) }
 {
     number(code.len())
 }
 
-/// The place that stands so many instructions behind the code.
+/// The place that stands `some + more` instructions after the code.
 pub fn ahead(code: &Vec<Instr>, some: u32, more: u32) -> Result<u32, NoMemory>
     ensures { IfOk result (λ n. n ≡ length code.now.items + some + more) }
 {
@@ -40,7 +40,7 @@ pub fn ahead(code: &Vec<Instr>, some: u32, more: u32) -> Result<u32, NoMemory>
     plus(behind, more)
 }
 
-/// Where the slot's word is 0, goes on so many instructions from the jump on.
+/// Where the slot's word is 0, goes on `some + more` instructions from the jump on.
 pub fn jump_if_zero(code: &mut Vec<Instr>, a: u16, some: u32, more: u32) -> Result<(), NoMemory>
     ensures { OnOk result (code.new.items ≡ code.old.items ++ Instr.JumpZero a (length code.old.items + some + more) ∷ []) }
 {
@@ -49,7 +49,7 @@ pub fn jump_if_zero(code: &mut Vec<Instr>, a: u16, some: u32, more: u32) -> Resu
     Ok(())
 }
 
-/// Goes on so many instructions from the jump on.
+/// Goes on `some + more` instructions from the jump on.
 pub fn jump(code: &mut Vec<Instr>, some: u32, more: u32) -> Result<(), NoMemory>
     ensures { OnOk result (code.new.items ≡ code.old.items ++ Instr.Jump (length code.old.items + some + more) ∷ []) }
 {
@@ -58,7 +58,7 @@ pub fn jump(code: &mut Vec<Instr>, some: u32, more: u32) -> Result<(), NoMemory>
     Ok(())
 }
 
-/// Where the condition in temp h is false, so many instructions and the jump behind them are passed over.
+/// Where the condition in temp h is false, `more` instructions and the jump after them are passed over.
 pub fn pass_unless(
     code: &mut Vec<Instr>,
     program: &Program,

@@ -1,8 +1,8 @@
 //! The numbers of instructions of expressions, which jumps go by.
 ghost use Rattle.std.specs.Prelude.{◌≡◌, ◌+◌, ◌≤◌, IfOk};
-ghost use Rattle.typed.specs.Syntax.{type_named};
+ghost use Rattle.typed_syntax.specs.Syntax.{type_named};
 ghost use Rattle.typed.specs.View.{elements_of, ex_of, exs_of, exs_of_values, place_of, program_of, steps_of as these_steps, test_of};
-ghost use Rattle.simulated_code.specs.Code.{call_size, elements_size, exs_size, move_size, place_size, size, steps_size, test_size};
+ghost use Rattle.program_code.specs.Code.{call_size, elements_size, exs_size, move_size, place_size, size, steps_size, test_size};
 
 use crate::literals::{ascends, behind_len};
 use crate::reaching::address_len;
@@ -30,7 +30,7 @@ pub fn number(n: usize) -> Result<u32, NoMemory>
     Ok(n as u32)
 }
 
-/// The move of so many words.
+/// The move of `n` words.
 pub fn move_len(n: u64) -> u32
     ensures is { result ≡ move_size n }
     ensures few { result ≤ 1 }
@@ -71,14 +71,14 @@ pub fn expr_len(program: &Program, e: &Expr) -> Result<u32, NoMemory>
             plus(both, 1)
         }
         // A jump stands between the operands.
-        Expr::Both(a, b) => {
+        Expr::LogicalAnd(a, b) => {
             let m = expr_len(program, a)?;
             let n = expr_len(program, b)?;
             let first = plus(m, 1)?;
             plus(first, n)
         }
         // Two do.
-        Expr::Either(a, b) => {
+        Expr::LogicalOr(a, b) => {
             let m = expr_len(program, a)?;
             let n = expr_len(program, b)?;
             let first = plus(m, 2)?;
@@ -127,7 +127,7 @@ fn steps_len(program: &Program, steps: &[Step]) -> Result<u32, NoMemory>
     Ok(total)
 }
 
-/// The elements of a literal, with what stands behind each.
+/// The elements of a literal, with what stands after each.
 #[cycle(values)]
 fn elements_len(
     program: &Program,
@@ -179,7 +179,7 @@ fn row_len(program: &Program, es: &[Expr]) -> Result<u32, NoMemory>
     Ok(total)
 }
 
-/// An expression and an instruction behind it.
+/// An expression and an instruction after it.
 pub fn last_len(program: &Program, e: &Expr) -> Result<u32, NoMemory>
     ensures { IfOk result (λ n. n ≡ size (program_of program.now) (ex_of e.now) + 1) }
 {
@@ -187,7 +187,7 @@ pub fn last_len(program: &Program, e: &Expr) -> Result<u32, NoMemory>
     plus(n, 1)
 }
 
-/// A condition, where there is one, and the jump behind it.
+/// A condition, where there is one, and the jump after it.
 pub fn test_len(program: &Program, test: &Option<Expr>) -> Result<u32, NoMemory>
     ensures { IfOk result (λ n. n ≡ test_size (program_of program.now) (test_of test.now)) }
 {

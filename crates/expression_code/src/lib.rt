@@ -1,6 +1,6 @@
 //! The code of expressions and places.
 //!
-//! What the code of a program is, is a definition of the crate `simulated_code`. The functions here give just the code of an expression, of a
+//! What the code of a program is, is a definition of the crate `program_code`. The functions here give just the code of an expression, of a
 //! call's arguments, of the operands of a place, of its address, and of its read and write, form by form, and the numbers of their
 //! instructions, which jumps go by: a place that a jump goes to is known before the jump is emitted. A value has as many temps side by side
 //! as its type has words. Slots are numbers of 16 bits: that those of a frame suffice is asked by each contract (`specs/Temps`), and how many

@@ -1,11 +1,11 @@
 //! The places of a literal's elements. Where their numbers ascend, each is worked out in its place, and what lies between it and the next
-//! one is zeroed again; else each is worked out behind the literal and moved.
+//! one is zeroed again; else each is worked out after the literal and moved.
 ghost use Rattle.std.specs.Prelude.{◌≡◌, ◌+◌, ◌≤◌, ◌<◌, ◌++◌, ◌∷◌, [], OnOk, if◌then◌else◌};
-ghost use Rattle.value_trees.specs.Types.{width, part_offset, part_type};
-ghost use Rattle.typed.specs.Syntax.{ascend, gap_behind as gap_in, type_named, words_through as through_part};
+ghost use Rattle.typed_syntax.specs.Types.{width, part_offset, part_type};
+ghost use Rattle.typed_syntax.specs.Syntax.{ascend, gap_behind as gap_in, type_named, words_through as through_part};
 ghost use Rattle.typed.specs.View.{elements_of, program_of};
 ghost use Rattle.expression_code.specs.Frame.{slots_in, IsSmall};
-ghost use Rattle.simulated_code.specs.Code.{gap_code, gap_size, moves as moves_of, temp};
+ghost use Rattle.program_code.specs.Code.{gap_code, gap_size, moves as moves_of, temp};
 
 use crate::jumps::put;
 use crate::moving::{moves, zeros};
@@ -29,7 +29,7 @@ pub fn ascends(es: &[Element]) -> bool
     true
 }
 
-/// The words between a part of a literal and the first of the elements behind it.
+/// The words between a part of a literal and the first of the elements after it.
 pub fn gap_behind(program: &Program, id: TypeId, number: u32, behind: &[Element]) -> u64
     ensures { result ≡ gap_in (type_named (program_of program.now) id.0) number (elements_of behind.now) }
 {
@@ -43,7 +43,7 @@ pub fn gap_behind(program: &Program, id: TypeId, number: u32, behind: &[Element]
         .saturating_sub(u64::from(program.types.width(part)))
 }
 
-/// The number of instructions behind an element: what zeroes the words up to the next one, or its move.
+/// The number of instructions after an element: what zeroes the words up to the next one, or its move.
 pub fn behind_len(
     program: &Program,
     id: TypeId,

@@ -1,6 +1,6 @@
 //! Words that go from slots to slots, and slots that get zeros.
 ghost use Rattle.std.specs.Prelude.{◌≡◌, ◌++◌, OnOk};
-ghost use Rattle.simulated_code.specs.Code.{move_code, moves as moves_of, zeros as zeros_of};
+ghost use Rattle.program_code.specs.Code.{move_code, moves as moves_of, zeros as zeros_of};
 
 use crate::jumps::put;
 use base::NoMemory;

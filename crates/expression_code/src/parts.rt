@@ -1,13 +1,13 @@
 //! Where the parts of variables stand.
 ghost use Rattle.std.specs.Prelude.{◌≡◌, ◌≤◌, if◌then◌else◌};
-ghost use Rattle.value_trees.specs.Types.{width};
-ghost use Rattle.value_trees.specs.Paths.{offset as offset_at, type_at};
-ghost use Rattle.typed.specs.Syntax.{path_of, site_type as type_of_site, type_named};
-ghost use Rattle.typed.specs.Frames.{steps_far};
+ghost use Rattle.typed_syntax.specs.Types.{width};
+ghost use Rattle.typed_syntax.specs.Paths.{offset as offset_at, type_at};
+ghost use Rattle.typed_syntax.specs.Syntax.{path_of, site_type as type_of_site, type_named};
+ghost use Rattle.typed_syntax.specs.Frames.{steps_far};
 ghost use Rattle.typed.specs.View.{place_of, program_of, steps_of as these_steps};
 ghost use Rattle.expression_code.specs.Parts.{part_number as number_of};
 ghost use Rattle.expression_code.specs.Temps.{steps_in};
-ghost use Rattle.simulated_code.specs.Code.{far_offset as offset_behind, steps_above};
+ghost use Rattle.program_code.specs.Code.{far_offset as offset_behind, steps_above};
 
 use base::{SiteId, TypeId};
 use typed::{Place, Program, Step};
@@ -94,7 +94,7 @@ pub fn near_offset(program: &Program, id: TypeId, steps: &[Step]) -> u16
     words
 }
 
-/// Those of them that lie behind the first index.
+/// Those of them that lie after the first index.
 pub fn far_offset(program: &Program, id: TypeId, steps: &[Step]) -> u16
     requires { offset_at (type_named (program_of program.now) id.0) (path_of (these_steps steps.now)) ≤ 65535 }
     ensures { result ≡ offset_behind (type_named (program_of program.now) id.0) (these_steps steps.now) }

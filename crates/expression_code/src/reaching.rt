@@ -1,14 +1,14 @@
 //! The code that reaches places: local variables in their slots, package variables and parts by indices that are worked out by their
 //! addresses.
 ghost use Rattle.std.specs.Prelude.{◌≡◌, ◌+◌, ◌<◌, ◌≤◌, ◌++◌, ◌∷◌, [], IfOk, OnOk, if◌then◌else◌};
-ghost use Rattle.value_trees.specs.Types.{width};
-ghost use Rattle.value_trees.specs.Paths.{offset};
-ghost use Rattle.typed.specs.Syntax.{local, path_of, type_named};
+ghost use Rattle.typed_syntax.specs.Types.{width};
+ghost use Rattle.typed_syntax.specs.Paths.{offset};
+ghost use Rattle.typed_syntax.specs.Syntax.{local, path_of, type_named};
 ghost use Rattle.typed.specs.View.{place_of, program_of, steps_of as these_steps};
-ghost use Rattle.typed.specs.Frames.{far, steps_far};
+ghost use Rattle.typed_syntax.specs.Frames.{far, steps_far};
 ghost use Rattle.expression_code.specs.Frame.{slots_in, IsSmall};
 ghost use Rattle.expression_code.specs.Temps.{AddressFits, IndicesFit, PlaceFits, reached};
-ghost use Rattle.simulated_code.specs.Code.{above_address as above_address_of, address_code, address_size, fetch_code, fetch_part as part_fetched, index_code, index_count as count_of, land_code, land_part as part_landed, place_above as above_operands, read_code, steps_above, steps_address, write_code, global_address as address_of_global};
+ghost use Rattle.program_code.specs.Code.{above_address as above_address_of, address_code, address_size, fetch_code, fetch_part as part_fetched, index_code, index_count as count_of, land_code, land_part as part_landed, place_above as above_operands, read_code, steps_above, steps_address, write_code, global_address as address_of_global};
 
 use crate::jumps::put;
 use crate::lengths::plus;

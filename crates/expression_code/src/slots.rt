@@ -1,6 +1,6 @@
 //! The slots of a frame.
 ghost use Rattle.std.specs.Prelude.{◌≡◌, ◌+◌, ◌≤◌};
-ghost use Rattle.simulated_code.specs.Code.{site_slot, site_words as words_of_site};
+ghost use Rattle.program_code.specs.Code.{site_slot, site_words as words_of_site};
 ghost use Rattle.expression_code.specs.Temps.{SiteFits};
 ghost use Rattle.expression_code.specs.Frame.{slots_in, IsSmall};
 
@@ -8,7 +8,7 @@ use base::SiteId;
 use frame_layout::{site_words, words_before};
 use typed::Program;
 
-/// A frame from its lowest slot up: the words of the outgoing area, so many temps, and the words of so many sites from a
+/// A frame from its lowest slot up: the words of the outgoing area, the temps, and the words of the sites from a
 /// first one on.
 #[derive(Clone, Copy, Debug, PartialEq, Eq)]
 pub struct Frame {

@@ -1,12 +1,12 @@
 //! The code of expressions and calls.
 ghost use Rattle.std.specs.Prelude.{◌≡◌, ◌+◌, ◌≤◌, ◌++◌, ◌∷◌, [], length, OnOk, true, false};
 ghost use Rattle.isa.specs.declared.instr.Instr.{Instr};
-ghost use Rattle.value_trees.specs.Types.{width};
-ghost use Rattle.typed.specs.Syntax.{type_named};
+ghost use Rattle.typed_syntax.specs.Types.{width};
+ghost use Rattle.typed_syntax.specs.Syntax.{type_named};
 ghost use Rattle.typed.specs.View.{elements_of, ex_of, exs_of, exs_of_values, place_of, program_of, steps_of as these_steps, value_of};
 ghost use Rattle.expression_code.specs.Frame.{slots_in, IsSmall};
 ghost use Rattle.expression_code.specs.Temps.{CallFits, ElementsFitIn, Fits, ExsFitIn, OperandsFit, StepsFitIn};
-ghost use Rattle.simulated_code.specs.Code.{binary_code as code_of_binary, call_code, elements_code, ex_code, exs_code, place_code, steps_code, operation as operation_of, size, temp, unary_code, word_of};
+ghost use Rattle.program_code.specs.Code.{binary_code as code_of_binary, call_code, elements_code, ex_code, exs_code, place_code, steps_code, operation as operation_of, size, temp, unary_code, word_of};
 
 use crate::jumps::{jump, jump_if_zero, put};
 use crate::lengths::expr_len;
@@ -132,7 +132,7 @@ fn pass_either(
         ∷ Instr.Jump (length code.old.items + 2 + size (program_of program.now) (ex_of second.now)) ∷ []) }
 {
     let len = expr_len(program, second)?;
-    // The second operand stands behind both jumps.
+    // The second operand stands after both jumps.
     jump_if_zero(code, frame.temp(h), 2, 0)?;
     jump(code, 1, len)?;
     Ok(())
@@ -233,14 +233,14 @@ pub fn emit_expr(
             emit_expr(code, program, frame, b, h + n)?;
             emit_binary(code, program, frame, *op, n, h)?;
         }
-        Expr::Both(a, b) => {
+        Expr::LogicalAnd(a, b) => {
             let a: &Expr = a;
             let b: &Expr = b;
             emit_expr(code, program, frame, a, h)?;
             pass_both(code, program, frame, b, h)?;
             emit_expr(code, program, frame, b, h)?;
         }
-        Expr::Either(a, b) => {
+        Expr::LogicalOr(a, b) => {
             let a: &Expr = a;
             let b: &Expr = b;
             emit_expr(code, program, frame, a, h)?;
@@ -343,7 +343,7 @@ fn emit_ordered(
     Ok(())
 }
 
-// The elements of a literal in temps from h on: each is worked out behind it and moved.
+// The elements of a literal in temps from h on: each is worked out after it and moved.
 #[cycle(values)]
 fn emit_moved(
     code: &mut Vec<Instr>,

@@ -1,7 +1,7 @@
 //! The words of values by their places among others.
 ghost use Rattle.std.specs.Prelude.{◌≡◌, map, slice_get, slice_index, IfOk};
 ghost use Rattle.typed.specs.Trees.{trees};
-ghost use Rattle.typed.specs.Syntax.{each_width, result_widths, type_in, value_widths};
+ghost use Rattle.typed_syntax.specs.Syntax.{each_width, result_widths, type_in, value_widths};
 ghost use Rattle.typed.specs.View.{exs_of, exs_of_values, program_of};
 
 use base::{FuncId, NoMemory, TypeId};

@@ -4,25 +4,26 @@ use Rattle.std.specs.Prelude.{⊤, option_and_then, is_some, is_none, nat_le, �
 use Rattle.std.specs.Option.{option_map}
 use Rattle.std.proofs.lemmas.Bool.{eqb-true, leb-true}
 use Rattle.base.specs.declared.pos.Pos.{Pos}
-use Rattle.typed.specs.Syntax.{Ex, Exs}
-use Rattle.typed.specs.Syntax as typed
-use Rattle.value_trees.specs.Types.{ValueType as TypeTree}
-use Rattle.value_trees.specs.Value.{int}
-use Rattle.value_types.specs.declared.fault.Fault.{Fault}
-use Rattle.value_types.specs.declared.fault.FaultKind.TheVariants.{BadOperand, ConstRange, Mismatch}
-use Rattle.value_types.specs.declared.constant.Constant.{Constant}
-use Rattle.value_types.specs.declared.constant.Constant.TheVariants.{Number, Truth}
+use Rattle.typed_syntax.specs.Syntax.{Ex, Exs}
+use Rattle.typed_syntax.specs.Syntax as typed
+use Rattle.typed_syntax.specs.Types.{TypeTree}
+use Rattle.typed_syntax.specs.Value.{int}
+use Rattle.type_faults.specs.declared.fault.Fault.{Fault}
+use Rattle.type_faults.specs.declared.fault.FaultKind.TheVariants.{Unfit, ConstRange, Mismatch}
+use Rattle.constants.specs.declared.constant.Constant.{Constant}
+use Rattle.constants.specs.declared.constant.Constant.TheVariants.{Number, Truth}
 use Rattle.base.specs.declared.value_type.ValueType.{ValueType}
-use Rattle.value_types.specs.Least.{IsLeast}
-use Rattle.value_types.specs.Given.{allowed}
-use Rattle.value_types.specs.Constants.{is_int}
-use Rattle.value_types.specs.Faults.{fault, IsFault, constant_range_fault}
-use Rattle.value_types.proofs.Decided.{Decided, Tested, further, mapped, after, both_tested, same, turned}
-use Rattle.value_types.proofs.Options.{and_then_some, map_some, none_some, same_some}
+use Rattle.type_faults.specs.Least.{IsLeast}
+use Rattle.type_faults.specs.Given.{allowed}
+use Rattle.constants.specs.Constants.{is_int}
+use Rattle.type_faults.specs.Faults.{fault, IsFault}
+use Rattle.operators.specs.ConstantFaults.{constant_range_fault}
+use Rattle.type_faults.proofs.Decided.{Decided, Tested, further, mapped, after, both_tested, same, turned}
+use Rattle.type_faults.proofs.Options.{and_then_some, map_some, none_some, same_some}
 use Rattle.operators.specs.Operands.{Operand, constant, value, type_of, constant_value, as_value}
 use Rattle.expression_types.specs.Typing.{Part, valued, Gives, one, called, asking, quoted, printed, panicked, exited, Seen, Many, single, operand_in, value_in, type_in_one, shown_type, as_part, part_in, is_part, listed, values, parts, are_single, are_parts, is_shown, are_shown, part_count, many_in, many, count_of, count, each, types_agree, values_agree, fits_with, fits, all_values, taken, types_with, value_types, single_types, taken_types, panicked_with, exit_places, exited_with}
 use Rattle.expression_types.specs.Faults.{single_fault, part_fault, SinglesFail, PartsFail, ValuesFail, range_fault, RangeFails, TypesFail, results_fault, MismatchFails, CountFails, TakeFails, refused_fault, shown_fault, PrintFails}
-use Rattle.value_types.proofs.Lists.{and_true}
+use Rattle.type_faults.proofs.Lists.{and_true}
 use Rattle.expression_types.proofs.Places.{agree_tested}
 
 -- one value of what is given
@@ -532,12 +533,12 @@ module _ (os : List Seen) (P : Fault → Type 0) (d : Decided (given_all os) P) 
   pub print_decided : (at : Pos) → Decided (parts os) (λ f. P f ⊎ PrintFails at os f)
   print_decided at = by (given_all os) refl d
     where
-      into : (f : Fault) → NotPrinted (fault BadOperand at) os f ⊎ RangeFails os f → PrintFails at os f
+      into : (f : Fault) → NotPrinted (fault Unfit at) os f ⊎ RangeFails os f → PrintFails at os f
       into f (inl (inl h)) = inl (inl h)
       into f (inl (inr h)) = inr h
       into f (inr h) = inl (inr h)
 
-      back : (f : Fault) → PrintFails at os f → NotPrinted (fault BadOperand at) os f ⊎ RangeFails os f
+      back : (f : Fault) → PrintFails at os f → NotPrinted (fault Unfit at) os f ⊎ RangeFails os f
       back f (inl (inl h)) = inl (inl h)
       back f (inl (inr h)) = inr h
       back f (inr h) = inl (inr h)
@@ -545,7 +546,7 @@ module _ (os : List Seen) (P : Fault → Type 0) (d : Decided (given_all os) P) 
       by : (g : Option (Unit {0})) → given_all os ≡ g → Decided g P → Decided (parts os) (λ f. P f ⊎ PrintFails at os f)
       by None is p = decided_none (parts os) (λ f. P f ⊎ PrintFails at os f) p.0 (no_list part_in are_printed part_form os (not_printed os is)) (inl p.1)
       by (Some u) is p =
-          further P (PrintFails at os) (parts os) p (same (λ f. NotPrinted (fault BadOperand at) os f ⊎ RangeFails os f) (PrintFails at os) (parts os) into back (list_decided part_in are_printed part_form (NotPrinted (fault BadOperand at) os) os (printed_tested (fault BadOperand at) os (given os is))))
+          further P (PrintFails at os) (parts os) p (same (λ f. NotPrinted (fault Unfit at) os f ⊎ RangeFails os f) (PrintFails at os) (parts os) into back (list_decided part_in are_printed part_form (NotPrinted (fault Unfit at) os) os (printed_tested (fault Unfit at) os (given os is))))
 
   pub panic_decided : (at : Pos) (own : Fault) → Decided (option_and_then (panicked_with at) (parts os)) (λ f. P f ⊎ (PrintFails at os f ⊎ CountFails (part_count os) 1 own f))
   panic_decided at own =

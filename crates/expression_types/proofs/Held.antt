@@ -5,14 +5,14 @@ use Rattle.std.specs.Option.{option_map}
 use Rattle.base.specs.declared.pos.Pos.{Pos}
 use Rattle.syntax.specs.declared.operator.BinOp.{BinOp}
 use Rattle.syntax.specs.declared.operator.UnOp.{UnOp}
-use Rattle.syntax.specs.FirstBytes.{first_place}
+use Rattle.syntax.specs.FirstBytes.{first_pos}
 use Rattle.syntax.specs.Expressions.{Ex as TreeEx, number, string, name, unary, binary, paren, call, selector, index, slice, array_type, slice_type, literal, elements, spelled}
-use Rattle.typed.specs.Syntax.{Ex, Exs}
-use Rattle.value_types.specs.declared.constant.Constant.TheVariants.{Number}
+use Rattle.typed_syntax.specs.Syntax.{Ex, Exs}
+use Rattle.constants.specs.declared.constant.Constant.TheVariants.{Number}
 use Rattle.base.specs.declared.value_type.ValueType.{ValueType}
-use Rattle.value_types.specs.Constants.{untyped}
-use Rattle.value_types.specs.Given.{allowed, both}
-use Rattle.value_types.proofs.Options.{and_then_some, none_some, same_some}
+use Rattle.constants.specs.Constants.{untyped}
+use Rattle.type_faults.specs.Given.{allowed, both}
+use Rattle.type_faults.proofs.Options.{and_then_some, none_some, same_some}
 use Rattle.operators.specs.Operands.{Operand, constant}
 use Rattle.operators.specs.Operators.{has_rules, prefixed, combined}
 use Rattle.operators.proofs.Held.{IsHeld, prefixed_held, pair_held}
@@ -86,9 +86,9 @@ module _ (text : List ℕ) (s : Scope) (names_held : (n : List ℕ) (x : Operand
   operand_held (string at behind) x is = absurd (none_some is)
   operand_held (name n) x is = single_one (name_operand s (declaration s (spelled text n))) IsHeld x (λ y e. names_held (spelled text n) y e) is
   operand_held (unary at op e) x is = prefix_held op (has_rules op) (operand_in (gives text s e)) x is
-  operand_held (binary at op a b) x is = binary_held (first_place a) op (operand_in (gives text s a)) (operand_in (gives text s b)) x is
+  operand_held (binary at op a b) x is = binary_held at op (operand_in (gives text s a)) (operand_in (gives text s b)) x is
   operand_held (paren at e) x is = operand_held e x is
-  operand_held (call f es spread) x is = call_held (first_place f) (spread_over spread (callee text s (name_in f) (gives text s f))) (seen text s es) x is
+  operand_held (call f es spread) x is = call_held (first_pos f) (spread_over spread (callee text s (name_in f) (gives text s f))) (seen text s es) x is
   operand_held (selector e at n) x is = absurd (none_some is)
   operand_held (index e at i) x is = absurd (none_some is)
   operand_held (slice e at low high) x is = absurd (none_some is)

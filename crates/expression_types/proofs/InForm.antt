@@ -10,35 +10,36 @@ use Rattle.base.specs.declared.ids.SiteId.{SiteId}
 use Rattle.syntax.specs.declared.operator.ArithmeticOp.{ArithmeticOp}
 use Rattle.syntax.specs.declared.operator.ArithmeticOp.TheVariants.{Add, Sub, Mul, Div, Rem, And, Or, Xor, AndNot, ShiftLeft, ShiftRight}
 use Rattle.syntax.specs.declared.operator.BinOp.{BinOp}
-use Rattle.syntax.specs.declared.operator.BinOp.TheVariants.{Arithmetic, Compare, Both, Either}
+use Rattle.syntax.specs.declared.operator.BinOp.TheVariants.{Arithmetic, Compare, LogicalAnd, LogicalOr}
 use Rattle.syntax.specs.declared.operator.CompareOp.{CompareOp}
 use Rattle.syntax.specs.declared.operator.CompareOp.TheVariants.{Equal, NotEqual, Less, LessEqual, Greater, GreaterEqual}
 use Rattle.syntax.specs.declared.operator.UnOp.{UnOp}
 use Rattle.syntax.specs.declared.operator.UnOp.TheVariants.{Plus, Negate, Complement, Not}
 use Rattle.syntax.specs.declared.expression.Name.{Name}
-use Rattle.syntax.specs.FirstBytes.{first_place}
+use Rattle.syntax.specs.FirstBytes.{first_pos}
 use Rattle.syntax.specs.Expressions.{Ex as TreeEx, Exs as TreeExs, number, string, name, unary, binary, paren, call, selector, index, slice, array_type, slice_type, literal, elements, some, spelled}
 use Rattle.syntax.specs.Expressions as tree
-use Rattle.typed.specs.declared.operators.UnOp.{UnOp as TypedPrefix}
+use Rattle.typed_syntax.specs.declared.operators.UnOp.{UnOp as TypedPrefix}
 use Rattle.typed.specs.declared.program.Site.{Site}
-use Rattle.typed.specs.Syntax.{Ex, Exs, Func, Program, more, none, site_type, global_type}
-use Rattle.typed.specs.Syntax as typed
+use Rattle.typed_syntax.specs.Syntax.{Ex, Exs, Func, Program, more, none, site_type, global_type}
+use Rattle.typed.specs.Positions.{position}
+use Rattle.typed_syntax.specs.Syntax as typed
 use Rattle.typed.specs.Tables.{Table}
 use Rattle.typed.specs.Trees.{trees, tree_named}
 use Rattle.typed.specs.Formed.{IsFormed}
-use Rattle.typed.specs.Form.{IsPlain, InScope, IsWord, TakesOne, PlFits, ExFits, ExsFit}
-use Rattle.value_trees.specs.Types.{ValueType as TypeTree, ints, bools, width}
-use Rattle.value_trees.specs.Value.{int}
-use Rattle.value_types.specs.declared.constant.Constant.{Constant}
-use Rattle.value_types.specs.declared.constant.Constant.TheVariants.{Number, Truth}
-use Rattle.value_types.specs.declared.constant.Fixed.{Fixed}
+use Rattle.typed_syntax.specs.Form.{IsPlain, InScope, IsWord, TakesOne, PlFits, ExFits, ExsFit}
+use Rattle.typed_syntax.specs.Types.{TypeTree, ints, bools, width}
+use Rattle.typed_syntax.specs.Value.{int}
+use Rattle.constants.specs.declared.constant.Constant.{Constant}
+use Rattle.constants.specs.declared.constant.Constant.TheVariants.{Number, Truth}
+use Rattle.constants.specs.declared.constant.Fixed.{Fixed}
 use Rattle.base.specs.declared.value_type.ValueType.{ValueType}
 use Rattle.base.specs.declared.value_type.ValueType.TheVariants.{Int, Bool as Boolean}
 use Rattle.base.specs.Types.{same_type}
 use Rattle.base.proofs.Types.{same_is}
-use Rattle.value_types.specs.Constants.{untyped, is_int, is_held, constant_type}
-use Rattle.value_types.specs.Given.{allowed, both}
-use Rattle.value_types.proofs.Options.{and_then_some, map_some, none_some, same_some}
+use Rattle.constants.specs.Constants.{untyped, is_int, is_held, constant_type}
+use Rattle.type_faults.specs.Given.{allowed, both}
+use Rattle.type_faults.proofs.Options.{and_then_some, map_some, none_some, same_some}
 use Rattle.operators.specs.declared.folding.Const.{Const}
 use Rattle.operators.specs.declared.folding.ConstFault.{ConstFault}
 use Rattle.operators.specs.Folding.{folded_one}
@@ -125,11 +126,11 @@ takes_numbers : (op : ArithmeticOp) (s t : ValueType) → takes (Arithmetic op) 
 takes_numbers op Int Int is = (refl, refl)
 takes_numbers op s t is = absurd cc is
 
-takes_both : (s t : ValueType) → takes Both s t ≡ true → (s ≡ Boolean) × (t ≡ Boolean)
+takes_both : (s t : ValueType) → takes LogicalAnd s t ≡ true → (s ≡ Boolean) × (t ≡ Boolean)
 takes_both Boolean Boolean is = (refl, refl)
 takes_both s t is = absurd cc is
 
-takes_either : (s t : ValueType) → takes Either s t ≡ true → (s ≡ Boolean) × (t ≡ Boolean)
+takes_either : (s t : ValueType) → takes LogicalOr s t ≡ true → (s ≡ Boolean) × (t ≡ Boolean)
 takes_either Boolean Boolean is = (refl, refl)
 takes_either s t is = absurd cc is
 
@@ -233,7 +234,7 @@ module _ (T : Table) (p : Program) (scope : List ℕ) where
     as_truth : (t : ValueType) (x : Ex) → t ≡ Boolean → ExFits p scope (type_tree T t) x → ExFits p scope bools x
     as_truth t x is f = subst (λ (u : TypeTree). ExFits p scope u x) (ap (type_tree T) is ∙ bool_tree T formed) f
 
-    arithmetic_fits : (op : ArithmeticOp) (at : Pos) (x y : Ex) → ExFits p scope ints x → ExFits p scope ints y → ExFits p scope ints (typed.binary at (arithmetic_of op) x y)
+    arithmetic_fits : (op : ArithmeticOp) (at : Pos) (x y : Ex) → ExFits p scope ints x → ExFits p scope ints y → ExFits p scope ints (typed.binary (position at) (arithmetic_of op) x y)
     arithmetic_fits Add at x y f g = (ints, (refl, refl), f, g)
     arithmetic_fits Sub at x y f g = (ints, (refl, refl), f, g)
     arithmetic_fits Mul at x y f g = (ints, (refl, refl), f, g)
@@ -251,7 +252,7 @@ module _ (T : Table) (p : Program) (scope : List ℕ) where
     alike_fits s t y is g = (solid T formed (type_number T s), subst (λ (u : ValueType). ExFits p scope (type_tree T u) y) (sym (same_is s t is)) g)
 
     order_fits : (op : CompareOp) (s t : ValueType) (at : Pos) (x y : Ex) → takes (Compare op) s t ≡ true → ExFits p scope (type_tree T s) x → ExFits p scope (type_tree T t) y
-        → ExFits p scope bools (typed.binary at (compare_of op) x y)
+        → ExFits p scope bools (typed.binary (position at) (compare_of op) x y)
     order_fits Equal s t at x y is f g = let k = alike_fits s t y is g in (type_tree T s, (k.0, refl), f, k.1)
     order_fits NotEqual s t at x y is f g = let k = alike_fits s t y is g in (type_tree T s, (k.0, refl), f, k.1)
     order_fits Less Int Int at x y is f g = (ints, (refl, refl), as_number Int x refl f, as_number Int y refl g)
@@ -264,11 +265,11 @@ module _ (T : Table) (p : Program) (scope : List ℕ) where
         → ExFits p scope (type_tree T (result_type op)) (typed_pair at op x y)
     takes_fits (Arithmetic op) s t is at x y f g =
         let k = takes_numbers op s t is in
-        subst (λ (u : TypeTree). ExFits p scope u (typed.binary at (arithmetic_of op) x y)) (sym (int_tree T formed)) (arithmetic_fits op at x y (as_number s x k.0 f) (as_number t y k.1 g))
+        subst (λ (u : TypeTree). ExFits p scope u (typed.binary (position at) (arithmetic_of op) x y)) (sym (int_tree T formed)) (arithmetic_fits op at x y (as_number s x k.0 f) (as_number t y k.1 g))
     takes_fits (Compare op) s t is at x y f g =
-        subst (λ (u : TypeTree). ExFits p scope u (typed.binary at (compare_of op) x y)) (sym (bool_tree T formed)) (order_fits op s t at x y is f g)
-    takes_fits Both s t is at x y f g = let k = takes_both s t is in (bool_tree T formed, as_truth s x k.0 f, as_truth t y k.1 g)
-    takes_fits Either s t is at x y f g = let k = takes_either s t is in (bool_tree T formed, as_truth s x k.0 f, as_truth t y k.1 g)
+        subst (λ (u : TypeTree). ExFits p scope u (typed.binary (position at) (compare_of op) x y)) (sym (bool_tree T formed)) (order_fits op s t at x y is f g)
+    takes_fits LogicalAnd s t is at x y f g = let k = takes_both s t is in (bool_tree T formed, as_truth s x k.0 f, as_truth t y k.1 g)
+    takes_fits LogicalOr s t is at x y f g = let k = takes_either s t is in (bool_tree T formed, as_truth s x k.0 f, as_truth t y k.1 g)
 
     takes_prefix : (op : UnOp) (t : ValueType) (g : TypedPrefix) → takes_one op t ≡ true → prefix_of op ≡ Some g → TakesOne g (type_tree T t)
     takes_prefix Plus Int g is found = subst (λ (k : TypedPrefix). TakesOne k (type_tree T Int)) (same_some found) (int_tree T formed)
@@ -584,11 +585,11 @@ module _ (p : Program) (scope : List ℕ) (text : List ℕ) (s : Scope) (are_sho
     gives_fit (unary at op e) g is =
         unary_fits op (has_rules op) (operand_in (gives text s e)) g (λ x h. operand_fits s.types p scope (gives text s e) x (maybe_fits s.types p scope (gives text s e) (λ k i. gives_fit e k i)) h) is
     gives_fit (binary at op a b) g is =
-        binary_fits (first_place a) op (operand_in (gives text s a)) (operand_in (gives text s b)) g (λ x h. operand_fits s.types p scope (gives text s a) x (maybe_fits s.types p scope (gives text s a) (λ k i. gives_fit a k i)) h)
+        binary_fits at op (operand_in (gives text s a)) (operand_in (gives text s b)) g (λ x h. operand_fits s.types p scope (gives text s a) x (maybe_fits s.types p scope (gives text s a) (λ k i. gives_fit a k i)) h)
         (λ x h. operand_fits s.types p scope (gives text s b) x (maybe_fits s.types p scope (gives text s b) (λ k i. gives_fit b k i)) h) is
     gives_fit (paren at e) g is = gives_fit e g is
     gives_fit (call f es spread) g is =
-        call_fits s.types p scope agrees.formed (first_place f) (spread_over spread (callee text s (name_in f) (gives text s f))) (seen text s es) g (spread_fits spread (callee text s (name_in f) (gives text s f)) (callee_fits (name_in f) (gives text s f))) (seen_fit es) is
+        call_fits s.types p scope agrees.formed (first_pos f) (spread_over spread (callee text s (name_in f) (gives text s f))) (seen text s es) g (spread_fits spread (callee text s (name_in f) (gives text s f)) (callee_fits (name_in f) (gives text s f))) (seen_fit es) is
     gives_fit (string at behind) g is = subst Fits (same_some is) tt
     gives_fit (selector e at n) g is = absurd (none_some is)
     gives_fit (index e at i) g is = absurd (none_some is)

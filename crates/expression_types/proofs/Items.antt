@@ -4,7 +4,7 @@ use Rattle.base.specs.declared.pos.Pos.{Pos}
 use Rattle.std.proofs.lemmas.List.{map-append}
 use Rattle.typed.specs.declared.expr.Expr.{Expr}
 use Rattle.typed.specs.View.{ex_of, exs_of}
-use Rattle.typed.specs.Syntax.{more}
+use Rattle.typed_syntax.specs.Syntax.{more}
 use Rattle.expression_types.specs.declared.gives.Item.{Item}
 use Rattle.expression_types.specs.Typing.{Seen, Gives, each}
 use Rattle.expression_types.specs.Passing.{seen_of, seens}

@@ -1,15 +1,15 @@
 -- The least fault of an expression, of those of its parts and its own.
 use Rattle.std.proofs.Common.{◌≡◌, ℕ, Bool, true, false, List, ◌⊎◌, Option, sym, subst}
 use Rattle.std.proofs.lemmas.Bool.{false≢true}
-use Rattle.syntax.specs.FirstBytes.{first_place}
+use Rattle.syntax.specs.FirstBytes.{first_pos}
 use Rattle.syntax.specs.declared.operator.UnOp.{UnOp}
 use Rattle.syntax.specs.declared.operator.BinOp.{BinOp}
 use Rattle.syntax.specs.Expressions.{Ex as TreeEx, Exs as TreeExs, unary, binary, call}
 use Rattle.base.specs.declared.pos.Pos.{Pos}
-use Rattle.value_types.specs.declared.fault.Fault.{Fault}
-use Rattle.value_types.specs.Least.{IsLeast, IsLesserWith, lesser}
-use Rattle.value_types.specs.Faults.{IsFault, FormFails}
-use Rattle.value_types.proofs.Leasts.{least_join, leaf}
+use Rattle.type_faults.specs.declared.fault.Fault.{Fault}
+use Rattle.type_faults.specs.Least.{IsLeast, IsLesserWith, lesser}
+use Rattle.type_faults.specs.Faults.{IsFault, FormFails}
+use Rattle.type_faults.proofs.Leasts.{least_join, leaf}
 use Rattle.operators.specs.Operands.{Operand}
 use Rattle.operators.specs.Operators.{has_rules}
 use Rattle.operators.specs.Faults.{prefix_fault, pair_fault}
@@ -49,21 +49,21 @@ module _ (text : List ℕ) (s : Scope) where
 
   -- two operands that each have one value, and the rule of the operator on them
   pub binary_least : (at : Pos) (op : BinOp) (a b : TreeEx) (f g : Option Fault) (o p : Option Operand) → IsLeast (FailsAsOperand text s a) f → IsLeast (FailsAsOperand text s b) g
-      → o ≡ operand_in (gives text s a) → p ≡ operand_in (gives text s b) → IsLeast (Fails text s (binary at op a b)) (lesser (lesser f g) (pair_fault (first_place a) (first_place b) op o p))
+      → o ≡ operand_in (gives text s a) → p ≡ operand_in (gives text s b) → IsLeast (Fails text s (binary at op a b)) (lesser (lesser f g) (pair_fault (first_pos a) (first_pos b) op o p))
   binary_least at op a b f g o p left right o_is p_is =
-      let R = pair_fault (first_place a) (first_place b) op in
+      let R = pair_fault (first_pos a) (first_pos b) op in
       let both = least_join (λ k. FailsAsOperand text s a k ⊎ FailsAsOperand text s b k) (IsFault (R o p)) (lesser f g) (R o p) (least_join (FailsAsOperand text s a) (FailsAsOperand text s b) f g left right) (leaf (R o p)) in
       subst (λ (q : Option Operand). IsLeast (λ k. (FailsAsOperand text s a k ⊎ FailsAsOperand text s b k) ⊎ IsFault (R (operand_in (gives text s a)) q) k) (lesser (lesser f g) (R o p))) p_is
       (subst (λ (q : Option Operand). IsLeast (λ k. (FailsAsOperand text s a k ⊎ FailsAsOperand text s b k) ⊎ IsFault (R q p) k) (lesser (lesser f g) (R o p))) o_is both)
 
   pub call_least : (g : TreeEx) (es : TreeExs) (spread : Bool) (k : Callee) (os : List Seen) (a b : Option Fault) (f : Option Fault)
       → k ≡ spread_over spread (callee text s (name_in g) (gives text s g)) → os ≡ seen text s es
-      → IsLeast (CalleeFails text s (name_in g) (λ h. Fails text s g h) (gives text s g)) a → IsLeast (FailsInEach text s es) b → IsLesserWith (CallFails (first_place g) k os) (lesser a b) f
+      → IsLeast (CalleeFails text s (name_in g) (λ h. Fails text s g h) (gives text s g)) a → IsLeast (FailsInEach text s es) b → IsLesserWith (CallFails (first_pos g) k os) (lesser a b) f
       → IsLeast (Fails text s (call g es spread)) f
   call_least g es spread k os a b f k_is os_is called listed own =
       let C = CalleeFails text s (name_in g) (λ h. Fails text s g h) (gives text s g) in
       let K = spread_over spread (callee text s (name_in g) (gives text s g)) in
-      let own1 = subst (λ (k1 : Callee). IsLeast (CallFails (first_place g) k1 os) own.0) k_is own.1 in
-      let own2 = subst (λ (os1 : List Seen). IsLeast (CallFails (first_place g) K os1) own.0) os_is own1 in
+      let own1 = subst (λ (k1 : Callee). IsLeast (CallFails (first_pos g) k1 os) own.0) k_is own.1 in
+      let own2 = subst (λ (os1 : List Seen). IsLeast (CallFails (first_pos g) K os1) own.0) os_is own1 in
       subst (λ (h : Option Fault). IsLeast (Fails text s (call g es spread)) h) (sym own.2)
-      (least_join (λ h. C h ⊎ FailsInEach text s es h) (CallFails (first_place g) K (seen text s es)) (lesser a b) own.0 (least_join C (FailsInEach text s es) a b called listed) own2)
+      (least_join (λ h. C h ⊎ FailsInEach text s es h) (CallFails (first_pos g) K (seen text s es)) (lesser a b) own.0 (least_join C (FailsInEach text s es) a b called listed) own2)

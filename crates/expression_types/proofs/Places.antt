@@ -4,19 +4,19 @@ use Rattle.std.specs.Prelude.{is_some, is_none, ◌&&◌, ◌==◌}
 use Rattle.std.proofs.lemmas.Bool.{ltb-true, ltb-false}
 use Rattle.std.specs.Option.{option_map}
 use Rattle.base.specs.declared.pos.Pos.{Pos}
-use Rattle.value_types.specs.declared.fault.Fault.{Fault}
-use Rattle.value_types.specs.declared.fault.FaultKind.TheVariants.{Mismatch}
+use Rattle.type_faults.specs.declared.fault.Fault.{Fault}
+use Rattle.type_faults.specs.declared.fault.FaultKind.TheVariants.{Mismatch}
 use Rattle.base.specs.declared.value_type.ValueType.{ValueType}
-use Rattle.value_types.specs.Least.{IsLeast, lesser}
-use Rattle.value_types.specs.Faults.{fault, IsFault}
-use Rattle.value_types.proofs.Decided.{Tested, both_tested}
-use Rattle.value_types.proofs.Leasts.{Kept, kept_more, leaf}
+use Rattle.type_faults.specs.Least.{IsLeast, lesser}
+use Rattle.type_faults.specs.Faults.{fault, IsFault}
+use Rattle.type_faults.proofs.Decided.{Tested, both_tested}
+use Rattle.type_faults.proofs.Leasts.{Kept, kept_more, leaf}
 use Rattle.operators.specs.Operands.{Operand}
 use Rattle.expression_types.specs.declared.gives.Item.{Item}
 use Rattle.expression_types.specs.Typing.{Seen, Many, operand_in, many, operand_agrees, values_agree, types_agree, fits_with, fits}
 use Rattle.expression_types.specs.Faults.{SinglesFail, ValuesFail, TypesFail, MismatchFails, type_fault}
 use Rattle.expression_types.specs.Passing.{gives_of, seens}
-use Rattle.value_types.proofs.Lists.{from_one, from_there, nothing_left}
+use Rattle.type_faults.proofs.Lists.{from_one, from_there, nothing_left}
 
 pub values_least : (m : Option Many) (os : List Seen) (f : Option Fault) → option_map (λ (k : Many). k.at) m ≡ None → IsLeast (SinglesFail os) f → IsLeast (ValuesFail m os) f
 values_least None os f is least = least
@@ -73,7 +73,7 @@ no_types_fail (p ∷ ps) [] f h k = k
 no_types_fail (p ∷ ps) (o ∷ os) f (inl e) k = cc e
 no_types_fail (p ∷ ps) (o ∷ os) f (inr e) k = cc e
 
--- behind the last place or the last element
+-- after the last place or the last element
 behind_one : {A B : Type 0} (xs : List A) (ys : List B) (i : ℕ) → min (length xs) (length ys) ≤ i → (drop i xs ≡ []) ⊎ (drop i ys ≡ [])
 behind_one xs ys i le = by (ltb i (length xs)) refl
   where

@@ -5,22 +5,22 @@ use Rattle.std.specs.Option.{option_map}
 use Rattle.base.specs.declared.pos.Pos.{Pos}
 use Rattle.syntax.specs.declared.operator.UnOp.{UnOp}
 use Rattle.syntax.specs.declared.expression.Name.{Name}
-use Rattle.syntax.specs.FirstBytes.{first_place}
+use Rattle.syntax.specs.FirstBytes.{first_pos}
 use Rattle.syntax.specs.Expressions.{Ex as TreeEx, Exs as TreeExs, number, string, name, unary, binary, paren, call, selector, index, slice, array_type, slice_type, literal, elements, some, spelled}
 use Rattle.syntax.specs.Expressions as tree
-use Rattle.value_types.specs.declared.fault.Fault.{Fault}
-use Rattle.value_types.specs.declared.fault.FaultKind.TheVariants.{NotCallable, ArgCount, ConstRange, BadOperand, OutOfProfile}
-use Rattle.value_types.specs.declared.constant.Constant.{Constant}
-use Rattle.value_types.specs.declared.constant.Constant.TheVariants.{Number, Truth}
-use Rattle.value_types.specs.declared.constant.Fixed.{Fixed}
+use Rattle.type_faults.specs.declared.fault.Fault.{Fault}
+use Rattle.type_faults.specs.declared.fault.FaultKind.TheVariants.{NotCallable, WrongCount, ConstRange, Unfit, OutOfProfile}
+use Rattle.constants.specs.declared.constant.Constant.{Constant}
+use Rattle.constants.specs.declared.constant.Constant.TheVariants.{Number, Truth}
+use Rattle.constants.specs.declared.constant.Fixed.{Fixed}
 use Rattle.base.specs.declared.value_type.ValueType.{ValueType}
 use Rattle.base.specs.declared.value_type.ValueType.TheVariants.{Int, Bool as Boolean, Struct, Array}
 use Rattle.base.specs.Types.{same_type}
-use Rattle.value_types.specs.Constants.{untyped, constant_type}
-use Rattle.value_types.specs.Given.{allowed, both}
-use Rattle.value_types.specs.Faults.{fault, IsFault, FormFails}
-use Rattle.value_types.proofs.Decided.{Decided, further, same, mapped, after}
-use Rattle.value_types.proofs.Options.{none_some, same_some}
+use Rattle.constants.specs.Constants.{untyped, constant_type}
+use Rattle.type_faults.specs.Given.{allowed, both}
+use Rattle.type_faults.specs.Faults.{fault, IsFault, FormFails}
+use Rattle.type_faults.proofs.Decided.{Decided, further, same, mapped, after}
+use Rattle.type_faults.proofs.Options.{none_some, same_some}
 use Rattle.operators.specs.Operands.{Operand, constant, value, constant_value}
 use Rattle.operators.specs.Operators.{has_rules, prefixed, combined}
 use Rattle.operators.specs.Faults.{prefix_fault}
@@ -54,7 +54,7 @@ condition_value_decided at (value (Struct k) x) held = (_, refl)
 condition_value_decided at (value (Array n e) x) held = (_, refl)
 condition_value_decided at (constant a) held = by (constant_type a.value_type a.value) a.value (held_type a.value_type a.value held)
   where
-    by : (t : ValueType) (c : Constant) → t ≡ constant_type None c → Decided (allowed (same_type Boolean t) (constant_value c)) (IsFault (cond (same_type Boolean t) None (Some (fault BadOperand at))))
+    by : (t : ValueType) (c : Constant) → t ≡ constant_type None c → Decided (allowed (same_type Boolean t) (constant_value c)) (IsFault (cond (same_type Boolean t) None (Some (fault Unfit at))))
     by Int c same1 = (_, refl)
     by Boolean (Truth b) same1 = λ f h. h
     by Boolean (Number z) same1 = cc same1
@@ -188,16 +188,16 @@ refused_call C E K f (inr h) = inr h
 call_decided : (at : Pos) (k : Callee) (os : List Seen) (C E : Fault → Type 0) → CalleeIs k C → Decided (given_all os) E → Decided (called_with at k os) (λ f. (C f ⊎ E f) ⊎ CallFails at k os f)
 call_decided at (printer line) os C E c e =
     with_callee C E (CallFails at (printer line) os) (called_with at (printer line) os) c (mapped _ (parts os) (λ f. E f ⊎ PrintFails at os f) (print_decided os E e at))
-call_decided at panicker os C E c e = with_callee C E (CallFails at panicker os) (called_with at panicker os) c (panic_decided os E e at (fault ArgCount at))
-call_decided at reader os C E c e = with_callee C E (CallFails at reader os) (called_with at reader os) c (read_decided os E e at (fault ArgCount at))
-call_decided at exiter os C E c e = with_callee C E (CallFails at exiter os) (called_with at exiter os) c (exit_decided os E e at (fault ArgCount at))
+call_decided at panicker os C E c e = with_callee C E (CallFails at panicker os) (called_with at panicker os) c (panic_decided os E e at (fault WrongCount at))
+call_decided at reader os C E c e = with_callee C E (CallFails at reader os) (called_with at reader os) c (read_decided os E e at (fault WrongCount at))
+call_decided at exiter os C E c e = with_callee C E (CallFails at exiter os) (called_with at exiter os) c (exit_decided os E e at (fault WrongCount at))
 call_decided at (function g ps ts) os C E c e =
     with_callee C E (CallFails at (function g ps ts) os) (called_with at (function g ps ts) os) c
     (mapped _ (taken ps os) (λ f. E f ⊎ CallFails at (function g ps ts) os f) (take_decided os E e _ ps))
 call_decided at conversion os C E c e = (fault OutOfProfile at, inr refl)
 call_decided at no_function os C E c e = let u = refused os E e (fault NotCallable at) in (u.0, refused_call C E (CallFails at no_function os) u.0 u.1)
-call_decided at no_spread os C E c e = let u = refused os E e (fault BadOperand at) in (u.0, refused_call C E (CallFails at no_spread os) u.0 u.1)
-call_decided at no_text_spread os C E c e = let u = parts_refused os E e (fault BadOperand at) in (u.0, refused_call C E (CallFails at no_text_spread os) u.0 u.1)
+call_decided at no_spread os C E c e = let u = refused os E e (fault Unfit at) in (u.0, refused_call C E (CallFails at no_spread os) u.0 u.1)
+call_decided at no_text_spread os C E c e = let u = parts_refused os E e (fault Unfit at) in (u.0, refused_call C E (CallFails at no_text_spread os) u.0 u.1)
 call_decided at nothing os C E c e = (c.0, inl (inl c.1))
 
 module _ (text : List ℕ) (s : Scope) (settled : IsSettled s) where
@@ -219,20 +219,20 @@ module _ (text : List ℕ) (s : Scope) (settled : IsSettled s) where
     gives_decided (name n) = name_decided s (declaration s (spelled text n)) n.pos (λ x is. declared_typed s settled (spelled text n) x is)
     gives_decided (unary at op e) = unary_decided at op e (has_rules op) (operand_decided (gives text s e) (Fails text s e) (gives_decided e))
     gives_decided (binary at op a b) =
-        mapped one (both (combined (first_place a) op) (operand_in (gives text s a)) (operand_in (gives text s b))) (λ g. Fails text s (binary at op a b) g)
-        (pair_decided (first_place a) (first_place b) op (operand_in (gives text s a)) (operand_in (gives text s b)) (FailsAsOperand text s a) (FailsAsOperand text s b)
+        mapped one (both (combined at op) (operand_in (gives text s a)) (operand_in (gives text s b))) (λ g. Fails text s (binary at op a b) g)
+        (pair_decided at (first_pos a) (first_pos b) op (operand_in (gives text s a)) (operand_in (gives text s b)) (FailsAsOperand text s a) (FailsAsOperand text s b)
         (operand_decided (gives text s a) (Fails text s a) (gives_decided a)) (operand_decided (gives text s b) (Fails text s b) (gives_decided b)))
     gives_decided (paren at e) = gives_decided e
     gives_decided (call g es spread) =
-        call_decided (first_place g) (spread_over spread (callee text s (name_in g) (gives text s g))) (seen text s es) (CalleeFails text s (name_in g) (λ f. Fails text s g f) (gives text s g)) (FailsInEach text s es)
+        call_decided (first_pos g) (spread_over spread (callee text s (name_in g) (gives text s g))) (seen text s es) (CalleeFails text s (name_in g) (λ f. Fails text s g f) (gives text s g)) (FailsInEach text s es)
         (spread_is spread (callee text s (name_in g) (gives text s g)) (CalleeFails text s (name_in g) (λ f. Fails text s g f) (gives text s g)) (callee_is (name_in g) (gives text s g) (λ f. Fails text s g f) (gives_decided g))) (seen_decided es)
     gives_decided (string at behind) = λ f h. h
-    gives_decided (selector e at n) = (fault OutOfProfile (first_place e), inr refl)
-    gives_decided (index e at i) = (fault OutOfProfile (first_place e), inr refl)
-    gives_decided (slice e at low high) = (fault OutOfProfile (first_place e), inr refl)
+    gives_decided (selector e at n) = (fault OutOfProfile (first_pos e), inr refl)
+    gives_decided (index e at i) = (fault OutOfProfile (first_pos e), inr refl)
+    gives_decided (slice e at low high) = (fault OutOfProfile (first_pos e), inr refl)
     gives_decided (array_type at len e) = (fault OutOfProfile at, refl)
     gives_decided (slice_type at e) = (fault OutOfProfile at, refl)
-    gives_decided (literal e es) = (fault OutOfProfile (first_place e), inr refl)
+    gives_decided (literal e es) = (fault OutOfProfile (first_pos e), inr refl)
     gives_decided (elements at es) = (fault OutOfProfile at, refl)
 
     pub seen_decided : (es : TreeExs) → Decided (given_all (seen text s es)) (FailsInEach text s es)

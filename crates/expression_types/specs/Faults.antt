@@ -7,15 +7,16 @@
 use Rattle.std.specs.Prelude.{ℕ, length, ◌^◌, ◌==◌, nat_lt, ◌⊎◌, Bool, true, false, not, ◌&&◌, take, List, [], ◌∷◌, Option, Some, None, if◌then◌else◌}
 use Rattle.base.specs.declared.pos.Pos.{Pos}
 use Rattle.syntax.specs.declared.expression.Name.{Name}
-use Rattle.syntax.specs.FirstBytes.{first_place}
+use Rattle.syntax.specs.FirstBytes.{first_pos}
 use Rattle.syntax.specs.Expressions.{Ex as TreeEx, Exs as TreeExs, number, string, name, unary, binary, paren, call, selector, index, slice, array_type, slice_type, literal, elements, some, spelled}
 use Rattle.syntax.specs.Expressions as tree
-use Rattle.value_types.specs.declared.fault.Fault.{Fault}
-use Rattle.value_types.specs.declared.fault.FaultKind.TheVariants.{Unknown, Mismatch, NotCallable, ArgCount, ResultCount, ConstRange, BadOperand, OutOfProfile}
+use Rattle.type_faults.specs.declared.fault.Fault.{Fault}
+use Rattle.type_faults.specs.declared.fault.FaultKind.TheVariants.{Unknown, Mismatch, NotCallable, WrongCount, ResultCount, ConstRange, Unfit, OutOfProfile}
 use Rattle.base.specs.declared.value_type.ValueType.{ValueType}
 use Rattle.base.specs.declared.value_type.ValueType.TheVariants.{Bool as Boolean}
 use Rattle.base.specs.Types.{same_type}
-use Rattle.value_types.specs.Faults.{fault, IsFault, FormFails, constant_range_fault}
+use Rattle.type_faults.specs.Faults.{fault, IsFault, FormFails}
+use Rattle.operators.specs.ConstantFaults.{constant_range_fault}
 use Rattle.operators.specs.Operands.{Operand, constant, value, type_of}
 use Rattle.operators.specs.Operators.{has_rules}
 use Rattle.operators.specs.Faults.{prefix_fault, pair_fault}
@@ -35,64 +36,64 @@ WhereTaken false taken left_out f = left_out f
 
 -- a function or a type is no value
 abbrev pub name_fault : Option Declared → Pos → Option Fault
-name_fault None at = Some (fault Unknown at)
-name_fault (Some (declared.Variable site t)) at = None
-name_fault (Some declared.Untyped) at = None
-name_fault (Some (declared.Constant k)) at = None
-name_fault (Some (declared.Global k g)) at = None
-name_fault (Some (declared.Function g)) at = Some (fault OutOfProfile at)
-name_fault (Some (declared.External e place)) at = Some (fault OutOfProfile at)
-name_fault (Some declared.TypeName) at = Some (fault BadOperand at)
-name_fault (Some (declared.«Type» t)) at = Some (fault BadOperand at)
-name_fault (Some (declared.Truth b)) at = None
-name_fault (Some (declared.Print line)) at = Some (fault BadOperand at)
-name_fault (Some declared.Panic) at = Some (fault BadOperand at)
-name_fault (Some declared.LeftOutType) at = Some (fault OutOfProfile at)
-name_fault (Some declared.LeftOutValue) at = Some (fault OutOfProfile at)
+name_fault None pos = Some (fault Unknown pos)
+name_fault (Some (declared.Variable site t)) pos = None
+name_fault (Some declared.Untyped) pos = None
+name_fault (Some (declared.Constant k)) pos = None
+name_fault (Some (declared.Global k g)) pos = None
+name_fault (Some (declared.Function g)) pos = Some (fault OutOfProfile pos)
+name_fault (Some (declared.External e declared_pos)) pos = Some (fault OutOfProfile pos)
+name_fault (Some declared.TypeName) pos = Some (fault Unfit pos)
+name_fault (Some (declared.«Type» t)) pos = Some (fault Unfit pos)
+name_fault (Some (declared.Truth b)) pos = None
+name_fault (Some (declared.Print line)) pos = Some (fault Unfit pos)
+name_fault (Some declared.Panic) pos = Some (fault Unfit pos)
+name_fault (Some declared.LeftOutType) pos = Some (fault OutOfProfile pos)
+name_fault (Some declared.LeftOutValue) pos = Some (fault OutOfProfile pos)
 
 -- the name of what is called
 abbrev pub callee_name_fault : Option Declared → Pos → Option Fault
-callee_name_fault None at = Some (fault Unknown at)
-callee_name_fault (Some declared.LeftOutType) at = Some (fault OutOfProfile at)
-callee_name_fault (Some declared.LeftOutValue) at = Some (fault OutOfProfile at)
-callee_name_fault (Some other) at = None
+callee_name_fault None pos = Some (fault Unknown pos)
+callee_name_fault (Some declared.LeftOutType) pos = Some (fault OutOfProfile pos)
+callee_name_fault (Some declared.LeftOutValue) pos = Some (fault OutOfProfile pos)
+callee_name_fault (Some other) pos = None
 
 -- ---- one value
 
 -- a call where one value is wanted has another number of them, and a string is none at all
 abbrev pub single_result_fault : Pos → List ValueType → Option Fault
-single_result_fault at [] = Some (fault ResultCount at)
-single_result_fault at (t ∷ []) = None
-single_result_fault at (t ∷ u ∷ ts) = Some (fault ResultCount at)
+single_result_fault pos [] = Some (fault ResultCount pos)
+single_result_fault pos (t ∷ []) = None
+single_result_fault pos (t ∷ u ∷ ts) = Some (fault ResultCount pos)
 
 abbrev pub single_fault : Option Gives → Option Fault
 single_fault None = None
 single_fault (Some (one x)) = None
-single_fault (Some (called at ts g es)) = single_result_fault at ts
-single_fault (Some (asking at)) = Some (fault ResultCount at)
-single_fault (Some (quoted at bytes)) = Some (fault OutOfProfile at)
-single_fault (Some (printed at line ps)) = Some (fault ResultCount at)
-single_fault (Some (panicked at p)) = Some (fault ResultCount at)
-single_fault (Some (exited at e)) = Some (fault ResultCount at)
+single_fault (Some (called pos ts g es)) = single_result_fault pos ts
+single_fault (Some (asking pos)) = Some (fault ResultCount pos)
+single_fault (Some (quoted pos bytes)) = Some (fault OutOfProfile pos)
+single_fault (Some (printed pos line ps)) = Some (fault ResultCount pos)
+single_fault (Some (panicked pos p)) = Some (fault ResultCount pos)
+single_fault (Some (exited pos e)) = Some (fault ResultCount pos)
 
 -- an operand of `print`, `println` or `panic` may also be a string
 abbrev pub part_fault : Option Gives → Option Fault
-part_fault (Some (quoted at bytes)) = None
+part_fault (Some (quoted pos bytes)) = None
 part_fault o = single_fault o
 
 abbrev pub range_fault : Pos → Option Operand → Option Fault
-range_fault at None = None
-range_fault at (Some (constant f)) = constant_range_fault at f.value
-range_fault at (Some (value t x)) = None
+range_fault pos None = None
+range_fault pos (Some (constant f)) = constant_range_fault pos f.value
+range_fault pos (Some (value t x)) = None
 
 -- a literal that leaves 128 bits
 abbrev pub literal_fault : Pos → ℕ → Option Fault
-literal_fault at n = if nat_lt n (2 ^ 127) then None else Some (fault ConstRange at)
+literal_fault pos n = if nat_lt n (2 ^ 127) then None else Some (fault ConstRange pos)
 
 -- a condition is a truth value
 abbrev pub condition_fault : Pos → Option Operand → Option Fault
-condition_fault at None = None
-condition_fault at (Some x) = if same_type Boolean (type_of x) then None else Some (fault BadOperand at)
+condition_fault pos None = None
+condition_fault pos (Some x) = if same_type Boolean (type_of x) then None else Some (fault Unfit pos)
 
 -- ---- expressions side by side
 
@@ -117,7 +118,7 @@ RangeFails (o ∷ os) f = IsFault (range_fault o.at (operand_in o.gives)) f ⊎ 
 
 -- a value of another type than its place asks for
 abbrev pub type_fault : Option ValueType → Pos → Option Operand → Option Fault
-type_fault p at o = if operand_agrees p o then None else Some (fault Mismatch at)
+type_fault p pos o = if operand_agrees p o then None else Some (fault Mismatch pos)
 
 abbrev pub TypesFail : List (Option ValueType) → List Seen → Fault → Type 0
 TypesFail (p ∷ ps) (o ∷ os) f = IsFault (type_fault p o.at (operand_in o.gives)) f ⊎ TypesFail ps os f
@@ -159,19 +160,19 @@ abbrev pub shown_fault : List Seen → Fault → Option Fault
 shown_fault os own = if are_parts os && not (are_shown os) then Some own else None
 
 abbrev pub PrintFails : Pos → List Seen → Fault → Type 0
-PrintFails at os f = (PartsFail os f ⊎ RangeFails os f) ⊎ IsFault (shown_fault os (fault BadOperand at)) f
+PrintFails pos os f = (PartsFail os f ⊎ RangeFails os f) ⊎ IsFault (shown_fault os (fault Unfit pos)) f
 
 abbrev pub CallFails : Pos → Callee → List Seen → Fault → Type 0
-CallFails at (printer line) os f = PrintFails at os f
-CallFails at panicker os f = PrintFails at os f ⊎ CountFails (part_count os) 1 (fault ArgCount at) f
-CallFails at reader os f = TakeFails (fault ArgCount at) [] os f
-CallFails at exiter os f = TakeFails (fault ArgCount at) exit_places os f
-CallFails at (function g ps ts) os f = TakeFails (fault ArgCount at) ps os f
-CallFails at conversion os f = FormFails at f
-CallFails at no_function os f = ValuesFail (many os) os f ⊎ IsFault (refused_fault (count os) (fault NotCallable at)) f
-CallFails at no_spread os f = ValuesFail (many os) os f ⊎ IsFault (refused_fault (count os) (fault BadOperand at)) f
-CallFails at no_text_spread os f = PartsFail os f ⊎ IsFault (refused_fault (part_count os) (fault BadOperand at)) f
-CallFails at nothing os f = ValuesFail (many os) os f
+CallFails pos (printer line) os f = PrintFails pos os f
+CallFails pos panicker os f = PrintFails pos os f ⊎ CountFails (part_count os) 1 (fault WrongCount pos) f
+CallFails pos reader os f = TakeFails (fault WrongCount pos) [] os f
+CallFails pos exiter os f = TakeFails (fault WrongCount pos) exit_places os f
+CallFails pos (function g ps ts) os f = TakeFails (fault WrongCount pos) ps os f
+CallFails pos conversion os f = FormFails pos f
+CallFails pos no_function os f = ValuesFail (many os) os f ⊎ IsFault (refused_fault (count os) (fault NotCallable pos)) f
+CallFails pos no_spread os f = ValuesFail (many os) os f ⊎ IsFault (refused_fault (count os) (fault Unfit pos)) f
+CallFails pos no_text_spread os f = PartsFail os f ⊎ IsFault (refused_fault (part_count os) (fault Unfit pos)) f
+CallFails pos nothing os f = ValuesFail (many os) os f
 
 module _ (text : List ℕ) where
   -- what is called is a name, or an expression with one value, in which this fails and which gives this
@@ -182,25 +183,25 @@ module _ (text : List ℕ) where
   -- a rule fails in an expression, and in one of some
   abbrev mutual
     pub Fails : Scope → TreeEx → Fault → Type 0
-    Fails s (number at n) f = IsFault (literal_fault at n) f
-    Fails s (string at behind) f = ⊥
+    Fails s (number pos n) f = IsFault (literal_fault pos n) f
+    Fails s (string pos behind) f = ⊥
     Fails s (name n) f = IsFault (name_fault (declaration s (spelled text n)) n.pos) f
-    Fails s (unary at op e) f =
-        WhereTaken (has_rules op) (λ g. (Fails s e g ⊎ IsFault (single_fault (gives text s e)) g) ⊎ IsFault (prefix_fault at op (operand_in (gives text s e))) g) (λ g. FormFails at g) f
-    Fails s (binary at op a b) f =
+    Fails s (unary pos op e) f =
+        WhereTaken (has_rules op) (λ g. (Fails s e g ⊎ IsFault (single_fault (gives text s e)) g) ⊎ IsFault (prefix_fault pos op (operand_in (gives text s e))) g) (λ g. FormFails pos g) f
+    Fails s (binary pos op a b) f =
         ((Fails s a f ⊎ IsFault (single_fault (gives text s a)) f) ⊎ (Fails s b f ⊎ IsFault (single_fault (gives text s b)) f))
-        ⊎ IsFault (pair_fault (first_place a) (first_place b) op (operand_in (gives text s a)) (operand_in (gives text s b))) f
-    Fails s (paren at e) f = Fails s e f
+        ⊎ IsFault (pair_fault (first_pos a) (first_pos b) op (operand_in (gives text s a)) (operand_in (gives text s b))) f
+    Fails s (paren pos e) f = Fails s e f
     Fails s (call g es spread) f =
         (CalleeFails s (name_in g) (λ h. Fails s g h) (gives text s g) f ⊎ FailsInEach s es f)
-        ⊎ CallFails (first_place g) (spread_over spread (callee text s (name_in g) (gives text s g))) (seen text s es) f
-    Fails s (selector e at n) f = Fails s e f ⊎ FormFails (first_place e) f
-    Fails s (index e at i) f = Fails s e f ⊎ FormFails (first_place e) f
-    Fails s (slice e at low high) f = Fails s e f ⊎ FormFails (first_place e) f
-    Fails s (array_type at len e) f = FormFails at f
-    Fails s (slice_type at e) f = FormFails at f
-    Fails s (literal e es) f = FailsAsType text s e f ⊎ FormFails (first_place e) f
-    Fails s (elements at es) f = FormFails at f
+        ⊎ CallFails (first_pos g) (spread_over spread (callee text s (name_in g) (gives text s g))) (seen text s es) f
+    Fails s (selector e pos n) f = Fails s e f ⊎ FormFails (first_pos e) f
+    Fails s (index e pos i) f = Fails s e f ⊎ FormFails (first_pos e) f
+    Fails s (slice e pos low high) f = Fails s e f ⊎ FormFails (first_pos e) f
+    Fails s (array_type pos len e) f = FormFails pos f
+    Fails s (slice_type pos e) f = FormFails pos f
+    Fails s (literal e es) f = FailsAsType text s e f ⊎ FormFails (first_pos e) f
+    Fails s (elements pos es) f = FormFails pos f
 
     pub FailsInEach : Scope → TreeExs → Fault → Type 0
     FailsInEach s tree.none f = ⊥
@@ -212,8 +213,8 @@ module _ (text : List ℕ) where
 
   -- a rule fails in the condition of a statement whose word stands at a place; what is no truth value is reported there
   abbrev pub FailsInCondition : Scope → Pos → TreeEx → Fault → Type 0
-  FailsInCondition s at e f = FailsAsOperand s e f ⊎ IsFault (condition_fault at (operand_in (gives text s e))) f
+  FailsInCondition s pos e f = FailsAsOperand s e f ⊎ IsFault (condition_fault pos (operand_in (gives text s e))) f
 
   abbrev pub FailsInTest : Scope → Pos → Option TreeEx → Fault → Type 0
-  FailsInTest s at None f = ⊥
-  FailsInTest s at (Some e) f = FailsInCondition s at e f
+  FailsInTest s pos None f = ⊥
+  FailsInTest s pos (Some e) f = FailsInCondition s pos e f

@@ -1,10 +1,10 @@
 -- What lies in memory as abstract syntax, and what the checker's pass works out of what it knows of the parts.
 use Rattle.std.specs.Prelude.{ℕ, ◌^◌, pos, List, map, nat_lt, Option, Some, None, if◌then◌else◌}
 use Rattle.std.specs.Option.{option_map}
-use Rattle.typed.specs.Syntax.{Exs}
+use Rattle.typed_syntax.specs.Syntax.{Exs}
 use Rattle.typed.specs.View.{type_of, ex_of, exs_of_values}
-use Rattle.value_types.specs.declared.constant.Constant.TheVariants.{Number}
-use Rattle.value_types.specs.Constants.{untyped}
+use Rattle.constants.specs.declared.constant.Constant.TheVariants.{Number}
+use Rattle.constants.specs.Constants.{untyped}
 use Rattle.operators.specs.Operands.{constant}
 use Rattle.operators.specs.Passing.{operand_of}
 use Rattle.expression_types.specs.declared.gives.Gives.{Gives as GivesData}

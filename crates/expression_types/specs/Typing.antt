@@ -5,21 +5,21 @@ use Rattle.base.specs.declared.pos.Pos.{Pos}
 use Rattle.syntax.specs.declared.operator.BinOp.{BinOp}
 use Rattle.syntax.specs.declared.operator.UnOp.{UnOp}
 use Rattle.syntax.specs.declared.expression.Name.{Name}
-use Rattle.syntax.specs.FirstBytes.{first_place}
+use Rattle.syntax.specs.FirstBytes.{first_pos}
 use Rattle.syntax.specs.Expressions.{Ex as TreeEx, Exs as TreeExs, number, string, name, unary, binary, paren, call, selector, index, slice, array_type, slice_type, literal, elements, some, spelled}
 use Rattle.syntax.specs.Expressions as tree
 use Rattle.syntax.specs.Statements.{Clause, forever, while_true, counting, ranging}
-use Rattle.typed.specs.Syntax.{Ex, Exs, read, local, global, here, none, more, results, asked as items}
-use Rattle.typed.specs.Syntax as typed
-use Rattle.value_trees.specs.Types.{ValueType as TypeTree, ints, bools}
-use Rattle.value_types.specs.declared.constant.Constant.TheVariants.{Number, Truth}
-use Rattle.value_types.specs.declared.constant.Fixed.{Fixed}
+use Rattle.typed_syntax.specs.Syntax.{Ex, Exs, read, local, global, here, none, more, results, read_int as items}
+use Rattle.typed_syntax.specs.Syntax as typed
+use Rattle.typed_syntax.specs.Types.{TypeTree, ints, bools}
+use Rattle.constants.specs.declared.constant.Constant.TheVariants.{Number, Truth}
+use Rattle.constants.specs.declared.constant.Fixed.{Fixed}
 use Rattle.base.specs.declared.value_type.ValueType.{ValueType}
 use Rattle.string_value.specs.StringValue.{string_value}
 use Rattle.base.specs.declared.value_type.ValueType.TheVariants.{Int, Bool as Boolean}
-use Rattle.value_types.specs.Given.{allowed, both}
+use Rattle.type_faults.specs.Given.{allowed, both}
 use Rattle.base.specs.Types.{same_type}
-use Rattle.value_types.specs.Constants.{constant_type, untyped}
+use Rattle.constants.specs.Constants.{constant_type, untyped}
 use Rattle.operators.specs.Operands.{Operand, constant, value, type_of, as_value}
 use Rattle.operators.specs.Operators.{has_rules, prefixed, combined}
 use Rattle.names.specs.declared.scope.Declared.{Declared}
@@ -308,7 +308,7 @@ callee_declared s (Some declared.Panic) = panicker
 callee_declared s (Some declared.LeftOutType) = conversion
 callee_declared s (Some declared.LeftOutValue) = nothing
 
--- what is called where `...` stands behind the arguments: nothing takes it yet
+-- what is called where `...` stands after the arguments: nothing takes it yet
 abbrev pub spread_over : Bool → Callee → Callee
 spread_over false callee = callee
 spread_over true (printer line) = no_text_spread
@@ -371,9 +371,9 @@ module _ (text : List ℕ) where
     gives s (string at behind) = Some (quoted at (string_value (between text at.offset behind)))
     gives s (name n) = option_map one (name_operand s (declaration s (spelled text n)))
     gives s (unary at op e) = prefix_gives op (has_rules op) (operand_in (gives s e))
-    gives s (binary at op a b) = pair_gives (first_place a) op (operand_in (gives s a)) (operand_in (gives s b))
+    gives s (binary at op a b) = pair_gives at op (operand_in (gives s a)) (operand_in (gives s b))
     gives s (paren at e) = gives s e
-    gives s (call f es spread) = called_with (first_place f) (spread_over spread (callee s (name_in f) (gives s f))) (seen s es)
+    gives s (call f es spread) = called_with (first_pos f) (spread_over spread (callee s (name_in f) (gives s f))) (seen s es)
     gives s (selector e at n) = None
     gives s (index e at i) = None
     gives s (slice e at low high) = None
@@ -384,7 +384,7 @@ module _ (text : List ℕ) where
 
     pub seen : Scope → TreeExs → List Seen
     seen s tree.none = []
-    seen s (some e es) = record { at = first_place e; gives = gives s e } ∷ seen s es
+    seen s (some e es) = record { at = first_pos e; gives = gives s e } ∷ seen s es
 
   -- what a condition is
   abbrev pub condition : Scope → TreeEx → Option Ex

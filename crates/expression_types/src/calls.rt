@@ -3,9 +3,9 @@
 ghost use Rattle.std.specs.Prelude.{◌≡◌, ◌⊎◌, ℕ, Option, Some, None, IfOk, map};
 ghost use Rattle.std.specs.Option.{option_map};
 ghost use Rattle.syntax.specs.Expressions.{ex_of as tree_of, spelled};
-ghost use Rattle.value_types.specs.declared.fault.FaultKind.TheVariants.{ArgCount};
-ghost use Rattle.value_types.specs.Least.{IsLeast};
-ghost use Rattle.value_types.specs.Faults.{fault as fault_at, IsFault, FormFails};
+ghost use Rattle.type_faults.specs.declared.fault.FaultKind.TheVariants.{WrongCount};
+ghost use Rattle.type_faults.specs.Least.{IsLeast};
+ghost use Rattle.type_faults.specs.Faults.{fault as fault_at, IsFault, FormFails};
 ghost use Rattle.operators.specs.Operands.{constant};
 ghost use Rattle.operators.specs.Passing.{operand_of};
 ghost use Rattle.names.specs.Scope.{scope_of, declaration, signature};
@@ -21,12 +21,13 @@ use crate::values::{
     take_fault, taken, values, values_fault,
 };
 use base::{FuncId, NoMemory, Pos, ValueType};
-use names::{Declared, External, Scope, declaration, fixed, spelled};
+use constants::Fixed;
+use names::{Declared, External, Scope, spelled};
 use operators::Operand;
 use std::alloc::Global;
 use syntax::Name;
+use type_faults::{Fault, FaultKind, lesser};
 use typed::Expr as Value;
-use value_types::{Fault, FaultKind, Fixed, lesser};
 
 /// A function as what is called, where it has a signature.
 fn callee_function(alloc: Global, scope: &Scope, function: FuncId) -> Result<Callee, NoMemory>
@@ -63,7 +64,7 @@ fn callee_declared(
     Ok(match declared {
         Some(Declared::Function(function)) => return callee_function(alloc, scope, function),
         Some(Declared::Constant(number) | Declared::Global(number, _)) => {
-            callee_known(fixed(scope, number))
+            callee_known(scope.fixed(number))
         }
         Some(Declared::External(External::ReadInt, _)) => Callee::Reader,
         Some(Declared::External(External::Exit, _)) => Callee::Exiter,
@@ -84,7 +85,7 @@ pub fn callee_named(
 ) -> Result<Callee, NoMemory>
     ensures { IfOk result (λ c. callee_of c ≡ callee_declared (scope_of scope.now) (declaration (scope_of scope.now) (spelled text.now name))) }
 {
-    callee_declared(alloc, scope, declaration(scope, spelled(text, name)))
+    callee_declared(alloc, scope, scope.declaration(spelled(text, name)))
 }
 
 fn declared_fault(declared: Option<Declared>, pos: Pos) -> Option<Fault>
@@ -99,11 +100,11 @@ fn declared_fault(declared: Option<Declared>, pos: Pos) -> Option<Fault>
 }
 
 /// The fault of a name that is called.
-#[tactic(auto, using(value_types::proofs::Leasts::leaf))]
+#[tactic(auto, using(type_faults::proofs::Leasts::leaf))]
 pub fn callee_name_fault(text: &[u8], scope: &Scope, name: Name) -> Option<Fault>
     ensures { IsLeast (IsFault (callee_name_fault (declaration (scope_of scope.now) (spelled text.now name)) name.pos)) result }
 {
-    declared_fault(declaration(scope, spelled(text, name)), name.pos)
+    declared_fault(scope.declaration(spelled(text, name)), name.pos)
 }
 
 /// An expression that is no name, as what is called.
@@ -116,7 +117,7 @@ pub fn callee_value(operand: &Option<Operand>) -> Callee
     }
 }
 
-/// What is called, where `...` may stand behind the arguments.
+/// What is called, where `...` may stand after the arguments.
 pub fn spread_over(spread: bool, callee: Callee) -> Callee
     ensures { callee_of result ≡ spread_over spread (callee_of callee) }
 {
@@ -150,12 +151,12 @@ fn refused(kind: FaultKind, pos: Pos, arguments: &[Item]) -> Option<Fault>
     )
 }
 
-/// The fault of operands of `print`, `println` or `panic`, which `...` stands behind.
+/// The fault of operands of `print`, `println` or `panic`, which `...` stands after.
 fn spread_fault(pos: Pos, arguments: &[Item]) -> Option<Fault>
     ensures { IsLeast (CallFails pos Rattle.expression_types.specs.Typing.no_text_spread (seens arguments.now)) result }
 {
     let own = Fault {
-        kind: FaultKind::BadOperand,
+        kind: FaultKind::Unfit,
         pos,
     };
     lesser(
@@ -169,7 +170,7 @@ fn print_fault(pos: Pos, arguments: &[Item]) -> Option<Fault>
     ensures { IsLeast (PrintFails pos (seens arguments.now)) result }
 {
     let own = Fault {
-        kind: FaultKind::BadOperand,
+        kind: FaultKind::Unfit,
         pos,
     };
     let operands = lesser(parts_fault(arguments), range_faults(arguments));
@@ -181,7 +182,7 @@ fn panic_fault(pos: Pos, arguments: &[Item]) -> Option<Fault>
     ensures { IsLeast (CallFails pos Rattle.expression_types.specs.Typing.panicker (seens arguments.now)) result }
 {
     let own = Fault {
-        kind: FaultKind::ArgCount,
+        kind: FaultKind::WrongCount,
         pos,
     };
     lesser(
@@ -195,10 +196,10 @@ const EXIT_PLACES: [Option<ValueType>; 1] = [Some(ValueType::Int)];
 
 /// The fault of arguments at places, where another number of them is refused at the call.
 fn places_fault(pos: Pos, places: &[Option<ValueType>], arguments: &[Item]) -> Option<Fault>
-    ensures { IsLeast (TakeFails (fault_at ArgCount pos) places.now (seens arguments.now)) result }
+    ensures { IsLeast (TakeFails (fault_at WrongCount pos) places.now (seens arguments.now)) result }
 {
     let own = Fault {
-        kind: FaultKind::ArgCount,
+        kind: FaultKind::WrongCount,
         pos,
     };
     take_fault(own, places, arguments)
@@ -226,7 +227,7 @@ pub fn call_fault(pos: Pos, callee: &Callee, arguments: &[Item]) -> Option<Fault
         Callee::Function(_, places, _) => places_fault(pos, places, arguments),
         Callee::Conversion => conversion_fault(pos),
         Callee::NoFunction => refused(FaultKind::NotCallable, pos, arguments),
-        Callee::NoSpread => refused(FaultKind::BadOperand, pos, arguments),
+        Callee::NoSpread => refused(FaultKind::Unfit, pos, arguments),
         Callee::NoTextSpread => spread_fault(pos, arguments),
         Callee::Nothing => values_fault(arguments),
     }

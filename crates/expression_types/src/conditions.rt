@@ -5,7 +5,7 @@ ghost use Rattle.std.specs.Option.{option_map};
 ghost use Rattle.syntax.specs.Expressions.{ex_of as tree_of};
 ghost use Rattle.syntax.specs.Statements.{clause_of};
 ghost use Rattle.typed.specs.View.{ex_of, test_of};
-ghost use Rattle.value_types.specs.Least.{IsLeast};
+ghost use Rattle.type_faults.specs.Least.{IsLeast};
 ghost use Rattle.operators.specs.Passing.{operand_of};
 ghost use Rattle.names.specs.Scope.{scope_of};
 ghost use Rattle.expression_types.specs.Typing.{as_condition, condition_in, condition, test};
@@ -17,8 +17,8 @@ use names::Scope;
 use operators::{Operand, as_value, type_of};
 use std::alloc::Global;
 use syntax::{Clause, Expr as TreeExpr};
+use type_faults::{Fault, FaultKind, lesser};
 use typed::Expr;
-use value_types::{Fault, FaultKind, lesser};
 
 /// What is known of a condition: its typed form, and the fault that is reported.
 #[derive(Drop)]
@@ -53,7 +53,7 @@ fn condition_fault(pos: Pos, operand: &Option<Operand>) -> Option<Fault>
 {
     match operand {
         Some(operand) if !same_type(ValueType::Bool, type_of(operand)) => Some(Fault {
-            kind: FaultKind::BadOperand,
+            kind: FaultKind::Unfit,
             pos,
         }),
         _ => None,

@@ -3,10 +3,10 @@
 ghost use Rattle.std.specs.Prelude.{◌≡◌, ◌⊎◌, None, Some, IfOk, true};
 ghost use Rattle.std.specs.Option.{option_map};
 ghost use Rattle.string_value.specs.StringValue.{string_value};
-ghost use Rattle.syntax.specs.FirstBytes.{first_place};
+ghost use Rattle.syntax.specs.FirstBytes.{first_pos};
 ghost use Rattle.syntax.specs.Expressions.{ex_of as tree_of, exs_of as trees_of, name as name_of, unary};
-ghost use Rattle.value_types.specs.Least.{IsLeast, IsLesserWith, lesser as least};
-ghost use Rattle.value_types.specs.Faults.{FormFails};
+ghost use Rattle.type_faults.specs.Least.{IsLeast, IsLesserWith, lesser as least};
+ghost use Rattle.type_faults.specs.Faults.{FormFails};
 ghost use Rattle.operators.specs.Faults.{pair_fault};
 ghost use Rattle.operators.specs.Passing.{operand_of};
 ghost use Rattle.names.specs.Scope.{scope_of};
@@ -22,12 +22,13 @@ use crate::calls::{
 use crate::gives::{Callee, Gives, Item, one_operand, single_fault};
 use crate::naming::{name_fault, name_value};
 use base::{NoMemory, Pos};
+use constants::{Constant, untyped};
 use names::{Scope, between, name_in, type_fault};
 use operators::{Operand, has_rules, pair_fault, paired, prefix_fault, prefixed};
 use std::alloc::Global;
 use string_value::string_value;
 use syntax::{BinOp, Expr, Name, UnOp};
-use value_types::{Constant, Fault, FaultKind, lesser, untyped};
+use type_faults::{Fault, FaultKind, lesser};
 
 /// What is known of an expression: its first byte, what it gives, and the fault that is reported of it.
 #[derive(Drop)]
@@ -105,7 +106,7 @@ fn literal(pos: Pos, number: u128) -> Checked
     }
 }
 
-/// A string literal, by its first byte and the offset behind it.
+/// A string literal, by its first byte and the offset after it.
 fn quoted(alloc: Global, text: &[u8], pos: Pos, behind: u32) -> Result<Checked, NoMemory>
     ensures pos { IfOk result (λ c. c.pos ≡ pos) }
     ensures gives { IfOk result (λ c. option_map gives_of c.gives ≡ Some (quoted_gives pos (string_value (between text.now pos.offset behind)))) }
@@ -143,14 +144,20 @@ fn one(operand: Option<Operand>) -> Option<Gives>
     }
 }
 
-/// An operator on its operands.
-fn pair(alloc: Global, op: BinOp, left: Single, right: Single) -> Result<Checked, NoMemory>
+/// An operator at a position of its own, on its operands.
+fn pair(
+    alloc: Global,
+    pos: Pos,
+    op: BinOp,
+    left: Single,
+    right: Single,
+) -> Result<Checked, NoMemory>
     ensures pos { IfOk result (λ c. c.pos ≡ left.pos) }
-    ensures gives { IfOk result (λ c. option_map gives_of c.gives ≡ pair_gives left.pos op (option_map operand_of left.operand) (option_map operand_of right.operand)) }
+    ensures gives { IfOk result (λ c. option_map gives_of c.gives ≡ pair_gives pos op (option_map operand_of left.operand) (option_map operand_of right.operand)) }
     ensures fault { IfOk result (λ c. c.fault ≡ least (least left.fault right.fault) (pair_fault left.pos right.pos op (option_map operand_of left.operand) (option_map operand_of right.operand))) }
 {
     let own = pair_fault(op, left.pos, right.pos, &left.operand, &right.operand);
-    let operand = paired(alloc, op, left.pos, left.operand, right.operand)?;
+    let operand = paired(alloc, op, pos, left.operand, right.operand)?;
     Ok(Checked {
         pos: left.pos,
         gives: one(operand),
@@ -188,9 +195,9 @@ fn named(alloc: Global, text: &[u8], scope: &Scope, name: Name) -> Checked
 
 /// A composite literal, by its type.
 fn check_literal(text: &[u8], scope: &Scope, type_expr: &Expr) -> Checked
-    ensures pos { result.pos ≡ first_place (tree_of type_expr.now) }
+    ensures pos { result.pos ≡ first_pos (tree_of type_expr.now) }
     ensures gives { option_map gives_of result.gives ≡ None }
-    ensures fault { IsLeast (λ f. FailsAsType text.now (scope_of scope.now) (tree_of type_expr.now) f ⊎ FormFails (first_place (tree_of type_expr.now)) f) result.fault }
+    ensures fault { IsLeast (λ f. FailsAsType text.now (scope_of scope.now) (tree_of type_expr.now) f ⊎ FormFails (first_pos (tree_of type_expr.now)) f) result.fault }
 {
     let pos = type_expr.pos();
     Checked {
@@ -216,7 +223,7 @@ fn in_parentheses(pos: Pos, inner: Checked) -> Checked
 #[cycle(expressions)]
 #[tactic(auto, using(syntax::proofs::Views::expr_rows))]
 pub fn check_expr(alloc: Global, text: &[u8], scope: &Scope, e: &Expr) -> Result<Checked, NoMemory>
-    ensures pos { IfOk result (λ c. c.pos ≡ first_place (tree_of e.now)) }
+    ensures pos { IfOk result (λ c. c.pos ≡ first_pos (tree_of e.now)) }
 
     // What the rules say that it gives, and nothing where they say so.
     ensures gives { IfOk result (λ c. option_map gives_of c.gives ≡ gives text.now (scope_of scope.now) (tree_of e.now)) }
@@ -229,10 +236,10 @@ pub fn check_expr(alloc: Global, text: &[u8], scope: &Scope, e: &Expr) -> Result
         Expr::String(pos, behind) => quoted(alloc, text, *pos, *behind),
         Expr::Name(name) => Ok(named(alloc, text, scope, *name)),
         Expr::Unary(pos, op, inner) => check_prefix(alloc, text, scope, *pos, *op, inner),
-        Expr::Binary(_, op, left, right) => {
+        Expr::Binary(pos, op, left, right) => {
             let left = check_single(alloc, text, scope, left)?;
             let right = check_single(alloc, text, scope, right)?;
-            pair(alloc, *op, left, right)
+            pair(alloc, *pos, *op, left, right)
         }
         Expr::Paren(pos, inner) => {
             let inner = check_expr(alloc, text, scope, inner)?;
@@ -288,9 +295,9 @@ fn check_left_out(
     scope: &Scope,
     first: &Expr,
 ) -> Result<Checked, NoMemory>
-    ensures pos { IfOk result (λ c. c.pos ≡ first_place (tree_of first.now)) }
+    ensures pos { IfOk result (λ c. c.pos ≡ first_pos (tree_of first.now)) }
     ensures gives { IfOk result (λ c. option_map gives_of c.gives ≡ None) }
-    ensures fault { IfOk result (λ c. IsLeast (λ f. Fails text.now (scope_of scope.now) (tree_of first.now) f ⊎ FormFails (first_place (tree_of first.now)) f) c.fault) }
+    ensures fault { IfOk result (λ c. IsLeast (λ f. Fails text.now (scope_of scope.now) (tree_of first.now) f ⊎ FormFails (first_pos (tree_of first.now)) f) c.fault) }
 {
     let checked = check_expr(alloc, text, scope, first)?;
     Ok(Checked {
@@ -300,7 +307,7 @@ fn check_left_out(
     })
 }
 
-/// What is called, where `...` may stand behind the arguments.
+/// What is called, where `...` may stand after the arguments.
 #[cycle(expressions)]
 fn check_callee(
     alloc: Global,
@@ -333,7 +340,7 @@ fn check_callee(
 /// An expression with one value.
 #[cycle(expressions)]
 pub fn check_single(alloc: Global, text: &[u8], scope: &Scope, e: &Expr) -> Result<Single, NoMemory>
-    ensures pos { IfOk result (λ c. c.pos ≡ first_place (tree_of e.now)) }
+    ensures pos { IfOk result (λ c. c.pos ≡ first_pos (tree_of e.now)) }
     ensures operand { IfOk result (λ c. option_map operand_of c.operand ≡ operand_in (gives text.now (scope_of scope.now) (tree_of e.now))) }
     ensures fault { IfOk result (λ c. IsLeast (FailsAsOperand text.now (scope_of scope.now) (tree_of e.now)) c.fault) }
 {

@@ -10,9 +10,9 @@ ghost use Rattle.expression_types.specs.Faults.{range_fault, single_fault, part_
 ghost use Rattle.expression_types.specs.Passing.{part_view, gives_of};
 
 use base::{FuncId, Pos, TypeId, ValueType};
-use operators::{Operand, as_value, type_of};
+use operators::{Operand, as_value, constant_range_fault, type_of};
+use type_faults::{Fault, FaultKind};
 use typed::{BOOL, Expr, INT, Values};
-use value_types::{Fault, FaultKind, constant_range_fault};
 
 /// An operand of `print`, `println` or `panic`.
 #[derive(Drop)]
@@ -65,7 +65,7 @@ pub enum Callee {
     Conversion,
     /// A value that is no function.
     NoFunction,
-    /// What takes no `...`, which stands behind the arguments.
+    /// What takes no `...`, which stands after the arguments.
     NoSpread,
     /// The same, where the arguments may be strings.
     NoTextSpread,

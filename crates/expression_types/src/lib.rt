@@ -2,7 +2,7 @@
 //!
 //! An expression gives a constant, whose value is exact and which has a type or none, or a value of a type, or all the results of a call;
 //! an untyped constant takes its type where a value is wanted, and a number where an int can hold it. A form that is left out of the
-//! profile is refused at its first byte. All rules are looked at, also behind one that failed, but never one whose operands gave nothing; of
+//! profile is refused at its first byte. All rules are looked at, also after one that failed, but never one whose operands gave nothing; of
 //! those that fail the one that stands first is reported. `specs/Typing` says what an expression gives in a scope, `specs/Faults` which rules
 //! fail in it, and where. Neither side is made from the other; the proofs show that exactly one of them speaks, where each name has a type.
 #![tactic(auto)]

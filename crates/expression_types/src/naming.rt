@@ -3,7 +3,7 @@
 ghost use Rattle.std.specs.Prelude.{◌≡◌};
 ghost use Rattle.std.specs.Option.{option_map};
 ghost use Rattle.syntax.specs.Expressions.{name as name_of};
-ghost use Rattle.value_types.specs.Least.{IsLeast};
+ghost use Rattle.type_faults.specs.Least.{IsLeast};
 ghost use Rattle.operators.specs.Passing.{operand_of};
 ghost use Rattle.names.specs.Scope.{scope_of};
 ghost use Rattle.expression_types.specs.Typing.{one, global_read, name_operand, gives};
@@ -12,12 +12,13 @@ ghost use Rattle.expression_types.specs.Passing.{gives_of};
 
 use crate::gives::Gives;
 use base::Pos;
-use names::{Declared, GlobalId, Scope, declaration, fixed, spelled};
+use constants::{Constant, Fixed, constant_type, untyped};
+use names::{Declared, GlobalId, Scope, spelled};
 use operators::Operand;
 use std::alloc::Global;
 use syntax::Name;
+use type_faults::{Fault, FaultKind};
 use typed::{Expr, Place};
-use value_types::{Constant, Fault, FaultKind, Fixed, constant_type, untyped};
 
 /// The read of a package variable, of which this is known.
 #[tactic(auto, using(typed::proofs::Rows::expr_rows))]
@@ -39,9 +40,9 @@ fn value_of(alloc: Global, scope: &Scope, declared: Option<Declared>) -> Option<
             value_type,
             Expr::Read(Place::Local(site, Vec::new(alloc))),
         ),
-        Some(Declared::Constant(number)) => Operand::Constant(fixed(scope, number)?),
+        Some(Declared::Constant(number)) => Operand::Constant(scope.fixed(number)?),
         Some(Declared::Global(number, global)) => {
-            global_read(alloc, global, fixed(scope, number)?)
+            global_read(alloc, global, scope.fixed(number)?)
         }
         Some(Declared::Truth(truth)) => Operand::Constant(untyped(Constant::Truth(truth))),
         _ => return None,
@@ -53,7 +54,7 @@ fn value_of(alloc: Global, scope: &Scope, declared: Option<Declared>) -> Option<
 pub fn name_value(alloc: Global, text: &[u8], scope: &Scope, name: Name) -> Option<Gives>
     ensures { option_map gives_of result ≡ gives text.now (scope_of scope.now) (name_of name) }
 {
-    value_of(alloc, scope, declaration(scope, spelled(text, name)))
+    value_of(alloc, scope, scope.declaration(spelled(text, name)))
 }
 
 fn declared_fault(declared: Option<Declared>, pos: Pos) -> Option<Fault>
@@ -69,7 +70,7 @@ fn declared_fault(declared: Option<Declared>, pos: Pos) -> Option<Fault>
             | Declared::Truth(_),
         ) => return None,
         Some(Declared::TypeName | Declared::Type(_) | Declared::Print(_) | Declared::Panic) =>
-            FaultKind::BadOperand,
+            FaultKind::Unfit,
         Some(
             Declared::Function(_)
             | Declared::External(_, _)
@@ -81,9 +82,9 @@ fn declared_fault(declared: Option<Declared>, pos: Pos) -> Option<Fault>
 }
 
 /// The fault of a name as a value.
-#[tactic(auto, using(value_types::proofs::Leasts::leaf))]
+#[tactic(auto, using(type_faults::proofs::Leasts::leaf))]
 pub fn name_fault(text: &[u8], scope: &Scope, name: Name) -> Option<Fault>
     ensures { IsLeast (Fails text.now (scope_of scope.now) (name_of name)) result }
 {
-    declared_fault(declaration(scope, spelled(text, name)), name.pos)
+    declared_fault(scope.declaration(spelled(text, name)), name.pos)
 }

@@ -3,11 +3,11 @@
 ghost use Rattle.std.specs.Prelude.{◌≡◌, ◌⊎◌, Option, Some, None, IfOk, map, take};
 ghost use Rattle.std.specs.Option.{option_map};
 ghost use Rattle.typed.specs.View.{ex_of, exs_of_values};
-ghost use Rattle.value_types.specs.Least.{IsLeast};
-ghost use Rattle.value_types.specs.Faults.{fault as fault_at};
+ghost use Rattle.type_faults.specs.Least.{IsLeast};
+ghost use Rattle.type_faults.specs.Faults.{fault as fault_at};
 ghost use Rattle.expression_types.specs.Typing.{values, parts, are_single, are_parts, are_shown, part_count, single_types, many_in, many, count, value_types, accepts, types_agree, operand_agrees, each, asked, fits, all_values, taken, taken_types};
 ghost use Rattle.expression_types.specs.Faults.{type_fault, SinglesFail, PartsFail, ValuesFail, RangeFails, TypesFail, MismatchFails, PlacedFail, TakeFails, count_fault, shown_fault};
-ghost use Rattle.value_types.specs.Given.{with_last};
+ghost use Rattle.type_faults.specs.Given.{with_last};
 ghost use Rattle.expression_types.specs.Passing.{part_view, gives_of, seens, results_of};
 
 use crate::gives::{
@@ -17,8 +17,8 @@ use crate::gives::{
 use base::{NoMemory, Pos, ValueType, same_type};
 use operators::value_of;
 use std::alloc::Global;
+use type_faults::{Fault, FaultKind, lesser};
 use typed::{Expr, Values};
-use value_types::{Fault, FaultKind, lesser};
 
 /// The fault of expressions each of which is to have one value.
 pub fn singles_fault(items: &[Item]) -> Option<Fault>
@@ -264,8 +264,8 @@ fn mismatch_fault(places: &[Option<ValueType>], items: &[Item]) -> Option<Fault>
     }
 }
 
-/// The first so many expressions.
-#[tactic(auto, using(value_types::proofs::Lists::take_all))]
+/// The first `wanted` expressions.
+#[tactic(auto, using(type_faults::proofs::Lists::take_all))]
 fn first(items: &[Item], wanted: usize) -> &[Item]
     ensures { result.now ≡ take wanted items.now }
 {

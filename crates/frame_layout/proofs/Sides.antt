@@ -1,11 +1,11 @@
--- What places and left sides want by themselves, and with what comes with them or stands behind them.
+-- What places and left sides want by themselves, and with what comes with them or stands after them.
 use Rattle.std.proofs.Common.{◌≡◌, ℕ, ◌+◌, ◌<◌, List, [], ◌∷◌, ◌++◌, length, get_or, take, map, max, refl, ap, ◌∙◌, add-one, arith}
 use Rattle.std.proofs.Math.Seq.{take-suc}
 use Rattle.std.proofs.lemmas.List.{map-append}
-use Rattle.typed.specs.Syntax.{Steps, here, inner, at_index, Pl, local, global, Left, blank, new, to, Program}
+use Rattle.typed_syntax.specs.Syntax.{Steps, here, inner, at_index, Pl, local, global, Left, blank, new, to, Program}
 use Rattle.typed.specs.declared.stmt.Left.{Left as LeftData}
 use Rattle.typed.specs.View.{left_of}
-use Rattle.typed.specs.Frames.{steps_reach, place_reach, lefts_reach, lefts_need, place_need}
+use Rattle.typed_syntax.specs.Frames.{steps_reach, place_reach, lefts_reach, lefts_need, place_need}
 
 pub steps_others : (p : Program) (steps : Steps) (others : ℕ) → steps_reach p steps others ≡ max (steps_reach p steps 0) others
 steps_others p here others = omega arith
@@ -28,7 +28,7 @@ lefts_first p blank ls others = omega arith
 lefts_first p (new site) ls others = omega arith
 lefts_first p (to q) ls others = place_others p q (lefts_reach p ls others)
 
--- each of left sides is worked out in front of what is behind it
+-- each of left sides is worked out in front of what is after it
 lefts_last : (p : Program) (ls : List Left) (l : Left) (behind : ℕ) → lefts_need p (ls ++ l ∷ []) behind ≡ lefts_need p ls (lefts_need p (l ∷ []) behind)
 lefts_last p [] l behind = refl
 lefts_last p (blank ∷ ls) l behind = lefts_last p ls l behind

@@ -1,22 +1,22 @@
 -- The words of sites side by side, and of the parts of whole numbers.
 use Rattle.std.proofs.Common.{◌≡◌, ℕ, zero, suc, ◌+◌, ◌-◌, ◌<◌, List, [], ◌∷◌, get_or, refl, ap, ◌∙◌, arith}
-use Rattle.value_trees.specs.Types.{ValueType, ints, width}
-use Rattle.value_trees.specs.Paths.{type_at}
-use Rattle.typed.specs.Frames.{words_between}
+use Rattle.typed_syntax.specs.Types.{TypeTree, ints, width}
+use Rattle.typed_syntax.specs.Paths.{type_at}
+use Rattle.typed_syntax.specs.Frames.{words_between}
 
 -- whole numbers have no parts, and what is not there counts as one
 pub ints_alone : (path : List ℕ) → type_at ints path ≡ ints
 ints_alone [] = refl
 ints_alone (i ∷ path) = ints_alone path
 
-between_next : (sites : List ValueType) (from count : ℕ) → 0 < count → words_between sites from count ≡ width (get_or sites from ints) + words_between sites (from + 1) (count - 1)
+between_next : (sites : List TypeTree) (from count : ℕ) → 0 < count → words_between sites from count ≡ width (get_or sites from ints) + words_between sites (from + 1) (count - 1)
 between_next sites from zero l = absurd (omega (arith, l))
 between_next sites from (suc count) l =
     let n : count ≡ suc count - 1 = omega arith in let m : suc from ≡ from + 1 = omega arith in
     ap (λ k. width (get_or sites from ints) + words_between sites k count) m ∙ ap (λ k. width (get_or sites from ints) + words_between sites (from + 1) k) n
 
--- the next of some sites, and those behind it
-pub between_more : (sites : List ValueType) (first i count : ℕ) → i < count
+-- the next of some sites, and those after it
+pub between_more : (sites : List TypeTree) (first i count : ℕ) → i < count
     → words_between sites (first + i) (count - i) ≡ width (get_or sites (first + i) ints) + words_between sites (first + (i + 1)) (count - (i + 1))
 between_more sites first i count l =
     let n : count - i - 1 ≡ count - (i + 1) = omega arith in let m : first + i + 1 ≡ first + (i + 1) = omega arith in

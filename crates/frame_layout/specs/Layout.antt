@@ -2,17 +2,17 @@
 use Rattle.std.specs.Prelude.{◌≡◌, ℕ, nat_lt, if◌then◌else◌, List, [], ◌∷◌, Option, Some, None, map}
 use Rattle.base.specs.declared.pos.Pos.{Pos}
 use Rattle.base.specs.declared.ids.TypeId.{TypeId}
-use Rattle.value_trees.specs.Types.{ValueType, ints}
-use Rattle.typed.specs.Syntax.{Func, Program, type_named}
+use Rattle.typed_syntax.specs.Types.{TypeTree, ints}
+use Rattle.typed_syntax.specs.Syntax.{Func, Program, type_named}
 use Rattle.typed.specs.View.{func_of}
-use Rattle.typed.specs.Frames.{outgoing_of, temps_of, frame_of}
+use Rattle.typed_syntax.specs.Frames.{outgoing_of, temps_of, frame_of}
 use Rattle.typed.specs.declared.program.Func.{Func as FuncData}
 use Rattle.frame_layout.specs.declared.layout.FrameLayout.{FrameLayout}
 use Rattle.frame_layout.specs.declared.fault.LayoutFault.{LayoutFault}
 use Rattle.frame_layout.specs.declared.fault.LayoutFault.TheVariants as fault
 
 -- the type of a number, where there is one; what has no type counts as a whole number
-abbrev pub type_or_ints : Program → Option TypeId → ValueType
+abbrev pub type_or_ints : Program → Option TypeId → TypeTree
 type_or_ints p None = ints
 type_or_ints p (Some id) = type_named p id.0
 

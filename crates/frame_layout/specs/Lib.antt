@@ -1,1 +1,2 @@
+-- The contract: `layouts`, and `first_too_large`, by which a program is refused, with `IsTooLarge`. The rest are their parts.
 pub mod Layout

@@ -46,10 +46,10 @@ impl Layouts {
     }
 }
 
-/// The most words of a frame.
-const MOST_WORDS: u64 = 65_535;
+/// The words of the largest frame: its slots are numbers of 16 bits.
+const LARGEST_FRAME: u64 = 65_535;
 
-/// The words of a frame with so much outgoing area, so many temps and so many words of sites.
+/// The words of a frame with these words of outgoing area, temps and sites.
 fn words_of(outgoing: u64, temps: u64, sites: u64) -> Result<u64, NoMemory>
     ensures { IfOk result (λ n. n ≡ 2 + sites + temps + outgoing) }
 {
@@ -68,7 +68,7 @@ fn frame_layout(program: &Program, func: &Func) -> Result<FrameLayout, LayoutFau
     let temps = body_temps(program, &func.named, &func.body)?;
     let sites = sites_words(program, func.first_site, func.sites);
     let words = words_of(outgoing, temps, sites)?;
-    if words > MOST_WORDS {
+    if words > LARGEST_FRAME {
         return Err(LayoutFault::FrameTooLarge {
             pos: func.pos,
             words,

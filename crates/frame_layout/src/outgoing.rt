@@ -1,9 +1,9 @@
 //! The words that calls want in the outgoing area. A number that passes 64 bits counts as want of memory.
 
 ghost use Rattle.std.specs.Prelude.{◌≡◌, ◌+◌, [], ◌∷◌, max, map, IfOk};
-ghost use Rattle.typed.specs.Syntax.{arguments_of as arguments, results_of as results};
+ghost use Rattle.typed_syntax.specs.Syntax.{arguments_of as arguments, results_of as results};
 ghost use Rattle.typed.specs.View.{ex_of, exs_of, exs_of_values, place_of, steps_of, elements_of, left_of, piece_of, test_of, st_of, sts_of, program_of};
-ghost use Rattle.typed.specs.Frames.{reach, reach_all, place_reach as reach_place, steps_reach as reach_steps, elements_reach as reach_elements, lefts_reach as reach_lefts, piece_reach as reach_in, reach_pieces, test_reach, st_reach, sts_reach};
+ghost use Rattle.typed_syntax.specs.Frames.{reach, reach_all, place_reach as reach_place, steps_reach as reach_steps, elements_reach as reach_elements, lefts_reach as reach_lefts, piece_reach as reach_in, reach_pieces, test_reach, st_reach, sts_reach};
 
 use crate::words::{arguments_of, results_of};
 use base::{FuncId, NoMemory};
@@ -30,7 +30,7 @@ pub fn expr_reach(program: &Program, e: &Expr) -> Result<u64, NoMemory>
             let a: &Expr = a;
             expr_reach(program, a)
         }
-        Expr::Binary(_, _, a, b) | Expr::Both(a, b) | Expr::Either(a, b) => {
+        Expr::Binary(_, _, a, b) | Expr::LogicalAnd(a, b) | Expr::LogicalOr(a, b) => {
             let a: &Expr = a;
             let b: &Expr = b;
             let first = expr_reach(program, a)?;
@@ -191,7 +191,7 @@ fn update_reach(program: &Program, place: &Place, e: &Expr) -> Result<u64, NoMem
     Ok(indices.max(operand))
 }
 
-/// The most words that a call wants inside of the left sides of a `range` whose body's calls want so many.
+/// The most words that a call wants inside of the left sides of a `range` whose body's calls want `body`.
 fn round_reach(program: &Program, key: &Left, value: &Left, body: u64) -> Result<u64, NoMemory>
     ensures { IfOk result (λ n. n ≡ reach_lefts (program_of program.now) (left_of key.now ∷ left_of value.now ∷ []) body) }
 {
@@ -200,7 +200,7 @@ fn round_reach(program: &Program, key: &Left, value: &Left, body: u64) -> Result
     Ok(first.max(second.max(body)))
 }
 
-/// The most words that a call wants inside of a `range` over a value whose body's calls want so many.
+/// The most words that a call wants inside of a `range` over a value whose body's calls want `body`.
 fn range_reach(
     program: &Program,
     e: &Expr,
@@ -225,7 +225,7 @@ pub fn stmt_reach(program: &Program, s: &Stmt) -> Result<u64, NoMemory>
         Stmt::Declare(_) | Stmt::Break | Stmt::Continue => Ok(0),
         Stmt::Assign(lefts, values) => assign_reach(program, lefts, values),
         Stmt::Update(_, place, _, e) => update_reach(program, place, e),
-        Stmt::Bump(place, _) => place_reach(program, place),
+        Stmt::Bump(_, place, _) => place_reach(program, place),
         Stmt::Discard(values) | Stmt::Return(values) => values_reach(program, values),
         Stmt::Block(ss) => body_reach(program, ss),
         Stmt::If(e, a, b) => {
@@ -234,7 +234,7 @@ pub fn stmt_reach(program: &Program, s: &Stmt) -> Result<u64, NoMemory>
             let second = body_reach(program, b)?;
             Ok(test.max(first.max(second)))
         }
-        Stmt::Loop(_, test, post, body) => {
+        Stmt::For(_, test, post, body) => {
             let header = test_words(program, test)?;
             let behind = body_reach(program, post)?;
             let round = body_reach(program, body)?;

@@ -1,10 +1,10 @@
 //! The temps that values want. A number of temps that passes 64 bits counts as want of memory.
 
 ghost use Rattle.std.specs.Prelude.{◌≡◌, ◌≤◌, ◌+◌, [], ◌∷◌, max, map, if◌then◌else◌, IfOk};
-ghost use Rattle.value_trees.specs.Types.{width, part_offset};
-ghost use Rattle.typed.specs.Syntax.{all_wide, ascend, type_named};
+ghost use Rattle.typed_syntax.specs.Types.{width, part_offset};
+ghost use Rattle.typed_syntax.specs.Syntax.{all_wide, ascend, type_named};
 ghost use Rattle.typed.specs.View.{ex_of, exs_of, exs_of_values, place_of, steps_of, elements_of, piece_of, test_of, site_numbers, left_of, st_of, sts_of, program_of};
-ghost use Rattle.typed.specs.Frames.{far, steps_far, left_far, lefts_far, behind_values, need, need_all, place_need, steps_need, elements_need, lefts_need, piece_need, need_pieces, test_need, key_need, pair_need, element_words as words_of_elements, st_need, sts_need, widest as widest_of};
+ghost use Rattle.typed_syntax.specs.Frames.{far, steps_far, left_far, lefts_far, behind_values, need, need_all, place_need, steps_need, elements_need, lefts_need, piece_need, need_pieces, test_need, key_need, pair_need, element_words as words_of_elements, st_need, sts_need, widest as widest_of};
 
 use crate::words::{
     element_words, expr_words, place_words, results_of, type_words, values_words, widest,
@@ -69,7 +69,7 @@ fn is_ascending(elements: &[Element]) -> bool
 }
 
 /// The words in front of those in which an element of a literal is worked out: its place in the literal, where the elements come in order, and
-/// else behind the literal.
+/// else after the literal.
 fn words_in_front(program: &Program, type_id: TypeId, in_order: bool, number: u32) -> u64
     ensures { result ≡ (if in_order then part_offset (type_named (program_of program.now) type_id.0) number else width (type_named (program_of program.now) type_id.0)) }
 {
@@ -105,7 +105,7 @@ pub fn expr_temps(program: &Program, e: &Expr) -> Result<u64, NoMemory>
             let beside = words.checked_add(second).ok_or(NoMemory)?;
             Ok(first.max(beside))
         }
-        Expr::Both(a, b) | Expr::Either(a, b) => {
+        Expr::LogicalAnd(a, b) | Expr::LogicalOr(a, b) => {
             let a: &Expr = a;
             let b: &Expr = b;
             let first = expr_temps(program, a)?;
@@ -124,7 +124,7 @@ pub fn expr_temps(program: &Program, e: &Expr) -> Result<u64, NoMemory>
     }
 }
 
-/// The temps of a place's operands, with so many behind them.
+/// The temps of a place's operands, with `behind` after them.
 #[cycle(values)]
 #[tactic(auto, using(typed::proofs::Rows::expr_rows))]
 fn place_temps(program: &Program, place: &Place, behind: u64) -> Result<u64, NoMemory>
@@ -136,7 +136,7 @@ fn place_temps(program: &Program, place: &Place, behind: u64) -> Result<u64, NoM
     }
 }
 
-/// The temps of the indices of steps, one behind the other, with so many behind them.
+/// The temps of the indices of steps, one after the other, with `behind` after them.
 #[cycle(values)]
 fn steps_temps(program: &Program, steps: &[Step], behind: u64) -> Result<u64, NoMemory>
     ensures { IfOk result (λ n. n ≡ steps_need (program_of program.now) (steps_of steps.now) behind) }
@@ -255,7 +255,7 @@ fn header_temps(program: &Program, test: &Option<Expr>, sites: &[SiteId]) -> Res
     Ok(temps.max(widest(program, sites)))
 }
 
-/// The temps of the index that a left side gets: behind the operands of a place it, and the place's address, if there is one.
+/// The temps of the index that a left side gets: after the operands of a place it, and the place's address, if there is one.
 fn key_temps(program: &Program, key: &Left) -> Result<u64, NoMemory>
     ensures { IfOk result (λ n. n ≡ key_need (program_of program.now) (left_of key.now)) }
 {
@@ -290,7 +290,7 @@ fn lefts_address(lefts: &[Left]) -> u64
     most
 }
 
-/// The temps of a left side's operands, with so many behind them.
+/// The temps of a left side's operands, with `behind` after them.
 fn left_temps(program: &Program, left: &Left, behind: u64) -> Result<u64, NoMemory>
     ensures { IfOk result (λ n. n ≡ lefts_need (program_of program.now) (left_of left.now ∷ []) behind) }
 {
@@ -301,7 +301,7 @@ fn left_temps(program: &Program, left: &Left, behind: u64) -> Result<u64, NoMemo
     }
 }
 
-/// The temps of the operands of left sides, one behind the other, with so many behind them.
+/// The temps of the operands of left sides, one after the other, with `behind` after them.
 fn lefts_temps(program: &Program, lefts: &[Left], behind: u64) -> Result<u64, NoMemory>
     ensures { IfOk result (λ n. n ≡ lefts_need (program_of program.now) (map left_of lefts.now) behind) }
 {
@@ -312,7 +312,7 @@ fn lefts_temps(program: &Program, lefts: &[Left], behind: u64) -> Result<u64, No
     Ok(temps)
 }
 
-/// So many words of values, and behind them an address, if there is one.
+/// So many words of values, and after them an address, if there is one.
 fn words_with_address(values: u64, address: u64) -> Result<u64, NoMemory>
     ensures { IfOk result (λ n. n ≡ behind_values values address) }
 {
@@ -322,8 +322,8 @@ fn words_with_address(values: u64, address: u64) -> Result<u64, NoMemory>
     values.checked_add(address).ok_or(NoMemory)
 }
 
-/// The temps of an assignment: behind the operands of its left sides those of its values, and where a left side has an address, the values
-/// and this behind them.
+/// The temps of an assignment: after the operands of its left sides those of its values, and where a left side has an address, the values
+/// and this after them.
 fn assign_temps(program: &Program, lefts: &[Left], values: &Values) -> Result<u64, NoMemory>
     ensures { IfOk result (λ n. n ≡ lefts_need (program_of program.now) (map left_of lefts.now)
         (max (need_all (program_of program.now) (exs_of_values values.now)) (behind_values (all_wide (program_of program.now) (exs_of_values values.now)) (lefts_far (map left_of lefts.now))))) }
@@ -334,7 +334,7 @@ fn assign_temps(program: &Program, lefts: &[Left], values: &Values) -> Result<u6
     lefts_temps(program, lefts, temps.max(beside))
 }
 
-/// The temps of an assignment with an operator: behind the place's operands an address, if there is one, the value, and those of the
+/// The temps of an assignment with an operator: after the place's operands an address, if there is one, the value, and those of the
 /// operand.
 fn update_temps(program: &Program, place: &Place, e: &Expr) -> Result<u64, NoMemory>
     ensures { IfOk result (λ n. n ≡ place_need (program_of program.now) (place_of place.now) (far (place_of place.now) + 1 + need (program_of program.now) (ex_of e.now))) }
@@ -345,14 +345,15 @@ fn update_temps(program: &Program, place: &Place, e: &Expr) -> Result<u64, NoMem
     place_temps(program, place, behind)
 }
 
-/// The temps of `++` and `--`: behind the place's operands an address, if there is one, the value, and 1.
+/// The temps of `++` and `--`: after the place's operands an address, if there is one, the value, and 1.
 fn bump_temps(program: &Program, place: &Place) -> Result<u64, NoMemory>
     ensures { IfOk result (λ n. n ≡ place_need (program_of program.now) (place_of place.now) (far (place_of place.now) + 2)) }
 {
     place_temps(program, place, address_temps(place) + 2)
 }
 
-/// The temps of a `range` that keeps so many, where what it goes over, what a round gives to left sides, and the body want so many.
+/// The temps of a `range` that keeps `kept`, where what it goes over wants `operand`, what a round gives to left sides `round`, and
+/// the body `body`.
 fn range_temps(operand: u64, kept: u64, round: u64, body: u64) -> Result<u64, NoMemory>
     ensures { IfOk result (λ n. n ≡ max operand (max (kept + 2) (max (kept + round) (kept + body)))) }
 {
@@ -361,7 +362,7 @@ fn range_temps(operand: u64, kept: u64, round: u64, body: u64) -> Result<u64, No
     Ok(operand.max(all))
 }
 
-/// The temps of a `range` over a number whose body wants so many.
+/// The temps of a `range` over a number whose body wants `body`.
 fn count_temps(program: &Program, e: &Expr, key: &Left, body: u64) -> Result<u64, NoMemory>
     ensures { IfOk result (λ n. n ≡ max (need (program_of program.now) (ex_of e.now)) (max (2 + 2) (max (2 + key_need (program_of program.now) (left_of key.now)) (2 + body)))) }
 {
@@ -370,7 +371,7 @@ fn count_temps(program: &Program, e: &Expr, key: &Left, body: u64) -> Result<u64
     range_temps(operand, KEPT, round, body)
 }
 
-/// The temps of a `range` over the indices of an array whose body wants so many.
+/// The temps of a `range` over the indices of an array whose body wants `body`.
 fn indices_temps(program: &Program, key: &Left, body: u64) -> Result<u64, NoMemory>
     ensures { IfOk result (λ n. n ≡ max 0 (max (1 + 2) (max (1 + key_need (program_of program.now) (left_of key.now)) (1 + body)))) }
 {
@@ -378,7 +379,7 @@ fn indices_temps(program: &Program, key: &Left, body: u64) -> Result<u64, NoMemo
     range_temps(0, KEPT_OF_ARRAY, round, body)
 }
 
-/// The temps of two left sides that get so many words.
+/// The temps of two left sides that get `words` words.
 #[tactic(auto, using(crate::proofs::Sides::pair_last))]
 fn pair_temps(program: &Program, key: &Left, value: &Left, words: u64) -> Result<u64, NoMemory>
     ensures { IfOk result (λ n. n ≡ pair_need (program_of program.now) (left_of key.now ∷ left_of value.now ∷ []) words) }
@@ -389,7 +390,7 @@ fn pair_temps(program: &Program, key: &Left, value: &Left, words: u64) -> Result
     left_temps(program, key, inner)
 }
 
-/// The temps of a `range` over the elements of a copy, in the variable of a site, whose body wants so many.
+/// The temps of a `range` over the elements of a copy, in the variable of a site, whose body wants `body`.
 fn copy_temps(
     program: &Program,
     site: SiteId,
@@ -425,7 +426,7 @@ pub fn stmt_temps(program: &Program, named: &[SiteId], s: &Stmt) -> Result<u64, 
         Stmt::Declare(_) | Stmt::Break | Stmt::Continue => Ok(0),
         Stmt::Assign(lefts, values) => assign_temps(program, lefts, values),
         Stmt::Update(_, place, _, e) => update_temps(program, place, e),
-        Stmt::Bump(place, _) => bump_temps(program, place),
+        Stmt::Bump(_, place, _) => bump_temps(program, place),
         Stmt::Discard(values) => values_temps(program, values),
         Stmt::Block(ss) => body_temps(program, named, ss),
         Stmt::If(e, a, b) => {
@@ -434,7 +435,7 @@ pub fn stmt_temps(program: &Program, named: &[SiteId], s: &Stmt) -> Result<u64, 
             let second = body_temps(program, named, b)?;
             Ok(test.max(first.max(second)))
         }
-        Stmt::Loop(sites, test, post, body) => {
+        Stmt::For(sites, test, post, body) => {
             let header = header_temps(program, test, sites)?;
             let behind = body_temps(program, named, post)?;
             let round = body_temps(program, named, body)?;

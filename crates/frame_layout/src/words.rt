@@ -1,10 +1,10 @@
 //! The words of types, and of what is typed by them. A number that passes 64 bits counts as want of memory.
 
 ghost use Rattle.std.specs.Prelude.{◌≡◌, ◌-◌, ◌≤◌, ◌<◌, ◌*◌, map, IfOk};
-ghost use Rattle.value_trees.specs.Types.{width, part_type};
-ghost use Rattle.value_trees.specs.Paths.{type_at};
-ghost use Rattle.typed.specs.Frames.{element_words as words_of_elements, widest as widest_of, words_between};
-ghost use Rattle.typed.specs.Syntax.{all_width, all_wide, arguments_of as arguments, global_site, path_of, place_type, place_width, results_of as results, site_type, site_width, type_in, type_named, wide};
+ghost use Rattle.typed_syntax.specs.Types.{width, part_type};
+ghost use Rattle.typed_syntax.specs.Paths.{type_at};
+ghost use Rattle.typed_syntax.specs.Frames.{element_words as words_of_elements, widest as widest_of, words_between};
+ghost use Rattle.typed_syntax.specs.Syntax.{all_width, all_wide, arguments_of as arguments, global_site, path_of, place_type, place_width, results_of as results, site_type, site_width, type_in, type_named, wide};
 ghost use Rattle.typed.specs.View.{ex_of, exs_of, exs_of_values, place_of, program_of, site_numbers, steps_of};
 ghost use Rattle.typed.specs.Trees.{trees};
 ghost use Rattle.frame_layout.specs.Layout.{type_or_ints};
@@ -161,8 +161,8 @@ pub fn expr_words(program: &Program, e: &Expr) -> Result<u64, NoMemory>
         Expr::Constant(_)
         | Expr::Unary(_, _)
         | Expr::Binary(_, _, _, _)
-        | Expr::Both(_, _)
-        | Expr::Either(_, _) => Ok(1),
+        | Expr::LogicalAnd(_, _)
+        | Expr::LogicalOr(_, _) => Ok(1),
     }
 }
 
@@ -189,7 +189,7 @@ pub fn values_words(program: &Program, values: &Values) -> Result<u64, NoMemory>
     }
 }
 
-/// The words of so many sites from one on.
+/// The words of `count` sites from `first` on.
 pub fn sites_words(program: &Program, first: u32, count: u32) -> u64
     ensures { result ≡ words_between (program_of program.now).sites first count }
 {

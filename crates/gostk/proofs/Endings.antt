@@ -2,15 +2,15 @@
 use Rattle.std.proofs.Common.{◌≡◌, refl, ℕ, zero, suc, ◌+◌, ◌≤◌, ℤ, pos, negsuc, Bool, true, false, List, [], ◌∷◌, Option, Some, None, Result, Ok, Err, subst, arith, slice_get, nat_le, if◌then◌else◌, length, ◌-◌}
 use Rattle.std.specs.Prelude.{⊤, nat_lt}
 use Rattle.std.proofs.lemmas.Bool.{ltb-true}
-use Rattle.base.specs.declared.pos.Pos.{Pos}
-use Rattle.value_trees.specs.Value.{Value, int}
-use Rattle.typed.specs.Syntax.{Ex, Exs, Pl, Steps, Elements, Left, Piece, Over, St, Sts, Func, Program, constant, read, unary, binary, both, either, call, part_of, literal, no_elements, element, none, more, results, asked, local, global, here, inner, at_index, blank, new, to, text, shown, over_int, over_length, over_copy, declare, assign, update, bump, discard, block, choose, loop, range, break_off, go_on, give_back, print, raise, quit, done, next}
+use Rattle.typed_syntax.specs.Positions.{Position}
+use Rattle.typed_syntax.specs.Value.{Value, int}
+use Rattle.typed_syntax.specs.Syntax.{Ex, Exs, Pl, Steps, Elements, Left, Piece, Over, St, Sts, Func, Program, constant, read, unary, binary, logical_and, logical_or, call, part_of, literal, no_elements, element, none, more, results, read_int, local, global, here, inner, at_index, blank, new, to, text, shown, over_int, over_length, over_copy, declare, assign, update, bump, discard, block, if_stmt, for_stmt, range, break_stmt, continue_stmt, return_stmt, print, panic, exit, done, next}
 use Rattle.simulation.specs.Outcome as Run
 use Rattle.simulation.specs.Outcome.{Outcome, Gives, Ends, Unfinished, upto, ending_in}
 use Rattle.meaning.specs.Trace.{World, Call, Return, Born, Read, Write, Print, Fault, exit_code, Ending, Turns, Exit, Panic, StackLimit, HeapLimit, Trace, Turn, Note, Seen, End, Cut, Asked}
 use Rattle.meaning.specs.Store.{read_at, written}
 use Rattle.meaning.specs.Operators.{unary_of, binary_of}
-use Rattle.meaning.specs.Meaning.{Go, Then, Env, Ways, Calls, home, read_part, stop, write_part, no_pos, Item, Setting, counted, count_of, int_of, quit_with, give, or_panic, holding, holding_all, when, is_true, Step, fixed, worked, element_of, Aim, Spot, settle_steps, settle, walk, aim, ev, fill, evs, Landing, nowhere, birth, on, landing_values, ready, ready_all, land, land_all, shown_bytes, emit_more, emit_plain, emit, pieces, test_of, renew, rounds, to_next, to_next_count, in_loop, outside, begin_range, index_round, element_round, range_round, exec, exec_all, bear_params, bear_zeros, write_results, read_results, leave, leave_with, run_body, call_at, bear_globals, setting_of, at_top, beginning, trace}
+use Rattle.meaning.specs.Meaning.{Go, Then, Env, Ways, Calls, home, read_part, stop, write_part, Item, Setting, counted, count_of, int_of, quit_with, give, or_panic, holding, holding_all, when, is_true, Step, fixed, worked, element_of, Aim, Spot, settle_steps, settle, walk, aim, ev, fill, evs, Landing, nowhere, birth, on, landing_values, ready, ready_all, land, land_all, shown_bytes, emit_more, emit_plain, emit, pieces, test_of, renew, rounds, to_next, to_next_count, in_loop, outside, begin_range, index_round, element_round, range_round, exec, exec_all, bear_params, bear_zeros, write_results, read_results, leave, leave_with, run_body, call_at, bear_globals, setting_of, at_top, beginning, trace}
 use Rattle.meaning.specs.Output.{Limits, Sight, out, source, used_by, tail_of}
 
 abbrev IsGood : Ending → Type 0
@@ -38,7 +38,7 @@ record GoodWays (ws : Ways) : Type 0 where
   broken : (env : Env) → Good (ws.broken env)
   continued : (env : Env) → Good (ws.continued env)
   returned : (vs : List Value) (env : Env) → Good (ws.returned vs env)
-  panicked : (at : Pos) (f : Fault) (env : Env) → Good (ws.panicked at f env)
+  panicked : (at : Position) (f : Fault) (env : Env) → Good (ws.panicked at f env)
 
 good_holding : (ws : Ways) (v : Value) → GoodWays ws → GoodWays (holding ws v)
 good_holding ws v s = record { broken = s.broken; continued = s.continued; returned = s.returned; panicked = s.panicked }
@@ -46,7 +46,7 @@ good_holding ws v s = record { broken = s.broken; continued = s.continued; retur
 good_holding_all : (ws : Ways) (vs : List Value) → GoodWays ws → GoodWays (holding_all ws vs)
 good_holding_all ws vs s = record { broken = s.broken; continued = s.continued; returned = s.returned; panicked = s.panicked }
 
-good_or_panic : {A : Type 0} (ws : Ways) (env : Env) (at : Pos) (r : Result A Fault) (k : Then A) → GoodWays ws → GoodThen k → Good (or_panic ws env at r k)
+good_or_panic : {A : Type 0} (ws : Ways) (env : Env) (at : Position) (r : Result A Fault) (k : Then A) → GoodWays ws → GoodThen k → Good (or_panic ws env at r k)
 good_or_panic ws env at (Ok v) k s h = h v
 good_or_panic ws env at (Err f) k s h = s.panicked at f env
 
@@ -83,8 +83,8 @@ module _ (around : Setting) (calls : Calls) (gc : GoodCalls calls) where
     good_ev (unary op e) ws env k s h = good_ev e ws env _ s (λ v w. h (unary_of op v) w)
     good_ev (binary at op a b) ws env k s h =
         good_ev a ws env _ s (λ v. good_ev b (holding ws v) env _ (good_holding ws v s) (λ u w. good_or_panic ws env at (binary_of op v u) (give ws k) s (λ x y. h x y) w))
-    good_ev (both a b) ws env k s h = good_ev a ws env _ s (λ v w. good_when (is_true v) _ _ (good_ev b ws env k s h) (λ w1. h _ w1) w)
-    good_ev (either a b) ws env k s h = good_ev a ws env _ s (λ v w. good_when (is_true v) _ _ (λ w1. h _ w1) (good_ev b ws env k s h) w)
+    good_ev (logical_and a b) ws env k s h = good_ev a ws env _ s (λ v w. good_when (is_true v) _ _ (good_ev b ws env k s h) (λ w1. h _ w1) w)
+    good_ev (logical_or a b) ws env k s h = good_ev a ws env _ s (λ v w. good_when (is_true v) _ _ (λ w1. h _ w1) (good_ev b ws env k s h) w)
     good_ev (call f es) ws env k s h = good_evs es ws env _ s (λ vs w. gc.by f vs ws env _ s (λ rs w1. h _ w1) w)
     good_ev (part_of t i e) ws env k s h = good_ev e ws env _ s (λ v w. h _ w)
     good_ev (literal t es) ws env k s h = λ w. good_fill es _ ws env _ s (λ v w1. h v w1) w
@@ -97,7 +97,7 @@ module _ (around : Setting) (calls : Calls) (gc : GoodCalls calls) where
     good_evs none ws env k s h = h []
     good_evs (more e es) ws env k s h = good_ev e ws env _ s (λ v. good_evs es (holding ws v) env _ (good_holding ws v s) (λ vs. h (v ∷ vs)))
     good_evs (results f es) ws env k s h = good_evs es ws env _ s (λ vs w. gc.by f vs ws env _ s (λ rs w1. h rs w1) w)
-    good_evs asked ws env k s h = λ w. h _ _
+    good_evs read_int ws env k s h = λ w. h _ _
 
   good_ready : (l : Left) (ws : Ways) (env : Env) (k : Then Landing) → GoodWays ws → GoodThen k → Good (ready around calls l ws env k)
   good_ready blank ws env k s h = h nowhere
@@ -174,11 +174,11 @@ good_counted (suc fuel) i (suc left) body k b h n env = λ w. b i n env _ (λ n1
 ltb_below : (n : ℕ) → nat_lt n 126 ≡ true → n ≤ 125
 ltb_below n e = let l = ltb-true n 126 e in omega arith
 
-status_of : (n : ℕ) (b : Bool) → nat_lt n 126 ≡ b → (ws : Ways) (env : Env) (at : Pos) → GoodWays ws → Good (when b (stop (Exit n)) (ws.panicked at (exit_code (pos n)) env))
+status_of : (n : ℕ) (b : Bool) → nat_lt n 126 ≡ b → (ws : Ways) (env : Env) (at : Position) → GoodWays ws → Good (when b (stop (Exit n)) (ws.panicked at (exit_code (pos n)) env))
 status_of n true e ws env at s = λ w. ltb_below n e
 status_of n false e ws env at s = s.panicked at _ env
 
-good_quit : (ws : Ways) (env : Env) (at : Pos) (z : ℤ) → GoodWays ws → Good (quit_with ws env at z)
+good_quit : (ws : Ways) (env : Env) (at : Position) (z : ℤ) → GoodWays ws → Good (quit_with ws env at z)
 good_quit ws env at (pos n) s = status_of n (nat_lt n 126) refl ws env at s
 good_quit ws env at (negsuc n) s = s.panicked at _ env
 
@@ -216,9 +216,9 @@ module _ (around : Setting) (calls : Calls) (gc : GoodCalls calls) (fuel : ℕ) 
         good_ready_all around calls gc ls ws env _ s (λ xs ws1 s1. good_evs around calls gc es ws1 env _ s1 (λ vs. good_land_all around xs vs ws env k s h))
     good_exec (discard es) ws env k s h = good_evs around calls gc es ws env _ s (λ vs. h env)
     good_exec (block ss) ws env k s h = good_exec_all ss ws env k s h
-    good_exec (choose e a b) ws env k s h =
+    good_exec (if_stmt e a b) ws env k s h =
         good_ev around calls gc e ws env _ s (λ v w. good_when (is_true v) _ _ (good_exec_all a ws env k s h) (good_exec_all b ws env k s h) w)
-    good_exec (loop sites test post body) ws env k s h =
+    good_exec (for_stmt sites test post body) ws env k s h =
         λ w. good_rounds fuel _ _ _ (λ env1 j g. good_test around calls gc test ws env1 j s g)
         (λ n1 env1 j g. good_exec_all body _ env1 _
         (record {
@@ -233,19 +233,19 @@ module _ (around : Setting) (calls : Calls) (gc : GoodCalls calls) (fuel : ℕ) 
     good_exec (update at q op e) ws env k s h =
         good_aim around calls gc q ws env _ s (λ a. good_settle ws env a _ s (λ spot w. good_ev around calls gc e (holding ws _) env _ (good_holding ws _ s)
         (λ u. good_or_panic ws env at (binary_of op (read_at w spot.variable spot.path) u) (λ x. write_part spot.variable spot.path x (k env)) s (λ x w1. h env (written w1 spot.variable spot.path x))) w))
-    good_exec (bump q op) ws env k s h =
+    good_exec (bump at q op) ws env k s h =
         good_aim around calls gc q ws env _ s (λ a. good_settle ws env a _ s (λ spot w.
-        good_or_panic ws env no_pos (binary_of op (read_at w spot.variable spot.path) (int (pos 1))) (λ x. write_part spot.variable spot.path x (k env)) s (λ x w1. h env (written w1 spot.variable spot.path x)) w))
+        good_or_panic ws env at (binary_of op (read_at w spot.variable spot.path) (int (pos 1))) (λ x. write_part spot.variable spot.path x (k env)) s (λ x w1. h env (written w1 spot.variable spot.path x)) w))
     good_exec (range over key value body) ws env k s h =
         good_begin over ws env _ s (λ x ws1 env1 s1 w. good_counted fuel 0 x _ _
         (λ i n1 env2 j g. good_round (exec_all around calls fuel body) (λ ws2 env3 k2 s2 h2. good_exec_all body ws2 env3 k2 s2 h2) (outside k) (λ n2 env3 w2. h env3 w2) over key value ws1 s1 i n1 env2 j g)
         (λ n1 env2 w1. h env2 w1) (length w.store) env1 w)
-    good_exec break_off ws env k s h = λ w. s.broken env w
-    good_exec go_on ws env k s h = λ w. s.continued env w
-    good_exec (raise at (text number)) ws env k s h = λ w. s.panicked at _ env w
-    good_exec (raise at (shown t e)) ws env k s h = good_ev around calls gc e ws env _ s (λ v w. s.panicked at _ env w)
-    good_exec (quit at e) ws env k s h = good_ev around calls gc e ws env _ s (λ v w. good_quit ws env at (int_of v) s w)
-    good_exec (give_back es) ws env k s h = good_evs around calls gc es ws env _ s (λ vs. s.returned vs env)
+    good_exec break_stmt ws env k s h = λ w. s.broken env w
+    good_exec continue_stmt ws env k s h = λ w. s.continued env w
+    good_exec (panic at (text number)) ws env k s h = λ w. s.panicked at _ env w
+    good_exec (panic at (shown t e)) ws env k s h = good_ev around calls gc e ws env _ s (λ v w. s.panicked at _ env w)
+    good_exec (exit at e) ws env k s h = good_ev around calls gc e ws env _ s (λ v w. good_quit ws env at (int_of v) s w)
+    good_exec (return_stmt es) ws env k s h = good_evs around calls gc es ws env _ s (λ vs. s.returned vs env)
     good_exec (print ln ps) ws env k s h = good_pieces around calls gc ps ws env _ s (λ bs. good_emit ln bs _ (h env))
 
     good_exec_all : (ss : Sts) (ws : Ways) (env : Env) (k : Env → Go) → GoodWays ws → ((env1 : Env) → Good (k env1)) → Good (exec_all around calls fuel ss ws env k)

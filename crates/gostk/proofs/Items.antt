@@ -1,37 +1,17 @@
--- The answers that came from an input, as the beginning of its items, and how many of them a run asks for.
-use Rattle.std.proofs.Common.{◌≡◌, refl, ap, subst, arith, ℕ, zero, suc, ◌+◌, ◌<◌, List, [], ◌∷◌, Option, None}
-use Rattle.std.specs.Prelude.{IfSome, FitsSigned}
-use Rattle.std.specs.Int.{w64}
+-- That the answers that came begin a reading, and how many items a run asks for.
+use Rattle.std.proofs.Common.{refl, arith, ℕ, zero, suc, ◌<◌, List, [], Option}
 use Rattle.simulation.specs.Outcome.{Outcome, Gives, Ends, Unfinished}
 use Rattle.meaning.specs.Trace.{Ending}
 use Rattle.meaning.specs.Meaning.{Item}
 use Rattle.meaning.specs.Output.{Sight, printing, asking}
-use Rattle.machine.specs.Answers.{AllNumbers, HasFrom}
-use Rattle.codegen.specs.Runs.{AsksFor, asks_of}
+use Rattle.code_runs.specs.Runs.{AsksFor, asks_of}
+use Rattle.code_runs.proofs.Items.{reading_of, are_numbers, has_answers}
 use Rattle.gostk.specs.Programs.{Reading, CameInOrder, Begins}
-
--- the answers that came, and nothing behind them
-abbrev pub reading_of : List Item → Reading
-reading_of [] n = None
-reading_of (answer ∷ answers) zero = answer
-reading_of (answer ∷ answers) (suc n) = reading_of answers n
-
-are_numbers : (answers : List Item) → AllNumbers answers → (k : ℕ) → IfSome (reading_of answers k) (FitsSigned w64)
-are_numbers [] all k = tt
-are_numbers (answer ∷ answers) all zero = all.0
-are_numbers (answer ∷ answers) all (suc k) = are_numbers answers all.1 k
-
-has_all : (r : Reading) (n : ℕ) (answers : List Item) → ((k : ℕ) → r (n + k) ≡ reading_of answers k) → HasFrom r n answers
-has_all r n [] h = tt
-has_all r n (answer ∷ answers) h = (
-  let same : n + 0 ≡ n = omega arith in subst (λ m. r m ≡ answer) same (h 0),
-  has_all r (suc n) answers (λ k. let same : n + suc k ≡ suc n + k = omega arith in subst (λ m. r m ≡ reading_of answers k) same (h (suc k))),
-)
 
 pub begins : (left : Option (List ℕ)) (answers : List Item) → CameInOrder left answers → Begins answers (reading_of answers)
 begins left answers came = record {
   numbers = are_numbers answers came.numbers;
-  has = has_all (reading_of answers) 0 answers (λ k. let same : 0 + k ≡ k = omega arith in ap (reading_of answers) same);
+  has = has_answers answers;
 }
 
 -- nothing came

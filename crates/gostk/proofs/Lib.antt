@@ -5,3 +5,4 @@ pub mod Lines
 pub mod Numbers
 pub mod Runs
 pub mod Table
+pub mod Contract

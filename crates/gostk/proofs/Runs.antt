@@ -4,17 +4,16 @@ use Rattle.limits.specs.Limits.{Bounds}
 use Rattle.outside.specs.Causes.{Rose}
 use Rattle.outside.specs.Took.{Took, TookPrefix}
 use Rattle.simulation.specs.Outcome.{ending_in}
-use Rattle.typed.specs.Syntax.{Program}
+use Rattle.typed_syntax.specs.Syntax.{Program}
 use Rattle.meaning.specs.Trace.{Ending}
 use Rattle.meaning.specs.Meaning.{Item}
 use Rattle.meaning.specs.Output.{source}
-use Rattle.meaning.proofs.Runs.{longer_sources_extend}
-use Rattle.isa.specs.Code.{Tables}
-use Rattle.machine.specs.declared.place.Panic.{Panic as MachinePanic}
-use Rattle.simulated_code.specs.Correct.{Simulated, limits}
-use Rattle.codegen.specs.Runs.{Ran as RanCode, ReadBy, asks_of}
-use Rattle.codegen.specs.declared.running.RunFault.{RunFault}
-use Rattle.codegen.specs.declared.running.RunFault.TheVariants as fault
+use Rattle.meaning_laws.proofs.Runs.{longer_sources_extend}
+use Rattle.machine.specs.declared.run_state.Panic.{Panic as MachinePanic}
+use Rattle.simulated_code.specs.Correct.{limits}
+use Rattle.code_runs.specs.Runs.{Ran as RanCode, ReadBy, asks_of}
+use Rattle.code_runs.specs.declared.running.RunFault.{RunFault}
+use Rattle.code_runs.specs.declared.running.RunFault.TheVariants as fault
 use Rattle.gostk.specs.Programs.{AsksOnce, Begins, CameInOrder, Reading, few_turns, all_turns}
 use Rattle.compile.specs.declared.fault.CompileFault.{CompileFault}
 use Rattle.compile.specs.declared.fault.CompileFault.TheVariants.{NoMemory}
@@ -26,7 +25,8 @@ use Rattle.gostk.specs.Rows.{Allowed, Asking, IsRunOf, IsTextOf, Ran, RanBy, Ran
 use Rattle.gostk.specs.declared.answer.Answer.TheVariants as answer
 use Rattle.gostk.proofs.Early.{joined}
 use Rattle.gostk.proofs.Endings.{exit_status}
-use Rattle.gostk.proofs.Items.{reading_of, begins, asks_beyond}
+use Rattle.code_runs.proofs.Items.{reading_of}
+use Rattle.gostk.proofs.Items.{begins, asks_beyond}
 
 -- what a run under these limits read of the input and did, where nothing was read the input is untouched
 pub record Told (p : Program) (b : Bounds) (result : Result ℕ RunFault) (untouched : Type 0) (old new : Streams) : Type 0 where
@@ -36,18 +36,18 @@ pub record Told (p : Program) (b : Bounds) (result : Result ℕ RunFault) (untou
   pub does : (r : Reading) → Begins answers r → RanCode p.strings (few_turns p b r) (all_turns p b r) result (length answers) old.taken new.taken old.faults new.faults
 
 -- what is said of a run of code with these limits
-abbrev pub Says : Program → Tables → (max heap_max steps : ℕ) → Result ℕ RunFault → Streams → Streams → (ℕ → Item) → ℕ → Type 0
-Says p code max heap_max steps result old new items answered = Simulated p code
-    → RanCode p.strings (source items p (limits p max heap_max) (steps / 16)) (source items p (limits p max heap_max) steps) result answered old.taken new.taken old.faults new.faults
+abbrev pub Says : Program → (max heap_max steps : ℕ) → Result ℕ RunFault → Streams → Streams → (ℕ → Item) → ℕ → Type 0
+Says p max heap_max steps result old new items answered =
+    RanCode p.strings (source items p (limits p max heap_max) (steps / 16)) (source items p (limits p max heap_max) steps) result answered old.taken new.taken old.faults new.faults
 
-pub told : (p : Program) (b : Bounds) (code : Tables) (max heap_max steps : ℕ) (result : Result ℕ RunFault) (untouched : Type 0) (old new : Streams) → max ≡ b.stack_max → heap_max ≡ b.heap_max → steps ≡ b.steps → Simulated p code
-    → ReadBy result old.left untouched (Says p code max heap_max steps result old new) → Told p b result untouched old new
-told p b code max heap_max steps result untouched old new m l n simulated h = record {
+pub told : (p : Program) (b : Bounds) (max heap_max steps : ℕ) (result : Result ℕ RunFault) (untouched : Type 0) (old new : Streams) → max ≡ b.stack_max → heap_max ≡ b.heap_max → steps ≡ b.steps
+    → ReadBy result old.left untouched (Says p max heap_max steps result old new) → Told p b result untouched old new
+told p b max heap_max steps result untouched old new m l n h = record {
   answers = h.answers;
   came = record { numbers = h.numbers; rest = h.rest; read = h.read };
   unread = h.unread;
   does = λ r starts.
-      let did = h.does r starts.numbers starts.has simulated in
+      let did = h.does r starts.numbers starts.has in
       subst (λ (k : ℕ). RanCode p.strings (source r p (limits p b.stack_max b.heap_max) (k / 16)) (source r p (limits p b.stack_max b.heap_max) k) result (length h.answers) old.taken new.taken old.faults new.faults) n
       (subst (λ (k : ℕ). RanCode p.strings (source r p (limits p b.stack_max k) (steps / 16)) (source r p (limits p b.stack_max k) steps) result (length h.answers) old.taken new.taken old.faults new.faults) l
       (subst (λ (k : ℕ). RanCode p.strings (source r p (limits p k heap_max) (steps / 16)) (source r p (limits p k heap_max) steps) result (length h.answers) old.taken new.taken old.faults new.faults) m did));

@@ -7,12 +7,12 @@ use Rattle.outside.specs.Causes.{Rose}
 use Rattle.outside.specs.Files.{Content, Call, ReadOf, ReadsAs, Missing, Holds}
 use Rattle.outside.specs.Took.{Took}
 use Rattle.simulation.specs.Outcome.{Outcome, ending_in}
-use Rattle.typed.specs.Syntax.{Program}
+use Rattle.typed_syntax.specs.Syntax.{Program}
 use Rattle.meaning.specs.Trace as source
 use Rattle.meaning.specs.Meaning.{Item}
 use Rattle.meaning.specs.Output.{Sight, output}
 use Rattle.compile.specs.Accepted.{Accepted}
-use Rattle.base.specs.declared.pos.Pos.{Pos}
+use Rattle.typed_syntax.specs.Positions.{Position}
 use Rattle.gostk.specs.Answer.{IsStatus, of_run, words_refused as for_words, text_refused as for_text, read_failed as for_reading, write_failed as for_writing, steps_passed as for_steps, heap_passed as for_heap, stack_passed as for_stack, memory_refused as for_memory, status_of, line_of, reason_text, fault_text, panic_line, steps_line, stack_line, heap_line}
 use Rattle.gostk.specs.Programs.{EndsBy, PanicsWith, PanicsBy, GoesOn, Begins, CameInOrder, Reading, few_turns, all_turns}
 use Rattle.gostk.specs.Words.{bounds_of, is_source, path_of, Asks, IsOffLimits, IsNoSource}
@@ -70,11 +70,11 @@ early_panic p b answers text y old new r ends starts e =
     let is : ending_in (all_turns p b r) ≡ Some y = ap ending_in (sym same) ∙ e in
     (subst (λ (o : Option source.Ending). PanicsWith text o) is (ends.ends r starts), subst (λ (o : Outcome Sight source.Ending). Took old new (output o)) (sym same) (ends.took r starts))
 
-no_panic : (text : List ℕ) (x : source.Ending) → PanicsWith text (Some x) → ((at : Pos) (f : source.Fault) → x ≡ source.Panic at f → ⊥) → ⊥
+no_panic : (text : List ℕ) (x : source.Ending) → PanicsWith text (Some x) → ((at : Position) (f : source.Fault) → x ≡ source.Panic at f → ⊥) → ⊥
 no_panic text x h other = other h.0 h.1 cc
 
 -- the reason of a panic is told by its text
-same_panic : (text : List ℕ) (at : Pos) (f : source.Fault) → PanicsWith text (Some (source.Panic at f)) → text ≡ fault_text f
+same_panic : (text : List ℕ) (at : Position) (f : source.Fault) → PanicsWith text (Some (source.Panic at f)) → text ≡ fault_text f
 same_panic text at f h =
     let is : h.1 ≡ f = cc in
     sym h.3 ∙ ap fault_text is
@@ -103,7 +103,7 @@ module _ (p : Program) (b : Bounds) (answers : List Item) (old new : Seen) (came
       no_heap : (n u a l : ℕ) → source.Exit n ≡ source.HeapLimit u a l → ⊥
       no_heap n u a l e = cc
 
-      no_fault : (n : ℕ) (at : Pos) (f : source.Fault) → source.Exit n ≡ source.Panic at f → ⊥
+      no_fault : (n : ℕ) (at : Position) (f : source.Fault) → source.Exit n ≡ source.Panic at f → ⊥
       no_fault n at f e = cc
 
       none : (n : ℕ) → Some (source.Exit n) ≡ None → ⊥
@@ -122,16 +122,16 @@ module _ (p : Program) (b : Bounds) (answers : List Item) (old new : Seen) (came
     stops = λ r starts e. absurd (let h = ends.ends r starts in none h.0 h.1 (sym h.2 ∙ e));
   }
     where
-      no_exit : (m : ℕ) (at : Pos) (f : source.Fault) → source.Exit m ≡ source.Panic at f → ⊥
+      no_exit : (m : ℕ) (at : Position) (f : source.Fault) → source.Exit m ≡ source.Panic at f → ⊥
       no_exit m at f e = cc
 
-      no_limit : (u a l : ℕ) (at : Pos) (f : source.Fault) → source.StackLimit u a l ≡ source.Panic at f → ⊥
+      no_limit : (u a l : ℕ) (at : Position) (f : source.Fault) → source.StackLimit u a l ≡ source.Panic at f → ⊥
       no_limit u a l at f e = cc
 
-      no_heap : (u a l : ℕ) (at : Pos) (f : source.Fault) → source.HeapLimit u a l ≡ source.Panic at f → ⊥
+      no_heap : (u a l : ℕ) (at : Position) (f : source.Fault) → source.HeapLimit u a l ≡ source.Panic at f → ⊥
       no_heap u a l at f e = cc
 
-      none : (at : Pos) (f : source.Fault) → Some (source.Panic at f) ≡ None → ⊥
+      none : (at : Position) (f : source.Fault) → Some (source.Panic at f) ≡ None → ⊥
       none at f e = cc
 
   does_meet : (used asked limit : ℕ) → EndsBy p b answers (source.StackLimit used asked limit) old.io.taken new.io.taken → status ≡ 207 → Took err err' (stack_line used asked limit)
@@ -154,7 +154,7 @@ module _ (p : Program) (b : Bounds) (answers : List Item) (old new : Seen) (came
       other : (m : ℕ) → source.StackLimit used asked limit ≡ source.Exit m → ⊥
       other m e = cc
 
-      no_fault : (at : Pos) (f : source.Fault) → source.StackLimit used asked limit ≡ source.Panic at f → ⊥
+      no_fault : (at : Position) (f : source.Fault) → source.StackLimit used asked limit ≡ source.Panic at f → ⊥
       no_fault at f e = cc
 
       no_heap : (u a l : ℕ) → source.StackLimit used asked limit ≡ source.HeapLimit u a l → ⊥
@@ -183,7 +183,7 @@ module _ (p : Program) (b : Bounds) (answers : List Item) (old new : Seen) (came
       other : (m : ℕ) → source.HeapLimit used asked limit ≡ source.Exit m → ⊥
       other m e = cc
 
-      no_fault : (at : Pos) (f : source.Fault) → source.HeapLimit used asked limit ≡ source.Panic at f → ⊥
+      no_fault : (at : Position) (f : source.Fault) → source.HeapLimit used asked limit ≡ source.Panic at f → ⊥
       no_fault at f e = cc
 
       no_stack : (u a l : ℕ) → source.HeapLimit used asked limit ≡ source.StackLimit u a l → ⊥

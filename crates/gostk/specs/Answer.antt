@@ -1,7 +1,7 @@
 -- The status and the line of each answer.
 use Rattle.std.specs.Prelude.{ℕ, ℤ, ◌≤◌, Bool, true, false, List, [], ◌++◌, codes, decimal, string_bytes}
 use Rattle.std.specs.Fmt.{signed_decimal}
-use Rattle.value_trees.specs.Value.{Value, int, bool, composite}
+use Rattle.typed_syntax.specs.Value.{Value, int, bool, composite}
 use Rattle.meaning.specs.Trace.{Fault, divide_by_zero, shift_count, index_out_of_range, exit_code, raised_text, raised}
 use Rattle.limits.specs.declared.limits.LimitFault.{LimitFault}
 use Rattle.limits.specs.Limits.{fault_number}

@@ -7,12 +7,13 @@ use Rattle.clap.specs.declared.builder.value_parser.ValueParser.TheVariants as p
 abbrev pub number_rule : Text → Text → Rule
 number_rule name default = record (new_rule name) {
   long = Some name;
+  value_names = 1;
   parser = Some (parser.Signed (pos 0) (pos (2 ^ 63 - 1)));
   defaults = default ∷ [];
 }
 
 abbrev pub file_rule : Rule
-file_rule = record (new_rule (codes "file")) { required = true }
+file_rule = record (new_rule (codes "file")) { value_names = 1; required = true }
 
 -- a command with the four limits and a file
 abbrev pub running : Text → App

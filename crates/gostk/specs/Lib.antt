@@ -4,3 +4,4 @@ pub mod Programs
 pub mod Refusal
 pub mod Rows
 pub mod Words
+pub mod Contract

@@ -4,14 +4,14 @@ use Rattle.limits.specs.Limits.{Bounds}
 use Rattle.outside.specs.Causes.{Rose}
 use Rattle.outside.specs.Took.{Took, TookPrefix}
 use Rattle.simulation.specs.Outcome.{Outcome, ending_in}
-use Rattle.typed.specs.Syntax.{Program}
-use Rattle.base.specs.declared.pos.Pos.{Pos}
+use Rattle.typed_syntax.specs.Syntax.{Program}
+use Rattle.typed_syntax.specs.Positions.{Position}
 use Rattle.meaning.specs.Trace.{Ending, Panic, Fault}
 use Rattle.meaning.specs.Meaning.{Item}
 use Rattle.meaning.specs.Output.{Sight, source, output}
 use Rattle.machine.specs.Answers.{AllNumbers, ReadInOrder, HasFrom}
 use Rattle.simulated_code.specs.Correct.{AreNumbers, limits}
-use Rattle.codegen.specs.Runs.{AsksFor, Between, asks_of}
+use Rattle.code_runs.specs.Runs.{AsksFor, Between, asks_of}
 use Rattle.compile.specs.Accepted.{Refuses as HasFault}
 use Rattle.compile.specs.declared.fault.CompileFault.{CompileFault}
 use Rattle.gostk.specs.Answer.{fault_text}
@@ -58,7 +58,7 @@ pub record EndsBy (p : Program) (b : Bounds) (answers : List Item) (e : Ending) 
 
 -- an ending by a panic with this text
 abbrev pub PanicsWith : List ℕ → Option Ending → Type 0
-PanicsWith text o = (at : Pos) × (f : Fault) × (o ≡ Some (Panic at f)) × (fault_text f ≡ text)
+PanicsWith text o = (at : Position) × (f : Fault) × (o ≡ Some (Panic at f)) × (fault_text f ≡ text)
 
 -- within the turns the source panics with this text, it asks for just the items that came, and out took exactly what it
 -- prints; where it ends in the sixteenth of them already, that is the same run
@@ -87,7 +87,7 @@ pub record PrintedPart (p : Program) (b : Bounds) (answers : List Item) (old new
   pub asks : (r : Reading) → Begins answers r → length answers ≤ asks_of (all_turns p b r)
   pub rose : Rose before now
 
--- the input failed: within the turns the source asks for the item behind those that came, and out took exactly what it prints
+-- the input failed: within the turns the source asks for the item after those that came, and out took exactly what it prints
 -- before that
 pub record AsksInVain (p : Program) (b : Bounds) (answers : List Item) (old new : Option (List ℕ)) (before now : ℕ) : Type 0 where
   pub asks : (r : Reading) → Begins answers r → (text : List ℕ) × AsksFor (length answers) text (all_turns p b r) × Took old new text

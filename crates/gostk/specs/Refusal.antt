@@ -3,8 +3,8 @@ use Rattle.std.specs.Prelude.{ℕ, List, [], ◌++◌, Option, Some, None, decim
 use Rattle.base.specs.declared.pos.Pos.{Pos}
 use Rattle.scan_go.specs.Faults as scanning
 use Rattle.parse_go.specs.FaultNumbers as parsing
-use Rattle.value_types.specs.Least as checking
-use Rattle.value_types.specs.declared.fault.TypeFault.TheVariants as typing
+use Rattle.type_faults.specs.Least as checking
+use Rattle.type_faults.specs.declared.fault.TypeFault.TheVariants as typing
 use Rattle.frame_layout.specs.declared.fault.LayoutFault.TheVariants as layout
 use Rattle.compile.specs.declared.fault.CompileFault.{CompileFault}
 use Rattle.compile.specs.declared.fault.CompileFault.TheVariants as compile
@@ -22,7 +22,7 @@ refusal_at stage (Some kind) (Some pos) = Some (record { stage = stage; kind = k
 abbrev pub refusal_of : CompileFault → Option Refusal
 refusal_of compile.NoMemory = None
 refusal_of (compile.Scan fault) = refusal_at Scan (scanning.fault_number fault) (scanning.fault_pos fault)
-refusal_of (compile.Parse fault) = refusal_at Parse (parsing.number_of fault) (parsing.place_of fault)
+refusal_of (compile.Parse fault) = refusal_at Parse (parsing.number_of fault) (parsing.pos_of fault)
 refusal_of (compile.Typing typing.NoMemory) = None
 refusal_of (compile.Typing (typing.Fault fault)) =
     Some (record { stage = Typing; kind = checking.kind_number fault.kind; pos = fault.pos; words = None })
@@ -40,7 +40,7 @@ abbrev pub words_text : Option ℕ → List ℕ
 words_text None = []
 words_text (Some words) = codes " words " ++ decimal words
 
--- FILE:L:C: STAGE kind N, and for a frame that is too large ` words W` behind it
+-- FILE:L:C: STAGE kind N, and for a frame that is too large ` words W` after it
 abbrev pub refusal_line : List ℕ → Refusal → List ℕ
 refusal_line file r =
     file ++ (codes ":" ++ (decimal r.pos.line ++ (codes ":" ++ (decimal r.pos.col ++ (codes ": "

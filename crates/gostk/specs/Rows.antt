@@ -6,13 +6,13 @@ use Rattle.outside.specs.Causes.{Rose}
 use Rattle.outside.specs.Files.{Content, Call, ReadOf, ReadsAs, Missing, Holds}
 use Rattle.outside.specs.Took.{Took, TookPrefix}
 use Rattle.simulation.specs.Outcome.{ending_in}
-use Rattle.typed.specs.Syntax.{Program}
+use Rattle.typed_syntax.specs.Syntax.{Program}
 use Rattle.meaning.specs.Trace as source
 use Rattle.meaning.specs.Meaning.{Item}
 use Rattle.meaning.specs.Output.{output}
-use Rattle.base.specs.declared.pos.Pos.{Pos}
+use Rattle.typed_syntax.specs.Positions.{Position}
 use Rattle.gostk.specs.Answer.{status_of, line_of, reason_text, fault_text, panic_line, limits_line, steps_line, stack_line, heap_line}
-use Rattle.machine.specs.declared.place.Panic.{Panic as MachinePanic}
+use Rattle.machine.specs.declared.run_state.Panic.{Panic as MachinePanic}
 use Rattle.simulated_code.specs.Correct.{same_fault}
 use Rattle.compile.specs.Accepted.{Accepted}
 use Rattle.gostk.specs.Programs.{EndsBy, PanicsBy, GoesOn, PrintedFront, PrintedPart, AsksInVain, AsksOnce, Begins, CameInOrder, Reading, Refuses, few_turns, all_turns}
@@ -266,7 +266,7 @@ EndsHere p b answers old new status err err' =
 -- the program panics in a sixteenth of the turns, so it does here
 abbrev pub PanicsHere : Program → Bounds → List Item → Seen → Seen → ℕ → Option (List ℕ) → Option (List ℕ) → Type 0
 PanicsHere p b answers old new status err err' =
-    (r : Reading) → Begins answers r → (at : Pos) (f : source.Fault) → ending_in (few_turns p b r) ≡ Some (source.Panic at f)
+    (r : Reading) → Begins answers r → (at : Position) (f : source.Fault) → ending_in (few_turns p b r) ≡ Some (source.Panic at f)
     → ((status ≡ 2) × Took old.io.taken new.io.taken (output (few_turns p b r)) × Took err err' (panic_line (fault_text f))) ⊎ (status ≡ 209)
 
 -- the program meets the limit of the stack in a sixteenth of the turns, so it does here

@@ -42,7 +42,7 @@ pub enum Answer<'a> {
     ReadFault,
     /// The output was not written.
     WriteFault,
-    /// The program had not ended after so many instructions.
+    /// The program had not ended after this number of instructions.
     Steps(u64),
     /// A call would have passed the limit of the stack: the words in use, those asked for, and the limit.
     StackLimit { used: u64, asked: u64, limit: u64 },

@@ -5,7 +5,7 @@ ghost use Rattle.gostk.specs.Refusal.{refusal_at, refusal_of, stage_text};
 use base::Pos;
 use compile::CompileFault;
 use frame_layout::LayoutFault;
-use value_types::TypeFault;
+use type_faults::TypeFault;
 
 /// The stage of the compiler that refuses a text.
 #[derive(Clone, Copy, Debug, PartialEq, Eq)]

@@ -11,7 +11,7 @@ ghost use Rattle.gostk.specs.Rows.{Reported};
 use crate::answer::{Answer, Reason};
 use crate::refusal::Refusal;
 use limits::LimitFault;
-use outside::{Failed, Piece, Sink, put_bytes, put_line};
+use outside::{Failed, LinePart, Sink, put_bytes, put_line};
 
 /// The status where the line can't be written.
 const WRITE_FAULT: u8 = 204;
@@ -40,7 +40,7 @@ fn put_text<E: Sink>(text: &[u8], err: &mut E) -> Result<(), Failed>
 }
 
 // Writes a line from its pieces.
-fn put_pieces<E: Sink>(pieces: &[Piece<'_>], err: &mut E) -> Result<(), Failed>
+fn put_pieces<E: Sink>(pieces: &[LinePart<'_>], err: &mut E) -> Result<(), Failed>
     ensures whole { OnOk result (Took (E.taken err.old) (E.taken err.new) (text_of pieces.now)) }
     ensures part { OnErr result (TookPrefix (E.taken err.old) (E.taken err.new) (text_of pieces.now)) }
     ensures cause { HasCause (E.faults err.old) (E.faults err.new) result }
@@ -91,9 +91,9 @@ fn put_panic<E: Sink>(reason: &Reason, err: &mut E) -> Result<(), Failed>
         Reason::ExitCode(n) => put_panic_number(b"panic: exit code ", *n, err),
         Reason::Text(bytes) => put_pieces(
             &[
-                Piece::Text(b"panic: "),
-                Piece::Text(bytes.as_slice()),
-                Piece::Text(b"\n"),
+                LinePart::Text(b"panic: "),
+                LinePart::Text(bytes.as_slice()),
+                LinePart::Text(b"\n"),
             ],
             err,
         ),
@@ -110,7 +110,11 @@ fn put_panic_number<E: Sink>(before: &[u8], n: i64, err: &mut E) -> Result<(), F
     ensures cause { HasCause (E.faults err.old) (E.faults err.new) result }
 {
     put_pieces(
-        &[Piece::Text(before), Piece::Int(n), Piece::Text(b"\n")],
+        &[
+            LinePart::Text(before),
+            LinePart::Int(n),
+            LinePart::Text(b"\n"),
+        ],
         err,
     )
 }
@@ -123,11 +127,11 @@ fn put_panic_index<E: Sink>(index: i64, length: i64, err: &mut E) -> Result<(), 
 {
     put_pieces(
         &[
-            Piece::Text(b"panic: index "),
-            Piece::Int(index),
-            Piece::Text(b" length "),
-            Piece::Int(length),
-            Piece::Text(b"\n"),
+            LinePart::Text(b"panic: index "),
+            LinePart::Int(index),
+            LinePart::Text(b" length "),
+            LinePart::Int(length),
+            LinePart::Text(b"\n"),
         ],
         err,
     )
@@ -139,19 +143,19 @@ fn put_limits<E: Sink>(fault: LimitFault, err: &mut E) -> Result<(), Failed>
     ensures part { OnErr result (TookPrefix (E.taken err.old) (E.taken err.new) (limits_line fault)) }
     ensures cause { HasCause (E.faults err.old) (E.faults err.new) result }
 {
-    let text = Piece::Text(b"gostk: limits kind ");
-    let kind = Piece::Number(u64::from(fault.number()));
-    put_pieces(&[text, kind, Piece::Text(b"\n")], err)
+    let text = LinePart::Text(b"gostk: limits kind ");
+    let kind = LinePart::Number(u64::from(fault.number()));
+    put_pieces(&[text, kind, LinePart::Text(b"\n")], err)
 }
 
-// Writes the line of a run that was stopped after so many instructions.
+// Writes the line of a run that was stopped after n instructions.
 fn put_steps<E: Sink>(n: u64, err: &mut E) -> Result<(), Failed>
     ensures whole { OnOk result (Took (E.taken err.old) (E.taken err.new) (steps_line n)) }
     ensures part { OnErr result (TookPrefix (E.taken err.old) (E.taken err.new) (steps_line n)) }
     ensures cause { HasCause (E.faults err.old) (E.faults err.new) result }
 {
-    let text = Piece::Text(b"gostk: steps ");
-    put_pieces(&[text, Piece::Number(n), Piece::Text(b"\n")], err)
+    let text = LinePart::Text(b"gostk: steps ");
+    put_pieces(&[text, LinePart::Number(n), LinePart::Text(b"\n")], err)
 }
 
 // Writes the line of a limit of the stack or the heap.
@@ -168,13 +172,13 @@ fn put_limit<E: Sink>(
 {
     put_pieces(
         &[
-            Piece::Text(before),
-            Piece::Number(used),
-            Piece::Text(b" asked "),
-            Piece::Number(asked),
-            Piece::Text(b" limit "),
-            Piece::Number(limit),
-            Piece::Text(b"\n"),
+            LinePart::Text(before),
+            LinePart::Number(used),
+            LinePart::Text(b" asked "),
+            LinePart::Number(asked),
+            LinePart::Text(b" limit "),
+            LinePart::Number(limit),
+            LinePart::Text(b"\n"),
         ],
         err,
     )
@@ -186,15 +190,15 @@ fn put_refusal<E: Sink>(file: &str, refusal: &Refusal, err: &mut E) -> Result<()
     ensures part { OnErr result (TookPrefix (E.taken err.old) (E.taken err.new) (refusal_line file.now refusal.now)) }
     ensures cause { HasCause (E.faults err.old) (E.faults err.new) result }
 {
-    let file = Piece::Text(file.as_bytes());
-    let colon = Piece::Text(b":");
-    let line = Piece::Number(u64::from(refusal.pos.line));
-    let col = Piece::Number(u64::from(refusal.pos.col));
-    let blank = Piece::Text(b": ");
-    let stage = Piece::Text(refusal.stage.text());
-    let of_kind = Piece::Text(b" kind ");
-    let kind = Piece::Number(u64::from(refusal.kind));
-    let newline = Piece::Text(b"\n");
+    let file = LinePart::Text(file.as_bytes());
+    let colon = LinePart::Text(b":");
+    let line = LinePart::Number(u64::from(refusal.pos.line));
+    let col = LinePart::Number(u64::from(refusal.pos.col));
+    let blank = LinePart::Text(b": ");
+    let stage = LinePart::Text(refusal.stage.text());
+    let of_kind = LinePart::Text(b" kind ");
+    let kind = LinePart::Number(u64::from(refusal.kind));
+    let newline = LinePart::Text(b"\n");
     match refusal.words {
         None => put_pieces(
             &[
@@ -203,8 +207,8 @@ fn put_refusal<E: Sink>(file: &str, refusal: &Refusal, err: &mut E) -> Result<()
             err,
         ),
         Some(words) => {
-            let of_words = Piece::Text(b" words ");
-            let words = Piece::Number(words);
+            let of_words = LinePart::Text(b" words ");
+            let words = LinePart::Number(words);
             put_pieces(
                 &[
                     file, colon, line, colon, col, blank, stage, of_kind, kind, of_words, words,

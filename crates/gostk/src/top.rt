@@ -1,18 +1,17 @@
 //! The top call.
 ghost use Rattle.std.specs.Prelude.{◌≡◌, ◌⊎◌, ℕ, ◌≤◌, List, [], map, get_or, IfOk};
-ghost use Rattle.typed.specs.Syntax.{Program};
+ghost use Rattle.typed_syntax.specs.Syntax.{Program};
 ghost use Rattle.compile.specs.Compiled.{Does, compiled_program};
 ghost use Rattle.gostk.specs.Words.{texts_of};
-ghost use Rattle.gostk.specs.Rows.{seen, streams, IsTextOf, Tells, Allowed, Reported, FinishedOrPanicked, WordsRefused, TextRefused, ReadFailed, WriteFailed, StepsPassed, HeapPassed, StackPassed, MemoryRefused, GainedRead, IsWrong, IsMissing, IsUnaccepted, Comes, Completes, RanBy, RanText, Asking, RunsAsking, words_answer};
-ghost use Rattle.gostk.specs.Answer.{IsStatus};
-ghost use Rattle.gostk.specs.declared.answer.Answer.{Answer};
+ghost use Rattle.gostk.specs.Rows.{seen, streams, IsTextOf, Tells, Allowed, RanBy, RanText, Asking, RunsAsking, words_answer};
+ghost use Rattle.gostk.specs.Contract.{Answers, moment};
 
 use crate::answer::{Answer, Reason};
 use crate::refusal::refusal_of;
 use crate::reporting::report;
 use crate::words::{Request, WordsFault, read_words};
 use base::NoMemory;
-use codegen::{RunFault, run};
+use code_runs::{RunFault, run};
 use compile::{Compiled, compile};
 use limits::Limits;
 use machine::Panic;
@@ -160,10 +159,10 @@ fn carry_out<'a, F: Files, I: Source, O: Sink>(
 /// | 200 | clap refuses the words or is asked for help | clap's text |
 /// | 200 | the numbers of the options are no limits | `gostk: limits kind N` |
 /// | 200 | the file does not end in `.go` | `gostk: source only` |
-/// | 201 | the text is refused | `FILE:L:C: STAGE kind N`, for a frame that is too large with ` words W` behind it |
+/// | 201 | the text is refused | `FILE:L:C: STAGE kind N`, for a frame that is too large with ` words W` after it |
 /// | 203 | the file was not read; or the input failed where the program asks for an item | `gostk: read fault` |
 /// | 204 | `out` or `err` failed | `gostk: write fault`; where `err` failed, a part of the line of another row |
-/// | 205 | so many instructions ran, and the program has not ended | `gostk: steps N` |
+/// | 205 | N instructions ran, and the program has not ended | `gostk: steps N` |
 /// | 206 | the package variables would have passed the limit of the heap | `gostk: heap used U asked A limit M` |
 /// | 207 | a call would have passed the limit of the stack | `gostk: stack used U asked A limit M` |
 /// | 209 | memory was refused | `gostk: no memory` |
@@ -175,71 +174,12 @@ pub fn gostk<F: Files, I: Source, O: Sink, E: Sink>(
     out: &mut O,
     err: &mut E,
 ) -> u8
-    // What came of the call is one row of the table, and is reported as such.
-    ensures answered { (answer : Answer) × Allowed
-        (seen (F.content files.old) (F.failed files.old) (streams (O.taken out.old) (O.faults out.old) (I.left input.old) (I.faults input.old)))
-        (seen (F.content files.new) (F.failed files.new) (streams (O.taken out.new) (O.faults out.new) (I.left input.new) (I.faults input.new))) (texts_of words.now) answer
-        × Reported answer result (E.taken err.old) (E.taken err.new) (E.faults err.old) (E.faults err.new) }
-
-    ensures status { IsStatus result }
-
-    // The rows, each by its status.
-    ensures finished { result ≤ 125 → FinishedOrPanicked result
-        (seen (F.content files.old) (F.failed files.old) (streams (O.taken out.old) (O.faults out.old) (I.left input.old) (I.faults input.old)))
-        (seen (F.content files.new) (F.failed files.new) (streams (O.taken out.new) (O.faults out.new) (I.left input.new) (I.faults input.new))) (texts_of words.now)
-        (E.taken err.old) (E.taken err.new) }
-    ensures words_refused { result ≡ 200 → WordsRefused
-        (seen (F.content files.old) (F.failed files.old) (streams (O.taken out.old) (O.faults out.old) (I.left input.old) (I.faults input.old)))
-        (seen (F.content files.new) (F.failed files.new) (streams (O.taken out.new) (O.faults out.new) (I.left input.new) (I.faults input.new))) (texts_of words.now)
-        (E.taken err.old) (E.taken err.new) }
-    ensures text_refused { result ≡ 201 → TextRefused
-        (seen (F.content files.old) (F.failed files.old) (streams (O.taken out.old) (O.faults out.old) (I.left input.old) (I.faults input.old)))
-        (seen (F.content files.new) (F.failed files.new) (streams (O.taken out.new) (O.faults out.new) (I.left input.new) (I.faults input.new))) (texts_of words.now)
-        (E.taken err.old) (E.taken err.new) }
-    ensures read_failed { result ≡ 203 → ReadFailed
-        (seen (F.content files.old) (F.failed files.old) (streams (O.taken out.old) (O.faults out.old) (I.left input.old) (I.faults input.old)))
-        (seen (F.content files.new) (F.failed files.new) (streams (O.taken out.new) (O.faults out.new) (I.left input.new) (I.faults input.new))) (texts_of words.now)
-        (E.taken err.old) (E.taken err.new) }
-    ensures write_failed { result ≡ 204 → WriteFailed
-        (seen (F.content files.old) (F.failed files.old) (streams (O.taken out.old) (O.faults out.old) (I.left input.old) (I.faults input.old)))
-        (seen (F.content files.new) (F.failed files.new) (streams (O.taken out.new) (O.faults out.new) (I.left input.new) (I.faults input.new))) (texts_of words.now)
-        (E.taken err.old) (E.taken err.new) (E.faults err.old) (E.faults err.new) }
-    ensures steps_passed { result ≡ 205 → StepsPassed
-        (seen (F.content files.old) (F.failed files.old) (streams (O.taken out.old) (O.faults out.old) (I.left input.old) (I.faults input.old)))
-        (seen (F.content files.new) (F.failed files.new) (streams (O.taken out.new) (O.faults out.new) (I.left input.new) (I.faults input.new))) (texts_of words.now)
-        (E.taken err.old) (E.taken err.new) }
-    ensures heap_passed { result ≡ 206 → HeapPassed
-        (seen (F.content files.old) (F.failed files.old) (streams (O.taken out.old) (O.faults out.old) (I.left input.old) (I.faults input.old)))
-        (seen (F.content files.new) (F.failed files.new) (streams (O.taken out.new) (O.faults out.new) (I.left input.new) (I.faults input.new))) (texts_of words.now)
-        (E.taken err.old) (E.taken err.new) }
-    ensures stack_passed { result ≡ 207 → StackPassed
-        (seen (F.content files.old) (F.failed files.old) (streams (O.taken out.old) (O.faults out.old) (I.left input.old) (I.faults input.old)))
-        (seen (F.content files.new) (F.failed files.new) (streams (O.taken out.new) (O.faults out.new) (I.left input.new) (I.faults input.new))) (texts_of words.now)
-        (E.taken err.old) (E.taken err.new) }
-    ensures memory_refused { result ≡ 209 → MemoryRefused
-        (seen (F.content files.old) (F.failed files.old) (streams (O.taken out.old) (O.faults out.old) (I.left input.old) (I.faults input.old)))
-        (seen (F.content files.new) (F.failed files.new) (streams (O.taken out.new) (O.faults out.new) (I.left input.new) (I.faults input.new))) (texts_of words.now)
-        (E.taken err.old) (E.taken err.new) }
-
-    // Where a row has to come, unless `err` failed.
-    ensures wrong_words { IsWrong (texts_of words.now) →
-        Comes 200 result (E.faults err.old) (E.faults err.new) ⊎ (result ≡ 209) }
-    ensures missing_file { IsMissing (F.content files.old) (texts_of words.now) →
-        Comes 203 result (E.faults err.old) (E.faults err.new) ⊎ (result ≡ 209) }
-    ensures wrong_text { IsUnaccepted (F.content files.old) (texts_of words.now) →
-        Comes 201 result (E.faults err.old) (E.faults err.new) ⊎ (result ≡ 209) ⊎ GainedRead (F.failed files.old) (F.failed files.new) (texts_of words.now) }
-    ensures right_text { Completes
-        (seen (F.content files.old) (F.failed files.old) (streams (O.taken out.old) (O.faults out.old) (I.left input.old) (I.faults input.old)))
-        (seen (F.content files.new) (F.failed files.new) (streams (O.taken out.new) (O.faults out.new) (I.left input.new) (I.faults input.new))) (texts_of words.now) result
-        (E.taken err.old) (E.taken err.new) (E.faults err.old) (E.faults err.new) }
-
-    // What is left of the files and the input: it is as it was, unless the words run an accepted text whose program asks for an
-    // item of it.
-    ensures contents { (path : List ℕ) → F.content files.new path ≡ F.content files.old path }
-    ensures files { (F.failed files.new ≡ F.failed files.old) ⊎ GainedRead (F.failed files.old) (F.failed files.new) (texts_of words.now) }
-    ensures input { (input.new ≡ input.old) ⊎ RunsAsking
-        (seen (F.content files.old) (F.failed files.old) (streams (O.taken out.old) (O.faults out.old) (I.left input.old) (I.faults input.old)))
-        (seen (F.content files.new) (F.failed files.new) (streams (O.taken out.new) (O.faults out.new) (I.left input.new) (I.faults input.new))) (texts_of words.now) }
+    // What is promised of each status is a field of `Answers`, between what is seen before the call and after it.
+    ensures { Answers (texts_of words.now) result (input.new ≡ input.old)
+        (moment (F.content files.old) (F.failed files.old) (O.taken out.old) (O.faults out.old)
+        (I.left input.old) (I.faults input.old) (E.taken err.old) (E.faults err.old))
+        (moment (F.content files.new) (F.failed files.new) (O.taken out.new) (O.faults out.new)
+        (I.left input.new) (I.faults input.new) (E.taken err.new) (E.faults err.new)) }
 {
     let answer = carry_out(alloc, words, files, input, out);
     report(&answer, err)

@@ -10,6 +10,10 @@ pub record Words : Type 0 where
 abbrev pub first_address : ℕ
 first_address = 2 ^ 20
 
+-- the most words that a heap may have
+abbrev pub most_words : ℕ
+most_words = 2 ^ 32
+
 -- the place of an address among the words, counted from 0
 abbrev pub place_of : ℕ → ℕ
 place_of at = at - first_address

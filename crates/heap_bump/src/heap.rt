@@ -1,6 +1,6 @@
 //! The heap.
-ghost use Rattle.std.specs.Prelude.{◌≡◌, ◌+◌, ◌<◌, ◌≤◌, ◌^◌, ◌++◌, [], length, replicate, Err, IfOk, IfErr, OnOk, OnErr};
-ghost use Rattle.heap_bump.specs.Words.{first_address, AreTaken, word_at, with_word, with_moved, words_at, with_words};
+ghost use Rattle.std.specs.Prelude.{◌≡◌, ◌+◌, ◌<◌, ◌≤◌, ◌++◌, [], length, replicate, Err, IfOk, IfErr, OnOk, OnErr};
+ghost use Rattle.heap_bump.specs.Words.{first_address, most_words, AreTaken, word_at, with_word, with_moved, words_at, with_words};
 
 use crate::HeapFault;
 use std::alloc::Global;
@@ -9,7 +9,7 @@ use std::marker::Model;
 /// The address of the first word. Addresses are numbers of words.
 pub const HEAP_LOW: u64 = 1 << 20;
 
-/// A heap: the words that are taken, one behind the other, and the most that there may be.
+/// A heap: the words that are taken, one after the other, and the most that there may be.
 #[derive(Drop)]
 pub struct Heap {
     words: Vec<u64>,
@@ -17,20 +17,20 @@ pub struct Heap {
 }
 
 impl Model for Heap {
-    ghost use Rattle.std.specs.Prelude.{◌≤◌, ◌^◌, vec_len};
-    ghost use Rattle.heap_bump.specs.Words.{Words};
+    ghost use Rattle.std.specs.Prelude.{◌≤◌, vec_len};
+    ghost use Rattle.heap_bump.specs.Words.{Words, most_words};
 
     ghost Value = { Words };
 
     ghost view = { λ h. record { words = h.words.items; max = h.max } };
 
-    ghost invariant = { λ h. (vec_len h.words ≤ h.max) × (h.max ≤ 2 ^ 32) };
+    ghost invariant = { λ h. (vec_len h.words ≤ h.max) × (h.max ≤ most_words) };
 }
 
 impl Heap {
-    /// A heap without words, of which so many may be taken.
+    /// A heap without words, of which at most `max` may be taken.
     pub fn new(alloc: Global, max: u64) -> Heap
-        requires { max ≤ 2 ^ 32 }
+        requires { max ≤ most_words }
         ensures { result ≡ record { words = []; max = max } }
     {
         Heap {
@@ -42,7 +42,7 @@ impl Heap {
     /// The number of words taken.
     pub fn used(&self) -> u64
         ensures is { result ≡ length self.now.words }
-        ensures low { result ≤ 2 ^ 32 }
+        ensures low { result ≤ most_words }
     {
         self.words.len() as u64
     }
@@ -54,7 +54,7 @@ impl Heap {
         self.max - self.used()
     }
 
-    /// Takes n words, all zero, behind those taken before. The answer is the address of the first.
+    /// Takes n words, all zero, after those taken before. The answer is the address of the first.
     ///
     /// `Limit` exactly where there would be more words than there may be, and else `NoMemory` where memory is refused.
     /// The heap is then as it was.

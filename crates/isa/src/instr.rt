@@ -43,8 +43,8 @@ pub enum BinFault {
 
 /// An instruction of 16 bytes. Its slots are words of the running frame, counted from the frame's lowest word, 0; they
 /// never name the frame's two highest words, the link and the return place. The result goes to slot a. Incoming words
-/// are the arguments and results of the running function, which stand behind the end of its frame: word 0 is the first
-/// argument's, and behind the arguments come the results.
+/// are the arguments and results of the running function, which stand after the end of its frame: word 0 is the first
+/// argument's, and after the arguments come the results.
 #[derive(Clone, Copy, Debug, PartialEq, Eq)]
 pub enum Instr {
     /// The slot gets this word.
@@ -104,7 +104,7 @@ pub enum Instr {
         a: u16,
         to: u32,
     },
-    /// Calls a function. Its arguments stand in the lowest slots, and behind them it leaves its results.
+    /// Calls a function. Its arguments stand in the lowest slots, and after them it leaves its results.
     Call {
         func: u16,
     },
@@ -125,7 +125,7 @@ pub enum Instr {
         b: u16,
         n: u16,
     },
-    /// The n slots from a on get the n words from the address on that lies off behind the word of b, as through a copy. Where
+    /// The n slots from a on get the n words from the address on that lies off after the word of b, as through a copy. Where
     /// that word is 0, the program panics.
     Load {
         a: u16,
@@ -133,7 +133,7 @@ pub enum Instr {
         off: u16,
         n: u16,
     },
-    /// The n words from the address on that lies off behind the word of a get the n words of the slots from c on, as through
+    /// The n words from the address on that lies off after the word of a get the n words of the slots from c on, as through
     /// a copy. Where the word of a is 0, the program panics.
     Store {
         a: u16,
@@ -146,7 +146,7 @@ pub enum Instr {
         a: u16,
         b: u16,
     },
-    /// The slot a gets the address that lies off behind the word of b, modulo 2^64. Where that word is 0, the program panics.
+    /// The slot a gets the address that lies off after the word of b, modulo 2^64. Where that word is 0, the program panics.
     Offset {
         a: u16,
         b: u16,
@@ -182,7 +182,7 @@ pub enum Instr {
     ReadInt {
         a: u16,
     },
-    /// Returns to the frame above, behind the call; from the highest frame the run ends.
+    /// Returns to the frame above, after the call; from the highest frame the run ends.
     Return,
     /// Ends the run with the slot's number as its status, if that is from 0 to 125; else the program panics.
     Exit {

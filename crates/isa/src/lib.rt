@@ -1,6 +1,6 @@
 //! The instructions of the machine, and the tables of a code.
 //!
-//! A code is three flat tables: the instructions of all functions one behind the other, for each instruction the number
+//! A code is three flat tables: the instructions of all functions one after the other, for each instruction the number
 //! of the function that it belongs to, and the functions. A `Code` is known to be well formed: each instruction names
 //! slots of its own function's frame and words of its arguments and results alone, a call names a function whose arguments
 //! and results have room in the caller's slots, and where an instruction goes on, an instruction of the same function

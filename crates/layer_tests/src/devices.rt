@@ -2,9 +2,9 @@
 //! mid-stream, and that real files and streams carry bytes.
 
 use outside::{
-    CleanFiles, CleanSink, CleanSource, DiskFiles, Failed, FileFault, Files, IntReader, MemFiles,
-    MemSink, MemSource, Piece, ReadFault, Sink, Source, StdSink, StdSource, WriteFault, put_bool,
-    put_bytes, put_int, put_line, put_number,
+    CleanFiles, CleanSink, CleanSource, DiskFiles, Failed, FileFault, Files, IntReader, LinePart,
+    MemFiles, MemSink, MemSource, ReadFault, Sink, Source, StdSink, StdSource, WriteFault,
+    put_bool, put_bytes, put_int, put_line, put_number,
 };
 use std::alloc::Global;
 use std::fs;
@@ -151,10 +151,10 @@ impl Sink for Drip {
 #[test]
 fn lines_over_a_failing_sink(rt: HostRuntime) -> Result<(), Fail> {
     let pieces = [
-        Piece::Text(b"x "),
-        Piece::Int(-25),
-        Piece::Text(b", "),
-        Piece::Number(7),
+        LinePart::Text(b"x "),
+        LinePart::Int(-25),
+        LinePart::Text(b", "),
+        LinePart::Number(7),
     ];
     let table: [(u64, &[u8], Result<(), WriteFault>); 4] = [
         (9, b"x -25, 7", Ok(())),
@@ -285,7 +285,7 @@ fn a_read_fails_within_a_number(rt: HostRuntime) -> Result<(), Fail> {
 }
 
 #[test]
-fn a_call_takes_so_many_bytes(rt: HostRuntime) -> Result<(), Fail> {
+fn a_call_takes_at_most_a_number_of_bytes(rt: HostRuntime) -> Result<(), Fail> {
     let rows: [(usize, &[u8], &[Option<i64>]); 5] = [
         (1048574, b"5\n6", &[Some(5), Some(6), None]),
         (1048575, b"5", &[None, None]),
@@ -302,7 +302,7 @@ fn a_call_takes_so_many_bytes(rt: HostRuntime) -> Result<(), Fail> {
             assert_eq!(rt;
                 reader.next(&mut source),
                 Ok(*number),
-                "behind {spaces} spaces"
+                "after {spaces} spaces"
             );
         }
     }

@@ -136,10 +136,10 @@ fn bools(rt: HostRuntime) -> Result<(), Fail> {
             Const::Int(0),
             Err(ConstFault::NotConstant),
         ),
-        (BinOp::Both, yes, no, Ok(false)),
-        (BinOp::Either, yes, no, Ok(true)),
+        (BinOp::LogicalAnd, yes, no, Ok(false)),
+        (BinOp::LogicalOr, yes, no, Ok(true)),
         (
-            BinOp::Both,
+            BinOp::LogicalAnd,
             Const::Int(1),
             yes,
             Err(ConstFault::NotConstant),

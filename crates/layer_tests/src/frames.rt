@@ -5,6 +5,7 @@ ghost use Rattle.std.specs.Prelude.{◌<◌, length};
 use base::{FuncId, Pos, SiteId, TypeId, ValueType};
 use frame_layout::{FrameLayout, layout_of};
 use std::alloc::Global;
+use std::process::Abort;
 use std::test::Fail;
 use typed::{Const, Expr, Func, INT, Left, Place, Program, Site, Step, Stmt, TypeTable, Values};
 
@@ -51,16 +52,33 @@ fn call(alloc: Global) -> Result<Values, Fail> {
 }
 
 // func main() { f(7) }
-fn caller_and_callee(alloc: Global) -> Result<Program, Fail> {
+fn caller(alloc: Global) -> Result<Func, Fail> {
     let body = vec![in alloc; Stmt::Discard(call(alloc)?)]?;
-    Ok(Program {
-        funcs: vec![in alloc; callee(alloc)?, main(alloc, 0, body)]?,
+    Ok(main(alloc, 0, body))
+}
+
+// A program of `f`, which stands first, and of `main`.
+fn program_of(alloc: Global, funcs: Vec<Func>, types: TypeTable, sites: Vec<Site>) -> Program {
+    Program {
+        funcs,
         main: FuncId(1),
-        sites: Vec::new(alloc),
-        types: TypeTable::new(alloc, 0)?,
+        sites,
+        types,
         strings: Vec::new(alloc),
         globals: Vec::new(alloc),
-    })
+    }
+}
+
+fn add_caller_and_callee(alloc: Global, funcs: &mut Vec<Func>) -> Result<(), Fail> {
+    funcs.push(callee(alloc)?)?;
+    Ok(funcs.push(caller(alloc)?)?)
+}
+
+fn caller_and_callee(alloc: Global) -> Result<Program, Fail> {
+    let types = TypeTable::new(alloc, 0)?;
+    let mut funcs = Vec::new(alloc);
+    add_caller_and_callee(alloc, &mut funcs)?;
+    Ok(program_of(alloc, funcs, types, Vec::new(alloc)))
 }
 
 // A table with the type [2]int, and the site of a variable of this type.
@@ -71,34 +89,46 @@ fn array_site(types: &mut TypeTable) -> Result<Site, Fail>
     Ok(Site { pos: AT, type_id })
 }
 
-// a[f(7)] = f(7)
-fn assignment(alloc: Global) -> Result<Stmt, Fail> {
+// a[f(7)]
+fn element(alloc: Global) -> Result<Place, Fail> {
     let f = Expr::Call(FuncId(0), Box::new(alloc, number(alloc)?)?);
     let steps = vec![in alloc; Step::Index(AT, f, 2)]?;
-    let left = Left::To(Place::Local(SiteId(0), steps));
-    Ok(Stmt::Assign(vec![in alloc; left]?, call(alloc)?))
+    Ok(Place::Local(SiteId(0), steps))
+}
+
+// a[f(7)] = f(7)
+fn assignment(alloc: Global) -> Result<Stmt, Fail> {
+    let lefts = vec![in alloc; Left::To(element(alloc)?)]?;
+    Ok(Stmt::Assign(lefts, call(alloc)?))
+}
+
+fn add_declaration_and_assignment(alloc: Global, body: &mut Vec<Stmt>) -> Result<(), Fail> {
+    body.push(Stmt::Declare(vec![in alloc; SiteId(0)]?))?;
+    Ok(body.push(assignment(alloc)?)?)
 }
 
 // func main() { var a [2]int; a[f(7)] = f(7) }
-fn element_of_an_array(alloc: Global) -> Result<Program, Fail> {
-    let mut types = TypeTable::new(alloc, 0)?;
-    let site = array_site(&mut types)?;
-    let declare = Stmt::Declare(vec![in alloc; SiteId(0)]?);
-    let body = vec![in alloc; declare, assignment(alloc)?]?;
-    Ok(Program {
-        funcs: vec![in alloc; callee(alloc)?, main(alloc, 1, body)]?,
-        main: FuncId(1),
-        sites: vec![in alloc; site]?,
-        types,
-        strings: Vec::new(alloc),
-        globals: Vec::new(alloc),
-    })
+fn assigner(alloc: Global) -> Result<Func, Fail> {
+    let mut body = Vec::new(alloc);
+    add_declaration_and_assignment(alloc, &mut body)?;
+    Ok(main(alloc, 1, body))
 }
 
-#[test]
-fn arrays_are_laid_out(rt: HostRuntime) -> Result<(), Fail> {
-    let program = element_of_an_array(rt.alloc())?;
-    let layouts = layout_of(rt.alloc(), &program)?;
+fn add_assigner_and_callee(alloc: Global, funcs: &mut Vec<Func>) -> Result<(), Fail> {
+    funcs.push(callee(alloc)?)?;
+    Ok(funcs.push(assigner(alloc)?)?)
+}
+
+fn element_of_an_array(alloc: Global) -> Result<Program, Fail> {
+    let mut types = TypeTable::new(alloc, 0)?;
+    let sites = vec![in alloc; array_site(&mut types)?]?;
+    let mut funcs = Vec::new(alloc);
+    add_assigner_and_callee(alloc, &mut funcs)?;
+    Ok(program_of(alloc, funcs, types, sites))
+}
+
+fn check_array(rt: &impl Abort, alloc: Global, program: &Program) -> Result<(), Fail> {
+    let layouts = layout_of(alloc, program)?;
     // The index, the value and the address of the element; and the array's two words.
     let want = FrameLayout {
         outgoing: 2,
@@ -110,9 +140,13 @@ fn arrays_are_laid_out(rt: HostRuntime) -> Result<(), Fail> {
 }
 
 #[test]
-fn frames_are_laid_out(rt: HostRuntime) -> Result<(), Fail> {
-    let program = caller_and_callee(rt.alloc())?;
-    let layouts = layout_of(rt.alloc(), &program)?;
+fn arrays_are_laid_out(rt: HostRuntime) -> Result<(), Fail> {
+    let program = element_of_an_array(rt.alloc())?;
+    check_array(&rt, rt.alloc(), &program)
+}
+
+fn check_frames(rt: &impl Abort, alloc: Global, program: &Program) -> Result<(), Fail> {
+    let layouts = layout_of(alloc, program)?;
     let want = [
         FrameLayout {
             outgoing: 0,
@@ -127,4 +161,10 @@ fn frames_are_laid_out(rt: HostRuntime) -> Result<(), Fail> {
     ];
     assert_eq!(rt; layouts.frames(), want.as_slice());
     Ok(())
+}
+
+#[test]
+fn frames_are_laid_out(rt: HostRuntime) -> Result<(), Fail> {
+    let program = caller_and_callee(rt.alloc())?;
+    check_frames(&rt, rt.alloc(), &program)
 }

@@ -207,7 +207,7 @@ fn escapes_in_strings(rt: HostRuntime) -> Result<(), Fail> {
     Ok(())
 }
 
-/// Names by the categories of their characters: the offsets behind them.
+/// Names by the categories of their characters: the offsets after them.
 #[test]
 fn names(rt: HostRuntime) -> Result<(), Fail> {
     let rows: [(&str, u32); 9] = [
@@ -305,7 +305,7 @@ fn kinds_and_offsets(rt: HostRuntime) -> Result<(), Fail> {
     Ok(())
 }
 
-/// The limit, the place behind the last byte, and what the texts of keywords and operators give.
+/// The limit, the place after the last byte, and what the texts of keywords and operators give.
 #[test]
 fn limit_end_and_spellings(rt: HostRuntime) -> Result<(), Fail> {
     let mut text = vec![in rt.alloc(); b' '; 1048575]?;

@@ -1,18 +1,18 @@
 //! What no clause of `names` says: that memory is given where it is ample, and tables of blocks, names, values and types.
 
 use base::{FuncId, Pos, ValueType};
-use names::{
-    Block, Declared, ValueId, add_strings, add_value, beginning, declaration, declare, fixed,
-    set_fixed, string_count, type_fault, type_in, value_count,
-};
+use constants::{Constant, untyped};
+use names::{Blocks, Declared, Scope, ValueId, beginning, type_fault, type_in};
+use std::alloc::Global;
+use std::process::Abort;
 use std::test::Fail;
 use syntax::{Expr, Name};
-use value_types::{Constant, FaultKind, untyped};
+use type_faults::FaultKind;
 
 /// Shadowing and the ends of scopes (Go specification, "Declarations and scope").
 #[test]
 fn inner_names_hide_outer_ones(rt: HostRuntime) -> Result<(), Fail> {
-    let mut names = Block::new(rt.alloc());
+    let mut names = Blocks::new(rt.alloc());
     assert_eq!(rt; names.lookup(b"x"), None);
     names.insert(b"x", 1)?;
     names.insert(b"y", 2)?;
@@ -60,8 +60,22 @@ fn the_universe(rt: HostRuntime) -> Result<(), Fail> {
         (b"Int", None),
     ];
     for (name, want) in table {
-        assert_eq!(rt; declaration(&scope, name), want);
+        assert_eq!(rt; scope.declaration(name), want);
     }
+    Ok(())
+}
+
+fn check_constants(rt: &impl Abort, scope: &mut Scope) -> Result<(), Fail> {
+    let five = untyped(Constant::Number(5));
+    scope.add_value(None)?;
+    scope.add_value(None)?;
+    assert_eq!(rt; scope.value_count(), 2);
+    scope.set_fixed(ValueId(1), Some(five));
+    scope.set_fixed(ValueId(2), Some(five));
+    assert_eq!(rt; scope.value_count(), 2);
+    assert_eq!(rt; scope.fixed(ValueId(0)), None);
+    assert_eq!(rt; scope.fixed(ValueId(1)), Some(five));
+    assert_eq!(rt; scope.fixed(ValueId(2)), None);
     Ok(())
 }
 
@@ -69,29 +83,25 @@ fn the_universe(rt: HostRuntime) -> Result<(), Fail> {
 #[test]
 fn constants_of_a_scope(rt: HostRuntime) -> Result<(), Fail> {
     let mut scope = beginning(rt.alloc())?;
-    let five = untyped(Constant::Number(5));
-    add_value(&mut scope, None)?;
-    add_value(&mut scope, None)?;
-    assert_eq!(rt; value_count(&scope), 2);
-    set_fixed(&mut scope, ValueId(1), Some(five));
-    set_fixed(&mut scope, ValueId(2), Some(five));
-    assert_eq!(rt; value_count(&scope), 2);
-    assert_eq!(rt; fixed(&scope, ValueId(0)), None);
-    assert_eq!(rt; fixed(&scope, ValueId(1)), Some(five));
-    assert_eq!(rt; fixed(&scope, ValueId(2)), None);
+    check_constants(&rt, &mut scope)
+}
+
+fn add_string(alloc: Global, scope: &mut Scope, text: &[u8]) -> Result<(), Fail> {
+    let string = Vec::from_slice(alloc, text)?;
+    Ok(scope.add_strings(Vec::from_array(alloc, [string])?)?)
+}
+
+fn check_strings(rt: &impl Abort, alloc: Global, scope: &mut Scope) -> Result<(), Fail> {
+    add_string(alloc, scope, b"hi")?;
+    add_string(alloc, scope, b"")?;
+    assert_eq!(rt; scope.string_count(), 2);
     Ok(())
 }
 
 #[test]
 fn strings_of_a_scope(rt: HostRuntime) -> Result<(), Fail> {
-    let alloc = rt.alloc();
-    let mut scope = beginning(alloc)?;
-    let first = Vec::from_slice(alloc, b"hi")?;
-    let second = Vec::from_slice(alloc, b"")?;
-    add_strings(&mut scope, Vec::from_array(alloc, [first])?)?;
-    add_strings(&mut scope, Vec::from_array(alloc, [second])?)?;
-    assert_eq!(rt; string_count(&scope), 2);
-    Ok(())
+    let mut scope = beginning(rt.alloc())?;
+    check_strings(&rt, rt.alloc(), &mut scope)
 }
 
 /// What is declared and of which names, with what the language declares, `int`, `bool`, `println` and `string`.
@@ -112,30 +122,41 @@ fn word(start: u32, end: u32) -> Expr {
     })
 }
 
-/// A name as a type, in parentheses or not, where the program declares a function, a type and a constant.
-#[test]
-fn types(rt: HostRuntime) -> Result<(), Fail> {
-    let alloc = rt.alloc();
-    let mut scope = beginning(alloc)?;
-    declare(&mut scope, b"f", Declared::Function(FuncId(0)))?;
-    declare(&mut scope, b"T", Declared::TypeName)?;
-    declare(&mut scope, b"k", Declared::Constant(ValueId(0)))?;
+fn declare_names(scope: &mut Scope) -> Result<(), Fail> {
+    scope.declare(b"f", Declared::Function(FuncId(0)))?;
+    scope.declare(b"T", Declared::TypeName)?;
+    Ok(scope.declare(b"k", Declared::Constant(ValueId(0)))?)
+}
+
+fn check_types(rt: &impl Abort, scope: &Scope) {
     let table: [(u32, u32, Option<FaultKind>); 8] = [
         (8, 11, None),
         (20, 24, None),
         (2, 3, None),
-        (12, 19, Some(FaultKind::BadOperand)),
-        (0, 1, Some(FaultKind::BadOperand)),
+        (12, 19, Some(FaultKind::Unfit)),
+        (0, 1, Some(FaultKind::Unfit)),
         (4, 5, Some(FaultKind::Unknown)),
-        (6, 7, Some(FaultKind::BadOperand)),
+        (6, 7, Some(FaultKind::Unfit)),
         (25, 31, Some(FaultKind::OutOfProfile)),
     ];
     for (start, end, kind) in table {
-        let fault = type_fault(TEXT, &scope, &word(start, end));
+        let fault = type_fault(TEXT, scope, &word(start, end));
         assert_eq!(rt; fault.map(|fault| fault.kind), kind);
     }
+    assert_eq!(rt; type_in(TEXT, scope, &word(2, 3)), None);
+}
+
+fn check_parentheses(rt: &impl Abort, alloc: Global, scope: &Scope) -> Result<(), Fail> {
     let inner = Expr::Paren(at(60), Box::new(alloc, word(20, 24))?);
-    assert_eq!(rt; type_in(TEXT, &scope, &inner), Some(ValueType::Bool));
-    assert_eq!(rt; type_in(TEXT, &scope, &word(2, 3)), None);
+    assert_eq!(rt; type_in(TEXT, scope, &inner), Some(ValueType::Bool));
     Ok(())
+}
+
+/// A name as a type, in parentheses or not, where the program declares a function, a type and a constant.
+#[test]
+fn types(rt: HostRuntime) -> Result<(), Fail> {
+    let mut scope = beginning(rt.alloc())?;
+    declare_names(&mut scope)?;
+    check_types(&rt, &scope);
+    check_parentheses(&rt, rt.alloc(), &scope)
 }

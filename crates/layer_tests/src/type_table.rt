@@ -1,8 +1,10 @@
 //! What no clause of `typed` says: that memory is given where it is ample, and a worked table.
 
-ghost use Rattle.std.specs.Prelude.{◌<◌, length};
+ghost use Rattle.std.specs.Prelude.{◌≡◌, ◌<◌, length};
 
 use base::{StructId, TypeId, ValueType};
+use std::alloc::Global;
+use std::process::Abort;
 use std::test::Fail;
 use typed::{TableFault, TypeTable};
 
@@ -27,16 +29,15 @@ fn tell(table: &mut TypeTable, id: StructId, fields: Vec<TypeId>) -> Result<(), 
     Ok(())
 }
 
-/// `type line struct { ends [2]point; open bool }` and `type point struct { x, y int }`.
-#[test]
-fn structs_hold_each_other(rt: HostRuntime) -> Result<(), Fail> {
-    let mut table = TypeTable::new(rt.alloc(), 2)?;
+fn check_structs(rt: &impl Abort, alloc: Global, table: &mut TypeTable) -> Result<(), Fail>
+    requires { length table.old.structs ≡ 2 }
+{
     let point = table.enter(ValueType::Struct(POINT))?;
     let ends = table.enter(ValueType::Array(2, point))?;
     assert_eq!(rt; table.words_at(ends), None);
-    tell(&mut table, POINT, vec![in rt.alloc(); INT, INT]?)?;
+    tell(table, POINT, vec![in alloc; INT, INT]?)?;
     assert_eq!(rt; table.words_at(ends), Some(4));
-    tell(&mut table, LINE, vec![in rt.alloc(); ends, BOOL]?)?;
+    tell(table, LINE, vec![in alloc; ends, BOOL]?)?;
     assert_eq!(rt; table.words(ValueType::Struct(LINE)), Some(5));
     assert_eq!(rt; table.field_offset(LINE, 1), 4);
     let line = table.enter(ValueType::Struct(LINE))?;
@@ -53,16 +54,23 @@ fn structs_hold_each_other(rt: HostRuntime) -> Result<(), Fail> {
     assert_eq!(rt; table.type_at(ends), ValueType::Array(2, point));
     assert_eq!(rt; table.find(ValueType::Array(2, point)), Some(ends));
     assert_eq!(rt; table.find(ValueType::Array(3, point)), None);
+    Ok(())
+}
+
+/// `type line struct { ends [2]point; open bool }` and `type point struct { x, y int }`.
+#[test]
+fn structs_hold_each_other(rt: HostRuntime) -> Result<(), Fail> {
+    let mut table = TypeTable::new(rt.alloc(), 2)?;
+    check_structs(&rt, rt.alloc(), &mut table)?;
     let program = table.finish()?;
     assert_eq!(rt; program.types.len(), 5);
     assert_eq!(rt; program.structs.len(), 2);
     Ok(())
 }
 
-/// Types of 0 words, and of more than 65,535.
-#[test]
-fn what_is_refused(rt: HostRuntime) -> Result<(), Fail> {
-    let mut table = TypeTable::new(rt.alloc(), 2)?;
+fn check_refusals(rt: &impl Abort, alloc: Global, table: &mut TypeTable) -> Result<(), Fail>
+    requires { length table.old.structs ≡ 2 }
+{
     let int = table.enter(ValueType::Int)?;
     assert_eq!(rt; int, INT);
     assert_eq!(rt;
@@ -76,15 +84,19 @@ fn what_is_refused(rt: HostRuntime) -> Result<(), Fail> {
     assert!(rt; table.enter(ValueType::Array(65_535, int)).is_ok());
     let point = table.enter(ValueType::Struct(POINT))?;
     assert!(rt; table.enter(ValueType::Array(40_000, point)).is_ok());
+    assert_eq!(rt; tell(table, LINE, Vec::new(alloc)), Err(TableFault::Empty));
     assert_eq!(rt;
-        tell(&mut table, LINE, Vec::new(rt.alloc())),
-        Err(TableFault::Empty)
-    );
-    assert_eq!(rt;
-        tell(&mut table, POINT, vec![in rt.alloc(); INT, INT]?),
+        tell(table, POINT, vec![in alloc; INT, INT]?),
         Err(TableFault::TooLarge)
     );
-    tell(&mut table, POINT, vec![in rt.alloc(); INT]?)?;
+    tell(table, POINT, vec![in alloc; INT]?)?;
     assert_eq!(rt; table.words_at(point), Some(1));
     Ok(())
+}
+
+/// Types of 0 words, and of more than 65,535.
+#[test]
+fn what_is_refused(rt: HostRuntime) -> Result<(), Fail> {
+    let mut table = TypeTable::new(rt.alloc(), 2)?;
+    check_refusals(&rt, rt.alloc(), &mut table)
 }

@@ -1,6 +1,6 @@
 //! The limits of a run.
-ghost use Rattle.std.specs.Prelude.{◌≡◌, ◌≤◌, ◌^◌, IfOk, IfErr};
-ghost use Rattle.limits.specs.Limits.{Bounds, bounds, AreLimits, IsFirstFault, fault_number};
+ghost use Rattle.std.specs.Prelude.{◌≡◌, ◌≤◌, IfOk, IfErr};
+ghost use Rattle.limits.specs.Limits.{Bounds, bounds, AreLimits, IsFirstFault, fault_number, most_words};
 
 use std::marker::Model;
 use thiserror::Error;
@@ -9,19 +9,19 @@ use thiserror::Error;
 const LEAST_START: u64 = 16;
 
 /// The most words that a stack or a heap may be allowed.
-const TOP: u64 = 4_294_967_296;
+const MOST_WORDS: u64 = 1 << 32;
 
 /// Why numbers are no limits of a run.
 #[derive(Clone, Copy, Debug, PartialEq, Eq, Error)]
 pub enum LimitFault {
-    /// The stack would start with fewer than 16 words.
-    #[error("the stack starts with fewer than 16 words")]
+    /// The stack would start with fewer than `LEAST_START` words.
+    #[error("the stack starts with too few words")]
     StartTooSmall,
     /// The stack would start with more words than it may ever have.
     #[error("the stack starts with more words than it may have")]
     StartOverMax,
-    /// The stack or the heap would be allowed more than 2^32 words.
-    #[error("more than 2^32 words are allowed")]
+    /// The stack or the heap would be allowed more than `MOST_WORDS` words.
+    #[error("the stack or the heap is allowed too many words")]
     OverTop,
 }
 
@@ -57,8 +57,8 @@ impl Model for Limits {
 }
 
 impl Limits {
-    /// The limits with these numbers. A stack starts with at least 16 words and at most those that it may have, and
-    /// neither stack nor heap may have more than 2^32 words. The fault is the first of them in this order.
+    /// The limits with these numbers. A stack starts with at least `LEAST_START` words and at most those that it may
+    /// have, and neither stack nor heap may have more than `MOST_WORDS` words. The fault is the first of them in this order.
     pub fn new(start: u64, stack_max: u64, heap_max: u64, steps: u64) -> Result<Limits, LimitFault>
         ensures is { IfOk result (λ l. l ≡ bounds start stack_max heap_max steps) }
         ensures taken { IfOk result (λ l. AreLimits (bounds start stack_max heap_max steps)) }
@@ -70,7 +70,7 @@ impl Limits {
         if start > stack_max {
             return Err(LimitFault::StartOverMax);
         }
-        if stack_max > TOP || heap_max > TOP {
+        if stack_max > MOST_WORDS || heap_max > MOST_WORDS {
             return Err(LimitFault::OverTop);
         }
         Ok(Limits {
@@ -91,7 +91,7 @@ impl Limits {
     /// The most words of the stack.
     pub fn stack_max(&self) -> u64
         ensures is { result ≡ self.now.stack_max }
-        ensures low { result ≤ 2 ^ 32 }
+        ensures low { result ≤ most_words }
     {
         self.stack_max
     }
@@ -99,7 +99,7 @@ impl Limits {
     /// The most words of the heap.
     pub fn heap_max(&self) -> u64
         ensures is { result ≡ self.now.heap_max }
-        ensures low { result ≤ 2 ^ 32 }
+        ensures low { result ≤ most_words }
     {
         self.heap_max
     }

@@ -12,13 +12,13 @@ use Rattle.isa.specs.declared.instr.Instr.{Instr}
 use Rattle.isa.specs.declared.func.Func.{Func}
 use Rattle.machine.specs.Machine.{State, Does, Event, Printed, Asked, Item, bytes_of, asks_in, act, act_on, calls, entered, address_of, zeroed, frame_of, owner_of}
 use Rattle.machine.specs.Inside.{Inside}
-use Rattle.machine.specs.Answers.{Answers, AskedBehind, CallFits, Refused, WithAnswers, printed_by, state_of}
-use Rattle.machine.specs.declared.place.Place.{Place}
+use Rattle.machine.specs.Answers.{Answers, AskedBehind, CallFits, Refused, Unwritten, WithAnswers, printed_by, state_of}
+use Rattle.machine.specs.declared.run_state.RunState.{RunState}
 use Rattle.machine.proofs.Reading.{joined, follows, nothing_read, goes_on_is_no_fault}
-use Rattle.machine.specs.declared.place.Ending.{Ending}
-use Rattle.machine.specs.declared.place.Ending.TheVariants.{Exit, Panic, ReadFault, WriteFault, NoMemory, StackLimit, HeapLimit, WildAddress, WildReturn, WildLink}
+use Rattle.machine.specs.declared.run_state.Ending.{Ending}
+use Rattle.machine.specs.declared.run_state.Ending.TheVariants.{Exit, Panic, ReadFault, WriteFault, NoMemory, StackLimit, HeapLimit, WildAddress, WildReturn, WildLink}
 
--- a run that has come so far, with so many items read
+-- a run that has come so far, with `answered` items read
 pub record Going (t : Tables) (max : ℕ) (items : ℕ → Item) (steps : ℕ) (first : State) (left : ℕ) (s : State) (answered : ℕ) (old now : Option (List ℕ)) : Type 0 where
   pub done : List Event
   pub within : left ≤ steps
@@ -172,7 +172,7 @@ shown t instrs owners funcs strings a b c d = rw (a, b, c, d) refl
 pub below : (t : Tables) (long pc base : ℕ) → IsCode t → Inside t long pc base → pc < length t.instrs
 below t long pc base code inside = subst (λ n. pc < n) code.same (slice_get_within t.owners pc inside.f inside.owner)
 
--- memory was refused to a call behind the steps that were done
+-- memory was refused to a call after the steps that were done
 pub refused : (t : Tables) (max : ℕ) (items : ℕ → Item) (steps : ℕ) (first : State) (left : ℕ) (s : State) (answered : ℕ) (old now late : Option (List ℕ))
     → Going t max items steps first left s answered old now → 0 < left → CallFits t max s.pc s.words → Took now late [] → Refused t max items steps first answered old late
 refused t max items steps first left s answered old now late g some call nothing =
@@ -188,6 +188,29 @@ refused t max items steps first left s answered old now late g some call nothing
       call = call;
       asked = rw (append-nil g.done) g.asked;
       took = rw (bytes_append g.done []) (Took-trans old now late _ _ g.took nothing);
+    }
+
+-- the sink failed in the step after those that were done
+pub unwritten : (t : Tables) (max : ℕ) (items : ℕ → Item) (steps : ℕ) (first : State) (left : ℕ) (s : State) (answered more : ℕ) (old now late : Option (List ℕ))
+    → Going t max items steps first left s answered old now → 0 < left → TookPrefix now late (printed_by (act t max items s)) → more ≤ asks_in (events_of (act t max items s))
+    → Unwritten t max items steps first (answered + more) old late
+unwritten t max items steps first left s answered more old now late g some part few =
+    let within = g.within in
+    let so_far : many (act t max items) (steps - left) first ≡ Goes (g.done ++ []) s =
+    g.whole 0 (steps - left) (omega arith) ∙ ap (behind g.done) (many_none State Event Ending (act t max items) s) in
+    let same : g.done ++ [] ≡ g.done = append-nil g.done in
+    record {
+      done = steps - left;
+      before = omega arith;
+      told = g.done;
+      state = s;
+      whole = so_far ∙ ap (λ (es : List Event). let d : Does = Goes es s in d) same;
+      front = part.1.done;
+      rest = part.0;
+      prints = part.1.splits;
+      took = Took-trans old now late _ _ g.took part.1.took;
+      at_least = omega (arith, g.asked);
+      at_most = omega (arith, g.asked, few);
     }
 
 -- a call tells nothing
@@ -209,21 +232,22 @@ call_asks t max items s call =
     ap (λ i. asks_in (events_of (act_on t max items i s))) call.1 ∙ ap asks_in (call_events max (frame_of t (owner_of t s.pc)) (slice_get t.funcs call.0) s)
 
 -- how far a run is that began and goes on at these places of a block
-abbrev pub SoFar : Tables → ℕ → ℕ → List ℕ → Words → Place → ℕ → List ℕ → Words → Place → Option (List ℕ) → Option (List ℕ) → (ℕ → Item) → ℕ → ℕ → Type 0
+abbrev pub SoFar : Tables → ℕ → ℕ → List ℕ → Words → RunState → ℕ → List ℕ → Words → RunState → Option (List ℕ) → Option (List ℕ) → (ℕ → Item) → ℕ → ℕ → Type 0
 SoFar t max steps block0 heap0 at0 left block heap at old now items reads answered = Going t max items steps (state_of block0 at0 reads heap0) left (state_of block at (reads + answered) heap) answered old now
 
 -- how it answers
-abbrev pub RunAnswers : Tables → ℕ → ℕ → List ℕ → Words → Place → List ℕ → Words → Place → Option Ending → Option (List ℕ) → Option (List ℕ) → ℕ → ℕ → (ℕ → Item) → ℕ → ℕ → Type 0
+abbrev pub RunAnswers : Tables → ℕ → ℕ → List ℕ → Words → RunState → List ℕ → Words → RunState → Option Ending → Option (List ℕ) → Option (List ℕ) → ℕ → ℕ → (ℕ → Item) → ℕ → ℕ → Type 0
 RunAnswers t max steps block0 heap0 at0 block heap at e old new before now items reads answered =
     Answers (many (act t max items) steps (state_of block0 at0 reads heap0)) (state_of block at (reads + answered) heap) answered e old new before now
     × (e ≡ Some NoMemory → Refused t max items steps (state_of block0 at0 reads heap0) answered old new)
+    × (e ≡ Some WriteFault → Unwritten t max items steps (state_of block0 at0 reads heap0) answered old new)
 
 -- how one step answers
-abbrev pub StepAnswers : Tables → ℕ → List ℕ → Words → Place → List ℕ → Words → Place → Option Ending → Option (List ℕ) → Option (List ℕ) → ℕ → ℕ → (ℕ → Item) → ℕ → ℕ → Type 0
+abbrev pub StepAnswers : Tables → ℕ → List ℕ → Words → RunState → List ℕ → Words → RunState → Option Ending → Option (List ℕ) → Option (List ℕ) → ℕ → ℕ → (ℕ → Item) → ℕ → ℕ → Type 0
 StepAnswers t max block0 heap0 at0 block heap at e old new before now items reads answered =
     Answers (act t max items (state_of block0 at0 reads heap0)) (state_of block at (reads + answered) heap) answered e old new before now
 
-module _ (t r : Tables) (max steps : ℕ) (block0 : List ℕ) (heap0 : Words) (at0 : Place) (left : ℕ) (block : List ℕ) (heap : Words) (at : Place) (block1 : List ℕ) (heap1 : Words) (at1 : Place) (old now late : Option (List ℕ)) (before later last : ℕ) (come0 come come1 : Option (List ℕ)) (U V W : Type 0) (e : Option Ending)
+module _ (t r : Tables) (max steps : ℕ) (block0 : List ℕ) (heap0 : Words) (at0 : RunState) (left : ℕ) (block : List ℕ) (heap : Words) (at : RunState) (block1 : List ℕ) (heap1 : Words) (at1 : RunState) (old now late : Option (List ℕ)) (before later last : ℕ) (come0 come come1 : Option (List ℕ)) (U V W : Type 0) (e : Option Ending)
     (so_far : WithAnswers None come0 come U (SoFar t max steps block0 heap0 at0 left block heap at old now)) (some : 0 < left) (same : r ≡ t) (both : U → V → W) (did : WithAnswers e come come1 V (StepAnswers r max block heap at block1 heap1 at1 e now late later last)) where
   pub on_by : e ≡ None → WithAnswers None come0 come1 W (SoFar t max steps block0 heap0 at0 (left - 1) block1 heap1 at1 old late)
   on_by none =
@@ -252,18 +276,24 @@ module _ (t r : Tables) (max steps : ℕ) (block0 : List ℕ) (heap0 : Words) (a
             let by_memory = subst (λ x. Answers (act t max items s) new b x now late later last) refusal d in
             let none : a + b ≡ a = omega (arith, by_memory.1, call_asks t max items s call) in
             rw none (refused t max items steps first left s a old now late g some call fits.1),
+        λ failure.
+            let by_write = subst (λ x. Answers (act t max items s) new b x now late later last) failure d in
+            unwritten t max items steps first left s a b old now late g some by_write.0 by_write.2,
       ))
 
-pub ran_out : (t : Tables) (max steps : ℕ) (block0 : List ℕ) (heap0 : Words) (at0 : Place) (left : ℕ) (block : List ℕ) (heap : Words) (at : Place) (old now : Option (List ℕ)) (before later : ℕ) (come0 come : Option (List ℕ)) (U : Type 0)
+pub ran_out : (t : Tables) (max steps : ℕ) (block0 : List ℕ) (heap0 : Words) (at0 : RunState) (left : ℕ) (block : List ℕ) (heap : Words) (at : RunState) (old now : Option (List ℕ)) (before later : ℕ) (come0 come : Option (List ℕ)) (U : Type 0)
     → WithAnswers None come0 come U (SoFar t max steps block0 heap0 at0 left block heap at old now) → left ≤ 0 → WithAnswers None come0 come U (RunAnswers t max steps block0 heap0 at0 block heap at None old now before later)
 ran_out t max steps block0 heap0 at0 left block heap at old now before later come0 come U so_far none =
     follows None come0 come U _ (RunAnswers t max steps block0 heap0 at0 block heap at None old now before later) so_far
-    (λ items reads a g. (runs_out t max items steps (state_of block0 at0 reads heap0) left (state_of block at (reads + a) heap) a old now before later g none, λ refusal. absurd (no_refusal refusal)))
+    (λ items reads a g. (runs_out t max items steps (state_of block0 at0 reads heap0) left (state_of block at (reads + a) heap) a old now before later g none, λ refusal. absurd (no_refusal refusal), λ failure. absurd (no_failure failure)))
   where
     no_refusal : (let e : Option Ending = None in e ≡ Some NoMemory) → ⊥
     no_refusal e = cc
 
-pub at_start : (t : Tables) (max steps : ℕ) (block : List ℕ) (heap : Words) (at : Place) (old come : Option (List ℕ)) (U : Type 0) → U → WithAnswers None come come U (SoFar t max steps block heap at steps block heap at old old)
+    no_failure : (let e : Option Ending = None in e ≡ Some WriteFault) → ⊥
+    no_failure e = cc
+
+pub at_start : (t : Tables) (max steps : ℕ) (block : List ℕ) (heap : Words) (at : RunState) (old come : Option (List ℕ)) (U : Type 0) → U → WithAnswers None come come U (SoFar t max steps block heap at steps block heap at old old)
 at_start t max steps block heap at old come U same =
     nothing_read None come U (SoFar t max steps block heap at steps block heap at old old) goes_on_is_no_fault same
     (λ items reads. let zero_more : reads + 0 ≡ reads = omega arith in rw zero_more (at_first t max items steps (state_of block at reads heap) old))

@@ -12,10 +12,10 @@ use Rattle.simulation.specs.Steps.{Goes, Stops, events_of}
 use Rattle.heap_bump.specs.Words.{Words}
 use Rattle.machine.specs.Machine.{State, Does, Event, Asked, Item, asks_in, prints, reads_item, item_words, put_words}
 use Rattle.machine.specs.Answers.{AllNumbers, Answers, Comes, HasFrom, ReadInOrder, ReadsUpTo, WithAnswers, printed_by, state_of}
-use Rattle.machine.specs.declared.place.Next.{Next}
-use Rattle.machine.specs.declared.place.Place.{Place}
-use Rattle.machine.specs.declared.place.Ending.{Ending}
-use Rattle.machine.specs.declared.place.Ending.TheVariants.{Exit, Panic, ReadFault, WriteFault, NoMemory, StackLimit, HeapLimit, WildAddress, WildReturn, WildLink}
+use Rattle.machine.specs.declared.run_state.Next.{Next}
+use Rattle.machine.specs.declared.run_state.RunState.{RunState}
+use Rattle.machine.specs.declared.run_state.Ending.{Ending}
+use Rattle.machine.specs.declared.run_state.Ending.TheVariants.{Exit, Panic, ReadFault, WriteFault, NoMemory, StackLimit, HeapLimit, WildAddress, WildReturn, WildLink}
 
 has_front : (items : ℕ → Item) (n : ℕ) (a b : List Item) → HasFrom items n (a ++ b) → HasFrom items n a
 has_front items n [] b h = tt
@@ -134,7 +134,7 @@ pub asked_in_vain : (d : Does) (new : State) (taken : Option (List ℕ)) (faults
 asked_in_vain d new taken faults told = record { before = []; after = []; splits = sym told; asked = refl; took = Took-nothing taken }
 
 -- a piece was written, or the sink failed
-pub piece_printed : {T : Type 0} (words : List ℕ) (at : Place) (next : Next) (written : Result T Fault) (bytes piece : List ℕ) → bytes ≡ piece → (reads : ℕ) (heap : Words) (old new : Option (List ℕ)) (few many : Option ℕ) (before now : ℕ)
+pub piece_printed : {T : Type 0} (words : List ℕ) (at : RunState) (next : Next) (written : Result T Fault) (bytes piece : List ℕ) → bytes ≡ piece → (reads : ℕ) (heap : Words) (old new : Option (List ℕ)) (few many : Option ℕ) (before now : ℕ)
     → OnOk written (next ≡ record { at = record { pc = at.pc + 1; base = at.base }; ending = None }) → OnErr written (next ≡ record { at = at; ending = Some WriteFault })
     → Puts old new few many written piece → HasCause before now written → Answers (prints (state_of words at reads heap) bytes) (state_of words next.at reads heap) 0 next.ending old new before now
 piece_printed words at next (Ok x) bytes piece same reads heap old new few many before now ok err puts cause = rw ok (refl, rw (append-nil, same) puts.whole, refl)

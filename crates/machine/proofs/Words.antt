@@ -14,7 +14,7 @@ slot_written words base a word = drop-set-add base words a word
 pub slots_read : (words : List ℕ) (base a count : ℕ) → take count (drop (base + a) words) ≡ words_at (drop base words) a count
 slots_read words base a count = ap (take count) (sym (drop-drop a base words))
 
--- words that are replaced behind an index, seen from the index
+-- words that are replaced after an index, seen from the index
 pub put_behind : (words put : List ℕ) (base from : ℕ) → base + from ≤ length words → drop base (put_words words (base + from) put) ≡ put_words (drop base words) from put
 put_behind words put base from room =
     let front : length (take (base + from) words) ≡ base + from = length-take-le (base + from) words room in
@@ -25,13 +25,13 @@ put_behind words put base from room =
     ∙ ap (λ l. l ++ (put ++ drop (base + from + length put) words)) (drop-take base from words)
     ∙ ap (λ l. take from (drop base words) ++ (put ++ l)) rest
 
--- a copy of words behind an index, seen from the index
+-- a copy of words after an index, seen from the index
 pub copied : (words : List ℕ) (base from to count : ℕ) → base + to ≤ length words
     → drop base (put_words words (base + to) (words_at words (base + from) count)) ≡ put_words (drop base words) to (words_at (drop base words) from count)
 copied words base from to count room =
     put_behind words (words_at words (base + from) count) base to room ∙ ap (λ l. put_words (drop base words) to (take count l)) (sym (drop-drop from base words))
 
--- zeros behind an index, seen from the index
+-- zeros after an index, seen from the index
 pub cleared : (words : List ℕ) (base from count : ℕ) → base + from + count ≤ length words
     → drop base (take (base + from) words ++ replicate count 0 ++ drop (base + from + count) words) ≡ zeroed (drop base words) from count
 cleared words base from count room =
@@ -41,7 +41,7 @@ cleared words base from count room =
     ∙ ap (λ n. take (base + from) words ++ (zeros ++ drop (base + from + n) words)) (sym long))
     ∙ put_behind words zeros base from (omega arith)
 
--- two words behind a list of so many
+-- two words after a list of n
 set_two : (zeros rest : List ℕ) (x y link ret n m : ℕ) → length zeros ≡ n → m ≡ n + 1
     → slice_set (slice_set (zeros ++ (x ∷ (y ∷ rest))) n link) m ret ≡ zeros ++ (link ∷ (ret ∷ rest))
 set_two zeros rest x y link ret n m long next =

@@ -9,18 +9,18 @@ use Rattle.heap_bump.specs.Words.{Words}
 use Rattle.isa.specs.Code.{Tables}
 use Rattle.isa.specs.declared.instr.Instr.TheVariants.{Call}
 use Rattle.machine.specs.Machine.{State, Event, Asked, Item, Does, act, bytes_of, asks_in, frame_of}
-use Rattle.machine.specs.declared.place.Place.{Place}
-use Rattle.machine.specs.declared.place.Ending.{Ending}
-use Rattle.machine.specs.declared.place.Ending.TheVariants.{Exit, ReadFault, WriteFault, NoMemory, WildAddress}
+use Rattle.machine.specs.declared.run_state.RunState.{RunState}
+use Rattle.machine.specs.declared.run_state.Ending.{Ending}
+use Rattle.machine.specs.declared.run_state.Ending.TheVariants.{Exit, ReadFault, WriteFault, NoMemory, WildAddress}
 
--- the state whose frame begins at an index of a block of words, where so many items were read before, with a heap
-abbrev pub state_of : List ℕ → Place → ℕ → Words → State
+-- the state whose frame begins at an index of a block of words, where `reads` items were read before, with a heap
+abbrev pub state_of : List ℕ → RunState → ℕ → Words → State
 state_of block at reads heap = record { pc = at.pc; words = drop at.base block; reads = reads; heap = heap }
 
 abbrev pub printed_by : Does → List ℕ
 printed_by d = bytes_of (events_of d)
 
--- behind so many answered ones an item is asked for, and out took what is printed up to there
+-- after `answered` items another one is asked for, and out took what is printed up to there
 pub record AskedBehind (d : Does) (answered : ℕ) (old new : Option (List ℕ)) : Type 0 where
   pub before : List Event
   pub after : List Event
@@ -28,7 +28,7 @@ pub record AskedBehind (d : Does) (answered : ℕ) (old new : Option (List ℕ))
   pub asked : asks_in before ≡ answered
   pub took : Took old new (bytes_of before)
 
--- what steps come to, for which so many items were read, against an answer and the state in it, the bytes that a sink has
+-- what steps come to, for which `answered` items were read, against an answer and the state in it, the bytes that a sink has
 -- taken, and its counts of faults
 abbrev pub Answers : Does → State → (answered : ℕ) → Option Ending → Option (List ℕ) → Option (List ℕ) → ℕ → ℕ → Type 0
 Answers d s answered (Some ReadFault) old new before now = AskedBehind d answered old new
@@ -50,12 +50,12 @@ abbrev pub touched : Bool → State → ℕ → Does
 touched true s at = Goes [] s
 touched false s at = Stops [] (WildAddress at)
 
--- these answers came in order from a reader, in front of which stood the old bytes, and behind them the new ones
+-- these answers came in order from a reader, in front of which stood the old bytes, and after them the new ones
 abbrev pub ReadInOrder : Option (List ℕ) → Option (List ℕ) → List Item → Type 0
 ReadInOrder old new [] = new ≡ old
 ReadInOrder old new (answer ∷ answers) = (next : Option (List ℕ)) × Reads old next answer × ReadInOrder next new answers
 
--- the same, and behind them came a read that failed, where the ending says so
+-- the same, and after them came a read that failed, where the ending says so
 abbrev pub ReadsUpTo : Option Ending → Option (List ℕ) → Option (List ℕ) → List Item → Type 0
 ReadsUpTo (Some ReadFault) old new answers = (next : Option (List ℕ)) × ReadInOrder old next answers × Loses next new
 ReadsUpTo ending old new answers = ReadInOrder old new answers
@@ -90,10 +90,25 @@ abbrev pub CallFits : Tables → ℕ → ℕ → List ℕ → Type 0
 CallFits t max pc words = (g : ℕ) × (slice_get t.instrs pc ≡ Some (Call g)) × (length words + frame_of t g ≤ max)
 
 -- it has no room below an index of the block
-abbrev pub NoRoom : Tables → Place → Type 0
+abbrev pub NoRoom : Tables → RunState → Type 0
 NoRoom t at = (g : ℕ) × (slice_get t.instrs at.pc ≡ Some (Call g)) × (at.base < frame_of t g)
 
--- behind so many steps, for which so many items were read, stands a call that fits, to which memory was refused, and out took
+-- After `done` steps stands an instruction whose bytes the sink refused in part: out took all that these steps print, and a
+-- front of what the instruction prints. What was read are the items that the steps and the instruction ask for.
+pub record Unwritten (t : Tables) (max : ℕ) (items : ℕ → Item) (steps : ℕ) (first : State) (answered : ℕ) (old new : Option (List ℕ)) : Type 0 where
+  pub done : ℕ
+  pub before : done < steps
+  pub told : List Event
+  pub state : State
+  pub whole : many (act t max items) done first ≡ Goes told state
+  pub front : List ℕ
+  pub rest : List ℕ
+  pub prints : front ++ rest ≡ printed_by (act t max items state)
+  pub took : Took old new (bytes_of told ++ front)
+  pub at_least : asks_in told ≤ answered
+  pub at_most : answered ≤ asks_in told + asks_in (events_of (act t max items state))
+
+-- after `done` steps, for which `answered` items were read, stands a call that fits, to which memory was refused, and out took
 -- what they print
 pub record Refused (t : Tables) (max : ℕ) (items : ℕ → Item) (steps : ℕ) (first : State) (answered : ℕ) (old new : Option (List ℕ)) : Type 0 where
   pub done : ℕ

@@ -27,7 +27,7 @@ Leads t long pc base (Jump to) = Inside t long to base
 Leads t long pc base (JumpZero a to) = Inside t long to base × Inside t long (pc + 1) base
 Leads t long pc base _ = Inside t long (pc + 1) base
 
--- a function of the code that can be called from the frame at an index: its arguments and results lie inside so many words
+-- a function of the code that can be called from the frame at an index: its arguments and results lie inside `long` words
 pub record Callable (t : Tables) (long base g : ℕ) : Type 0 where
   pub fn : Func
   pub is : slice_get t.funcs g ≡ Some fn
@@ -35,7 +35,7 @@ pub record Callable (t : Tables) (long base g : ℕ) : Type 0 where
   pub starts : slice_get t.owners fn.start ≡ Some g
   pub room : base + (fn.arguments + fn.results) ≤ long
 
--- the slots that an instruction touches lie inside so many words, the function that it calls can be called, and the string that it
+-- the slots that an instruction touches lie inside `long` words, the function that it calls can be called, and the string that it
 -- prints is there
 abbrev pub Touches : Tables → ℕ → ℕ → Instr → Type 0
 Touches t long base (Const a word) = base + a < long
@@ -65,7 +65,7 @@ Touches t long base (PanicInt a) = base + a < long
 Touches t long base (PanicBool a) = base + a < long
 Touches t long base _ = ⊤
 
--- words that lie somewhere are taken ones of the heap, or lie behind the frame's lowest word in a block of so many
+-- words that lie somewhere are taken ones of the heap, or lie above the frame's lowest word in a block of `long`
 abbrev pub Reached : (heap : List ℕ) → (long base at count : ℕ) → Spot → Type 0
 Reached heap long base at count (InHeap index) = AreTaken heap at count × (index ≡ at - first_address)
 Reached heap long base at count (InStack index) = base + (index + count) ≤ long

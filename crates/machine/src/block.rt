@@ -5,7 +5,7 @@ use base::NoMemory;
 use std::alloc::Global;
 use std::cmp::{max, min};
 
-// Zeros, so many, and these words behind them.
+// `below` zeros, and these words after them.
 fn behind_zeros(alloc: Global, below: usize, words: &[u64]) -> Result<Vec<u64>, NoMemory>
     requires { below + length words.now ≤ 2 ^ 33 }
     ensures { IfOk result (λ v. v.items ≡ replicate below 0 ++ words.now) }
@@ -16,8 +16,8 @@ fn behind_zeros(alloc: Global, below: usize, words: &[u64]) -> Result<Vec<u64>, 
     Ok(block)
 }
 
-// Doubles a block at its low end, or more where so many words would not have room below an index, or less where the block
-// would have more than so many. The answer is where that index is then.
+// Doubles a block at its low end, or more where `need` words would not have room below `base`, or less where the block
+// would have more than `stack_max`. The answer is where that index is then.
 #[inline(never)]
 fn extend(
     alloc: Global,
@@ -40,7 +40,7 @@ fn extend(
     Ok(below)
 }
 
-/// Makes room for so many words below an index of a block that may have at most so many. The answer is where that index
+/// Makes room for `need` words below `base` in a block that may have at most `stack_max`. The answer is where that index
 /// is then. Where memory is refused, the block is as it was.
 #[inline(always)]
 pub fn make_room(

@@ -4,7 +4,7 @@ ghost use Rattle.isa.specs.Code.{Tables, IsCode};
 ghost use Rattle.machine.specs.Machine.{frame_of, owner_of};
 ghost use Rattle.machine.specs.Inside.{Inside, Callable};
 
-use crate::Place;
+use crate::RunState;
 use isa::{Func, Instr};
 
 /// The words of the frame of a place's function.
@@ -33,7 +33,7 @@ pub fn own_frame(
     funcs: &[Func],
     strings: &[Vec<u8>],
     _words: &Vec<u64>,
-    at: Place,
+    at: RunState,
 ) -> usize
     requires code { IsCode (record { instrs = instrs.now; owners = owners.now; funcs = funcs.now; strings = map (λ bytes. bytes.items) strings.now }) }
     requires inside { Inside (record { instrs = instrs.now; owners = owners.now; funcs = funcs.now; strings = map (λ bytes. bytes.items) strings.now }) (length _words.now.items) at.pc at.base }

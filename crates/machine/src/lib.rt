@@ -9,17 +9,17 @@
 //! In the definition the stack is the list of its used words from the lowest address: the running frame comes first,
 //! and slot a is word a. A call puts a frame before them, a return takes its frame away. A place is named by its distance
 //! from the stack's upper end, and its address follows from that alone. A frame's two highest words are its links: the
-//! place behind the call, and the address behind the caller's frame. A return tests both, so words that a program wrote
+//! place after the call, and the address after the caller's frame. A return tests both, so words that a program wrote
 //! over are found out and not followed.
 //!
-//! Two instructions reach memory by an address: so many words from it on must be taken ones of the heap, or lie in the stack
+//! Two instructions reach memory by an address: the words from it on must be taken ones of the heap, or lie in the stack
 //! from the running frame on. One definition says which of both, or that they lie nowhere, and then the run stops. By the
 //! address 0 the program panics. The heap is a part of the state, and the other instructions keep it.
 //!
 //! The items of the input have numbers, and the definition takes them as a function of these, as though all were known
 //! before the run. In truth nobody knows an item before it was read. So a contract tells the answers that came from the
 //! reader, and says what was done for whatever items have them from the number of reads on. Where a read fails, the
-//! definition asks for an item behind just these answers, and the sink took what is printed up to there.
+//! definition asks for an item after just these answers, and the sink took what is printed up to there.
 //!
 //! In the program the stack stands at the upper end of a block of words, and its lowest word has an index: slot a is
 //! `block[base + a]`. What lies below the index is not used and no definition sees it. Where a call's frame has no room
@@ -33,12 +33,12 @@ mod block;
 mod functions;
 mod links;
 mod memory;
-mod place;
+mod run_state;
+mod running;
 mod slots;
 mod steps;
-mod whole;
 
 pub use memory::Spot;
-pub use place::{Ending, Next, Panic, Place};
+pub use run_state::{Ending, Next, Panic, RunState};
+pub use running::run;
 pub use steps::step;
-pub use whole::run;

@@ -9,14 +9,14 @@ ghost use Rattle.machine.specs.Answers.{Comes, StatusFits, state_of};
 
 use crate::block::make_room;
 use crate::functions::{frame_at, own_frame};
-use crate::place::{Ending, Next, Place};
+use crate::run_state::{Ending, Next, RunState};
 use crate::slots::{set_slot, slot, zero_slots};
 use isa::{Func, Instr};
 use std::alloc::Global;
 
 const STACK_START: u64 = 1 << 40;
 
-/// The address of the place that lies so many words below the upper end of a stack of at most so many words.
+/// The address of the place that lies `distance` words below the upper end of a stack of at most `stack_max` words.
 #[inline(always)]
 pub fn address(stack_max: u64, distance: usize) -> u64
     requires { (distance ≤ stack_max) × (stack_max ≤ 2 ^ 32) }
@@ -25,7 +25,7 @@ pub fn address(stack_max: u64, distance: usize) -> u64
     STACK_START + stack_max - distance as u64
 }
 
-// A frame of so many words stands below an index, and the answer is its lowest word's.
+// A frame of `frame` words stands below `base`, and the answer is the index of its lowest word.
 #[inline(always)]
 fn push(words: &mut Vec<u64>, base: usize, frame: usize, link: u64, ret: u64) -> usize
     requires room { (2 ≤ frame) × (frame ≤ base) × (base ≤ length words.old.items) }
@@ -40,13 +40,13 @@ fn push(words: &mut Vec<u64>, base: usize, frame: usize, link: u64, ret: u64) ->
     low
 }
 
-/// Calls a function from a frame of so many words.
+/// Calls a function from a frame of `frame` words.
 #[inline(always)]
 pub fn call(
     alloc: Global,
     words: &mut Vec<u64>,
     stack_max: u64,
-    at: Place,
+    at: RunState,
     frame: usize,
     callee: Func,
 ) -> Next
@@ -89,7 +89,7 @@ pub fn call(
     }
 }
 
-// Whether a place stands behind a call of a function.
+// Whether a place stands after a call of a function.
 #[inline(always)]
 fn follows(
     instrs: &[Instr],
@@ -130,7 +130,7 @@ fn exit(ret: u64, link: u64) -> Ending
     Ending::Exit(0)
 }
 
-// Whether a link is the address behind a frame that ends at an index of the block.
+// Whether a link is the address after a frame that ends at an index of the block.
 #[inline(always)]
 fn links(words: &Vec<u64>, stack_max: u64, outer: usize, link: u64) -> bool
     requires { (length words.now.items ≤ stack_max) × (stack_max ≤ 2 ^ 32) }
@@ -148,7 +148,7 @@ pub fn leave(
     strings: &[Vec<u8>],
     words: &Vec<u64>,
     stack_max: u64,
-    at: Place,
+    at: RunState,
 ) -> Next
     requires code { IsCode (record { instrs = instrs.now; owners = owners.now; funcs = funcs.now; strings = map (λ bytes. bytes.items) strings.now }) }
     requires words { (length words.now.items ≤ stack_max) × (stack_max ≤ 2 ^ 32) }

@@ -7,7 +7,7 @@ ghost use Rattle.machine.specs.Answers.{Comes, StatusFits, state_of, touched};
 
 use crate::links::address;
 use crate::slots::{copy_slots, set_slot, set_slots, slot, slots};
-use crate::{Ending, Next, Panic, Place};
+use crate::{Ending, Next, Panic, RunState};
 use heap_bump::{HEAP_LOW, Heap};
 
 /// Where words lie: in the heap from an index on, counted from its lowest word, in the stack from an index on, counted from
@@ -19,7 +19,7 @@ pub enum Spot {
     Nowhere,
 }
 
-// Whether so many words from an address on lie from one address up to another.
+// Whether `n` words from an address on lie from `low` up to `high`.
 #[inline(always)]
 fn lie_within(low: u64, high: u64, at: u64, n: u64) -> bool
     requires { low ≤ high }
@@ -28,7 +28,7 @@ fn lie_within(low: u64, high: u64, at: u64, n: u64) -> bool
     low <= at && at <= high && n <= high - at
 }
 
-// Where so many words from an address on lie.
+// Where `n` words from an address on lie.
 #[inline(always)]
 fn find(heap: &Heap, words: &Vec<u64>, stack_max: u64, base: usize, at: u64, n: u16) -> Spot
     requires { (base ≤ length words.now.items) × (length words.now.items ≤ stack_max) × (stack_max ≤ 2 ^ 32) }
@@ -45,7 +45,7 @@ fn find(heap: &Heap, words: &Vec<u64>, stack_max: u64, base: usize, at: u64, n: 
     Spot::Nowhere
 }
 
-// The address that lies so far behind the word of a slot, unless that is 0.
+// The address that lies `off` above the word of a slot, unless that is 0.
 #[inline(always)]
 fn address_behind(words: &Vec<u64>, base: usize, a: u16, off: u16) -> Option<u64>
     requires { base + a < length words.now.items }
@@ -58,7 +58,7 @@ fn address_behind(words: &Vec<u64>, base: usize, a: u16, off: u16) -> Option<u64
     Some(word.wrapping_add(off as u64))
 }
 
-// The slots from a on get so many words from an address on, or they lie nowhere. It stands out of line, so that the other
+// The slots from `a` on get `n` words from an address on, or they lie nowhere. It stands out of line, so that the other
 // instructions keep their registers.
 #[inline(never)]
 fn load_words(
@@ -89,7 +89,7 @@ fn load_words(
     }
 }
 
-// The words from an address on get those of so many slots from c on, or they lie nowhere.
+// The words from an address on get those of `n` slots from `c` on, or they lie nowhere.
 #[inline(never)]
 fn store_words(
     words: &mut Vec<u64>,
@@ -129,9 +129,9 @@ pub fn slot_address(words: &Vec<u64>, stack_max: u64, base: usize, a: u16) -> u6
     address(stack_max, words.len() - base - a as usize)
 }
 
-/// The slot a gets the address that lies off behind the word of slot b.
+/// The slot `a` gets the address that lies `off` above the word of slot `b`.
 #[inline(always)]
-pub fn offset(words: &mut Vec<u64>, at: Place, a: u16, b: u16, off: u16) -> Next
+pub fn offset(words: &mut Vec<u64>, at: RunState, a: u16, b: u16, off: u16) -> Next
     requires slots { (at.base + a < length words.old.items) × (at.base + b < length words.old.items) }
     requires place { at.pc < 2 ^ 40 }
     ensures offsets { (reads : ℕ) (heap : Words) → Comes (offsets (state_of words.old.items at reads heap) a b off) (state_of words.new.items result.at reads heap) result.ending }
@@ -164,7 +164,7 @@ fn element_address(first: u64, index: i64, len: u16, w: u16) -> Option<u64>
 /// The slot a gets the address of an element of w words: the one with the index in slot c of an array of len elements that
 /// begins at the word of slot b. It stands out of line, so that the other instructions keep their registers.
 #[inline(never)]
-pub fn index(words: &mut Vec<u64>, at: Place, a: u16, b: u16, c: u16, len: u16, w: u16) -> Next
+pub fn index(words: &mut Vec<u64>, at: RunState, a: u16, b: u16, c: u16, len: u16, w: u16) -> Next
     requires slots { (at.base + a < length words.old.items) × (at.base + b < length words.old.items) × (at.base + c < length words.old.items) }
     requires place { at.pc < 2 ^ 40 }
     ensures indexes { (reads : ℕ) (heap : Words) → Comes (indexes (state_of words.old.items at reads heap) a b c len w) (state_of words.new.items result.at reads heap) result.ending }
@@ -192,13 +192,13 @@ pub fn index(words: &mut Vec<u64>, at: Place, a: u16, b: u16, c: u16, len: u16, 
     }
 }
 
-/// The slots from a on get the n words that lie off behind the word of slot b.
+/// The slots from `a` on get the `n` words that lie `off` above the word of slot `b`.
 #[inline(always)]
 pub fn load(
     words: &mut Vec<u64>,
     stack_max: u64,
     heap: &Heap,
-    at: Place,
+    at: RunState,
     a: u16,
     b: u16,
     off: u16,
@@ -226,13 +226,13 @@ pub fn load(
     }
 }
 
-/// The n words that lie off behind the word of slot a get those of the slots from c on.
+/// The `n` words that lie `off` above the word of slot `a` get those of the slots from `c` on.
 #[inline(always)]
 pub fn store(
     words: &mut Vec<u64>,
     stack_max: u64,
     heap: &mut Heap,
-    at: Place,
+    at: RunState,
     a: u16,
     off: u16,
     c: u16,

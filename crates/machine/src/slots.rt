@@ -23,7 +23,7 @@ pub fn set_slot(words: &mut Vec<u64>, base: usize, a: usize, word: u64)
     words[base + a] = word;
 }
 
-/// The words of so many slots from one on.
+/// The words of `count` slots from `a` on.
 #[inline(always)]
 #[tactic(auto, using(crate::proofs::Words::slots_read))]
 pub fn slots(words: &Vec<u64>, base: usize, a: usize, count: usize) -> &[u64]
@@ -35,7 +35,7 @@ pub fn slots(words: &Vec<u64>, base: usize, a: usize, count: usize) -> &[u64]
     &words[from..from + count]
 }
 
-/// Whether so many slots from one on have the words of the slots from another one on. It stands out of line, so that the
+/// Whether `count` slots from `a` on have the words of the slots from `b` on. It stands out of line, so that the
 /// other instructions keep their registers.
 #[inline(never)]
 pub fn same_slots(words: &Vec<u64>, base: usize, a: usize, b: usize, count: usize) -> bool
@@ -75,7 +75,7 @@ pub fn set_slots(words: &mut Vec<u64>, base: usize, a: usize, slots: &[u64])
     put_block(words, base + a, slots);
 }
 
-// So many words from one index get the words from another index on.
+// `count` words from `to` on get the words from `from` on.
 #[inline(always)]
 fn copy_words(words: &mut [u64], from: usize, to: usize, count: usize)
     requires { (from + count ≤ length words.old) × (to + count ≤ length words.old) }
@@ -95,7 +95,7 @@ fn copy_block(words: &mut Vec<u64>, from: usize, to: usize, count: usize)
     copy_words(words.as_mut_slice(), from, to, count);
 }
 
-/// So many slots from one on get the words of the slots from another one on, as through a copy.
+/// `count` slots from `to` on get the words of the slots from `from` on, as through a copy.
 #[inline(always)]
 pub fn copy_slots(words: &mut Vec<u64>, base: usize, from: usize, to: usize, count: usize)
     requires { (base + (from + count) ≤ length words.old.items) × (base + (to + count) ≤ length words.old.items) }
@@ -125,7 +125,7 @@ fn zero(words: &mut Vec<u64>, from: usize, to: usize)
     zero_words(words.as_mut_slice(), from, to);
 }
 
-/// So many slots from one on get zeros.
+/// `count` slots from `from` on get zeros.
 #[inline(always)]
 pub fn zero_slots(words: &mut Vec<u64>, base: usize, from: usize, count: usize)
     requires { base + (from + count) ≤ length words.old.items }

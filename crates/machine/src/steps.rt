@@ -17,7 +17,7 @@ use crate::functions::{callee, own_frame, string};
 use crate::links::{address, call, leave};
 use crate::memory::{index, load, offset, slot_address, store};
 use crate::slots::{copy_slots, same_slots, set_slot, slot, zero_slots};
-use crate::{Ending, Next, Panic, Place};
+use crate::{Ending, Next, Panic, RunState};
 use heap_bump::Heap;
 use isa::{BinFault, Func, Instr, bin, bit, un};
 use outside::{IntReader, ReadFault, Sink, Source, WriteFault, put_bool, put_bytes, put_int};
@@ -25,9 +25,9 @@ use std::alloc::Global;
 
 const LARGEST_STATUS: i64 = 125;
 
-// The run goes on behind a piece, if it was written.
+// The run goes on after a piece, if it was written.
 #[inline(always)]
-fn printed(at: Place, written: Result<(), WriteFault>) -> Next
+fn printed(at: RunState, written: Result<(), WriteFault>) -> Next
     requires { at.pc < 2 ^ 40 }
     ensures ok { OnOk written (result ≡ record { at = record { pc = at.pc + 1; base = at.base }; ending = None }) }
     ensures err { OnErr written (result ≡ record { at = at; ending = Some Ending.WriteFault }) }
@@ -40,7 +40,7 @@ fn printed(at: Place, written: Result<(), WriteFault>) -> Next
 
 // Prints a piece.
 #[inline(always)]
-fn print<O: Sink>(_words: &Vec<u64>, at: Place, piece: &[u8], out: &mut O) -> Next
+fn print<O: Sink>(_words: &Vec<u64>, at: RunState, piece: &[u8], out: &mut O) -> Next
     requires { at.pc < 2 ^ 40 }
     ensures step { (reads : ℕ) (heap : Words) → Answers (prints (state_of _words.now.items at reads heap) piece.now) (state_of _words.now.items result.at reads heap) 0 result.ending (O.taken out.old) (O.taken out.new) (O.faults out.old) (O.faults out.new) }
     ensures later { O.faults out.old ≤ O.faults out.new }
@@ -54,7 +54,7 @@ fn print<O: Sink>(_words: &Vec<u64>, at: Place, piece: &[u8], out: &mut O) -> Ne
 
 // Prints the number of a slot.
 #[inline(always)]
-fn print_int<O: Sink>(words: &Vec<u64>, at: Place, a: u16, out: &mut O) -> Next
+fn print_int<O: Sink>(words: &Vec<u64>, at: RunState, a: u16, out: &mut O) -> Next
     requires slot { at.base + a < length words.now.items }
     requires place { at.pc < 2 ^ 40 }
     ensures step { (reads : ℕ) (heap : Words) → Answers (prints (state_of words.now.items at reads heap) (signed_decimal (cast_signed w64 (slice_index (drop at.base words.now.items) a)))) (state_of words.now.items result.at reads heap) 0 result.ending (O.taken out.old) (O.taken out.new) (O.faults out.old) (O.faults out.new) }
@@ -69,7 +69,7 @@ fn print_int<O: Sink>(words: &Vec<u64>, at: Place, a: u16, out: &mut O) -> Next
 
 // Prints the truth value of a slot.
 #[inline(always)]
-fn print_bool<O: Sink>(words: &Vec<u64>, at: Place, a: u16, out: &mut O) -> Next
+fn print_bool<O: Sink>(words: &Vec<u64>, at: RunState, a: u16, out: &mut O) -> Next
     requires slot { at.base + a < length words.now.items }
     requires place { at.pc < 2 ^ 40 }
     ensures step { (reads : ℕ) (heap : Words) → Answers (prints (state_of words.now.items at reads heap) (truth_bytes (slice_index (drop at.base words.now.items) a))) (state_of words.now.items result.at reads heap) 0 result.ending (O.taken out.old) (O.taken out.new) (O.faults out.old) (O.faults out.new) }
@@ -82,7 +82,7 @@ fn print_bool<O: Sink>(words: &Vec<u64>, at: Place, a: u16, out: &mut O) -> Next
     printed(at, written)
 }
 
-// The index of incoming words, so many, behind a frame of so many words; counted from the frame's lowest word.
+// The index of `n` incoming words from `b` on, above a frame of `frame` words; counted from the frame's lowest word.
 #[inline(always)]
 fn incoming(
     words: &Vec<u64>,
@@ -116,7 +116,7 @@ fn panic_of(fault: BinFault) -> Panic
 
 // The program panics at a place.
 #[inline(always)]
-fn panicked(at: Place, panic: Panic) -> Next
+fn panicked(at: RunState, panic: Panic) -> Next
     ensures { result ≡ record { at = at; ending = Some (Ending.Panic panic) } }
 {
     Next::ended(at, Ending::Panic(panic))
@@ -144,7 +144,7 @@ fn fetch(
     _funcs: &[Func],
     _strings: &[Vec<u8>],
     _words: &Vec<u64>,
-    at: Place,
+    at: RunState,
 ) -> Instr
     requires code { IsCode (record { instrs = instrs.now; owners = _owners.now; funcs = _funcs.now; strings = map (λ bytes. bytes.items) _strings.now }) }
     requires inside { Inside (record { instrs = instrs.now; owners = _owners.now; funcs = _funcs.now; strings = map (λ bytes. bytes.items) _strings.now }) (length _words.now.items) at.pc at.base }
@@ -198,7 +198,7 @@ fn read_item<I: Source>(
 #[inline(always)]
 fn read_int<I: Source>(
     words: &mut Vec<u64>,
-    at: Place,
+    at: RunState,
     a: u16,
     reader: &mut IntReader,
     input: &mut I,
@@ -220,7 +220,7 @@ fn read_int<I: Source>(
     }
 }
 
-/// Does one instruction, where the stack may have at most so many words. The place in the answer is that of the next one,
+/// Does one instruction, where the stack may have at most `stack_max` words. The place in the answer is that of the next one,
 /// or where the run ended.
 #[inline(always)]
 pub fn step<I: Source, O: Sink>(
@@ -232,7 +232,7 @@ pub fn step<I: Source, O: Sink>(
     words: &mut Vec<u64>,
     stack_max: u64,
     heap: &mut Heap,
-    at: Place,
+    at: RunState,
     reader: &mut IntReader,
     input: &mut I,
     out: &mut O,

@@ -1,6 +1,6 @@
 -- The journal of a bounded run: what a program does within n turns, alone and under limits.
 use Rattle.std.specs.Prelude.{ℕ, ◌+◌, List, [], ◌∷◌, ◌++◌, nat_le, if◌then◌else◌}
-use Rattle.typed.specs.Syntax.{Program}
+use Rattle.typed_syntax.specs.Syntax.{Program}
 use Rattle.simulation.specs.Outcome as Run
 use Rattle.simulation.specs.Outcome.{Lines, Outcome, Gives, Ends, Unfinished, upto}
 use Rattle.meaning.specs.Trace.{Entry, Call, Return, Born, Read, Write, Print, Asked, Ending, Turns, StackLimit, HeapLimit, Trace, Turn, Note, Seen, End, Cut}
@@ -16,7 +16,7 @@ entries (End e) = Run.End e
 entries Cut = Run.Cut
 
 -- cut before the first call for which the stack would have too many words, and before the first birth for which the heap
--- would; these calls run, and the heap has so many words
+-- would; these calls run, and the heap has `heap` words
 abbrev pub entries_within : Limits → List ℕ → (heap : ℕ) → Trace → Lines Entry Ending
 entries_within l calls heap (Turn t) = Run.Turn (entries_within l calls heap t)
 entries_within l calls heap (Seen m t) = entries_within l calls heap t
@@ -59,7 +59,7 @@ abbrev pub bytes_in : Entry → List ℕ
 bytes_in (Print bytes) = bytes
 bytes_in e = []
 
--- the output before each call of `readInt`, behind this output
+-- the output before each call of `readInt`, after this output
 abbrev pub with_ask : Entry → List ℕ → List (List ℕ) → List (List ℕ)
 with_ask Asked before asks = before ∷ asks
 with_ask e before asks = asks

@@ -4,4 +4,3 @@ pub mod Operators
 pub mod Meaning
 pub mod Output
 pub mod Journal
-pub mod Laws

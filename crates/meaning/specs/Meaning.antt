@@ -1,11 +1,11 @@
 -- What a typed program does.
 use Rattle.std.specs.Prelude.{ℕ, zero, suc, ◌-◌, ℤ, pos, negsuc, Bool, true, false, List, [], ◌∷◌, ◌++◌, length, Option, Some, None, Result, Ok, Err, get_or, slice_get, if◌then◌else◌, nat_eq, nat_lt}
 use Rattle.std.specs.Fmt.{signed_decimal}
-use Rattle.base.specs.declared.pos.Pos.{Pos}
-use Rattle.value_trees.specs.Types.{ValueType, ints}
-use Rattle.value_trees.specs.Value.{Value, int, bool, composite, words, zero_of as zero_value}
-use Rattle.value_trees.specs.Paths.{no_value, part, with_part}
-use Rattle.typed.specs.Syntax.{Ex, Exs, Pl, Steps, Left, Piece, Over, St, Sts, Func, Program, constant, read, unary, binary, both, either, call, part_of, literal, Elements, no_elements, element, none, more, results, asked, local, global, here, inner, at_index, blank, new, to, text, shown, over_int, over_length, over_copy, declare, assign, update, bump, discard, block, choose, loop, range, break_off, go_on, give_back, print, raise, quit, done, next, type_in}
+use Rattle.typed_syntax.specs.Positions.{Position}
+use Rattle.typed_syntax.specs.Types.{TypeTree, ints}
+use Rattle.typed_syntax.specs.Value.{Value, int, bool, composite, words, zero_of as zero_value}
+use Rattle.typed_syntax.specs.Paths.{no_value, part, with_part}
+use Rattle.typed_syntax.specs.Syntax.{Ex, Exs, Pl, Steps, Left, Piece, Over, St, Sts, Func, Program, constant, read, unary, binary, logical_and, logical_or, call, part_of, literal, Elements, no_elements, element, none, more, results, read_int, local, global, here, inner, at_index, blank, new, to, text, shown, over_int, over_length, over_copy, declare, assign, update, bump, discard, block, if_stmt, for_stmt, range, break_stmt, continue_stmt, return_stmt, print, panic, exit, done, next, type_in}
 use Rattle.meaning.specs.Trace.{Entry, Call, Return, Born, Read, Write, Print, Asked, Fault, index_out_of_range, exit_code, raised_text, raised, Ending, Exit, Panic, World, Cell, Mark, state, entered, ended, copied, Trace, Turn, Note, Seen, End, Cut}
 use Rattle.meaning.specs.Store.{read_at, written, born}
 use Rattle.meaning.specs.Operators.{unary_of, binary_of}
@@ -27,14 +27,14 @@ home env site = env site
 abbrev pub with_home : Env → ℕ → ℕ → Env
 with_home env site v = λ x. if nat_eq x site then v else env x
 
--- where a statement can lead, besides to what stands behind it: behind its loop, to the loop's next round, behind its
+-- where a statement can lead, besides to what follows it: past its loop, to the loop's next round, past its
 -- call, and where a panic leads; the values that running evaluations hold meanwhile, and the number of variables at the
 -- entry of the running call
 pub record Ways : Type 0 where
   pub broken : Env → Go
   pub continued : Env → Go
   pub returned : List Value → Env → Go
-  pub panicked : Pos → Fault → Env → Go
+  pub panicked : Position → Fault → Env → Go
   pub held : List Value
   pub call : ℕ
 
@@ -49,8 +49,8 @@ Item = Option ℤ
 -- what a run takes from around the function: the types by their numbers, the type of each site, the bytes of each string, and
 -- the items of the input in order, without an end
 pub record Setting : Type 0 where
-  pub types : List ValueType
-  pub sites : List ValueType
+  pub types : List TypeTree
+  pub sites : List TypeTree
   pub strings : List (List ℕ)
   pub items : ℕ → Item
 
@@ -125,7 +125,7 @@ abbrev pub only_value : List Value → Value
 only_value [] = no_value
 only_value (v ∷ vs) = v
 
-abbrev pub or_panic : {A : Type 0} → Ways → Env → Pos → Result A Fault → Then A → Go
+abbrev pub or_panic : {A : Type 0} → Ways → Env → Position → Result A Fault → Then A → Go
 or_panic ws env at (Ok a) k = k a
 or_panic ws env at (Err f) k = ws.panicked at f env
 
@@ -147,7 +147,7 @@ pub data Base : Type 0 where
 pub data Step : Type 0 where
   fixed : ℕ → Step
   -- an index that was worked out, and the length of the array
-  worked : Pos → Value → ℕ → Step
+  worked : Position → Value → ℕ → Step
 
 pub record Aim : Type 0 where
   pub base : Base
@@ -199,8 +199,8 @@ module _ (around : Setting) (calls : Calls) where
     ev (read p) ws env k = aim p ws env (λ a. settle ws env a (λ q. read_part q.variable q.path (give ws k)))
     ev (unary op e) ws env k = ev e ws env (λ v. turn (give ws k (unary_of op v)))
     ev (binary at op a b) ws env k = ev a ws env (λ v. ev b (holding ws v) env (λ u. turn (or_panic ws env at (binary_of op v u) (give ws k))))
-    ev (both a b) ws env k = ev a ws env (λ v. turn (branch v (ev b ws env k) (give ws k (bool false))))
-    ev (either a b) ws env k = ev a ws env (λ v. turn (branch v (give ws k (bool true)) (ev b ws env k)))
+    ev (logical_and a b) ws env k = ev a ws env (λ v. turn (branch v (ev b ws env k) (give ws k (bool false))))
+    ev (logical_or a b) ws env k = ev a ws env (λ v. turn (branch v (give ws k (bool true)) (ev b ws env k)))
     ev (call f es) ws env k = evs es ws env (λ vs. turn (calls f vs ws env (λ rs. give ws k (only_value rs))))
     ev (part_of n i e) ws env k = ev e ws env (λ v. turn (give ws k (part v i)))
     ev (literal n es) ws env k = turn (fill es (zero_value (type_in around.types n)) ws env (give ws k))
@@ -214,7 +214,7 @@ module _ (around : Setting) (calls : Calls) where
     evs none ws env k = k []
     evs (more e es) ws env k = ev e ws env (λ v. evs es (holding ws v) env (λ vs. k (v ∷ vs)))
     evs (results f es) ws env k = evs es ws env (λ vs. turn (calls f vs ws env (give_all ws k)))
-    evs asked ws env k = turn (ask around (give_all ws k))
+    evs read_int ws env k = turn (ask around (give_all ws k))
 
 -- a left side whose operands are known
 pub data Landing : Type 0 where
@@ -322,7 +322,7 @@ counted (suc fuel) i (suc left) body k n env = turn (body i n env (λ n1 env1. t
 abbrev pub in_loop : (Ways → Env → (Env → Go) → Go) → Ways → (out again : Env → Go) → Env → Go
 in_loop body ws out again env = body (record { broken = out; continued = again; returned = ws.returned; panicked = ws.panicked; held = ws.held; call = ws.call }) env again
 
--- behind a loop
+-- past a loop
 abbrev pub outside : (Env → Go) → ℕ → Env → Go
 outside k n env = mark (ended n) (k env)
 
@@ -340,12 +340,12 @@ count_of (int (pos n)) = n
 count_of v = 0
 
 -- `exit`: a status from 0 to 125
-abbrev pub quit_with : Ways → Env → Pos → ℤ → Go
+abbrev pub quit_with : Ways → Env → Position → ℤ → Go
 quit_with ws env at (pos n) = when (nat_lt n 126) (stop (Exit n)) (ws.panicked at (exit_code (pos n)) env)
 quit_with ws env at (negsuc n) = ws.panicked at (exit_code (negsuc n)) env
 
 -- where no panic can be
-abbrev pub no_pos : Pos
+abbrev pub no_pos : Position
 no_pos = record { offset = 0; line = 0; col = 0 }
 
 module _ (around : Setting) (calls : Calls) (fuel : ℕ) where
@@ -375,23 +375,23 @@ module _ (around : Setting) (calls : Calls) (fuel : ℕ) where
     exec (declare sites) ws env k = bear_zeros around ws.call sites env k
     exec (update at p op e) ws env k =
         aim around calls p ws env (λ a. settle ws env a (λ q. read_part q.variable q.path (λ v. ev around calls e (holding ws v) env (λ u. or_panic ws env at (binary_of op v u) (λ x. write_part q.variable q.path x (k env))))))
-    exec (bump p op) ws env k =
-        aim around calls p ws env (λ a. settle ws env a (λ q. read_part q.variable q.path (λ v. or_panic ws env no_pos (binary_of op v (int (pos 1))) (λ x. write_part q.variable q.path x (k env)))))
+    exec (bump at p op) ws env k =
+        aim around calls p ws env (λ a. settle ws env a (λ q. read_part q.variable q.path (λ v. or_panic ws env at (binary_of op v (int (pos 1))) (λ x. write_part q.variable q.path x (k env)))))
     exec (assign ls es) ws env k = ready_all around calls ls ws env (λ those ws1. evs around calls es ws1 env (λ vs. land_all around those vs ws env k))
     exec (discard es) ws env k = evs around calls es ws env (λ vs. k env)
     exec (block ss) ws env k = exec_all ss ws env k
-    exec (choose e a b) ws env k = ev around calls e ws env (λ v. turn (branch v (exec_all a ws env k) (exec_all b ws env k)))
-    exec (loop sites test post body) ws env k =
+    exec (if_stmt e a b) ws env k = ev around calls e ws env (λ v. turn (branch v (exec_all a ws env k) (exec_all b ws env k)))
+    exec (for_stmt sites test post body) ws env k =
         births (λ n. rounds fuel (test_of around calls test ws) (λ n1 env1 j. in_loop (exec_all body) ws (outside k n1) (to_next around n1 sites (exec_all post) ws j) env1) (outside k) (n - length sites) env)
     exec (range over key value body) ws env k =
         begin_range over ws env (λ n ws1 env1. births (λ m. counted fuel 0 n (range_round over key value (exec_all body) ws1 (outside k)) (outside k) m env1))
-    exec break_off ws env k = turn (ws.broken env)
-    exec go_on ws env k = turn (ws.continued env)
-    exec (give_back es) ws env k = evs around calls es ws env (λ vs. ws.returned vs env)
+    exec break_stmt ws env k = turn (ws.broken env)
+    exec continue_stmt ws env k = turn (ws.continued env)
+    exec (return_stmt es) ws env k = evs around calls es ws env (λ vs. ws.returned vs env)
     exec (print ln ps) ws env k = pieces around calls ps ws env (λ bs. emit ln bs (k env))
-    exec (raise at (text number)) ws env k = turn (ws.panicked at (raised_text (get_or around.strings number [])) env)
-    exec (raise at (shown t e)) ws env k = ev around calls e ws env (λ v. turn (ws.panicked at (raised v) env))
-    exec (quit at e) ws env k = ev around calls e ws env (λ v. turn (quit_with ws env at (int_of v)))
+    exec (panic at (text number)) ws env k = turn (ws.panicked at (raised_text (get_or around.strings number [])) env)
+    exec (panic at (shown t e)) ws env k = ev around calls e ws env (λ v. turn (ws.panicked at (raised v) env))
+    exec (exit at e) ws env k = ev around calls e ws env (λ v. turn (quit_with ws env at (int_of v)))
 
     pub exec_all : Sts → Ways → Env → (Env → Go) → Go
     exec_all done ws env k = see ws.held (k env)
@@ -433,7 +433,7 @@ module _ (around : Setting) (funcs : List Func) where
   run_body calls fuel f (Some func) vs ws env k =
       see_call vs (note (Call f) (births (λ n. bear_params around n func.params vs (λ x. 0) (λ env1. bear_zeros around n func.named env1 (λ env2. exec_all around calls fuel func.body (ways_in func.named n ws env k) env2 (leave func.named n k []))))))
 
-  -- a call, with at most so many calls inside each other
+  -- a call, with at most `fuel` calls inside each other
   abbrev pub call_at : ℕ → Calls
   call_at zero f vs ws env k = no_fuel
   call_at (suc fuel) f vs ws env k = run_body (call_at fuel) (suc fuel) f (slice_get funcs f) vs ws env k

@@ -2,11 +2,11 @@
 use Rattle.std.specs.Prelude.{zero, ℕ, ℤ, pos, negsuc, Bool, true, false, not, Result, Ok, Err, int_lt, int_le, int_rem, min}
 use Rattle.std.specs.Ordering.{int_eq}
 use Rattle.std.specs.Int.{w64, int_wrapping_add, int_wrapping_sub, int_wrapping_mul, int_wrapping_div, int_wrapping_neg, int_bit_and, int_bit_or, int_bit_xor, int_bit_not, int_shl, int_shr}
-use Rattle.typed.specs.declared.operators.BinOp.{BinOp}
-use Rattle.typed.specs.declared.operators.BinOp.TheVariants.{Add, Sub, Mul, Div, Rem, And, Or, Xor, AndNot, ShiftLeft, ShiftRight, Equal, NotEqual, Less, LessEqual, Greater, GreaterEqual}
-use Rattle.typed.specs.declared.operators.UnOp.{UnOp}
-use Rattle.typed.specs.declared.operators.UnOp.TheVariants.{Plus, Negate, Complement, Not}
-use Rattle.value_trees.specs.Value.{Value, int, bool, composite, same_truth, same}
+use Rattle.typed_syntax.specs.declared.operators.BinOp.{BinOp}
+use Rattle.typed_syntax.specs.declared.operators.BinOp.TheVariants.{Add, Sub, Mul, Div, Rem, And, Or, Xor, AndNot, ShiftLeft, ShiftRight, Equal, NotEqual, Less, LessEqual, Greater, GreaterEqual}
+use Rattle.typed_syntax.specs.declared.operators.UnOp.{UnOp}
+use Rattle.typed_syntax.specs.declared.operators.UnOp.TheVariants.{Plus, Negate, Complement, Not}
+use Rattle.typed_syntax.specs.Value.{Value, int, bool, composite, same_truth, same}
 use Rattle.meaning.specs.Trace.{Fault, divide_by_zero, shift_count}
 
 -- a quotient or a remainder, truncated towards zero; the least number divided by -1 is itself

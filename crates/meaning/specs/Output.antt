@@ -1,6 +1,6 @@
 -- What a run shows to those outside: the printed pieces and the end, under limits.
 use Rattle.std.specs.Prelude.{◌≡◌, ◌⊎◌, ℕ, ◌+◌, Bool, List, [], ◌∷◌, ◌++◌, nat_le, if◌then◌else◌}
-use Rattle.typed.specs.Syntax.{Program}
+use Rattle.typed_syntax.specs.Syntax.{Program}
 use Rattle.meaning.specs.Trace.{Call, Return, Born, Read, Write, Print, Asked, Ending, StackLimit, HeapLimit, Trace, Turn, Note, Seen, End, Cut}
 use Rattle.meaning.specs.Meaning.{Item, trace}
 use Rattle.simulation.specs.Outcome as Run
@@ -29,7 +29,7 @@ pub data Sight : Type 0 where
   asking : Sight
 
 -- cut before the first call for which the stack would have too many words, and before the first birth for which the heap
--- would; these calls run, and the heap has so many words
+-- would; these calls run, and the heap has `heap` words
 abbrev pub out : Limits → List ℕ → (heap : ℕ) → Trace → Lines Sight Ending
 out l calls heap (Turn t) = Run.Turn (out l calls heap t)
 out l calls heap (Seen m t) = out l calls heap t
@@ -55,7 +55,7 @@ output (Gives asking o) = output o
 output (Ends e) = []
 output Unfinished = []
 
--- a bounded run asks for an item behind this output
+-- a bounded run asks for an item after this output
 abbrev pub AsksBehind : List ℕ → Outcome Sight Ending → Type 0
 AsksBehind before (Gives (printing bytes) o) = (rest : List ℕ) × (before ≡ bytes ++ rest) × AsksBehind rest o
 AsksBehind before (Gives asking o) = (before ≡ []) ⊎ AsksBehind before o

@@ -1,8 +1,8 @@
 -- Variables, and the parts of their values by paths.
 use Rattle.std.specs.Prelude.{ℕ, zero, suc, List, [], ◌∷◌, ◌++◌, get_or}
-use Rattle.value_trees.specs.Types.{ints}
-use Rattle.value_trees.specs.Value.{Value}
-use Rattle.value_trees.specs.Paths.{no_value, at_path, with_path}
+use Rattle.typed_syntax.specs.Types.{ints}
+use Rattle.typed_syntax.specs.Value.{Value}
+use Rattle.typed_syntax.specs.Paths.{no_value, at_path, with_path}
 use Rattle.meaning.specs.Trace.{World, Cell}
 
 abbrev pub no_cell : Cell

@@ -1,8 +1,8 @@
 -- What a run gives: turns, entries of the journal, states and an end.
 use Rattle.std.specs.Prelude.{ℕ, ℤ, List}
-use Rattle.base.specs.declared.pos.Pos.{Pos}
-use Rattle.value_trees.specs.Types.{ValueType}
-use Rattle.value_trees.specs.Value.{Value}
+use Rattle.typed_syntax.specs.Positions.{Position}
+use Rattle.typed_syntax.specs.Types.{TypeTree}
+use Rattle.typed_syntax.specs.Value.{Value}
 
 -- an entry of the journal
 pub data Entry : Type 0 where
@@ -30,7 +30,7 @@ pub data Fault : Type 0 where
 pub data Ending : Type 0 where
   Turns : Ending
   Exit : (status : ℕ) → Ending
-  Panic : Pos → Fault → Ending
+  Panic : Position → Fault → Ending
   -- the words of the stack in use, those asked for, and the most
   StackLimit : (used asked max : ℕ) → Ending
   -- the same of the heap
@@ -40,7 +40,7 @@ pub data Ending : Type 0 where
 pub record Cell : Type 0 where
   pub site : ℕ
   pub call : ℕ
-  pub type : ValueType
+  pub type : TypeTree
   pub value : Value
 
 -- the variables by birth, none of which dies or moves, and how many items of the input were read

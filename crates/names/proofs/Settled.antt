@@ -5,19 +5,19 @@ use Rattle.std.specs.Prelude.{⊤, option_and_then, slice_get, codes}
 use Rattle.std.specs.List.{AllByRecursion}
 use Rattle.std.specs.Str.{bytes_eq}
 use Rattle.base.specs.declared.pos.Pos.{Pos}
-use Rattle.syntax.specs.FirstBytes.{first_place}
+use Rattle.syntax.specs.FirstBytes.{first_pos}
 use Rattle.syntax.specs.Expressions.{Ex as TreeEx, name, paren, spelled}
-use Rattle.value_types.specs.declared.fault.FaultKind.TheVariants.{OutOfProfile}
-use Rattle.value_types.specs.declared.constant.Fixed.{Fixed}
+use Rattle.type_faults.specs.declared.fault.FaultKind.TheVariants.{OutOfProfile}
+use Rattle.constants.specs.declared.constant.Fixed.{Fixed}
 use Rattle.base.specs.declared.value_type.ValueType.{ValueType}
 use Rattle.base.specs.declared.value_type.ValueType.TheVariants.{Int, Bool as Boolean}
 use Rattle.typed.specs.Tables.{Table}
 use Rattle.typed.specs.Formed.{IsFormed}
-use Rattle.value_types.specs.Given.{allowed}
-use Rattle.value_types.specs.Constants.{is_held}
-use Rattle.value_types.specs.Faults.{fault, IsFault}
-use Rattle.value_types.proofs.Decided.{Decided}
-use Rattle.value_types.proofs.Options.{none_some, same_some}
+use Rattle.type_faults.specs.Given.{allowed}
+use Rattle.constants.specs.Constants.{is_held}
+use Rattle.type_faults.specs.Faults.{fault, IsFault}
+use Rattle.type_faults.proofs.Decided.{Decided}
+use Rattle.type_faults.proofs.Options.{none_some, same_some}
 use Rattle.names.specs.Blocks.{lookup}
 use Rattle.names.specs.declared.scope.Declared.{Declared}
 use Rattle.names.specs.declared.scope.Declared.TheVariants as declared
@@ -120,4 +120,4 @@ module _ (text : List ℕ) (s : Scope) (settled : IsSettled s) where
   pub type_decided : (e : TreeEx) → Decided (type_in text s e) (FailsAsType text s e)
   type_decided (name n) = type_name_decided s (declaration s (spelled text n)) n.pos (λ x is. declared_typed s settled (spelled text n) x is)
   type_decided (paren at e) = type_decided e
-  type_decided e = (fault OutOfProfile (first_place e), refl)
+  type_decided e = (fault OutOfProfile (first_pos e), refl)

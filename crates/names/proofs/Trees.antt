@@ -8,7 +8,7 @@ use Rattle.typed.specs.Formed.{IsFormed, tree_at, words_at}
 use Rattle.typed.proofs.Numbers.{number_holds, lacks}
 use Rattle.typed.proofs.Nested.{made}
 use Rattle.typed.proofs.Beginning.{formed_basic}
-use Rattle.value_trees.specs.Types.{ValueType as TypeTree, ints, bools, width}
+use Rattle.typed_syntax.specs.Types.{TypeTree, ints, bools, width}
 use Rattle.base.specs.declared.value_type.ValueType.{ValueType}
 use Rattle.base.specs.declared.value_type.ValueType.TheVariants.{Int, Bool as Truth}
 use Rattle.names.specs.Scope.{type_number, type_tree, basic_table}

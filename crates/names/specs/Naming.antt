@@ -6,7 +6,7 @@ use Rattle.syntax.specs.Expressions.{Ex as TreeEx, name, paren}
 -- the name that an expression is, in parentheses or not
 abbrev pub name_in : TreeEx → Option Name
 name_in (name n) = Some n
-name_in (paren at e) = name_in e
+name_in (paren pos e) = name_in e
 name_in other = None
 
 -- the bytes of a text from one offset up to another

@@ -3,12 +3,12 @@ use Rattle.std.specs.Prelude.{ℕ, Bool, List, map, [], ◌∷◌, ◌++◌, len
 use Rattle.std.specs.Option.{option_map, unwrap_or}
 use Rattle.base.specs.declared.pos.Pos.{Pos}
 use Rattle.typed.specs.declared.program.Site.{Site}
-use Rattle.value_trees.specs.Types.{ValueType as TypeTree}
+use Rattle.typed_syntax.specs.Types.{TypeTree}
 use Rattle.base.specs.declared.value_type.ValueType.{ValueType}
 use Rattle.base.specs.declared.value_type.ValueType.TheVariants.{Int, Bool as Truth}
 use Rattle.typed.specs.Tables.{Table, number_of}
 use Rattle.typed.specs.Trees.{tree_named}
-use Rattle.value_types.specs.declared.constant.Fixed.{Fixed}
+use Rattle.constants.specs.declared.constant.Fixed.{Fixed}
 use Rattle.names.specs.Blocks.{Blocks, lookup, innermost, insert}
 use Rattle.names.specs.declared.scope.Signature.{Signature as SignatureData}
 use Rattle.names.specs.declared.scope.Declared.{Declared}
@@ -83,12 +83,12 @@ with_declaration s name d = record s { blocks = insert s.blocks name (length s.d
 
 -- one more site, of a type, at a place
 abbrev pub with_site : Scope → ValueType → Pos → Scope
-with_site s t at = record s { sites = s.sites ++ record { pos = at; type_id = record { 0 = type_number s.types t } } ∷ [] }
+with_site s t pos = record s { sites = s.sites ++ record { pos = pos; type_id = record { 0 = type_number s.types t } } ∷ [] }
 
 -- one more variable: with a type it has a site of its own
 abbrev pub with_variable : Option ValueType → Scope → List ℕ → Pos → Scope
-with_variable (Some t) s name at = with_site (with_declaration s name (Variable (record { 0 = length s.sites }) t)) t at
-with_variable None s name at = with_declaration s name Untyped
+with_variable (Some t) s name pos = with_site (with_declaration s name (Variable (record { 0 = length s.sites }) t)) t pos
+with_variable None s name pos = with_declaration s name Untyped
 
 -- one more function, which has a signature or none
 abbrev pub with_signature : Scope → Option Signature → Scope
@@ -118,7 +118,7 @@ abbrev pub outer : Blocks → Blocks
 outer [] = []
 outer (b ∷ bs) = bs
 
--- behind a block
+-- after a block
 abbrev pub closed : Scope → Scope
 closed s = record s { blocks = outer s.blocks }
 

@@ -4,7 +4,7 @@ use Rattle.syntax.specs.Expressions.{Ex as TreeEx, name, paren, spelled}
 use Rattle.base.specs.declared.value_type.ValueType.{ValueType}
 use Rattle.typed.specs.Tables.{Table, number_of}
 use Rattle.typed.specs.Formed.{words_at}
-use Rattle.value_types.specs.Given.{allowed}
+use Rattle.type_faults.specs.Given.{allowed}
 use Rattle.names.specs.declared.scope.Declared.{Declared}
 use Rattle.names.specs.declared.scope.Declared.TheVariants as declared
 use Rattle.names.specs.Scope.{Scope, declaration}
@@ -22,5 +22,5 @@ module _ (text : List ℕ) where
   -- the type that an expression is, in parentheses or not
   abbrev pub type_in : Scope → TreeEx → Option ValueType
   type_in s (name n) = declared_type s.types (declaration s (spelled text n))
-  type_in s (paren at e) = type_in s e
+  type_in s (paren pos e) = type_in s e
   type_in s other = None

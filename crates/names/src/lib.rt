@@ -8,19 +8,14 @@
 //! A scope is the open blocks, what their numbers stand for, and what is known of the variables, functions, constants and strings of a program.
 #![tactic(auto)]
 
-mod block;
+mod blocks;
 mod naming;
 mod scope;
 mod type_names;
 mod universe;
 
-pub use block::Block;
+pub use blocks::Blocks;
 pub use naming::{between, name_in, spelled};
-pub use scope::{
-    Declared, External, GlobalId, Scope, Signature, ValueId, add_global, add_signature, add_site,
-    add_strings, add_value, beginning, close, declaration, declare, declare_variable, fixed,
-    global_count, is_here, next_site, open, set_fixed, site_behind, site_count, string_count,
-    type_id, value_count,
-};
+pub use scope::{Declared, External, GlobalId, Scope, Signature, ValueId, beginning, type_id};
 pub use type_names::{type_fault, type_in};
 pub use universe::{is_blank, is_main};

@@ -4,12 +4,12 @@ ghost use Rattle.std.specs.Prelude.{◌≡◌, ◌<◌, length, map, OnOk, IfOk,
 ghost use Rattle.std.specs.Option.{option_map};
 ghost use Rattle.names.specs.Scope.{type_number, scope_of, signature_of, declaration, is_here, signature, fixed, beginning, with_declaration, with_site, with_variable, with_signature, with_value, with_global, with_fixed, with_strings, opened, closed};
 
-use crate::block::Block;
+use crate::blocks::Blocks;
 use crate::universe::predeclared;
 use base::{FuncId, NoMemory, Pos, SiteId, TypeId, ValueType};
+use constants::Fixed;
 use std::alloc::Global;
 use typed::{INT, Site, TypeTable};
-use value_types::Fixed;
 
 /// The number of a type in a typed program with this table.
 pub fn type_id(types: &TypeTable, value_type: ValueType) -> TypeId
@@ -77,7 +77,7 @@ pub enum Declared {
 /// variable the zero value of its type. And the types of the program.
 #[derive(Drop)]
 pub struct Scope {
-    pub names: Block,
+    pub names: Blocks,
     pub declared: Vec<Declared>,
     pub sites: Vec<Site>,
     pub signatures: Vec<Option<Signature>>,
@@ -92,7 +92,7 @@ pub fn beginning(alloc: Global) -> Result<Scope, NoMemory>
     ensures { IfOk result (λ s. scope_of s ≡ beginning) }
 {
     Ok(Scope {
-        names: Block::new(alloc),
+        names: Blocks::new(alloc),
         declared: Vec::new(alloc),
         sites: Vec::new(alloc),
         signatures: Vec::new(alloc),
@@ -103,184 +103,186 @@ pub fn beginning(alloc: Global) -> Result<Scope, NoMemory>
     })
 }
 
-/// What a name stands for: the innermost block that declares it says so, and outside of them all the language.
-pub fn declaration(scope: &Scope, name: &[u8]) -> Option<Declared>
-    ensures { result ≡ declaration (scope_of scope.now) name.now }
-{
-    match scope.names.lookup(name) {
-        Some(number) => scope.declared.get(number as usize).copied(),
-        None => predeclared(name),
-    }
-}
-
-/// Whether the innermost block declares a name.
-pub fn is_here(scope: &Scope, name: &[u8]) -> bool
-    ensures { result ≡ is_here (scope_of scope.now) name.now }
-{
-    scope.names.innermost(name).is_some()
-}
-
-/// Declares a name in the innermost block.
-pub fn declare(scope: &mut Scope, name: &[u8], declared: Declared) -> Result<(), NoMemory>
-    ensures { OnOk result (scope_of scope.new ≡ with_declaration (scope_of scope.old) name.now declared) }
-{
-    let Ok(number) = u32::try_from(scope.declared.len()) else {
-        return Err(NoMemory);
-    };
-    scope.names.insert(name, number)?;
-    scope.declared.push(declared)?;
-    Ok(())
-}
-
-/// Declares a function with the next number, by its signature if it has one.
-pub fn add_signature(scope: &mut Scope, signature: Option<Signature>) -> Result<(), NoMemory>
-    ensures { OnOk result (scope_of scope.new ≡ with_signature (scope_of scope.old) (option_map signature_of signature)) }
-{
-    scope.signatures.push(signature)?;
-    Ok(())
-}
-
-/// How many constants and package variables there are.
-pub fn value_count(scope: &Scope) -> usize
-    ensures { result ≡ length (scope_of scope.now).values }
-{
-    scope.values.len()
-}
-
-/// What is known of a constant or a package variable.
-pub fn fixed(scope: &Scope, number: ValueId) -> Option<Fixed>
-    ensures { result ≡ fixed (scope_of scope.now) number.0 }
-{
-    match scope.values.get(number.0 as usize) {
-        Some(value) => *value,
-        None => None,
-    }
-}
-
-/// Adds a constant or a package variable with the next number, by what is known of it.
-pub fn add_value(scope: &mut Scope, value: Option<Fixed>) -> Result<(), NoMemory>
-    ensures { OnOk result (scope_of scope.new ≡ with_value (scope_of scope.old) value) }
-{
-    scope.values.push(value)?;
-    Ok(())
-}
-
-/// Says that the constant or variable of the next number is a package variable with a name.
-pub fn add_global(scope: &mut Scope) -> Result<(), NoMemory>
-    ensures { OnOk result (scope_of scope.new ≡ with_global (scope_of scope.old)) }
-{
-    let Ok(number) = u32::try_from(scope.values.len()) else {
-        return Err(NoMemory);
-    };
-    scope.globals.push(ValueId(number))?;
-    Ok(())
-}
-
-/// How many package variables have a name.
-pub fn global_count(scope: &Scope) -> usize
-    ensures { result ≡ length (scope_of scope.now).globals }
-{
-    scope.globals.len()
-}
-
-/// Says what is known of a constant or a package variable.
-pub fn set_fixed(scope: &mut Scope, number: ValueId, value: Option<Fixed>)
-    ensures { scope_of scope.new ≡ with_fixed (scope_of scope.old) number.0 value }
-{
-    let index = number.0 as usize;
-    if index < scope.values.len() {
-        scope.values[index] = value;
-    }
-}
-
-/// How many strings stand in the statements so far.
-pub fn string_count(scope: &Scope) -> usize
-    ensures { result ≡ length (scope_of scope.now).strings }
-{
-    scope.strings.len()
-}
-
-/// Puts these strings behind those of the statements so far.
-pub fn add_strings(scope: &mut Scope, strings: Vec<Vec<u8>>) -> Result<(), NoMemory>
-    ensures { OnOk result (scope_of scope.new ≡ with_strings (scope_of scope.old) (map (λ string. string.items) strings.items)) }
-{
-    let mut strings = strings;
-    scope.strings.append(&mut strings)?;
-    Ok(())
-}
-
-/// Opens a block.
-pub fn open(scope: &mut Scope) -> Result<(), NoMemory>
-    ensures { OnOk result (scope_of scope.new ≡ opened (scope_of scope.old)) }
-{
-    scope.names.open()
-}
-
-/// Closes the innermost block, outside of which another one is open.
-pub fn close(scope: &mut Scope)
-    requires { 1 < length scope.old.names }
-    ensures { scope_of scope.new ≡ closed (scope_of scope.old) }
-{
-    scope.names.close();
-}
-
-/// How many sites there are.
-pub fn site_count(scope: &Scope) -> usize
-    ensures { result ≡ length (scope_of scope.now).sites }
-{
-    scope.sites.len()
-}
-
-/// The number of the next site.
-pub fn next_site(scope: &Scope) -> Result<SiteId, NoMemory>
-    ensures { IfOk result (λ site. site.0 ≡ length (scope_of scope.now).sites) }
-{
-    match u32::try_from(scope.sites.len()) {
-        Ok(number) => Ok(SiteId(number)),
-        Err(_) => Err(NoMemory),
-    }
-}
-
-/// The number of the site behind the next so many.
-pub fn site_behind(scope: &Scope, before: usize) -> Result<SiteId, NoMemory>
-    ensures { IfOk result (λ site. site.0 ≡ length (scope_of scope.now).sites + before) }
-{
-    let Some(place) = scope.sites.len().checked_add(before) else {
-        return Err(NoMemory);
-    };
-    match u32::try_from(place) {
-        Ok(number) => Ok(SiteId(number)),
-        Err(_) => Err(NoMemory),
-    }
-}
-
-/// Adds a site of a type.
-pub fn add_site(scope: &mut Scope, value_type: ValueType, pos: Pos) -> Result<(), NoMemory>
-    ensures { OnOk result (scope_of scope.new ≡ with_site (scope_of scope.old) value_type pos) }
-{
-    let site_type = type_id(&scope.types, value_type);
-    scope.sites.push(Site {
-        pos,
-        type_id: site_type,
-    })?;
-    Ok(())
-}
-
-/// Declares a variable in the innermost block; with a type it has a site of its own.
-pub fn declare_variable(
-    scope: &mut Scope,
-    name: &[u8],
-    pos: Pos,
-    value_type: Option<ValueType>,
-) -> Result<(), NoMemory>
-    ensures { OnOk result (scope_of scope.new ≡ with_variable value_type (scope_of scope.old) name.now pos) }
-{
-    match value_type {
-        Some(value_type) => {
-            let site = next_site(scope)?;
-            declare(scope, name, Declared::Variable(site, value_type))?;
-            add_site(scope, value_type, pos)
+impl Scope {
+    /// What a name stands for: the innermost block that declares it says so, and outside of them all the language.
+    pub fn declaration(&self, name: &[u8]) -> Option<Declared>
+        ensures { result ≡ declaration (scope_of self.now) name.now }
+    {
+        match self.names.lookup(name) {
+            Some(number) => self.declared.get(number as usize).copied(),
+            None => predeclared(name),
         }
-        None => declare(scope, name, Declared::Untyped),
+    }
+
+    /// Whether the innermost block declares a name.
+    pub fn is_here(&self, name: &[u8]) -> bool
+        ensures { result ≡ is_here (scope_of self.now) name.now }
+    {
+        self.names.innermost(name).is_some()
+    }
+
+    /// Declares a name in the innermost block.
+    pub fn declare(&mut self, name: &[u8], declared: Declared) -> Result<(), NoMemory>
+        ensures { OnOk result (scope_of self.new ≡ with_declaration (scope_of self.old) name.now declared) }
+    {
+        let Ok(number) = u32::try_from(self.declared.len()) else {
+            return Err(NoMemory);
+        };
+        self.names.insert(name, number)?;
+        self.declared.push(declared)?;
+        Ok(())
+    }
+
+    /// Declares a function with the next number, by its signature if it has one.
+    pub fn add_signature(&mut self, signature: Option<Signature>) -> Result<(), NoMemory>
+        ensures { OnOk result (scope_of self.new ≡ with_signature (scope_of self.old) (option_map signature_of signature)) }
+    {
+        self.signatures.push(signature)?;
+        Ok(())
+    }
+
+    /// How many constants and package variables there are.
+    pub fn value_count(&self) -> usize
+        ensures { result ≡ length (scope_of self.now).values }
+    {
+        self.values.len()
+    }
+
+    /// What is known of a constant or a package variable.
+    pub fn fixed(&self, number: ValueId) -> Option<Fixed>
+        ensures { result ≡ fixed (scope_of self.now) number.0 }
+    {
+        match self.values.get(number.0 as usize) {
+            Some(value) => *value,
+            None => None,
+        }
+    }
+
+    /// Adds a constant or a package variable with the next number, by what is known of it.
+    pub fn add_value(&mut self, value: Option<Fixed>) -> Result<(), NoMemory>
+        ensures { OnOk result (scope_of self.new ≡ with_value (scope_of self.old) value) }
+    {
+        self.values.push(value)?;
+        Ok(())
+    }
+
+    /// Says that the constant or variable of the next number is a package variable with a name.
+    pub fn add_global(&mut self) -> Result<(), NoMemory>
+        ensures { OnOk result (scope_of self.new ≡ with_global (scope_of self.old)) }
+    {
+        let Ok(number) = u32::try_from(self.values.len()) else {
+            return Err(NoMemory);
+        };
+        self.globals.push(ValueId(number))?;
+        Ok(())
+    }
+
+    /// How many package variables have a name.
+    pub fn global_count(&self) -> usize
+        ensures { result ≡ length (scope_of self.now).globals }
+    {
+        self.globals.len()
+    }
+
+    /// Says what is known of a constant or a package variable.
+    pub fn set_fixed(&mut self, number: ValueId, value: Option<Fixed>)
+        ensures { scope_of self.new ≡ with_fixed (scope_of self.old) number.0 value }
+    {
+        let index = number.0 as usize;
+        if index < self.values.len() {
+            self.values[index] = value;
+        }
+    }
+
+    /// How many strings stand in the statements so far.
+    pub fn string_count(&self) -> usize
+        ensures { result ≡ length (scope_of self.now).strings }
+    {
+        self.strings.len()
+    }
+
+    /// Puts these strings after those of the statements so far.
+    pub fn add_strings(&mut self, strings: Vec<Vec<u8>>) -> Result<(), NoMemory>
+        ensures { OnOk result (scope_of self.new ≡ with_strings (scope_of self.old) (map (λ string. string.items) strings.items)) }
+    {
+        let mut strings = strings;
+        self.strings.append(&mut strings)?;
+        Ok(())
+    }
+
+    /// Opens a block.
+    pub fn open(&mut self) -> Result<(), NoMemory>
+        ensures { OnOk result (scope_of self.new ≡ opened (scope_of self.old)) }
+    {
+        self.names.open()
+    }
+
+    /// Closes the innermost block, outside of which another one is open.
+    pub fn close(&mut self)
+        requires { 1 < length self.old.names }
+        ensures { scope_of self.new ≡ closed (scope_of self.old) }
+    {
+        self.names.close();
+    }
+
+    /// How many sites there are.
+    pub fn site_count(&self) -> usize
+        ensures { result ≡ length (scope_of self.now).sites }
+    {
+        self.sites.len()
+    }
+
+    /// The number of the next site.
+    pub fn next_site(&self) -> Result<SiteId, NoMemory>
+        ensures { IfOk result (λ site. site.0 ≡ length (scope_of self.now).sites) }
+    {
+        match u32::try_from(self.sites.len()) {
+            Ok(number) => Ok(SiteId(number)),
+            Err(_) => Err(NoMemory),
+        }
+    }
+
+    /// The number of the site after the next `before` ones.
+    pub fn site_behind(&self, before: usize) -> Result<SiteId, NoMemory>
+        ensures { IfOk result (λ site. site.0 ≡ length (scope_of self.now).sites + before) }
+    {
+        let Some(place) = self.sites.len().checked_add(before) else {
+            return Err(NoMemory);
+        };
+        match u32::try_from(place) {
+            Ok(number) => Ok(SiteId(number)),
+            Err(_) => Err(NoMemory),
+        }
+    }
+
+    /// Adds a site of a type.
+    pub fn add_site(&mut self, value_type: ValueType, pos: Pos) -> Result<(), NoMemory>
+        ensures { OnOk result (scope_of self.new ≡ with_site (scope_of self.old) value_type pos) }
+    {
+        let site_type = type_id(&self.types, value_type);
+        self.sites.push(Site {
+            pos,
+            type_id: site_type,
+        })?;
+        Ok(())
+    }
+
+    /// Declares a variable in the innermost block; with a type it has a site of its own.
+    pub fn declare_variable(
+        &mut self,
+        name: &[u8],
+        pos: Pos,
+        value_type: Option<ValueType>,
+    ) -> Result<(), NoMemory>
+        ensures { OnOk result (scope_of self.new ≡ with_variable value_type (scope_of self.old) name.now pos) }
+    {
+        match value_type {
+            Some(value_type) => {
+                let site = self.next_site()?;
+                self.declare(name, Declared::Variable(site, value_type))?;
+                self.add_site(value_type, pos)
+            }
+            None => self.declare(name, Declared::Untyped),
+        }
     }
 }

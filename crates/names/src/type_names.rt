@@ -2,18 +2,18 @@
 
 ghost use Rattle.std.specs.Prelude.{◌≡◌, Option, Some, None};
 ghost use Rattle.syntax.specs.Expressions.{ex_of as tree_of, spelled};
-ghost use Rattle.value_types.specs.Least.{IsLeast};
-ghost use Rattle.value_types.specs.Faults.{IsFault};
+ghost use Rattle.type_faults.specs.Least.{IsLeast};
+ghost use Rattle.type_faults.specs.Faults.{IsFault};
 ghost use Rattle.names.specs.Scope.{scope_of, declaration};
 ghost use Rattle.names.specs.Types.{is_known, declared_type, type_in};
 ghost use Rattle.names.specs.Faults.{type_name_fault, FailsAsType};
 
 use crate::naming::spelled;
-use crate::scope::{Declared, Scope, declaration};
+use crate::scope::{Declared, Scope};
 use base::{Pos, ValueType};
 use syntax::{Expr, Name};
+use type_faults::{Fault, FaultKind};
 use typed::TypeTable;
-use value_types::{Fault, FaultKind};
 
 /// Whether a type has a number, and words.
 fn is_known(types: &TypeTable, value_type: ValueType) -> bool
@@ -40,7 +40,7 @@ pub fn type_in(text: &[u8], scope: &Scope, e: &Expr) -> Option<ValueType>
     ensures { result ≡ type_in text.now (scope_of scope.now) (tree_of e.now) }
 {
     match e {
-        Expr::Name(name) => declared_type(&scope.types, declaration(scope, spelled(text, *name))),
+        Expr::Name(name) => declared_type(&scope.types, scope.declaration(spelled(text, *name))),
         Expr::Paren(_, inner) => {
             let inner: &Expr = inner;
             type_in(text, scope, inner)
@@ -56,17 +56,17 @@ fn declared_fault(declared: Option<Declared>, pos: Pos) -> Option<Fault>
         None => FaultKind::Unknown,
         Some(Declared::TypeName | Declared::Type(_)) => return None,
         Some(Declared::LeftOutType) => FaultKind::OutOfProfile,
-        Some(_) => FaultKind::BadOperand,
+        Some(_) => FaultKind::Unfit,
     };
     Some(Fault { kind, pos })
 }
 
 /// The fault of a name as a type.
-#[tactic(auto, using(value_types::proofs::Leasts::leaf))]
+#[tactic(auto, using(type_faults::proofs::Leasts::leaf))]
 fn name_fault(text: &[u8], scope: &Scope, name: Name) -> Option<Fault>
     ensures { IsLeast (IsFault (type_name_fault (declaration (scope_of scope.now) (spelled text.now name)) name.pos)) result }
 {
-    declared_fault(declaration(scope, spelled(text, name)), name.pos)
+    declared_fault(scope.declaration(spelled(text, name)), name.pos)
 }
 
 /// The fault of an expression as a type.

@@ -5,25 +5,26 @@ use Rattle.std.specs.Option.{option_map}
 use Rattle.std.proofs.lemmas.Bool.{false≢true}
 use Rattle.base.specs.declared.pos.Pos.{Pos}
 use Rattle.syntax.specs.declared.operator.BinOp.{BinOp}
-use Rattle.syntax.specs.declared.operator.BinOp.TheVariants.{Arithmetic, Compare, Both, Either}
+use Rattle.syntax.specs.declared.operator.BinOp.TheVariants.{Arithmetic, Compare, LogicalAnd, LogicalOr}
 use Rattle.syntax.specs.declared.operator.CompareOp.{CompareOp}
 use Rattle.syntax.specs.declared.operator.CompareOp.TheVariants.{Equal, NotEqual, Less, LessEqual, Greater, GreaterEqual}
 use Rattle.syntax.specs.declared.operator.UnOp.{UnOp}
 use Rattle.syntax.specs.declared.operator.UnOp.TheVariants.{Plus, Negate, Complement, Not, Star, Address}
-use Rattle.typed.specs.declared.operators.UnOp.{UnOp as TypedPrefix}
-use Rattle.typed.specs.Syntax.{Ex}
-use Rattle.typed.specs.Syntax as typed
-use Rattle.value_trees.specs.Value.{int}
-use Rattle.value_types.specs.declared.fault.Fault.{Fault}
-use Rattle.value_types.specs.declared.fault.FaultKind.TheVariants.{ConstRange, BadOperand, ConstZeroDivisor}
-use Rattle.value_types.specs.declared.constant.Constant.{Constant}
-use Rattle.value_types.specs.declared.constant.Constant.TheVariants.{Number, Truth}
+use Rattle.typed_syntax.specs.declared.operators.UnOp.{UnOp as TypedPrefix}
+use Rattle.typed_syntax.specs.Syntax.{Ex}
+use Rattle.typed_syntax.specs.Syntax as typed
+use Rattle.typed_syntax.specs.Value.{int}
+use Rattle.type_faults.specs.declared.fault.Fault.{Fault}
+use Rattle.type_faults.specs.declared.fault.FaultKind.TheVariants.{ConstRange, Unfit, ConstZeroDivisor}
+use Rattle.constants.specs.declared.constant.Constant.{Constant}
+use Rattle.constants.specs.declared.constant.Constant.TheVariants.{Number, Truth}
 use Rattle.base.specs.declared.value_type.ValueType.{ValueType}
 use Rattle.base.specs.declared.value_type.ValueType.TheVariants.{Int, Bool as Boolean, Struct, Array}
-use Rattle.value_types.specs.Constants.{constant_type, is_int, is_held, is_zero, is_negative}
-use Rattle.value_types.specs.Given.{allowed, both}
-use Rattle.value_types.specs.Faults.{fault, IsFault, constant_range_fault, held_fault}
-use Rattle.value_types.proofs.Decided.{Decided, further}
+use Rattle.constants.specs.Constants.{constant_type, is_int, is_held, is_zero, is_negative}
+use Rattle.type_faults.specs.Given.{allowed, both}
+use Rattle.type_faults.specs.Faults.{fault, IsFault}
+use Rattle.operators.specs.ConstantFaults.{constant_range_fault, held_fault}
+use Rattle.type_faults.proofs.Decided.{Decided, further}
 use Rattle.operators.specs.declared.folding.Const.{Const}
 use Rattle.operators.specs.declared.folding.Const.TheVariants as const
 use Rattle.operators.specs.declared.folding.ConstFault.{ConstFault}
@@ -91,14 +92,14 @@ folded_is (Compare op) (Number x) (Number y) = tt
 folded_is (Compare op) (Number x) (Truth q) = tt
 folded_is (Compare op) (Truth p) (Number y) = tt
 folded_is (Compare op) (Truth p) (Truth q) = bools_is op p q
-folded_is Both (Number x) (Number y) = tt
-folded_is Both (Number x) (Truth q) = tt
-folded_is Both (Truth p) (Number y) = tt
-folded_is Both (Truth p) (Truth q) = tt
-folded_is Either (Number x) (Number y) = tt
-folded_is Either (Number x) (Truth q) = tt
-folded_is Either (Truth p) (Number y) = tt
-folded_is Either (Truth p) (Truth q) = tt
+folded_is LogicalAnd (Number x) (Number y) = tt
+folded_is LogicalAnd (Number x) (Truth q) = tt
+folded_is LogicalAnd (Truth p) (Number y) = tt
+folded_is LogicalAnd (Truth p) (Truth q) = tt
+folded_is LogicalOr (Number x) (Number y) = tt
+folded_is LogicalOr (Number x) (Truth q) = tt
+folded_is LogicalOr (Truth p) (Number y) = tt
+folded_is LogicalOr (Truth p) (Truth q) = tt
 
 -- what a prefix doesn't take has a fault of its own
 prefix_taken : (own : Fault) (b : Bool) (o : Option Operand) (r : Option Fault) → Decided o (IsFault r) → Decided (allowed b o) (IsFault (cond b r (Some own)))
@@ -134,17 +135,17 @@ no_prefix Address (Struct k) is = refl
 no_prefix Address (Array n e) is = refl
 
 pub prefix_decided : (at : Pos) (op : UnOp) (x : Operand) → Decided (prefixed op x) (IsFault (prefix_fault at op (Some x)))
-prefix_decided at op (value t x) = value_prefix_decided (fault BadOperand at) (takes_one op t) (prefix_of op) t x (no_prefix op t)
+prefix_decided at op (value t x) = value_prefix_decided (fault Unfit at) (takes_one op t) (prefix_of op) t x (no_prefix op t)
 prefix_decided at op (constant f) =
-    prefix_taken (fault BadOperand at) (takes_one op (constant_type f.value_type f.value)) (constant_of f.value_type (folded_one op (const_of f.value))) (constant_fault f.value_type at at (folded_one op (const_of f.value)))
+    prefix_taken (fault Unfit at) (takes_one op (constant_type f.value_type f.value)) (constant_of f.value_type (folded_one op (const_of f.value))) (constant_fault f.value_type at at (folded_one op (const_of f.value)))
     (constant_decided f.value_type at at (folded_one op (const_of f.value)) (prefix_is op f.value))
 
 -- two values, where an operator takes them
-left_decided : (at : Pos) (op : BinOp) (c : Constant) (x : Ex) → Decided (both_values at op (constant_value c) (Some x)) (IsFault (constant_range_fault at c))
-left_decided at op (Truth b) x = λ f h. h
-left_decided at op (Number z) x = by (is_int z)
+left_decided : (own at : Pos) (op : BinOp) (c : Constant) (x : Ex) → Decided (both_values own op (constant_value c) (Some x)) (IsFault (constant_range_fault at c))
+left_decided own at op (Truth b) x = λ f h. h
+left_decided own at op (Number z) x = by (is_int z)
   where
-    by : (b : Bool) → Decided (both_values at op (cond b (Some (typed.constant (int z))) None) (Some x)) (IsFault (cond b None (Some (fault ConstRange at))))
+    by : (b : Bool) → Decided (both_values own op (cond b (Some (typed.constant (int z))) None) (Some x)) (IsFault (cond b None (Some (fault ConstRange at))))
     by true = λ f h. h
     by false = (_, refl)
 
@@ -167,33 +168,34 @@ where_taken : (own : Fault) (b c : Bool) (o : Option Operand) (r : Option Fault)
 where_taken own true c o r d = d
 where_taken own false c o r d = (own, refl)
 
-two_decided : (at right : Pos) (op : BinOp) (x y : Operand) → Decided (combined at op x y) (IsFault (two_fault at right op x y))
-two_decided at right op (constant a) (constant b) =
+-- the operator stands at a place of its own; its rules fail at its operands
+two_decided : (own at right : Pos) (op : BinOp) (x y : Operand) → Decided (combined own op x y) (IsFault (two_fault at right op x y))
+two_decided own at right op (constant a) (constant b) =
     let j = joint_type op a.value_type b.value_type in
     pair_taken (fault (unfit_kind op (constant_type a.value_type a.value) (constant_type b.value_type b.value)) at) (fault ConstRange at) (fault ConstRange right)
     (takes op (constant_type a.value_type a.value) (constant_type b.value_type b.value)) (converts op a b) (is_held b.value_type a.value) (constant_of j (worked_out op a b)) (constant_fault j at right (worked_out op a b))
     (constant_decided j at right (worked_out op a b) (folded_is op a.value b.value))
-two_decided at right op (constant a) (value t x) =
+two_decided own at right op (constant a) (value t x) =
     let c = a.value in
     let u = constant_type a.value_type c in
-    where_taken (fault (unfit_kind op u t) at) (takes op u t) true (both_values at op (constant_value c) (Some x)) (constant_range_fault at c) (left_decided at op c x)
-two_decided at right op (value t x) (constant b) =
+    where_taken (fault (unfit_kind op u t) at) (takes op u t) true (both_values own op (constant_value c) (Some x)) (constant_range_fault at c) (left_decided own at op c x)
+two_decided own at right op (value t x) (constant b) =
     let d = b.value in
     let u = constant_type b.value_type d in
-    where_taken (fault (unfit_kind op t u) at) (takes op t u) (stands_right op d) (both_values at op (Some x) (constant_value d)) (right_fault at right op d)
-    (right_decided (fault ConstZeroDivisor right) (fault BadOperand at) (is_division op && is_zero d) (is_shift op && is_negative d) (both_values at op (Some x) (constant_value d)) (constant_range_fault right d)
-    (right_value_decided at right op x d))
-two_decided at right op (value s x) (value t y) =
-    where_taken (fault (unfit_kind op s t) at) (takes op s t) true (both_values at op (Some x) (Some y)) None (λ f h. h)
+    where_taken (fault (unfit_kind op t u) at) (takes op t u) (stands_right op d) (both_values own op (Some x) (constant_value d)) (right_fault at right op d)
+    (right_decided (fault ConstZeroDivisor right) (fault Unfit at) (is_division op && is_zero d) (is_shift op && is_negative d) (both_values own op (Some x) (constant_value d)) (constant_range_fault right d)
+    (right_value_decided own right op x d))
+two_decided own at right op (value s x) (value t y) =
+    where_taken (fault (unfit_kind op s t) at) (takes op s t) true (both_values own op (Some x) (Some y)) None (λ f h. h)
 
 pub one_decided : {A : Type 0} (k : Operand → Option A) (R : Option Operand → Option Fault) (o : Option Operand) (P : Fault → Type 0) → Decided o P → ((x : Operand) → Decided (k x) (IsFault (R (Some x))))
     → Decided (option_and_then k o) (λ f. P f ⊎ IsFault (R o) f)
 one_decided k R None P d r = (d.0, inl d.1)
 one_decided k R (Some x) P d r = further P (IsFault (R (Some x))) (k x) d (r x)
 
-pub pair_decided : (at right : Pos) (op : BinOp) (a b : Option Operand) (P Q : Fault → Type 0) → Decided a P → Decided b Q
-    → Decided (both (combined at op) a b) (λ f. (P f ⊎ Q f) ⊎ IsFault (pair_fault at right op a b) f)
-pair_decided at right op None b P Q p q = (p.0, inl (inl p.1))
-pair_decided at right op (Some x) None P Q p q = (q.0, inl (inr q.1))
-pair_decided at right op (Some x) (Some y) P Q p q =
-    further (λ f. P f ⊎ Q f) (IsFault (two_fault at right op x y)) (combined at op x y) (λ f h. elim h [ inl u ↦ p f u | inr u ↦ q f u ]) (two_decided at right op x y)
+pub pair_decided : (own at right : Pos) (op : BinOp) (a b : Option Operand) (P Q : Fault → Type 0) → Decided a P → Decided b Q
+    → Decided (both (combined own op) a b) (λ f. (P f ⊎ Q f) ⊎ IsFault (pair_fault at right op a b) f)
+pair_decided own at right op None b P Q p q = (p.0, inl (inl p.1))
+pair_decided own at right op (Some x) None P Q p q = (q.0, inl (inr q.1))
+pair_decided own at right op (Some x) (Some y) P Q p q =
+    further (λ f. P f ⊎ Q f) (IsFault (two_fault at right op x y)) (combined own op x y) (λ f h. elim h [ inl u ↦ p f u | inr u ↦ q f u ]) (two_decided own at right op x y)

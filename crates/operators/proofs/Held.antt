@@ -5,17 +5,17 @@ use Rattle.std.specs.Option.{option_map}
 use Rattle.base.specs.declared.pos.Pos.{Pos}
 use Rattle.syntax.specs.declared.operator.BinOp.{BinOp}
 use Rattle.syntax.specs.declared.operator.UnOp.{UnOp}
-use Rattle.typed.specs.declared.operators.UnOp.{UnOp as TypedPrefix}
-use Rattle.typed.specs.Syntax.{Ex}
-use Rattle.typed.specs.Syntax as typed
-use Rattle.value_types.specs.declared.constant.Constant.{Constant}
-use Rattle.value_types.specs.declared.constant.Constant.TheVariants.{Number, Truth}
-use Rattle.value_types.specs.declared.constant.Fixed.{Fixed}
+use Rattle.typed_syntax.specs.declared.operators.UnOp.{UnOp as TypedPrefix}
+use Rattle.typed_syntax.specs.Syntax.{Ex}
+use Rattle.typed_syntax.specs.Syntax as typed
+use Rattle.constants.specs.declared.constant.Constant.{Constant}
+use Rattle.constants.specs.declared.constant.Constant.TheVariants.{Number, Truth}
+use Rattle.constants.specs.declared.constant.Fixed.{Fixed}
 use Rattle.base.specs.declared.value_type.ValueType.{ValueType}
 use Rattle.base.specs.declared.value_type.ValueType.TheVariants.{Int, Bool as Boolean, Struct, Array}
-use Rattle.value_types.specs.Constants.{constant_type, is_held}
-use Rattle.value_types.specs.Given.{allowed}
-use Rattle.value_types.proofs.Options.{none_some, same_some}
+use Rattle.constants.specs.Constants.{constant_type, is_held}
+use Rattle.type_faults.specs.Given.{allowed}
+use Rattle.type_faults.proofs.Options.{none_some, same_some}
 use Rattle.operators.specs.declared.folding.Const.{Const}
 use Rattle.operators.specs.declared.folding.Const.TheVariants as const
 use Rattle.operators.specs.declared.folding.ConstFault.{ConstFault}

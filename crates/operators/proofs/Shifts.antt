@@ -66,7 +66,7 @@ shifted_far (pos (suc k)) (pos n) h far = let b : 2 ^ 127 < suc k * 2 ^ n = beyo
 shifted_far (negsuc k) (pos n) h far = neg_out (suc k * 2 ^ n) (beyond k n (ltb-true 127 n far))
 shifted_far x (negsuc n) h far = absurd (false≢true far)
 
--- only the sign is left behind 127 bits
+-- only the sign is left after 127 bits
 sign_left : (a n : ℕ) → a < 2 ^ 127 → 127 < n → a / 2 ^ n ≡ a / 2 ^ 127
 sign_left a n h far = let m : 2 ^ 127 ≤ 2 ^ n = pow_mono {i = 127} {j = n} (omega arith) in div-eq_of_lt (omega arith) ∙ sym (div-eq_of_lt h)
 

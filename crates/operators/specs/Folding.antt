@@ -4,7 +4,7 @@ use Rattle.std.specs.Int.{w128, int_bit_and, int_bit_or, int_bit_xor, int_shr}
 use Rattle.syntax.specs.declared.operator.ArithmeticOp.{ArithmeticOp}
 use Rattle.syntax.specs.declared.operator.ArithmeticOp.TheVariants.{Add, Sub, Mul, Div, Rem, And, Or, Xor, AndNot, ShiftLeft, ShiftRight}
 use Rattle.syntax.specs.declared.operator.BinOp.{BinOp}
-use Rattle.syntax.specs.declared.operator.BinOp.TheVariants.{Arithmetic, Compare, Both, Either}
+use Rattle.syntax.specs.declared.operator.BinOp.TheVariants.{Arithmetic, Compare, LogicalAnd, LogicalOr}
 use Rattle.syntax.specs.declared.operator.CompareOp.{CompareOp}
 use Rattle.syntax.specs.declared.operator.CompareOp.TheVariants.{Equal, NotEqual, Less, LessEqual, Greater, GreaterEqual}
 use Rattle.syntax.specs.declared.operator.UnOp.{UnOp}
@@ -85,8 +85,8 @@ abbrev pub folded : BinOp → Const → Const → Result Const ConstFault
 folded (Arithmetic op) (const.Int x) (const.Int y) = as_constant (kept (exact op x y))
 folded (Compare op) (const.Int x) (const.Int y) = Ok (const.Bool (compared op x y))
 folded (Compare op) (const.Bool p) (const.Bool q) = compared_bools op p q
-folded Both (const.Bool p) (const.Bool q) = Ok (const.Bool (p && q))
-folded Either (const.Bool p) (const.Bool q) = Ok (const.Bool (p || q))
+folded LogicalAnd (const.Bool p) (const.Bool q) = Ok (const.Bool (p && q))
+folded LogicalOr (const.Bool p) (const.Bool q) = Ok (const.Bool (p || q))
 folded op a b = Err NotConstant
 
 abbrev pub folded_one : UnOp → Const → Result Const ConstFault

@@ -1,14 +1,14 @@
 -- What an expression gives as one value, and constants as operands (Go specification, "Constant expressions").
 use Rattle.std.specs.Prelude.{Option, Some, None, Result, Ok, Err, if◌then◌else◌}
-use Rattle.value_trees.specs.Value.{int, bool}
-use Rattle.typed.specs.Syntax.{Ex}
-use Rattle.typed.specs.Syntax as typed
-use Rattle.value_types.specs.declared.constant.Constant.{Constant}
-use Rattle.value_types.specs.declared.constant.Constant.TheVariants.{Number, Truth}
-use Rattle.value_types.specs.declared.constant.Fixed.{Fixed}
+use Rattle.typed_syntax.specs.Value.{int, bool}
+use Rattle.typed_syntax.specs.Syntax.{Ex}
+use Rattle.typed_syntax.specs.Syntax as typed
+use Rattle.constants.specs.declared.constant.Constant.{Constant}
+use Rattle.constants.specs.declared.constant.Constant.TheVariants.{Number, Truth}
+use Rattle.constants.specs.declared.constant.Fixed.{Fixed}
 use Rattle.base.specs.declared.value_type.ValueType.{ValueType}
-use Rattle.value_types.specs.Given.{allowed}
-use Rattle.value_types.specs.Constants.{constant_type, is_int, is_held}
+use Rattle.type_faults.specs.Given.{allowed}
+use Rattle.constants.specs.Constants.{constant_type, is_int, is_held}
 use Rattle.operators.specs.declared.folding.Const.{Const}
 use Rattle.operators.specs.declared.folding.Const.TheVariants as const
 use Rattle.operators.specs.declared.folding.ConstFault.{ConstFault}

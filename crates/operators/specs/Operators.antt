@@ -5,24 +5,25 @@ use Rattle.base.specs.declared.pos.Pos.{Pos}
 use Rattle.syntax.specs.declared.operator.ArithmeticOp.{ArithmeticOp}
 use Rattle.syntax.specs.declared.operator.ArithmeticOp.TheVariants as arithmetic
 use Rattle.syntax.specs.declared.operator.BinOp.{BinOp}
-use Rattle.syntax.specs.declared.operator.BinOp.TheVariants.{Arithmetic, Compare, Both, Either}
+use Rattle.syntax.specs.declared.operator.BinOp.TheVariants.{Arithmetic, Compare, LogicalAnd, LogicalOr}
 use Rattle.syntax.specs.declared.operator.UnOp.{UnOp}
 use Rattle.syntax.specs.declared.operator.UnOp.TheVariants.{Plus, Negate, Complement, Not}
 use Rattle.syntax.specs.declared.operator.CompareOp.{CompareOp}
 use Rattle.syntax.specs.declared.operator.CompareOp.TheVariants as compare
-use Rattle.typed.specs.declared.operators.BinOp.{BinOp as TypedOp}
-use Rattle.typed.specs.declared.operators.BinOp.TheVariants as op
-use Rattle.typed.specs.declared.operators.UnOp.{UnOp as TypedPrefix}
-use Rattle.typed.specs.declared.operators.UnOp.TheVariants as prefix
-use Rattle.typed.specs.Syntax.{Ex}
-use Rattle.typed.specs.Syntax as typed
-use Rattle.value_types.specs.declared.constant.Constant.{Constant}
-use Rattle.value_types.specs.declared.constant.Fixed.{Fixed}
+use Rattle.typed_syntax.specs.declared.operators.BinOp.{BinOp as TypedOp}
+use Rattle.typed_syntax.specs.declared.operators.BinOp.TheVariants as op
+use Rattle.typed_syntax.specs.declared.operators.UnOp.{UnOp as TypedPrefix}
+use Rattle.typed_syntax.specs.declared.operators.UnOp.TheVariants as prefix
+use Rattle.typed_syntax.specs.Syntax.{Ex}
+use Rattle.typed.specs.Positions.{position}
+use Rattle.typed_syntax.specs.Syntax as typed
+use Rattle.constants.specs.declared.constant.Constant.{Constant}
+use Rattle.constants.specs.declared.constant.Fixed.{Fixed}
 use Rattle.base.specs.declared.value_type.ValueType.{ValueType}
 use Rattle.base.specs.declared.value_type.ValueType.TheVariants.{Int, Bool as Boolean}
 use Rattle.base.specs.Types.{same_type}
-use Rattle.value_types.specs.Given.{allowed}
-use Rattle.value_types.specs.Constants.{constant_type, is_held, is_zero, is_negative}
+use Rattle.type_faults.specs.Given.{allowed}
+use Rattle.constants.specs.Constants.{constant_type, is_held, is_zero, is_negative}
 use Rattle.operators.specs.declared.folding.Const.{Const}
 use Rattle.operators.specs.declared.folding.ConstFault.{ConstFault}
 use Rattle.operators.specs.Folding.{folded, folded_one}
@@ -57,8 +58,8 @@ takes (Arithmetic op) Int Int = true
 takes (Compare compare.Equal) s t = same_type s t
 takes (Compare compare.NotEqual) s t = same_type s t
 takes (Compare op) Int Int = true
-takes Both Boolean Boolean = true
-takes Either Boolean Boolean = true
+takes LogicalAnd Boolean Boolean = true
+takes LogicalOr Boolean Boolean = true
 takes op s t = false
 
 -- the type of what it gives
@@ -107,10 +108,10 @@ compare_of compare.GreaterEqual = op.GreaterEqual
 
 -- an operator on two values, when the program runs
 abbrev pub typed_pair : Pos → BinOp → Ex → Ex → Ex
-typed_pair at (Arithmetic op) x y = typed.binary at (arithmetic_of op) x y
-typed_pair at (Compare op) x y = typed.binary at (compare_of op) x y
-typed_pair at Both x y = typed.both x y
-typed_pair at Either x y = typed.either x y
+typed_pair pos (Arithmetic op) x y = typed.binary (position pos) (arithmetic_of op) x y
+typed_pair pos (Compare op) x y = typed.binary (position pos) (compare_of op) x y
+typed_pair pos LogicalAnd x y = typed.logical_and x y
+typed_pair pos LogicalOr x y = typed.logical_or x y
 
 -- constants are worked out exactly, all else is worked out when the program runs
 abbrev pub prefixed : UnOp → Operand → Option Operand
@@ -118,12 +119,12 @@ prefixed op (constant f) = allowed (takes_one op (constant_type f.value_type f.v
 prefixed op (value t x) = allowed (takes_one op t) (option_map (λ typed_op. value t (typed.unary typed_op x)) (prefix_of op))
 
 abbrev pub both_values : Pos → BinOp → Option Ex → Option Ex → Option Operand
-both_values at op (Some x) (Some y) = Some (value (result_type op) (typed_pair at op x y))
-both_values at op x y = None
+both_values pos op (Some x) (Some y) = Some (value (result_type op) (typed_pair pos op x y))
+both_values pos op x y = None
 
 -- two operands, one of which at least is no constant
 abbrev pub value_pair : Pos → BinOp → Operand → Operand → Option Operand
-value_pair at op a b = allowed (takes op (type_of a) (type_of b) && right_allowed op b) (both_values at op (as_value a) (as_value b))
+value_pair pos op a b = allowed (takes op (type_of a) (type_of b) && right_allowed op b) (both_values pos op (as_value a) (as_value b))
 
 -- the type of what two constants give: a comparison gives an untyped truth value, a shift has the type of its left operand, and all else the
 -- type of an operand that has one
@@ -147,5 +148,5 @@ constant_pair op a b =
     allowed (takes op (constant_type a.value_type a.value) (constant_type b.value_type b.value) && converts op a b) (constant_of (joint_type op a.value_type b.value_type) (worked_out op a b))
 
 abbrev pub combined : Pos → BinOp → Operand → Operand → Option Operand
-combined at op (constant a) (constant b) = constant_pair op a b
-combined at op a b = value_pair at op a b
+combined pos op (constant a) (constant b) = constant_pair op a b
+combined pos op a b = value_pair pos op a b

@@ -145,8 +145,8 @@ pub fn fold(op: BinOp, a: Const, b: Const) -> Result<Const, ConstFault>
         ),
         (BinOp::Compare(op), Const::Int(x), Const::Int(y)) => Ok(Const::Bool(compare(op, x, y))),
         (BinOp::Compare(op), Const::Bool(p), Const::Bool(q)) => compare_bools(op, p, q),
-        (BinOp::Both, Const::Bool(p), Const::Bool(q)) => Ok(Const::Bool(p && q)),
-        (BinOp::Either, Const::Bool(p), Const::Bool(q)) => Ok(Const::Bool(p || q)),
+        (BinOp::LogicalAnd, Const::Bool(p), Const::Bool(q)) => Ok(Const::Bool(p && q)),
+        (BinOp::LogicalOr, Const::Bool(p), Const::Bool(q)) => Ok(Const::Bool(p || q)),
         _ => Err(ConstFault::NotConstant),
     }
 }

@@ -6,11 +6,13 @@
 //! where; exactly one of the two speaks (`proofs/DecidedOperators`).
 #![tactic(auto)]
 
+mod constant_faults;
 mod folding;
 mod operand;
 mod pairs;
 mod prefixes;
 
+pub use constant_faults::{constant_range_fault, held_fault};
 pub use folding::{Const, ConstFault, compare, fold, fold_one};
 pub use operand::{Operand, as_value, type_of, value_of};
 pub use pairs::{combined, pair_fault, paired};

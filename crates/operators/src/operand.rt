@@ -7,12 +7,12 @@ ghost use Rattle.operators.specs.Operands.{type_of, as_value, constant_value, co
 ghost use Rattle.operators.specs.Passing.{operand_of};
 ghost use Rattle.operators.specs.Faults.{constant_fault};
 
+use crate::constant_faults::held_fault;
 use crate::folding::{Const, ConstFault};
 use base::{Pos, ValueType};
+use constants::{Constant, Fixed, constant_type, int_constant, is_held};
+use type_faults::{Fault, FaultKind};
 use typed::{Const as TypedConst, Expr};
-use value_types::{
-    Constant, Fault, FaultKind, Fixed, constant_type, held_fault, int_constant, is_held,
-};
 
 /// What an expression gives as one value: a constant, or a value of a type that is worked out when the program runs.
 #[derive(Drop)]
@@ -111,7 +111,7 @@ pub fn constant_fault(
         Ok(Const::NoConst) => return None,
         Err(ConstFault::Overflow) => (FaultKind::ConstRange, pos),
         Err(ConstFault::ZeroDivisor) => (FaultKind::ConstZeroDivisor, right_pos),
-        Err(ConstFault::NegativeShift | ConstFault::NotConstant) => (FaultKind::BadOperand, pos),
+        Err(ConstFault::NegativeShift | ConstFault::NotConstant) => (FaultKind::Unfit, pos),
     };
     Some(Fault { kind, pos })
 }

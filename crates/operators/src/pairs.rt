@@ -5,22 +5,21 @@
 ghost use Rattle.std.specs.Prelude.{◌≡◌, IfOk};
 ghost use Rattle.std.specs.Option.{option_map};
 ghost use Rattle.typed.specs.View.{ex_of};
-ghost use Rattle.value_types.specs.Given.{both};
+ghost use Rattle.type_faults.specs.Given.{both};
 ghost use Rattle.operators.specs.Operands.{as_value};
 ghost use Rattle.operators.specs.Operators.{takes, result_type, is_division, is_shift, stands_right, right_allowed, arithmetic_of, compare_of, typed_pair, both_values, value_pair, either_type, joint_type, converts, worked_out, constant_pair, combined};
 ghost use Rattle.operators.specs.Faults.{unfit_kind, right_fault, conversion_fault, constants_fault, fitting_fault, two_fault, pair_fault};
 ghost use Rattle.operators.specs.Passing.{operand_of};
 
+use crate::constant_faults::constant_range_fault;
 use crate::folding::{Const, ConstFault, fold};
 use crate::operand::{Operand, as_value, const_of, constant, constant_fault, type_of};
 use base::{NoMemory, Pos, ValueType, same_type};
+use constants::{Constant, Fixed, constant_type, is_held, is_negative, is_zero};
 use std::alloc::Global;
 use syntax::{ArithmeticOp, BinOp, CompareOp};
+use type_faults::{Fault, FaultKind};
 use typed::Expr;
-use value_types::{
-    Constant, Fault, FaultKind, Fixed, constant_range_fault, constant_type, is_held, is_negative,
-    is_zero,
-};
 
 /// Whether an operator takes operands of two types.
 fn takes(op: BinOp, left: ValueType, right: ValueType) -> bool
@@ -31,7 +30,7 @@ fn takes(op: BinOp, left: ValueType, right: ValueType) -> bool
             same_type(left, right)
         }
         (BinOp::Arithmetic(_) | BinOp::Compare(_), ValueType::Int, ValueType::Int) => true,
-        (BinOp::Both | BinOp::Either, ValueType::Bool, ValueType::Bool) => true,
+        (BinOp::LogicalAnd | BinOp::LogicalOr, ValueType::Bool, ValueType::Bool) => true,
         _ => false,
     }
 }
@@ -120,8 +119,8 @@ fn typed_pair(alloc: Global, pos: Pos, op: BinOp, left: Expr, right: Expr) -> Re
     Ok(match op {
         BinOp::Arithmetic(op) => Expr::Binary(pos, arithmetic_of(op), left, right),
         BinOp::Compare(op) => Expr::Binary(pos, compare_of(op), left, right),
-        BinOp::Both => Expr::Both(left, right),
-        BinOp::Either => Expr::Either(left, right),
+        BinOp::LogicalAnd => Expr::LogicalAnd(left, right),
+        BinOp::LogicalOr => Expr::LogicalOr(left, right),
     })
 }
 
@@ -140,7 +139,11 @@ fn both_values(
             let e = typed_pair(alloc, pos, op, x, y)?;
             Ok(Some(Operand::Value(result_type(op), e)))
         }
-        _ => Ok(None),
+        (x, y) => {
+            drop(x);
+            drop(y);
+            Ok(None)
+        }
     }
 }
 
@@ -157,6 +160,8 @@ fn value_pair(
     if takes(op, type_of(&left), type_of(&right)) && right_allowed(op, &right) {
         both_values(alloc, pos, op, left, right)
     } else {
+        drop(left);
+        drop(right);
         Ok(None)
     }
 }
@@ -166,7 +171,7 @@ fn unfit_kind(op: BinOp, left: ValueType, right: ValueType) -> FaultKind
     ensures { result ≡ unfit_kind op left right }
 {
     if is_shift(op) || same_type(left, right) {
-        FaultKind::BadOperand
+        FaultKind::Unfit
     } else {
         FaultKind::Mismatch
     }
@@ -183,7 +188,7 @@ fn right_fault(pos: Pos, right_pos: Pos, op: BinOp, constant: Constant) -> Optio
         })
     } else if is_shift(op) && is_negative(constant) {
         Some(Fault {
-            kind: FaultKind::BadOperand,
+            kind: FaultKind::Unfit,
             pos,
         })
     } else {
@@ -351,6 +356,10 @@ pub fn paired(
 {
     match (left, right) {
         (Some(left), Some(right)) => combined(alloc, op, pos, left, right),
-        _ => Ok(None),
+        (left, right) => {
+            drop(left);
+            drop(right);
+            Ok(None)
+        }
     }
 }

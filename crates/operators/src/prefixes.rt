@@ -13,10 +13,11 @@ ghost use Rattle.operators.specs.Passing.{operand_of};
 use crate::folding::fold_one;
 use crate::operand::{Operand, const_of, constant, constant_fault, type_of};
 use base::{NoMemory, Pos, ValueType};
+use constants::{Fixed, constant_type};
 use std::alloc::Global;
 use syntax::UnOp;
+use type_faults::{Fault, FaultKind};
 use typed::Expr;
-use value_types::{Fault, FaultKind, Fixed, constant_type};
 
 /// Whether a prefix has rules.
 pub fn has_rules(op: UnOp) -> bool
@@ -72,6 +73,7 @@ fn prefixed_value(
     ensures { IfOk result (λ o. option_map operand_of o ≡ prefixed op (value value_type (ex_of e))) }
 {
     if !takes_one(op, value_type) {
+        drop(e);
         return Ok(None);
     }
     match prefix_of(op) {
@@ -79,7 +81,10 @@ fn prefixed_value(
             let e = Box::new(alloc, e)?;
             Ok(Some(Operand::Value(value_type, Expr::Unary(typed_op, e))))
         }
-        None => Ok(None),
+        None => {
+            drop(e);
+            Ok(None)
+        }
     }
 }
 
@@ -124,7 +129,7 @@ pub fn prefix_fault(op: UnOp, pos: Pos, operand: &Option<Operand>) -> Option<Fau
                 fitting_prefix_fault(op, pos, operand)
             } else {
                 Some(Fault {
-                    kind: FaultKind::BadOperand,
+                    kind: FaultKind::Unfit,
                     pos,
                 })
             }

@@ -12,7 +12,7 @@ use Rattle.outside.specs.Items.{is_negative, magnitude, is_numeral, number_of}
 use Rattle.outside.specs.ItemSoFar.{start, grow, push, number_so_far}
 use Rattle.outside.specs.declared.item.Item.{Item}
 
--- of the bytes behind a sign
+-- of the bytes after a sign
 pub record KnowsMagnitude (i : Item) (ds : List ℕ) : Type 0 where
   pub digits : i.good ≡ true → i.digits ≡ nat_lt 0 (length ds)
   pub all : i.good ≡ true → list_all is_ascii_digit ds ≡ true
@@ -53,7 +53,7 @@ other_bad ds b other_byte = all_more ds b (list_all is_ascii_digit ds) false ref
 too_large : (ds : List ℕ) (b v : ℕ) → v ≡ digits_value 10 ds → is_ascii_digit b ≡ true → nat_le (10 * v + (b - 48)) (2 ^ 63) ≡ false → 2 ^ 63 < digits_value 10 (ds ++ (b ∷ []))
 too_large ds b v same is large = omega (arith, pushed ds b, digit_is b is, leb-false (10 * v + (b - 48)) (2 ^ 63) large)
 
--- a byte more behind the sign
+-- a byte more after the sign
 grown : (i : Item) (ds : List ℕ) (b : ℕ) → KnowsMagnitude i ds → KnowsMagnitude (grow i b) (ds ++ (b ∷ []))
 grown i ds b k =
     elim (cases_Bool (is_ascii_digit b && nat_le (10 * i.value + (b - 48)) (2 ^ 63))) [

@@ -1,4 +1,4 @@
-pub mod Pieces
+pub mod Parts
 pub mod Reading
 pub mod Took
 pub mod Written

@@ -8,13 +8,13 @@ use Rattle.std.proofs.KnownBytes.{Consumes-nil, Consumes-trans, Consumes-kept}
 use Rattle.std.proofs.lemmas.List.Folds.{list_all-append, list_any-append}
 use Rattle.outside.specs.Pending.{Gives}
 use Rattle.outside.specs.declared.fault.ReadFault.{ReadFault}
-use Rattle.outside.specs.Items.{Reads, MeetsEnd, Loses, bound, is_separator}
+use Rattle.outside.specs.Items.{Reads, MeetsEnd, Loses, most_per_call, is_separator}
 use Rattle.outside.specs.ItemSoFar.{start, push, number_so_far}
 use Rattle.outside.specs.declared.item.Item.{Item}
 use Rattle.outside.proofs.FirstItem.{reads_to_separator, reads_to_end, reads_to_bound, separator_no_end, bound_no_end}
 use Rattle.outside.proofs.ItemKnown.{Knows, knows_start, knows_more, number_known}
 
--- so many bytes came: separators, and then the front of an item
+-- `count` bytes came: separators, and then the front of an item
 pub record Turns (old now : Option (List ℕ)) (i : Item) (count : ℕ) : Type 0 where
   pub skipped : List ℕ
   pub text : List ℕ
@@ -82,7 +82,7 @@ skip_more old now next i count b t gave outer idle =
 
 -- an item with its separator
 pub by_separator : (old now next : Option (List ℕ)) (i : Item) (count b : ℕ) (answer : Option ℤ) → Turns old now i count → Consumes now next (b ∷ [])
-    → is_separator b ≡ true → i.any ≡ true → answer ≡ number_so_far i → count < bound → Reads old next answer
+    → is_separator b ≡ true → i.any ≡ true → answer ≡ number_so_far i → count < most_per_call → Reads old next answer
 by_separator old now next i count b answer t gave outer any is few =
     let came : Consumes old next (t.skipped ++ (t.text ++ (b ∷ []))) =
     rw (← append_assoc t.skipped t.text (b ∷ [])) (Consumes-trans old now next (t.skipped ++ t.text) (b ∷ []) t.came gave) in
@@ -91,18 +91,18 @@ by_separator old now next i count b answer t gave outer any is few =
 
 -- the end of input
 pub by_end : (old now next : Option (List ℕ)) (i : Item) (count : ℕ) (answer : Option ℤ) → Turns old now i count → IsAtEnd now → Keeps now next
-    → answer ≡ number_so_far i → count < bound → Reads old next answer
+    → answer ≡ number_so_far i → count < most_per_call → Reads old next answer
 by_end old now next i count answer t end keeps is few =
     reads_to_end old now next t.skipped t.text answer t.came end keeps
     t.apart t.whole (let c = t.counted in omega arith) (is ∙ number_known i t.text t.known t.small)
 
 -- as many bytes as one call takes
-pub by_bound : (old now : Option (List ℕ)) (i : Item) (count : ℕ) (answer : Option ℤ) → Turns old now i count → count ≡ bound → answer ≡ None → Reads old now answer
+pub by_bound : (old now : Option (List ℕ)) (i : Item) (count : ℕ) (answer : Option ℤ) → Turns old now i count → count ≡ most_per_call → answer ≡ None → Reads old now answer
 by_bound old now i count answer t all is =
     reads_to_bound old now t.skipped t.text answer (rw append-nil t.came) t.apart t.whole (t.counted ∙ all) is
 
 -- a fault
-pub by_fault : (old now next : Option (List ℕ)) (i : Item) (count : ℕ) → Turns old now i count → Keeps now next → count < bound → Loses old next
+pub by_fault : (old now next : Option (List ℕ)) (i : Item) (count : ℕ) → Turns old now i count → Keeps now next → count < most_per_call → Loses old next
 by_fault old now next i count t keeps few = record {
   skipped = t.skipped;
   item = t.text;
@@ -135,5 +135,5 @@ separator_not_met old now next i count b ended t gave outer any =
     rw (← append_assoc t.skipped t.text (b ∷ [])) (Consumes-trans old now next (t.skipped ++ t.text) (b ∷ []) t.came gave) in
     not_met old ended (separator_no_end old next t.skipped t.text b came t.apart t.whole (some_text i t.text t.known any) outer)
 
-pub bound_not_met : (old now : Option (List ℕ)) (i : Item) (count : ℕ) (ended : Bool) → Turns old now i count → count ≡ bound → IfSome old (λ bytes. MeetsEnd bytes → ended ≡ true)
+pub bound_not_met : (old now : Option (List ℕ)) (i : Item) (count : ℕ) (ended : Bool) → Turns old now i count → count ≡ most_per_call → IfSome old (λ bytes. MeetsEnd bytes → ended ≡ true)
 bound_not_met old now i count ended t all = not_met old ended (bound_no_end old now t.skipped t.text (rw append-nil t.came) t.apart t.whole (t.counted ∙ all))

@@ -34,11 +34,15 @@ Lists r call old new = MatchResult r (λ _. new ≡ old) (λ e. new ≡ old ++ f
 abbrev pub content_of : List (List ℕ × List ℕ) → List ℕ → Content
 content_of held path = elim (find (λ e. bytes_eq e.0 path) held) [ None ↦ Missing | Some e ↦ Holds e.1 ]
 
--- a content that files in memory can't give: there is none, or it has more than 64 MiB
+-- the length of the longest file that can be read, in bytes
+abbrev pub max_file_len : ℕ
+max_file_len = 2 ^ 26
+
+-- a content that files in memory can't give: there is none, or it is too long
 abbrev pub IsUnreadable : Content → Type 0
 IsUnreadable Untold = ⊥
 IsUnreadable Missing = ⊤
-IsUnreadable (Holds held) = 2 ^ 26 < length held
+IsUnreadable (Holds held) = max_file_len < length held
 
 -- the content where what is missing counts as empty
 abbrev pub or_empty : Content → Content

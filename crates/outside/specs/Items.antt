@@ -5,9 +5,9 @@ use Rattle.std.specs.Char.{is_ascii_digit}
 use Rattle.std.specs.Str.Parse.{digits_value}
 use Rattle.std.specs.Io.KnownBytes.{Consumes}
 
--- the most bytes of one call
-abbrev pub bound : ℕ
-bound = 2 ^ 20
+-- the most bytes that one call takes
+abbrev pub most_per_call : ℕ
+most_per_call = 2 ^ 20
 
 -- a space, a tab, a carriage return or a newline
 abbrev pub is_separator : ℕ → Bool
@@ -39,22 +39,22 @@ number_of item =
 abbrev pub is_inner : ℕ → Bool
 is_inner b = not (is_separator b)
 
--- the bytes behind the separators in front
-abbrev pub behind_separators : List ℕ → List ℕ
-behind_separators bytes = drop (prefix_len is_separator bytes) bytes
+-- the bytes after the separators in front
+abbrev pub after_separators : List ℕ → List ℕ
+after_separators bytes = drop (prefix_len is_separator bytes) bytes
 
--- the first item: the longest run of bytes behind the separators that has none
+-- the first item: the longest run of bytes after the separators that has none
 abbrev pub first_item : List ℕ → List ℕ
-first_item bytes = take (prefix_len is_inner (behind_separators bytes)) (behind_separators bytes)
+first_item bytes = take (prefix_len is_inner (after_separators bytes)) (after_separators bytes)
 
 -- how many bytes there are up to the end of the first item
 abbrev pub item_end : List ℕ → ℕ
-item_end bytes = prefix_len is_separator bytes + prefix_len is_inner (behind_separators bytes)
+item_end bytes = prefix_len is_separator bytes + prefix_len is_inner (after_separators bytes)
 
--- What a call answers of the bytes to come, and what it leaves of them: the first item and the separator behind it are
--- taken. Where so many bytes as one call takes have no place for what ends the item, they are taken, and nothing more.
+-- What a call answers of the bytes to come, and what it leaves of them: the first item and the separator after it are
+-- taken. Where what ends the item does not stand among the bytes that one call takes, those are taken, and nothing more.
 abbrev pub read_int : List ℕ → Option ℤ × List ℕ
-read_int bytes = if nat_lt (item_end bytes) bound then (number_of (first_item bytes), drop (item_end bytes + 1) bytes) else (None, drop bound bytes)
+read_int bytes = if nat_lt (item_end bytes) most_per_call then (number_of (first_item bytes), drop (item_end bytes + 1) bytes) else (None, drop most_per_call bytes)
 
 -- a call that finds the bytes `old` gives the answer and leaves the bytes `new`, where they are told
 abbrev pub Reads : Option (List ℕ) → Option (List ℕ) → Option ℤ → Type 0
@@ -62,9 +62,9 @@ Reads None new answer = ⊤
 Reads (Some bytes) None answer = ⊥
 Reads (Some bytes) (Some rest) answer = (answer ≡ (read_int bytes).0) × (rest ≡ (read_int bytes).1)
 
--- the bytes end before a separator behind the first item, and one call gets there
+-- the bytes end before a separator after the first item, and one call gets there
 abbrev pub MeetsEnd : List ℕ → Type 0
-MeetsEnd bytes = (length bytes ≤ item_end bytes) × (item_end bytes < bound)
+MeetsEnd bytes = (length bytes ≤ item_end bytes) × (item_end bytes < most_per_call)
 
 -- separators, and the front of an item, are gone
 pub record Loses (old new : Option (List ℕ)) : Type 0 where
@@ -73,4 +73,4 @@ pub record Loses (old new : Option (List ℕ)) : Type 0 where
   pub came : Consumes old new (skipped ++ item)
   pub apart : list_all is_separator skipped ≡ true
   pub whole : list_any is_separator item ≡ false
-  pub few : length skipped + length item < bound
+  pub few : length skipped + length item < most_per_call

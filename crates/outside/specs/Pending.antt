@@ -2,12 +2,16 @@
 use Rattle.std.specs.Prelude.{◌≡◌, ℕ, Bool, true, List, [], ◌∷◌, Option, Some, None, Result, Ok, Err, if◌then◌else◌}
 use Rattle.std.specs.Io.KnownBytes.{prepend_known, Consumes, Keeps, IsAtEnd}
 
+-- the bytes of the buffer
+abbrev pub buffer_size : ℕ
+buffer_size = 512
+
 -- the bytes that were read and not yet given, and whether the end was seen
 pub record Pending : Type 0 where
   pub bytes : List ℕ
   pub ended : Bool
 
--- What is still to come: the bytes held and those that the source has left, where it tells them. Behind the end that
+-- What is still to come: the bytes held and those that the source has left, where it tells them. After the end that
 -- was seen nothing comes.
 abbrev pub to_come : Pending → Option (List ℕ) → Option (List ℕ)
 to_come p left = if p.ended then Some [] else prepend_known p.bytes left

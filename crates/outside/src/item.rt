@@ -10,7 +10,7 @@ pub(crate) struct Item {
     pub negative: bool,
     /// Whether it has a digit.
     pub digits: bool,
-    /// Whether it is digits alone, behind a minus or not, and their value is at most 2^63.
+    /// Whether it is digits alone, after a minus or without one, and their value is at most 2^63.
     pub good: bool,
     pub value: u64,
 }

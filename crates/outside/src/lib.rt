@@ -29,7 +29,7 @@ mod standard;
 pub use disk::DiskFiles;
 pub use fault::{Failed, FileFault, ReadFault, WriteFault};
 pub use files::{Files, MAX_FILE_LEN};
-pub use line::{Piece, put_line};
+pub use line::{LinePart, put_line};
 pub use memory::{CleanFiles, CleanSink, CleanSource, MemFiles, MemSink, MemSource};
 pub use put::{put_bool, put_bytes, put_int, put_number};
 pub use reader::IntReader;

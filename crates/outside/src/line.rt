@@ -1,40 +1,40 @@
-//! Lines of several pieces.
+//! Lines of several parts.
 ghost use Rattle.std.specs.Prelude.{OnOk, OnErr, IfErr};
 ghost use Rattle.outside.specs.Causes.{HasCause};
-ghost use Rattle.outside.specs.Line.{text_of, piece_text, StoppedIn};
+ghost use Rattle.outside.specs.Line.{text_of, part_text, StoppedIn};
 ghost use Rattle.outside.specs.Puts.{Puts};
 ghost use Rattle.outside.specs.Took.{Took, TookPrefix};
 
 use crate::{Sink, WriteFault, put_bytes, put_int, put_number};
 
-/// A piece of a line.
+/// A part of a line.
 #[derive(Clone, Copy)]
-pub enum Piece<'a> {
+pub enum LinePart<'a> {
     Text(&'a [u8]),
     Number(u64),
     Int(i64),
 }
 
-/// Writes the pieces in their order. A fault tells how many bytes were taken of the piece at which it came.
-pub fn put_line<S: Sink>(out: &mut S, pieces: &[Piece<'_>]) -> Result<(), WriteFault>
-    ensures whole { OnOk result (Took (S.taken out.old) (S.taken out.new) (text_of pieces.now)) }
-    ensures stopped { IfErr result (λ e. StoppedIn (S.taken out.old) (S.taken out.new) pieces.now e.gone) }
-    ensures part { OnErr result (TookPrefix (S.taken out.old) (S.taken out.new) (text_of pieces.now)) }
+/// Writes the parts in their order. A fault tells how many bytes were taken of the part at which it came.
+pub fn put_line<S: Sink>(out: &mut S, parts: &[LinePart<'_>]) -> Result<(), WriteFault>
+    ensures whole { OnOk result (Took (S.taken out.old) (S.taken out.new) (text_of parts.now)) }
+    ensures stopped { IfErr result (λ e. StoppedIn (S.taken out.old) (S.taken out.new) parts.now e.gone) }
+    ensures part { OnErr result (TookPrefix (S.taken out.old) (S.taken out.new) (text_of parts.now)) }
     ensures cause { HasCause (S.faults out.old) (S.faults out.new) result }
 {
-    'pieces: for piece in pieces {
-        put_piece(out, *piece)?;
+    'parts: for part in parts {
+        put_part(out, *part)?;
     }
     Ok(())
 }
 
-fn put_piece<S: Sink>(out: &mut S, piece: Piece<'_>) -> Result<(), WriteFault>
-    ensures puts { Puts (S.taken out.old) (S.taken out.new) (S.number out.old) (S.number out.new) result (piece_text piece.entry) }
+fn put_part<S: Sink>(out: &mut S, part: LinePart<'_>) -> Result<(), WriteFault>
+    ensures puts { Puts (S.taken out.old) (S.taken out.new) (S.number out.old) (S.number out.new) result (part_text part.entry) }
     ensures cause { HasCause (S.faults out.old) (S.faults out.new) result }
 {
-    match piece {
-        Piece::Text(text) => put_bytes(out, text),
-        Piece::Number(n) => put_number(out, n),
-        Piece::Int(n) => put_int(out, n),
+    match part {
+        LinePart::Text(text) => put_bytes(out, text),
+        LinePart::Number(n) => put_number(out, n),
+        LinePart::Int(n) => put_int(out, n),
     }
 }

@@ -9,15 +9,15 @@ use crate::{ReadFault, Source};
 use std::marker::Model;
 
 /// The size of the buffer in bytes.
-const SIZE: usize = 512;
+const BUFFER_SIZE: usize = 512;
 
 /// The most bytes that one call takes.
-const BOUND: u32 = 1 << 20;
+const MOST_PER_CALL: u32 = 1 << 20;
 
-/// Reads whole numbers through a buffer of 512 bytes. Once it has seen the end of input, it doesn't read again.
+/// Reads whole numbers through a buffer of `BUFFER_SIZE` bytes. Once it has seen the end of input, it doesn't read again.
 #[derive(Drop)]
 pub struct IntReader {
-    buf: [u8; SIZE],
+    buf: [u8; BUFFER_SIZE],
     at: usize,
     len: usize,
     ended: bool,
@@ -25,13 +25,13 @@ pub struct IntReader {
 
 impl Model for IntReader {
     ghost use Rattle.std.specs.Prelude.{◌≡◌, ◌≤◌, true, take, drop};
-    ghost use Rattle.outside.specs.Pending.{Pending};
+    ghost use Rattle.outside.specs.Pending.{Pending, buffer_size};
 
     ghost Value = { Pending };
 
     ghost view = { λ r. record { bytes = drop r.at (take r.len r.buf); ended = r.ended } };
 
-    ghost invariant = { λ r. (r.at ≤ r.len) × (r.len ≤ 512) × (r.ended ≡ true → r.at ≡ r.len) };
+    ghost invariant = { λ r. (r.at ≤ r.len) × (r.len ≤ buffer_size) × (r.ended ≡ true → r.at ≡ r.len) };
 }
 
 impl IntReader {
@@ -40,7 +40,7 @@ impl IntReader {
         ensures { result ≡ record { bytes = []; ended = false } }
     {
         IntReader {
-            buf: [0; SIZE],
+            buf: [0; BUFFER_SIZE],
             at: 0,
             len: 0,
             ended: false,
@@ -77,7 +77,7 @@ impl IntReader {
     }
 
     /// The next item if it is a whole number of 64 bits. None where it isn't one, where input ends before an item, and
-    /// where 1,048,576 bytes hold no separator behind an item; a later call goes on behind them.
+    /// where `MOST_PER_CALL` bytes hold no separator after an item; a later call goes on after them.
     pub fn next<S: Source>(&mut self, src: &mut S) -> Result<Option<i64>, ReadFault>
         ensures reads { IfOk result (Reads (to_come self.old (S.left src.old)) (to_come self.new (S.left src.new))) }
 
@@ -93,7 +93,7 @@ impl IntReader {
         ensures cause { HasCause (S.faults src.old) (S.faults src.new) result }
     {
         let mut item = Item::new();
-        'bytes: for _turn in 0..BOUND {
+        'bytes: for _turn in 0..MOST_PER_CALL {
             let Some(b) = self.byte(src)? else {
                 return Ok(item.number());
             };

@@ -7,25 +7,25 @@ use Rattle.std.specs.Option.{option_map}
 use Rattle.std.proofs.lemmas.List.{length-replicate, length-map}
 use Rattle.base.specs.declared.pos.Pos.{Pos}
 use Rattle.syntax.specs.declared.expression.Name.{Name}
-use Rattle.syntax.specs.FirstBytes.{first_place}
+use Rattle.syntax.specs.FirstBytes.{first_pos}
 use Rattle.syntax.specs.Expressions as tree
 use Rattle.syntax.specs.Expressions.{Ex as TreeEx, Exs as TreeExs, none, some, spelled}
 use Rattle.syntax.specs.Statements.{ValueSpec}
 use Rattle.syntax.specs.Declarations.{Declaration, constants, variables, types, function}
-use Rattle.value_types.specs.declared.constant.Constant.TheVariants.{Number, Truth}
-use Rattle.value_types.specs.declared.constant.Fixed.{Fixed}
-use Rattle.value_types.specs.declared.fault.Fault.{Fault}
-use Rattle.value_types.specs.declared.fault.FaultKind.TheVariants.{Mismatch, ArgCount, ConstRange, BadOperand, RecursiveType, OutOfProfile}
+use Rattle.constants.specs.declared.constant.Constant.TheVariants.{Number, Truth}
+use Rattle.constants.specs.declared.constant.Fixed.{Fixed}
+use Rattle.type_faults.specs.declared.fault.Fault.{Fault}
+use Rattle.type_faults.specs.declared.fault.FaultKind.TheVariants.{Mismatch, WrongCount, ConstRange, Unfit, SelfReference, OutOfProfile}
 use Rattle.base.specs.declared.value_type.ValueType.{ValueType}
 use Rattle.base.specs.declared.value_type.ValueType.TheVariants.{Int, Bool as Boolean, Struct, Array}
 use Rattle.typed.specs.Tables.{Table}
 use Rattle.typed.specs.Formed.{IsFormed}
 use Rattle.base.specs.Types.{same_type}
-use Rattle.value_types.specs.Constants.{untyped, constant_type, is_held, holds}
-use Rattle.value_types.specs.Given.{allowed, both}
-use Rattle.value_types.specs.Faults.{fault, IsFault}
-use Rattle.value_types.proofs.Decided.{Decided}
-use Rattle.value_types.proofs.Options.{map_some, none_some, same_some}
+use Rattle.constants.specs.Constants.{untyped, constant_type, is_held, holds}
+use Rattle.type_faults.specs.Given.{allowed, both}
+use Rattle.type_faults.specs.Faults.{fault, IsFault}
+use Rattle.type_faults.proofs.Decided.{Decided}
+use Rattle.type_faults.proofs.Options.{map_some, none_some, same_some}
 use Rattle.operators.specs.Operands.{Operand, constant, value, type_of}
 use Rattle.operators.specs.Operators.{has_rules, prefixed, combined}
 use Rattle.names.specs.Blocks.{lookup}
@@ -98,7 +98,7 @@ filled_value (None ∷ cs) held zero l = refl
 filled_value (Some f ∷ cs) held zero l = held zero f refl
 filled_value (c ∷ cs) held (suc k) l = filled_value cs (λ j f h. held (suc j) f h) k (omega (arith, l))
 
--- what is typed once the constants and variables are known, of which there are so many
+-- what is typed once the constants and variables are known, of which there are n
 abbrev pub IsTypedOnceKnown : Table → List (Option Signature) → ℕ → Declared → Type 0
 IsTypedOnceKnown T sigs n (declared.Constant k) = k.0 < n
 IsTypedOnceKnown T sigs n (declared.Global k g) = k.0 < n
@@ -201,7 +201,7 @@ module _ (text : List ℕ) (s : Scope) (n : ℕ) (formed : IsFormed s.types) (ty
       by None is d = absurd (never d.0 (type_fails_back text s cs (filled cs) e d.0 d.1))
       by (Some t) is d = (t, type_same text s cs (filled cs) e ∙ is)
 
-  no_value : (a : Bool) (at : Pos) → Never (IsFault (cond a (Some (fault BadOperand at)) (Some (fault Mismatch at)))) → ⊥
+  no_value : (a : Bool) (at : Pos) → Never (IsFault (cond a (Some (fault Unfit at)) (Some (fault Mismatch at)))) → ⊥
   no_value true at never = never _ refl
   no_value false at never = never _ refl
 
@@ -249,11 +249,11 @@ module _ (text : List ℕ) (s : Scope) (n : ℕ) (formed : IsFormed s.types) (ty
 
   -- of the value of a variable without a type
   abbrev HoldsInitial : Option TreeEx → Option TreeEx → TreeExs → Type 0
-  HoldsInitial (Some t) v es = Never (IsFault (left_out_fault (type_in text (holding s cs) t) (first_place t)))
+  HoldsInitial (Some t) v es = Never (IsFault (left_out_fault (type_in text (holding s cs) t) (first_pos t)))
   HoldsInitial None None es = (have_form text (holding s cs) es ≡ true) × (AllSame text s cs (filled cs) (names_in_each es) → ⊥)
   HoldsInitial None (Some e) es =
       (has_form text (holding s cs) e ≡ true) × Never (Fails text (holding s cs) e) × Never (IsFault (single_fault (gives text (holding s cs) e)))
-      × Never (IsFault (left_out_fault (type_in_one (gives text (holding s cs) e)) (first_place e)))
+      × Never (IsFault (left_out_fault (type_in_one (gives text (holding s cs) e)) (first_pos e)))
 
   abbrev HoldsAs : Role → Option TreeEx → Option TreeEx → TreeExs → Type 0
   HoldsAs role.Constant t v es = Holds t v es
@@ -285,7 +285,7 @@ module _ (text : List ℕ) (s : Scope) (n : ℕ) (formed : IsFormed s.types) (ty
       → Never (ValuesFail (type_asked text (holding s cs) t) (seen text (holding s cs) es)) → EachHolds role.Constant t all es
   constants_hold t all none each singles values = tt
   constants_hold t all (some v es) each singles values = (
-    (first_place v, λ f h. each f (inl h), λ f h. singles f (inl h), λ f h. values f (inl h)),
+    (first_pos v, λ f h. each f (inl h), λ f h. singles f (inl h), λ f h. values f (inl h)),
     constants_hold t all es (λ f h. each f (inr h)) (λ f h. singles f (inr h)) (λ f h. values f (inr h)),
   )
 
@@ -330,7 +330,7 @@ module _ (text : List ℕ) (s : Scope) (n : ℕ) (formed : IsFormed s.types) (ty
       by : (o : Option (List Item)) → paired role.Constant v.names v.type_expr v.values 0 v.names v.values ≡ o → AllByRecursion Sound (or_unvalued o (unvalued role.Constant v.names v.type_expr v.values 0 v.names))
       by None e =
           unvalued_sound role.Constant v.names v.type_expr v.values 0 v.names (λ f h. never f (inl (inl h)))
-          (waits_for_one role.Constant v.type_expr v.names v.values (fault ArgCount at) e (λ f h. never f (inl (inr (inl h)))) (λ f h. never f (inl (inr (inr h)))) (λ f h. never f (inr (inr h))))
+          (waits_for_one role.Constant v.type_expr v.names v.values (fault WrongCount at) e (λ f h. never f (inl (inr (inl h)))) (λ f h. never f (inl (inr (inr h)))) (λ f h. never f (inr (inr h))))
       by (Some is) e =
           paired_sound role.Constant v.names v.type_expr v.values 0 v.names v.values is e (λ f h. never f (inl (inl h)))
           (constants_hold v.type_expr v.values v.values (λ f h. never f (inl (inr (inl h)))) (λ f h. never f (inl (inr (inr h)))) (λ f h. never f (inr (inl h))))
@@ -358,7 +358,7 @@ module _ (text : List ℕ) (s : Scope) (n : ℕ) (formed : IsFormed s.types) (ty
       by : (b : Bool) → many_in (prefix_gives op b (operand_in (gives text (holding s cs) e))) ≡ None
       by true = many_one (option_and_then (prefixed op) (operand_in (gives text (holding s cs) e)))
       by false = refl
-  form_no_call (tree.binary at op a b) is = many_one (both (combined (first_place a) op) (operand_in (gives text (holding s cs) a)) (operand_in (gives text (holding s cs) b)))
+  form_no_call (tree.binary at op a b) is = many_one (both (combined at op) (operand_in (gives text (holding s cs) a)) (operand_in (gives text (holding s cs) b)))
   form_no_call (tree.paren at e) is = form_no_call e is
   form_no_call e is = cc is
 
@@ -374,7 +374,7 @@ module _ (text : List ℕ) (s : Scope) (n : ℕ) (formed : IsFormed s.types) (ty
   forms_hold : (es : TreeExs) → Never (FormsFail text (holding s cs) es) → have_form text (holding s cs) es ≡ true
   forms_hold none never = refl
   forms_hold (some e es) never =
-      ap (λ (b : Bool). b && have_form text (holding s cs) es) (form_holds (has_form text (holding s cs) e) (first_place e) (λ f h. never f (inl h))) ∙ forms_hold es (λ f h. never f (inr h))
+      ap (λ (b : Bool). b && have_form text (holding s cs) es) (form_holds (has_form text (holding s cs) e) (first_pos e) (λ f h. never f (inl h))) ∙ forms_hold es (λ f h. never f (inr h))
 
   variables_hold : (all es : TreeExs) → have_form text (holding s cs) es ≡ true → Never (FailsInEach text (holding s cs) es) → Never (SinglesFail (seen text (holding s cs) es)) → Never (ValuesLeftOut (seen text (holding s cs) es))
       → EachHolds role.Variable None all es
@@ -384,7 +384,7 @@ module _ (text : List ℕ) (s : Scope) (n : ℕ) (formed : IsFormed s.types) (ty
       ((form.0, λ f h. each f (inl h), λ f h. singles f (inl h), λ f h. plain f (inl h)), variables_hold all es form.1 (λ f h. each f (inr h)) (λ f h. singles f (inr h)) (λ f h. plain f (inr h)))
 
   abbrev IsPlainType : TreeEx → Type 0
-  IsPlainType t = Never (IsFault (left_out_fault (type_in text (holding s cs) t) (first_place t)))
+  IsPlainType t = Never (IsFault (left_out_fault (type_in text (holding s cs) t) (first_pos t)))
 
   typed_hold : (t : TreeEx) → IsPlainType t → (all es : TreeExs) → EachHolds role.Variable (Some t) all es
   typed_hold t plain all none = tt
@@ -417,13 +417,13 @@ module _ (text : List ℕ) (s : Scope) (n : ℕ) (formed : IsFormed s.types) (ty
       places : length (wanted text (holding s cs) (record { names = ns; type_expr = None; values = es })) ≡ length ns
       places = length-map ns (λ (n : Name). type_asked text (holding s cs) None)
 
-      count_never : Never (CountFails (single_count os) (length ns) (fault ArgCount at))
+      count_never : Never (CountFails (single_count os) (length ns) (fault WrongCount at))
       count_never f h =
-          never f (inl (inr (subst (λ (o : Option Many). CountFails (count_of os o) (length (wanted text (holding s cs) (record { names = ns; type_expr = None; values = es }))) (fault ArgCount at) f) (sym alone)
-          (subst (λ (m : ℕ). CountFails (single_count os) m (fault ArgCount at) f) (sym places) h))))
+          never f (inl (inr (subst (λ (o : Option Many). CountFails (count_of os o) (length (wanted text (holding s cs) (record { names = ns; type_expr = None; values = es }))) (fault WrongCount at) f) (sym alone)
+          (subst (λ (m : ℕ). CountFails (single_count os) m (fault WrongCount at) f) (sym places) h))))
 
       by : (o : Option (List Item)) → paired role.Variable ns None es 0 ns es ≡ o → AllByRecursion Sound (or_unvalued o (unvalued role.Variable ns None es 0 ns))
-      by None e = unvalued_sound role.Variable ns None es 0 ns (λ f h. h) (forms, waits_for_one role.Variable None ns es (fault ArgCount at) e each singles count_never)
+      by None e = unvalued_sound role.Variable ns None es 0 ns (λ f h. h) (forms, waits_for_one role.Variable None ns es (fault WrongCount at) e each singles count_never)
       by (Some is) e = paired_sound role.Variable ns None es 0 ns es is e (λ f h. h) (variables_hold es es forms each singles plain)
 
   variables_sound : (at : Pos) (t : Option TreeEx) (ns : List Name) (es : TreeExs) → Never (VariablesFail text (holding s cs) at (record { names = ns; type_expr = t; values = es }))
@@ -475,7 +475,7 @@ module _ (text : List ℕ) (s : Scope) (n : ℕ) (formed : IsFormed s.types) (ty
       none_some (sym is ∙ ap (option_and_then zero_of) o_is ∙ z.1)
 
   variable_needs : (t v : Option TreeEx) (es : TreeExs) (k : ℕ) → Never (TypeFails text (holding s cs) t) → HoldsInitial t v es → option_and_then zero_of (variable_type text (holding s cs) t v es k) ≡ None → WaitedUnknown v es
-  variable_needs (Some e) v es k type_never holds1 is = let t = type_here e type_never in absurd (never_unknown (type_in text (holding s cs) e) (first_place e) t.0 t.1 holds1 is)
+  variable_needs (Some e) v es k type_never holds1 is = let t = type_here e type_never in absurd (never_unknown (type_in text (holding s cs) e) (first_pos e) t.0 t.1 holds1 is)
   variable_needs None None es k type_never holds1 is = by (unknown (names_in_each es))
     where
       by : AllSame text s cs (filled cs) (names_in_each es) ⊎ Unknown (numbers_of text (holding s cs) (names_in_each es)) → WaitedUnknown None es
@@ -486,7 +486,7 @@ module _ (text : List ℕ) (s : Scope) (n : ℕ) (formed : IsFormed s.types) (ty
       by : AllSame text s cs (filled cs) (names_in e) ⊎ Unknown (numbers_of text (holding s cs) (names_in e)) → WaitedUnknown (Some e) es
       by (inl all) =
           let x = operand_here e all holds1.1 holds1.2 in
-          absurd (never_unknown (type_in_one (gives text (holding s cs) e)) (first_place e) (type_of x.0) (ap (option_map type_of) x.1) holds1.3 is)
+          absurd (never_unknown (type_in_one (gives text (holding s cs) e)) (first_pos e) (type_of x.0) (ap (option_map type_of) x.1) holds1.3 is)
       by (inr u) = with_form (Some e) es holds1.0 u
 
   constant_needs : (i : Item) → Never (TypeFails text (holding s cs) i.type_expr) → Holds i.type_expr i.value i.values → given_by text (holding s cs) i.type_expr i.value ≡ None → Unknown (needed_as text (holding s cs) role.Constant i)
@@ -570,7 +570,7 @@ module _ (text : List ℕ) (s : Scope) (n : ℕ) (formed : IsFormed s.types) (ty
             by None e = absurd (walk n (replicate n false) k (omega (arith, all_unmarked n)) (free n k l) (length-replicate n false) e (λ j h. absurd (none_marked n j h)))
             by (Some f) e = (f, e)
 
--- a scope before its constants and variables are settled, and that no rule fails in their declarations behind it
+-- a scope before its constants and variables are settled, and that no rule fails in their declarations after it
 pub record NothingFails (text : List ℕ) (s : Scope) (ds : List Declaration) : Type 0 where
   pub as_many : length s.values ≡ length (items_in ds)
   pub unknown : AllByRecursion (λ o. IsNone o) s.values
@@ -616,7 +616,7 @@ module _ (text : List ℕ) (s : Scope) (ds : List Declaration) where
     no_cycle k l way =
         let as_many = h.as_many in
         let i = there (items_in ds) k (omega (arith, l, as_many)) in
-        never_here (fault RecursiveType (cycle_place i.0.role i.0.name i.0.names)) (inr (inr (record { number = k; item = i.0; has = i.1; reaches = way; at = refl })))
+        never_here (fault SelfReference (cycle_place i.0.role i.0.name i.0.names)) (inr (inr (record { number = k; item = i.0; has = i.1; reaches = way; at = refl })))
 
     next : (k : ℕ) (i : Item) → slice_get (items_in ds) k ≡ Some i → known behind k ≡ None → Unknown text s (length s.values) h.formed h.typed behind many_behind held (needed text (holding s behind) i)
     next k i at unknown_at =

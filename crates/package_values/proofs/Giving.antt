@@ -6,18 +6,18 @@ use Rattle.std.specs.Option.{option_map}
 use Rattle.base.specs.declared.pos.Pos.{Pos}
 use Rattle.syntax.specs.declared.operator.BinOp.{BinOp}
 use Rattle.syntax.specs.declared.operator.UnOp.{UnOp}
-use Rattle.syntax.specs.FirstBytes.{first_place}
+use Rattle.syntax.specs.FirstBytes.{first_pos}
 use Rattle.syntax.specs.declared.expression.Name.{Name}
 use Rattle.syntax.specs.Expressions as tree
 use Rattle.syntax.specs.Expressions.{Ex as TreeEx, Exs as TreeExs, some, number, string, name, unary, binary, paren, call, selector, index, slice, array_type, slice_type, literal, elements, spelled}
-use Rattle.typed.specs.Syntax.{Exs}
-use Rattle.value_types.specs.declared.constant.Fixed.{Fixed}
+use Rattle.typed_syntax.specs.Syntax.{Exs}
+use Rattle.constants.specs.declared.constant.Fixed.{Fixed}
 use Rattle.base.specs.declared.value_type.ValueType.{ValueType}
 use Rattle.base.specs.declared.value_type.ValueType.TheVariants.{Int, Bool as Boolean}
-use Rattle.value_types.specs.Given.{allowed}
+use Rattle.type_faults.specs.Given.{allowed}
 use Rattle.base.specs.Types.{same_type}
-use Rattle.value_types.specs.Constants.{constant_type, is_held, holds}
-use Rattle.value_types.proofs.Options.{and_then_some, map_some, none_some, same_some}
+use Rattle.constants.specs.Constants.{constant_type, is_held, holds}
+use Rattle.type_faults.proofs.Options.{and_then_some, map_some, none_some, same_some}
 use Rattle.operators.specs.Operands.{Operand, constant, value, type_of}
 use Rattle.operators.specs.Operators.{has_rules}
 use Rattle.operators.proofs.Held.{IsHeld}
@@ -165,7 +165,7 @@ module _ (text : List ℕ) (s : Scope) where
           prefix_still op (has_rules op) (operand_in (gives text (holding s cs) e)) (operand_in (gives text (holding s ds) e))
           (λ x k. let p = and_then_some single (gives text (holding s cs) e) x k in ap operand_in (gives_still e p.0 p.1) ∙ p.2) g h
       gives_still (binary at op a b) g h =
-          pair_still (first_place a) op (operand_in (gives text (holding s cs) a)) (operand_in (gives text (holding s cs) b)) (operand_in (gives text (holding s ds) a)) (operand_in (gives text (holding s ds) b))
+          pair_still at op (operand_in (gives text (holding s cs) a)) (operand_in (gives text (holding s cs) b)) (operand_in (gives text (holding s ds) a)) (operand_in (gives text (holding s ds) b))
           (λ x k. let p = and_then_some single (gives text (holding s cs) a) x k in ap operand_in (gives_still a p.0 p.1) ∙ p.2)
           (λ x k. let p = and_then_some single (gives text (holding s cs) b) x k in ap operand_in (gives_still b p.0 p.1) ∙ p.2) g h
       gives_still (paren at e) g h = gives_still e g h
@@ -173,10 +173,10 @@ module _ (text : List ℕ) (s : Scope) where
           let k = callee text (holding s cs) (name_in f) (gives text (holding s cs) f) in
           let os = seen text (holding s cs) es in
           let k_is : k ≡ callee text (holding s ds) (name_in f) (gives text (holding s ds) f) =
-          callee_still (first_place f) spread (name_in f) (gives text (holding s cs) f) (gives text (holding s ds) f) os g h in
-          let os_is : os ≡ seen text (holding s ds) es = seen_still es (call_gives (first_place f) (spread_over spread k) os g h) in
-          sym (ap (λ (x : Callee). called_with (first_place f) (spread_over spread x) os) k_is
-          ∙ ap (λ (l : List Seen). called_with (first_place f) (spread_over spread (callee text (holding s ds) (name_in f) (gives text (holding s ds) f))) l) os_is) ∙ h
+          callee_still (first_pos f) spread (name_in f) (gives text (holding s cs) f) (gives text (holding s ds) f) os g h in
+          let os_is : os ≡ seen text (holding s ds) es = seen_still es (call_gives (first_pos f) (spread_over spread k) os g h) in
+          sym (ap (λ (x : Callee). called_with (first_pos f) (spread_over spread x) os) k_is
+          ∙ ap (λ (l : List Seen). called_with (first_pos f) (spread_over spread (callee text (holding s ds) (name_in f) (gives text (holding s ds) f))) l) os_is) ∙ h
       gives_still (selector e at n) g h = h
       gives_still (index e at i) g h = h
       gives_still (slice e at low high) g h = h
@@ -188,8 +188,8 @@ module _ (text : List ℕ) (s : Scope) where
       pub seen_still : (es : TreeExs) → AllGive (seen text (holding s cs) es) → seen text (holding s cs) es ≡ seen text (holding s ds) es
       seen_still tree.none all = refl
       seen_still (some e es) all =
-          ap (λ (o : Option Gives). record { at = first_place e; gives = o } ∷ seen text (holding s cs) es) (all.0.1 ∙ sym (gives_still e all.0.0 all.0.1))
-          ∙ ap (λ (os : List Seen). record { at = first_place e; gives = gives text (holding s ds) e } ∷ os) (seen_still es all.1)
+          ap (λ (o : Option Gives). record { at = first_pos e; gives = o } ∷ seen text (holding s cs) es) (all.0.1 ∙ sym (gives_still e all.0.0 all.0.1))
+          ∙ ap (λ (os : List Seen). record { at = first_pos e; gives = gives text (holding s ds) e } ∷ os) (seen_still es all.1)
 
     operand_still : (e : TreeEx) (x : Operand) → operand_in (gives text (holding s cs) e) ≡ Some x → operand_in (gives text (holding s ds) e) ≡ Some x
     operand_still e x h = let p = and_then_some single (gives text (holding s cs) e) x h in ap operand_in (gives_still e p.0 p.1) ∙ p.2

@@ -129,7 +129,7 @@ module _ {A I : Type 0} (give : List (Option A) → I → Option A) (monotone : 
         let a = one_step cs k i consistent (first k i is b) in
         good_more cs (slice_set cs k (give cs i)) (renewed (1 + k) (slice_set cs k (give cs i)) is) a (pass (1 + k) is (slice_set cs k (give cs i)) (others k i is b) a.consistent)
 
-    -- what gives something is known behind a look
+    -- what gives something is known after a look
     seen_at : (k : ℕ) (is : List I) (cs : List (Option A)) → Behind k is → Consistent cs → (j : ℕ) (i : I) (f : A) → slice_get is j ≡ Some i → give cs i ≡ Some f → j + k < length cs
         → known (renewed k cs is) (j + k) ≡ Some f
     seen_at k [] cs b consistent j i f at g l = let bad : None ≡ Some i = at in absurd cc
@@ -190,7 +190,7 @@ module _ {A I : Type 0} (give : List (Option A) → I → Option A) (monotone : 
         let before = good.as_many in
         many_same ds (renewed 0 ds items) (sym a.as_many) a.within (omega (arith, l, many, as_many, before))
 
-    -- behind as many looks as there are values no look makes more known
+    -- after as many looks as there are values no look makes more known
     pub rounds_settle : (cs : List (Option A)) → Consistent cs → length cs ≡ length items → IsEnd (rounds (length items) cs items)
     rounds_settle cs consistent many =
         let good = rounds_good (length items) cs consistent in

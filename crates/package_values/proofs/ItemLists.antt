@@ -11,7 +11,7 @@ use Rattle.syntax.specs.declared.statement.ValueSpec.{ValueSpec as CodeValueSpec
 use Rattle.syntax.specs.Expressions.{Ex as TreeEx, Exs as TreeExs, ex_of, exs_of, ex_in, elements_of}
 use Rattle.syntax.specs.Statements.{value_spec_of}
 use Rattle.syntax.specs.Declarations.{Declaration, constants, variables, types, function}
-use Rattle.value_types.specs.declared.constant.Fixed.{Fixed}
+use Rattle.constants.specs.declared.constant.Fixed.{Fixed}
 use Rattle.names.specs.Scope.{Scope, fixed, with_fixed}
 use Rattle.package_values.specs.Values.{Item, unvalued, paired, or_unvalued, items_of, items_in, settled, given, look, looks}
 use Rattle.std.proofs.lemmas.List.{map-append}
@@ -69,7 +69,7 @@ many_views f (x ∷ xs) = ap suc (many_views f xs)
 pub joined : (all before here rest : List Item) (now : List Item) → now ≡ before ++ here → all ≡ before ++ (here ++ rest) → all ≡ now ++ rest
 joined all before here rest now is front = front ∙ sym (append_assoc before here rest) ∙ ap (λ l. l ++ rest) (sym is)
 
--- behind the last name or the last value
+-- after the last name or the last value
 module _ (r : Role) (names : List Name) (t : Option TreeEx) (all : TreeExs) where
   pub no_pairs : (place : ℕ) (ns : List Name) (es : List Expr) (k : ℕ) → min (length ns) (length es) ≤ k → pairs r names t all place (drop k ns) (drop k es) ≡ []
   no_pairs place [] es zero le = refl

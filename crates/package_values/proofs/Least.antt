@@ -2,8 +2,8 @@
 use Rattle.std.proofs.Common.{◌≡◌, ℕ, zero, suc, ◌+◌, List, [], ◌∷◌, length, Option, Some, None, refl, sym, ap, ◌∙◌, subst, arith}
 use Rattle.std.specs.Prelude.{slice_get, slice_set}
 use Rattle.std.proofs.lemmas.Option.{slice_get_within}
-use Rattle.value_types.specs.declared.constant.Fixed.{Fixed}
-use Rattle.value_types.proofs.Options.{none_some}
+use Rattle.constants.specs.declared.constant.Fixed.{Fixed}
+use Rattle.type_faults.proofs.Options.{none_some}
 use Rattle.names.specs.Scope.{Scope, fixed}
 use Rattle.package_values.specs.Values.{Item, settled}
 use Rattle.package_values.specs.Laws.{with_known, HasValue, follows, HoldsValues, SettledIsLeast}

@@ -1,6 +1,6 @@
 -- What the looks at the constants leave as it is.
 use Rattle.std.proofs.Common.{◌≡◌, ℕ, List, length, Option, ap, ◌∙◌}
-use Rattle.value_types.specs.declared.constant.Fixed.{Fixed}
+use Rattle.constants.specs.declared.constant.Fixed.{Fixed}
 use Rattle.names.specs.Scope.{Scope}
 use Rattle.package_values.specs.Values.{Item, settled}
 use Rattle.package_values.proofs.Growth.{rounds, rounds_many}

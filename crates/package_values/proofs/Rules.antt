@@ -4,10 +4,10 @@ use Rattle.std.specs.Prelude.{slice_get}
 use Rattle.std.proofs.lemmas.Bool.{cases_Bool, eqb-true, eqb-false}
 use Rattle.base.specs.declared.pos.Pos.{Pos}
 use Rattle.syntax.specs.Declarations.{Declaration, constants, variables, types, function}
-use Rattle.value_types.specs.declared.fault.Fault.{Fault}
-use Rattle.value_types.specs.declared.fault.FaultKind.TheVariants.{RecursiveType}
-use Rattle.value_types.specs.Faults.{fault}
-use Rattle.value_types.proofs.Leasts.{Covers, Kept}
+use Rattle.type_faults.specs.declared.fault.Fault.{Fault}
+use Rattle.type_faults.specs.declared.fault.FaultKind.TheVariants.{SelfReference}
+use Rattle.type_faults.specs.Faults.{fault}
+use Rattle.type_faults.proofs.Leasts.{Covers, Kept}
 use Rattle.names.specs.Scope.{Scope}
 use Rattle.package_values.specs.declared.items.Item.{Item as ItemData}
 use Rattle.package_values.specs.Values.{Item}
@@ -91,7 +91,7 @@ module _ (text : List ℕ) (s : Scope) where
             let n : h.recurs.number ≡ k = eqb-true _ _ e in
             inl (record {
               leads = subst (λ (u : List (List ℕ)). Leads u k k) (sym t_is) (subst (λ (m : ℕ). Leads (map (needed text s) is) m m) n (leads_of is h.recurs.number h.recurs.number h.recurs.reaches));
-              at = h.recurs.at ∙ ap (λ (x : Item). fault RecursiveType (place_of x)) (same_item n);
+              at = h.recurs.at ∙ ap (λ (x : Item). fault SelfReference (place_of x)) (same_item n);
             })
         by (inr e) = let n = eqb-false h.recurs.number k e in let from = h.from in inr (record { recurs = h.recurs; from = omega (arith, n, from) })
 

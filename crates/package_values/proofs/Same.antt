@@ -5,13 +5,13 @@ use Rattle.base.specs.declared.pos.Pos.{Pos}
 use Rattle.syntax.specs.declared.operator.BinOp.{BinOp}
 use Rattle.syntax.specs.declared.operator.UnOp.{UnOp}
 use Rattle.syntax.specs.declared.expression.Name.{Name}
-use Rattle.syntax.specs.FirstBytes.{first_place}
+use Rattle.syntax.specs.FirstBytes.{first_pos}
 use Rattle.syntax.specs.Expressions.{Ex as TreeEx, Exs as TreeExs, number, string, name, unary, binary, paren, call, selector, index, slice, array_type, slice_type, literal, elements, some, spelled}
 use Rattle.syntax.specs.Expressions as tree
-use Rattle.value_types.specs.declared.fault.Fault.{Fault}
-use Rattle.value_types.specs.declared.constant.Fixed.{Fixed}
-use Rattle.value_types.specs.Faults.{IsFault, FormFails}
-use Rattle.value_types.proofs.Options.{none_some, same_some}
+use Rattle.type_faults.specs.declared.fault.Fault.{Fault}
+use Rattle.constants.specs.declared.constant.Fixed.{Fixed}
+use Rattle.type_faults.specs.Faults.{IsFault, FormFails}
+use Rattle.type_faults.proofs.Options.{none_some, same_some}
 use Rattle.operators.specs.Operands.{constant}
 use Rattle.operators.specs.Operators.{has_rules}
 use Rattle.operators.specs.Faults.{prefix_fault, pair_fault}
@@ -81,13 +81,13 @@ module _ (text : List ℕ) (s : Scope) (cs ds : List (Option Fixed)) where
     gives_same (name n) all = ap (option_map one) (operand_same (declaration s (spelled text n)) all.0)
     gives_same (unary at op e) all = ap (λ (o : Option Gives). prefix_gives op (has_rules op) (operand_in o)) (gives_same e all)
     gives_same (binary at op a b) all =
-        ap (λ (o : Option Gives). pair_gives (first_place a) op (operand_in o) (operand_in (gives text (holding s cs) b))) (gives_same a (all_left (names_in a) (names_in b) all))
-        ∙ ap (λ (o : Option Gives). pair_gives (first_place a) op (operand_in (gives text (holding s ds) a)) (operand_in o)) (gives_same b (all_right (names_in a) (names_in b) all))
+        ap (λ (o : Option Gives). pair_gives at op (operand_in o) (operand_in (gives text (holding s cs) b))) (gives_same a (all_left (names_in a) (names_in b) all))
+        ∙ ap (λ (o : Option Gives). pair_gives at op (operand_in (gives text (holding s ds) a)) (operand_in o)) (gives_same b (all_right (names_in a) (names_in b) all))
     gives_same (paren at e) all = gives_same e all
     gives_same (call f es spread) all =
-        ap (λ (k : Callee). called_with (first_place f) (spread_over spread k) (seen text (holding s cs) es))
+        ap (λ (k : Callee). called_with (first_pos f) (spread_over spread k) (seen text (holding s cs) es))
         (callee_same f (all_left (names_in f) (names_in_each es) all) (gives_same f (all_left (names_in f) (names_in_each es) all)))
-        ∙ ap (λ (os : List Seen). called_with (first_place f) (spread_over spread (callee text (holding s ds) (name_in f) (gives text (holding s ds) f))) os)
+        ∙ ap (λ (os : List Seen). called_with (first_pos f) (spread_over spread (callee text (holding s ds) (name_in f) (gives text (holding s ds) f))) os)
         (seen_same es (all_right (names_in f) (names_in_each es) all))
     gives_same (selector e at n) all = refl
     gives_same (index e at i) all = refl
@@ -100,8 +100,8 @@ module _ (text : List ℕ) (s : Scope) (cs ds : List (Option Fixed)) where
     pub seen_same : (es : TreeExs) → AllSame (names_in_each es) → seen text (holding s cs) es ≡ seen text (holding s ds) es
     seen_same tree.none all = refl
     seen_same (some e es) all =
-        ap (λ (o : Option Gives). record { at = first_place e; gives = o } ∷ seen text (holding s cs) es) (gives_same e (all_left (names_in e) (names_in_each es) all))
-        ∙ ap (λ (os : List Seen). record { at = first_place e; gives = gives text (holding s ds) e } ∷ os) (seen_same es (all_right (names_in e) (names_in_each es) all))
+        ap (λ (o : Option Gives). record { at = first_pos e; gives = o } ∷ seen text (holding s cs) es) (gives_same e (all_left (names_in e) (names_in_each es) all))
+        ∙ ap (λ (os : List Seen). record { at = first_pos e; gives = gives text (holding s ds) e } ∷ os) (seen_same es (all_right (names_in e) (names_in_each es) all))
 
   -- ---- which rules fail
 
@@ -123,7 +123,7 @@ module _ (text : List ℕ) (s : Scope) (cs ds : List (Option Fixed)) where
   unary_back at op e f g into (inr h) = inr (subst (λ (o : Option Gives). IsFault (prefix_fault at op (operand_in o)) f) (sym g) h)
 
   abbrev PairFault : List (Option Fixed) → BinOp → TreeEx → TreeEx → Fault → Type 0
-  PairFault xs op a b f = IsFault (pair_fault (first_place a) (first_place b) op (operand_in (gives text (holding s xs) a)) (operand_in (gives text (holding s xs) b))) f
+  PairFault xs op a b f = IsFault (pair_fault (first_pos a) (first_pos b) op (operand_in (gives text (holding s xs) a)) (operand_in (gives text (holding s xs) b))) f
 
   binary_back : (op : BinOp) (a b : TreeEx) (f : Fault) → gives text (holding s cs) a ≡ gives text (holding s ds) a → gives text (holding s cs) b ≡ gives text (holding s ds) b
       → (Fails text (holding s ds) a f → Fails text (holding s cs) a f) → (Fails text (holding s ds) b f → Fails text (holding s cs) b f)
@@ -131,8 +131,8 @@ module _ (text : List ℕ) (s : Scope) (cs ds : List (Option Fixed)) where
   binary_back op a b f g k into_a into_b (inl (inl h)) = inl (inl (operand_back a f g into_a h))
   binary_back op a b f g k into_a into_b (inl (inr h)) = inl (inr (operand_back b f k into_b h))
   binary_back op a b f g k into_a into_b (inr h) =
-      inr (subst (λ (o : Option Gives). IsFault (pair_fault (first_place a) (first_place b) op (operand_in o) (operand_in (gives text (holding s cs) b))) f) (sym g)
-      (subst (λ (o : Option Gives). IsFault (pair_fault (first_place a) (first_place b) op (operand_in (gives text (holding s ds) a)) (operand_in o)) f) (sym k) h))
+      inr (subst (λ (o : Option Gives). IsFault (pair_fault (first_pos a) (first_pos b) op (operand_in o) (operand_in (gives text (holding s cs) b))) f) (sym g)
+      (subst (λ (o : Option Gives). IsFault (pair_fault (first_pos a) (first_pos b) op (operand_in (gives text (holding s ds) a)) (operand_in o)) f) (sym k) h))
 
   callee_fails : (o : Option Name) (P Q : Fault → Type 0) (g k : Option Gives) → g ≡ k → (f : Fault) → (Q f → P f) → CalleeFails text (holding s ds) o Q k f → CalleeFails text (holding s cs) o P g f
   callee_fails None P Q g k e f into (inl h) = inl (into h)
@@ -142,7 +142,7 @@ module _ (text : List ℕ) (s : Scope) (cs ds : List (Option Fixed)) where
   abbrev CallsFail : List (Option Fixed) → TreeEx → TreeExs → Bool → Fault → Type 0
   CallsFail xs g es spread f =
       (CalleeFails text (holding s xs) (name_in g) (λ h. Fails text (holding s xs) g h) (gives text (holding s xs) g) f ⊎ FailsInEach text (holding s xs) es f)
-      ⊎ CallFails (first_place g) (spread_over spread (callee text (holding s xs) (name_in g) (gives text (holding s xs) g))) (seen text (holding s xs) es) f
+      ⊎ CallFails (first_pos g) (spread_over spread (callee text (holding s xs) (name_in g) (gives text (holding s xs) g))) (seen text (holding s xs) es) f
 
   call_back : (g : TreeEx) (es : TreeExs) (spread : Bool) (f : Fault) → gives text (holding s cs) g ≡ gives text (holding s ds) g
       → callee text (holding s cs) (name_in g) (gives text (holding s cs) g) ≡ callee text (holding s ds) (name_in g) (gives text (holding s ds) g)
@@ -152,14 +152,14 @@ module _ (text : List ℕ) (s : Scope) (cs ds : List (Option Fixed)) where
       inl (inl (callee_fails (name_in g) (λ x. Fails text (holding s cs) g x) (λ x. Fails text (holding s ds) g x) (gives text (holding s cs) g) (gives text (holding s ds) g) same f into h))
   call_back g es spread f same k os into each (inl (inr h)) = inl (inr (each h))
   call_back g es spread f same k os into each (inr h) =
-      inr (subst (λ (c : Callee). CallFails (first_place g) (spread_over spread c) (seen text (holding s cs) es) f) (sym k)
-      (subst (λ (l : List Seen). CallFails (first_place g) (spread_over spread (callee text (holding s ds) (name_in g) (gives text (holding s ds) g))) l f) (sym os) h))
+      inr (subst (λ (c : Callee). CallFails (first_pos g) (spread_over spread c) (seen text (holding s cs) es) f) (sym k)
+      (subst (λ (l : List Seen). CallFails (first_pos g) (spread_over spread (callee text (holding s ds) (name_in g) (gives text (holding s ds) g))) l f) (sym os) h))
 
-  left_out_back : (e : TreeEx) (f : Fault) → (Fails text (holding s ds) e f → Fails text (holding s cs) e f) → Fails text (holding s ds) e f ⊎ FormFails (first_place e) f → Fails text (holding s cs) e f ⊎ FormFails (first_place e) f
+  left_out_back : (e : TreeEx) (f : Fault) → (Fails text (holding s ds) e f → Fails text (holding s cs) e f) → Fails text (holding s ds) e f ⊎ FormFails (first_pos e) f → Fails text (holding s cs) e f ⊎ FormFails (first_pos e) f
   left_out_back e f into (inl h) = inl (into h)
   left_out_back e f into (inr h) = inr h
 
-  literal_back : (e : TreeEx) (f : Fault) → FailsAsType text (holding s ds) e f ⊎ FormFails (first_place e) f → FailsAsType text (holding s cs) e f ⊎ FormFails (first_place e) f
+  literal_back : (e : TreeEx) (f : Fault) → FailsAsType text (holding s ds) e f ⊎ FormFails (first_pos e) f → FailsAsType text (holding s cs) e f ⊎ FormFails (first_pos e) f
   literal_back e f (inl h) = inl (type_fails_back e f h)
   literal_back e f (inr h) = inr h
 

@@ -2,7 +2,7 @@
 -- many steps, from a declaration and from values and types that are there. These are the least that the declarations give: what would rest on
 -- itself is not among them, and the order of the text is of no matter. Looks find all of them and nothing else.
 use Rattle.std.specs.Prelude.{◌≡◌, ◌↔◌, ℕ, List, length, slice_get, Option, Some, None}
-use Rattle.value_types.specs.declared.constant.Fixed.{Fixed}
+use Rattle.constants.specs.declared.constant.Fixed.{Fixed}
 use Rattle.names.specs.Scope.{Scope, fixed}
 use Rattle.package_values.specs.Values.{Item, given, settled}
 
@@ -22,7 +22,7 @@ module _ (text : List ℕ) (s : Scope) (is : List Item) where
     pub as_many : length behind.values ≡ length s.values
     pub values : (k : ℕ) (f : Fixed) → (fixed behind k ≡ Some f) ↔ HasValue k f
 
--- Where there is a place for each constant and variable and nothing is known yet, the scope behind all looks is the one that holds what these
+-- Where there is a place for each constant and variable and nothing is known yet, the scope after all looks is the one that holds what these
 -- have.
 abbrev pub SettledIsLeast : Type 0
 SettledIsLeast = (text : List ℕ) (s : Scope) (is : List Item) → length s.values ≡ length is → ((k : ℕ) → fixed s k ≡ None)

@@ -1,3 +1,5 @@
+-- Values is the contract: what the declarations give constants and variables; Needs says what needs what, ValueFaults which rules fail, and
+-- Laws what the values are without the looks that find them. Passing is inside: what lies in memory as what the specifications speak of.
 pub mod Values
 pub mod Needs
 pub mod ValueFaults

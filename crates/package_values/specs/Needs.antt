@@ -15,20 +15,20 @@ use Rattle.package_values.specs.Values.{Item}
 -- the names in an expression or a type, in the order of the text; those of fields stand for nothing else
 abbrev mutual
   pub names_in : TreeEx → List Name
-  names_in (number at n) = []
-  names_in (string at behind) = []
+  names_in (number pos n) = []
+  names_in (string pos behind) = []
   names_in (name n) = n ∷ []
-  names_in (unary at op e) = names_in e
-  names_in (binary at op a b) = names_in a ++ names_in b
-  names_in (paren at e) = names_in e
+  names_in (unary pos op e) = names_in e
+  names_in (binary pos op a b) = names_in a ++ names_in b
+  names_in (paren pos e) = names_in e
   names_in (call f es spread) = names_in f ++ names_in_each es
-  names_in (selector e at n) = names_in e
-  names_in (index e at i) = names_in e ++ names_in i
-  names_in (slice e at low high) = names_in e ++ (names_in_bound low ++ names_in_bound high)
-  names_in (array_type at len e) = names_in len ++ names_in e
-  names_in (slice_type at e) = names_in e
+  names_in (selector e pos n) = names_in e
+  names_in (index e pos i) = names_in e ++ names_in i
+  names_in (slice e pos low high) = names_in e ++ (names_in_bound low ++ names_in_bound high)
+  names_in (array_type pos len e) = names_in len ++ names_in e
+  names_in (slice_type pos e) = names_in e
   names_in (literal e es) = names_in e ++ names_in_elements es
-  names_in (elements at es) = names_in_elements es
+  names_in (elements pos es) = names_in_elements es
 
   pub names_in_each : TreeExs → List Name
   names_in_each none = []
@@ -72,17 +72,17 @@ may_be_constant (Some (Variable site t)) = false
 may_be_constant (Some Untyped) = false
 may_be_constant (Some (Global k g)) = false
 may_be_constant (Some (Function f)) = false
-may_be_constant (Some (External e at)) = false
+may_be_constant (Some (External e pos)) = false
 may_be_constant other = true
 
 module _ (text : List ℕ) (s : Scope) where
   -- whether an expression has the form of a constant one: numbers and names with operators
   abbrev pub has_form : TreeEx → Bool
-  has_form (number at n) = true
+  has_form (number pos n) = true
   has_form (name n) = may_be_constant (declaration s (spelled text n))
-  has_form (unary at op e) = has_form e
-  has_form (binary at op a b) = has_form a && has_form b
-  has_form (paren at e) = has_form e
+  has_form (unary pos op e) = has_form e
+  has_form (binary pos op a b) = has_form a && has_form b
+  has_form (paren pos e) = has_form e
   has_form other = false
 
   abbrev pub have_form : TreeExs → Bool

@@ -9,9 +9,9 @@ use Rattle.syntax.specs.declared.expression.Element.{Element}
 use Rattle.syntax.specs.declared.expression.Element.TheVariants as element
 use Rattle.syntax.specs.Expressions.{Ex as TreeEx, Exs as TreeExs, ex_of, exs_of, ex_in}
 use Rattle.syntax.specs.Declarations.{Declaration, constants, variables, types, function}
-use Rattle.value_types.specs.declared.fault.Fault.{Fault}
-use Rattle.value_types.specs.declared.fault.FaultKind.TheVariants.{RecursiveType}
-use Rattle.value_types.specs.Faults.{fault}
+use Rattle.type_faults.specs.declared.fault.Fault.{Fault}
+use Rattle.type_faults.specs.declared.fault.FaultKind.TheVariants.{SelfReference}
+use Rattle.type_faults.specs.Faults.{fault}
 use Rattle.names.specs.Scope.{Scope}
 use Rattle.package_values.specs.declared.items.Item.{Item as ItemData}
 use Rattle.package_values.specs.declared.reaching.Search.{Search as SearchData}
@@ -38,9 +38,9 @@ pairs r names t all k (n ∷ ns) (e ∷ es) =
 
 -- the constants or variables of one declaration of a package
 abbrev pub items_of_decl : Declaration → List Item
-items_of_decl (constants at specs) = items_in_specs role.Constant specs
-items_of_decl (variables at specs) = items_in_specs role.Variable specs
-items_of_decl (types at specs) = []
+items_of_decl (constants pos specs) = items_in_specs role.Constant specs
+items_of_decl (variables pos specs) = items_in_specs role.Variable specs
+items_of_decl (types pos specs) = []
 items_of_decl (function g) = []
 
 -- the names in an element of a composite literal
@@ -51,9 +51,9 @@ names_in_element (element.Keyed n e) = names_in (ex_of e)
 -- ---- rules of one declaration of a package
 
 abbrev pub DeclarationFails : List ℕ → Scope → Declaration → Fault → Type 0
-DeclarationFails text s (constants at specs) f = SpecsFail text s at specs f
-DeclarationFails text s (variables at specs) f = AllVariablesFail text s at specs f
-DeclarationFails text s (types at specs) f = ⊥
+DeclarationFails text s (constants pos specs) f = SpecsFail text s pos specs f
+DeclarationFails text s (variables pos specs) f = AllVariablesFail text s pos specs f
+DeclarationFails text s (types pos specs) f = ⊥
 DeclarationFails text s (function g) f = ⊥
 
 -- ---- what needs what, as a table
@@ -75,7 +75,7 @@ pub data Leads (t : List (List ℕ)) : ℕ → ℕ → Type 0 where
 
 pub record RecursAt (t : List (List ℕ)) (k : ℕ) (place : Pos) (f : Fault) : Type 0 where
   pub leads : Leads t k k
-  pub at : f ≡ fault RecursiveType place
+  pub at : f ≡ fault SelfReference place
 
 -- ---- a walk: which numbers have a mark, and which are still ahead
 

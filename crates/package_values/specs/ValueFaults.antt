@@ -4,15 +4,15 @@ use Rattle.std.specs.Prelude.{◌≡◌, ◌⊎◌, ℕ, suc, ◌==◌, length, 
 use Rattle.std.specs.Str.{bytes_eq}
 use Rattle.base.specs.declared.pos.Pos.{Pos}
 use Rattle.syntax.specs.declared.expression.Name.{Name}
-use Rattle.syntax.specs.FirstBytes.{first_place}
+use Rattle.syntax.specs.FirstBytes.{first_pos}
 use Rattle.syntax.specs.Expressions.{Ex as TreeEx, Exs as TreeExs, none, some, spelled}
 use Rattle.syntax.specs.Statements.{ValueSpec}
 use Rattle.syntax.specs.Declarations.{Declaration, constants, variables, types, function}
-use Rattle.value_types.specs.declared.fault.Fault.{Fault}
-use Rattle.value_types.specs.declared.fault.FaultKind.TheVariants.{Redeclared, Mismatch, ArgCount, ConstRange, BadOperand, RecursiveType, OutOfProfile}
+use Rattle.type_faults.specs.declared.fault.Fault.{Fault}
+use Rattle.type_faults.specs.declared.fault.FaultKind.TheVariants.{Redeclared, Mismatch, WrongCount, ConstRange, Unfit, SelfReference, OutOfProfile}
 use Rattle.base.specs.declared.value_type.ValueType.{ValueType}
-use Rattle.value_types.specs.Constants.{is_held}
-use Rattle.value_types.specs.Faults.{fault, IsFault}
+use Rattle.constants.specs.Constants.{is_held}
+use Rattle.type_faults.specs.Faults.{fault, IsFault}
 use Rattle.operators.specs.Operands.{Operand, constant, value, type_of}
 use Rattle.names.specs.declared.scope.Declared.{Declared}
 use Rattle.names.specs.declared.scope.Declared.TheVariants.{Constant, Global}
@@ -33,12 +33,12 @@ single_count os = if are_single os then Some (length os) else None
 
 -- a value of a type that a declaration has or not: of another type, beyond the type, or no constant
 abbrev pub fitting_value_fault : Option ValueType → Pos → Operand → Option Fault
-fitting_value_fault t at (constant f) = if is_held t f.value then None else Some (fault ConstRange at)
-fitting_value_fault t at (value u x) = Some (fault BadOperand at)
+fitting_value_fault t pos (constant f) = if is_held t f.value then None else Some (fault ConstRange pos)
+fitting_value_fault t pos (value u x) = Some (fault Unfit pos)
 
 abbrev pub value_fault : Option ValueType → Pos → Option Operand → Option Fault
-value_fault t at None = None
-value_fault t at (Some x) = if accepts t (type_of x) then fitting_value_fault t at x else Some (fault Mismatch at)
+value_fault t pos None = None
+value_fault t pos (Some x) = if accepts t (type_of x) then fitting_value_fault t pos x else Some (fault Mismatch pos)
 
 abbrev pub ValuesFail : Option ValueType → List Seen → Fault → Type 0
 ValuesFail t [] f = ⊥
@@ -51,18 +51,18 @@ is_this_value k (Some (Global j g)) = j.0 == k
 is_this_value k other = false
 
 abbrev pub value_name_fault : ℕ → (is_blank is_init : Bool) → Option Declared → Pos → Option Fault
-value_name_fault k true is_init d at = None
-value_name_fault k false true d at = Some (fault OutOfProfile at)
-value_name_fault k false false d at = if is_this_value k d then None else Some (fault Redeclared at)
+value_name_fault k true is_init d pos = None
+value_name_fault k false true d pos = Some (fault OutOfProfile pos)
+value_name_fault k false false d pos = if is_this_value k d then None else Some (fault Redeclared pos)
 
 -- a value that begins a variable has the form of a constant
 abbrev pub form_fault : Bool → Pos → Option Fault
-form_fault has_form at = if has_form then None else Some (fault OutOfProfile at)
+form_fault has_form pos = if has_form then None else Some (fault OutOfProfile pos)
 
 -- a variable of another type than int and bool
 abbrev pub left_out_fault : Option ValueType → Pos → Option Fault
-left_out_fault None at = None
-left_out_fault (Some t) at = if is_some (zero_of t) then None else Some (fault OutOfProfile at)
+left_out_fault None pos = None
+left_out_fault (Some t) pos = if is_some (zero_of t) then None else Some (fault OutOfProfile pos)
 
 -- such values, which have no type beside them
 abbrev pub ValuesLeftOut : List Seen → Fault → Type 0
@@ -76,8 +76,8 @@ is_bare t es = false
 
 -- where a constant or variable that needs itself is reported: a constant at its name, and a variable at the first name of its declaration
 abbrev pub first_of : Pos → List Name → Pos
-first_of at [] = at
-first_of at (n ∷ ns) = n.pos
+first_of pos [] = pos
+first_of pos (n ∷ ns) = n.pos
 
 abbrev pub cycle_place : Role → Name → List Name → Pos
 cycle_place role.Constant n ns = n.pos
@@ -95,17 +95,17 @@ module _ (text : List ℕ) (s : Scope) where
 
   -- one declaration of a `const`, whose word stands at a place: its type, its values and their number
   abbrev pub SpecFails : Pos → ValueSpec → Fault → Type 0
-  SpecFails at v f =
+  SpecFails pos v f =
       (TypeFails v.type_expr f ⊎ (FailsInEach text s v.values f ⊎ SinglesFail (seen text s v.values) f))
-      ⊎ (ValuesFail (type_asked v.type_expr) (seen text s v.values) f ⊎ CountFails (single_count (seen text s v.values)) (length v.names) (fault ArgCount at) f)
+      ⊎ (ValuesFail (type_asked v.type_expr) (seen text s v.values) f ⊎ CountFails (single_count (seen text s v.values)) (length v.names) (fault WrongCount pos) f)
 
   abbrev pub SpecsFail : Pos → List ValueSpec → Fault → Type 0
-  SpecsFail at [] f = ⊥
-  SpecsFail at (v ∷ vs) f = SpecFails at v f ⊎ SpecsFail at vs f
+  SpecsFail pos [] f = ⊥
+  SpecsFail pos (v ∷ vs) f = SpecFails pos v f ⊎ SpecsFail pos vs f
 
   abbrev pub FormsFail : TreeExs → Fault → Type 0
   FormsFail none f = ⊥
-  FormsFail (some e es) f = IsFault (form_fault (has_form text s e) (first_place e)) f ⊎ FormsFail es f
+  FormsFail (some e es) f = IsFault (form_fault (has_form text s e) (first_pos e)) f ⊎ FormsFail es f
 
   -- the types that the names of a declaration ask for
   abbrev pub wanted : ValueSpec → List (Option ValueType)
@@ -113,28 +113,28 @@ module _ (text : List ℕ) (s : Scope) where
 
   -- the values of a declaration of a `var`, where there are to be some
   abbrev pub InitialsFail : Bool → Pos → ValueSpec → Fault → Type 0
-  InitialsFail true at v f = ⊥
-  InitialsFail false at v f = TakeFails (fault ArgCount at) (wanted v) (seen text s v.values) f ⊎ FormsFail v.values f
+  InitialsFail true pos v f = ⊥
+  InitialsFail false pos v f = TakeFails (fault WrongCount pos) (wanted v) (seen text s v.values) f ⊎ FormsFail v.values f
 
   -- variables of another type than int and bool: at the type that stands there, or at a value without one
   abbrev pub LeftOut : Option TreeEx → List Seen → Fault → Type 0
   LeftOut None os f = ValuesLeftOut os f
-  LeftOut (Some e) os f = IsFault (left_out_fault (type_in text s e) (first_place e)) f
+  LeftOut (Some e) os f = IsFault (left_out_fault (type_in text s e) (first_pos e)) f
 
   -- one declaration of a `var`, whose word stands at a place: its type, its values, their number and their form
   abbrev pub VariablesFail : Pos → ValueSpec → Fault → Type 0
-  VariablesFail at v f =
-      ((TypeFails v.type_expr f ⊎ FailsInEach text s v.values f) ⊎ InitialsFail (is_bare v.type_expr v.values) at v f) ⊎ LeftOut v.type_expr (seen text s v.values) f
+  VariablesFail pos v f =
+      ((TypeFails v.type_expr f ⊎ FailsInEach text s v.values f) ⊎ InitialsFail (is_bare v.type_expr v.values) pos v f) ⊎ LeftOut v.type_expr (seen text s v.values) f
 
   abbrev pub AllVariablesFail : Pos → List ValueSpec → Fault → Type 0
-  AllVariablesFail at [] f = ⊥
-  AllVariablesFail at (v ∷ vs) f = VariablesFail at v f ⊎ AllVariablesFail at vs f
+  AllVariablesFail pos [] f = ⊥
+  AllVariablesFail pos (v ∷ vs) f = VariablesFail pos v f ⊎ AllVariablesFail pos vs f
 
   abbrev pub DeclarationsFail : List Declaration → Fault → Type 0
   DeclarationsFail [] f = ⊥
-  DeclarationsFail (constants at specs ∷ ds) f = SpecsFail at specs f ⊎ DeclarationsFail ds f
-  DeclarationsFail (variables at specs ∷ ds) f = AllVariablesFail at specs f ⊎ DeclarationsFail ds f
-  DeclarationsFail (types at specs ∷ ds) f = DeclarationsFail ds f
+  DeclarationsFail (constants pos specs ∷ ds) f = SpecsFail pos specs f ⊎ DeclarationsFail ds f
+  DeclarationsFail (variables pos specs ∷ ds) f = AllVariablesFail pos specs f ⊎ DeclarationsFail ds f
+  DeclarationsFail (types pos specs ∷ ds) f = DeclarationsFail ds f
   DeclarationsFail (function g ∷ ds) f = DeclarationsFail ds f
 
   -- the names of the constants and variables from a number on
@@ -150,7 +150,7 @@ module _ (text : List ℕ) (s : Scope) where
     pub item : Item
     pub has : slice_get is number ≡ Some item
     pub reaches : Reaches text s is number number
-    pub at : f ≡ fault RecursiveType (cycle_place item.role item.name item.names)
+    pub at : f ≡ fault SelfReference (cycle_place item.role item.name item.names)
 
   -- a rule fails in the declarations of constants and variables of a package
   abbrev pub ItemsFail : List Declaration → Fault → Type 0

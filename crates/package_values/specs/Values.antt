@@ -7,13 +7,13 @@ use Rattle.syntax.specs.declared.expression.Name.{Name}
 use Rattle.syntax.specs.Expressions.{Ex as TreeEx, Exs as TreeExs, none, some}
 use Rattle.syntax.specs.Statements.{ValueSpec}
 use Rattle.syntax.specs.Declarations.{Declaration, constants, variables, types, function}
-use Rattle.value_types.specs.declared.constant.Constant.TheVariants.{Number, Truth}
-use Rattle.value_types.specs.declared.constant.Fixed.{Fixed}
+use Rattle.constants.specs.declared.constant.Constant.TheVariants.{Number, Truth}
+use Rattle.constants.specs.declared.constant.Fixed.{Fixed}
 use Rattle.base.specs.declared.value_type.ValueType.{ValueType}
 use Rattle.base.specs.declared.value_type.ValueType.TheVariants.{Int, Bool as Boolean}
-use Rattle.value_types.specs.Given.{allowed}
+use Rattle.type_faults.specs.Given.{allowed}
 use Rattle.base.specs.Types.{same_type}
-use Rattle.value_types.specs.Constants.{constant_type, holds}
+use Rattle.constants.specs.Constants.{constant_type, holds}
 use Rattle.operators.specs.Operands.{Operand, constant, value}
 use Rattle.names.specs.Scope.{Scope, with_fixed}
 use Rattle.names.specs.Types.{type_in}
@@ -117,7 +117,7 @@ module _ (text : List ℕ) where
   look k s [] = s
   look k s (i ∷ is) = look (1 + k) (with_fixed s k (given s i)) is
 
-  -- so many looks
+  -- n looks
   abbrev pub looks : ℕ → Scope → List Item → Scope
   looks zero s is = s
   looks (suc n) s is = looks n (look 0 s is) is

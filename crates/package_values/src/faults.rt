@@ -6,8 +6,8 @@ ghost use Rattle.std.specs.Str.{bytes_eq};
 ghost use Rattle.syntax.specs.Expressions.{exs_of, ex_in, spelled};
 ghost use Rattle.syntax.specs.Statements.{value_spec_of, value_specs_of};
 ghost use Rattle.syntax.specs.Declarations.{declaration_of, declarations_of};
-ghost use Rattle.value_types.specs.Least.{IsLeast};
-ghost use Rattle.value_types.specs.Faults.{IsFault};
+ghost use Rattle.type_faults.specs.Least.{IsLeast};
+ghost use Rattle.type_faults.specs.Faults.{IsFault};
 ghost use Rattle.names.specs.Universe.{is_blank};
 ghost use Rattle.names.specs.Scope.{scope_of, declaration};
 ghost use Rattle.expression_types.specs.Typing.{operand_in, seen};
@@ -24,10 +24,11 @@ use base::{NoMemory, Pos, ValueType};
 use expression_types::{
     accepts, are_single, check_list, count_fault, one_type, singles_fault, take_fault,
 };
-use names::{Declared, Scope, declaration, is_blank, spelled, type_fault, type_in};
+use names::{Declared, Scope, is_blank, spelled, type_fault, type_in};
+use operators::held_fault;
 use std::alloc::Global;
 use syntax::{Decl, Expr, Name, ValueSpec};
-use value_types::{Fault, FaultKind, held_fault, lesser};
+use type_faults::{Fault, FaultKind, lesser};
 
 /// The type that a declaration has, where it is known.
 fn type_asked(text: &[u8], scope: &Scope, type_expr: &Option<Expr>) -> Option<ValueType>
@@ -73,7 +74,7 @@ fn value_fault(value_type: Option<ValueType>, item: &expression_types::Item) -> 
     match constant_in(&item.gives) {
         Some(fixed) => held_fault(value_type, item.pos, fixed.value),
         None => Some(Fault {
-            kind: FaultKind::BadOperand,
+            kind: FaultKind::Unfit,
             pos: item.pos,
         }),
     }
@@ -101,7 +102,7 @@ fn spec_fault(
 {
     let listed = check_list(alloc, text, scope, &spec.values)?;
     let own = Fault {
-        kind: FaultKind::ArgCount,
+        kind: FaultKind::WrongCount,
         pos,
     };
     let expressions = lesser(listed.fault, singles_fault(&listed.items));
@@ -180,7 +181,7 @@ fn values_left_out(items: &[expression_types::Item]) -> Option<Fault>
 }
 
 /// The fault of variables of such types: at the type that stands there, or at a value without one.
-#[tactic(auto, using(value_types::proofs::Leasts::leaf))]
+#[tactic(auto, using(type_faults::proofs::Leasts::leaf))]
 fn left_out(
     text: &[u8],
     scope: &Scope,
@@ -245,7 +246,7 @@ fn initials_fault(
         return Ok(None);
     }
     let own = Fault {
-        kind: FaultKind::ArgCount,
+        kind: FaultKind::WrongCount,
         pos,
     };
     let wanted = wanted(alloc, text, scope, spec)?;
@@ -360,7 +361,7 @@ fn name_fault(text: &[u8], scope: &Scope, number: usize, name: Name) -> Option<F
         number,
         is_blank(bytes),
         bytes == "init".as_bytes(),
-        declaration(scope, bytes),
+        scope.declaration(bytes),
         name.pos,
     )
 }
@@ -407,7 +408,7 @@ fn item_recursion(
 {
     if reaches_itself(alloc, table, number)? {
         Ok(Some(Fault {
-            kind: FaultKind::RecursiveType,
+            kind: FaultKind::SelfReference,
             pos,
         }))
     } else {

@@ -10,11 +10,11 @@ ghost use Rattle.package_values.specs.Passing.{item_of, item_views, names_in_ele
 
 use crate::items::{Item, Role};
 use base::NoMemory;
-use names::{Declared, Scope, declaration, spelled};
+use names::{Declared, Scope, spelled};
 use std::alloc::Global;
 use syntax::{Bound, Element, Expr, Name};
 
-/// The names in an expression or a type, behind others.
+/// The names in an expression or a type, after others.
 #[cycle(names)]
 #[tactic(auto, using(syntax::proofs::Views::expr_rows))]
 fn add_names(names: &mut Vec<Name>, e: &Expr) -> Result<(), NoMemory>
@@ -142,7 +142,7 @@ fn numbers_of(
 {
     let mut numbers = Vec::new(alloc);
     for name in names {
-        match value_number(declaration(scope, spelled(text, *name))) {
+        match value_number(scope.declaration(spelled(text, *name))) {
             Some(number) => numbers.push(number)?,
             None => {}
         }
@@ -172,7 +172,7 @@ pub fn has_form(text: &[u8], scope: &Scope, e: &Expr) -> bool
 {
     match e {
         Expr::Int(_, _) => true,
-        Expr::Name(name) => may_be_constant(declaration(scope, spelled(text, *name))),
+        Expr::Name(name) => may_be_constant(scope.declaration(spelled(text, *name))),
         Expr::Unary(_, _, inner) => has_form(text, scope, inner),
         Expr::Binary(_, _, left, right) => {
             has_form(text, scope, left) && has_form(text, scope, right)

@@ -11,12 +11,12 @@ ghost use Rattle.package_values.specs.Passing.{item_of, item_views};
 
 use crate::items::{Item, Role, items_in};
 use base::{NoMemory, ValueType, same_type};
+use constants::{Constant, Fixed, constant_type, is_held};
 use expression_types::{Gives, check_expr, check_list, one_type, value_types};
-use names::{Scope, ValueId, fixed, set_fixed, type_in};
+use names::{Scope, ValueId, type_in};
 use operators::Operand;
 use std::alloc::Global;
 use syntax::{Decl, Expr};
-use value_types::{Constant, Fixed, constant_type, is_held};
 
 /// The constant that an expression gives.
 pub fn constant_in(gives: &Option<Gives>) -> Option<Fixed>
@@ -206,10 +206,10 @@ fn renew(scope: &mut Scope, number: ValueId, value: Option<Fixed>) -> bool
     ensures scope { scope_of scope.new ≡ with_fixed (scope_of scope.old) number.0 value }
     ensures same { result ≡ false → scope_of scope.new ≡ scope_of scope.old }
 {
-    if is_same(fixed(scope, number), value) {
+    if is_same(scope.fixed(number), value) {
         false
     } else {
-        set_fixed(scope, number, value);
+        scope.set_fixed(number, value);
         true
     }
 }

@@ -11,43 +11,43 @@ use Rattle.parse_expressions.specs.declared.terminal.Terminal.{Terminal}
 use Rattle.parse_expressions.specs.declared.terminal.Terminal.TheVariants.{Identifier, Operator, Comma, Colon, Period, LeftParen, RightParen, LeftBracket, RightBracket, LeftBrace, RightBrace}
 use Rattle.parse_expressions.specs.Grammar.{Mark, inside, IsValue, FitsPrefix, ReadsEx, ReadsType, ReadsBound, ReadsMore, ClosesArguments, ReadsMoreElements, ClosesElements}
 use Rattle.parse_expressions.specs.Frames.{Container, of_type, of_element, Frame, prefixed, enclosed, awaiting, calling, indexing, bounding, measuring, filling, pointing, of_array, of_slice, enclosed_type, open_depth, allows}
-use Rattle.parse_expressions.specs.Machine.{Base, Open, at_operand, at_argument, at_spread, at_call_end, at_bracket, at_type_operand, at_type_end, at_type, at_operator, at_selector, at_index, at_high, at_element, at_value, at_element_end, Progress, fails, goes, ends, is_bracket_type, allows_type}
+use Rattle.parse_expressions.specs.Machine.{Context, Open, at_operand, at_argument, at_spread, at_call_end, at_bracket, at_type_operand, at_type_end, at_type, at_operator, at_selector, at_index, at_high, at_element, at_value, at_element_end, Progress, fails, goes, ends, is_bracket_type, allows_type}
 use Rattle.parse_expressions.proofs.Growth.{tightness, IsTypeOnly, Grows}
 
 -- ---- the places inside what is open
 
 -- the least precedence of what may stand at the open place; 8 where a type is wanted
-abbrev pub level : Base → List Frame → ℕ
+abbrev pub level : Context → List Frame → ℕ
 level b [] = if b.types then 8 else 1
-level b (prefixed place op ∷ fs) = 6
-level b (enclosed place ∷ fs) = 1
-level b (awaiting a place op ∷ fs) = suc (precedence op)
+level b (prefixed pos op ∷ fs) = 6
+level b (enclosed pos ∷ fs) = 1
+level b (awaiting a pos op ∷ fs) = suc (precedence op)
 level b (calling f es ∷ fs) = 1
-level b (indexing a place ∷ fs) = 1
-level b (bounding a place low ∷ fs) = 1
-level b (measuring place ∷ fs) = 1
+level b (indexing a pos ∷ fs) = 1
+level b (bounding a pos low ∷ fs) = 1
+level b (measuring pos ∷ fs) = 1
 level b (filling c es key ∷ fs) = 0
-level b (pointing place ∷ fs) = 8
-level b (of_array place len ∷ fs) = 8
-level b (of_slice place ∷ fs) = 8
-level b (enclosed_type place ∷ fs) = 8
+level b (pointing pos ∷ fs) = 8
+level b (of_array pos len ∷ fs) = 8
+level b (of_slice pos ∷ fs) = 8
+level b (enclosed_type pos ∷ fs) = 8
 
 -- elements without a type are themselves an element
 abbrev pub Standing : Container → List Frame → Type 0
 Standing (of_type t) fs = Unit {0}
-Standing (of_element place) (filling c es key ∷ fs) = Unit {0}
-Standing (of_element place) _ = ⊥
+Standing (of_element pos) (filling c es key ∷ fs) = Unit {0}
+Standing (of_element pos) _ = ⊥
 
 -- each frame stands where an expression may stand, or where a type may
-abbrev pub Valid : Base → List Frame → Type 0
+abbrev pub Valid : Context → List Frame → Type 0
 Valid b [] = Unit {0}
-Valid b (awaiting a place op ∷ fs) = (level b fs ≤ precedence op) × Valid b fs
-Valid b (measuring place ∷ fs) = Valid b fs
+Valid b (awaiting a pos op ∷ fs) = (level b fs ≤ precedence op) × Valid b fs
+Valid b (measuring pos ∷ fs) = Valid b fs
 Valid b (filling c es key ∷ fs) = (level b fs ≤ 6) × Standing c fs × Valid b fs
-Valid b (pointing place ∷ fs) = (level b fs ≡ 8) × Valid b fs
-Valid b (of_array place len ∷ fs) = Valid b fs
-Valid b (of_slice place ∷ fs) = Valid b fs
-Valid b (enclosed_type place ∷ fs) = (level b fs ≡ 8) × Valid b fs
+Valid b (pointing pos ∷ fs) = (level b fs ≡ 8) × Valid b fs
+Valid b (of_array pos len ∷ fs) = Valid b fs
+Valid b (of_slice pos ∷ fs) = Valid b fs
+Valid b (enclosed_type pos ∷ fs) = (level b fs ≡ 8) × Valid b fs
 Valid b (f ∷ fs) = (level b fs ≤ 6) × Valid b fs
 
 -- ---- what may follow an expression that is whole
@@ -69,22 +69,22 @@ pub record ArgumentsEnd (d : ℕ) (f : Ex) (es : Exs) (Up : Ex → List Mark →
   pub closes : ClosesArguments d spread between rest
   pub up : Up (call f (appended es others) spread) rest
 
--- behind the `...` of a call
+-- after the `...` of a call
 pub record SpreadEnd (d : ℕ) (f : Ex) (es : Exs) (Up : Ex → List Mark → Type 0) (m : List Mark) : Type 0 where
   pub rest : List Mark
   pub closes : (m ≡ inside RightParen d ∷ rest) ⊎ (m ≡ inside Comma (suc d) ∷ inside RightParen d ∷ rest)
   pub up : Up (call f es true) rest
 
--- the high bound of a slice expression, behind the colon
-pub record HighEnd (l : Bool) (d : ℕ) (a : Ex) (place : Pos) (low : Bound) (Up : Ex → List Mark → Type 0) (m : List Mark) : Type 0 where
+-- the high bound of a slice expression, after the colon
+pub record HighEnd (l : Bool) (d : ℕ) (a : Ex) (pos : Pos) (low : Bound) (Up : Ex → List Mark → Type 0) (m : List Mark) : Type 0 where
   pub high : Bound
   pub rest : List Mark
   pub reads : ReadsBound l (suc d) high m (inside RightBracket d ∷ rest)
-  pub up : Up (slice a place low high) rest
+  pub up : Up (slice a pos low high) rest
 
 abbrev pub contained : Container → Elements → Ex
 contained (of_type t) es = literal t es
-contained (of_element place) es = elements place es
+contained (of_element pos) es = elements pos es
 
 -- the other elements of a literal, and its end
 pub record ElementsEnd (l : Bool) (d : ℕ) (c : Container) (es : Elements) (Up : Ex → List Mark → Type 0) (m : List Mark) : Type 0 where
@@ -95,7 +95,7 @@ pub record ElementsEnd (l : Bool) (d : ℕ) (c : Container) (es : Elements) (Up 
   pub closes : ClosesElements d between rest
   pub up : Up (contained c (elements_joined es others)) rest
 
--- the name x was a key: behind its colon stands the value
+-- the name x was a key: after its colon stands the value
 pub record KeyEnd (l : Bool) (d : ℕ) (c : Container) (es : Elements) (Up : Ex → List Mark → Type 0) (e : Ex) (m : List Mark) : Type 0 where
   pub key : Name
   pub is_name : e ≡ name key
@@ -107,7 +107,7 @@ pub record KeyEnd (l : Bool) (d : ℕ) (c : Container) (es : Elements) (Up : Ex 
   pub reads : ReadsEx l 0 (suc d) value behind rest
   pub closes : ElementsEnd l d c (with_element es (Some key) value) Up rest
 
--- an expression or a type c behind which a mark stands
+-- an expression or a type c after which a mark stands
 pub record Behind (t : Terminal) (d : ℕ) (Up : Ex → List Mark → Type 0) (c : Ex) (m : List Mark) : Type 0 where
   pub rest : List Mark
   pub mark : m ≡ inside t d ∷ rest
@@ -121,56 +121,56 @@ pub record TypeRead (l : Bool) (d : ℕ) (Up : Ex → List Mark → Type 0) (m :
   pub up : Up whole rest
 
 -- an expression c on top of fs, which may still grow before it is whole
-abbrev pub Over : Base → List Frame → (Ex → List Mark → Type 0) → Ex → List Mark → Type 0
+abbrev pub Over : Context → List Frame → (Ex → List Mark → Type 0) → Ex → List Mark → Type 0
 Over b fs Up c m = Grown (allows b.literals fs) (level b fs) (open_depth b.depth fs) Up c m
 
 -- what may follow e, which is whole: K, once nothing is open
-abbrev pub Close : Base → (Ex → List Mark → Type 0) → List Frame → Ex → List Mark → Type 0
+abbrev pub Close : Context → (Ex → List Mark → Type 0) → List Frame → Ex → List Mark → Type 0
 Close b K [] e m = (b.types ≡ false → IsValue e) × K e m
-Close b K (prefixed place op ∷ fs) e m = FitsPrefix op e × Over b fs (Close b K fs) (unary place op e) m
-Close b K (enclosed place ∷ fs) e m = Behind RightParen (open_depth b.depth fs) (Over b fs (Close b K fs)) (paren place e) m
-Close b K (awaiting a place op ∷ fs) e m = IsValue e × Over b fs (Close b K fs) (binary place op a e) m
+Close b K (prefixed pos op ∷ fs) e m = FitsPrefix op e × Over b fs (Close b K fs) (unary pos op e) m
+Close b K (enclosed pos ∷ fs) e m = Behind RightParen (open_depth b.depth fs) (Over b fs (Close b K fs)) (paren pos e) m
+Close b K (awaiting a pos op ∷ fs) e m = IsValue e × Over b fs (Close b K fs) (binary pos op a e) m
 Close b K (calling f es ∷ fs) e m = ArgumentsEnd (open_depth b.depth fs) f (with_ex es e) (Over b fs (Close b K fs)) m
-Close b K (indexing a place ∷ fs) e m = IsValue e × (Behind RightBracket (open_depth b.depth fs) (Over b fs (Close b K fs)) (index a place e) m ⊎ ((n : List Mark) × (m ≡ inside Colon (suc (open_depth b.depth fs)) ∷ n) × HighEnd (allows b.literals fs) (open_depth b.depth fs) a place (bound_at e) (Over b fs (Close b K fs)) n))
-Close b K (bounding a place low ∷ fs) e m = IsValue e × Behind RightBracket (open_depth b.depth fs) (Over b fs (Close b K fs)) (slice a place low (bound_at e)) m
-Close b K (measuring place ∷ fs) e m = IsValue e × (n : List Mark) × (m ≡ inside RightBracket (open_depth b.depth fs) ∷ n) × TypeRead (allows b.literals fs) (suc (open_depth b.depth fs)) (λ t k. Over b fs (Close b K fs) (array_type place e t) k) n
+Close b K (indexing a pos ∷ fs) e m = IsValue e × (Behind RightBracket (open_depth b.depth fs) (Over b fs (Close b K fs)) (index a pos e) m ⊎ ((n : List Mark) × (m ≡ inside Colon (suc (open_depth b.depth fs)) ∷ n) × HighEnd (allows b.literals fs) (open_depth b.depth fs) a pos (bound_at e) (Over b fs (Close b K fs)) n))
+Close b K (bounding a pos low ∷ fs) e m = IsValue e × Behind RightBracket (open_depth b.depth fs) (Over b fs (Close b K fs)) (slice a pos low (bound_at e)) m
+Close b K (measuring pos ∷ fs) e m = IsValue e × (n : List Mark) × (m ≡ inside RightBracket (open_depth b.depth fs) ∷ n) × TypeRead (allows b.literals fs) (suc (open_depth b.depth fs)) (λ t k. Over b fs (Close b K fs) (array_type pos e t) k) n
 Close b K (filling c es key ∷ fs) e m = (IsValue e × ElementsEnd (allows b.literals fs) (open_depth b.depth fs) c (with_element es key e) (Over b fs (Close b K fs)) m) ⊎ ((key ≡ None) × KeyEnd (allows b.literals fs) (open_depth b.depth fs) c es (Over b fs (Close b K fs)) e m)
-Close b K (pointing place ∷ fs) e m = Over b fs (Close b K fs) (unary place Star e) m
-Close b K (of_array place len ∷ fs) e m = Over b fs (Close b K fs) (array_type place len e) m
-Close b K (of_slice place ∷ fs) e m = Over b fs (Close b K fs) (slice_type place e) m
-Close b K (enclosed_type place ∷ fs) e m = Behind RightParen (open_depth b.depth fs) (Over b fs (Close b K fs)) (paren place e) m
+Close b K (pointing pos ∷ fs) e m = Over b fs (Close b K fs) (unary pos Star e) m
+Close b K (of_array pos len ∷ fs) e m = Over b fs (Close b K fs) (array_type pos len e) m
+Close b K (of_slice pos ∷ fs) e m = Over b fs (Close b K fs) (slice_type pos e) m
+Close b K (enclosed_type pos ∷ fs) e m = Behind RightParen (open_depth b.depth fs) (Over b fs (Close b K fs)) (paren pos e) m
 
 -- ---- what may follow where something is wanted
 
--- behind e, which may still grow
-abbrev pub Have : Base → (Ex → List Mark → Type 0) → List Frame → Ex → List Mark → Type 0
+-- after e, which may still grow
+abbrev pub Have : Context → (Ex → List Mark → Type 0) → List Frame → Ex → List Mark → Type 0
 Have b K fs e m = Over b fs (Close b K fs) e m
 
 -- where an operand is wanted
-pub record Wants (b : Base) (K : Ex → List Mark → Type 0) (fs : List Frame) (m : List Mark) : Type 0 where
+pub record Wants (b : Context) (K : Ex → List Mark → Type 0) (fs : List Frame) (m : List Mark) : Type 0 where
   pub whole : Ex
   pub rest : List Mark
   pub reads : ReadsEx (allows b.literals fs) (level b fs) (open_depth b.depth fs) whole m rest
   pub closes : Close b K fs whole rest
 
 -- where a type is wanted
-abbrev pub WantsType : Base → (Ex → List Mark → Type 0) → List Frame → List Mark → Type 0
+abbrev pub WantsType : Context → (Ex → List Mark → Type 0) → List Frame → List Mark → Type 0
 WantsType b K fs m = TypeRead (allows b.literals fs) (open_depth b.depth fs) (Close b K fs) m
 
 -- what may follow in a state
-abbrev pub Rest : Base → (Ex → List Mark → Type 0) → Open → List Mark → Type 0
+abbrev pub Rest : Context → (Ex → List Mark → Type 0) → Open → List Mark → Type 0
 Rest b K (at_operand fs) m = Wants b K fs m
 Rest b K (at_argument fs f es) m = Behind RightParen (open_depth b.depth fs) (Have b K fs) (call f es false) m ⊎ Wants b K (calling f es ∷ fs) m
 Rest b K (at_spread fs f es) m = SpreadEnd (open_depth b.depth fs) f es (Have b K fs) m
 Rest b K (at_call_end fs f es) m = Behind RightParen (open_depth b.depth fs) (Have b K fs) (call f es true) m
-Rest b K (at_bracket fs place) m = ((n : List Mark) × (m ≡ inside RightBracket (open_depth b.depth fs) ∷ n) × WantsType b K (of_slice place ∷ fs) n) ⊎ Wants b K (measuring place ∷ fs) m
+Rest b K (at_bracket fs pos) m = ((n : List Mark) × (m ≡ inside RightBracket (open_depth b.depth fs) ∷ n) × WantsType b K (of_slice pos ∷ fs) n) ⊎ Wants b K (measuring pos ∷ fs) m
 Rest b K (at_type_operand fs) m = WantsType b K fs m
-Rest b K (at_type_end fs place e) m = Behind RightParen (open_depth b.depth fs) (Have b K fs) (paren place e) m
+Rest b K (at_type_end fs pos e) m = Behind RightParen (open_depth b.depth fs) (Have b K fs) (paren pos e) m
 Rest b K (at_type fs e) m = Have b K fs e m
 Rest b K (at_operator fs e) m = Have b K fs e m
-Rest b K (at_selector fs e place) m = (x : Name) × (n : List Mark) × (m ≡ inside (Identifier x) (open_depth b.depth fs) ∷ n) × Have b K fs (selector e place x) n
-Rest b K (at_index fs e place) m = ((n : List Mark) × (m ≡ inside Colon (suc (open_depth b.depth fs)) ∷ n) × HighEnd (allows b.literals fs) (open_depth b.depth fs) e place no_bound (Have b K fs) n) ⊎ Wants b K (indexing e place ∷ fs) m
-Rest b K (at_high fs e place low) m = HighEnd (allows b.literals fs) (open_depth b.depth fs) e place low (Have b K fs) m
+Rest b K (at_selector fs e pos) m = (x : Name) × (n : List Mark) × (m ≡ inside (Identifier x) (open_depth b.depth fs) ∷ n) × Have b K fs (selector e pos x) n
+Rest b K (at_index fs e pos) m = ((n : List Mark) × (m ≡ inside Colon (suc (open_depth b.depth fs)) ∷ n) × HighEnd (allows b.literals fs) (open_depth b.depth fs) e pos no_bound (Have b K fs) n) ⊎ Wants b K (indexing e pos ∷ fs) m
+Rest b K (at_high fs e pos low) m = HighEnd (allows b.literals fs) (open_depth b.depth fs) e pos low (Have b K fs) m
 Rest b K (at_element fs c es) m = ((end : Pos) × (n : List Mark) × (m ≡ inside (RightBrace end) (open_depth b.depth fs) ∷ n) × Have b K fs (contained c es) n) ⊎ Wants b K (filling c es None ∷ fs) m
 Rest b K (at_value fs c es x) m = Wants b K (filling c es (Some x) ∷ fs) m
 Rest b K (at_element_end fs c es) m = ElementsEnd (allows b.literals fs) (open_depth b.depth fs) c es (Have b K fs) m
@@ -178,73 +178,73 @@ Rest b K (at_element_end fs c es) m = ElementsEnd (allows b.literals fs) (open_d
 -- ---- what each state keeps
 
 -- an expression may stand on top of fs
-pub record TakesEx (b : Base) (fs : List Frame) : Type 0 where
+pub record TakesEx (b : Context) (fs : List Frame) : Type 0 where
   pub level_small : level b fs ≤ 6
   pub valid : Valid b fs
 
 -- a type may stand on top of fs
-pub record TakesType (b : Base) (fs : List Frame) : Type 0 where
+pub record TakesType (b : Context) (fs : List Frame) : Type 0 where
   pub level_is : level b fs ≡ 8
   pub valid : Valid b fs
 
 -- an operand on top of fs
-pub record IsOperand (b : Base) (fs : List Frame) (e : Ex) : Type 0 where
+pub record IsOperand (b : Context) (fs : List Frame) (e : Ex) : Type 0 where
   pub takes : TakesEx b fs
   pub tight : 7 ≤ tightness e
   pub is_value : IsValue e
 
 -- a type inside an expression: the type of a literal, or an argument
-pub record IsInnerType (b : Base) (fs : List Frame) (e : Ex) : Type 0 where
+pub record IsInnerType (b : Context) (fs : List Frame) (e : Ex) : Type 0 where
   pub takes : TakesEx b fs
   pub tight : 7 ≤ tightness e
   pub is_type : IsTypeOnly e
   pub stands : (is_bracket_type e ≡ true) ⊎ (allows_type fs ≡ true)
 
 -- the elements of a container on top of fs
-pub record TakesElement (b : Base) (fs : List Frame) (c : Container) : Type 0 where
+pub record TakesElement (b : Context) (fs : List Frame) (c : Container) : Type 0 where
   pub takes : TakesEx b fs
   pub standing : Standing c fs
 
-abbrev pub ValidOpen : Base → Open → Type 0
+abbrev pub ValidOpen : Context → Open → Type 0
 ValidOpen b (at_operand fs) = (1 ≤ level b fs) × TakesEx b fs
 ValidOpen b (at_argument fs f es) = TakesEx b fs
 ValidOpen b (at_spread fs f es) = TakesEx b fs
 ValidOpen b (at_call_end fs f es) = TakesEx b fs
-ValidOpen b (at_bracket fs place) = Valid b fs
+ValidOpen b (at_bracket fs pos) = Valid b fs
 ValidOpen b (at_type_operand fs) = TakesType b fs
-ValidOpen b (at_type_end fs place e) = TakesType b fs
+ValidOpen b (at_type_end fs pos e) = TakesType b fs
 ValidOpen b (at_type fs e) = ((fs ≡ []) × (b.types ≡ true)) ⊎ IsInnerType b fs e
 ValidOpen b (at_operator fs e) = IsOperand b fs e
-ValidOpen b (at_selector fs e place) = TakesEx b fs
-ValidOpen b (at_index fs e place) = TakesEx b fs
-ValidOpen b (at_high fs e place low) = TakesEx b fs
+ValidOpen b (at_selector fs e pos) = TakesEx b fs
+ValidOpen b (at_index fs e pos) = TakesEx b fs
+ValidOpen b (at_high fs e pos low) = TakesEx b fs
 ValidOpen b (at_element fs c es) = TakesElement b fs c
 ValidOpen b (at_value fs c es x) = TakesElement b fs c
 ValidOpen b (at_element_end fs c es) = TakesElement b fs c
 
-abbrev pub ValidNext : Base → Progress → Type 0
+abbrev pub ValidNext : Context → Progress → Type 0
 ValidNext b fails = Unit {0}
 ValidNext b (goes s) = ValidOpen b s
 ValidNext b (ends e) = b.types ≡ false → IsValue e
 
--- ---- a terminal, and what follows behind it
+-- ---- a terminal, and what follows it
 
 -- a terminal that goes on with an expression that is whole
-abbrev pub GoesOn : Base → Terminal → Type 0
-GoesOn b (Operator place op) = Unit {0}
-GoesOn b (LeftParen place) = Unit {0}
-GoesOn b (Period place) = Unit {0}
-GoesOn b (LeftBracket place) = Unit {0}
-GoesOn b (LeftBrace place) = b.literals ≡ true
+abbrev pub GoesOn : Context → Terminal → Type 0
+GoesOn b (Operator pos op) = Unit {0}
+GoesOn b (LeftParen pos) = Unit {0}
+GoesOn b (Period pos) = Unit {0}
+GoesOn b (LeftBracket pos) = Unit {0}
+GoesOn b (LeftBrace pos) = b.literals ≡ true
 GoesOn b _ = ⊥
 
 -- no such terminal follows a whole expression
-pub record Apart (b : Base) (K : Ex → List Mark → Type 0) : Type 0 where
+pub record Apart (b : Context) (K : Ex → List Mark → Type 0) : Type 0 where
   pub never : b.types ≡ false → (e : Ex) (t : Terminal) (j : ℕ) (w : List Mark) → GoesOn b t → K e (inside t j ∷ w) → ⊥
 
 -- What may follow a terminal t of nesting j, where the machine makes this progress at it; n is the nesting where it goes on. Where the
 -- expression ended before t, t is not taken.
-abbrev pub After : Base → (Ex → List Mark → Type 0) → Progress → ℕ → Terminal → ℕ → List Mark → Type 0
+abbrev pub After : Context → (Ex → List Mark → Type 0) → Progress → ℕ → Terminal → ℕ → List Mark → Type 0
 After b K fails n t j w = ⊥
 After b K (goes s) n t j w = (j ≡ n) × Rest b K s w
 After b K (ends e) n t j w = (b.types ≡ false → IsValue e) × K e (inside t j ∷ w)

@@ -1,4 +1,4 @@
--- Expressions from left to right: what a terminal makes of the expression behind which it stands.
+-- Expressions from left to right: what a terminal makes of the expression after which it stands.
 use Rattle.std.proofs.Common.{◌≡◌, ℕ, suc, max, ◌≤◌, Bool, true, List, ◌∷◌, ◌⊎◌}
 use Rattle.syntax.specs.declared.operator.UnOp.TheVariants.{Star}
 use Rattle.syntax.specs.declared.expression.Name.{Name}
@@ -10,37 +10,37 @@ use Rattle.parse_expressions.specs.Grammar.{Mark, inside, IsValue, ReadsEx, Read
 
 -- how tightly an expression holds together
 abbrev pub tightness : Ex → ℕ
-tightness (unary place op e) = 6
-tightness (binary place op a b) = precedence op
-tightness (elements place es) = 0
+tightness (unary pos op e) = 6
+tightness (binary pos op a b) = precedence op
+tightness (elements pos es) = 0
 tightness _ = 7
 
 -- the type of a literal; one that is a name begins a literal only where l is true
 abbrev pub IsLiteralType : Bool → Ex → Type 0
 IsLiteralType l (name x) = l ≡ true
-IsLiteralType l (array_type place len e) = Unit {0}
-IsLiteralType l (slice_type place e) = Unit {0}
+IsLiteralType l (array_type pos len e) = Unit {0}
+IsLiteralType l (slice_type pos e) = Unit {0}
 IsLiteralType l _ = ⊥
 
 -- a type that is no value
 abbrev pub IsTypeOnly : Ex → Type 0
-IsTypeOnly (array_type place len e) = Unit {0}
-IsTypeOnly (slice_type place e) = Unit {0}
-IsTypeOnly (unary place Star e) = IsTypeOnly e
-IsTypeOnly (paren place e) = IsTypeOnly e
+IsTypeOnly (array_type pos len e) = Unit {0}
+IsTypeOnly (slice_type pos e) = Unit {0}
+IsTypeOnly (unary pos Star e) = IsTypeOnly e
+IsTypeOnly (paren pos e) = IsTypeOnly e
 IsTypeOnly _ = ⊥
 
--- The terminal t, with the nesting j and the marks w behind it, stands behind the expression c, which is inside of d brackets. It
+-- The terminal t, with the nesting j and the marks w after it, stands after the expression c, which is inside of d brackets. It
 -- makes c the leftmost part of g, and leaves rest.
 abbrev pub MakesOf : Bool → ℕ → Ex → Terminal → ℕ → List Mark → Ex → List Mark → Type 0
-MakesOf l d c (Operator place op) j w g rest = (j ≡ max d (suc (height c))) × IsValue c × (b : Ex) × (g ≡ binary place op c b) × IsValue b × ReadsEx l (suc (precedence op)) d b w rest
-MakesOf l d c (LeftParen place) j w g rest = (j ≡ max d (suc (height c))) × IsValue c × (es : Exs) × (spread : Bool) × (g ≡ call c es spread) × ReadsArguments d es spread w rest
-MakesOf l d c (Period place) j w g rest = (j ≡ max d (suc (height c))) × IsValue c × (x : Name) × (g ≡ selector c place x) × (w ≡ inside (Identifier x) d ∷ rest)
-MakesOf l d c (LeftBracket place) j w g rest = (j ≡ max d (suc (height c))) × IsValue c × (((i : Ex) × (g ≡ index c place i) × IsValue i × ReadsEx l 1 (suc d) i w (inside RightBracket d ∷ rest)) ⊎ ((low high : Bound) × (m : List Mark) × (g ≡ slice c place low high) × ReadsBound l (suc d) low w (inside Colon (suc d) ∷ m) × ReadsBound l (suc d) high m (inside RightBracket d ∷ rest)))
-MakesOf l d c (LeftBrace place) j w g rest = (j ≡ d) × IsLiteralType l c × (es : Elements) × (g ≡ literal c es) × ReadsElements l d es w rest
+MakesOf l d c (Operator pos op) j w g rest = (j ≡ max d (suc (height c))) × IsValue c × (b : Ex) × (g ≡ binary pos op c b) × IsValue b × ReadsEx l (suc (precedence op)) d b w rest
+MakesOf l d c (LeftParen pos) j w g rest = (j ≡ max d (suc (height c))) × IsValue c × (es : Exs) × (spread : Bool) × (g ≡ call c es spread) × ReadsArguments d es spread w rest
+MakesOf l d c (Period pos) j w g rest = (j ≡ max d (suc (height c))) × IsValue c × (x : Name) × (g ≡ selector c pos x) × (w ≡ inside (Identifier x) d ∷ rest)
+MakesOf l d c (LeftBracket pos) j w g rest = (j ≡ max d (suc (height c))) × IsValue c × (((i : Ex) × (g ≡ index c pos i) × IsValue i × ReadsEx l 1 (suc d) i w (inside RightBracket d ∷ rest)) ⊎ ((low high : Bound) × (m : List Mark) × (g ≡ slice c pos low high) × ReadsBound l (suc d) low w (inside Colon (suc d) ∷ m) × ReadsBound l (suc d) high m (inside RightBracket d ∷ rest)))
+MakesOf l d c (LeftBrace pos) j w g rest = (j ≡ d) × IsLiteralType l c × (es : Elements) × (g ≡ literal c es) × ReadsElements l d es w rest
 MakesOf l d c _ j w g rest = ⊥
 
--- g is an expression that fits a place of precedence p and whose leftmost part is c; the marks ts behind c lead to rest. Where a type is
+-- g is an expression that fits a place of precedence p and whose leftmost part is c; the marks ts after c lead to rest. Where a type is
 -- wanted, as p ≡ 8 says, it is c alone.
 pub data Grows : Bool → ℕ → ℕ → Ex → List Mark → Ex → List Mark → Type 0 where
   whole : {l : Bool} {p d : ℕ} {c : Ex} {ts : List Mark} → (p ≤ tightness c) ⊎ (p ≡ 8) → Grows l p d c ts c ts

@@ -7,13 +7,13 @@ use Rattle.parse_expressions.specs.Frames.{Frame, prefixed, enclosed, awaiting, 
 use Rattle.parse_expressions.specs.Stacks.{frame_of, frames_of, open_parentheses, levels, parentheses_of}
 
 pub deeper : (b : ℕ) (f : Frame) (fs : List Frame) → open_depth b (f ∷ fs) ≡ open_depth b fs + levels f
-deeper b (awaiting a place op) fs = omega arith
+deeper b (awaiting a pos op) fs = omega arith
 deeper b f fs = omega arith
 
 pub more_parentheses : (f : Frame) (fs : List Frame) → open_parentheses (f ∷ fs) ≡ open_parentheses fs + parentheses_of f
-more_parentheses (enclosed place) fs = omega arith
+more_parentheses (enclosed pos) fs = omega arith
 more_parentheses (calling f es) fs = omega arith
-more_parentheses (enclosed_type place) fs = omega arith
+more_parentheses (enclosed_type pos) fs = omega arith
 more_parentheses f fs = omega arith
 
 pub few_parentheses : (b : ℕ) (fs : List Frame) → open_parentheses fs ≤ open_depth b fs
@@ -21,29 +21,29 @@ few_parentheses b [] = omega arith
 few_parentheses b (f ∷ fs) = omega (arith, few_parentheses b fs, one_each f, deeper b f fs, more_parentheses f fs)
   where
     one_each : (g : Frame) → parentheses_of g ≤ levels g
-    one_each (prefixed place op) = omega arith
+    one_each (prefixed pos op) = omega arith
     one_each g = omega arith
 
 -- parentheses allow a literal that begins with a name
 pub in_parentheses : (l : Bool) (fs : List Frame) → 0 < open_parentheses fs → allows l fs ≡ true
 in_parentheses l [] lt = absurd (omega arith)
-in_parentheses l (enclosed place ∷ fs) lt = refl
+in_parentheses l (enclosed pos ∷ fs) lt = refl
 in_parentheses l (calling f es ∷ fs) lt = refl
-in_parentheses l (enclosed_type place ∷ fs) lt = refl
+in_parentheses l (enclosed_type pos ∷ fs) lt = refl
 in_parentheses l (f ∷ fs) lt = in_parentheses l fs lt
 
 pub allowed_outside : (l : Bool) (fs : List Frame) → l ≡ true → allows l fs ≡ true
 allowed_outside l [] is = is
-allowed_outside l (enclosed place ∷ fs) is = refl
+allowed_outside l (enclosed pos ∷ fs) is = refl
 allowed_outside l (calling f es ∷ fs) is = refl
-allowed_outside l (enclosed_type place ∷ fs) is = refl
+allowed_outside l (enclosed_type pos ∷ fs) is = refl
 allowed_outside l (f ∷ fs) is = allowed_outside l fs is
 
 pub forbidden : (l : Bool) (fs : List Frame) → l ≡ false → open_parentheses fs ≤ 0 → allows l fs ≡ false
 forbidden l [] is le = is
-forbidden l (enclosed place ∷ fs) is le = absurd (omega arith)
+forbidden l (enclosed pos ∷ fs) is le = absurd (omega arith)
 forbidden l (calling f es ∷ fs) is le = absurd (omega arith)
-forbidden l (enclosed_type place ∷ fs) is le = absurd (omega arith)
+forbidden l (enclosed_type pos ∷ fs) is le = absurd (omega arith)
 forbidden l (f ∷ fs) is le = forbidden l fs is le
 
 -- the innermost of the first frames

@@ -17,3 +17,4 @@ pub mod Pending
 pub mod Levels
 pub mod Begins
 pub mod Behind
+mod Foretelling

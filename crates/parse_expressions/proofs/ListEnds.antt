@@ -33,7 +33,7 @@ close_at t j w (comma_closing {d = d} {rest = n}) is = let at : Comma ≡ t = cc
 close_at t j w (spread_closing {d = d} {rest = n}) is = let at : Ellipsis ≡ t = cc in subst (λ (x : Terminal). ArgumentsCloseAt d true x j w n) at (refl, cc, inl cc)
 close_at t j w (spread_comma_closing {d = d} {rest = n}) is = let at : Ellipsis ≡ t = cc in subst (λ (x : Terminal). ArgumentsCloseAt d true x j w n) at (refl, cc, inr cc)
 
--- a terminal behind an argument
+-- a terminal after an argument
 abbrev pub EndsArgument : Terminal → Type 0
 EndsArgument Comma = Unit {0}
 EndsArgument Ellipsis = Unit {0}
@@ -54,7 +54,7 @@ module _ (d : ℕ) (f : Ex) (es : Exs) (Up : Ex → List Mark → Type 0) where
       to none r = closed_argument d h.spread t j w h.rest (close_at t j w h.closes (sym r))
       to (some g gs) r = let at : Comma ≡ t = cc (r.2) in subst EndsArgument at tt
 
-  -- behind an argument and a comma
+  -- after an argument and a comma
   abbrev pub ArgumentNext : List Mark → Type 0
   ArgumentNext w = Behind RightParen d Up (call f es false) w ⊎ ((g : Ex) × (m : List Mark) × ReadsEx true 1 (suc d) g w m × ArgumentsEnd d f (with_ex es g) Up m)
 
@@ -136,22 +136,22 @@ abbrev pub no_key : Option Name
 no_key = None
 
 abbrev pub ElementsCloseAt : ℕ → Terminal → ℕ → List Mark → List Mark → Type 0
-ElementsCloseAt d (RightBrace place) j w n = (j ≡ d) × (w ≡ n)
-ElementsCloseAt d Comma j w n = (j ≡ suc d) × (place : Pos) × (w ≡ inside (RightBrace place) d ∷ n)
+ElementsCloseAt d (RightBrace pos) j w n = (j ≡ d) × (w ≡ n)
+ElementsCloseAt d Comma j w n = (j ≡ suc d) × (pos : Pos) × (w ≡ inside (RightBrace pos) d ∷ n)
 ElementsCloseAt d t j w n = ⊥
 
 elements_at : {d : ℕ} {ts n : List Mark} (t : Terminal) (j : ℕ) (w : List Mark) → ClosesElements d ts n → ts ≡ inside t j ∷ w → ElementsCloseAt d t j w n
-elements_at t j w (elements_closing {d = d} {place = place} {rest = n}) is = let at : RightBrace place ≡ t = cc in subst (λ (x : Terminal). ElementsCloseAt d x j w n) at (cc, cc)
-elements_at t j w (elements_comma_closing {d = d} {place = place} {rest = n}) is = let at : Comma ≡ t = cc in subst (λ (x : Terminal). ElementsCloseAt d x j w n) at (cc, place, cc)
+elements_at t j w (elements_closing {d = d} {pos = pos} {rest = n}) is = let at : RightBrace pos ≡ t = cc in subst (λ (x : Terminal). ElementsCloseAt d x j w n) at (cc, cc)
+elements_at t j w (elements_comma_closing {d = d} {pos = pos} {rest = n}) is = let at : Comma ≡ t = cc in subst (λ (x : Terminal). ElementsCloseAt d x j w n) at (cc, pos, cc)
 
--- a terminal behind an element
+-- a terminal after an element
 abbrev pub EndsElement : Terminal → Type 0
 EndsElement Comma = Unit {0}
-EndsElement (RightBrace place) = Unit {0}
+EndsElement (RightBrace pos) = Unit {0}
 EndsElement _ = ⊥
 
 closed_element : (d : ℕ) (t : Terminal) (j : ℕ) (w n : List Mark) → ElementsCloseAt d t j w n → EndsElement t
-closed_element d (RightBrace place) j w n c = tt
+closed_element d (RightBrace pos) j w n c = tt
 closed_element d Comma j w n c = tt
 closed_element d t j w n c = absurd c
 
@@ -163,16 +163,16 @@ module _ (l : Bool) (d : ℕ) (c : Container) (es : Elements) (Up : Ex → List 
       to no_elements r = closed_element d t j w h.rest (elements_at t j w h.closes (sym r))
       to (element key e gs) r = let at : Comma ≡ t = cc (r.3) in subst EndsElement at tt
 
-  -- an element and what is behind it
+  -- an element and what is after it
   pub record ElementRead (w : List Mark) : Type 0 where
     pub whole : Ex
     pub rest : List Mark
     pub reads : ReadsEx l 0 (suc d) whole w rest
     pub closes : (IsValue whole × ElementsEnd l d c (with_element es None whole) Up rest) ⊎ ((no_key ≡ None) × KeyEnd l d c es Up whole rest)
 
-  -- behind an opening brace, or an element and a comma
+  -- after an opening brace, or an element and a comma
   abbrev pub ElementNext : List Mark → Type 0
-  ElementNext w = ((place : Pos) × (n : List Mark) × (w ≡ inside (RightBrace place) d ∷ n) × Up (contained c es) n) ⊎ ElementRead w
+  ElementNext w = ((pos : Pos) × (n : List Mark) × (w ≡ inside (RightBrace pos) d ∷ n) × Up (contained c es) n) ⊎ ElementRead w
 
   -- one more element
   element_read : (key : Option Name) (e : Ex) (others : Elements) (ts m n k r : List Mark) → ReadsKey (suc d) key ts m → IsValue e → ReadsEx l 0 (suc d) e m n → ReadsMoreElements l (suc d) others n k → ClosesElements d k r → Up (contained c (elements_joined es (element key e others))) r → ElementRead ts
@@ -231,15 +231,15 @@ module _ (l : Bool) (d : ℕ) (c : Container) (es : Elements) (Up : Ex → List 
           let same_w : r.0 ≡ w = cc (r.3) in
           (cc (r.3), inr (element_read key e gs w r.1 r.2 k n (subst (λ (ts : List Mark). ReadsKey (suc d) key ts r.1) same_w r.4) r.5.0 r.5.1 r.6 end u))
 
-  pub element_brace : (place : Pos) (j : ℕ) (w : List Mark) → Iff (ElementsEnd l d c es Up (inside (RightBrace place) j ∷ w)) ((j ≡ d) × Up (contained c es) w)
-  element_brace place j w = (
+  pub element_brace : (pos : Pos) (j : ℕ) (w : List Mark) → Iff (ElementsEnd l d c es Up (inside (RightBrace pos) j ∷ w)) ((j ≡ d) × Up (contained c es) w)
+  element_brace pos j w = (
     λ h. to h.others h.between h.rest h.reads h.closes h.up,
-    λ h. record { others = no_elements; between = inside (RightBrace place) j ∷ w; rest = w; reads = refl; closes = subst (λ (i : ℕ). ClosesElements d (inside (RightBrace place) i ∷ w) w) (sym h.0) elements_closing; up = subst (λ (xs : Elements). Up (contained c xs) w) (sym (joined_none es)) h.1 },
+    λ h. record { others = no_elements; between = inside (RightBrace pos) j ∷ w; rest = w; reads = refl; closes = subst (λ (i : ℕ). ClosesElements d (inside (RightBrace pos) i ∷ w) w) (sym h.0) elements_closing; up = subst (λ (xs : Elements). Up (contained c xs) w) (sym (joined_none es)) h.1 },
   )
     where
-      to : (others : Elements) (k n : List Mark) → ReadsMoreElements l (suc d) others (inside (RightBrace place) j ∷ w) k → ClosesElements d k n → Up (contained c (elements_joined es others)) n → (j ≡ d) × Up (contained c es) w
+      to : (others : Elements) (k n : List Mark) → ReadsMoreElements l (suc d) others (inside (RightBrace pos) j ∷ w) k → ClosesElements d k n → Up (contained c (elements_joined es others)) n → (j ≡ d) × Up (contained c es) w
       to no_elements k n r end u =
-          let i = elements_at (RightBrace place) j w end (sym r) in
+          let i = elements_at (RightBrace pos) j w end (sym r) in
           (i.0, subst (λ (ts : List Mark). Up (contained c es) ts) (sym i.1) (subst (λ (xs : Elements). Up (contained c xs) n) (joined_none es) u))
       to (element key e gs) k n r end u = absurd (cc (r.3))
 

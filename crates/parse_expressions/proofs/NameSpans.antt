@@ -12,7 +12,7 @@ use Rattle.parse_expressions.specs.Grammar.{Mark, inside, behind, ReadsEx, Reads
 -- a name or string stands in a text of n bytes
 abbrev pub HasSpan : ℕ → Terminal → Type 0
 HasSpan n (Identifier x) = IsNameSpan n x
-HasSpan n (String place end) = IsSpan n place end
+HasSpan n (String pos end) = IsSpan n pos end
 HasSpan n _ = Unit {0}
 
 abbrev pub HaveSpans : ℕ → List Mark → Type 0
@@ -36,64 +36,64 @@ module _ (n : ℕ) where
 
   mutual
     pub ex_spans : (l : Bool) (p d : ℕ) (e : Ex) (ts rest : List Mark) → ReadsEx l p d e ts rest → HaveSpans n ts → ExSpans n e × HaveSpans n rest
-    ex_spans l p d (number place k) ts rest r a = (tt, (subst (HaveSpans n) r a).1)
-    ex_spans l p d (string place end) ts rest r a = subst (HaveSpans n) r a
+    ex_spans l p d (number pos k) ts rest r a = (tt, (subst (HaveSpans n) r a).1)
+    ex_spans l p d (string pos end) ts rest r a = subst (HaveSpans n) r a
     ex_spans l p d (name x) ts rest r a = subst (HaveSpans n) r a
-    ex_spans l p d (unary place op e) ts rest r a = ex_spans l 6 (suc d) e r.2 rest r.6 (subst (HaveSpans n) r.4 a).1
-    ex_spans l p d (binary place op b c) ts rest r a =
-        let i = ex_spans l (precedence op) d b ts (behind d b (Operator place op) ∷ r.1) r.2.1 a in
+    ex_spans l p d (unary pos op e) ts rest r a = ex_spans l 6 (suc d) e r.2 rest r.6 (subst (HaveSpans n) r.4 a).1
+    ex_spans l p d (binary pos op b c) ts rest r a =
+        let i = ex_spans l (precedence op) d b ts (behind d b (Operator pos op) ∷ r.1) r.2.1 a in
         let k = ex_spans l (suc (precedence op)) d c r.1 rest r.3.1 i.1.1 in
         ((i.0, k.0), k.1)
-    ex_spans l p d (paren place e) ts rest r a =
+    ex_spans l p d (paren pos e) ts rest r a =
         let i = ex_spans true 1 (suc d) e r.0 (inside RightParen d ∷ rest) r.2 (subst (HaveSpans n) r.1 a).1 in
         (i.0, i.1.1)
     ex_spans l p d (call f es spread) ts rest r a =
         let i = ex_spans l 7 d f ts (behind d f (LeftParen r.0) ∷ r.1) r.2.1 a in
         let k = arguments_spans d es spread r.1 rest r.3 i.1.1 in
         ((i.0, k.0), k.1)
-    ex_spans l p d (selector e place x) ts rest r a =
-        let i = ex_spans l 7 d e ts (behind d e (Period place) ∷ inside (Identifier x) d ∷ rest) r.1 a in
+    ex_spans l p d (selector e pos x) ts rest r a =
+        let i = ex_spans l 7 d e ts (behind d e (Period pos) ∷ inside (Identifier x) d ∷ rest) r.1 a in
         ((i.0, i.1.1.0), i.1.1.1)
-    ex_spans l p d (index e place c) ts rest r a =
-        let i = ex_spans l 7 d e ts (behind d e (LeftBracket place) ∷ r.0) r.1.1 a in
+    ex_spans l p d (index e pos c) ts rest r a =
+        let i = ex_spans l 7 d e ts (behind d e (LeftBracket pos) ∷ r.0) r.1.1 a in
         let k = ex_spans l 1 (suc d) c r.0 (inside RightBracket d ∷ rest) r.2.1 i.1.1 in
         ((i.0, k.0), k.1.1)
-    ex_spans l p d (slice e place low high) ts rest r a =
-        let i = ex_spans l 7 d e ts (behind d e (LeftBracket place) ∷ r.0) r.2.1 a in
+    ex_spans l p d (slice e pos low high) ts rest r a =
+        let i = ex_spans l 7 d e ts (behind d e (LeftBracket pos) ∷ r.0) r.2.1 a in
         let k = bound_spans l (suc d) low r.0 (inside Colon (suc d) ∷ r.1) r.3 i.1.1 in
         let m = bound_spans l (suc d) high r.1 (inside RightBracket d ∷ rest) r.4 k.1.1 in
         ((i.0, k.0, m.0), m.1.1)
-    ex_spans l p d (array_type place len e) ts rest r a =
+    ex_spans l p d (array_type pos len e) ts rest r a =
         let i = ex_spans l 1 (suc d) len r.0 (inside RightBracket d ∷ r.1) r.3.1 (subst (HaveSpans n) r.2 a).1 in
         let k = type_spans l (suc d) e r.1 rest r.4 i.1.1 in
         ((i.0, k.0), k.1)
-    ex_spans l p d (slice_type place e) ts rest r a = type_spans l (suc d) e r.0 rest r.2 (subst (HaveSpans n) r.1 a).1.1
+    ex_spans l p d (slice_type pos e) ts rest r a = type_spans l (suc d) e r.0 rest r.2 (subst (HaveSpans n) r.1 a).1.1
     ex_spans l p d (literal t es) ts rest r a =
         let i = literal_type_spans l d t ts (inside (LeftBrace r.0) d ∷ r.1) r.2 a in
         let k = elements_spans l d es r.1 rest r.3 i.1.1 in
         ((i.0, k.0), k.1)
-    ex_spans l p d (elements place es) ts rest r a = elements_spans l d es r.1 rest r.3 (subst (HaveSpans n) r.2 a).1
+    ex_spans l p d (elements pos es) ts rest r a = elements_spans l d es r.1 rest r.3 (subst (HaveSpans n) r.2 a).1
 
     pub type_spans : (l : Bool) (d : ℕ) (e : Ex) (ts rest : List Mark) → ReadsType l d e ts rest → HaveSpans n ts → ExSpans n e × HaveSpans n rest
     type_spans l d (name x) ts rest r a = subst (HaveSpans n) r a
-    type_spans l d (unary place Star e) ts rest r a = type_spans l (suc d) e r.1 rest r.4 (subst (HaveSpans n) r.3 a).1
-    type_spans l d (paren place e) ts rest r a =
+    type_spans l d (unary pos Star e) ts rest r a = type_spans l (suc d) e r.1 rest r.4 (subst (HaveSpans n) r.3 a).1
+    type_spans l d (paren pos e) ts rest r a =
         let i = type_spans true (suc d) e r.0 (inside RightParen d ∷ rest) r.2 (subst (HaveSpans n) r.1 a).1 in
         (i.0, i.1.1)
-    type_spans l d (array_type place len e) ts rest r a =
+    type_spans l d (array_type pos len e) ts rest r a =
         let i = ex_spans l 1 (suc d) len r.0 (inside RightBracket d ∷ r.1) r.3.1 (subst (HaveSpans n) r.2 a).1 in
         let k = type_spans l (suc d) e r.1 rest r.4 i.1.1 in
         ((i.0, k.0), k.1)
-    type_spans l d (slice_type place e) ts rest r a = type_spans l (suc d) e r.0 rest r.2 (subst (HaveSpans n) r.1 a).1.1
+    type_spans l d (slice_type pos e) ts rest r a = type_spans l (suc d) e r.0 rest r.2 (subst (HaveSpans n) r.1 a).1.1
     type_spans l d e ts rest r a = absurd r
 
     literal_type_spans : (l : Bool) (d : ℕ) (e : Ex) (ts rest : List Mark) → ReadsLiteralType l d e ts rest → HaveSpans n ts → ExSpans n e × HaveSpans n rest
     literal_type_spans l d (name x) ts rest r a = subst (HaveSpans n) r.1 a
-    literal_type_spans l d (array_type place len e) ts rest r a =
+    literal_type_spans l d (array_type pos len e) ts rest r a =
         let i = ex_spans l 1 (suc d) len r.0 (inside RightBracket d ∷ r.1) r.3.1 (subst (HaveSpans n) r.2 a).1 in
         let k = type_spans l (suc d) e r.1 rest r.4 i.1.1 in
         ((i.0, k.0), k.1)
-    literal_type_spans l d (slice_type place e) ts rest r a = type_spans l (suc d) e r.0 rest r.2 (subst (HaveSpans n) r.1 a).1.1
+    literal_type_spans l d (slice_type pos e) ts rest r a = type_spans l (suc d) e r.0 rest r.2 (subst (HaveSpans n) r.1 a).1.1
     literal_type_spans l d e ts rest r a = absurd r
 
     bound_spans : (l : Bool) (d : ℕ) (e : Bound) (ts rest : List Mark) → ReadsBound l d e ts rest → HaveSpans n ts → BoundSpans n e × HaveSpans n rest

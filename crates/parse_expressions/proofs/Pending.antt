@@ -11,5 +11,5 @@ use Rattle.parse_expressions.specs.Containers.{in_braces}
 -- the height of a literal with an element more
 pub higher_braces : (c : Container) (es : Elements) (key : Option Name) (e : Ex) → height (in_braces c (with_element es key e)) ≡ max (height (in_braces c es)) (suc (height e))
 higher_braces (of_type t) es key e = omega (arith, elements_higher es key e)
-higher_braces (of_element place) no_elements key e = omega arith
-higher_braces (of_element place) (element k x es) key e = omega (arith, elements_higher es key e)
+higher_braces (of_element pos) no_elements key e = omega arith
+higher_braces (of_element pos) (element k x es) key e = omega (arith, elements_higher es key e)

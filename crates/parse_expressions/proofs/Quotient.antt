@@ -9,7 +9,7 @@ use Rattle.parse_expressions.specs.declared.terminal.Terminal.{Terminal}
 use Rattle.parse_expressions.specs.declared.terminal.Terminal.TheVariants.{Identifier, Operator, Comma, Colon, Period, LeftParen, RightParen, LeftBracket, RightBracket, LeftBrace, RightBrace}
 use Rattle.parse_expressions.specs.Grammar.{Mark, inside, IsValue}
 use Rattle.parse_expressions.specs.Frames.{Container, of_type, Frame, calling, indexing, bounding, measuring, filling, of_slice, open_depth, allows}
-use Rattle.parse_expressions.specs.Machine.{Base, Open, at_operand, at_argument, at_spread, at_call_end, at_bracket, at_type_operand, at_type_end, at_type, at_operator, at_selector, at_index, at_high, at_element, at_value, at_element_end, goes, ends, reduce, closes_reduced, brace_behind_name, behind_operand, behind_inner_type, behind_type, step, nesting_behind, nesting_behind_type, nesting_at_closes, nesting}
+use Rattle.parse_expressions.specs.Machine.{Context, Open, at_operand, at_argument, at_spread, at_call_end, at_bracket, at_type_operand, at_type_end, at_type, at_operator, at_selector, at_index, at_high, at_element, at_value, at_element_end, goes, ends, reduce, closes_reduced, brace_behind_name, behind_operand, behind_inner_type, behind_type, step, nesting_behind, nesting_behind_type, nesting_at_closes, nesting}
 use Rattle.parse_expressions.proofs.Growth.{IsLiteralType}
 use Rattle.parse_expressions.proofs.ListEnds.{element_first, element_comma, element_brace}
 use Rattle.parse_expressions.proofs.OperandSteps.{iff_trans, headed, BraceNeeds, operand_step, brace_step, element_next, type_step, type_ends, type_whole}
@@ -21,11 +21,11 @@ use Rattle.parse_expressions.proofs.Following.{level, Over, Close, Have, Wants, 
 -- a value that is no name begins no literal
 no_type : (l : Bool) (e : Ex) → IsValue e → ((x : Name) → e ≡ name x → ⊥) → IsLiteralType l e → ⊥
 no_type l (name x) value other is = other x refl
-no_type l (array_type place len e) value other is = value
-no_type l (slice_type place e) value other is = value
+no_type l (array_type pos len e) value other is = value
+no_type l (slice_type pos e) value other is = value
 no_type l e value other is = is
 
-module _ (b : Base) (K : Ex → List Mark → Type 0) where
+module _ (b : Context) (K : Ex → List Mark → Type 0) where
   -- ---- in a call
 
   argument_step : (fs : List Frame) (f : Ex) (es : Exs) (t : Terminal) (j : ℕ) (w : List Mark) → Iff (Rest b K (at_argument fs f es) (inside t j ∷ w)) (After b K (step b (at_argument fs f es) t) (nesting b (at_argument fs f es) t) t j w)
@@ -36,9 +36,9 @@ module _ (b : Base) (K : Ex → List Mark → Type 0) where
     ],
     λ h. inl ((behind_step RightParen (open_depth b.depth fs) (Have b K fs) (call f es false) j w).1 h),
   )
-  argument_step fs f es (LeftBrace place) j w = (
-    λ h. elim h [ inl i ↦ absurd (cc (i.mark)) | inr v ↦ (operand_step b K (calling f es ∷ fs) (LeftBrace place) j w (omega arith) (omega arith)).0 v ],
-    λ h. inr ((operand_step b K (calling f es ∷ fs) (LeftBrace place) j w (omega arith) (omega arith)).1 h),
+  argument_step fs f es (LeftBrace pos) j w = (
+    λ h. elim h [ inl i ↦ absurd (cc (i.mark)) | inr v ↦ (operand_step b K (calling f es ∷ fs) (LeftBrace pos) j w (omega arith) (omega arith)).0 v ],
+    λ h. inr ((operand_step b K (calling f es ∷ fs) (LeftBrace pos) j w (omega arith) (omega arith)).1 h),
   )
   argument_step fs f es t j w = (
     λ h. elim h [ inl i ↦ absurd (cc (i.mark)) | inr v ↦ (operand_step b K (calling f es ∷ fs) t j w (omega arith) tt).0 v ],
@@ -68,66 +68,66 @@ module _ (b : Base) (K : Ex → List Mark → Type 0) where
 
   -- ---- in brackets
 
-  bracket_step : (fs : List Frame) (place : Pos) (t : Terminal) (j : ℕ) (w : List Mark) → Iff (Rest b K (at_bracket fs place) (inside t j ∷ w)) (After b K (step b (at_bracket fs place) t) (nesting b (at_bracket fs place) t) t j w)
-  bracket_step fs place RightBracket j w = (
+  bracket_step : (fs : List Frame) (pos : Pos) (t : Terminal) (j : ℕ) (w : List Mark) → Iff (Rest b K (at_bracket fs pos) (inside t j ∷ w)) (After b K (step b (at_bracket fs pos) t) (nesting b (at_bracket fs pos) t) t j w)
+  bracket_step fs pos RightBracket j w = (
     λ h. elim h [
-      | inl i ↦ let same_w : i.0 ≡ w = cc (i.1) in (cc (i.1), subst (λ (ts : List Mark). WantsType b K (of_slice place ∷ fs) ts) same_w i.2)
-      | inr v ↦ absurd (headed b K (measuring place ∷ fs) RightBracket j w (omega arith) v).at
+      | inl i ↦ let same_w : i.0 ≡ w = cc (i.1) in (cc (i.1), subst (λ (ts : List Mark). WantsType b K (of_slice pos ∷ fs) ts) same_w i.2)
+      | inr v ↦ absurd (headed b K (measuring pos ∷ fs) RightBracket j w (omega arith) v).at
     ],
     λ h. inl (w, ap (λ (n : ℕ). inside RightBracket n ∷ w) h.0, h.1),
   )
-  bracket_step fs place (LeftBrace at) j w = (
-    λ h. elim h [ inl i ↦ absurd (cc (i.1)) | inr v ↦ (operand_step b K (measuring place ∷ fs) (LeftBrace at) j w (omega arith) (omega arith)).0 v ],
-    λ h. inr ((operand_step b K (measuring place ∷ fs) (LeftBrace at) j w (omega arith) (omega arith)).1 h),
+  bracket_step fs pos (LeftBrace at) j w = (
+    λ h. elim h [ inl i ↦ absurd (cc (i.1)) | inr v ↦ (operand_step b K (measuring pos ∷ fs) (LeftBrace at) j w (omega arith) (omega arith)).0 v ],
+    λ h. inr ((operand_step b K (measuring pos ∷ fs) (LeftBrace at) j w (omega arith) (omega arith)).1 h),
   )
-  bracket_step fs place t j w = (
-    λ h. elim h [ inl i ↦ absurd (cc (i.1)) | inr v ↦ (operand_step b K (measuring place ∷ fs) t j w (omega arith) tt).0 v ],
-    λ h. inr ((operand_step b K (measuring place ∷ fs) t j w (omega arith) tt).1 h),
+  bracket_step fs pos t j w = (
+    λ h. elim h [ inl i ↦ absurd (cc (i.1)) | inr v ↦ (operand_step b K (measuring pos ∷ fs) t j w (omega arith) tt).0 v ],
+    λ h. inr ((operand_step b K (measuring pos ∷ fs) t j w (omega arith) tt).1 h),
   )
 
-  index_begins : (fs : List Frame) (e : Ex) (place : Pos) (t : Terminal) (j : ℕ) (w : List Mark) → Iff (Rest b K (at_index fs e place) (inside t j ∷ w)) (After b K (step b (at_index fs e place) t) (nesting b (at_index fs e place) t) t j w)
-  index_begins fs e place Colon j w = (
+  index_begins : (fs : List Frame) (e : Ex) (pos : Pos) (t : Terminal) (j : ℕ) (w : List Mark) → Iff (Rest b K (at_index fs e pos) (inside t j ∷ w)) (After b K (step b (at_index fs e pos) t) (nesting b (at_index fs e pos) t) t j w)
+  index_begins fs e pos Colon j w = (
     λ h. elim h [
-      | inl i ↦ let same_w : i.0 ≡ w = cc (i.1) in (cc (i.1), subst (λ (ts : List Mark). Rest b K (at_high fs e place no_bound) ts) same_w i.2)
-      | inr v ↦ absurd (headed b K (indexing e place ∷ fs) Colon j w (omega arith) v).at
+      | inl i ↦ let same_w : i.0 ≡ w = cc (i.1) in (cc (i.1), subst (λ (ts : List Mark). Rest b K (at_high fs e pos no_bound) ts) same_w i.2)
+      | inr v ↦ absurd (headed b K (indexing e pos ∷ fs) Colon j w (omega arith) v).at
     ],
     λ h. inl (w, ap (λ (n : ℕ). inside Colon n ∷ w) h.0, h.1),
   )
-  index_begins fs e place (LeftBrace at) j w = (
-    λ h. elim h [ inl i ↦ absurd (cc (i.1)) | inr v ↦ (operand_step b K (indexing e place ∷ fs) (LeftBrace at) j w (omega arith) (omega arith)).0 v ],
-    λ h. inr ((operand_step b K (indexing e place ∷ fs) (LeftBrace at) j w (omega arith) (omega arith)).1 h),
+  index_begins fs e pos (LeftBrace at) j w = (
+    λ h. elim h [ inl i ↦ absurd (cc (i.1)) | inr v ↦ (operand_step b K (indexing e pos ∷ fs) (LeftBrace at) j w (omega arith) (omega arith)).0 v ],
+    λ h. inr ((operand_step b K (indexing e pos ∷ fs) (LeftBrace at) j w (omega arith) (omega arith)).1 h),
   )
-  index_begins fs e place t j w = (
-    λ h. elim h [ inl i ↦ absurd (cc (i.1)) | inr v ↦ (operand_step b K (indexing e place ∷ fs) t j w (omega arith) tt).0 v ],
-    λ h. inr ((operand_step b K (indexing e place ∷ fs) t j w (omega arith) tt).1 h),
+  index_begins fs e pos t j w = (
+    λ h. elim h [ inl i ↦ absurd (cc (i.1)) | inr v ↦ (operand_step b K (indexing e pos ∷ fs) t j w (omega arith) tt).0 v ],
+    λ h. inr ((operand_step b K (indexing e pos ∷ fs) t j w (omega arith) tt).1 h),
   )
 
-  high_step : (fs : List Frame) (e : Ex) (place : Pos) (low : Bound) (t : Terminal) (j : ℕ) (w : List Mark) → Iff (HighNext b K fs e place low (inside t j ∷ w)) (After b K (step b (at_high fs e place low) t) (nesting b (at_high fs e place low) t) t j w)
-  high_step fs e place low RightBracket j w = (
+  high_step : (fs : List Frame) (e : Ex) (pos : Pos) (low : Bound) (t : Terminal) (j : ℕ) (w : List Mark) → Iff (HighNext b K fs e pos low (inside t j ∷ w)) (After b K (step b (at_high fs e pos low) t) (nesting b (at_high fs e pos low) t) t j w)
+  high_step fs e pos low RightBracket j w = (
     λ h. elim h [
-      | inl i ↦ (behind_step RightBracket (open_depth b.depth fs) (Have b K fs) (slice e place low no_bound) j w).0 i
-      | inr v ↦ absurd (headed b K (bounding e place low ∷ fs) RightBracket j w (omega arith) v).at
+      | inl i ↦ (behind_step RightBracket (open_depth b.depth fs) (Have b K fs) (slice e pos low no_bound) j w).0 i
+      | inr v ↦ absurd (headed b K (bounding e pos low ∷ fs) RightBracket j w (omega arith) v).at
     ],
-    λ h. inl ((behind_step RightBracket (open_depth b.depth fs) (Have b K fs) (slice e place low no_bound) j w).1 h),
+    λ h. inl ((behind_step RightBracket (open_depth b.depth fs) (Have b K fs) (slice e pos low no_bound) j w).1 h),
   )
-  high_step fs e place low (LeftBrace at) j w = (
-    λ h. elim h [ inl i ↦ absurd (cc (i.mark)) | inr v ↦ (operand_step b K (bounding e place low ∷ fs) (LeftBrace at) j w (omega arith) (omega arith)).0 v ],
-    λ h. inr ((operand_step b K (bounding e place low ∷ fs) (LeftBrace at) j w (omega arith) (omega arith)).1 h),
+  high_step fs e pos low (LeftBrace at) j w = (
+    λ h. elim h [ inl i ↦ absurd (cc (i.mark)) | inr v ↦ (operand_step b K (bounding e pos low ∷ fs) (LeftBrace at) j w (omega arith) (omega arith)).0 v ],
+    λ h. inr ((operand_step b K (bounding e pos low ∷ fs) (LeftBrace at) j w (omega arith) (omega arith)).1 h),
   )
-  high_step fs e place low t j w = (
-    λ h. elim h [ inl i ↦ absurd (cc (i.mark)) | inr v ↦ (operand_step b K (bounding e place low ∷ fs) t j w (omega arith) tt).0 v ],
-    λ h. inr ((operand_step b K (bounding e place low ∷ fs) t j w (omega arith) tt).1 h),
+  high_step fs e pos low t j w = (
+    λ h. elim h [ inl i ↦ absurd (cc (i.mark)) | inr v ↦ (operand_step b K (bounding e pos low ∷ fs) t j w (omega arith) tt).0 v ],
+    λ h. inr ((operand_step b K (bounding e pos low ∷ fs) t j w (omega arith) tt).1 h),
   )
 
-  selector_name : (fs : List Frame) (e : Ex) (place : Pos) (t : Terminal) (j : ℕ) (w : List Mark) → Iff (Rest b K (at_selector fs e place) (inside t j ∷ w)) (After b K (step b (at_selector fs e place) t) (nesting b (at_selector fs e place) t) t j w)
-  selector_name fs e place (Identifier x) j w = (
+  selector_name : (fs : List Frame) (e : Ex) (pos : Pos) (t : Terminal) (j : ℕ) (w : List Mark) → Iff (Rest b K (at_selector fs e pos) (inside t j ∷ w)) (After b K (step b (at_selector fs e pos) t) (nesting b (at_selector fs e pos) t) t j w)
+  selector_name fs e pos (Identifier x) j w = (
     λ h.
         let same_x : h.0 ≡ x = cc (h.2) in
         let same_w : h.1 ≡ w = cc (h.2) in
-        (cc (h.2), subst (λ (ts : List Mark). Have b K fs (selector e place x) ts) same_w (subst (λ (y : Name). Have b K fs (selector e place y) h.1) same_x h.3)),
+        (cc (h.2), subst (λ (ts : List Mark). Have b K fs (selector e pos x) ts) same_w (subst (λ (y : Name). Have b K fs (selector e pos y) h.1) same_x h.3)),
     λ h. (x, w, ap (λ (n : ℕ). inside (Identifier x) n ∷ w) h.0, h.1),
   )
-  selector_name fs e place t j w = (λ h. absurd (cc (h.2)), λ h. absurd h)
+  selector_name fs e pos t j w = (λ h. absurd (cc (h.2)), λ h. absurd h)
 
   -- ---- in braces
 
@@ -139,9 +139,9 @@ module _ (b : Base) (K : Ex → List Mark → Type 0) where
     ],
     λ h. inl (end, w, ap (λ (n : ℕ). inside (RightBrace end) n ∷ w) h.0, (filled_step b K fs c es w takes.standing).1 h.1),
   )
-  element_begins fs c es (LeftBrace place) j w takes = (
-    λ h. elim h [ inl i ↦ absurd (cc (i.2)) | inr v ↦ (brace_step b K (filling c es None ∷ fs) place j w refl).0 v ],
-    λ h. inr ((brace_step b K (filling c es None ∷ fs) place j w refl).1 h),
+  element_begins fs c es (LeftBrace pos) j w takes = (
+    λ h. elim h [ inl i ↦ absurd (cc (i.2)) | inr v ↦ (brace_step b K (filling c es None ∷ fs) pos j w refl).0 v ],
+    λ h. inr ((brace_step b K (filling c es None ∷ fs) pos j w refl).1 h),
   )
   element_begins fs c es t j w takes = (
     λ h. elim h [ inl i ↦ absurd (cc (i.2)) | inr v ↦ (operand_step b K (filling c es None ∷ fs) t j w (omega arith) tt).0 v ],
@@ -149,7 +149,7 @@ module _ (b : Base) (K : Ex → List Mark → Type 0) where
   )
 
   value_step : (fs : List Frame) (c : Container) (es : Elements) (x : Name) (t : Terminal) (j : ℕ) (w : List Mark) → Iff (Rest b K (at_value fs c es x) (inside t j ∷ w)) (After b K (step b (at_value fs c es x) t) (nesting b (at_value fs c es x) t) t j w)
-  value_step fs c es x (LeftBrace place) j w = brace_step b K (filling c es (Some x) ∷ fs) place j w refl
+  value_step fs c es x (LeftBrace pos) j w = brace_step b K (filling c es (Some x) ∷ fs) pos j w refl
   value_step fs c es x t j w = operand_step b K (filling c es (Some x) ∷ fs) t j w (omega arith) tt
 
   element_end_step : (fs : List Frame) (c : Container) (es : Elements) (t : Terminal) (j : ℕ) (w : List Mark) → TakesElement b fs c → Iff (Rest b K (at_element_end fs c es) (inside t j ∷ w)) (After b K (step b (at_element_end fs c es) t) (nesting b (at_element_end fs c es) t) t j w)
@@ -163,15 +163,15 @@ module _ (b : Base) (K : Ex → List Mark → Type 0) where
       (λ h. let k = i.0 h in (k.0, n.0 k.1), λ h. i.1 (h.0, n.1 h.1))
   element_end_step fs c es t j w takes = (λ h. absurd (element_first (allows b.literals fs) (open_depth b.depth fs) c es (Have b K fs) t j w h), λ h. absurd h)
 
-  -- ---- behind an operand
+  -- ---- after an operand
 
-  named_brace : (fs : List Frame) (x : Name) (place : Pos) (j : ℕ) (w : List Mark) → IsOperand b fs (name x) → Apart b K → Iff (Have b K fs (name x) (inside (LeftBrace place) j ∷ w)) (After b K (brace_behind_name b fs x place) (open_depth b.depth fs) (LeftBrace place) j w)
-  named_brace fs x place j w o apart = by (allows b.literals fs) refl
+  named_brace : (fs : List Frame) (x : Name) (pos : Pos) (j : ℕ) (w : List Mark) → IsOperand b fs (name x) → Apart b K → Iff (Have b K fs (name x) (inside (LeftBrace pos) j ∷ w)) (After b K (brace_behind_name b fs x pos) (open_depth b.depth fs) (LeftBrace pos) j w)
+  named_brace fs x pos j w o apart = by (allows b.literals fs) refl
     where
-      by : (l : Bool) → allows b.literals fs ≡ l → Iff (Have b K fs (name x) (inside (LeftBrace place) j ∷ w)) (After b K (if l then goes (at_element fs (of_type (name x)) no_elements) else closes_reduced fs (name x) (LeftBrace place)) (open_depth b.depth fs) (LeftBrace place) j w)
-      by true is = brace_read b K fs (name x) place j w o.takes.level_small o.tight is (λ h. never_closes b K fs (name x) (LeftBrace place) j w apart is o.takes.level_small o.takes.valid h)
-      by false is = iff_trans _ _ _ (ends_step b K fs (name x) (LeftBrace place) j w o tt (λ q k l. cc) (λ c es gs y k m n. cc))
-          (brace_ends b K (reduce 0 fs (name x)).0 (reduce 0 fs (name x)).1 place (nesting_at_closes b.depth (reduce 0 fs (name x)).0 (LeftBrace place)) (open_depth b.depth fs) j w)
+      by : (l : Bool) → allows b.literals fs ≡ l → Iff (Have b K fs (name x) (inside (LeftBrace pos) j ∷ w)) (After b K (if l then goes (at_element fs (of_type (name x)) no_elements) else closes_reduced fs (name x) (LeftBrace pos)) (open_depth b.depth fs) (LeftBrace pos) j w)
+      by true is = brace_read b K fs (name x) pos j w o.takes.level_small o.tight is (λ h. never_closes b K fs (name x) (LeftBrace pos) j w apart is o.takes.level_small o.takes.valid h)
+      by false is = iff_trans _ _ _ (ends_step b K fs (name x) (LeftBrace pos) j w o tt (λ q k l. cc) (λ c es gs y k m n. cc))
+          (brace_ends b K (reduce 0 fs (name x)).0 (reduce 0 fs (name x)).1 pos (nesting_at_closes b.depth (reduce 0 fs (name x)).0 (LeftBrace pos)) (open_depth b.depth fs) j w)
 
   -- a key and its colon
   key_step : (c : Container) (es : Elements) (fs : List Frame) (x : Name) (j : ℕ) (w : List Mark) → IsOperand b (filling c es None ∷ fs) (name x) → Iff (Have b K (filling c es None ∷ fs) (name x) (inside Colon j ∷ w)) ((j ≡ suc (open_depth b.depth fs)) × Rest b K (at_value fs c es x) w)
@@ -191,26 +191,26 @@ module _ (b : Base) (K : Ex → List Mark → Type 0) where
   )
 
   behind_operand_step : (fs : List Frame) (e : Ex) (t : Terminal) (j : ℕ) (w : List Mark) → IsOperand b fs e → Apart b K → Iff (Have b K fs e (inside t j ∷ w)) (After b K (behind_operand b fs e t) (nesting_behind b.depth fs e t) t j w)
-  behind_operand_step fs e (Operator place op) j w o apart = operator_step b K fs e place op j w o apart
-  behind_operand_step fs e (LeftParen place) j w o apart = call_step b K fs e place j w o apart
-  behind_operand_step fs e (Period place) j w o apart = selector_step b K fs e place j w o apart
-  behind_operand_step fs e (LeftBracket place) j w o apart = index_step b K fs e place j w o apart
-  behind_operand_step fs (name x) (LeftBrace place) j w o apart = named_brace fs x place j w o apart
-  behind_operand_step fs e (LeftBrace place) j w o apart = ends_step b K fs e (LeftBrace place) j w o tt (λ q k l. no_type (allows b.literals fs) e o.is_value (λ x m. cc) l) (λ c es gs y k m n. cc)
+  behind_operand_step fs e (Operator pos op) j w o apart = operator_step b K fs e pos op j w o apart
+  behind_operand_step fs e (LeftParen pos) j w o apart = call_step b K fs e pos j w o apart
+  behind_operand_step fs e (Period pos) j w o apart = selector_step b K fs e pos j w o apart
+  behind_operand_step fs e (LeftBracket pos) j w o apart = index_step b K fs e pos j w o apart
+  behind_operand_step fs (name x) (LeftBrace pos) j w o apart = named_brace fs x pos j w o apart
+  behind_operand_step fs e (LeftBrace pos) j w o apart = ends_step b K fs e (LeftBrace pos) j w o tt (λ q k l. no_type (allows b.literals fs) e o.is_value (λ x m. cc) l) (λ c es gs y k m n. cc)
   behind_operand_step (filling c es None ∷ fs) (name x) Colon j w o apart = key_step c es fs x j w o
   behind_operand_step fs e t j w o apart = ends_step b K fs e t j w o tt (λ q k l. cc) (λ c es gs y k m n. cc)
 
-  -- ---- behind a type
+  -- ---- after a type
 
-  bracket_brace : (fs : List Frame) (e : Ex) (place : Pos) (j : ℕ) (w : List Mark) → IsInnerType b fs e → Iff (Have b K fs e (inside (LeftBrace place) j ∷ w)) (After b K (behind_inner_type fs e (LeftBrace place)) (open_depth b.depth fs) (LeftBrace place) j w)
-  bracket_brace fs (array_type at len e) place j w o = brace_read b K fs (array_type at len e) place j w o.takes.level_small o.tight tt (λ h. type_open b K fs (array_type at len e) place j w o.takes tt h)
-  bracket_brace fs (slice_type at e) place j w o = brace_read b K fs (slice_type at e) place j w o.takes.level_small o.tight tt (λ h. type_open b K fs (slice_type at e) place j w o.takes tt h)
-  bracket_brace fs (paren at e) place j w o = (λ h. absurd ((goes_on b K fs (paren at e) (LeftBrace place) j w o.takes.level_small (λ c. type_open b K fs (paren at e) place j w o.takes o.is_type c)).0 h).makes.1, λ h. absurd h)
-  bracket_brace fs (unary at op e) place j w o = absurd (omega (arith, o.tight))
-  bracket_brace fs e place j w o = absurd o.is_type
+  bracket_brace : (fs : List Frame) (e : Ex) (pos : Pos) (j : ℕ) (w : List Mark) → IsInnerType b fs e → Iff (Have b K fs e (inside (LeftBrace pos) j ∷ w)) (After b K (behind_inner_type fs e (LeftBrace pos)) (open_depth b.depth fs) (LeftBrace pos) j w)
+  bracket_brace fs (array_type at len e) pos j w o = brace_read b K fs (array_type at len e) pos j w o.takes.level_small o.tight tt (λ h. type_open b K fs (array_type at len e) pos j w o.takes tt h)
+  bracket_brace fs (slice_type at e) pos j w o = brace_read b K fs (slice_type at e) pos j w o.takes.level_small o.tight tt (λ h. type_open b K fs (slice_type at e) pos j w o.takes tt h)
+  bracket_brace fs (paren at e) pos j w o = (λ h. absurd ((goes_on b K fs (paren at e) (LeftBrace pos) j w o.takes.level_small (λ c. type_open b K fs (paren at e) pos j w o.takes o.is_type c)).0 h).makes.1, λ h. absurd h)
+  bracket_brace fs (unary at op e) pos j w o = absurd (omega (arith, o.tight))
+  bracket_brace fs e pos j w o = absurd o.is_type
 
   inner_type_step : (fs : List Frame) (e : Ex) (t : Terminal) (j : ℕ) (w : List Mark) → IsInnerType b fs e → Iff (Have b K fs e (inside t j ∷ w)) (After b K (behind_inner_type fs e t) (nesting_behind_type b.depth fs e t) t j w)
-  inner_type_step fs e (LeftBrace place) j w o = bracket_brace fs e place j w o
+  inner_type_step fs e (LeftBrace pos) j w o = bracket_brace fs e pos j w o
   inner_type_step fs e t j w o = type_ends_step b K fs e t j w o tt
 
   base_type_step : (e : Ex) (t : Terminal) (j : ℕ) (w : List Mark) → ValidOpen b (at_type [] e) → Iff (Have b K [] e (inside t j ∷ w)) (After b K (behind_type b [] e t) (nesting_behind_type b.depth [] e t) t j w)
@@ -223,37 +223,37 @@ module _ (b : Base) (K : Ex → List Mark → Type 0) where
       by true is = type_whole b.literals (level b []) b.depth (Close b K []) e (inside t j ∷ w) (base_type_level b is)
       by false is = inner_type_step [] e t j w (inner is)
 
-  type_end_step : (fs : List Frame) (place : Pos) (e : Ex) (t : Terminal) (j : ℕ) (w : List Mark) → Iff (Rest b K (at_type_end fs place e) (inside t j ∷ w)) (After b K (step b (at_type_end fs place e) t) (nesting b (at_type_end fs place e) t) t j w)
-  type_end_step fs place e RightParen j w =
-      let i = behind_step RightParen (open_depth b.depth fs) (Have b K fs) (paren place e) j w in
-      let n = type_ends b K fs (paren place e) w in
+  type_end_step : (fs : List Frame) (pos : Pos) (e : Ex) (t : Terminal) (j : ℕ) (w : List Mark) → Iff (Rest b K (at_type_end fs pos e) (inside t j ∷ w)) (After b K (step b (at_type_end fs pos e) t) (nesting b (at_type_end fs pos e) t) t j w)
+  type_end_step fs pos e RightParen j w =
+      let i = behind_step RightParen (open_depth b.depth fs) (Have b K fs) (paren pos e) j w in
+      let n = type_ends b K fs (paren pos e) w in
       (λ h. let k = i.0 h in (k.0, n.0 k.1), λ h. i.1 (h.0, n.1 h.1))
-  type_end_step fs place e t j w = (λ h. absurd (cc (h.mark)), λ h. absurd h)
+  type_end_step fs pos e t j w = (λ h. absurd (cc (h.mark)), λ h. absurd h)
 
   at_type_step : (fs : List Frame) (e : Ex) (t : Terminal) (j : ℕ) (w : List Mark) → ValidOpen b (at_type fs e) → Iff (Have b K fs e (inside t j ∷ w)) (After b K (behind_type b fs e t) (nesting_behind_type b.depth fs e t) t j w)
   at_type_step [] e t j w valid = base_type_step e t j w valid
   at_type_step (f ∷ fs) e t j w valid = elim valid [ inl i ↦ absurd (cc (i.0)) | inr i ↦ inner_type_step (f ∷ fs) e t j w i ]
 
 -- what a brace needs of the place of an operand
-brace_needs : (b : Base) (fs : List Frame) (t : Terminal) → 1 ≤ level b fs → BraceNeeds t (level b fs)
-brace_needs b fs (LeftBrace place) least = least
+brace_needs : (b : Context) (fs : List Frame) (t : Terminal) → 1 ≤ level b fs → BraceNeeds t (level b fs)
+brace_needs b fs (LeftBrace pos) least = least
 brace_needs b fs t least = tt
 
 -- ---- every state
 
-pub quotient : (b : Base) (K : Ex → List Mark → Type 0) (s : Open) (t : Terminal) (j : ℕ) (w : List Mark) → ValidOpen b s → Apart b K → Iff (Rest b K s (inside t j ∷ w)) (After b K (step b s t) (nesting b s t) t j w)
+pub quotient : (b : Context) (K : Ex → List Mark → Type 0) (s : Open) (t : Terminal) (j : ℕ) (w : List Mark) → ValidOpen b s → Apart b K → Iff (Rest b K s (inside t j ∷ w)) (After b K (step b s t) (nesting b s t) t j w)
 quotient b K (at_operand fs) t j w valid apart = operand_step b K fs t j w valid.1.level_small (brace_needs b fs t valid.0)
 quotient b K (at_argument fs f es) t j w valid apart = argument_step b K fs f es t j w
 quotient b K (at_spread fs f es) t j w valid apart = spread_step b K fs f es t j w
 quotient b K (at_call_end fs f es) t j w valid apart = call_end_step b K fs f es t j w
-quotient b K (at_bracket fs place) t j w valid apart = bracket_step b K fs place t j w
+quotient b K (at_bracket fs pos) t j w valid apart = bracket_step b K fs pos t j w
 quotient b K (at_type_operand fs) t j w valid apart = type_step b K fs t j w valid.level_is
-quotient b K (at_type_end fs place e) t j w valid apart = type_end_step b K fs place e t j w
+quotient b K (at_type_end fs pos e) t j w valid apart = type_end_step b K fs pos e t j w
 quotient b K (at_type fs e) t j w valid apart = at_type_step b K fs e t j w valid
 quotient b K (at_operator fs e) t j w valid apart = behind_operand_step b K fs e t j w valid apart
-quotient b K (at_selector fs e place) t j w valid apart = selector_name b K fs e place t j w
-quotient b K (at_index fs e place) t j w valid apart = index_begins b K fs e place t j w
-quotient b K (at_high fs e place low) t j w valid apart = iff_trans _ _ _ (high_next b K fs e place low (inside t j ∷ w)) (high_step b K fs e place low t j w)
+quotient b K (at_selector fs e pos) t j w valid apart = selector_name b K fs e pos t j w
+quotient b K (at_index fs e pos) t j w valid apart = index_begins b K fs e pos t j w
+quotient b K (at_high fs e pos low) t j w valid apart = iff_trans _ _ _ (high_next b K fs e pos low (inside t j ∷ w)) (high_step b K fs e pos low t j w)
 quotient b K (at_element fs c es) t j w valid apart = element_begins b K fs c es t j w valid
 quotient b K (at_value fs c es x) t j w valid apart = value_step b K fs c es x t j w
 quotient b K (at_element_end fs c es) t j w valid apart = element_end_step b K fs c es t j w valid

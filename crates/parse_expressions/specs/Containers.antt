@@ -8,13 +8,13 @@ use Rattle.parse_expressions.specs.Frames.{Container, of_type, of_element}
 -- from what lies in memory
 abbrev pub container_of : CodeContainer → Container
 container_of (container.Typed t) = of_type (ex_of t)
-container_of (container.Untyped place) = of_element place
+container_of (container.Untyped pos) = of_element pos
 
 -- the literal, or the element without a type, that has these elements
 abbrev pub in_braces : Container → Elements → Ex
 in_braces (of_type t) es = literal t es
-in_braces (of_element place) es = elements place es
+in_braces (of_element pos) es = elements pos es
 
 abbrev pub is_typed : Container → Bool
 is_typed (of_type t) = true
-is_typed (of_element place) = false
+is_typed (of_element pos) = false

@@ -10,7 +10,7 @@ use Rattle.syntax.specs.Expressions.{Ex, Exs, Bound, Elements}
 pub data Container : Type 0 where
   -- a literal of this type
   of_type : Ex → Container
-  -- an element without a type, whose brace stands at this place
+  -- an element without a type, whose brace stands at this position
   of_element : Pos → Container
 
 -- a construct that is open
@@ -23,13 +23,13 @@ pub data Frame : Type 0 where
   awaiting : Ex → Pos → BinOp → Frame
   -- a call that is not closed: the function, and the arguments so far
   calling : Ex → Exs → Frame
-  -- an index, or the low bound of a slice expression, behind what it is an index of
+  -- an index, or the low bound of a slice expression, after what it is an index of
   indexing : Ex → Pos → Frame
-  -- the high bound of a slice expression, behind the low one
+  -- the high bound of a slice expression, after the low one
   bounding : Ex → Pos → Bound → Frame
   -- the length of an array type
   measuring : Pos → Frame
-  -- an element of a literal, behind the elements before and its key, if it has one
+  -- an element of a literal, after the elements before and its key, if it has one
   filling : Container → Elements → Option Name → Frame
   -- inside a type: a `*`, the brackets of an array type with the length, those of a slice type, and parentheses
   pointing : Pos → Frame
@@ -40,13 +40,13 @@ pub data Frame : Type 0 where
 -- how many brackets, braces and prefixes are open, with b of them outside; the innermost frame stands first
 abbrev pub open_depth : ℕ → List Frame → ℕ
 open_depth b [] = b
-open_depth b (awaiting a place op ∷ fs) = open_depth b fs
+open_depth b (awaiting a pos op ∷ fs) = open_depth b fs
 open_depth b (f ∷ fs) = suc (open_depth b fs)
 
--- Whether a literal may begin with a name: l says so of the place outside, and parentheses allow it.
+-- Whether a literal may begin with a name: l says so of the context outside, and parentheses allow it.
 abbrev pub allows : Bool → List Frame → Bool
 allows l [] = l
-allows l (enclosed place ∷ fs) = true
+allows l (enclosed pos ∷ fs) = true
 allows l (calling f es ∷ fs) = true
-allows l (enclosed_type place ∷ fs) = true
+allows l (enclosed_type pos ∷ fs) = true
 allows l (f ∷ fs) = allows l fs

@@ -1,5 +1,5 @@
 -- The grammar of expressions and types: which terminals a tree has [Go specification, Expressions, Operators, Types, Composite
--- literals, Calls]. In each relation the marks ts begin with those of the tree, and rest is left behind them.
+-- literals, Calls]. In each relation the marks ts begin with those of the tree, and rest is left after them.
 use Rattle.std.specs.Prelude.{◌≡◌, ℕ, suc, ◌≤◌, Bool, true, false, List, ◌∷◌, Option, Some, None, map, max}
 use Rattle.base.specs.declared.pos.Pos.{Pos}
 use Rattle.syntax.specs.declared.operator.UnOp.{UnOp}
@@ -12,7 +12,7 @@ use Rattle.parse_expressions.specs.declared.terminal.Terminal.TheVariants.{Ident
 use Rattle.parse_expressions.specs.Terminals.{prefix, prefix_in}
 
 -- A terminal with its nesting: the number of brackets, braces and prefixes that are open around it, and at a binary operator, a
--- `.`, or the opening `[` or `(` behind an expression at least one more than the height of the tree to its left. A bracket or prefix
+-- `.`, or the opening `[` or `(` after an expression at least one more than the height of the tree to its left. A bracket or prefix
 -- is not around itself, a pair not around its closing bracket. A `[ ]` before the type of elements is a prefix of that type.
 pub data Mark : Type 0 where
   inside : Terminal → ℕ → Mark
@@ -26,7 +26,7 @@ nesting_of (inside t d) = d
 abbrev pub terminals_in : List Mark → List Terminal
 terminals_in ms = map terminal_in ms
 
--- the mark of what stands behind the expression e inside of d brackets
+-- the mark of what stands after the expression e inside of d brackets
 abbrev pub behind : ℕ → Ex → Terminal → Mark
 behind d e t = inside t (max d (suc (height e)))
 
@@ -34,10 +34,10 @@ behind d e t = inside t (max d (suc (height e)))
 
 -- An expression that may be a value. Types with brackets are none, nor are their pointer types; a name may be either.
 abbrev pub IsValue : Ex → Type 0
-IsValue (array_type place len e) = ⊥
-IsValue (slice_type place e) = ⊥
-IsValue (unary place Star e) = IsValue e
-IsValue (paren place e) = IsValue e
+IsValue (array_type pos len e) = ⊥
+IsValue (slice_type pos e) = ⊥
+IsValue (unary pos Star e) = IsValue e
+IsValue (paren pos e) = IsValue e
 IsValue _ = Unit {0}
 
 abbrev pub AreValues : Exs → Type 0
@@ -51,7 +51,7 @@ FitsPrefix op e = IsValue e
 
 -- ---- how lists end
 
--- the end of the arguments of a call inside of d brackets, with `...` behind the last one or not: a comma may stand before it
+-- the end of the arguments of a call inside of d brackets, with `...` after the last one or not: a comma may stand before it
 pub data ClosesArguments : ℕ → Bool → List Mark → List Mark → Type 0 where
   closing : {d : ℕ} {rest : List Mark} → ClosesArguments d false (inside RightParen d ∷ rest) rest
   comma_closing : {d : ℕ} {rest : List Mark} → ClosesArguments d false (inside Comma (suc d) ∷ inside RightParen d ∷ rest) rest
@@ -60,8 +60,8 @@ pub data ClosesArguments : ℕ → Bool → List Mark → List Mark → Type 0 w
 
 -- the end of the elements of a literal inside of d brackets
 pub data ClosesElements : ℕ → List Mark → List Mark → Type 0 where
-  elements_closing : {d : ℕ} {place : Pos} {rest : List Mark} → ClosesElements d (inside (RightBrace place) d ∷ rest) rest
-  elements_comma_closing : {d : ℕ} {place : Pos} {rest : List Mark} → ClosesElements d (inside Comma (suc d) ∷ inside (RightBrace place) d ∷ rest) rest
+  elements_closing : {d : ℕ} {pos : Pos} {rest : List Mark} → ClosesElements d (inside (RightBrace pos) d ∷ rest) rest
+  elements_comma_closing : {d : ℕ} {pos : Pos} {rest : List Mark} → ClosesElements d (inside Comma (suc d) ∷ inside (RightBrace pos) d ∷ rest) rest
 
 -- the name of a field and its colon, where an element has one
 abbrev pub ReadsKey : ℕ → Option Name → List Mark → List Mark → Type 0
@@ -76,35 +76,35 @@ ReadsKey d (Some x) ts rest = ts ≡ inside (Identifier x) d ∷ inside Colon d 
 -- name stands in parentheses, as it does in the header of an `if` or `for`.
 abbrev mutual
   pub ReadsEx : Bool → ℕ → ℕ → Ex → List Mark → List Mark → Type 0
-  ReadsEx l p d (number place n) ts rest = ts ≡ inside (Number place n) d ∷ rest
-  ReadsEx l p d (string place end) ts rest = ts ≡ inside (String place end) d ∷ rest
+  ReadsEx l p d (number pos n) ts rest = ts ≡ inside (Number pos n) d ∷ rest
+  ReadsEx l p d (string pos end) ts rest = ts ≡ inside (String pos end) d ∷ rest
   ReadsEx l p d (name x) ts rest = ts ≡ inside (Identifier x) d ∷ rest
-  ReadsEx l p d (unary place op e) ts rest = (p ≤ 6) × (t : Terminal) × (m : List Mark) × (prefix_in t ≡ Some (prefix place op)) × (ts ≡ inside t d ∷ m) × FitsPrefix op e × ReadsEx l 6 (suc d) e m rest
-  ReadsEx l p d (binary place op a b) ts rest = (p ≤ precedence op) × (m : List Mark) × (IsValue a × ReadsEx l (precedence op) d a ts (behind d a (Operator place op) ∷ m)) × (IsValue b × ReadsEx l (suc (precedence op)) d b m rest)
-  ReadsEx l p d (paren place e) ts rest = (m : List Mark) × (ts ≡ inside (LeftParen place) d ∷ m) × ReadsEx true 1 (suc d) e m (inside RightParen d ∷ rest)
+  ReadsEx l p d (unary pos op e) ts rest = (p ≤ 6) × (t : Terminal) × (m : List Mark) × (prefix_in t ≡ Some (prefix pos op)) × (ts ≡ inside t d ∷ m) × FitsPrefix op e × ReadsEx l 6 (suc d) e m rest
+  ReadsEx l p d (binary pos op a b) ts rest = (p ≤ precedence op) × (m : List Mark) × (IsValue a × ReadsEx l (precedence op) d a ts (behind d a (Operator pos op) ∷ m)) × (IsValue b × ReadsEx l (suc (precedence op)) d b m rest)
+  ReadsEx l p d (paren pos e) ts rest = (m : List Mark) × (ts ≡ inside (LeftParen pos) d ∷ m) × ReadsEx true 1 (suc d) e m (inside RightParen d ∷ rest)
   ReadsEx l p d (call f es spread) ts rest = (opening : Pos) × (m : List Mark) × (IsValue f × ReadsEx l 7 d f ts (behind d f (LeftParen opening) ∷ m)) × ReadsArguments d es spread m rest
-  ReadsEx l p d (selector e place x) ts rest = IsValue e × ReadsEx l 7 d e ts (behind d e (Period place) ∷ inside (Identifier x) d ∷ rest)
-  ReadsEx l p d (index e place i) ts rest = (m : List Mark) × (IsValue e × ReadsEx l 7 d e ts (behind d e (LeftBracket place) ∷ m)) × (IsValue i × ReadsEx l 1 (suc d) i m (inside RightBracket d ∷ rest))
-  ReadsEx l p d (slice e place low high) ts rest = (m n : List Mark) × (IsValue e × ReadsEx l 7 d e ts (behind d e (LeftBracket place) ∷ m)) × ReadsBound l (suc d) low m (inside Colon (suc d) ∷ n) × ReadsBound l (suc d) high n (inside RightBracket d ∷ rest)
-  ReadsEx l p d (array_type place len e) ts rest = (m n : List Mark) × (ts ≡ inside (LeftBracket place) d ∷ m) × (IsValue len × ReadsEx l 1 (suc d) len m (inside RightBracket d ∷ n)) × ReadsType l (suc d) e n rest
-  ReadsEx l p d (slice_type place e) ts rest = (m : List Mark) × (ts ≡ inside (LeftBracket place) d ∷ inside RightBracket d ∷ m) × ReadsType l (suc d) e m rest
-  ReadsEx l p d (literal t es) ts rest = (place : Pos) × (m : List Mark) × ReadsLiteralType l d t ts (inside (LeftBrace place) d ∷ m) × ReadsElements l d es m rest
-  ReadsEx l p d (elements place es) ts rest = (p ≡ 0) × (m : List Mark) × (ts ≡ inside (LeftBrace place) d ∷ m) × ReadsElements l d es m rest
+  ReadsEx l p d (selector e pos x) ts rest = IsValue e × ReadsEx l 7 d e ts (behind d e (Period pos) ∷ inside (Identifier x) d ∷ rest)
+  ReadsEx l p d (index e pos i) ts rest = (m : List Mark) × (IsValue e × ReadsEx l 7 d e ts (behind d e (LeftBracket pos) ∷ m)) × (IsValue i × ReadsEx l 1 (suc d) i m (inside RightBracket d ∷ rest))
+  ReadsEx l p d (slice e pos low high) ts rest = (m n : List Mark) × (IsValue e × ReadsEx l 7 d e ts (behind d e (LeftBracket pos) ∷ m)) × ReadsBound l (suc d) low m (inside Colon (suc d) ∷ n) × ReadsBound l (suc d) high n (inside RightBracket d ∷ rest)
+  ReadsEx l p d (array_type pos len e) ts rest = (m n : List Mark) × (ts ≡ inside (LeftBracket pos) d ∷ m) × (IsValue len × ReadsEx l 1 (suc d) len m (inside RightBracket d ∷ n)) × ReadsType l (suc d) e n rest
+  ReadsEx l p d (slice_type pos e) ts rest = (m : List Mark) × (ts ≡ inside (LeftBracket pos) d ∷ inside RightBracket d ∷ m) × ReadsType l (suc d) e m rest
+  ReadsEx l p d (literal t es) ts rest = (pos : Pos) × (m : List Mark) × ReadsLiteralType l d t ts (inside (LeftBrace pos) d ∷ m) × ReadsElements l d es m rest
+  ReadsEx l p d (elements pos es) ts rest = (p ≡ 0) × (m : List Mark) × (ts ≡ inside (LeftBrace pos) d ∷ m) × ReadsElements l d es m rest
 
   -- a type
   pub ReadsType : Bool → ℕ → Ex → List Mark → List Mark → Type 0
   ReadsType l d (name x) ts rest = ts ≡ inside (Identifier x) d ∷ rest
-  ReadsType l d (unary place Star e) ts rest = (t : Terminal) × (m : List Mark) × (prefix_in t ≡ Some (prefix place Star)) × (ts ≡ inside t d ∷ m) × ReadsType l (suc d) e m rest
-  ReadsType l d (paren place e) ts rest = (m : List Mark) × (ts ≡ inside (LeftParen place) d ∷ m) × ReadsType true (suc d) e m (inside RightParen d ∷ rest)
-  ReadsType l d (array_type place len e) ts rest = (m n : List Mark) × (ts ≡ inside (LeftBracket place) d ∷ m) × (IsValue len × ReadsEx l 1 (suc d) len m (inside RightBracket d ∷ n)) × ReadsType l (suc d) e n rest
-  ReadsType l d (slice_type place e) ts rest = (m : List Mark) × (ts ≡ inside (LeftBracket place) d ∷ inside RightBracket d ∷ m) × ReadsType l (suc d) e m rest
+  ReadsType l d (unary pos Star e) ts rest = (t : Terminal) × (m : List Mark) × (prefix_in t ≡ Some (prefix pos Star)) × (ts ≡ inside t d ∷ m) × ReadsType l (suc d) e m rest
+  ReadsType l d (paren pos e) ts rest = (m : List Mark) × (ts ≡ inside (LeftParen pos) d ∷ m) × ReadsType true (suc d) e m (inside RightParen d ∷ rest)
+  ReadsType l d (array_type pos len e) ts rest = (m n : List Mark) × (ts ≡ inside (LeftBracket pos) d ∷ m) × (IsValue len × ReadsEx l 1 (suc d) len m (inside RightBracket d ∷ n)) × ReadsType l (suc d) e n rest
+  ReadsType l d (slice_type pos e) ts rest = (m : List Mark) × (ts ≡ inside (LeftBracket pos) d ∷ inside RightBracket d ∷ m) × ReadsType l (suc d) e m rest
   ReadsType l d _ ts rest = ⊥
 
   -- the type of a literal
   pub ReadsLiteralType : Bool → ℕ → Ex → List Mark → List Mark → Type 0
   ReadsLiteralType l d (name x) ts rest = (l ≡ true) × (ts ≡ inside (Identifier x) d ∷ rest)
-  ReadsLiteralType l d (array_type place len e) ts rest = (m n : List Mark) × (ts ≡ inside (LeftBracket place) d ∷ m) × (IsValue len × ReadsEx l 1 (suc d) len m (inside RightBracket d ∷ n)) × ReadsType l (suc d) e n rest
-  ReadsLiteralType l d (slice_type place e) ts rest = (m : List Mark) × (ts ≡ inside (LeftBracket place) d ∷ inside RightBracket d ∷ m) × ReadsType l (suc d) e m rest
+  ReadsLiteralType l d (array_type pos len e) ts rest = (m n : List Mark) × (ts ≡ inside (LeftBracket pos) d ∷ m) × (IsValue len × ReadsEx l 1 (suc d) len m (inside RightBracket d ∷ n)) × ReadsType l (suc d) e n rest
+  ReadsLiteralType l d (slice_type pos e) ts rest = (m : List Mark) × (ts ≡ inside (LeftBracket pos) d ∷ inside RightBracket d ∷ m) × ReadsType l (suc d) e m rest
   ReadsLiteralType l d _ ts rest = ⊥
 
   -- a bound of a slice expression
@@ -112,22 +112,22 @@ abbrev mutual
   ReadsBound l d no_bound ts rest = ts ≡ rest
   ReadsBound l d (bound_at e) ts rest = IsValue e × ReadsEx l 1 d e ts rest
 
-  -- the arguments of a call inside of d brackets, from behind its opening parenthesis to behind the closing one: values and types
+  -- the arguments of a call inside of d brackets, from after its opening parenthesis to after the closing one: values and types
   pub ReadsArguments : ℕ → Exs → Bool → List Mark → List Mark → Type 0
   ReadsArguments d none spread ts rest = (spread ≡ false) × (ts ≡ inside RightParen d ∷ rest)
   ReadsArguments d (some e es) spread ts rest = (m n : List Mark) × ReadsEx true 1 (suc d) e ts m × ReadsMore true (suc d) es m n × ClosesArguments d spread n rest
 
-  -- further expressions, each behind a comma, all inside of d brackets
+  -- further expressions, each after a comma, all inside of d brackets
   pub ReadsMore : Bool → ℕ → Exs → List Mark → List Mark → Type 0
   ReadsMore l d none ts rest = ts ≡ rest
   ReadsMore l d (some e es) ts rest = (m n : List Mark) × (ts ≡ inside Comma d ∷ m) × ReadsEx l 1 d e m n × ReadsMore l d es n rest
 
-  -- the elements of a literal inside of d brackets, from behind its opening brace to behind the closing one
+  -- the elements of a literal inside of d brackets, from after its opening brace to after the closing one
   pub ReadsElements : Bool → ℕ → Elements → List Mark → List Mark → Type 0
-  ReadsElements l d no_elements ts rest = (place : Pos) × (ts ≡ inside (RightBrace place) d ∷ rest)
+  ReadsElements l d no_elements ts rest = (pos : Pos) × (ts ≡ inside (RightBrace pos) d ∷ rest)
   ReadsElements l d (element key e es) ts rest = (m n k : List Mark) × ReadsKey (suc d) key ts m × (IsValue e × ReadsEx l 0 (suc d) e m n) × ReadsMoreElements l (suc d) es n k × ClosesElements d k rest
 
-  -- further elements, each behind a comma
+  -- further elements, each after a comma
   pub ReadsMoreElements : Bool → ℕ → Elements → List Mark → List Mark → Type 0
   ReadsMoreElements l d no_elements ts rest = ts ≡ rest
   ReadsMoreElements l d (element key e es) ts rest = (m n k : List Mark) × (ts ≡ inside Comma d ∷ m) × ReadsKey d key m n × (IsValue e × ReadsEx l 0 d e n k) × ReadsMoreElements l d es k rest

@@ -11,7 +11,7 @@ use Rattle.scan_go.specs.declared.token.Token.{Token}
 use Rattle.syntax.specs.declared.operator.ArithmeticOp.TheVariants as arithmetic
 use Rattle.syntax.specs.declared.operator.CompareOp.TheVariants as compare
 use Rattle.syntax.specs.declared.operator.BinOp.{BinOp}
-use Rattle.syntax.specs.declared.operator.BinOp.TheVariants.{Arithmetic, Compare, Both, Either}
+use Rattle.syntax.specs.declared.operator.BinOp.TheVariants.{Arithmetic, Compare, LogicalAnd, LogicalOr}
 use Rattle.syntax.specs.declared.operator.UnOp.{UnOp}
 use Rattle.syntax.specs.declared.operator.UnOp.TheVariants.{Plus, Negate, Not, Complement, Star, Address}
 use Rattle.syntax.specs.declared.expression.Name.{Name}
@@ -19,81 +19,81 @@ use Rattle.parse_expressions.specs.declared.terminal.Terminal.{Terminal}
 use Rattle.parse_expressions.specs.declared.terminal.Terminal.TheVariants as terminal
 
 abbrev pub name_at : Pos → ℕ → Name
-name_at place behind = record { pos = place; end = behind }
+name_at pos behind = record { pos = pos; end = behind }
 
 abbrev pub word_terminal : Keyword → Pos → Terminal
-word_terminal keyword.Package place = terminal.Package
-word_terminal keyword.Const place = terminal.Const place
-word_terminal keyword.Var place = terminal.Var place
-word_terminal keyword.Type place = terminal.Type place
-word_terminal keyword.Struct place = terminal.Struct
-word_terminal keyword.Func place = terminal.Func place
-word_terminal keyword.If place = terminal.If place
-word_terminal keyword.Else place = terminal.Else
-word_terminal keyword.For place = terminal.For place
-word_terminal keyword.Range place = terminal.Range place
-word_terminal keyword.Break place = terminal.Break place
-word_terminal keyword.Continue place = terminal.Continue place
-word_terminal keyword.Return place = terminal.Return place
-word_terminal _ place = terminal.Other
+word_terminal keyword.Package pos = terminal.Package
+word_terminal keyword.Const pos = terminal.Const pos
+word_terminal keyword.Var pos = terminal.Var pos
+word_terminal keyword.Type pos = terminal.Type pos
+word_terminal keyword.Struct pos = terminal.Struct
+word_terminal keyword.Func pos = terminal.Func pos
+word_terminal keyword.If pos = terminal.If pos
+word_terminal keyword.Else pos = terminal.Else
+word_terminal keyword.For pos = terminal.For pos
+word_terminal keyword.Range pos = terminal.Range pos
+word_terminal keyword.Break pos = terminal.Break pos
+word_terminal keyword.Continue pos = terminal.Continue pos
+word_terminal keyword.Return pos = terminal.Return pos
+word_terminal _ pos = terminal.Other
 
 abbrev pub op_terminal : Op → Pos → Terminal
-op_terminal op.Plus place = terminal.Operator place (Arithmetic arithmetic.Add)
-op_terminal op.Minus place = terminal.Operator place (Arithmetic arithmetic.Sub)
-op_terminal op.Star place = terminal.Operator place (Arithmetic arithmetic.Mul)
-op_terminal op.Slash place = terminal.Operator place (Arithmetic arithmetic.Div)
-op_terminal op.Percent place = terminal.Operator place (Arithmetic arithmetic.Rem)
-op_terminal op.And place = terminal.Operator place (Arithmetic arithmetic.And)
-op_terminal op.Or place = terminal.Operator place (Arithmetic arithmetic.Or)
-op_terminal op.Xor place = terminal.Operator place (Arithmetic arithmetic.Xor)
-op_terminal op.AndNot place = terminal.Operator place (Arithmetic arithmetic.AndNot)
-op_terminal op.Shl place = terminal.Operator place (Arithmetic arithmetic.ShiftLeft)
-op_terminal op.Shr place = terminal.Operator place (Arithmetic arithmetic.ShiftRight)
-op_terminal op.Equal place = terminal.Operator place (Compare compare.Equal)
-op_terminal op.NotEqual place = terminal.Operator place (Compare compare.NotEqual)
-op_terminal op.Less place = terminal.Operator place (Compare compare.Less)
-op_terminal op.LessEqual place = terminal.Operator place (Compare compare.LessEqual)
-op_terminal op.Greater place = terminal.Operator place (Compare compare.Greater)
-op_terminal op.GreaterEqual place = terminal.Operator place (Compare compare.GreaterEqual)
-op_terminal op.LogAnd place = terminal.Operator place Both
-op_terminal op.LogOr place = terminal.Operator place Either
-op_terminal op.AddAssign place = terminal.Update place arithmetic.Add
-op_terminal op.SubAssign place = terminal.Update place arithmetic.Sub
-op_terminal op.MulAssign place = terminal.Update place arithmetic.Mul
-op_terminal op.DivAssign place = terminal.Update place arithmetic.Div
-op_terminal op.RemAssign place = terminal.Update place arithmetic.Rem
-op_terminal op.AndAssign place = terminal.Update place arithmetic.And
-op_terminal op.OrAssign place = terminal.Update place arithmetic.Or
-op_terminal op.XorAssign place = terminal.Update place arithmetic.Xor
-op_terminal op.AndNotAssign place = terminal.Update place arithmetic.AndNot
-op_terminal op.ShlAssign place = terminal.Update place arithmetic.ShiftLeft
-op_terminal op.ShrAssign place = terminal.Update place arithmetic.ShiftRight
-op_terminal op.Not place = terminal.Not place
-op_terminal op.Assign place = terminal.Assign place
-op_terminal op.Define place = terminal.Define place
-op_terminal op.Increment place = terminal.Increment place
-op_terminal op.Decrement place = terminal.Decrement place
-op_terminal op.Comma place = terminal.Comma
-op_terminal op.Semicolon place = terminal.Semicolon
-op_terminal op.Colon place = terminal.Colon
-op_terminal op.Dot place = terminal.Period place
-op_terminal op.Ellipsis place = terminal.Ellipsis
-op_terminal op.LeftParen place = terminal.LeftParen place
-op_terminal op.RightParen place = terminal.RightParen
-op_terminal op.LeftBracket place = terminal.LeftBracket place
-op_terminal op.RightBracket place = terminal.RightBracket
-op_terminal op.LeftBrace place = terminal.LeftBrace place
-op_terminal op.RightBrace place = terminal.RightBrace place
-op_terminal op.Arrow place = terminal.Other
-op_terminal op.Tilde place = terminal.Other
+op_terminal op.Plus pos = terminal.Operator pos (Arithmetic arithmetic.Add)
+op_terminal op.Minus pos = terminal.Operator pos (Arithmetic arithmetic.Sub)
+op_terminal op.Star pos = terminal.Operator pos (Arithmetic arithmetic.Mul)
+op_terminal op.Slash pos = terminal.Operator pos (Arithmetic arithmetic.Div)
+op_terminal op.Percent pos = terminal.Operator pos (Arithmetic arithmetic.Rem)
+op_terminal op.And pos = terminal.Operator pos (Arithmetic arithmetic.And)
+op_terminal op.Or pos = terminal.Operator pos (Arithmetic arithmetic.Or)
+op_terminal op.Xor pos = terminal.Operator pos (Arithmetic arithmetic.Xor)
+op_terminal op.AndNot pos = terminal.Operator pos (Arithmetic arithmetic.AndNot)
+op_terminal op.Shl pos = terminal.Operator pos (Arithmetic arithmetic.ShiftLeft)
+op_terminal op.Shr pos = terminal.Operator pos (Arithmetic arithmetic.ShiftRight)
+op_terminal op.Equal pos = terminal.Operator pos (Compare compare.Equal)
+op_terminal op.NotEqual pos = terminal.Operator pos (Compare compare.NotEqual)
+op_terminal op.Less pos = terminal.Operator pos (Compare compare.Less)
+op_terminal op.LessEqual pos = terminal.Operator pos (Compare compare.LessEqual)
+op_terminal op.Greater pos = terminal.Operator pos (Compare compare.Greater)
+op_terminal op.GreaterEqual pos = terminal.Operator pos (Compare compare.GreaterEqual)
+op_terminal op.LogicalAnd pos = terminal.Operator pos LogicalAnd
+op_terminal op.LogicalOr pos = terminal.Operator pos LogicalOr
+op_terminal op.AddAssign pos = terminal.Update pos arithmetic.Add
+op_terminal op.SubAssign pos = terminal.Update pos arithmetic.Sub
+op_terminal op.MulAssign pos = terminal.Update pos arithmetic.Mul
+op_terminal op.DivAssign pos = terminal.Update pos arithmetic.Div
+op_terminal op.RemAssign pos = terminal.Update pos arithmetic.Rem
+op_terminal op.AndAssign pos = terminal.Update pos arithmetic.And
+op_terminal op.OrAssign pos = terminal.Update pos arithmetic.Or
+op_terminal op.XorAssign pos = terminal.Update pos arithmetic.Xor
+op_terminal op.AndNotAssign pos = terminal.Update pos arithmetic.AndNot
+op_terminal op.ShlAssign pos = terminal.Update pos arithmetic.ShiftLeft
+op_terminal op.ShrAssign pos = terminal.Update pos arithmetic.ShiftRight
+op_terminal op.Not pos = terminal.Not pos
+op_terminal op.Assign pos = terminal.Assign pos
+op_terminal op.Define pos = terminal.Define pos
+op_terminal op.Increment pos = terminal.Increment pos
+op_terminal op.Decrement pos = terminal.Decrement pos
+op_terminal op.Comma pos = terminal.Comma
+op_terminal op.Semicolon pos = terminal.Semicolon
+op_terminal op.Colon pos = terminal.Colon
+op_terminal op.Dot pos = terminal.Period pos
+op_terminal op.Ellipsis pos = terminal.Ellipsis
+op_terminal op.LeftParen pos = terminal.LeftParen pos
+op_terminal op.RightParen pos = terminal.RightParen
+op_terminal op.LeftBracket pos = terminal.LeftBracket pos
+op_terminal op.RightBracket pos = terminal.RightBracket
+op_terminal op.LeftBrace pos = terminal.LeftBrace pos
+op_terminal op.RightBrace pos = terminal.RightBrace pos
+op_terminal op.Arrow pos = terminal.Other
+op_terminal op.Tilde pos = terminal.Other
 
--- the terminal of what stands at a place, up to the offset behind it
+-- the terminal of what stands at a position, up to the offset after it
 abbrev pub terminal_at : Kind → Pos → ℕ → Terminal
-terminal_at kind.Name place behind = terminal.Identifier (name_at place behind)
-terminal_at (kind.Number n) place behind = terminal.Number place n
-terminal_at kind.String place behind = terminal.String place behind
-terminal_at (kind.Keyword word) place behind = word_terminal word place
-terminal_at (kind.Op o) place behind = op_terminal o place
+terminal_at kind.Name pos behind = terminal.Identifier (name_at pos behind)
+terminal_at (kind.Number n) pos behind = terminal.Number pos n
+terminal_at kind.String pos behind = terminal.String pos behind
+terminal_at (kind.Keyword word) pos behind = word_terminal word pos
+terminal_at (kind.Op o) pos behind = op_terminal o pos
 
 abbrev pub terminal_of : Token → Terminal
 terminal_of token = terminal_at token.kind token.pos token.end
@@ -101,7 +101,7 @@ terminal_of token = terminal_at token.kind token.pos token.end
 abbrev pub terminals_of : List Token → List Terminal
 terminals_of tokens = map terminal_of tokens
 
--- a prefix operator with its place
+-- a prefix operator with its position
 pub data Prefix : Type 0 where
   prefix : Pos → UnOp → Prefix
 

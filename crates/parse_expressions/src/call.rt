@@ -5,25 +5,26 @@ ghost use Rattle.syntax.specs.Expressions.{none, call, ex_of, exs_of};
 ghost use Rattle.syntax.specs.Heights.{height};
 ghost use Rattle.parse_expressions.specs.Machine.{goes, at_argument, at_operator, closes, closes_type, nesting_at_closes, step, nesting};
 ghost use Rattle.parse_expressions.specs.Stacks.{frame_of};
-ghost use Rattle.parse_expressions.specs.States.{open_of, base_at, frames_in, depth_in, Steps};
+ghost use Rattle.parse_expressions.specs.States.{open_of, context_of, frames_in, depth_in, Steps};
 
 use crate::fault::StepFault;
 use crate::frame::Frame;
 use crate::open::{Open, Progress};
-use crate::operand::{MOST, limited, operand_inside};
+use crate::operand::{limited, operand_inside};
 use crate::part::{Call, Part};
 use crate::parts::{opened_call, whole_call, with_argument};
 use crate::reading::{Opened, Reading};
 use crate::terminal::Terminal;
 use std::alloc::Global;
+use syntax::NESTING_LIMIT;
 
-/// The opening parenthesis of a call behind its function.
+/// The opening parenthesis of a call after its function.
 pub fn begin(alloc: Global, reading: Reading, function: Part) -> Result<Progress, StepFault>
-    ensures { Steps result (base_at reading.place)
+    ensures { Steps result (context_of reading.context)
         (goes (at_argument (frames_in reading) (ex_of function.expr) none))
         (max (depth_in reading) (suc (height (ex_of function.expr)))) }
 {
-    if reading.depth > MOST || function.height >= 200 {
+    if reading.depth > NESTING_LIMIT || function.height >= NESTING_LIMIT {
         drop(function);
         return Err(StepFault::TooDeep);
     }
@@ -34,14 +35,14 @@ pub fn begin(alloc: Global, reading: Reading, function: Part) -> Result<Progress
 /// The closing parenthesis of a call.
 fn end(alloc: Global, reading: Reading, pending: Call, spread: bool) -> Result<Progress, StepFault>
     ensures { let whole = call (ex_of pending.function) (exs_of pending.arguments.items) spread in
-        Steps result (base_at reading.place) (goes (at_operator (frames_in reading) whole))
+        Steps result (context_of reading.context) (goes (at_operator (frames_in reading) whole))
         (depth_in reading) }
 {
     let whole = whole_call(alloc, pending, spread)?;
     limited(reading.depth, Open::Operator(reading, whole))
 }
 
-/// A token behind the whole of an argument, which is a value or a type.
+/// A token after the whole of an argument, which is a value or a type.
 pub fn behind_argument(
     alloc: Global,
     reading: Reading,
@@ -50,15 +51,15 @@ pub fn behind_argument(
     token: Terminal,
 ) -> Result<Progress, StepFault>
     ensures of_value { let fs = frame_of (Frame.Call pending) ∷ frames_in reading in
-        Steps result (base_at reading.place) (closes fs (ex_of part.expr) token)
-        (nesting_at_closes reading.place.depth fs token) }
+        Steps result (context_of reading.context) (closes fs (ex_of part.expr) token)
+        (nesting_at_closes reading.context.depth fs token) }
     ensures of_type { let fs = frame_of (Frame.Call pending) ∷ frames_in reading in
-        Steps result (base_at reading.place) (closes_type fs (ex_of part.expr) token)
-        (nesting_at_closes reading.place.depth fs token) }
+        Steps result (context_of reading.context) (closes_type fs (ex_of part.expr) token)
+        (nesting_at_closes reading.context.depth fs token) }
 {
     match token {
         Terminal::Comma => {
-            if reading.depth >= MOST {
+            if reading.depth >= NESTING_LIMIT {
                 drop(pending);
                 drop(part);
                 return Err(StepFault::TooDeep);
@@ -67,7 +68,7 @@ pub fn behind_argument(
             Ok(Progress::Goes(Open::Argument(Opened { outside: reading }, call)))
         }
         Terminal::Ellipsis => {
-            if reading.depth >= MOST {
+            if reading.depth >= NESTING_LIMIT {
                 drop(pending);
                 drop(part);
                 return Err(StepFault::TooDeep);
@@ -92,7 +93,7 @@ pub fn argument(
     token: Terminal,
 ) -> Result<Progress, StepFault>
     ensures { let s = open_of (Open.Argument opened call) in
-        let b = base_at opened.outside.place in
+        let b = context_of opened.outside.context in
         Steps result b (step b s token) (nesting b s token) }
 {
     let reading = opened.outside;
@@ -102,7 +103,7 @@ pub fn argument(
     }
 }
 
-/// A token behind the `...` of a call.
+/// A token after the `...` of a call.
 pub fn behind_spread(
     alloc: Global,
     reading: Reading,
@@ -110,12 +111,12 @@ pub fn behind_spread(
     token: Terminal,
 ) -> Result<Progress, StepFault>
     ensures { let s = open_of (Open.Spread reading call) in
-        let b = base_at reading.place in
+        let b = context_of reading.context in
         Steps result b (step b s token) (nesting b s token) }
 {
     match token {
         Terminal::Comma => {
-            if reading.depth >= MOST {
+            if reading.depth >= NESTING_LIMIT {
                 drop(call);
                 return Err(StepFault::TooDeep);
             }
@@ -129,7 +130,7 @@ pub fn behind_spread(
     }
 }
 
-/// A token behind such a `...` and a comma.
+/// A token after such a `...` and a comma.
 pub fn call_end(
     alloc: Global,
     reading: Reading,
@@ -137,7 +138,7 @@ pub fn call_end(
     token: Terminal,
 ) -> Result<Progress, StepFault>
     ensures { let s = open_of (Open.CallEnd reading call) in
-        let b = base_at reading.place in
+        let b = context_of reading.context in
         Steps result b (step b s token) (nesting b s token) }
 {
     match token {

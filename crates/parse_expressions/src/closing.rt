@@ -1,11 +1,11 @@
-//! What a token closes behind an operand.
+//! What a token closes after an operand.
 
-ghost use Rattle.std.specs.Prelude.{◌≡◌, ◌≤◌, ◌∷◌, IfOk};
+ghost use Rattle.std.specs.Prelude.{◌+◌, ◌≡◌, ◌≤◌, ◌∷◌, IfOk};
 ghost use Rattle.syntax.specs.Expressions.{ex_of};
 ghost use Rattle.syntax.specs.Heights.{precedence};
 ghost use Rattle.parse_expressions.specs.Machine.{reduce, closes, nesting_at_closes};
 ghost use Rattle.parse_expressions.specs.Stacks.{frame_of};
-ghost use Rattle.parse_expressions.specs.States.{base_at, frames_in, Steps};
+ghost use Rattle.parse_expressions.specs.States.{context_of, frames_in, Steps};
 
 use crate::call::behind_argument;
 use crate::elements::behind_element;
@@ -21,7 +21,7 @@ use crate::stack::{pop, push};
 use crate::terminal::Terminal;
 use base::Pos;
 use std::alloc::{AllocError, Global};
-use syntax::{ArithmeticOp, BinOp};
+use syntax::{ArithmeticOp, BinOp, NESTING_LIMIT};
 
 /// The precedence of a binary operator, from 1 to 5.
 pub fn precedence(op: BinOp) -> u8
@@ -33,8 +33,8 @@ pub fn precedence(op: BinOp) -> u8
             _ => 5,
         },
         BinOp::Compare(_) => 3,
-        BinOp::Both => 2,
-        BinOp::Either => 1,
+        BinOp::LogicalAnd => 2,
+        BinOp::LogicalOr => 1,
     }
 }
 
@@ -47,7 +47,7 @@ pub fn reduce(
 ) -> Result<(Reading, Part), AllocError>
     ensures reduced { IfOk result (λ r. reduce p (frames_in reading) (ex_of part.expr)
         ≡ (frames_in r.0, ex_of r.1.expr)) }
-    ensures place { IfOk result (λ r. r.0.place ≡ reading.place) }
+    ensures context { IfOk result (λ r. r.0.context ≡ reading.context) }
 {
     'tighter: loop {
         let (rest, frame) = pop(reading);
@@ -66,7 +66,7 @@ pub fn reduce(
     }
 }
 
-/// A token behind an expression in parentheses.
+/// A token after an expression in parentheses.
 fn behind_enclosed(
     alloc: Global,
     reading: Reading,
@@ -75,8 +75,8 @@ fn behind_enclosed(
     token: Terminal,
 ) -> Result<Progress, StepFault>
     ensures { let fs = frame_of (Frame.Paren pos) ∷ frames_in reading in
-        Steps result (base_at reading.place) (closes fs (ex_of part.expr) token)
-        (nesting_at_closes reading.place.depth fs token) }
+        Steps result (context_of reading.context) (closes fs (ex_of part.expr) token)
+        (nesting_at_closes reading.context.depth fs token) }
 {
     match token {
         Terminal::RightParen => {
@@ -90,17 +90,17 @@ fn behind_enclosed(
     }
 }
 
-/// A token behind the length of an array type.
+/// A token after the length of an array type.
 fn behind_length(
     reading: Reading,
     pos: Pos,
     part: Part,
     token: Terminal,
 ) -> Result<Progress, StepFault>
-    requires { reading.depth ≤ 201 }
+    requires { reading.depth ≤ NESTING_LIMIT + 1 }
     ensures { let fs = frame_of (Frame.Length pos) ∷ frames_in reading in
-        Steps result (base_at reading.place) (closes fs (ex_of part.expr) token)
-        (nesting_at_closes reading.place.depth fs token) }
+        Steps result (context_of reading.context) (closes fs (ex_of part.expr) token)
+        (nesting_at_closes reading.context.depth fs token) }
 {
     match token {
         Terminal::RightBracket => deeper_type(reading, Frame::Array(pos, part)),
@@ -111,7 +111,7 @@ fn behind_length(
     }
 }
 
-/// A token behind what no operator or postfix goes on with.
+/// A token after what no operator or postfix goes on with.
 fn closes(
     alloc: Global,
     reading: Reading,
@@ -119,8 +119,8 @@ fn closes(
     token: Terminal,
 ) -> Result<Progress, StepFault>
     ensures { let fs = frames_in reading in
-        Steps result (base_at reading.place) (closes fs (ex_of part.expr) token)
-        (nesting_at_closes reading.place.depth fs token) }
+        Steps result (context_of reading.context) (closes fs (ex_of part.expr) token)
+        (nesting_at_closes reading.context.depth fs token) }
 {
     let (rest, frame) = pop(reading);
     match frame {
@@ -151,8 +151,8 @@ pub fn closes_reduced(
     token: Terminal,
 ) -> Result<Progress, StepFault>
     ensures { let r = reduce 0 (frames_in reading) (ex_of part.expr) in
-        Steps result (base_at reading.place) (closes r.0 r.1 token)
-        (nesting_at_closes reading.place.depth r.0 token) }
+        Steps result (context_of reading.context) (closes r.0 r.1 token)
+        (nesting_at_closes reading.context.depth r.0 token) }
 {
     let (reading, part) = reduce(alloc, 0, reading, part)?;
     closes(alloc, reading, part, token)

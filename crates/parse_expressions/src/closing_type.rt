@@ -1,10 +1,10 @@
-//! What a token closes behind a type.
+//! What a token closes after a type.
 
 ghost use Rattle.std.specs.Prelude.{◌≡◌, ◌∷◌, [], IsTrue, IfOk};
 ghost use Rattle.syntax.specs.Expressions.{ex_of};
 ghost use Rattle.parse_expressions.specs.Machine.{is_bracket_type, reduce_type, allows_type, closes_type, behind_inner_type, behind_type, nesting_at_closes, nesting_behind_type};
 ghost use Rattle.parse_expressions.specs.Stacks.{frame_of, frames_of};
-ghost use Rattle.parse_expressions.specs.States.{base_at, frames_in, depth_in, Steps};
+ghost use Rattle.parse_expressions.specs.States.{context_of, frames_in, depth_in, Steps};
 
 use crate::call::behind_argument;
 use crate::elements::begin_literal;
@@ -39,7 +39,7 @@ fn reduce_type(
 ) -> Result<(Reading, Part), AllocError>
     ensures reduced { IfOk result (λ r. reduce_type (frames_in reading) (ex_of part.expr)
         ≡ (frames_in r.0, ex_of r.1.expr)) }
-    ensures place { IfOk result (λ r. r.0.place ≡ reading.place) }
+    ensures context { IfOk result (λ r. r.0.context ≡ reading.context) }
 {
     'stars: loop {
         let (rest, frame) = pop(reading);
@@ -71,7 +71,7 @@ fn allows_type(reading: &Reading) -> bool
     false
 }
 
-/// The closing parenthesis behind a type.
+/// The closing parenthesis after a type.
 fn behind_enclosed_type(
     alloc: Global,
     reading: Reading,
@@ -80,8 +80,8 @@ fn behind_enclosed_type(
     token: Terminal,
 ) -> Result<Progress, StepFault>
     ensures { let fs = frame_of (Frame.Paren pos) ∷ frames_in reading in
-        Steps result (base_at reading.place) (closes_type fs (ex_of part.expr) token)
-        (nesting_at_closes reading.place.depth fs token) }
+        Steps result (context_of reading.context) (closes_type fs (ex_of part.expr) token)
+        (nesting_at_closes reading.context.depth fs token) }
 {
     match token {
         Terminal::RightParen => {
@@ -99,7 +99,7 @@ fn behind_enclosed_type(
     }
 }
 
-/// A token behind a type that stands as an argument or in the parentheses of one.
+/// A token after a type that stands as an argument or in the parentheses of one.
 fn closes_type(
     alloc: Global,
     reading: Reading,
@@ -107,8 +107,8 @@ fn closes_type(
     token: Terminal,
 ) -> Result<Progress, StepFault>
     ensures { let fs = frames_in reading in
-        Steps result (base_at reading.place) (closes_type fs (ex_of part.expr) token)
-        (nesting_at_closes reading.place.depth fs token) }
+        Steps result (context_of reading.context) (closes_type fs (ex_of part.expr) token)
+        (nesting_at_closes reading.context.depth fs token) }
 {
     let (rest, frame) = pop(reading);
     match frame {
@@ -126,7 +126,7 @@ fn closes_type(
     }
 }
 
-/// A token behind a type inside an expression.
+/// A token after a type inside an expression.
 fn behind_inner_type(
     alloc: Global,
     reading: Reading,
@@ -134,8 +134,8 @@ fn behind_inner_type(
     token: Terminal,
 ) -> Result<Progress, StepFault>
     ensures { let fs = frames_in reading in
-        Steps result (base_at reading.place) (behind_inner_type fs (ex_of part.expr) token)
-        (nesting_behind_type reading.place.depth fs (ex_of part.expr) token) }
+        Steps result (context_of reading.context) (behind_inner_type fs (ex_of part.expr) token)
+        (nesting_behind_type reading.context.depth fs (ex_of part.expr) token) }
 {
     match token {
         Terminal::LeftBrace(_) => {
@@ -153,18 +153,18 @@ fn behind_inner_type(
     }
 }
 
-/// A token behind a type.
+/// A token after a type.
 pub fn behind_type(
     alloc: Global,
     reading: Reading,
     part: Part,
     token: Terminal,
 ) -> Result<Progress, StepFault>
-    ensures { let b = base_at reading.place in
+    ensures { let b = context_of reading.context in
         Steps result b (behind_type b (frames_in reading) (ex_of part.expr) token)
         (nesting_behind_type b.depth (frames_in reading) (ex_of part.expr) token) }
 {
-    if !reading.place.types {
+    if !reading.context.types {
         return behind_inner_type(alloc, reading, part, token);
     }
     let (rest, frame) = pop(reading);

@@ -8,6 +8,6 @@ use syntax::Expr;
 pub enum Container {
     /// A literal of this type.
     Typed(Expr),
-    /// An element without a type, whose brace stands at this place.
+    /// An element without a type, whose brace stands at this position.
     Untyped(Pos),
 }

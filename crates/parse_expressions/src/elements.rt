@@ -1,18 +1,18 @@
 //! Tokens inside the braces of a literal.
 
-ghost use Rattle.std.specs.Prelude.{◌≡◌, ◌≤◌, ◌∷◌, suc, IfOk};
+ghost use Rattle.std.specs.Prelude.{◌+◌, ◌≡◌, ◌≤◌, ◌∷◌, suc, IfOk};
 ghost use Rattle.syntax.specs.Expressions.{no_elements, ex_of, elements_of};
 ghost use Rattle.parse_expressions.specs.Frames.{of_type, of_element, open_depth};
 ghost use Rattle.parse_expressions.specs.Containers.{container_of, is_typed};
 ghost use Rattle.parse_expressions.specs.Machine.{goes, at_element, at_value, closes, filled, nesting_at_closes, step, nesting};
 ghost use Rattle.parse_expressions.specs.Stacks.{frame_of};
-ghost use Rattle.parse_expressions.specs.States.{open_of, place_of, base_at, frames_in, depth_in, element_operand, Steps};
+ghost use Rattle.parse_expressions.specs.States.{open_of, stored_context, context_of, frames_in, depth_in, element_operand, Steps};
 
 use crate::container::Container;
 use crate::fault::StepFault;
 use crate::frame::{Braces, Frame};
 use crate::open::{Open, Progress};
-use crate::operand::{MOST, limited, operand_inside};
+use crate::operand::{limited, operand_inside};
 use crate::part::Part;
 use crate::parts::{opened_element, opened_literal, whole_braces, with_element};
 use crate::reading::{Opened, Reading};
@@ -20,19 +20,19 @@ use crate::stack::{pop, push};
 use crate::terminal::Terminal;
 use base::Pos;
 use std::alloc::{AllocError, Global};
-use syntax::Name;
+use syntax::{NESTING_LIMIT, Name};
 
-/// The opening brace of a literal behind its type.
+/// The opening brace of a literal after its type.
 pub fn begin_literal(
     alloc: Global,
     reading: Reading,
     type_part: Part,
 ) -> Result<Progress, StepFault>
-    ensures { Steps result (base_at reading.place)
+    ensures { Steps result (context_of reading.context)
         (goes (at_element (frames_in reading) (of_type (ex_of type_part.expr)) no_elements))
         (depth_in reading) }
 {
-    if reading.depth > MOST {
+    if reading.depth > NESTING_LIMIT {
         drop(type_part);
         return Err(StepFault::TooDeep);
     }
@@ -42,18 +42,18 @@ pub fn begin_literal(
 
 /// The opening brace of an element without a type.
 fn begin_element(alloc: Global, reading: Reading, pos: Pos) -> Result<Progress, StepFault>
-    ensures { Steps result (base_at reading.place)
+    ensures { Steps result (context_of reading.context)
         (goes (at_element (frames_in reading) (of_element pos) no_elements))
         (depth_in reading) }
 {
-    if reading.depth > MOST {
+    if reading.depth > NESTING_LIMIT {
         return Err(StepFault::TooDeep);
     }
     let braces = opened_element(alloc, pos);
     Ok(Progress::Goes(Open::Element(Opened { outside: reading }, braces)))
 }
 
-/// The token that an element begins with, behind its key if it has one.
+/// The token that an element begins with, after its key if it has one.
 fn begin_value(
     alloc: Global,
     reading: Reading,
@@ -61,10 +61,10 @@ fn begin_value(
     key: Option<Name>,
     token: Terminal,
 ) -> Result<Progress, StepFault>
-    requires { reading.depth ≤ 201 }
+    requires { reading.depth ≤ NESTING_LIMIT + 1 }
     ensures { let fs = frame_of (Frame.Element braces key) ∷ frames_in reading in
-        Steps result (base_at reading.place) (element_operand fs token)
-        (open_depth reading.place.depth fs) }
+        Steps result (context_of reading.context) (element_operand fs token)
+        (open_depth reading.context.depth fs) }
 {
     let frame = Frame::Element(braces, key);
     match token {
@@ -73,11 +73,11 @@ fn begin_value(
     }
 }
 
-/// Behind the closing brace of elements.
+/// After the closing brace of elements.
 fn filled(alloc: Global, reading: Reading, braces: Braces) -> Result<Open, AllocError>
     ensures is_open { IfOk result (λ o. open_of o
         ≡ filled (frames_in reading) (container_of braces.container) (elements_of braces.elements.items)) }
-    ensures place { IfOk result (λ o. place_of o ≡ reading.place) }
+    ensures context { IfOk result (λ o. stored_context o ≡ reading.context) }
 {
     let is_typed = is_typed(&braces.container);
     let part = whole_braces(alloc, braces)?;
@@ -108,27 +108,27 @@ fn is_typed(container: &Container) -> bool
 /// The closing brace of elements.
 fn end(alloc: Global, reading: Reading, braces: Braces) -> Result<Progress, StepFault>
     ensures { let es = elements_of braces.elements.items in
-        Steps result (base_at reading.place)
+        Steps result (context_of reading.context)
         (goes (filled (frames_in reading) (container_of braces.container) es)) (depth_in reading) }
 {
     limited(reading.depth, filled(alloc, reading, braces)?)
 }
 
-/// A comma behind an element.
+/// A comma after an element.
 fn comma(reading: Reading, braces: Braces) -> Result<Progress, StepFault>
     ensures { let es = elements_of braces.elements.items in
-        Steps result (base_at reading.place)
+        Steps result (context_of reading.context)
         (goes (at_element (frames_in reading) (container_of braces.container) es))
         (suc (depth_in reading)) }
 {
-    if reading.depth >= MOST {
+    if reading.depth >= NESTING_LIMIT {
         drop(braces);
         return Err(StepFault::TooDeep);
     }
     Ok(Progress::Goes(Open::Element(Opened { outside: reading }, braces)))
 }
 
-/// A token behind an opening brace or a comma.
+/// A token after an opening brace or a comma.
 pub fn element(
     alloc: Global,
     opened: Opened,
@@ -136,7 +136,7 @@ pub fn element(
     token: Terminal,
 ) -> Result<Progress, StepFault>
     ensures { let s = open_of (Open.Element opened braces) in
-        let b = base_at opened.outside.place in
+        let b = context_of opened.outside.context in
         Steps result b (step b s token) (nesting b s token) }
 {
     let reading = opened.outside;
@@ -146,21 +146,21 @@ pub fn element(
     }
 }
 
-/// A colon behind the key of an element.
+/// A colon after the key of an element.
 pub fn key_colon(reading: Reading, braces: Braces, key: Name) -> Result<Progress, StepFault>
     ensures { let es = elements_of braces.elements.items in
-        Steps result (base_at reading.place)
+        Steps result (context_of reading.context)
         (goes (at_value (frames_in reading) (container_of braces.container) es key))
         (suc (depth_in reading)) }
 {
-    if reading.depth >= MOST {
+    if reading.depth >= NESTING_LIMIT {
         drop(braces);
         return Err(StepFault::TooDeep);
     }
     Ok(Progress::Goes(Open::Value(Opened { outside: reading }, braces, key)))
 }
 
-/// A token behind the key of an element and its colon.
+/// A token after the key of an element and its colon.
 pub fn behind_key(
     alloc: Global,
     opened: Opened,
@@ -169,13 +169,13 @@ pub fn behind_key(
     token: Terminal,
 ) -> Result<Progress, StepFault>
     ensures { let s = open_of (Open.Value opened braces key) in
-        let b = base_at opened.outside.place in
+        let b = context_of opened.outside.context in
         Steps result b (step b s token) (nesting b s token) }
 {
     begin_value(alloc, opened.outside, braces, Some(key), token)
 }
 
-/// A token behind an element that is an expression.
+/// A token after an element that is an expression.
 pub fn behind_element(
     alloc: Global,
     reading: Reading,
@@ -185,8 +185,8 @@ pub fn behind_element(
     token: Terminal,
 ) -> Result<Progress, StepFault>
     ensures { let fs = frame_of (Frame.Element braces key) ∷ frames_in reading in
-        Steps result (base_at reading.place) (closes fs (ex_of part.expr) token)
-        (nesting_at_closes reading.place.depth fs token) }
+        Steps result (context_of reading.context) (closes fs (ex_of part.expr) token)
+        (nesting_at_closes reading.context.depth fs token) }
 {
     match token {
         Terminal::Comma => comma(reading, with_element(braces, key, part)?),
@@ -199,7 +199,7 @@ pub fn behind_element(
     }
 }
 
-/// A token behind an element without a type.
+/// A token after an element without a type.
 pub fn element_end(
     alloc: Global,
     reading: Reading,
@@ -207,7 +207,7 @@ pub fn element_end(
     token: Terminal,
 ) -> Result<Progress, StepFault>
     ensures { let s = open_of (Open.ElementEnd reading braces) in
-        let b = base_at reading.place in
+        let b = context_of reading.context in
         Steps result b (step b s token) (nesting b s token) }
 {
     match token {

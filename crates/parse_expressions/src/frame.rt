@@ -11,12 +11,12 @@ use base::Pos;
 use syntax::{BinOp, Element, Name, UnOp};
 
 /// Braces that are not closed: what their elements belong to, the elements so far, and the height of the whole with these,
-/// which counts to 201.
+/// counted to one above the limit.
 #[derive(Drop)]
 pub struct Braces {
     pub container: Container,
     pub elements: Vec<Element>,
-    pub height: u8,
+    pub height: usize,
     ghost is_height: { height ≡ capped_height (in_braces (container_of container) (elements_of elements.items)) },
 }
 
@@ -31,13 +31,13 @@ pub enum Frame {
     Right(Part, Pos, BinOp),
     /// A call that is not closed.
     Call(Call),
-    /// An index, or the low bound of a slice expression, behind what it is an index of.
+    /// An index, or the low bound of a slice expression, after what it is an index of.
     Index(Part, Pos),
-    /// The high bound of a slice expression, behind the low one.
+    /// The high bound of a slice expression, after the low one.
     High(Part, Pos, Low),
     /// The length of an array type.
     Length(Pos),
-    /// An element of a literal, behind the elements before and its key, if it has one.
+    /// An element of a literal, after the elements before and its key, if it has one.
     Element(Braces, Option<Name>),
     /// A `*` before a type.
     Pointer(Pos),

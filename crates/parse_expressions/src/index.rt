@@ -1,37 +1,38 @@
-//! Tokens behind a `.` and inside the brackets behind an operand.
+//! Tokens after a `.` and inside the brackets after an operand.
 
 ghost use Rattle.std.specs.Prelude.{◌≡◌, max, suc, ◌∷◌};
 ghost use Rattle.syntax.specs.Expressions.{ex_of, bound_of};
 ghost use Rattle.syntax.specs.Heights.{height};
 ghost use Rattle.parse_expressions.specs.Machine.{goes, at_selector, at_index, at_high, closes, nesting_at_closes, step, nesting};
 ghost use Rattle.parse_expressions.specs.Stacks.{frame_of};
-ghost use Rattle.parse_expressions.specs.States.{open_of, base_at, frames_in, depth_in, Steps};
+ghost use Rattle.parse_expressions.specs.States.{open_of, context_of, frames_in, depth_in, Steps};
 
 use crate::fault::StepFault;
 use crate::frame::Frame;
 use crate::open::{Open, Progress};
-use crate::operand::{MOST, limited, operand_inside};
+use crate::operand::{limited, operand_inside};
 use crate::part::{Low, Part};
 use crate::parts::{bound_at, indexed, no_bound, selected, sliced};
 use crate::reading::{Opened, Reading};
 use crate::terminal::Terminal;
 use base::Pos;
 use std::alloc::Global;
+use syntax::NESTING_LIMIT;
 
-/// A `.` behind an operand.
+/// A `.` after an operand.
 pub fn begin_selector(reading: Reading, value: Part, pos: Pos) -> Result<Progress, StepFault>
-    ensures { Steps result (base_at reading.place)
+    ensures { Steps result (context_of reading.context)
         (goes (at_selector (frames_in reading) (ex_of value.expr) pos))
         (max (depth_in reading) (suc (height (ex_of value.expr)))) }
 {
-    if reading.depth > MOST || value.height >= 200 {
+    if reading.depth > NESTING_LIMIT || value.height >= NESTING_LIMIT {
         drop(value);
         return Err(StepFault::TooDeep);
     }
     Ok(Progress::Goes(Open::Selector(reading, value, pos)))
 }
 
-/// A token behind such a `.`.
+/// A token after such a `.`.
 pub fn behind_period(
     alloc: Global,
     reading: Reading,
@@ -40,7 +41,7 @@ pub fn behind_period(
     token: Terminal,
 ) -> Result<Progress, StepFault>
     ensures { let s = open_of (Open.Selector reading value pos) in
-        let b = base_at reading.place in
+        let b = context_of reading.context in
         Steps result b (step b s token) (nesting b s token) }
 {
     match token {
@@ -57,11 +58,11 @@ pub fn behind_period(
 
 /// The opening bracket of an index or slice expression.
 pub fn begin_index(reading: Reading, value: Part, pos: Pos) -> Result<Progress, StepFault>
-    ensures { Steps result (base_at reading.place)
+    ensures { Steps result (context_of reading.context)
         (goes (at_index (frames_in reading) (ex_of value.expr) pos))
         (max (depth_in reading) (suc (height (ex_of value.expr)))) }
 {
-    if reading.depth > MOST || value.height >= 200 {
+    if reading.depth > NESTING_LIMIT || value.height >= NESTING_LIMIT {
         drop(value);
         return Err(StepFault::TooDeep);
     }
@@ -70,11 +71,11 @@ pub fn begin_index(reading: Reading, value: Part, pos: Pos) -> Result<Progress, 
 
 /// The colon of a slice expression.
 fn colon(reading: Reading, value: Part, pos: Pos, low: Low) -> Result<Progress, StepFault>
-    ensures { Steps result (base_at reading.place)
+    ensures { Steps result (context_of reading.context)
         (goes (at_high (frames_in reading) (ex_of value.expr) pos (bound_of low.bound)))
         (suc (depth_in reading)) }
 {
-    if reading.depth >= MOST {
+    if reading.depth >= NESTING_LIMIT {
         drop(value);
         drop(low);
         return Err(StepFault::TooDeep);
@@ -82,7 +83,7 @@ fn colon(reading: Reading, value: Part, pos: Pos, low: Low) -> Result<Progress, 
     Ok(Progress::Goes(Open::High(Opened { outside: reading }, value, pos, low)))
 }
 
-/// A token behind the opening bracket.
+/// A token after the opening bracket.
 pub fn behind_opening(
     opened: Opened,
     value: Part,
@@ -90,7 +91,7 @@ pub fn behind_opening(
     token: Terminal,
 ) -> Result<Progress, StepFault>
     ensures { let s = open_of (Open.Index opened value pos) in
-        let b = base_at opened.outside.place in
+        let b = context_of opened.outside.context in
         Steps result b (step b s token) (nesting b s token) }
 {
     let reading = opened.outside;
@@ -100,7 +101,7 @@ pub fn behind_opening(
     }
 }
 
-/// A token behind an index or a low bound.
+/// A token after an index or a low bound.
 pub fn behind_index(
     alloc: Global,
     reading: Reading,
@@ -110,8 +111,8 @@ pub fn behind_index(
     token: Terminal,
 ) -> Result<Progress, StepFault>
     ensures { let fs = frame_of (Frame.Index value pos) ∷ frames_in reading in
-        Steps result (base_at reading.place) (closes fs (ex_of part.expr) token)
-        (nesting_at_closes reading.place.depth fs token) }
+        Steps result (context_of reading.context) (closes fs (ex_of part.expr) token)
+        (nesting_at_closes reading.context.depth fs token) }
 {
     match token {
         Terminal::RightBracket => {
@@ -133,7 +134,7 @@ pub fn behind_index(
     }
 }
 
-/// A token behind the colon of a slice expression.
+/// A token after the colon of a slice expression.
 pub fn behind_colon(
     alloc: Global,
     opened: Opened,
@@ -143,7 +144,7 @@ pub fn behind_colon(
     token: Terminal,
 ) -> Result<Progress, StepFault>
     ensures { let s = open_of (Open.High opened value pos low) in
-        let b = base_at opened.outside.place in
+        let b = context_of opened.outside.context in
         Steps result b (step b s token) (nesting b s token) }
 {
     let reading = opened.outside;
@@ -156,7 +157,7 @@ pub fn behind_colon(
     }
 }
 
-/// A token behind a high bound.
+/// A token after a high bound.
 pub fn behind_high(
     alloc: Global,
     reading: Reading,
@@ -167,8 +168,8 @@ pub fn behind_high(
     token: Terminal,
 ) -> Result<Progress, StepFault>
     ensures { let fs = frame_of (Frame.High value pos low) ∷ frames_in reading in
-        Steps result (base_at reading.place) (closes fs (ex_of part.expr) token)
-        (nesting_at_closes reading.place.depth fs token) }
+        Steps result (context_of reading.context) (closes fs (ex_of part.expr) token)
+        (nesting_at_closes reading.context.depth fs token) }
 {
     match token {
         Terminal::RightBracket => {

@@ -2,7 +2,7 @@
 //!
 //! Its state holds the stack of what is open: prefixes, parentheses, operators that wait for their right operand, calls with
 //! their arguments so far, indexes and bounds, literals with their elements so far, and the prefixes of a type. What stands
-//! behind an operand binds in the order of Go's precedences: a call, a `.`, an index or a slicing takes the operand just
+//! after an operand binds in the order of Go's precedences: a call, a `.`, an index or a slicing takes the operand just
 //! before it; a binary operator first closes what binds at least as tightly, and then waits itself; any other token closes
 //! all up to the innermost bracket, and if none is open, the expression ended before it. What began as a type goes on as an
 //! operand once braces follow it, and stays a type where it is an argument. Whether a name may begin a literal is counted
@@ -25,6 +25,7 @@ mod elements;
 mod fault;
 mod frame;
 mod index;
+pub mod laws;
 mod machine;
 mod open;
 mod operand;
@@ -39,6 +40,5 @@ mod types;
 pub use fault::StepFault;
 pub use machine::{expression, step, type_wanted};
 pub use open::{Open, Progress};
-pub use operand::MOST;
 pub use part::Part;
 pub use terminal::{Terminal, terminal_of};

@@ -1,8 +1,8 @@
 //! How an expression or type begins, and one token more.
 
-ghost use Rattle.std.specs.Prelude.{◌≡◌, ◌≤◌, [], true, false};
+ghost use Rattle.std.specs.Prelude.{◌+◌, ◌≡◌, ◌≤◌, [], true, false};
 ghost use Rattle.parse_expressions.specs.Machine.{at_operand, at_type_operand, step, nesting};
-ghost use Rattle.parse_expressions.specs.States.{open_of, base_of, frames_in, Steps};
+ghost use Rattle.parse_expressions.specs.States.{open_of, context_in, frames_in, Steps};
 
 use crate::call::{argument, behind_spread, call_end};
 use crate::closing_type::behind_type;
@@ -12,48 +12,49 @@ use crate::index::{behind_colon, behind_opening, behind_period};
 use crate::open::{Open, Progress};
 use crate::operand::{behind_bracket, operand};
 use crate::operator::behind_operand;
-use crate::reading::{Place, Reading};
+use crate::reading::{Context, Reading};
 use crate::terminal::Terminal;
 use crate::types::{type_end, type_operand};
 use std::alloc::Global;
+use syntax::NESTING_LIMIT;
 
 /// An expression begins inside of `depth` brackets. With `literals` a literal in it may begin with a name.
 pub fn expression(alloc: Global, depth: usize, literals: bool) -> Open
-    requires { depth ≤ 202 }
+    requires { depth ≤ NESTING_LIMIT + 2 }
     ensures is_open { open_of result ≡ at_operand [] }
-    ensures base { base_of result ≡ record { depth = depth; literals = literals; types = false } }
+    ensures context { context_in result ≡ record { depth = depth; literals = literals; types = false } }
 {
-    let place = Place {
+    let context = Context {
         depth,
         literals,
         types: false,
     };
-    Open::Operand(nothing_open(alloc, place))
+    Open::Operand(nothing_open(alloc, context))
 }
 
 /// A type begins inside of `depth` brackets.
 pub fn type_wanted(alloc: Global, depth: usize) -> Open
-    requires { depth ≤ 202 }
+    requires { depth ≤ NESTING_LIMIT + 2 }
     ensures is_open { open_of result ≡ at_type_operand [] }
-    ensures base { base_of result ≡ record { depth = depth; literals = true; types = true } }
+    ensures context { context_in result ≡ record { depth = depth; literals = true; types = true } }
 {
-    let place = Place {
+    let context = Context {
         depth,
         literals: true,
         types: true,
     };
-    Open::TypeOperand(nothing_open(alloc, place))
+    Open::TypeOperand(nothing_open(alloc, context))
 }
 
-fn nothing_open(alloc: Global, place: Place) -> Reading
-    requires { place.depth ≤ 202 }
+fn nothing_open(alloc: Global, context: Context) -> Reading
+    requires { context.depth ≤ NESTING_LIMIT + 2 }
     ensures frames { frames_in result ≡ [] }
-    ensures place { result.place ≡ place }
+    ensures context { result.context ≡ context }
 {
     Reading {
-        place,
+        context,
         frames: Vec::new(alloc),
-        depth: place.depth,
+        depth: context.depth,
         parentheses: 0,
     }
 }
@@ -61,7 +62,7 @@ fn nothing_open(alloc: Global, place: Place) -> Reading
 /// One token more.
 pub fn step(alloc: Global, state: Open, token: Terminal) -> Result<Progress, StepFault>
     ensures { let s = open_of state in
-        let b = base_of state in
+        let b = context_in state in
         Steps result b (step b s token) (nesting b s token) }
 {
     match state {

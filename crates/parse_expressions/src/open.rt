@@ -11,33 +11,33 @@ use syntax::Name;
 pub enum Open {
     /// An operand.
     Operand(Reading),
-    /// An argument of a call or its closing parenthesis, behind the opening one or a comma.
+    /// An argument of a call or its closing parenthesis, after the opening one or a comma.
     Argument(Opened, Call),
-    /// Behind the `...` of a call.
+    /// After the `...` of a call.
     Spread(Reading, Call),
-    /// Behind the comma that follows such a `...`.
+    /// After the comma that follows such a `...`.
     CallEnd(Reading, Call),
-    /// Behind a `[` that begins a type.
+    /// After a `[` that begins a type.
     Bracket(Opened, Pos),
     /// A type.
     TypeOperand(Reading),
-    /// Behind a type in parentheses inside a type.
+    /// After a type in parentheses inside a type.
     TypeEnd(Reading, Pos, Part),
-    /// Behind a type that is inside no other.
+    /// After a type that is inside no other.
     Type(Reading, Part),
-    /// Behind an operand.
+    /// After an operand.
     Operator(Reading, Part),
-    /// Behind a `.`.
+    /// After a `.`.
     Selector(Reading, Part, Pos),
-    /// Behind the `[` of an index or slice expression.
+    /// After the `[` of an index or slice expression.
     Index(Opened, Part, Pos),
-    /// Behind the `:` of a slice expression.
+    /// After the `:` of a slice expression.
     High(Opened, Part, Pos, Low),
-    /// In braces behind the opening one or a comma.
+    /// In braces after the opening one or a comma.
     Element(Opened, Braces),
-    /// Behind the key of an element.
+    /// After the key of an element.
     Value(Opened, Braces, Name),
-    /// Behind an element without a type.
+    /// After an element without a type.
     ElementEnd(Reading, Braces),
 }
 

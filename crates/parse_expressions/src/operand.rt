@@ -7,7 +7,7 @@ ghost use Rattle.parse_expressions.specs.Terminals.{prefix, prefix_in, prefix_of
 ghost use Rattle.parse_expressions.specs.Frames.{open_depth};
 ghost use Rattle.parse_expressions.specs.Machine.{goes, at_operand, at_bracket, at_type_operand, at_operator, operand, step, nesting};
 ghost use Rattle.parse_expressions.specs.Stacks.{frame_of, levels};
-ghost use Rattle.parse_expressions.specs.States.{open_of, base_of, base_at, frames_in, depth_in, Steps};
+ghost use Rattle.parse_expressions.specs.States.{open_of, context_in, context_of, frames_in, depth_in, Steps};
 
 use crate::fault::StepFault;
 use crate::frame::Frame;
@@ -17,16 +17,13 @@ use crate::reading::{Opened, Reading};
 use crate::stack::push;
 use crate::terminal::Terminal;
 use base::Pos;
-use syntax::{ArithmeticOp, BinOp, Expr, UnOp};
-
-/// The greatest nesting of a token.
-pub const MOST: usize = 200;
+use syntax::{ArithmeticOp, BinOp, Expr, NESTING_LIMIT, UnOp};
 
 /// The next state, where the token's nesting keeps the limit.
 pub fn limited(nesting: usize, next: Open) -> Result<Progress, StepFault>
-    ensures { Steps result (base_of next) (goes (open_of next)) nesting }
+    ensures { Steps result (context_in next) (goes (open_of next)) nesting }
 {
-    if nesting > MOST {
+    if nesting > NESTING_LIMIT {
         drop(next);
         return Err(StepFault::TooDeep);
     }
@@ -63,7 +60,7 @@ fn prefix_in(token: Terminal) -> Option<(Pos, UnOp)>
 /// An operand that is one token.
 fn leaf(reading: Reading, expr: Expr) -> Result<Progress, StepFault>
     requires { height (ex_of expr) ≡ 0 }
-    ensures { Steps result (base_at reading.place)
+    ensures { Steps result (context_of reading.context)
         (goes (at_operator (frames_in reading) (ex_of expr))) (depth_in reading) }
 {
     limited(
@@ -75,10 +72,10 @@ fn leaf(reading: Reading, expr: Expr) -> Result<Progress, StepFault>
 /// A prefix or an opening parenthesis.
 fn deeper(reading: Reading, frame: Frame) -> Result<Progress, StepFault>
     requires { levels (frame_of frame) ≤ 1 }
-    ensures { Steps result (base_at reading.place)
+    ensures { Steps result (context_of reading.context)
         (goes (at_operand (frame_of frame ∷ frames_in reading))) (depth_in reading) }
 {
-    if reading.depth > MOST {
+    if reading.depth > NESTING_LIMIT {
         drop(frame);
         return Err(StepFault::TooDeep);
     }
@@ -88,10 +85,10 @@ fn deeper(reading: Reading, frame: Frame) -> Result<Progress, StepFault>
 /// The same inside a type.
 pub fn deeper_type(reading: Reading, frame: Frame) -> Result<Progress, StepFault>
     requires { levels (frame_of frame) ≤ 1 }
-    ensures { Steps result (base_at reading.place)
+    ensures { Steps result (context_of reading.context)
         (goes (at_type_operand (frame_of frame ∷ frames_in reading))) (depth_in reading) }
 {
-    if reading.depth > MOST {
+    if reading.depth > NESTING_LIMIT {
         drop(frame);
         return Err(StepFault::TooDeep);
     }
@@ -100,10 +97,10 @@ pub fn deeper_type(reading: Reading, frame: Frame) -> Result<Progress, StepFault
 
 /// The opening bracket of a type.
 pub fn bracket(reading: Reading, pos: Pos) -> Result<Progress, StepFault>
-    ensures { Steps result (base_at reading.place)
+    ensures { Steps result (context_of reading.context)
         (goes (at_bracket (frames_in reading) pos)) (depth_in reading) }
 {
-    if reading.depth > MOST {
+    if reading.depth > NESTING_LIMIT {
         return Err(StepFault::TooDeep);
     }
     Ok(Progress::Goes(Open::Bracket(Opened { outside: reading }, pos)))
@@ -111,7 +108,7 @@ pub fn bracket(reading: Reading, pos: Pos) -> Result<Progress, StepFault>
 
 /// A token where an operand is wanted.
 pub fn operand(reading: Reading, token: Terminal) -> Result<Progress, StepFault>
-    ensures { Steps result (base_at reading.place)
+    ensures { Steps result (context_of reading.context)
         (operand (frames_in reading) token) (depth_in reading) }
 {
     match token {
@@ -133,18 +130,18 @@ pub fn operand_inside(
     frame: Frame,
     token: Terminal,
 ) -> Result<Progress, StepFault>
-    requires { reading.depth + levels (frame_of frame) ≤ 202 }
+    requires { reading.depth + levels (frame_of frame) ≤ NESTING_LIMIT + 2 }
     ensures { let fs = frame_of frame ∷ frames_in reading in
-        Steps result (base_at reading.place) (operand fs token)
-        (open_depth reading.place.depth fs) }
+        Steps result (context_of reading.context) (operand fs token)
+        (open_depth reading.context.depth fs) }
 {
     operand(push(reading, frame)?, token)
 }
 
-/// Behind the opening bracket of a type.
+/// After the opening bracket of a type.
 pub fn behind_bracket(opened: Opened, pos: Pos, token: Terminal) -> Result<Progress, StepFault>
     ensures { let s = open_of (Open.Bracket opened pos) in
-        let b = base_at opened.outside.place in
+        let b = context_of opened.outside.context in
         Steps result b (step b s token) (nesting b s token) }
 {
     let reading = opened.outside;

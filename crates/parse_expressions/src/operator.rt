@@ -1,4 +1,4 @@
-//! A token behind an operand.
+//! A token after an operand.
 
 ghost use Rattle.std.specs.Prelude.{◌≡◌, ◌∷◌, max, suc, MatchOption};
 ghost use Rattle.syntax.specs.declared.expression.Name.{Name};
@@ -6,7 +6,7 @@ ghost use Rattle.syntax.specs.Expressions.{name, ex_of};
 ghost use Rattle.syntax.specs.Heights.{height};
 ghost use Rattle.parse_expressions.specs.Frames.{awaiting};
 ghost use Rattle.parse_expressions.specs.Machine.{goes, at_operand, closes_reduced, brace_behind_name, behind_operand, nesting_behind};
-ghost use Rattle.parse_expressions.specs.States.{base_at, frames_in, depth_in, Steps};
+ghost use Rattle.parse_expressions.specs.States.{context_of, frames_in, depth_in, Steps};
 
 use crate::call::begin as begin_call;
 use crate::closing::{closes_reduced, precedence, reduce};
@@ -15,22 +15,21 @@ use crate::fault::StepFault;
 use crate::frame::Frame;
 use crate::index::{begin_index, begin_selector};
 use crate::open::{Open, Progress};
-use crate::operand::MOST;
 use crate::part::Part;
 use crate::reading::Reading;
 use crate::stack::{allows_literal, pop, push};
 use crate::terminal::Terminal;
 use base::Pos;
 use std::alloc::Global;
-use syntax::{BinOp, Expr, Name};
+use syntax::{BinOp, Expr, NESTING_LIMIT, Name};
 
-/// A binary operator behind its left operand.
+/// A binary operator after its left operand.
 fn operator(reading: Reading, left: Part, pos: Pos, op: BinOp) -> Result<Progress, StepFault>
     ensures { let fs = awaiting (ex_of left.expr) pos op ∷ frames_in reading in
-        Steps result (base_at reading.place) (goes (at_operand fs))
+        Steps result (context_of reading.context) (goes (at_operand fs))
         (max (depth_in reading) (suc (height (ex_of left.expr)))) }
 {
-    if reading.depth > MOST || left.height >= 200 {
+    if reading.depth > NESTING_LIMIT || left.height >= NESTING_LIMIT {
         drop(left);
         return Err(StepFault::TooDeep);
     }
@@ -57,7 +56,7 @@ fn ends_at_brace(
     part: Part,
     pos: Pos,
 ) -> Result<Progress, StepFault>
-    ensures { Steps result (base_at reading.place)
+    ensures { Steps result (context_of reading.context)
         (closes_reduced (frames_in reading) (ex_of part.expr) (Terminal.LeftBrace pos))
         (depth_in reading) }
 {
@@ -73,14 +72,14 @@ fn ends_at_brace(
     }
 }
 
-/// A brace behind a name.
+/// A brace after a name.
 fn brace_behind_name(
     alloc: Global,
     reading: Reading,
     x: Name,
     pos: Pos,
 ) -> Result<Progress, StepFault>
-    ensures { let b = base_at reading.place in
+    ensures { let b = context_of reading.context in
         Steps result b (brace_behind_name b (frames_in reading) x pos) (depth_in reading) }
 {
     let part = Part {
@@ -94,9 +93,9 @@ fn brace_behind_name(
     }
 }
 
-/// An opening brace behind an operand.
+/// An opening brace after an operand.
 fn brace(alloc: Global, reading: Reading, part: Part, pos: Pos) -> Result<Progress, StepFault>
-    ensures { let b = base_at reading.place in
+    ensures { let b = context_of reading.context in
         let t = Terminal.LeftBrace pos in
         Steps result b (behind_operand b (frames_in reading) (ex_of part.expr) t)
         (nesting_behind b.depth (frames_in reading) (ex_of part.expr) t) }
@@ -107,9 +106,9 @@ fn brace(alloc: Global, reading: Reading, part: Part, pos: Pos) -> Result<Progre
     }
 }
 
-/// A colon behind a name.
+/// A colon after a name.
 fn colon_behind_name(alloc: Global, reading: Reading, x: Name) -> Result<Progress, StepFault>
-    ensures { let b = base_at reading.place in
+    ensures { let b = context_of reading.context in
         Steps result b (behind_operand b (frames_in reading) (name x) Terminal.Colon)
         (nesting_behind b.depth (frames_in reading) (name x) Terminal.Colon) }
 {
@@ -133,9 +132,9 @@ fn colon_behind_name(alloc: Global, reading: Reading, x: Name) -> Result<Progres
     }
 }
 
-/// A colon behind an operand.
+/// A colon after an operand.
 fn colon(alloc: Global, reading: Reading, part: Part) -> Result<Progress, StepFault>
-    ensures { let b = base_at reading.place in
+    ensures { let b = context_of reading.context in
         Steps result b (behind_operand b (frames_in reading) (ex_of part.expr) Terminal.Colon)
         (nesting_behind b.depth (frames_in reading) (ex_of part.expr) Terminal.Colon) }
 {
@@ -145,14 +144,14 @@ fn colon(alloc: Global, reading: Reading, part: Part) -> Result<Progress, StepFa
     }
 }
 
-/// A token behind an operand.
+/// A token after an operand.
 pub fn behind_operand(
     alloc: Global,
     reading: Reading,
     part: Part,
     token: Terminal,
 ) -> Result<Progress, StepFault>
-    ensures { let b = base_at reading.place in
+    ensures { let b = context_of reading.context in
         Steps result b (behind_operand b (frames_in reading) (ex_of part.expr) token)
         (nesting_behind b.depth (frames_in reading) (ex_of part.expr) token) }
 {

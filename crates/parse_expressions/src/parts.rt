@@ -11,13 +11,17 @@ use crate::frame::Braces;
 use crate::part::{Call, Low, Part};
 use base::Pos;
 use std::alloc::{AllocError, Global};
-use syntax::{BinOp, Bound, Element, Expr, Name, UnOp, call, elements, literal};
+use syntax::{BinOp, Bound, Element, Expr, NESTING_LIMIT, Name, UnOp, call, elements, literal};
 
-/// A height that counts to 201, and one more.
-pub fn one_higher(height: u8) -> u8
-    ensures { result ≡ min (height + 1) 201 }
+/// A height that is counted to one above the limit, and one more.
+pub fn one_higher(height: usize) -> usize
+    ensures { result ≡ min (height + 1) (NESTING_LIMIT + 1) }
 {
-    if height >= 200 { 201 } else { height + 1 }
+    if height >= NESTING_LIMIT {
+        NESTING_LIMIT + 1
+    } else {
+        height + 1
+    }
 }
 
 pub fn prefixed(alloc: Global, pos: Pos, op: UnOp, part: Part) -> Result<Part, AllocError>
@@ -99,7 +103,7 @@ fn with_value(mut values: Vec<Expr>, value: Expr) -> Result<Vec<Expr>, AllocErro
     Ok(values)
 }
 
-/// The whole call, with `...` behind its arguments or not.
+/// The whole call, with `...` after its arguments or not.
 pub fn whole_call(alloc: Global, pending: Call, spread: bool) -> Result<Part, AllocError>
     ensures { IfOk result
         (λ r. ex_of r.expr ≡ call (ex_of pending.function) (exs_of pending.arguments.items) spread) }
@@ -197,7 +201,7 @@ pub fn opened_element(alloc: Global, pos: Pos) -> Braces
     }
 }
 
-/// One element more, behind its key if it has one.
+/// One element more, after its key if it has one.
 #[tactic(auto, using(crate::proofs::Pending::higher_braces))]
 pub fn with_element(braces: Braces, key: Option<Name>, part: Part) -> Result<Braces, AllocError>
     ensures container { IfOk result (λ r. r.container ≡ braces.container) }

@@ -8,6 +8,7 @@ ghost use Rattle.parse_expressions.specs.States.{frames_in};
 use crate::frame::Frame;
 use crate::reading::Reading;
 use std::alloc::AllocError;
+use syntax::NESTING_LIMIT;
 
 /// How many levels a construct adds to the nesting of what stands in it.
 fn levels(frame: &Frame) -> usize
@@ -32,13 +33,13 @@ fn parentheses_of(frame: &Frame) -> usize
 /// One construct more is open.
 #[tactic(auto, using(crate::proofs::Levels::deeper, crate::proofs::Levels::more_parentheses, crate::proofs::Levels::few_parentheses))]
 pub fn push(reading: Reading, frame: Frame) -> Result<Reading, AllocError>
-    requires { reading.depth + levels (frame_of frame) ≤ 202 }
+    requires { reading.depth + levels (frame_of frame) ≤ NESTING_LIMIT + 2 }
     ensures frames { IfOk result (λ r. frames_in r ≡ frame_of frame ∷ frames_in reading) }
-    ensures place { IfOk result (λ r. r.place ≡ reading.place) }
+    ensures context { IfOk result (λ r. r.context ≡ reading.context) }
     ensures depth { IfOk result (λ r. r.depth ≡ reading.depth + levels (frame_of frame)) }
 {
     let Reading {
-        place,
+        context,
         mut frames,
         depth,
         parentheses,
@@ -47,7 +48,7 @@ pub fn push(reading: Reading, frame: Frame) -> Result<Reading, AllocError>
     let parentheses = parentheses + parentheses_of(&frame);
     frames.push(frame)?;
     Ok(Reading {
-        place,
+        context,
         frames,
         depth,
         parentheses,
@@ -60,12 +61,12 @@ pub fn pop(reading: Reading) -> (Reading, Option<Frame>)
     ensures frames { MatchOption result.1 (frames_in reading ≡ [])
         (λ f. frames_in reading ≡ frame_of f ∷ frames_in result.0) }
     ensures empty { MatchOption result.1 (frames_in result.0 ≡ []) (λ f. Unit {0}) }
-    ensures place { result.0.place ≡ reading.place }
+    ensures context { result.0.context ≡ reading.context }
     ensures depth { MatchOption result.1 (result.0.depth ≡ reading.depth)
         (λ f. reading.depth ≡ result.0.depth + levels (frame_of f)) }
 {
     let Reading {
-        place,
+        context,
         mut frames,
         depth,
         parentheses,
@@ -73,7 +74,7 @@ pub fn pop(reading: Reading) -> (Reading, Option<Frame>)
     match frames.pop() {
         None => {
             let reading = Reading {
-                place,
+                context,
                 frames,
                 depth,
                 parentheses,
@@ -84,7 +85,7 @@ pub fn pop(reading: Reading) -> (Reading, Option<Frame>)
             let depth = depth - levels(&frame);
             let parentheses = parentheses - parentheses_of(&frame);
             let reading = Reading {
-                place,
+                context,
                 frames,
                 depth,
                 parentheses,
@@ -97,7 +98,7 @@ pub fn pop(reading: Reading) -> (Reading, Option<Frame>)
 /// Whether a literal may begin with a name.
 #[tactic(auto, using(crate::proofs::Levels::in_parentheses, crate::proofs::Levels::allowed_outside, crate::proofs::Levels::forbidden))]
 pub fn allows_literal(reading: &Reading) -> bool
-    ensures { result ≡ allows reading.now.place.literals (frames_in reading.now) }
+    ensures { result ≡ allows reading.now.context.literals (frames_in reading.now) }
 {
-    reading.place.literals || reading.parentheses > 0
+    reading.context.literals || reading.parentheses > 0
 }

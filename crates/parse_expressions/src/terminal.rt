@@ -12,7 +12,7 @@ use syntax::{ArithmeticOp, BinOp, CompareOp, Name};
 pub enum Terminal {
     Identifier(Name),
     Number(Pos, u128),
-    /// A string in double quotes, and the offset behind its last byte.
+    /// A string in double quotes, and the offset after its last byte.
     String(Pos, u32),
     Package,
     Const(Pos),
@@ -111,8 +111,8 @@ fn op_terminal(op: Op, pos: Pos) -> Terminal
         Op::LessEqual => Terminal::Operator(pos, BinOp::Compare(CompareOp::LessEqual)),
         Op::Greater => Terminal::Operator(pos, BinOp::Compare(CompareOp::Greater)),
         Op::GreaterEqual => Terminal::Operator(pos, BinOp::Compare(CompareOp::GreaterEqual)),
-        Op::LogAnd => Terminal::Operator(pos, BinOp::Both),
-        Op::LogOr => Terminal::Operator(pos, BinOp::Either),
+        Op::LogicalAnd => Terminal::Operator(pos, BinOp::LogicalAnd),
+        Op::LogicalOr => Terminal::Operator(pos, BinOp::LogicalOr),
         Op::AddAssign => Terminal::Update(pos, ArithmeticOp::Add),
         Op::SubAssign => Terminal::Update(pos, ArithmeticOp::Sub),
         Op::MulAssign => Terminal::Update(pos, ArithmeticOp::Mul),

@@ -3,7 +3,7 @@
 ghost use Rattle.std.specs.Prelude.{◌≡◌, ◌∷◌, IfOk};
 ghost use Rattle.syntax.specs.Expressions.{ex_of};
 ghost use Rattle.parse_expressions.specs.Machine.{goes, type_operand, type_done, step, nesting};
-ghost use Rattle.parse_expressions.specs.States.{open_of, place_of, base_at, frames_in, depth_in, Steps};
+ghost use Rattle.parse_expressions.specs.States.{open_of, stored_context, context_of, frames_in, depth_in, Steps};
 
 use crate::fault::StepFault;
 use crate::frame::Frame;
@@ -18,11 +18,11 @@ use base::Pos;
 use std::alloc::{AllocError, Global};
 use syntax::{ArithmeticOp, BinOp, Expr, UnOp};
 
-/// Behind a type, whose prefixes inside the same type are closed.
+/// After a type, whose prefixes inside the same type are closed.
 fn type_done(alloc: Global, mut reading: Reading, mut part: Part) -> Result<Open, AllocError>
     ensures is_open { IfOk result
         (λ o. open_of o ≡ type_done (frames_in reading) (ex_of part.expr)) }
-    ensures place { IfOk result (λ o. place_of o ≡ reading.place) }
+    ensures context { IfOk result (λ o. stored_context o ≡ reading.context) }
 {
     'prefixes: loop {
         let (rest, frame) = pop(reading);
@@ -38,9 +38,9 @@ fn type_done(alloc: Global, mut reading: Reading, mut part: Part) -> Result<Open
     }
 }
 
-/// Behind the last token of a type.
+/// After the last token of a type.
 fn whole_type(alloc: Global, reading: Reading, part: Part) -> Result<Progress, StepFault>
-    ensures { Steps result (base_at reading.place)
+    ensures { Steps result (context_of reading.context)
         (goes (type_done (frames_in reading) (ex_of part.expr))) (depth_in reading) }
 {
     limited(reading.depth, type_done(alloc, reading, part)?)
@@ -48,7 +48,7 @@ fn whole_type(alloc: Global, reading: Reading, part: Part) -> Result<Progress, S
 
 /// A token where a type is wanted.
 pub fn type_operand(alloc: Global, reading: Reading, token: Terminal) -> Result<Progress, StepFault>
-    ensures { Steps result (base_at reading.place)
+    ensures { Steps result (context_of reading.context)
         (type_operand (frames_in reading) token) (depth_in reading) }
 {
     match token {
@@ -68,7 +68,7 @@ pub fn type_operand(alloc: Global, reading: Reading, token: Terminal) -> Result<
     }
 }
 
-/// Behind a type in parentheses inside a type.
+/// After a type in parentheses inside a type.
 pub fn type_end(
     alloc: Global,
     reading: Reading,
@@ -77,7 +77,7 @@ pub fn type_end(
     token: Terminal,
 ) -> Result<Progress, StepFault>
     ensures { let s = open_of (Open.TypeEnd reading pos part) in
-        let b = base_at reading.place in
+        let b = context_of reading.context in
         Steps result b (step b s token) (nesting b s token) }
 {
     match token {

@@ -104,7 +104,7 @@ module _ (T : Type 0) (K : T → Parameters → List Mark → Type 0) where
       let c = pick_parameters (parameters.nesting p t) j w (λ n v r. choose_parameters w n v r) (parameters.step p t) (parameters_valid_next p t valid) a in
       (c.0, (parameters_quotient (K c.0) p t j w valid).1 c.1)
 
--- of a body, with the place of its end
+-- of a body, with the position of its end
 abbrev pub ForSomeBody : (T : Type 0) → (T → Stms → Pos → List Mark → Type 0) → Stms → Pos → List Mark → Type 0
 ForSomeBody T K ss end m = (x : T) × K x ss end m
 

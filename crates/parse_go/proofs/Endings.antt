@@ -8,7 +8,7 @@ use Rattle.parse_expressions.proofs.TextEnds.{unfinished as expression_unfinishe
 use Rattle.parse_simple_statements.proofs.ValueSpecsBegins.{unfinished as values_unfinished}
 use Rattle.parse_statements.proofs.BodiesBegins.{unfinished as bodies_unfinished}
 use Rattle.parse_go.specs.Grammar.{AreResults, no_results, one_result, results, ReadsBody, AreDeclarations}
-use Rattle.parse_go.specs.Machine.{Named, Signature, State, at_package, at_package_name, at_package_end, at_declaration, in_values, in_types, at_function, at_opening, in_params, at_results, in_result, in_results, at_body, in_body, at_end, with_declaration, with_results, with_function, values_declared, result_base}
+use Rattle.parse_go.specs.Machine.{Named, Signature, State, at_package, at_package_name, at_package_end, at_declaration, in_values, in_types, at_function, at_opening, in_params, at_results, in_result, in_results, at_body, in_body, at_end, with_declaration, with_results, with_function, values_declared, result_context}
 use Rattle.parse_go.proofs.Types.{OneType, type_some}
 use Rattle.parse_go.proofs.TypeSpecsBegins.{unfinished as types_unfinished}
 use Rattle.parse_go.proofs.ParametersBegins.{unfinished as parameters_unfinished}
@@ -47,18 +47,18 @@ unfinished at_package tree h = absurd (cc (h.mark))
 unfinished at_package_name tree h = let n = h.follows in absurd (cc (n.mark))
 unfinished (at_package_end x) tree h = absurd (cc (h.mark))
 unfinished (at_declaration f) tree h = (f, refl, declarations_more f tree h)
-unfinished (in_values f k place s) tree h =
-    let i = values_unfinished k 0 (ValuesDeclared f k place tree) s h in
-    absurd (end_more (with_declaration f (values_declared k place i.0)) tree i.1)
-unfinished (in_types f place s) tree h =
-    let i = types_unfinished (TypesDeclared f place tree) s h in
-    absurd (end_more (with_declaration f (types place i.0)) tree i.1)
-unfinished (at_function f place) tree h = let n = h.follows in absurd (cc (n.mark))
+unfinished (in_values f k pos s) tree h =
+    let i = values_unfinished k 0 (ValuesDeclared f k pos tree) s h in
+    absurd (end_more (with_declaration f (values_declared k pos i.0)) tree i.1)
+unfinished (in_types f pos s) tree h =
+    let i = types_unfinished (TypesDeclared f pos tree) s h in
+    absurd (end_more (with_declaration f (types pos i.0)) tree i.1)
+unfinished (at_function f pos) tree h = let n = h.follows in absurd (cc (n.mark))
 unfinished (at_opening n) tree h = absurd (cc (h.mark))
 unfinished (in_params n p) tree h = absurd (parameters_unfinished (λ ps. FromResults n ps tree) p h)
 unfinished (at_results n ps) tree h = absurd (results_more n ps tree h)
 unfinished (in_result n ps o) tree h =
-    let i = expression_unfinished result_base (ResultRead n ps tree) o h in
+    let i = expression_unfinished result_context (ResultRead n ps tree) o h in
     absurd (body_more (with_results n ps (unnamed (some i.0 none))) tree i.1)
 unfinished (in_results n ps p) tree h = absurd (parameters_unfinished (ResultsRead n ps tree) p h)
 unfinished (at_body s) tree h = absurd (body_more s tree h)

@@ -16,7 +16,7 @@ use Rattle.parse_go.proofs.Types.{OneType, type_at, type_step, type_first, no_ty
 abbrev pub TypeThen : ℕ → (List Name → Ex → List Mark → Type 0) → List Name → List Mark → Type 0
 TypeThen d Then xs m = OneType d (Then xs) m
 
--- behind the last of some names, and where one more name is wanted behind some
+-- after the last of some names, and where one more name is wanted after some
 abbrev pub InNames : ℕ → (List Name → Ex → List Mark → Type 0) → List Name → List Mark → Type 0
 InNames d Then xs w = NamesThen (TypeThen d Then) d xs w
 

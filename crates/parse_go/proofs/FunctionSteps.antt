@@ -1,4 +1,4 @@
--- A terminal behind the parameters of a function divides the texts by it from the left.
+-- A terminal after the parameters of a function divides the texts by it from the left.
 use Rattle.std.proofs.Common.{◌≡◌, ℕ, List, [], ◌∷◌, ◌⊎◌, inl, inr, Option, Some, None, refl, sym, subst}
 use Rattle.base.specs.declared.pos.Pos.{Pos}
 use Rattle.syntax.specs.Expressions.{none, some}
@@ -17,7 +17,7 @@ use Rattle.parse_simple_statements.proofs.Starts.{NeverEnds, type_starts}
 use Rattle.parse_statements.proofs.BodiesFollowing as bodies_following
 use Rattle.parse_go.specs.Grammar.{IsBare, AreResults, no_results, one_result, results, ReadsBody}
 use Rattle.parse_go.specs.Parameters.{at_name_or_type}
-use Rattle.parse_go.specs.Machine.{Named, Signature, at_results, with_results, with_function, behind_results, result_base, after_result, step, nesting_result}
+use Rattle.parse_go.specs.Machine.{Named, Signature, at_results, with_results, with_function, behind_results, result_context, after_result, step, nesting_result}
 use Rattle.parse_go.proofs.Types.{OneType, type_first, type_bare, type_not_bare}
 use Rattle.parse_go.proofs.ParametersFollowing as parameters_following
 use Rattle.parse_go.proofs.ParametersBegins as parameters_begin
@@ -55,7 +55,7 @@ module _ (tree : File) where
 
   -- ---- one result
 
-  pub after_result_step : (n : Named) (ps : Parameters) (o : Open) (t : Terminal) (j : ℕ) (w : List Mark) (p : expression.Progress) → Iff (ExpressionAfter result_base (ResultRead n ps tree) p (expression.nesting result_base o t) t j w) ((j ≡ nesting_result o t p) × Follows (after_result n ps t p) tree w)
+  pub after_result_step : (n : Named) (ps : Parameters) (o : Open) (t : Terminal) (j : ℕ) (w : List Mark) (p : expression.Progress) → Iff (ExpressionAfter result_context (ResultRead n ps tree) p (expression.nesting result_context o t) t j w) ((j ≡ nesting_result o t p) × Follows (after_result n ps t p) tree w)
   after_result_step n ps o t j w expression.fails = (λ h. absurd h, λ h. h.1)
   after_result_step n ps o t j w (expression.goes q) = iff_same _
   after_result_step n ps o t j w (expression.ends e) = (
@@ -63,7 +63,7 @@ module _ (tree : File) where
     λ h. (λ is. cc (is), (body_step (with_results n ps (unnamed (some e none))) t j w).1 h),
   )
 
-  result_begins_step : (n : Named) (ps : Parameters) (t : Terminal) (j : ℕ) (w : List Mark) (p : expression.Progress) → NeverEnds p → Iff (ExpressionAfter result_base (ResultRead n ps tree) p 0 t j w) ((j ≡ 0) × Follows (after_result n ps t p) tree w)
+  result_begins_step : (n : Named) (ps : Parameters) (t : Terminal) (j : ℕ) (w : List Mark) (p : expression.Progress) → NeverEnds p → Iff (ExpressionAfter result_context (ResultRead n ps tree) p 0 t j w) ((j ≡ 0) × Follows (after_result n ps t p) tree w)
   result_begins_step n ps t j w expression.fails starts = (λ h. absurd h, λ h. h.1)
   result_begins_step n ps t j w (expression.goes q) starts = iff_same _
   result_begins_step n ps t j w (expression.ends e) starts = absurd starts
@@ -81,8 +81,8 @@ module _ (tree : File) where
   no_bare : (n : Named) (ps : Parameters) (q : Pos) (j : ℕ) (w : List Mark) → BareResult n ps (inside (LeftParen q) j ∷ w) → ⊥
   no_bare n ps q j w h = let f = h.follows in type_not_bare 0 h.whole q j w h.rest h.reads f.0
 
-  result_step : (n : Named) (ps : Parameters) (t : Terminal) (j : ℕ) (w : List Mark) → ((q : Pos) → t ≡ LeftParen q → ⊥) → Iff (BareResult n ps (inside t j ∷ w)) ((j ≡ 0) × Follows (after_result n ps t (expression.step result_base (at_type_operand []) t)) tree w)
-  result_step n ps t j w other = iff_trans _ _ _ (bare_result n ps t j w other) (iff_trans _ _ _ (type_first 0 (ResultRead n ps tree) t j w) (result_begins_step n ps t j w (expression.step result_base (at_type_operand []) t) (type_starts t)))
+  result_step : (n : Named) (ps : Parameters) (t : Terminal) (j : ℕ) (w : List Mark) → ((q : Pos) → t ≡ LeftParen q → ⊥) → Iff (BareResult n ps (inside t j ∷ w)) ((j ≡ 0) × Follows (after_result n ps t (expression.step result_context (at_type_operand []) t)) tree w)
+  result_step n ps t j w other = iff_trans _ _ _ (bare_result n ps t j w other) (iff_trans _ _ _ (type_first 0 (ResultRead n ps tree) t j w) (result_begins_step n ps t j w (expression.step result_context (at_type_operand []) t) (type_starts t)))
 
   -- ---- results
 
@@ -106,7 +106,7 @@ module _ (tree : File) where
       to : (ts : List Mark) (rs : Parameters) (m : List Mark) → AreResults rs ts m → FromBody (with_results n ps rs) tree m → FromBody (with_results n ps (unnamed none)) tree ts ⊎ (BareResult n ps ts ⊎ ParenResults n ps ts)
       to ts _ _ no_results k = inl k
       to ts _ m (one_result {t = t} bare r) k = inr (inl (record { whole = t; rest = m; reads = r; follows = (bare, k) }))
-      to _ rs m (results {opening = q} {m = l} a) k = inr (inr (record { place = q; rest = l; mark = refl; follows = (parameters_begin.begins (ResultsRead n ps tree) l).0 (rs, m, a, k) }))
+      to _ rs m (results {opening = q} {m = l} a) k = inr (inr (record { pos = q; rest = l; mark = refl; follows = (parameters_begin.begins (ResultsRead n ps tree) l).0 (rs, m, a, k) }))
 
   no_body : (s : Signature) (t : Terminal) (j : ℕ) (w : List Mark) → (Follows (behind_results s t) tree w → ⊥) → FromBody s tree (inside t j ∷ w) → ⊥
   no_body s t j w never h = let b = (body_step s t j w).0 h in never b.1

@@ -103,9 +103,9 @@ module _ (n : ℕ) where
   -- ---- whole texts
 
   declaration_spans : (d : Declaration) (ts rest : List Mark) → IsDeclaration d ts rest → HaveSpans n ts → DeclarationSpans n d × HaveSpans n rest
-  declaration_spans (constants place specs) ts rest r a = value_specs_spans n of_constants r.2 (subst (HaveSpans n) r.1 a).1
-  declaration_spans (variables place specs) ts rest r a = value_specs_spans n of_variables r.2 (subst (HaveSpans n) r.1 a).1
-  declaration_spans (types place specs) ts rest r a = group_spans n ReadsTypeSpec (TypeSpecSpans n) type_spec_spans r.2 (subst (HaveSpans n) r.1 a).1
+  declaration_spans (constants pos specs) ts rest r a = value_specs_spans n of_constants r.2 (subst (HaveSpans n) r.1 a).1
+  declaration_spans (variables pos specs) ts rest r a = value_specs_spans n of_variables r.2 (subst (HaveSpans n) r.1 a).1
+  declaration_spans (types pos specs) ts rest r a = group_spans n ReadsTypeSpec (TypeSpecSpans n) type_spec_spans r.2 (subst (HaveSpans n) r.1 a).1
   declaration_spans (function f) ts rest r a = function_spans f ts rest r a
 
   declarations_spans : (ds : List Declaration) (ts : List Mark) → AreDeclarations ds ts → HaveSpans n ts → AllByRecursion (DeclarationSpans n) ds
@@ -119,14 +119,14 @@ module _ (n : ℕ) where
       let b = (subst (HaveSpans n) h.1 a).1 in
       (b.0, declarations_spans file.declarations h.0 h.2 b.1.1)
 
-  kind_span : (k : Kind) (place : Pos) (behind : ℕ) → place.offset ≤ behind → behind ≤ n → HasSpan n (terminal_at k place behind)
-  kind_span kind.Name place behind le within = (le, within)
-  kind_span (kind.Number i) place behind le within = tt
-  kind_span kind.String place behind le within = (le, within)
-  kind_span (kind.Keyword keyword.Package) place behind le within = tt
-  kind_span (kind.Keyword k) place behind le within = tt
-  kind_span (kind.Op op.Define) place behind le within = tt
-  kind_span (kind.Op o) place behind le within = tt
+  kind_span : (k : Kind) (pos : Pos) (behind : ℕ) → pos.offset ≤ behind → behind ≤ n → HasSpan n (terminal_at k pos behind)
+  kind_span kind.Name pos behind le within = (le, within)
+  kind_span (kind.Number i) pos behind le within = tt
+  kind_span kind.String pos behind le within = (le, within)
+  kind_span (kind.Keyword keyword.Package) pos behind le within = tt
+  kind_span (kind.Keyword k) pos behind le within = tt
+  kind_span (kind.Op op.Define) pos behind le within = tt
+  kind_span (kind.Op o) pos behind le within = tt
 
   token_spans : (ms : List Mark) (tokens : List Token) → terminals_in ms ≡ terminals_of tokens → All (IsSpan n) tokens → HaveSpans n ms
   token_spans [] tokens is all = tt

@@ -14,7 +14,7 @@ use Rattle.parse_expressions.specs.Machine.{Open, at_type_operand}
 use Rattle.parse_expressions.specs.Machine as expression
 use Rattle.parse_expressions.specs.States as expressions
 use Rattle.parse_go.specs.declared.parameters.ParametersProgress.{ParametersProgress}
-use Rattle.parse_go.specs.Parameters.{at_name_or_type, at_names, at_next_type, at_field_names, type_base, types_named, type_begins, step, after_type, after_field, nesting_after, nesting_in_parens}
+use Rattle.parse_go.specs.Parameters.{at_name_or_type, at_names, at_next_type, at_field_names, type_context, types_named, type_begins, step, after_type, after_field, nesting_after, nesting_in_parens}
 use Rattle.parse_go.specs.ParameterStates.{FailsStep, Steps}
 
 names_as_types : (xs : List Name) → exs_of (map (λ x. expr.Name x) xs) ≡ types_named xs
@@ -25,7 +25,7 @@ pub are_types : (ts : List Expr) (xs : List Name) → ts ≡ map (λ x. expr.Nam
 are_types ts xs is = ap exs_of is ∙ names_as_types xs
 
 -- where the step inside a type fails, so does that of the parameters
-pub type_fails : (ts : Exs) (o : Open) (t : Terminal) (e : StepFault) (p : expression.Progress) → expressions.FailsStep e p (expression.nesting type_base o t) → FailsStep e (after_type ts t p) (nesting_after o t p)
+pub type_fails : (ts : Exs) (o : Open) (t : Terminal) (e : StepFault) (p : expression.Progress) → expressions.FailsStep e p (expression.nesting type_context o t) → FailsStep e (after_type ts t p) (nesting_after o t p)
 type_fails ts o t fault.NoMemory p h = tt
 type_fails ts o t fault.Unexpected expression.fails h = refl
 type_fails ts o t fault.Unexpected (expression.goes n) h = absurd cc
@@ -34,7 +34,7 @@ type_fails ts o t fault.TooDeep expression.fails h = absurd h.1
 type_fails ts o t fault.TooDeep (expression.goes n) h = h
 type_fails ts o t fault.TooDeep (expression.ends e) h = absurd h.1
 
-pub named_type_fails : (fs : List Field) (xs : List Name) (o : Open) (t : Terminal) (e : StepFault) (p : expression.Progress) → expressions.FailsStep e p (expression.nesting type_base o t) → FailsStep e (after_field fs xs t p) (nesting_after o t p)
+pub named_type_fails : (fs : List Field) (xs : List Name) (o : Open) (t : Terminal) (e : StepFault) (p : expression.Progress) → expressions.FailsStep e p (expression.nesting type_context o t) → FailsStep e (after_field fs xs t p) (nesting_after o t p)
 named_type_fails fs xs o t fault.NoMemory p h = tt
 named_type_fails fs xs o t fault.Unexpected expression.fails h = refl
 named_type_fails fs xs o t fault.Unexpected (expression.goes n) h = absurd cc
@@ -43,7 +43,7 @@ named_type_fails fs xs o t fault.TooDeep expression.fails h = absurd h.1
 named_type_fails fs xs o t fault.TooDeep (expression.goes n) h = h
 named_type_fails fs xs o t fault.TooDeep (expression.ends e) h = absurd h.1
 
--- the first token of a type, behind the opening parenthesis or a comma, and behind names
+-- the first token of a type, after the opening parenthesis or a comma, and after names
 begun : (ts : Exs) (t : Terminal) (answer : Result ParametersProgress StepFault) (p : expression.Progress) → (nesting_in_parens t ≡ 1) → Steps answer (after_type ts t p) (nesting_after (at_type_operand []) t p) → Steps answer (after_type ts t p) 1
 begun ts t answer expression.fails is h = rw is at h
 begun ts t answer (expression.goes o) is h = h

@@ -1,4 +1,4 @@
--- What may follow where parameters begin, behind the opening parenthesis, and that no text ends before the closing one.
+-- What may follow where parameters begin, after the opening parenthesis, and that no text ends before the closing one.
 use Rattle.std.proofs.Common.{false, List, [], inl, inr, refl, subst, sym}
 use Rattle.syntax.specs.Expressions.{Exs, none, some}
 use Rattle.syntax.specs.Lists.{with_ex}
@@ -7,7 +7,7 @@ use Rattle.parse_expressions.specs.Grammar.{Mark, ClosesArguments}
 use Rattle.parse_expressions.proofs.Following.{Iff}
 use Rattle.parse_expressions.proofs.TextEnds.{unfinished as expression_unfinished}
 use Rattle.parse_go.specs.Grammar.{ReadsMoreTypes, ReadsTypes, AreParameters, no_parameters, unnamed_parameters, named_parameters}
-use Rattle.parse_go.specs.Parameters.{Params, at_name_or_type, at_names, at_next_type, in_type, at_field, at_next_name, at_field_names, in_field_type, type_base, types_named, field_named}
+use Rattle.parse_go.specs.Parameters.{Params, at_name_or_type, at_names, at_next_type, in_type, at_field, at_next_name, at_field_names, in_field_type, type_context, types_named, field_named}
 use Rattle.parse_go.proofs.Types.{type_some}
 use Rattle.parse_go.proofs.Fields.{in_names_some, next_name_some}
 use Rattle.parse_go.proofs.ParametersFollowing.{ListEnd, TypesEnd, FieldEnd, FieldThen, Rest}
@@ -56,8 +56,8 @@ module _ (K : Parameters → List Mark → Type 0) where
   unfinished (at_name_or_type xs) h = elim h [ inl a ↦ cc (a.mark) | inr b ↦ elim b [ inl a ↦ type_some 1 (λ e. TypesEnd K (with_ex (types_named xs) e)) a | inr a ↦ next_name_some 1 (FieldThen K []) xs a ] ]
   unfinished (at_names xs) h = elim h [ inl a ↦ types_end_some (types_named xs) a | inr a ↦ in_names_some 1 (FieldThen K []) xs a ]
   unfinished (at_next_type types) h = elim h [ inl a ↦ cc (a.mark) | inr a ↦ type_some 1 (λ e. TypesEnd K (with_ex types e)) a ]
-  unfinished (in_type types o) h = let i = expression_unfinished type_base (λ e. TypesEnd K (with_ex types e)) o h in types_end_some (with_ex types i.0) i.1
+  unfinished (in_type types o) h = let i = expression_unfinished type_context (λ e. TypesEnd K (with_ex types e)) o h in types_end_some (with_ex types i.0) i.1
   unfinished (at_field fs) h = elim h [ inl a ↦ cc (a.mark) | inr a ↦ next_name_some 1 (FieldThen K fs) [] a ]
   unfinished (at_next_name fs xs) h = next_name_some 1 (FieldThen K fs) xs h
   unfinished (at_field_names fs xs) h = in_names_some 1 (FieldThen K fs) xs h
-  unfinished (in_field_type fs xs o) h = let i = expression_unfinished type_base (FieldThen K fs xs) o h in field_end_some (field_named fs xs i.0) i.1
+  unfinished (in_field_type fs xs o) h = let i = expression_unfinished type_context (FieldThen K fs xs) o h in field_end_some (field_named fs xs i.0) i.1

@@ -15,7 +15,7 @@ use Rattle.parse_expressions.proofs.Quotient.{quotient as expression_quotient}
 use Rattle.parse_simple_statements.proofs.Marks.{next_read, next_other, iff_same, iff_trans, iff_never, only_left, only_right, neither}
 use Rattle.parse_simple_statements.proofs.Starts.{NeverEnds, type_starts}
 use Rattle.parse_go.specs.Grammar.{ReadsMoreTypes, ReadsField, AreNamed, last_named, next_named}
-use Rattle.parse_go.specs.Parameters.{Params, at_name_or_type, at_names, at_next_type, in_type, at_field, at_next_name, at_field_names, in_field_type, type_base, types_named, field_named, behind_type, after_type, behind_field, after_field, type_begins, step, nesting_in_parens, nesting_after, nesting}
+use Rattle.parse_go.specs.Parameters.{Params, at_name_or_type, at_names, at_next_type, in_type, at_field, at_next_name, at_field_names, in_field_type, type_context, types_named, field_named, behind_type, after_type, behind_field, after_field, type_begins, step, nesting_in_parens, nesting_after, nesting}
 use Rattle.parse_go.proofs.Types.{type_apart, type_first, type_name, no_type}
 use Rattle.parse_go.proofs.Fields.{InNames, NextName, OneField, field_comma, field_type, field_name, no_name, field_begins}
 use Rattle.parse_go.proofs.ParametersFollowing.{CloseParen, ListEnd, TypesEnd, TypesFrom, MoreFields, FieldEnd, FieldThen, Rest, After, Valid}
@@ -101,7 +101,7 @@ module _ (K : Parameters → List Mark → Type 0) where
   behind_type_step types t j w = iff_trans _ _ _ (types_end types t j w (λ e. cc (e))) (iff_never _ (no_list_end (unnamed types) t j w (λ e. cc (e)) (λ e. cc (e))))
 
   -- in a type: what the machine of types does
-  after_type_step : (types : Exs) (o : Open) (t : Terminal) (j : ℕ) (w : List Mark) (p : expression.Progress) → Iff (ExpressionAfter type_base (λ e. TypesEnd K (with_ex types e)) p (expression.nesting type_base o t) t j w) (After K (after_type types t p) (nesting_after o t p) j w)
+  after_type_step : (types : Exs) (o : Open) (t : Terminal) (j : ℕ) (w : List Mark) (p : expression.Progress) → Iff (ExpressionAfter type_context (λ e. TypesEnd K (with_ex types e)) p (expression.nesting type_context o t) t j w) (After K (after_type types t p) (nesting_after o t p) j w)
   after_type_step types o t j w expression.fails = iff_same _
   after_type_step types o t j w (expression.goes n) = iff_same _
   after_type_step types o t j w (expression.ends e) = (
@@ -109,7 +109,7 @@ module _ (K : Parameters → List Mark → Type 0) where
     λ h. (λ is. cc (is), (behind_type_step (with_ex types e) t j w).1 h),
   )
 
-  type_begins_step : (types : Exs) (t : Terminal) (j : ℕ) (w : List Mark) (p : expression.Progress) → NeverEnds p → Iff (ExpressionAfter type_base (λ e. TypesEnd K (with_ex types e)) p 1 t j w) (After K (after_type types t p) 1 j w)
+  type_begins_step : (types : Exs) (t : Terminal) (j : ℕ) (w : List Mark) (p : expression.Progress) → NeverEnds p → Iff (ExpressionAfter type_context (λ e. TypesEnd K (with_ex types e)) p 1 t j w) (After K (after_type types t p) 1 j w)
   type_begins_step types t j w expression.fails starts = iff_same _
   type_begins_step types t j w (expression.goes n) starts = iff_same _
   type_begins_step types t j w (expression.ends e) starts = absurd starts
@@ -151,7 +151,7 @@ module _ (K : Parameters → List Mark → Type 0) where
   behind_field_step fs RightParen j w = only_left _ _ _ (next_other Comma 1 (MoreFields K fs) RightParen j w (λ e. cc (e))) (list_paren (named fs) j w)
   behind_field_step fs t j w = iff_never _ (neither _ _ (no_list_end (named fs) t j w (λ e. cc (e)) (λ e. cc (e))) (next_other Comma 1 (MoreFields K fs) t j w (λ e. cc (e))))
 
-  after_field_step : (fs : List Field) (xs : List Name) (o : Open) (t : Terminal) (j : ℕ) (w : List Mark) (p : expression.Progress) → Iff (ExpressionAfter type_base (FieldThen K fs xs) p (expression.nesting type_base o t) t j w) (After K (after_field fs xs t p) (nesting_after o t p) j w)
+  after_field_step : (fs : List Field) (xs : List Name) (o : Open) (t : Terminal) (j : ℕ) (w : List Mark) (p : expression.Progress) → Iff (ExpressionAfter type_context (FieldThen K fs xs) p (expression.nesting type_context o t) t j w) (After K (after_field fs xs t p) (nesting_after o t p) j w)
   after_field_step fs xs o t j w expression.fails = iff_same _
   after_field_step fs xs o t j w (expression.goes n) = iff_same _
   after_field_step fs xs o t j w (expression.ends e) = (
@@ -159,12 +159,12 @@ module _ (K : Parameters → List Mark → Type 0) where
     λ h. (λ is. cc (is), (behind_field_step (field_named fs xs e) t j w).1 h),
   )
 
-  field_begins_step : (fs : List Field) (xs : List Name) (t : Terminal) (j : ℕ) (w : List Mark) (p : expression.Progress) → NeverEnds p → Iff (ExpressionAfter type_base (FieldThen K fs xs) p 1 t j w) (After K (after_field fs xs t p) 1 j w)
+  field_begins_step : (fs : List Field) (xs : List Name) (t : Terminal) (j : ℕ) (w : List Mark) (p : expression.Progress) → NeverEnds p → Iff (ExpressionAfter type_context (FieldThen K fs xs) p 1 t j w) (After K (after_field fs xs t p) 1 j w)
   field_begins_step fs xs t j w expression.fails starts = iff_same _
   field_begins_step fs xs t j w (expression.goes n) starts = iff_same _
   field_begins_step fs xs t j w (expression.ends e) starts = absurd starts
 
-  -- behind names that are no types: the type of the field begins
+  -- after names that are no types: the type of the field begins
   field_type_step : (fs : List Field) (xs : List Name) (t : Terminal) (j : ℕ) (w : List Mark) → (t ≡ Comma → ⊥) → Iff (InNames 1 (FieldThen K fs) xs (inside t j ∷ w)) (After K (after_field fs xs t (type_begins t)) 1 j w)
   field_type_step fs xs t j w other = iff_trans _ _ _ (field_type 1 (FieldThen K fs) xs t j w other) (field_begins_step fs xs t j w (type_begins t) (type_starts t))
 
@@ -233,8 +233,8 @@ module _ (K : Parameters → List Mark → Type 0) where
   quotient (at_name_or_type xs) t j w valid = name_or_type_step xs t j w
   quotient (at_names xs) t j w valid = names_step xs t j w
   quotient (at_next_type types) t j w valid = next_type_step types t j w
-  quotient (in_type types o) t j w valid = iff_trans _ _ _ (expression_quotient type_base (λ e. TypesEnd K (with_ex types e)) o t j w valid (type_apart 1 (λ e. TypesEnd K (with_ex types e)))) (after_type_step types o t j w (expression.step type_base o t))
+  quotient (in_type types o) t j w valid = iff_trans _ _ _ (expression_quotient type_context (λ e. TypesEnd K (with_ex types e)) o t j w valid (type_apart 1 (λ e. TypesEnd K (with_ex types e)))) (after_type_step types o t j w (expression.step type_context o t))
   quotient (at_field fs) t j w valid = at_field_step fs t j w
   quotient (at_next_name fs xs) t j w valid = next_name_step fs xs t j w
   quotient (at_field_names fs xs) t j w valid = field_names_step fs xs t j w
-  quotient (in_field_type fs xs o) t j w valid = iff_trans _ _ _ (expression_quotient type_base (FieldThen K fs xs) o t j w valid (type_apart 1 (FieldThen K fs xs))) (after_field_step fs xs o t j w (expression.step type_base o t))
+  quotient (in_field_type fs xs o) t j w valid = iff_trans _ _ _ (expression_quotient type_context (FieldThen K fs xs) o t j w valid (type_apart 1 (FieldThen K fs xs))) (after_field_step fs xs o t j w (expression.step type_context o t))

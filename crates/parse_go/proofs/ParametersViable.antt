@@ -11,7 +11,7 @@ use Rattle.parse_expressions.specs.Machine.{at_type_operand}
 use Rattle.parse_expressions.specs.Machine as expression
 use Rattle.parse_expressions.proofs.Following as following
 use Rattle.parse_expressions.proofs.Viable.{valid_next as expression_valid, viable as expression_viable}
-use Rattle.parse_go.specs.Parameters.{Params, at_name_or_type, at_names, at_next_type, in_type, at_field, at_next_name, at_field_names, in_field_type, type_base, types_named, field_named, behind_type, after_type, behind_field, after_field, type_begins, step}
+use Rattle.parse_go.specs.Parameters.{Params, at_name_or_type, at_names, at_next_type, in_type, at_field, at_next_name, at_field_names, in_field_type, type_context, types_named, field_named, behind_type, after_type, behind_field, after_field, type_begins, step}
 use Rattle.parse_go.proofs.Types.{type_valid}
 use Rattle.parse_go.proofs.Fields.{InNames, NextName, field_name}
 use Rattle.parse_go.proofs.ParametersFollowing.{CloseParen, TypesEnd, FieldEnd, FieldThen, Rest, Valid, ValidNext}
@@ -25,7 +25,7 @@ behind_type_valid types Comma = tt
 behind_type_valid types RightParen = tt
 behind_type_valid types t = tt
 
-after_type_valid : (types : Exs) (t : Terminal) (p : expression.Progress) → following.ValidNext type_base p → ValidNext (after_type types t p)
+after_type_valid : (types : Exs) (t : Terminal) (p : expression.Progress) → following.ValidNext type_context p → ValidNext (after_type types t p)
 after_type_valid types t expression.fails valid = tt
 after_type_valid types t (expression.goes o) valid = valid
 after_type_valid types t (expression.ends e) valid = behind_type_valid (with_ex types e) t
@@ -35,13 +35,13 @@ behind_field_valid fs Comma = tt
 behind_field_valid fs RightParen = tt
 behind_field_valid fs t = tt
 
-after_field_valid : (fs : List Field) (xs : List Name) (t : Terminal) (p : expression.Progress) → following.ValidNext type_base p → ValidNext (after_field fs xs t p)
+after_field_valid : (fs : List Field) (xs : List Name) (t : Terminal) (p : expression.Progress) → following.ValidNext type_context p → ValidNext (after_field fs xs t p)
 after_field_valid fs xs t expression.fails valid = tt
 after_field_valid fs xs t (expression.goes o) valid = valid
 after_field_valid fs xs t (expression.ends e) valid = behind_field_valid (field_named fs xs e) t
 
-type_begins_valid : (t : Terminal) → following.ValidNext type_base (type_begins t)
-type_begins_valid t = expression_valid type_base (at_type_operand []) t (type_valid 1)
+type_begins_valid : (t : Terminal) → following.ValidNext type_context (type_begins t)
+type_begins_valid t = expression_valid type_context (at_type_operand []) t (type_valid 1)
 
 name_or_type_valid : (xs : List Name) (t : Terminal) → ValidNext (step (at_name_or_type xs) t)
 name_or_type_valid xs (Identifier x) = tt
@@ -74,11 +74,11 @@ pub valid_next : (p : Params) (t : Terminal) → Valid p → ValidNext (step p t
 valid_next (at_name_or_type xs) t valid = name_or_type_valid xs t
 valid_next (at_names xs) t valid = names_valid xs t
 valid_next (at_next_type types) t valid = next_type_valid types t
-valid_next (in_type types o) t valid = after_type_valid types t (expression.step type_base o t) (expression_valid type_base o t valid)
+valid_next (in_type types o) t valid = after_type_valid types t (expression.step type_context o t) (expression_valid type_context o t valid)
 valid_next (at_field fs) t valid = field_valid fs t
 valid_next (at_next_name fs xs) t valid = next_name_valid fs xs t
 valid_next (at_field_names fs xs) t valid = field_names_valid fs xs t
-valid_next (in_field_type fs xs o) t valid = after_field_valid fs xs t (expression.step type_base o t) (expression_valid type_base o t valid)
+valid_next (in_field_type fs xs o) t valid = after_field_valid fs xs t (expression.step type_context o t) (expression_valid type_context o t valid)
 
 -- ---- some text follows
 
@@ -109,8 +109,8 @@ module _ (K : Parameters → List Mark → Type 0) (parameters_some : (ps : Para
   viable (at_name_or_type xs) valid = let n = paren_then (unnamed (types_named xs)) in (n.0, inl n.1)
   viable (at_names xs) valid = let n = names_then [] xs in (n.0, inr n.1)
   viable (at_next_type types) valid = let n = paren_then (unnamed types) in (n.0, inl n.1)
-  viable (in_type types o) valid = expression_viable type_base (λ e. TypesEnd K (with_ex types e)) o valid (λ e is. types_then (with_ex types e))
+  viable (in_type types o) valid = expression_viable type_context (λ e. TypesEnd K (with_ex types e)) o valid (λ e is. types_then (with_ex types e))
   viable (at_field fs) valid = let n = paren_then (named fs) in (n.0, inl n.1)
   viable (at_next_name fs xs) valid = next_name_then fs xs
   viable (at_field_names fs xs) valid = names_then fs xs
-  viable (in_field_type fs xs o) valid = expression_viable type_base (FieldThen K fs xs) o valid (λ e is. field_then (field_named fs xs e))
+  viable (in_field_type fs xs o) valid = expression_viable type_context (FieldThen K fs xs) o valid (λ e is. field_then (field_named fs xs e))

@@ -22,7 +22,7 @@ use Rattle.parse_go.specs.TypeSpecs.{Types}
 use Rattle.parse_go.specs.TypeSpecs as type_specs
 use Rattle.parse_go.specs.Parameters.{at_name_or_type}
 use Rattle.parse_go.specs.Parameters as parameters
-use Rattle.parse_go.specs.Machine.{Named, Signature, State, at_package, at_package_name, at_package_end, at_declaration, in_values, in_types, at_function, at_opening, in_params, at_results, in_result, in_results, at_body, in_body, at_end, with_declaration, values_declared, after_values, after_types, after_params, result_base, after_results, after_body, step, nesting_values, nesting_types, nesting}
+use Rattle.parse_go.specs.Machine.{Named, Signature, State, at_package, at_package_name, at_package_end, at_declaration, in_values, in_types, at_function, at_opening, in_params, at_results, in_result, in_results, at_body, in_body, at_end, with_declaration, values_declared, after_values, after_types, after_params, result_context, after_results, after_body, step, nesting_values, nesting_types, nesting}
 use Rattle.parse_go.proofs.Types.{type_apart}
 use Rattle.parse_go.proofs.TypeSpecsFollowing as types_following
 use Rattle.parse_go.proofs.TypeSpecsQuotient.{quotient as types_quotient}
@@ -60,9 +60,9 @@ module _ (tree : File) where
   package_end_step x Semicolon j w = next_read Semicolon 0 (FromDeclarations (record { package_name = x; declarations = [] }) tree) j w
   package_end_step x t j w = (λ h. absurd (next_other Semicolon 0 (FromDeclarations (record { package_name = x; declarations = [] }) tree) t j w (λ e. cc (e)) h), λ h. absurd h.1)
 
-  function_step : (f : File) (place : Pos) (t : Terminal) (j : ℕ) (w : List Mark) → Iff (Rest (at_function f place) tree (inside t j ∷ w)) ((j ≡ 0) × Follows (step (at_function f place) t) tree w)
-  function_step f place (Identifier x) j w = name_read (λ y. FromOpening (record { file = f; place = place; name = y }) tree) x j w
-  function_step f place t j w = (λ h. absurd (no_name (λ y. FromOpening (record { file = f; place = place; name = y }) tree) t j w (λ x e. cc (e)) h), λ h. absurd h.1)
+  function_step : (f : File) (pos : Pos) (t : Terminal) (j : ℕ) (w : List Mark) → Iff (Rest (at_function f pos) tree (inside t j ∷ w)) ((j ≡ 0) × Follows (step (at_function f pos) t) tree w)
+  function_step f pos (Identifier x) j w = name_read (λ y. FromOpening (record { file = f; pos = pos; name = y }) tree) x j w
+  function_step f pos t j w = (λ h. absurd (no_name (λ y. FromOpening (record { file = f; pos = pos; name = y }) tree) t j w (λ x e. cc (e)) h), λ h. absurd h.1)
 
   opening_step : (n : Named) (t : Terminal) (j : ℕ) (w : List Mark) → Iff (FromOpening n tree (inside t j ∷ w)) ((j ≡ 0) × Follows (step (at_opening n) t) tree w)
   opening_step n (LeftParen q) j w = next_at_read LeftParen 0 (λ p. parameters_following.Rest (λ ps. FromResults n ps tree) (at_name_or_type [])) q j w (λ p e. cc (e))
@@ -70,18 +70,18 @@ module _ (tree : File) where
 
   -- ---- the machines of the parts
 
-  pub values_apart : (f : File) (k : Declares) (place : Pos) → values_following.Apart (ValuesDeclared f k place tree)
-  values_apart f k place = record { never = λ specs t j w on h. subst values_following.GoesOn (end_first tree (with_declaration f (values_declared k place specs)) t j w h) on }
+  pub values_apart : (f : File) (k : Declares) (pos : Pos) → values_following.Apart (ValuesDeclared f k pos tree)
+  values_apart f k pos = record { never = λ specs t j w on h. subst values_following.GoesOn (end_first tree (with_declaration f (values_declared k pos specs)) t j w h) on }
 
-  after_values_step : (f : File) (k : Declares) (place : Pos) (s : Specs) (t : Terminal) (j : ℕ) (w : List Mark) (p : value_specs.Progress) → Iff (values_following.After k 0 (ValuesDeclared f k place tree) p (value_specs.nesting 0 s t) t j w) ((j ≡ nesting_values s t p) × Follows (after_values f k place t p) tree w)
-  after_values_step f k place s t j w value_specs.fails = (λ h. absurd h, λ h. h.1)
-  after_values_step f k place s t j w (value_specs.goes n) = iff_same _
-  after_values_step f k place s t j w (value_specs.ends specs) = end_step tree (with_declaration f (values_declared k place specs)) t j w
+  after_values_step : (f : File) (k : Declares) (pos : Pos) (s : Specs) (t : Terminal) (j : ℕ) (w : List Mark) (p : value_specs.Progress) → Iff (values_following.After k 0 (ValuesDeclared f k pos tree) p (value_specs.nesting 0 s t) t j w) ((j ≡ nesting_values s t p) × Follows (after_values f k pos t p) tree w)
+  after_values_step f k pos s t j w value_specs.fails = (λ h. absurd h, λ h. h.1)
+  after_values_step f k pos s t j w (value_specs.goes n) = iff_same _
+  after_values_step f k pos s t j w (value_specs.ends specs) = end_step tree (with_declaration f (values_declared k pos specs)) t j w
 
-  after_types_step : (f : File) (place : Pos) (s : Types) (t : Terminal) (j : ℕ) (w : List Mark) (p : type_specs.Progress) → Iff (types_following.After (TypesDeclared f place tree) p (type_specs.nesting s t) t j w) ((j ≡ nesting_types s t p) × Follows (after_types f place t p) tree w)
-  after_types_step f place s t j w type_specs.fails = (λ h. absurd h, λ h. h.1)
-  after_types_step f place s t j w (type_specs.goes n) = iff_same _
-  after_types_step f place s t j w (type_specs.ends specs) = end_step tree (with_declaration f (types place specs)) t j w
+  after_types_step : (f : File) (pos : Pos) (s : Types) (t : Terminal) (j : ℕ) (w : List Mark) (p : type_specs.Progress) → Iff (types_following.After (TypesDeclared f pos tree) p (type_specs.nesting s t) t j w) ((j ≡ nesting_types s t p) × Follows (after_types f pos t p) tree w)
+  after_types_step f pos s t j w type_specs.fails = (λ h. absurd h, λ h. h.1)
+  after_types_step f pos s t j w (type_specs.goes n) = iff_same _
+  after_types_step f pos s t j w (type_specs.ends specs) = end_step tree (with_declaration f (types pos specs)) t j w
 
   after_params_step : (n : Named) (i j : ℕ) (w : List Mark) (p : parameters.Progress) → Iff (parameters_following.After (λ ps. FromResults n ps tree) p i j w) ((j ≡ i) × Follows (after_params n p) tree w)
   after_params_step n i j w parameters.fails = (λ h. absurd h, λ h. h.1)
@@ -103,13 +103,13 @@ module _ (tree : File) where
   quotient at_package_name t j w valid = package_name_step t j w
   quotient (at_package_end x) t j w valid = package_end_step x t j w
   quotient (at_declaration f) t j w valid = declaration_step tree f t j w
-  quotient (in_values f k place s) t j w valid = iff_trans _ _ _ (values_quotient k 0 (ValuesDeclared f k place tree) s t j w valid (values_apart f k place)) (after_values_step f k place s t j w (value_specs.step k 0 s t))
-  quotient (in_types f place s) t j w valid = iff_trans _ _ _ (types_quotient (TypesDeclared f place tree) s t j w valid) (after_types_step f place s t j w (type_specs.step s t))
-  quotient (at_function f place) t j w valid = function_step f place t j w
+  quotient (in_values f k pos s) t j w valid = iff_trans _ _ _ (values_quotient k 0 (ValuesDeclared f k pos tree) s t j w valid (values_apart f k pos)) (after_values_step f k pos s t j w (value_specs.step k 0 s t))
+  quotient (in_types f pos s) t j w valid = iff_trans _ _ _ (types_quotient (TypesDeclared f pos tree) s t j w valid) (after_types_step f pos s t j w (type_specs.step s t))
+  quotient (at_function f pos) t j w valid = function_step f pos t j w
   quotient (at_opening n) t j w valid = opening_step n t j w
   quotient (in_params n p) t j w valid = iff_trans _ _ _ (parameters_quotient (λ ps. FromResults n ps tree) p t j w valid) (after_params_step n (parameters.nesting p t) j w (parameters.step p t))
   quotient (at_results n ps) t j w valid = results_step tree n ps t j w
-  quotient (in_result n ps o) t j w valid = iff_trans _ _ _ (expression_quotient result_base (ResultRead n ps tree) o t j w valid (type_apart 0 (ResultRead n ps tree))) (after_result_step tree n ps o t j w (expression.step result_base o t))
+  quotient (in_result n ps o) t j w valid = iff_trans _ _ _ (expression_quotient result_context (ResultRead n ps tree) o t j w valid (type_apart 0 (ResultRead n ps tree))) (after_result_step tree n ps o t j w (expression.step result_context o t))
   quotient (in_results n ps p) t j w valid = iff_trans _ _ _ (parameters_quotient (ResultsRead n ps tree) p t j w valid) (after_results_step n ps (parameters.nesting p t) j w (parameters.step p t))
   quotient (at_body s) t j w valid = body_step tree s t j w
   quotient (in_body s b) t j w valid = iff_trans _ _ _ (bodies_quotient (BodyRead s tree) b t j w valid) (after_body_step s (bodies.nesting b t) j w (bodies.step b t))

@@ -2,6 +2,7 @@
 use Rattle.std.proofs.Common.{◌≡◌, ℕ, zero, suc, ◌+◌, ◌<◌, ◌≤◌, List, [], ◌∷◌, ◌++◌, length, take, drop, Option, Some, None, inl, inr, refl, sym, ap, subst, ◌∙◌, append_assoc, arith}
 use Rattle.std.proofs.lemmas.List.{append-nil, take_all, take-append-drop, take_at, map-append, length-map}
 use Rattle.std.proofs.lemmas.Bool.{cases_lt}
+use Rattle.syntax.specs.declared.limit.TheConstants.{NESTING_LIMIT}
 use Rattle.syntax.specs.Declarations.{Declaration, File}
 use Rattle.parse_expressions.specs.declared.terminal.Terminal.{Terminal}
 use Rattle.parse_expressions.specs.declared.terminal.Terminal.TheVariants.{Package, Identifier, Semicolon}
@@ -110,7 +111,7 @@ only_program front s ms tree r is h =
     nothing [] e f = f
     nothing (m ∷ v) e f = absurd cc
 
--- ---- the same of a list of terminals and a place in it
+-- ---- the same of a list of terminals and an index into it
 
 pub record ReachedAt (ts : List Terminal) (i : ℕ) (s : State) : Type 0 where
   pub marks : List Mark
@@ -121,11 +122,11 @@ pub record ReachedAt (ts : List Terminal) (i : ℕ) (s : State) : Type 0 where
 pub from_start : (ts : List Terminal) → ReachedAt ts 0 at_package
 from_start ts = record { marks = []; terminals = refl; reached = at_start; shallow = tt }
 
-shallow_more : (ms : List Mark) (m : Mark) → IsShallow ms → nesting_of m ≤ 200 → IsShallow (ms ++ m ∷ [])
+shallow_more : (ms : List Mark) (m : Mark) → IsShallow ms → nesting_of m ≤ NESTING_LIMIT → IsShallow (ms ++ m ∷ [])
 shallow_more [] m shallow le = (le, tt)
 shallow_more (n ∷ ms) m shallow le = (shallow.0, shallow_more ms m shallow.1 le)
 
-last_deep : (ms : List Mark) (m : Mark) → IsShallow ms → 200 < nesting_of m → LastIsDeep (ms ++ m ∷ [])
+last_deep : (ms : List Mark) (m : Mark) → IsShallow ms → NESTING_LIMIT < nesting_of m → LastIsDeep (ms ++ m ∷ [])
 last_deep [] m shallow lt = lt
 last_deep (n ∷ []) m shallow lt = (shallow.0, lt)
 last_deep (n ∷ o ∷ ms) m shallow lt = (shallow.0, last_deep (o ∷ ms) m shallow.1 lt)
@@ -141,7 +142,7 @@ module _ (ts : List Terminal) (i : ℕ) (t : Terminal) (s : State) (lt : i < len
   terminals_to : terminals_in r.marks ++ t ∷ [] ≡ take (i + 1) ts
   terminals_to = ap (λ (l : List Terminal). l ++ t ∷ []) r.terminals ∙ sym is_t
 
-  pub more_read : (n : State) → step s t ≡ Some n → nesting s t ≤ 200 → ReachedAt ts (i + 1) n
+  pub more_read : (n : State) → step s t ≡ Some n → nesting s t ≤ NESTING_LIMIT → ReachedAt ts (i + 1) n
   more_read n is le = record {
     marks = r.marks ++ inside t (nesting s t) ∷ [];
     terminals = map-append terminal_in r.marks (inside t (nesting s t) ∷ []) ∙ terminals_to;
@@ -158,7 +159,7 @@ module _ (ts : List Terminal) (i : ℕ) (t : Terminal) (s : State) (lt : i < len
     ends = λ le. absurd (omega arith);
   }
 
-  pub too_deep : (n : State) → step s t ≡ Some n → 200 < nesting s t → IsTooDeep ts i
+  pub too_deep : (n : State) → step s t ≡ Some n → NESTING_LIMIT < nesting s t → IsTooDeep ts i
   too_deep n is deep =
       let m = r.marks ++ inside t (nesting s t) ∷ [] in
       let reached = goes_on r.marks s t r.reached n is in

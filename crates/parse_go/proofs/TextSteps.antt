@@ -24,26 +24,26 @@ use Rattle.parse_go.specs.TypeSpecs as type_specs
 use Rattle.parse_go.specs.TypeStates as type_states
 use Rattle.parse_go.specs.Parameters as parameters
 use Rattle.parse_go.specs.ParameterStates as parameter_states
-use Rattle.parse_go.specs.Machine.{Named, Signature, at_declaration, at_results, in_result, after_values, after_types, after_params, after_result, after_results, after_body, nesting_values, nesting_types, nesting_result, result_base, step, nesting}
+use Rattle.parse_go.specs.Machine.{Named, Signature, at_declaration, at_results, in_result, after_values, after_types, after_params, after_result, after_results, after_body, nesting_values, nesting_types, nesting_result, result_context, step, nesting}
 use Rattle.parse_go.specs.States.{state_of, FailsStep, Steps}
 
-pub values_fail : (f : File) (k : Declares) (place : Pos) (s : Specs) (t : Terminal) (e : StepFault) (p : value_specs.Progress) → spec_states.FailsStep e p (value_specs.nesting 0 s t) → FailsStep e (after_values f k place t p) (nesting_values s t p)
-values_fail f k place s t fault.NoMemory p h = tt
-values_fail f k place s t fault.Unexpected value_specs.fails h = refl
-values_fail f k place s t fault.Unexpected (value_specs.goes n) h = absurd cc
-values_fail f k place s t fault.Unexpected (value_specs.ends specs) h = absurd cc
-values_fail f k place s t fault.TooDeep value_specs.fails h = absurd h.1
-values_fail f k place s t fault.TooDeep (value_specs.goes n) h = (h.0, refl)
-values_fail f k place s t fault.TooDeep (value_specs.ends specs) h = absurd h.1
+pub values_fail : (f : File) (k : Declares) (pos : Pos) (s : Specs) (t : Terminal) (e : StepFault) (p : value_specs.Progress) → spec_states.FailsStep e p (value_specs.nesting 0 s t) → FailsStep e (after_values f k pos t p) (nesting_values s t p)
+values_fail f k pos s t fault.NoMemory p h = tt
+values_fail f k pos s t fault.Unexpected value_specs.fails h = refl
+values_fail f k pos s t fault.Unexpected (value_specs.goes n) h = absurd cc
+values_fail f k pos s t fault.Unexpected (value_specs.ends specs) h = absurd cc
+values_fail f k pos s t fault.TooDeep value_specs.fails h = absurd h.1
+values_fail f k pos s t fault.TooDeep (value_specs.goes n) h = (h.0, refl)
+values_fail f k pos s t fault.TooDeep (value_specs.ends specs) h = absurd h.1
 
-pub types_fail : (f : File) (place : Pos) (s : Types) (t : Terminal) (e : StepFault) (p : type_specs.Progress) → type_states.FailsStep e p (type_specs.nesting s t) → FailsStep e (after_types f place t p) (nesting_types s t p)
-types_fail f place s t fault.NoMemory p h = tt
-types_fail f place s t fault.Unexpected type_specs.fails h = refl
-types_fail f place s t fault.Unexpected (type_specs.goes n) h = absurd cc
-types_fail f place s t fault.Unexpected (type_specs.ends specs) h = absurd cc
-types_fail f place s t fault.TooDeep type_specs.fails h = absurd h.1
-types_fail f place s t fault.TooDeep (type_specs.goes n) h = (h.0, refl)
-types_fail f place s t fault.TooDeep (type_specs.ends specs) h = absurd h.1
+pub types_fail : (f : File) (pos : Pos) (s : Types) (t : Terminal) (e : StepFault) (p : type_specs.Progress) → type_states.FailsStep e p (type_specs.nesting s t) → FailsStep e (after_types f pos t p) (nesting_types s t p)
+types_fail f pos s t fault.NoMemory p h = tt
+types_fail f pos s t fault.Unexpected type_specs.fails h = refl
+types_fail f pos s t fault.Unexpected (type_specs.goes n) h = absurd cc
+types_fail f pos s t fault.Unexpected (type_specs.ends specs) h = absurd cc
+types_fail f pos s t fault.TooDeep type_specs.fails h = absurd h.1
+types_fail f pos s t fault.TooDeep (type_specs.goes n) h = (h.0, refl)
+types_fail f pos s t fault.TooDeep (type_specs.ends specs) h = absurd h.1
 
 pub params_fail : (n : Named) (d : ℕ) (e : StepFault) (p : parameters.Progress) → parameter_states.FailsStep e p d → FailsStep e (after_params n p) d
 params_fail n d fault.NoMemory p h = tt
@@ -63,7 +63,7 @@ results_fail n ps d fault.TooDeep parameters.fails h = absurd h.1
 results_fail n ps d fault.TooDeep (parameters.goes s) h = (h.0, refl)
 results_fail n ps d fault.TooDeep (parameters.ends rs) h = (h.0, refl)
 
-pub result_fails : (n : Named) (ps : Parameters) (o : Open) (t : Terminal) (e : StepFault) (p : expression.Progress) → expressions.FailsStep e p (expression.nesting result_base o t) → FailsStep e (after_result n ps t p) (nesting_result o t p)
+pub result_fails : (n : Named) (ps : Parameters) (o : Open) (t : Terminal) (e : StepFault) (p : expression.Progress) → expressions.FailsStep e p (expression.nesting result_context o t) → FailsStep e (after_result n ps t p) (nesting_result o t p)
 result_fails n ps o t fault.NoMemory p h = tt
 result_fails n ps o t fault.Unexpected expression.fails h = refl
 result_fails n ps o t fault.Unexpected (expression.goes s) h = absurd cc
@@ -91,7 +91,7 @@ pub result_begins : (n : Named) (ps : Parameters) (t : Terminal) (answer : Resul
 result_begins n ps (LeftParen q) answer no_list no_body no_end h = absurd (no_list q refl)
 result_begins n ps (LeftBrace q) answer no_list no_body no_end h = absurd (no_body q refl)
 result_begins n ps Semicolon answer no_list no_body no_end h = absurd (no_end refl)
-result_begins n ps t answer no_list no_body no_end h = begun n ps t answer (expression.step result_base (at_type_operand []) t) h
+result_begins n ps t answer no_list no_body no_end h = begun n ps t answer (expression.step result_context (at_type_operand []) t) h
 
 -- the text may end in one state alone
 pub ends_not : (s : CodeState) → ((f : CodeFile) → s ≡ state.Declaration f → ⊥) → (f : File) → state_of s ≡ at_declaration f → ⊥

@@ -1,4 +1,4 @@
--- What may follow where a declaration of types begins, behind its word, and where it may end.
+-- What may follow where a declaration of types begins, after its word, and where it may end.
 use Rattle.std.proofs.Common.{ℕ, List, [], ◌∷◌, inl, inr}
 use Rattle.syntax.specs.Declarations.{Field, TypeSpec}
 use Rattle.parse_expressions.specs.Grammar.{Mark}
@@ -7,7 +7,7 @@ use Rattle.parse_expressions.proofs.TextEnds.{unfinished as expression_unfinishe
 use Rattle.parse_simple_statements.specs.Grammar.{AreGrouped, last_of_group, next_of_group, IsGroup, alone}
 use Rattle.parse_simple_statements.proofs.NameLists.{names_some}
 use Rattle.parse_go.specs.Grammar.{AreFields, last_field, next_field, ReadsTypeSpec}
-use Rattle.parse_go.specs.TypeSpecs.{Spot, alone_here, in_group, Types, at_first, at_spec, at_struct, at_brace, at_field, at_next_name, at_names, in_type, at_end, at_group_end, spot_depth, type_base}
+use Rattle.parse_go.specs.TypeSpecs.{Spot, alone_here, in_group, Types, at_first, at_spec, at_struct, at_brace, at_field, at_next_name, at_names, in_type, at_end, at_group_end, spot_depth, type_context}
 use Rattle.parse_go.proofs.Fields.{in_names_some, next_name_some}
 use Rattle.parse_go.proofs.TypeSpecsFollowing.{BehindSpec, FieldEnds, Rest}
 
@@ -39,7 +39,7 @@ module _ (K : List TypeSpec → List Mark → Type 0) where
   unfinished (at_next_name s xs) h = absurd (next_name_some _ (FieldEnds K s) xs h)
   unfinished (at_names s xs) h = absurd (in_names_some _ (FieldEnds K s) xs h)
   unfinished (in_type s xs o) h =
-      let i = expression_unfinished (type_base s) (FieldEnds K s xs) o h in
+      let i = expression_unfinished (type_context s) (FieldEnds K s xs) o h in
       absurd (elim i.1 [ inl a ↦ cc (a.mark) | inr a ↦ cc (a.mark) ])
   unfinished (at_end s x) h = behind_some s x h
   unfinished (at_group_end specs) h = (specs, h)

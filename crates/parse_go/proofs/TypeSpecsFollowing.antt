@@ -11,7 +11,7 @@ use Rattle.parse_expressions.proofs.Following as expression
 use Rattle.parse_simple_statements.specs.Grammar.{AreGrouped, IsGroup}
 use Rattle.parse_simple_statements.proofs.Marks.{Next, NextAt}
 use Rattle.parse_go.specs.Grammar.{AreFields, ReadsTypeSpec}
-use Rattle.parse_go.specs.TypeSpecs.{Spot, alone_here, in_group, Fields, Types, at_first, at_spec, at_struct, at_brace, at_field, at_next_name, at_names, in_type, at_end, at_group_end, Progress, fails, goes, ends, spot_depth, type_base, with_field, spec_of}
+use Rattle.parse_go.specs.TypeSpecs.{Spot, alone_here, in_group, Fields, Types, at_first, at_spec, at_struct, at_brace, at_field, at_next_name, at_names, in_type, at_end, at_group_end, Progress, fails, goes, ends, spot_depth, type_context, with_field, spec_of}
 use Rattle.parse_go.proofs.Fields.{InNames, NextName}
 
 -- the other types of a group, and its end
@@ -21,7 +21,7 @@ pub record FromSpecs (K : List TypeSpec → List Mark → Type 0) (specs : List 
   pub reads : AreGrouped ReadsTypeSpec 0 others w rest
   pub follows : K (specs ++ others) rest
 
--- behind a whole type
+-- after a whole type
 abbrev pub BehindSpec : (List TypeSpec → List Mark → Type 0) → Spot → TypeSpec → List Mark → Type 0
 BehindSpec K alone_here s w = K (s ∷ []) w
 BehindSpec K (in_group specs) s w = Next RightParen 0 (K (specs ++ s ∷ [])) w ⊎ Next Semicolon 1 (FromSpecs K (specs ++ s ∷ [])) w
@@ -40,22 +40,22 @@ pub record FromFields (K : List TypeSpec → List Mark → Type 0) (s : Fields) 
 abbrev pub BraceEnds : (List TypeSpec → List Mark → Type 0) → Fields → List Mark → Type 0
 BraceEnds K s w = NextAt RightBrace (spot_depth s.spot) (λ q. BehindSpec K s.spot (spec_of s)) w
 
--- behind a whole field
+-- after a whole field
 abbrev pub BehindField : (List TypeSpec → List Mark → Type 0) → Fields → List Mark → Type 0
 BehindField K s w = BraceEnds K s w ⊎ Next Semicolon (suc (spot_depth s.spot)) (FromFields K s) w
 
--- behind the type of the last field
+-- after the type of the last field
 abbrev pub FieldEnds : (List TypeSpec → List Mark → Type 0) → Fields → List Name → Ex → List Mark → Type 0
 FieldEnds K s xs e m = BehindField K (with_field s xs e) m
 
--- behind the word `struct`, and behind the name
+-- after the word `struct`, and after the name
 abbrev pub FromBrace : (List TypeSpec → List Mark → Type 0) → Spot → Name → List Mark → Type 0
 FromBrace K s x w = NextAt LeftBrace (spot_depth s) (λ q. FromFields K (record { spot = s; name = x; fields = [] })) w
 
 abbrev pub FromStruct : (List TypeSpec → List Mark → Type 0) → Spot → Name → List Mark → Type 0
 FromStruct K s x w = Next Struct (spot_depth s) (FromBrace K s x) w
 
--- behind the word
+-- after the word
 pub record FromTypes (K : List TypeSpec → List Mark → Type 0) (w : List Mark) : Type 0 where
   pub specs : List TypeSpec
   pub rest : List Mark
@@ -71,7 +71,7 @@ Rest K (at_brace s x) w = FromBrace K s x w
 Rest K (at_field s) w = FromFields K s w
 Rest K (at_next_name s xs) w = NextName (suc (spot_depth s.spot)) (FieldEnds K s) xs w
 Rest K (at_names s xs) w = InNames (suc (spot_depth s.spot)) (FieldEnds K s) xs w
-Rest K (in_type s xs o) w = expression.Rest (type_base s) (FieldEnds K s xs) o w
+Rest K (in_type s xs o) w = expression.Rest (type_context s) (FieldEnds K s xs) o w
 Rest K (at_end s x) w = BehindSpec K s x w
 Rest K (at_group_end specs) w = K specs w
 
@@ -83,7 +83,7 @@ After K (ends specs) n t j w = K specs (inside t j ∷ w)
 
 -- what each state keeps
 abbrev pub Valid : Types → Type 0
-Valid (in_type s xs o) = ValidOpen (type_base s) o
+Valid (in_type s xs o) = ValidOpen (type_context s) o
 Valid _ = Unit {0}
 
 abbrev pub ValidNext : Progress → Type 0

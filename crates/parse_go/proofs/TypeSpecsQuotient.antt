@@ -15,7 +15,7 @@ use Rattle.parse_simple_statements.specs.Grammar.{AreGrouped, group_ends, last_o
 use Rattle.parse_simple_statements.proofs.Marks.{Next, NextAt, next_read, next_other, next_at_read, next_at_other, iff_same, iff_trans, iff_never, only_left, only_right, neither}
 use Rattle.parse_simple_statements.proofs.Starts.{NeverEnds, type_starts}
 use Rattle.parse_go.specs.Grammar.{ReadsField, AreFields, fields_end, last_field, next_field, ReadsTypeSpec}
-use Rattle.parse_go.specs.TypeSpecs.{Spot, alone_here, in_group, Fields, Types, at_first, at_spec, at_struct, at_brace, at_field, at_next_name, at_names, in_type, at_end, at_group_end, spot_depth, type_base, with_field, spec_of, behind_type, after_type, step, nesting_in_braces, nesting_after, nesting}
+use Rattle.parse_go.specs.TypeSpecs.{Spot, alone_here, in_group, Fields, Types, at_first, at_spec, at_struct, at_brace, at_field, at_next_name, at_names, in_type, at_end, at_group_end, spot_depth, type_context, with_field, spec_of, behind_type, after_type, step, nesting_in_braces, nesting_after, nesting}
 use Rattle.parse_go.proofs.Types.{type_step, type_apart}
 use Rattle.parse_go.proofs.Fields.{OneField, NextName, field_comma, field_type, field_name, no_name, field_begins}
 use Rattle.parse_go.proofs.TypeSpecsFollowing.{FromSpecs, BehindSpec, with_fields, FromFields, BraceEnds, BehindField, FieldEnds, FromBrace, FromStruct, FromTypes, Rest, After, Valid}
@@ -36,14 +36,14 @@ module _ (K : List TypeSpec → List Mark → Type 0) where
         let r = h.reads in
         let same_x : h.whole.name ≡ x = cc (r.2) in
         let rest_is : w ≡ inside Struct (spot_depth s) ∷ inside (LeftBrace r.0) (spot_depth s) ∷ r.1 = cc (r.2) in
-        let brace : FromBrace K s h.whole.name (inside (LeftBrace r.0) (spot_depth s) ∷ r.1) = record { place = r.0; rest = r.1; mark = refl; follows = record { others = h.whole.fields; rest = h.rest; reads = r.3; follows = h.follows } } in
+        let brace : FromBrace K s h.whole.name (inside (LeftBrace r.0) (spot_depth s) ∷ r.1) = record { pos = r.0; rest = r.1; mark = refl; follows = record { others = h.whole.fields; rest = h.rest; reads = r.3; follows = h.follows } } in
         (cc (r.2), record { rest = inside (LeftBrace r.0) (spot_depth s) ∷ r.1; mark = rest_is; follows = subst (λ (y : Name). FromBrace K s y (inside (LeftBrace r.0) (spot_depth s) ∷ r.1)) same_x brace }),
     λ h.
         let a = h.1 in
         let b = a.follows in
         let f = b.follows in
-        let marks : inside (Identifier x) j ∷ w ≡ inside (Identifier x) (spot_depth s) ∷ inside Struct (spot_depth s) ∷ inside (LeftBrace b.place) (spot_depth s) ∷ b.rest = cc (h.0, a.mark, b.mark) in
-        record { whole = record { name = x; fields = f.others }; rest = f.rest; reads = (b.place, b.rest, marks, f.reads); follows = f.follows },
+        let marks : inside (Identifier x) j ∷ w ≡ inside (Identifier x) (spot_depth s) ∷ inside Struct (spot_depth s) ∷ inside (LeftBrace b.pos) (spot_depth s) ∷ b.rest = cc (h.0, a.mark, b.mark) in
+        record { whole = record { name = x; fields = f.others }; rest = f.rest; reads = (b.pos, b.rest, marks, f.reads); follows = f.follows },
   )
 
   spec_first : (s : Spot) (t : Terminal) (j : ℕ) (w : List Mark) → ((x : Name) → t ≡ Identifier x → ⊥) → OneSpec K s (inside t j ∷ w) → ⊥
@@ -73,7 +73,7 @@ module _ (K : List TypeSpec → List Mark → Type 0) where
           let grouped : specs ++ a ∷ others ≡ (specs ++ a ∷ []) ++ others = sym (append_assoc specs (a ∷ []) others) in
           inr (record { whole = a; rest = inside Semicolon 1 ∷ n; reads = r; follows = inr (record { rest = n; mark = refl; follows = record { others = others; rest = m; reads = g; follows = subst (λ (l : List TypeSpec). K l m) grouped k } }) })
 
-  -- behind the word: one type, or a group
+  -- after the word: one type, or a group
   pub first_item : (w : List Mark) → Iff (FromTypes K w) (NextAt LeftParen 0 (λ q. FromSpecs K []) w ⊎ OneSpec K alone_here w)
   first_item w = (
     λ h. to w h.specs h.rest h.reads h.follows,
@@ -85,7 +85,7 @@ module _ (K : List TypeSpec → List Mark → Type 0) where
     where
       to : (ts : List Mark) (specs : List TypeSpec) (m : List Mark) → IsGroup ReadsTypeSpec 0 specs ts m → K specs m → NextAt LeftParen 0 (λ q. FromSpecs K []) ts ⊎ OneSpec K alone_here ts
       to ts _ m (alone {a = a} r) k = inr (record { whole = a; rest = m; reads = r; follows = k })
-      to _ specs m (grouped {place = q} {m = n} g) k = inl (record { place = q; rest = n; mark = refl; follows = record { others = specs; rest = m; reads = g; follows = k } })
+      to _ specs m (grouped {pos = q} {m = n} g) k = inl (record { pos = q; rest = n; mark = refl; follows = record { others = specs; rest = m; reads = g; follows = k } })
 
   -- ---- fields
 
@@ -96,7 +96,7 @@ module _ (K : List TypeSpec → List Mark → Type 0) where
     λ h. elim h [
       | inl a ↦ subst (FromFields K s) (sym a.mark) (record { others = []; rest = a.rest; reads = fields_end; follows = subst (λ (l : List Field). BehindSpec K s.spot (record { name = s.name; fields = l }) a.rest) (sym (append-nil s.fields)) a.follows })
       | inr o ↦ elim o.follows [
-        | inl a ↦ record { others = o.whole ∷ []; rest = a.rest; reads = last_field a.place (subst (λ (ts : List Mark). ReadsField (suc (spot_depth s.spot)) o.whole w ts) a.mark o.reads); follows = a.follows }
+        | inl a ↦ record { others = o.whole ∷ []; rest = a.rest; reads = last_field a.pos (subst (λ (ts : List Mark). ReadsField (suc (spot_depth s.spot)) o.whole w ts) a.mark o.reads); follows = a.follows }
         | inr a ↦
             let f = a.follows in
             record { others = o.whole ∷ f.others; rest = f.rest; reads = next_field (subst (λ (ts : List Mark). ReadsField (suc (spot_depth s.spot)) o.whole w ts) a.mark o.reads) f.reads; follows = subst (λ (l : List Field). BehindSpec K s.spot (record { name = s.name; fields = l }) f.rest) (append_assoc s.fields (o.whole ∷ []) f.others) f.follows }
@@ -105,8 +105,8 @@ module _ (K : List TypeSpec → List Mark → Type 0) where
   )
     where
       to : (ts : List Mark) (others : List Field) (m : List Mark) → AreFields (spot_depth s.spot) others ts m → BehindSpec K s.spot (with_fields s others) m → BraceEnds K s ts ⊎ OneField (suc (spot_depth s.spot)) (λ f. BehindField K (with_field s f.names f.type_expr)) ts
-      to _ _ m (fields_end {q = q}) k = inl (record { place = q; rest = m; mark = refl; follows = subst (λ (l : List Field). BehindSpec K s.spot (record { name = s.name; fields = l }) m) (append-nil s.fields) k })
-      to ts _ m (last_field {f = f} q r) k = inr (record { whole = f; rest = inside (RightBrace q) (spot_depth s.spot) ∷ m; reads = r; follows = inl (record { place = q; rest = m; mark = refl; follows = k }) })
+      to _ _ m (fields_end {q = q}) k = inl (record { pos = q; rest = m; mark = refl; follows = subst (λ (l : List Field). BehindSpec K s.spot (record { name = s.name; fields = l }) m) (append-nil s.fields) k })
+      to ts _ m (last_field {f = f} q r) k = inr (record { whole = f; rest = inside (RightBrace q) (spot_depth s.spot) ∷ m; reads = r; follows = inl (record { pos = q; rest = m; mark = refl; follows = k }) })
       to ts _ m (next_field {f = f} {fs = fs} {m = n} r g) k =
           let grouped : s.fields ++ f ∷ fs ≡ (s.fields ++ f ∷ []) ++ fs = sym (append_assoc s.fields (f ∷ []) fs) in
           inr (record { whole = f; rest = inside Semicolon (suc (spot_depth s.spot)) ∷ n; reads = r; follows = inr (record { rest = n; mark = refl; follows = record { others = fs; rest = m; reads = g; follows = subst (λ (l : List Field). BehindSpec K s.spot (record { name = s.name; fields = l }) m) grouped k } }) })
@@ -152,7 +152,7 @@ module _ (K : List TypeSpec → List Mark → Type 0) where
   behind_field_step s t j w = iff_never _ (neither _ _ (no_brace s t j w (λ q e. cc (e))) (next_other Semicolon (suc (spot_depth s.spot)) (FromFields K s) t j w (λ e. cc (e))))
 
   -- in the type of a field: what the machine of types does
-  after_type_step : (s : Fields) (xs : List Name) (o : Open) (t : Terminal) (j : ℕ) (w : List Mark) (p : expression.Progress) → Iff (ExpressionAfter (type_base s) (FieldEnds K s xs) p (expression.nesting (type_base s) o t) t j w) (After K (after_type s xs t p) (nesting_after s o t p) t j w)
+  after_type_step : (s : Fields) (xs : List Name) (o : Open) (t : Terminal) (j : ℕ) (w : List Mark) (p : expression.Progress) → Iff (ExpressionAfter (type_context s) (FieldEnds K s xs) p (expression.nesting (type_context s) o t) t j w) (After K (after_type s xs t p) (nesting_after s o t p) t j w)
   after_type_step s xs o t j w expression.fails = iff_same _
   after_type_step s xs o t j w (expression.goes n) = iff_same _
   after_type_step s xs o t j w (expression.ends e) = (
@@ -161,7 +161,7 @@ module _ (K : List TypeSpec → List Mark → Type 0) where
   )
 
   -- the same at its first terminal
-  type_begins_step : (s : Fields) (xs : List Name) (t : Terminal) (j : ℕ) (w : List Mark) (p : expression.Progress) → NeverEnds p → Iff (ExpressionAfter (type_base s) (FieldEnds K s xs) p (suc (spot_depth s.spot)) t j w) (After K (after_type s xs t p) (suc (spot_depth s.spot)) t j w)
+  type_begins_step : (s : Fields) (xs : List Name) (t : Terminal) (j : ℕ) (w : List Mark) (p : expression.Progress) → NeverEnds p → Iff (ExpressionAfter (type_context s) (FieldEnds K s xs) p (suc (spot_depth s.spot)) t j w) (After K (after_type s xs t p) (suc (spot_depth s.spot)) t j w)
   type_begins_step s xs t j w expression.fails begins = iff_same _
   type_begins_step s xs t j w (expression.goes n) begins = iff_same _
   type_begins_step s xs t j w (expression.ends e) begins = absurd begins
@@ -172,8 +172,8 @@ module _ (K : List TypeSpec → List Mark → Type 0) where
       let d = suc (spot_depth s.spot) in
       iff_trans _ _ _ (field_type d (FieldEnds K s) xs t j w (λ e. cc (e))) (type_begins_step s xs t j w (type_step d t) (type_starts t))
 
-  in_type_step : (s : Fields) (xs : List Name) (o : Open) (t : Terminal) (j : ℕ) (w : List Mark) → ValidOpen (type_base s) o → Iff (Rest K (in_type s xs o) (inside t j ∷ w)) (After K (step (in_type s xs o) t) (nesting (in_type s xs o) t) t j w)
-  in_type_step s xs o t j w valid = iff_trans _ _ _ (expression_quotient (type_base s) (FieldEnds K s xs) o t j w valid (type_apart (suc (spot_depth s.spot)) (FieldEnds K s xs))) (after_type_step s xs o t j w (expression.step (type_base s) o t))
+  in_type_step : (s : Fields) (xs : List Name) (o : Open) (t : Terminal) (j : ℕ) (w : List Mark) → ValidOpen (type_context s) o → Iff (Rest K (in_type s xs o) (inside t j ∷ w)) (After K (step (in_type s xs o) t) (nesting (in_type s xs o) t) t j w)
+  in_type_step s xs o t j w valid = iff_trans _ _ _ (expression_quotient (type_context s) (FieldEnds K s xs) o t j w valid (type_apart (suc (spot_depth s.spot)) (FieldEnds K s xs))) (after_type_step s xs o t j w (expression.step (type_context s) o t))
 
   end_step : (s : Spot) (x : TypeSpec) (t : Terminal) (j : ℕ) (w : List Mark) → Iff (BehindSpec K s x (inside t j ∷ w)) (After K (step (at_end s x) t) (nesting (at_end s x) t) t j w)
   end_step alone_here x t j w = iff_same _

@@ -14,7 +14,7 @@ use Rattle.parse_expressions.proofs.Following as following
 use Rattle.parse_expressions.proofs.Viable.{valid_next as expression_valid, viable as expression_viable}
 use Rattle.parse_simple_statements.specs.Grammar.{group_ends, grouped}
 use Rattle.parse_go.specs.Grammar.{fields_end}
-use Rattle.parse_go.specs.TypeSpecs.{Spot, alone_here, in_group, Fields, Types, at_first, at_spec, at_struct, at_brace, at_field, at_next_name, at_names, in_type, at_end, at_group_end, spot_depth, type_base, with_field, spec_of, behind_type, after_type, spec_ends, step}
+use Rattle.parse_go.specs.TypeSpecs.{Spot, alone_here, in_group, Fields, Types, at_first, at_spec, at_struct, at_brace, at_field, at_next_name, at_names, in_type, at_end, at_group_end, spot_depth, type_context, with_field, spec_of, behind_type, after_type, spec_ends, step}
 use Rattle.parse_go.proofs.Types.{type_valid}
 use Rattle.parse_go.proofs.Fields.{InNames, field_name}
 use Rattle.parse_go.proofs.TypeSpecsFollowing.{BehindSpec, with_fields, FromFields, BraceEnds, FieldEnds, FromBrace, FromStruct, Rest, Valid, ValidNext}
@@ -26,7 +26,7 @@ behind_type_valid s Semicolon = tt
 behind_type_valid s (RightBrace q) = tt
 behind_type_valid s t = tt
 
-after_type_valid : (s : Fields) (xs : List Name) (t : Terminal) (p : expression.Progress) → following.ValidNext (type_base s) p → ValidNext (after_type s xs t p)
+after_type_valid : (s : Fields) (xs : List Name) (t : Terminal) (p : expression.Progress) → following.ValidNext (type_context s) p → ValidNext (after_type s xs t p)
 after_type_valid s xs t expression.fails valid = tt
 after_type_valid s xs t (expression.goes o) valid = valid
 after_type_valid s xs t (expression.ends e) valid = behind_type_valid (with_field s xs e) t
@@ -66,7 +66,7 @@ next_name_valid s xs t = tt
 
 names_valid : (s : Fields) (xs : List Name) (t : Terminal) → ValidNext (step (at_names s xs) t)
 names_valid s xs Comma = tt
-names_valid s xs t = after_type_valid s xs t (expression.step (type_base s) (at_type_operand []) t) (expression_valid (type_base s) (at_type_operand []) t (type_valid (suc (spot_depth s.spot))))
+names_valid s xs t = after_type_valid s xs t (expression.step (type_context s) (at_type_operand []) t) (expression_valid (type_context s) (at_type_operand []) t (type_valid (suc (spot_depth s.spot))))
 
 pub valid_next : (s : Types) (t : Terminal) → Valid s → ValidNext (step s t)
 valid_next at_first t valid = first_valid t
@@ -76,7 +76,7 @@ valid_next (at_brace s x) t valid = brace_valid s x t
 valid_next (at_field s) t valid = field_valid s t
 valid_next (at_next_name s xs) t valid = next_name_valid s xs t
 valid_next (at_names s xs) t valid = names_valid s xs t
-valid_next (in_type s xs o) t valid = after_type_valid s xs t (expression.step (type_base s) o t) (expression_valid (type_base s) o t valid)
+valid_next (in_type s xs o) t valid = after_type_valid s xs t (expression.step (type_context s) o t) (expression_valid (type_context s) o t valid)
 valid_next (at_end s x) t valid = spec_ends_valid s x t
 valid_next (at_group_end specs) t valid = tt
 
@@ -94,7 +94,7 @@ module _ (K : List TypeSpec → List Mark → Type 0) (types_some : (specs : Lis
   spec_then (in_group specs) x = let n = types_some (specs ++ x ∷ []) in (inside RightParen 0 ∷ n.0, inl (record { rest = n.0; mark = refl; follows = n.1 }))
 
   brace_then : (s : Fields) → (n : List Mark) × BraceEnds K s n
-  brace_then s = let n = spec_then s.spot (spec_of s) in (inside (RightBrace origin) (spot_depth s.spot) ∷ n.0, record { place = origin; rest = n.0; mark = refl; follows = n.1 })
+  brace_then s = let n = spec_then s.spot (spec_of s) in (inside (RightBrace origin) (spot_depth s.spot) ∷ n.0, record { pos = origin; rest = n.0; mark = refl; follows = n.1 })
 
   fields_then : (s : Fields) → (n : List Mark) × FromFields K s n
   fields_then s =
@@ -102,7 +102,7 @@ module _ (K : List TypeSpec → List Mark → Type 0) (types_some : (specs : Lis
       (inside (RightBrace origin) (spot_depth s.spot) ∷ n.0, record { others = []; rest = n.0; reads = fields_end; follows = n.1 })
 
   struct_brace_then : (s : Spot) (x : Name) → (n : List Mark) × FromBrace K s x n
-  struct_brace_then s x = let n = fields_then (record { spot = s; name = x; fields = [] }) in (inside (LeftBrace origin) (spot_depth s) ∷ n.0, record { place = origin; rest = n.0; mark = refl; follows = n.1 })
+  struct_brace_then s x = let n = fields_then (record { spot = s; name = x; fields = [] }) in (inside (LeftBrace origin) (spot_depth s) ∷ n.0, record { pos = origin; rest = n.0; mark = refl; follows = n.1 })
 
   struct_then : (s : Spot) (x : Name) → (n : List Mark) × FromStruct K s x n
   struct_then s x = let n = struct_brace_then s x in (inside Struct (spot_depth s) ∷ n.0, record { rest = n.0; mark = refl; follows = n.1 })
@@ -124,6 +124,6 @@ module _ (K : List TypeSpec → List Mark → Type 0) (types_some : (specs : Lis
       let n = names_then s (xs ++ some_word ∷ []) in
       (inside (Identifier some_word) (suc (spot_depth s.spot)) ∷ n.0, (field_name (suc (spot_depth s.spot)) (FieldEnds K s) xs some_word (suc (spot_depth s.spot)) n.0).1 (refl, n.1))
   viable (at_names s xs) valid = names_then s xs
-  viable (in_type s xs o) valid = expression_viable (type_base s) (FieldEnds K s xs) o valid (λ e is. let n = brace_then (with_field s xs e) in (n.0, inl n.1))
+  viable (in_type s xs o) valid = expression_viable (type_context s) (FieldEnds K s xs) o valid (λ e is. let n = brace_then (with_field s xs e) in (n.0, inl n.1))
   viable (at_end s x) valid = spec_then s x
   viable (at_group_end specs) valid = types_some specs

@@ -12,7 +12,7 @@ use Rattle.parse_expressions.specs.States as expressions
 use Rattle.parse_simple_statements.proofs.Starts.{NeverEnds, type_starts}
 use Rattle.parse_go.specs.declared.type_specs.TypesProgress.{TypesProgress}
 use Rattle.parse_go.specs.declared.type_specs.TypesProgress.TheVariants as progress
-use Rattle.parse_go.specs.TypeSpecs.{Spot, alone_here, in_group, Fields, spot_depth, type_base, fails, at_names, in_type, after_type, nesting_after, step, nesting}
+use Rattle.parse_go.specs.TypeSpecs.{Spot, alone_here, in_group, Fields, spot_depth, type_context, fails, at_names, in_type, after_type, nesting_after, step, nesting}
 use Rattle.parse_go.specs.TypeStates.{FailsStep, Steps}
 
 pub shallow : (s : Spot) → spot_depth s ≤ 1
@@ -20,7 +20,7 @@ shallow alone_here = omega arith
 shallow (in_group specs) = omega arith
 
 -- where the step inside the type fails, so does that of the declaration
-pub type_fails : (s : Fields) (xs : List Name) (o : Open) (t : Terminal) (e : StepFault) (p : expression.Progress) → expressions.FailsStep e p (expression.nesting (type_base s) o t) → FailsStep e (after_type s xs t p) (nesting_after s o t p)
+pub type_fails : (s : Fields) (xs : List Name) (o : Open) (t : Terminal) (e : StepFault) (p : expression.Progress) → expressions.FailsStep e p (expression.nesting (type_context s) o t) → FailsStep e (after_type s xs t p) (nesting_after s o t p)
 type_fails s xs o t fault.NoMemory p h = tt
 type_fails s xs o t fault.Unexpected expression.fails h = refl
 type_fails s xs o t fault.Unexpected (expression.goes n) h = absurd cc
@@ -45,4 +45,4 @@ begun s xs t answer (expression.ends e) never h = absurd never
 -- the first token of a type
 pub type_begins : (s : Fields) (xs : List Name) (t : Terminal) (answer : Result TypesProgress StepFault) → (t ≡ Comma → ⊥) → Steps answer (step (in_type s xs (at_type_operand [])) t) (nesting (in_type s xs (at_type_operand [])) t) → Steps answer (step (at_names s xs) t) (nesting (at_names s xs) t)
 type_begins s xs Comma answer other h = absurd (other refl)
-type_begins s xs t answer other h = begun s xs t answer (expression.step (type_base s) (at_type_operand []) t) (type_starts t) h
+type_begins s xs t answer other h = begun s xs t answer (expression.step (type_context s) (at_type_operand []) t) (type_starts t) h

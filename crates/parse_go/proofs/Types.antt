@@ -8,7 +8,7 @@ use Rattle.parse_expressions.specs.declared.terminal.Terminal.{Terminal}
 use Rattle.parse_expressions.specs.declared.terminal.Terminal.TheVariants.{Identifier, LeftParen}
 use Rattle.parse_expressions.specs.Terminals.{prefix, prefix_in}
 use Rattle.parse_expressions.specs.Grammar.{Mark, inside, ReadsType}
-use Rattle.parse_expressions.specs.Machine.{Base, at_type_operand, Progress, step}
+use Rattle.parse_expressions.specs.Machine.{Context, at_type_operand, Progress, step}
 use Rattle.parse_expressions.proofs.Following.{Iff, Apart, ValidOpen, Rest, After}
 use Rattle.parse_expressions.proofs.Starts.{begins_type, begins_type_valid}
 use Rattle.parse_expressions.proofs.Quotient.{quotient}
@@ -16,7 +16,7 @@ use Rattle.parse_simple_statements.proofs.Marks.{iff_trans}
 use Rattle.parse_go.specs.Grammar.{IsBare}
 
 -- where a type stands
-abbrev pub type_at : ℕ → Base
+abbrev pub type_at : ℕ → Context
 type_at d = record { depth = d; literals = true; types = true }
 
 -- what the machine does at a terminal where a type is wanted
@@ -55,39 +55,39 @@ type_some d Then h = to h.whole h.reads
   where
     to : (e : Ex) → ReadsType true d e [] h.rest → ⊥
     to (name x) r = cc (r)
-    to (unary place Star e) r = cc (r.3)
-    to (paren place e) r = cc (r.1)
-    to (array_type place len e) r = cc (r.2)
-    to (slice_type place e) r = cc (r.1)
+    to (unary pos Star e) r = cc (r.3)
+    to (paren pos e) r = cc (r.1)
+    to (array_type pos len e) r = cc (r.2)
+    to (slice_type pos e) r = cc (r.1)
     to e r = r
 
 -- a type that begins with a name is that name
 pub type_name : (d : ℕ) (e : Ex) (x : Name) (j : ℕ) (w rest : List Mark) → ReadsType true d e (inside (Identifier x) j ∷ w) rest → (j ≡ d) × (e ≡ name x) × (w ≡ rest)
 type_name d (name y) x j w rest r = (cc (r), cc (r), cc (r))
-type_name d (unary place Star e) x j w rest r = let is : r.0 ≡ Identifier x = cc (r.3) in absurd (no_prefix r.0 is r.2)
+type_name d (unary pos Star e) x j w rest r = let is : r.0 ≡ Identifier x = cc (r.3) in absurd (no_prefix r.0 is r.2)
   where
-    no_prefix : (t : Terminal) → t ≡ Identifier x → prefix_in t ≡ Some (prefix place Star) → ⊥
+    no_prefix : (t : Terminal) → t ≡ Identifier x → prefix_in t ≡ Some (prefix pos Star) → ⊥
     no_prefix (Identifier y) is p = cc (p)
     no_prefix t is p = cc (is)
-type_name d (paren place e) x j w rest r = absurd (cc (r.1))
-type_name d (array_type place len e) x j w rest r = absurd (cc (r.2))
-type_name d (slice_type place e) x j w rest r = absurd (cc (r.1))
+type_name d (paren pos e) x j w rest r = absurd (cc (r.1))
+type_name d (array_type pos len e) x j w rest r = absurd (cc (r.2))
+type_name d (slice_type pos e) x j w rest r = absurd (cc (r.1))
 type_name d e x j w rest r = absurd r
 
 -- a type that begins with no parenthesis stands in none
 pub type_bare : (d : ℕ) (e : Ex) (t : Terminal) (j : ℕ) (w rest : List Mark) → ((q : Pos) → t ≡ LeftParen q → ⊥) → ReadsType true d e (inside t j ∷ w) rest → IsBare e
-type_bare d (paren place e) t j w rest other r = other place (cc (r.1))
+type_bare d (paren pos e) t j w rest other r = other pos (cc (r.1))
 type_bare d e t j w rest other r = tt
 
 -- and one that begins with a parenthesis stands in it
 pub type_not_bare : (d : ℕ) (e : Ex) (q : Pos) (j : ℕ) (w rest : List Mark) → ReadsType true d e (inside (LeftParen q) j ∷ w) rest → IsBare e → ⊥
 type_not_bare d (name x) q j w rest r bare = cc (r)
-type_not_bare d (unary place Star e) q j w rest r bare = let is : r.0 ≡ LeftParen q = cc (r.3) in no_prefix r.0 is r.2
+type_not_bare d (unary pos Star e) q j w rest r bare = let is : r.0 ≡ LeftParen q = cc (r.3) in no_prefix r.0 is r.2
   where
-    no_prefix : (t : Terminal) → t ≡ LeftParen q → prefix_in t ≡ Some (prefix place Star) → ⊥
+    no_prefix : (t : Terminal) → t ≡ LeftParen q → prefix_in t ≡ Some (prefix pos Star) → ⊥
     no_prefix (LeftParen p) is s = cc (s)
     no_prefix t is s = cc (is)
-type_not_bare d (paren place e) q j w rest r bare = bare
-type_not_bare d (array_type place len e) q j w rest r bare = cc (r.2)
-type_not_bare d (slice_type place e) q j w rest r bare = cc (r.1)
+type_not_bare d (paren pos e) q j w rest r bare = bare
+type_not_bare d (array_type pos len e) q j w rest r bare = cc (r.2)
+type_not_bare d (slice_type pos e) q j w rest r bare = cc (r.1)
 type_not_bare d e q j w rest r bare = r

@@ -26,7 +26,7 @@ use Rattle.parse_go.specs.TypeSpecs.{Types}
 use Rattle.parse_go.specs.TypeSpecs as type_specs
 use Rattle.parse_go.specs.Parameters.{Params, at_name_or_type}
 use Rattle.parse_go.specs.Parameters as parameters
-use Rattle.parse_go.specs.Machine.{Named, Signature, State, at_package, at_package_name, at_package_end, at_declaration, in_values, in_types, at_function, at_opening, in_params, at_results, in_result, in_results, at_body, in_body, at_end, with_declaration, with_results, with_function, values_declared, ends_declaration, after_values, after_types, after_params, behind_results, result_base, after_result, after_results, after_body, step}
+use Rattle.parse_go.specs.Machine.{Named, Signature, State, at_package, at_package_name, at_package_end, at_declaration, in_values, in_types, at_function, at_opening, in_params, at_results, in_result, in_results, at_body, in_body, at_end, with_declaration, with_results, with_function, values_declared, ends_declaration, after_values, after_types, after_params, behind_results, result_context, after_result, after_results, after_body, step}
 use Rattle.parse_go.proofs.Types.{type_valid}
 use Rattle.parse_go.proofs.TypeSpecsFollowing as types_following
 use Rattle.parse_go.proofs.TypeSpecsViable.{origin, some_word, valid_next as types_valid_next, viable as types_viable}
@@ -43,15 +43,15 @@ ends_valid : (f : File) (t : Terminal) → ValidNext (ends_declaration f t)
 ends_valid f Semicolon = tt
 ends_valid f t = tt
 
-after_values_valid : (f : File) (k : Declares) (place : Pos) (t : Terminal) (p : value_specs.Progress) → values_following.ValidNext 0 p → ValidNext (after_values f k place t p)
-after_values_valid f k place t value_specs.fails valid = tt
-after_values_valid f k place t (value_specs.goes s) valid = valid
-after_values_valid f k place t (value_specs.ends specs) valid = ends_valid (with_declaration f (values_declared k place specs)) t
+after_values_valid : (f : File) (k : Declares) (pos : Pos) (t : Terminal) (p : value_specs.Progress) → values_following.ValidNext 0 p → ValidNext (after_values f k pos t p)
+after_values_valid f k pos t value_specs.fails valid = tt
+after_values_valid f k pos t (value_specs.goes s) valid = valid
+after_values_valid f k pos t (value_specs.ends specs) valid = ends_valid (with_declaration f (values_declared k pos specs)) t
 
-after_types_valid : (f : File) (place : Pos) (t : Terminal) (p : type_specs.Progress) → types_following.ValidNext p → ValidNext (after_types f place t p)
-after_types_valid f place t type_specs.fails valid = tt
-after_types_valid f place t (type_specs.goes s) valid = valid
-after_types_valid f place t (type_specs.ends specs) valid = ends_valid (with_declaration f (types place specs)) t
+after_types_valid : (f : File) (pos : Pos) (t : Terminal) (p : type_specs.Progress) → types_following.ValidNext p → ValidNext (after_types f pos t p)
+after_types_valid f pos t type_specs.fails valid = tt
+after_types_valid f pos t (type_specs.goes s) valid = valid
+after_types_valid f pos t (type_specs.ends specs) valid = ends_valid (with_declaration f (types pos specs)) t
 
 after_params_valid : (n : Named) (p : parameters.Progress) → parameters_following.ValidNext p → ValidNext (after_params n p)
 after_params_valid n parameters.fails valid = tt
@@ -62,7 +62,7 @@ results_valid : (s : Signature) (t : Terminal) → ValidNext (behind_results s t
 results_valid s (LeftBrace q) = tt
 results_valid s t = ends_valid (with_function s None) t
 
-after_result_valid : (n : Named) (ps : Parameters) (t : Terminal) (p : expression.Progress) → expressions.ValidNext result_base p → ValidNext (after_result n ps t p)
+after_result_valid : (n : Named) (ps : Parameters) (t : Terminal) (p : expression.Progress) → expressions.ValidNext result_context p → ValidNext (after_result n ps t p)
 after_result_valid n ps t expression.fails valid = tt
 after_result_valid n ps t (expression.goes o) valid = valid
 after_result_valid n ps t (expression.ends e) valid = results_valid (with_results n ps (unnamed (some e none))) t
@@ -96,9 +96,9 @@ declaration_valid f (type_word q) = tt
 declaration_valid f (Func q) = tt
 declaration_valid f t = tt
 
-function_valid : (f : File) (place : Pos) (t : Terminal) → ValidNext (step (at_function f place) t)
-function_valid f place (Identifier x) = tt
-function_valid f place t = tt
+function_valid : (f : File) (pos : Pos) (t : Terminal) → ValidNext (step (at_function f pos) t)
+function_valid f pos (Identifier x) = tt
+function_valid f pos t = tt
 
 opening_valid : (n : Named) (t : Terminal) → ValidNext (step (at_opening n) t)
 opening_valid n (LeftParen q) = tt
@@ -108,20 +108,20 @@ at_results_valid : (n : Named) (ps : Parameters) (t : Terminal) → ValidNext (s
 at_results_valid n ps (LeftParen q) = tt
 at_results_valid n ps (LeftBrace q) = tt
 at_results_valid n ps Semicolon = tt
-at_results_valid n ps t = after_result_valid n ps t (expression.step result_base (at_type_operand []) t) (expression_valid result_base (at_type_operand []) t (type_valid 0))
+at_results_valid n ps t = after_result_valid n ps t (expression.step result_context (at_type_operand []) t) (expression_valid result_context (at_type_operand []) t (type_valid 0))
 
 pub valid_step : (s : State) (t : Terminal) → ValidState s → ValidNext (step s t)
 valid_step at_package t valid = package_valid t
 valid_step at_package_name t valid = package_name_valid t
 valid_step (at_package_end x) t valid = package_end_valid x t
 valid_step (at_declaration f) t valid = declaration_valid f t
-valid_step (in_values f k place s) t valid = after_values_valid f k place t (value_specs.step k 0 s t) (values_valid_next k 0 s t valid)
-valid_step (in_types f place s) t valid = after_types_valid f place t (type_specs.step s t) (types_valid_next s t valid)
-valid_step (at_function f place) t valid = function_valid f place t
+valid_step (in_values f k pos s) t valid = after_values_valid f k pos t (value_specs.step k 0 s t) (values_valid_next k 0 s t valid)
+valid_step (in_types f pos s) t valid = after_types_valid f pos t (type_specs.step s t) (types_valid_next s t valid)
+valid_step (at_function f pos) t valid = function_valid f pos t
 valid_step (at_opening n) t valid = opening_valid n t
 valid_step (in_params n p) t valid = after_params_valid n (parameters.step p t) (parameters_valid_next p t valid)
 valid_step (at_results n ps) t valid = at_results_valid n ps t
-valid_step (in_result n ps o) t valid = after_result_valid n ps t (expression.step result_base o t) (expression_valid result_base o t valid)
+valid_step (in_result n ps o) t valid = after_result_valid n ps t (expression.step result_context o t) (expression_valid result_context o t valid)
 valid_step (in_results n ps p) t valid = after_results_valid n ps (parameters.step p t) (parameters_valid_next p t valid)
 valid_step (at_body s) t valid = results_valid s t
 valid_step (in_body s b) t valid = after_body_valid s (bodies.step b t) (bodies_valid_next b t valid)
@@ -129,7 +129,7 @@ valid_step (at_end f) t valid = ends_valid f t
 
 -- ---- some text follows
 
--- behind a file no declaration follows
+-- after a file no declaration follows
 whole_again : (f : File) → f ≡ record { package_name = f.package_name; declarations = f.declarations ++ [] }
 whole_again f = ap (λ (ds : List Declaration). record { package_name = f.package_name; declarations = ds }) (sym (append-nil f.declarations))
 
@@ -165,23 +165,23 @@ in_results_some n ps p valid =
     let c = choose_parameters File (λ tree rs. ResultsRead n ps tree rs) v.0 p valid v.1 in
     (v.0, c.0, c.1)
 
-result_some : (n : Named) (ps : Parameters) (o : Open) → expressions.ValidOpen result_base o → (w : List Mark) × (tree : File) × Rest (in_result n ps o) tree w
+result_some : (n : Named) (ps : Parameters) (o : Open) → expressions.ValidOpen result_context o → (w : List Mark) × (tree : File) × Rest (in_result n ps o) tree w
 result_some n ps o valid =
     let signature = λ (e : Ex). with_results n ps (unnamed (some e none)) in
-    let v = expression_viable result_base (ForSome File Ex (λ tree e. ResultRead n ps tree e)) o valid (λ e is. (no_more, (with_function (signature e) None, body_some (signature e)))) in
+    let v = expression_viable result_context (ForSome File Ex (λ tree e. ResultRead n ps tree e)) o valid (λ e is. (no_more, (with_function (signature e) None, body_some (signature e)))) in
     let c = choose_type File 0 (λ tree e. ResultRead n ps tree e) (λ tree e h. body_more (signature e) tree h) v.0 o valid v.1 in
     (v.0, c.0, c.1)
 
-values_some : (f : File) (k : Declares) (place : Pos) (s : Specs) → values_following.Valid 0 s → (w : List Mark) × (tree : File) × Rest (in_values f k place s) tree w
-values_some f k place s valid =
-    let v = values_viable k 0 (ForSome File (List ValueSpec) (λ tree specs. ValuesDeclared f k place tree specs)) s valid (λ specs. (no_more, (with_declaration f (values_declared k place specs), end_some (with_declaration f (values_declared k place specs))))) in
-    let c = choose_values File k 0 (λ tree specs. ValuesDeclared f k place tree specs) (λ tree specs h. cc (h.mark)) (λ tree. values_apart tree f k place) v.0 s valid v.1 in
+values_some : (f : File) (k : Declares) (pos : Pos) (s : Specs) → values_following.Valid 0 s → (w : List Mark) × (tree : File) × Rest (in_values f k pos s) tree w
+values_some f k pos s valid =
+    let v = values_viable k 0 (ForSome File (List ValueSpec) (λ tree specs. ValuesDeclared f k pos tree specs)) s valid (λ specs. (no_more, (with_declaration f (values_declared k pos specs), end_some (with_declaration f (values_declared k pos specs))))) in
+    let c = choose_values File k 0 (λ tree specs. ValuesDeclared f k pos tree specs) (λ tree specs h. cc (h.mark)) (λ tree. values_apart tree f k pos) v.0 s valid v.1 in
     (v.0, c.0, c.1)
 
-types_some : (f : File) (place : Pos) (s : Types) → types_following.Valid s → (w : List Mark) × (tree : File) × Rest (in_types f place s) tree w
-types_some f place s valid =
-    let v = types_viable (ForSome File (List TypeSpec) (λ tree specs. TypesDeclared f place tree specs)) (λ specs. (no_more, (with_declaration f (types place specs), end_some (with_declaration f (types place specs))))) s valid in
-    let c = choose_types File (λ tree specs. TypesDeclared f place tree specs) (λ tree specs h. cc (h.mark)) v.0 s valid v.1 in
+types_some : (f : File) (pos : Pos) (s : Types) → types_following.Valid s → (w : List Mark) × (tree : File) × Rest (in_types f pos s) tree w
+types_some f pos s valid =
+    let v = types_viable (ForSome File (List TypeSpec) (λ tree specs. TypesDeclared f pos tree specs)) (λ specs. (no_more, (with_declaration f (types pos specs), end_some (with_declaration f (types pos specs))))) s valid in
+    let c = choose_types File (λ tree specs. TypesDeclared f pos tree specs) (λ tree specs h. cc (h.mark)) v.0 s valid v.1 in
     (v.0, c.0, c.1)
 
 in_body_some : (s : Signature) (b : bodies.State) → bodies_following.Valid b → (w : List Mark) × (tree : File) × Rest (in_body s b) tree w
@@ -195,7 +195,7 @@ in_body_some s b valid =
 opening_some : (n : Named) → (w : List Mark) × (tree : File) × FromOpening n tree w
 opening_some n =
     let p = params_some n (at_name_or_type []) tt in
-    (inside (LeftParen origin) 0 ∷ p.0, p.1, record { place = origin; rest = p.0; mark = refl; follows = p.2 })
+    (inside (LeftParen origin) 0 ∷ p.0, p.1, record { pos = origin; rest = p.0; mark = refl; follows = p.2 })
 
 abbrev file_of : Name → File
 file_of x = record { package_name = x; declarations = [] }
@@ -211,10 +211,10 @@ viable at_package valid = (inside Package 0 ∷ inside (Identifier some_word) 0 
 viable at_package_name valid = (inside (Identifier some_word) 0 ∷ no_more, file_of some_word, package_name_some)
 viable (at_package_end x) valid = (no_more, file_of x, package_end_some x)
 viable (at_declaration f) valid = ([], f, nothing_more f)
-viable (in_values f k place s) valid = values_some f k place s valid
-viable (in_types f place s) valid = types_some f place s valid
-viable (at_function f place) valid =
-    let o = opening_some (record { file = f; place = place; name = some_word }) in
+viable (in_values f k pos s) valid = values_some f k pos s valid
+viable (in_types f pos s) valid = types_some f pos s valid
+viable (at_function f pos) valid =
+    let o = opening_some (record { file = f; pos = pos; name = some_word }) in
     (inside (Identifier some_word) 0 ∷ o.0, o.1, record { name = some_word; follows = record { rest = o.0; mark = refl; follows = o.2 } })
 viable (at_opening n) valid = opening_some n
 viable (in_params n p) valid = params_some n p valid

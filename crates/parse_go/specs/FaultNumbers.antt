@@ -1,4 +1,4 @@
--- The number and the place of a fault.
+-- The number and the position of a fault.
 use Rattle.std.specs.Prelude.{ℕ, Option, Some, None}
 use Rattle.base.specs.declared.pos.Pos.{Pos}
 use Rattle.parse_go.specs.declared.fault.ParseFault.{ParseFault}
@@ -6,10 +6,10 @@ use Rattle.parse_go.specs.declared.fault.ParseFault.TheVariants as fault
 
 abbrev pub number_of : ParseFault → Option ℕ
 number_of fault.NoMemory = None
-number_of (fault.Unexpected place) = Some 1
-number_of (fault.TooDeep place) = Some 2
+number_of (fault.Unexpected pos) = Some 1
+number_of (fault.TooDeep pos) = Some 2
 
-abbrev pub place_of : ParseFault → Option Pos
-place_of fault.NoMemory = None
-place_of (fault.Unexpected place) = Some place
-place_of (fault.TooDeep place) = Some place
+abbrev pub pos_of : ParseFault → Option Pos
+pos_of fault.NoMemory = None
+pos_of (fault.Unexpected pos) = Some pos
+pos_of (fault.TooDeep pos) = Some pos

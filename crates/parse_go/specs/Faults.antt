@@ -2,6 +2,7 @@
 use Rattle.std.specs.Prelude.{◌≡◌, ℕ, zero, suc, ◌+◌, ◌<◌, ◌≤◌, List, [], ◌∷◌, ◌++◌, length, take, Result, Ok, Err}
 use Rattle.base.specs.declared.pos.Pos.{Pos}
 use Rattle.scan_go.specs.declared.token.Token.{Token}
+use Rattle.syntax.specs.declared.limit.TheConstants.{NESTING_LIMIT}
 use Rattle.syntax.specs.declared.declaration.Tree.{Tree}
 use Rattle.parse_expressions.specs.declared.terminal.Terminal.{Terminal}
 use Rattle.parse_go.specs.declared.fault.ParseFault.{ParseFault}
@@ -30,8 +31,8 @@ pub record IsUnexpected (ts : List Terminal) (i : ℕ) : Type 0 where
 -- the last of some marks passes the limit, and it alone
 abbrev pub LastIsDeep : List Mark → Type 0
 LastIsDeep [] = ⊥
-LastIsDeep (m ∷ []) = 200 < nesting_of m
-LastIsDeep (m ∷ n ∷ ms) = (nesting_of m ≤ 200) × LastIsDeep (n ∷ ms)
+LastIsDeep (m ∷ []) = NESTING_LIMIT < nesting_of m
+LastIsDeep (m ∷ n ∷ ms) = (nesting_of m ≤ NESTING_LIMIT) × LastIsDeep (n ∷ ms)
 
 -- Some text begins with the terminals up to the i-th, and in each that does it is the first whose nesting passes the limit.
 pub record IsTooDeep (ts : List Terminal) (i : ℕ) : Type 0 where
@@ -39,21 +40,21 @@ pub record IsTooDeep (ts : List Terminal) (i : ℕ) : Type 0 where
   pub begins : Begins (take (i + 1) ts)
   pub deep : InEachText (take (i + 1) ts) LastIsDeep
 
--- the place of the i-th token, or behind the last one the place where the text ends
-abbrev pub place_in : List Token → Pos → ℕ → Pos
-place_in [] behind i = behind
-place_in (t ∷ ts) behind zero = t.pos
-place_in (t ∷ ts) behind (suc i) = place_in ts behind i
+-- the position of the i-th token, or after the last one the position where the text ends
+abbrev pub pos_in : List Token → Pos → ℕ → Pos
+pos_in [] end i = end
+pos_in (t ∷ ts) end zero = t.pos
+pos_in (t ∷ ts) end (suc i) = pos_in ts end i
 
--- The fault is the first of these tokens, whose text ends at the place behind.
+-- The fault is the first of these tokens, whose text ends at the position end.
 abbrev pub IsFirstFault : List Token → Pos → ParseFault → Type 0
-IsFirstFault tokens behind fault.NoMemory = Unit {0}
-IsFirstFault tokens behind (fault.Unexpected place) = (i : ℕ) × (place ≡ place_in tokens behind i) × IsUnexpected (terminals_of tokens) i
-IsFirstFault tokens behind (fault.TooDeep place) = (i : ℕ) × (place ≡ place_in tokens behind i) × IsTooDeep (terminals_of tokens) i
+IsFirstFault tokens end fault.NoMemory = Unit {0}
+IsFirstFault tokens end (fault.Unexpected pos) = (i : ℕ) × (pos ≡ pos_in tokens end i) × IsUnexpected (terminals_of tokens) i
+IsFirstFault tokens end (fault.TooDeep pos) = (i : ℕ) × (pos ≡ pos_in tokens end i) × IsTooDeep (terminals_of tokens) i
 
 -- the tree, unless memory ran out
 abbrev pub GivesTree : Result Tree ParseFault → Syntax → Type 0
 GivesTree (Ok t) tree = syntax_of t ≡ tree
 GivesTree (Err fault.NoMemory) tree = Unit {0}
-GivesTree (Err (fault.Unexpected place)) tree = ⊥
-GivesTree (Err (fault.TooDeep place)) tree = ⊥
+GivesTree (Err (fault.Unexpected pos)) tree = ⊥
+GivesTree (Err (fault.TooDeep pos)) tree = ⊥

@@ -1,9 +1,10 @@
 -- The grammar of declarations and whole texts [Go specification, Source file organization, Declarations and scope, Function
--- declarations, Struct types]. In each relation the marks ts begin with those of the tree, and rest is left behind them.
+-- declarations, Struct types]. In each relation the marks ts begin with those of the tree, and rest is left after them.
 use Rattle.std.specs.Prelude.{◌≡◌, ℕ, suc, ◌≤◌, true, false, List, [], ◌∷◌, Option, Some, None}
 use Rattle.std.specs.List.{AllByRecursion}
 use Rattle.base.specs.declared.pos.Pos.{Pos}
 use Rattle.scan_go.specs.declared.token.Token.{Token}
+use Rattle.syntax.specs.declared.limit.TheConstants.{NESTING_LIMIT}
 use Rattle.syntax.specs.Expressions.{Ex, paren, Exs, none, some}
 use Rattle.syntax.specs.Declarations.{Field, Parameters, unnamed, named, TypeSpec, Body, Function, Declaration, constants, variables, types, function, File, Syntax}
 use Rattle.parse_expressions.specs.declared.terminal.Terminal.{Terminal}
@@ -19,7 +20,7 @@ use Rattle.parse_statements.specs.Grammar.{IsBody}
 abbrev pub ReadsField : ℕ → Field → List Mark → List Mark → Type 0
 ReadsField d f ts rest = (m : List Mark) × ReadsNames d f.names ts m × ReadsType true d f.type_expr m rest
 
--- the fields of a struct, from behind the opening brace to behind the closing one; the last semicolon may be left out
+-- the fields of a struct, from after the opening brace to after the closing one; the last semicolon may be left out
 pub data AreFields : ℕ → List Field → List Mark → List Mark → Type 0 where
   fields_end : {d : ℕ} {q : Pos} {rest : List Mark} → AreFields d [] (inside (RightBrace q) d ∷ rest) rest
   last_field : {d : ℕ} {f : Field} {ts rest : List Mark} (q : Pos) → ReadsField (suc d) f ts (inside (RightBrace q) d ∷ rest) → AreFields d (f ∷ []) ts rest
@@ -39,12 +40,12 @@ abbrev pub ReadsTypes : ℕ → Exs → List Mark → List Mark → Type 0
 ReadsTypes d none ts rest = ⊥
 ReadsTypes d (some t es) ts rest = (m : List Mark) × ReadsType true d t ts m × ReadsMoreTypes d es m rest
 
--- parameters with names, from the first name to behind the closing parenthesis
+-- parameters with names, from the first name to after the closing parenthesis
 pub data AreNamed : List Field → List Mark → List Mark → Type 0 where
   last_named : {f : Field} {ts m rest : List Mark} → ReadsField 1 f ts m → ClosesArguments 0 false m rest → AreNamed (f ∷ []) ts rest
   next_named : {f : Field} {fs : List Field} {ts m rest : List Mark} → ReadsField 1 f ts (inside Comma 1 ∷ m) → AreNamed fs m rest → AreNamed (f ∷ fs) ts rest
 
--- parameters or results in parentheses, from behind the opening one to behind the closing one: all have names, or none has
+-- parameters or results in parentheses, from after the opening one to after the closing one: all have names, or none has
 pub data AreParameters : Parameters → List Mark → List Mark → Type 0 where
   no_parameters : {rest : List Mark} → AreParameters (unnamed none) (inside RightParen 0 ∷ rest) rest
   unnamed_parameters : {es : Exs} {ts m rest : List Mark} → ReadsTypes 1 es ts m → ClosesArguments 0 false m rest → AreParameters (unnamed es) ts rest
@@ -52,7 +53,7 @@ pub data AreParameters : Parameters → List Mark → List Mark → Type 0 where
 
 -- a type that parentheses around parameters can't be taken for
 abbrev pub IsBare : Ex → Type 0
-IsBare (paren place t) = ⊥
+IsBare (paren pos t) = ⊥
 IsBare _ = Unit {0}
 
 pub data AreResults : Parameters → List Mark → List Mark → Type 0 where
@@ -65,17 +66,17 @@ ReadsBody None ts rest = ts ≡ rest
 ReadsBody (Some b) ts rest = (q : Pos) × (m : List Mark) × (ts ≡ inside (LeftBrace q) 0 ∷ m) × IsBody 0 b.statements b.end m rest
 
 abbrev pub IsFunction : Function → List Mark → List Mark → Type 0
-IsFunction f ts rest = (opening : Pos) × (m k n : List Mark) × (ts ≡ inside (Func f.place) 0 ∷ inside (Identifier f.name) 0 ∷ inside (LeftParen opening) 0 ∷ m) × AreParameters f.params m k × AreResults f.results k n × ReadsBody f.body n rest
+IsFunction f ts rest = (opening : Pos) × (m k n : List Mark) × (ts ≡ inside (Func f.pos) 0 ∷ inside (Identifier f.name) 0 ∷ inside (LeftParen opening) 0 ∷ m) × AreParameters f.params m k × AreResults f.results k n × ReadsBody f.body n rest
 
 -- ---- whole texts
 
 abbrev pub IsDeclaration : Declaration → List Mark → List Mark → Type 0
-IsDeclaration (constants place specs) ts rest = (m : List Mark) × (ts ≡ inside (Const place) 0 ∷ m) × IsGroup (ReadsValueSpec of_constants) 0 specs m rest
-IsDeclaration (variables place specs) ts rest = (m : List Mark) × (ts ≡ inside (Var place) 0 ∷ m) × IsGroup (ReadsValueSpec of_variables) 0 specs m rest
-IsDeclaration (types place specs) ts rest = (m : List Mark) × (ts ≡ inside (type_word place) 0 ∷ m) × IsGroup ReadsTypeSpec 0 specs m rest
+IsDeclaration (constants pos specs) ts rest = (m : List Mark) × (ts ≡ inside (Const pos) 0 ∷ m) × IsGroup (ReadsValueSpec of_constants) 0 specs m rest
+IsDeclaration (variables pos specs) ts rest = (m : List Mark) × (ts ≡ inside (Var pos) 0 ∷ m) × IsGroup (ReadsValueSpec of_variables) 0 specs m rest
+IsDeclaration (types pos specs) ts rest = (m : List Mark) × (ts ≡ inside (type_word pos) 0 ∷ m) × IsGroup ReadsTypeSpec 0 specs m rest
 IsDeclaration (function f) ts rest = IsFunction f ts rest
 
--- declarations up to the end of the text, each with a semicolon behind it
+-- declarations up to the end of the text, each with a semicolon after it
 abbrev pub AreDeclarations : List Declaration → List Mark → Type 0
 AreDeclarations [] ts = ts ≡ []
 AreDeclarations (d ∷ ds) ts = (m : List Mark) × IsDeclaration d ts (inside Semicolon 0 ∷ m) × AreDeclarations ds m
@@ -86,7 +87,7 @@ IsMarked ts file = (m : List Mark) × (ts ≡ inside Package 0 ∷ inside (Ident
 
 -- no nesting passes the limit
 abbrev pub IsShallow : List Mark → Type 0
-IsShallow ms = AllByRecursion (λ m. nesting_of m ≤ 200) ms
+IsShallow ms = AllByRecursion (λ m. nesting_of m ≤ NESTING_LIMIT) ms
 
 -- the terminals of a tree whose nestings keep the limit
 abbrev pub IsProgram : List Terminal → File → Type 0

@@ -1,5 +1,6 @@
 -- The states of the code that reads parameters and results, as those of the machine, and what a step of the code answers.
 use Rattle.std.specs.Prelude.{◌≡◌, ℕ, ◌<◌, ◌≤◌, Result, Ok, Err}
+use Rattle.syntax.specs.declared.limit.TheConstants.{NESTING_LIMIT}
 use Rattle.syntax.specs.Expressions.{exs_of}
 use Rattle.syntax.specs.Declarations.{fields_of, parameters_of}
 use Rattle.parse_expressions.specs.declared.fault.StepFault.{StepFault}
@@ -29,9 +30,9 @@ GoesOn _ = Unit {0}
 abbrev pub FailsStep : StepFault → Progress → ℕ → Type 0
 FailsStep fault.NoMemory then n = Unit {0}
 FailsStep fault.Unexpected then n = then ≡ fails
-FailsStep fault.TooDeep then n = (200 < n) × GoesOn then
+FailsStep fault.TooDeep then n = (NESTING_LIMIT < n) × GoesOn then
 
 abbrev pub Steps : Result ParametersProgress StepFault → Progress → ℕ → Type 0
-Steps (Ok (progress.Goes s)) then n = (then ≡ goes (params_of s)) × (n ≤ 200)
-Steps (Ok (progress.Ends ps)) then n = (then ≡ ends (parameters_of ps)) × (n ≤ 200)
+Steps (Ok (progress.Goes s)) then n = (then ≡ goes (params_of s)) × (n ≤ NESTING_LIMIT)
+Steps (Ok (progress.Ends ps)) then n = (then ≡ ends (parameters_of ps)) × (n ≤ NESTING_LIMIT)
 Steps (Err e) then n = FailsStep e then n

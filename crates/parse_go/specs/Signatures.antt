@@ -9,7 +9,7 @@ abbrev pub file_in : CodeFile → File
 file_in f = record { package_name = f.package_name; declarations = declarations_of f.decls.items }
 
 abbrev pub named_of : CodeNamed → Named
-named_of n = record { file = file_in n.file; place = n.pos; name = n.name }
+named_of n = record { file = file_in n.file; pos = n.pos; name = n.name }
 
 abbrev pub signature_of : CodeSignature → Signature
 signature_of s = with_results (named_of s.named) (parameters_of s.params) (parameters_of s.results)

@@ -1,6 +1,7 @@
 -- The states of the code, as those of the machine, and what a step of the code answers.
 use Rattle.std.specs.Prelude.{◌≡◌, ℕ, ◌<◌, ◌≤◌, List, IsSome, Option, Some, None, Result, Ok, Err}
 use Rattle.base.specs.declared.pos.Pos.{Pos}
+use Rattle.syntax.specs.declared.limit.TheConstants.{NESTING_LIMIT}
 use Rattle.syntax.specs.Declarations.{File, parameters_of}
 use Rattle.parse_expressions.specs.declared.fault.StepFault.{StepFault}
 use Rattle.parse_expressions.specs.declared.fault.StepFault.TheVariants as fault
@@ -26,8 +27,8 @@ state_of state.PackageName = at_package_name
 state_of (state.PackageEnd x) = at_package_end x
 state_of (state.Declaration f) = at_declaration (file_in f)
 state_of (state.Values v) = in_values (file_in v.file) (declares_of v.kind) v.pos (specs_of v.specs)
-state_of (state.Types f place s) = in_types (file_in f) place (types_of s)
-state_of (state.Function f place) = at_function (file_in f) place
+state_of (state.Types f pos s) = in_types (file_in f) pos (types_of s)
+state_of (state.Function f pos) = at_function (file_in f) pos
 state_of (state.Opening n) = at_opening (named_of n)
 state_of (state.Params n p) = in_params (named_of n) (params_of p)
 state_of (state.Results n ps) = at_results (named_of n) (parameters_of ps)
@@ -41,10 +42,10 @@ state_of (state.End f) = at_end (file_in f)
 abbrev pub FailsStep : StepFault → Option State → ℕ → Type 0
 FailsStep fault.NoMemory then n = Unit {0}
 FailsStep fault.Unexpected then n = then ≡ None
-FailsStep fault.TooDeep then n = (200 < n) × IsSome then
+FailsStep fault.TooDeep then n = (NESTING_LIMIT < n) × IsSome then
 
 abbrev pub Steps : Result CodeState StepFault → Option State → ℕ → Type 0
-Steps (Ok s) then n = (then ≡ Some (state_of s)) × (n ≤ 200)
+Steps (Ok s) then n = (then ≡ Some (state_of s)) × (n ≤ NESTING_LIMIT)
 Steps (Err e) then n = FailsStep e then n
 
 -- what the state holds where the text may end
@@ -52,11 +53,11 @@ abbrev pub Finishes : Option CodeFile → State → Type 0
 Finishes (Some f) s = s ≡ at_declaration (file_in f)
 Finishes None s = (f : File) → s ≡ at_declaration f → ⊥
 
--- a fault of a step, at the place of its token
+-- a fault of a step, at the position of its token
 abbrev pub fault_at : StepFault → Pos → ParseFault
-fault_at fault.NoMemory place = parse_fault.NoMemory
-fault_at fault.Unexpected place = parse_fault.Unexpected place
-fault_at fault.TooDeep place = parse_fault.TooDeep place
+fault_at fault.NoMemory pos = parse_fault.NoMemory
+fault_at fault.Unexpected pos = parse_fault.Unexpected pos
+fault_at fault.TooDeep pos = parse_fault.TooDeep pos
 
 abbrev pub HasOneFile : List Terminal → File → Type 0
 HasOneFile ts f = (other : File) → IsProgram ts other → f ≡ other

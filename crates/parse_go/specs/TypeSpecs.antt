@@ -1,14 +1,14 @@
--- The parser of declarations of struct types as a machine, from behind their word.
+-- The parser of declarations of struct types as a machine, from after their word.
 use Rattle.std.specs.Prelude.{ℕ, suc, true, List, [], ◌∷◌, ◌++◌}
 use Rattle.syntax.specs.declared.expression.Name.{Name}
 use Rattle.syntax.specs.Expressions.{Ex}
 use Rattle.syntax.specs.Declarations.{Field, TypeSpec}
 use Rattle.parse_expressions.specs.declared.terminal.Terminal.{Terminal}
 use Rattle.parse_expressions.specs.declared.terminal.Terminal.TheVariants.{Identifier, Struct, Comma, Semicolon, LeftParen, RightParen, LeftBrace, RightBrace}
-use Rattle.parse_expressions.specs.Machine.{Base, Open, at_type_operand}
+use Rattle.parse_expressions.specs.Machine.{Context, Open, at_type_operand}
 use Rattle.parse_expressions.specs.Machine as expression
 
--- where one of them stands: alone, or in parentheses behind these
+-- where one of them stands: alone, or in parentheses after these
 pub data Spot : Type 0 where
   alone_here : Spot
   in_group : List TypeSpec → Spot
@@ -21,21 +21,21 @@ pub record Fields : Type 0 where
 
 -- what was read, and what is wanted next
 pub data Types : Type 0 where
-  -- behind the word
+  -- after the word
   at_first : Types
-  -- in parentheses behind the opening one or a semicolon
+  -- in parentheses after the opening one or a semicolon
   at_spec : List TypeSpec → Types
-  -- behind the name, and behind the word `struct`
+  -- after the name, and after the word `struct`
   at_struct : Spot → Name → Types
   at_brace : Spot → Name → Types
-  -- in braces behind the opening one or a semicolon; behind a comma behind names; behind the last of some names; and in their type
+  -- in braces after the opening one or a semicolon; after a comma after names; after the last of some names; and in their type
   at_field : Fields → Types
   at_next_name : Fields → List Name → Types
   at_names : Fields → List Name → Types
   in_type : Fields → List Name → Open → Types
-  -- behind the closing brace
+  -- after the closing brace
   at_end : Spot → TypeSpec → Types
-  -- behind the closing parenthesis
+  -- after the closing parenthesis
   at_group_end : List TypeSpec → Types
 
 -- what the next terminal does; `ends` is for a declaration that ended before it
@@ -49,8 +49,8 @@ abbrev pub spot_depth : Spot → ℕ
 spot_depth alone_here = 0
 spot_depth (in_group specs) = 1
 
-abbrev pub type_base : Fields → Base
-type_base s = record { depth = suc (spot_depth s.spot); literals = true; types = true }
+abbrev pub type_context : Fields → Context
+type_context s = record { depth = suc (spot_depth s.spot); literals = true; types = true }
 
 abbrev pub with_field : Fields → List Name → Ex → Fields
 with_field s xs e = record { spot = s.spot; name = s.name; fields = s.fields ++ record { names = xs; type_expr = e } ∷ [] }
@@ -76,7 +76,7 @@ spec_ends (in_group specs) s t = fails
 
 abbrev pub step : Types → Terminal → Progress
 step at_first (Identifier x) = goes (at_struct alone_here x)
-step at_first (LeftParen place) = goes (at_spec [])
+step at_first (LeftParen pos) = goes (at_spec [])
 step at_first t = fails
 step (at_spec specs) (Identifier x) = goes (at_struct (in_group specs) x)
 step (at_spec specs) RightParen = goes (at_group_end specs)
@@ -91,8 +91,8 @@ step (at_field s) t = fails
 step (at_next_name s xs) (Identifier x) = goes (at_names s (xs ++ x ∷ []))
 step (at_next_name s xs) t = fails
 step (at_names s xs) Comma = goes (at_next_name s xs)
-step (at_names s xs) t = after_type s xs t (expression.step (type_base s) (at_type_operand []) t)
-step (in_type s xs o) t = after_type s xs t (expression.step (type_base s) o t)
+step (at_names s xs) t = after_type s xs t (expression.step (type_context s) (at_type_operand []) t)
+step (in_type s xs o) t = after_type s xs t (expression.step (type_context s) o t)
 step (at_end s x) t = spec_ends s x t
 step (at_group_end specs) t = ends specs
 
@@ -107,7 +107,7 @@ nesting_in_braces s (RightBrace q) = spot_depth s.spot
 nesting_in_braces s t = suc (spot_depth s.spot)
 
 abbrev pub nesting_after : Fields → Open → Terminal → expression.Progress → ℕ
-nesting_after s o t (expression.goes p) = expression.nesting (type_base s) o t
+nesting_after s o t (expression.goes p) = expression.nesting (type_context s) o t
 nesting_after s o t p = nesting_in_braces s t
 
 abbrev pub nesting : Types → Terminal → ℕ
@@ -119,6 +119,6 @@ nesting (at_brace s x) t = spot_depth s
 nesting (at_field s) t = nesting_in_braces s t
 nesting (at_next_name s xs) t = suc (spot_depth s.spot)
 nesting (at_names s xs) t = suc (spot_depth s.spot)
-nesting (in_type s xs o) t = nesting_after s o t (expression.step (type_base s) o t)
+nesting (in_type s xs o) t = nesting_after s o t (expression.step (type_context s) o t)
 nesting (at_end s x) t = nesting_at_end s t
 nesting (at_group_end specs) t = 0

@@ -1,5 +1,6 @@
 -- The states of the code that reads struct types, as those of the machine, and what a step of the code answers.
 use Rattle.std.specs.Prelude.{◌≡◌, ℕ, ◌<◌, ◌≤◌, Result, Ok, Err}
+use Rattle.syntax.specs.declared.limit.TheConstants.{NESTING_LIMIT}
 use Rattle.syntax.specs.Declarations.{type_spec_of, type_specs_of}
 use Rattle.parse_expressions.specs.declared.fault.StepFault.{StepFault}
 use Rattle.parse_expressions.specs.declared.fault.StepFault.TheVariants as fault
@@ -31,9 +32,9 @@ GoesOn _ = ⊥
 abbrev pub FailsStep : StepFault → Progress → ℕ → Type 0
 FailsStep fault.NoMemory then n = Unit {0}
 FailsStep fault.Unexpected then n = then ≡ fails
-FailsStep fault.TooDeep then n = (200 < n) × GoesOn then
+FailsStep fault.TooDeep then n = (NESTING_LIMIT < n) × GoesOn then
 
 abbrev pub Steps : Result TypesProgress StepFault → Progress → ℕ → Type 0
-Steps (Ok (progress.Goes s)) then n = (then ≡ goes (types_of s)) × (n ≤ 200)
+Steps (Ok (progress.Goes s)) then n = (then ≡ goes (types_of s)) × (n ≤ NESTING_LIMIT)
 Steps (Ok (progress.Ends specs)) then n = then ≡ ends (type_specs_of specs.items)
 Steps (Err e) then n = FailsStep e then n

@@ -30,7 +30,7 @@ pub fn package(token: Terminal) -> Result<State, StepFault>
     }
 }
 
-/// A token behind the word `package`.
+/// A token after the word `package`.
 pub fn package_name(token: Terminal) -> Result<State, StepFault>
     ensures { Steps result (step at_package_name token) (nesting at_package_name token) }
 {
@@ -40,7 +40,7 @@ pub fn package_name(token: Terminal) -> Result<State, StepFault>
     }
 }
 
-/// A token behind the name of the package.
+/// A token after the name of the package.
 pub fn package_end(alloc: Global, package_name: Name, token: Terminal) -> Result<State, StepFault>
     ensures { let s = at_package_end package_name in Steps result (step s token) (nesting s token) }
 {
@@ -53,7 +53,7 @@ pub fn package_end(alloc: Global, package_name: Name, token: Terminal) -> Result
     }
 }
 
-/// A declaration of constants or variables begins behind its word.
+/// A declaration of constants or variables begins after its word.
 fn begin_values(file: File, kind: Declares, pos: Pos) -> State
     ensures { state_of result ≡ in_values (file_in file) (declares_of kind) pos at_first }
 {
@@ -96,7 +96,7 @@ pub fn with_declaration(file: File, decl: Decl) -> Result<File, AllocError>
     })
 }
 
-/// A token behind a declaration.
+/// A token after a declaration.
 pub fn ends_declaration(file: File, token: Terminal) -> Result<State, StepFault>
     ensures { Steps result (ends_declaration (file_in file) token) 0 }
 {

@@ -10,9 +10,9 @@ use thiserror::Error;
 /// Why tokens have no tree. Where several tokens fail, it is the first of them.
 ///
 /// A token is unexpected where no text of the grammar begins with it and those before it; an inserted semicolon stands at its
-/// line's end, and where the tokens end too early, the place is behind the last byte of the text. A token is too deep where
-/// its nesting reaches 201: the number of brackets, prefixes and else-ifs that are open around it; at a binary operator, a `.`,
-/// a `[` or a `(` behind an expression at least one more than the height of the tree to its left.
+/// line's end, and where the tokens end too early, the position is after the last byte of the text. A token is too deep where
+/// its nesting passes `NESTING_LIMIT`: the number of brackets, prefixes and else-ifs that are open around it; at a binary operator, a `.`,
+/// a `[` or a `(` after an expression at least one more than the height of the tree to its left.
 #[derive(Clone, Copy, Debug, PartialEq, Eq, Error)]
 pub enum ParseFault {
     #[error("no memory")]
@@ -32,7 +32,7 @@ impl From<AllocError> for ParseFault {
 }
 
 impl ParseFault {
-    ghost use Rattle.parse_go.specs.FaultNumbers.{number_of, place_of};
+    ghost use Rattle.parse_go.specs.FaultNumbers.{number_of, pos_of};
 
     /// The number of the fault's kind: 1 unexpected, 2 too deep. Want of memory has none.
     pub fn number(&self) -> Option<u32>
@@ -45,9 +45,9 @@ impl ParseFault {
         }
     }
 
-    /// Where the fault stands. Want of memory has no place.
+    /// Where the fault stands. Want of memory has no position.
     pub fn pos(&self) -> Option<Pos>
-        ensures { result ≡ place_of self.now }
+        ensures { result ≡ pos_of self.now }
     {
         match self {
             ParseFault::NoMemory => None,

@@ -19,7 +19,7 @@ use parse_statements::{BodyProgress, BodyState, begin_body, step_body};
 use std::alloc::{AllocError, Global};
 use syntax::{Body, Decl, Func, Params};
 
-/// A token behind the word `func`.
+/// A token after the word `func`.
 pub fn function(file: File, pos: Pos, token: Terminal) -> Result<State, StepFault>
     ensures { let s = at_function (file_in file) pos in
         Steps result (step s token) (nesting s token) }
@@ -30,7 +30,7 @@ pub fn function(file: File, pos: Pos, token: Terminal) -> Result<State, StepFaul
     }
 }
 
-/// A token behind the name of a function.
+/// A token after the name of a function.
 pub fn opening(alloc: Global, named: Named, token: Terminal) -> Result<State, StepFault>
     ensures { let s = at_opening (named_of named) in Steps result (step s token) (nesting s token) }
 {
@@ -58,7 +58,7 @@ pub fn in_params(
     }
 }
 
-/// The whole function, behind the declarations before it.
+/// The whole function, after the declarations before it.
 pub fn with_function(signature: Signature, body: Option<Body>) -> Result<File, AllocError>
     ensures { IfOk result
         (λ f. file_in f ≡ with_function (signature_of signature) (body_in body)) }
@@ -79,7 +79,7 @@ pub fn with_function(signature: Signature, body: Option<Body>) -> Result<File, A
     with_declaration(file, Decl::Func(func))
 }
 
-/// A token behind the results: the body opens, or there is none.
+/// A token after the results: the body opens, or there is none.
 pub fn behind_results(
     alloc: Global,
     signature: Signature,
@@ -97,7 +97,7 @@ pub fn behind_results(
     }
 }
 
-/// A token behind the parameters.
+/// A token after the parameters.
 pub fn results(
     alloc: Global,
     named: Named,

@@ -18,13 +18,14 @@
 //! text begins.
 //!
 //! Each token has a nesting, which is bounded: the number of brackets, prefixes and else-ifs that are open around it and,
-//! at an operator, a `.`, a `[` or a `(` behind an expression, at least one more than the height of the tree to its left.
+//! at an operator, a `.`, a `[` or a `(` after an expression, at least one more than the height of the tree to its left.
 //! The grammar itself speaks of tokens with their nestings, so the bound is a fact of a text and not a second grammar.
 #![tactic(auto)]
 
 mod declarations;
 mod fault;
 mod function;
+pub mod laws;
 mod machine;
 mod parameter_steps;
 mod parameters;

@@ -47,7 +47,7 @@ fn types_named(alloc: Global, names: &[Name]) -> Result<Vec<Expr>, AllocError>
     names.iter().map(|name| Expr::Name(*name)).collect(alloc)
 }
 
-/// The closing parenthesis was read behind names that are types.
+/// The closing parenthesis was read after names that are types.
 #[tactic(auto, using(crate::proofs::ParameterSteps::are_types))]
 fn unnamed(alloc: Global, names: &[Name]) -> Result<ParametersProgress, StepFault>
     ensures { Steps result (ends (unnamed (types_named names.now))) 0 }
@@ -56,7 +56,7 @@ fn unnamed(alloc: Global, names: &[Name]) -> Result<ParametersProgress, StepFaul
     Ok(ParametersProgress::Ends(Params::Unnamed(types)))
 }
 
-/// A token behind the opening parenthesis or a comma, behind names that may be types.
+/// A token after the opening parenthesis or a comma, after names that may be types.
 fn name_or_type(
     alloc: Global,
     mut names: Vec<Name>,
@@ -75,7 +75,7 @@ fn name_or_type(
     }
 }
 
-/// The first token of a type, behind the ones before.
+/// The first token of a type, after the ones before.
 fn first_of_type(
     alloc: Global,
     before: Vec<Expr>,
@@ -88,7 +88,7 @@ fn first_of_type(
     in_type(alloc, InType { before, reading }, token)
 }
 
-/// A token behind the last of names that may be types.
+/// A token after the last of names that may be types.
 fn behind_names(
     alloc: Global,
     names: Vec<Name>,
@@ -103,7 +103,7 @@ fn behind_names(
     }
 }
 
-/// The first token of the type of some names, behind the parameters before them.
+/// The first token of the type of some names, after the parameters before them.
 fn first_of_named_type(
     alloc: Global,
     before: Vec<Field>,
@@ -121,7 +121,7 @@ fn first_of_named_type(
     in_named_type(alloc, state, token)
 }
 
-/// A token behind a comma behind types.
+/// A token after a comma after types.
 fn next_type(
     alloc: Global,
     before: Vec<Expr>,
@@ -145,7 +145,7 @@ fn with_type(mut types: Vec<Expr>, more: Expr) -> Result<Vec<Expr>, AllocError>
     Ok(types)
 }
 
-/// A token behind types.
+/// A token after types.
 fn behind_type(types: Vec<Expr>, token: Terminal) -> Result<ParametersProgress, StepFault>
     ensures { Steps result (behind_type (exs_of types.items) token) (nesting_in_parens token) }
 {
@@ -173,7 +173,7 @@ fn in_type(alloc: Global, state: InType, token: Terminal) -> Result<ParametersPr
     }
 }
 
-/// A token behind a comma behind parameters with names.
+/// A token after a comma after parameters with names.
 fn named(
     alloc: Global,
     before: Vec<Field>,
@@ -191,7 +191,7 @@ fn named(
     }
 }
 
-/// A token behind a comma between names.
+/// A token after a comma between names.
 fn next_name(
     before: Vec<Field>,
     mut names: Vec<Name>,
@@ -209,7 +209,7 @@ fn next_name(
     }
 }
 
-/// A token behind the last of some names.
+/// A token after the last of some names.
 fn named_names(
     alloc: Global,
     before: Vec<Field>,
@@ -239,7 +239,7 @@ fn with_named(
     Ok(before)
 }
 
-/// A token behind parameters with names.
+/// A token after parameters with names.
 fn behind_named(before: Vec<Field>, token: Terminal) -> Result<ParametersProgress, StepFault>
     ensures { Steps result (behind_field (fields_of before.items) token) (nesting_in_parens token) }
 {

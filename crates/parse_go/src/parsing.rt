@@ -42,11 +42,11 @@ fn fault_at(fault: StepFault, pos: Pos) -> ParseFault
     }
 }
 
-/// The declarations of the tokens of a text that ends at a place.
-fn file_of(alloc: Global, tokens: &[Token], behind: Pos) -> Result<File, ParseFault>
+/// The declarations of the tokens of a text that ends at a position.
+fn file_of(alloc: Global, tokens: &[Token], end: Pos) -> Result<File, ParseFault>
     ensures found { IfOk result (λ f. IsProgram (terminals_of tokens.now) (file_in f)) }
     ensures one { IfOk result (λ f. HasOneFile (terminals_of tokens.now) (file_in f)) }
-    ensures fault { IfErr result (IsFirstFault tokens.now behind) }
+    ensures fault { IfErr result (IsFirstFault tokens.now end) }
 {
     let mut state = State::Package;
     for token in tokens {
@@ -57,7 +57,7 @@ fn file_of(alloc: Global, tokens: &[Token], behind: Pos) -> Result<File, ParseFa
     }
     match finish(state) {
         Some(file) => Ok(file),
-        None => Err(ParseFault::Unexpected(behind)),
+        None => Err(ParseFault::Unexpected(end)),
     }
 }
 
@@ -76,8 +76,8 @@ pub fn parse(alloc: Global, tokens: &Tokens) -> Result<Tree, ParseFault>
         (λ tree. FileSpans (length tokens.now.text) (syntax_of tree).file) }
 
     // The first token with which no text begins, or the first whose nesting passes the limit.
-    ensures fault { let behind = pos_at tokens.now.text (length tokens.now.text) in
-        IfErr result (IsFirstFault tokens.now.list behind) }
+    ensures fault { let end = pos_at tokens.now.text (length tokens.now.text) in
+        IfErr result (IsFirstFault tokens.now.list end) }
 {
     let file = file_of(alloc, tokens.list(), tokens.end())?;
     let text = Vec::from_slice(alloc, tokens.text())?;

@@ -10,7 +10,7 @@ pub struct File {
     pub decls: Vec<Decl>,
 }
 
-/// A function up to its parameters, with the place of its word, behind the declarations before it.
+/// A function up to its parameters, with the position of its word, after the declarations before it.
 #[derive(Drop)]
 pub struct Named {
     pub file: File,

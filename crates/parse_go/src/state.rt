@@ -1,9 +1,9 @@
 //! What was read of a text, and what is wanted next.
 
 ghost use Rattle.std.specs.Prelude.{◌≡◌};
-ghost use Rattle.parse_expressions.specs.States.{base_of};
+ghost use Rattle.parse_expressions.specs.States.{context_in};
 ghost use Rattle.parse_simple_statements.specs.SpecStates.{depth_of};
-ghost use Rattle.parse_go.specs.Machine.{result_base};
+ghost use Rattle.parse_go.specs.Machine.{result_context};
 
 use crate::parameters::Parameters;
 use crate::signature::{File, Named, Signature};
@@ -14,7 +14,7 @@ use parse_simple_statements::{Declares, ValueSpecs};
 use parse_statements::BodyState;
 use syntax::{Name, Params};
 
-/// A declaration of constants or variables is read, with the place of its word, behind the declarations before it.
+/// A declaration of constants or variables is read, with the position of its word, after the declarations before it.
 #[derive(Drop)]
 pub struct InValues {
     pub file: File,
@@ -24,13 +24,13 @@ pub struct InValues {
     ghost outermost: { depth_of specs ≡ 0 },
 }
 
-/// A result without parentheses is read, behind the parameters.
+/// A result without parentheses is read, after the parameters.
 #[derive(Drop)]
 pub struct InResult {
     pub named: Named,
     pub params: Params,
     pub reading: Open,
-    ghost based: { base_of reading ≡ result_base },
+    ghost in_context: { context_in reading ≡ result_context },
 }
 
 /// What was read, and what is wanted next.
@@ -38,30 +38,30 @@ pub struct InResult {
 pub enum State {
     /// The text begins.
     Package,
-    /// Behind the word `package`.
+    /// After the word `package`.
     PackageName,
-    /// Behind the name of the package.
+    /// After the name of the package.
     PackageEnd(Name),
     /// A declaration may begin, or the text may end.
     Declaration(File),
     Values(InValues),
-    /// In a declaration of types, with the place of its word.
+    /// In a declaration of types, with the position of its word.
     Types(File, Pos, TypeSpecs),
-    /// Behind the word `func`, with its place.
+    /// After the word `func`, with its position.
     Function(File, Pos),
-    /// Behind the name of a function.
+    /// After the name of a function.
     Opening(Named),
     /// In the parameters of a function.
     Params(Named, Parameters),
-    /// Behind them.
+    /// After them.
     Results(Named, Params),
     Result(InResult),
-    /// In results in parentheses, behind the parameters.
+    /// In results in parentheses, after the parameters.
     ResultList(Named, Params, Parameters),
-    /// Behind them.
+    /// After them.
     Body(Signature),
     /// In the body of a function.
     InBody(Signature, BodyState),
-    /// Behind a declaration.
+    /// After a declaration.
     End(File),
 }

@@ -1,44 +1,44 @@
 //! What was read of a declaration of struct types, and what is wanted next.
 
 ghost use Rattle.std.specs.Prelude.{◌≡◌};
-ghost use Rattle.parse_expressions.specs.States.{base_of};
-ghost use Rattle.parse_go.specs.TypeSpecs.{type_base};
+ghost use Rattle.parse_expressions.specs.States.{context_in};
+ghost use Rattle.parse_go.specs.TypeSpecs.{type_context};
 ghost use Rattle.parse_go.specs.TypeSpots.{struct_of};
 
 use crate::type_spot::{StructFields, TypeSpot};
 use parse_expressions::Open;
 use syntax::{Name, TypeSpec};
 
-/// The type of some fields is read, behind their names.
+/// The type of some fields is read, after their names.
 #[derive(Drop)]
 pub struct InFieldType {
     pub owner: StructFields,
     pub names: Vec<Name>,
     pub reading: Open,
-    ghost based: { base_of reading ≡ type_base (struct_of owner) },
+    ghost in_context: { context_in reading ≡ type_context (struct_of owner) },
 }
 
 /// What was read of a declaration, and what is wanted next.
 #[derive(Drop)]
 pub enum TypeSpecs {
-    /// Behind the word `type`.
+    /// After the word `type`.
     First,
-    /// In parentheses behind the opening one or a semicolon, behind these.
+    /// In parentheses after the opening one or a semicolon, after these.
     Spec(Vec<TypeSpec>),
-    /// Behind the name.
+    /// After the name.
     Struct(TypeSpot, Name),
-    /// Behind the word `struct`.
+    /// After the word `struct`.
     Brace(TypeSpot, Name),
-    /// In braces behind the opening one or a semicolon.
+    /// In braces after the opening one or a semicolon.
     Field(StructFields),
-    /// Behind a comma behind these names.
+    /// After a comma after these names.
     NextName(StructFields, Vec<Name>),
-    /// Behind the last of these names.
+    /// After the last of these names.
     Names(StructFields, Vec<Name>),
     Type(InFieldType),
-    /// Behind the closing brace.
+    /// After the closing brace.
     End(TypeSpot, TypeSpec),
-    /// Behind the closing parenthesis.
+    /// After the closing parenthesis.
     GroupEnd(Vec<TypeSpec>),
 }
 

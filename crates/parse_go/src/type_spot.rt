@@ -5,9 +5,9 @@ use syntax::{Field, Name, TypeSpec};
 /// Where a struct type stands.
 #[derive(Drop)]
 pub enum TypeSpot {
-    /// Alone behind the word `type`.
+    /// Alone after the word `type`.
     Alone,
-    /// In parentheses, behind these.
+    /// In parentheses, after these.
     Group(Vec<TypeSpec>),
 }
 

@@ -35,7 +35,7 @@ pub fn step_types(
     }
 }
 
-/// A token behind the word `type`.
+/// A token after the word `type`.
 fn first(alloc: Global, token: Terminal) -> Result<TypesProgress, StepFault>
     ensures { Steps result (step at_first token) (nesting at_first token) }
 {
@@ -48,7 +48,7 @@ fn first(alloc: Global, token: Terminal) -> Result<TypesProgress, StepFault>
     }
 }
 
-/// A token in parentheses behind the opening one or a semicolon.
+/// A token in parentheses after the opening one or a semicolon.
 fn spec(specs: Vec<TypeSpec>, token: Terminal) -> Result<TypesProgress, StepFault>
     ensures { let s = at_spec (type_specs_of specs.items) in
         Steps result (step s token) (nesting s token) }
@@ -63,7 +63,7 @@ fn spec(specs: Vec<TypeSpec>, token: Terminal) -> Result<TypesProgress, StepFaul
     }
 }
 
-/// A token behind the name of a type.
+/// A token after the name of a type.
 #[tactic(auto, using(crate::proofs::TypeSteps::shallow))]
 fn struct_word(spot: TypeSpot, name: Name, token: Terminal) -> Result<TypesProgress, StepFault>
     ensures { let s = at_struct (spot_of spot) name in
@@ -75,7 +75,7 @@ fn struct_word(spot: TypeSpot, name: Name, token: Terminal) -> Result<TypesProgr
     }
 }
 
-/// A token behind the word `struct`.
+/// A token after the word `struct`.
 #[tactic(auto, using(crate::proofs::TypeSteps::shallow))]
 fn brace(
     alloc: Global,
@@ -105,7 +105,7 @@ fn closed(owner: StructFields) -> TypesProgress
     TypesProgress::Goes(TypeSpecs::End(spot, TypeSpec { name, fields }))
 }
 
-/// A token in braces behind the opening one or a semicolon.
+/// A token in braces after the opening one or a semicolon.
 #[tactic(auto, using(crate::proofs::TypeSteps::shallow))]
 fn field(alloc: Global, owner: StructFields, token: Terminal) -> Result<TypesProgress, StepFault>
     ensures { let s = at_field (struct_of owner) in
@@ -121,7 +121,7 @@ fn field(alloc: Global, owner: StructFields, token: Terminal) -> Result<TypesPro
     }
 }
 
-/// A token behind names and a comma.
+/// A token after names and a comma.
 #[tactic(auto, using(crate::proofs::TypeSteps::shallow))]
 fn next_name(
     owner: StructFields,
@@ -151,7 +151,7 @@ fn field_depth(spot: &TypeSpot) -> usize
     }
 }
 
-/// A token behind the last of some names.
+/// A token after the last of some names.
 #[tactic(auto, using(crate::proofs::TypeSteps::shallow))]
 fn behind_names(
     alloc: Global,
@@ -198,7 +198,7 @@ fn with_field(
     Ok(StructFields { spot, name, fields })
 }
 
-/// A token behind the type of some fields.
+/// A token after the type of some fields.
 #[tactic(auto, using(crate::proofs::TypeSteps::shallow))]
 fn behind_type(owner: StructFields, token: Terminal) -> Result<TypesProgress, StepFault>
     ensures { let s = struct_of owner in
@@ -243,7 +243,7 @@ fn with_spec(mut specs: Vec<TypeSpec>, spec: TypeSpec) -> Result<Vec<TypeSpec>, 
     Ok(specs)
 }
 
-/// A token behind the closing brace.
+/// A token after the closing brace.
 fn spec_ends(
     alloc: Global,
     spot: TypeSpot,

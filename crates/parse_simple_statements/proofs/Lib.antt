@@ -20,3 +20,5 @@ pub mod Begins
 pub mod SpecBegins
 pub mod NamesIn
 pub mod SimpleSteps
+mod SpecsForetelling
+mod SimplesForetelling

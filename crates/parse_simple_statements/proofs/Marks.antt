@@ -11,12 +11,12 @@ pub record Next (t : Terminal) (d : ℕ) (Then : List Mark → Type 0) (m : List
   pub mark : m ≡ inside t d ∷ rest
   pub follows : Then rest
 
--- the same of a terminal with a place
+-- the same of a terminal with a position
 pub record NextAt (t : Pos → Terminal) (d : ℕ) (Then : Pos → List Mark → Type 0) (m : List Mark) : Type 0 where
-  pub place : Pos
+  pub pos : Pos
   pub rest : List Mark
-  pub mark : m ≡ inside (t place) d ∷ rest
-  pub follows : Then place rest
+  pub mark : m ≡ inside (t pos) d ∷ rest
+  pub follows : Then pos rest
 
 pub next_read : (t : Terminal) (d : ℕ) (Then : List Mark → Type 0) (j : ℕ) (w : List Mark) → Iff (Next t d Then (inside t j ∷ w)) ((j ≡ d) × Then w)
 next_read t d Then j w = (
@@ -35,13 +35,13 @@ pub next_at_read : (t : Pos → Terminal) (d : ℕ) (Then : Pos → List Mark �
 next_at_read t d Then q j w same = (
   λ h.
       let same_w : h.rest ≡ w = cc (h.mark) in
-      let same_q : h.place ≡ q = same h.place (cc (h.mark)) in
-      (cc (h.mark), subst (λ (p : Pos). Then p w) same_q (subst (λ (ts : List Mark). Then h.place ts) same_w h.follows)),
-  λ h. record { place = q; rest = w; mark = ap (λ (i : ℕ). inside (t q) i ∷ w) h.0; follows = h.1 },
+      let same_q : h.pos ≡ q = same h.pos (cc (h.mark)) in
+      (cc (h.mark), subst (λ (p : Pos). Then p w) same_q (subst (λ (ts : List Mark). Then h.pos ts) same_w h.follows)),
+  λ h. record { pos = q; rest = w; mark = ap (λ (i : ℕ). inside (t q) i ∷ w) h.0; follows = h.1 },
 )
 
 pub next_at_other : (t : Pos → Terminal) (d : ℕ) (Then : Pos → List Mark → Type 0) (x : Terminal) (j : ℕ) (w : List Mark) → ((p : Pos) → x ≡ t p → ⊥) → NextAt t d Then (inside x j ∷ w) → ⊥
-next_at_other t d Then x j w other h = other h.place (cc (h.mark))
+next_at_other t d Then x j w other h = other h.pos (cc (h.mark))
 
 pub next_at_some : (t : Pos → Terminal) (d : ℕ) (Then : Pos → List Mark → Type 0) → NextAt t d Then [] → ⊥
 next_at_some t d Then h = cc (h.mark)

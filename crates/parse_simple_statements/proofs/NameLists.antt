@@ -8,7 +8,7 @@ use Rattle.parse_expressions.specs.Grammar.{Mark, inside}
 use Rattle.parse_simple_statements.specs.Grammar.{ReadsMoreNames, ReadsNames}
 use Rattle.parse_expressions.proofs.Following.{Iff}
 
--- what may follow behind the last of the names xs, to which others may join; K follows the whole list
+-- what may follow after the last of the names xs, to which others may join; K follows the whole list
 abbrev pub NamesThen : (List Name → List Mark → Type 0) → ℕ → List Name → List Mark → Type 0
 NamesThen K d xs w = (ys : List Name) × (m : List Mark) × ReadsMoreNames d ys w m × K (xs ++ ys) m
 
@@ -43,7 +43,7 @@ module _ (K : List Name → List Mark → Type 0) (d : ℕ) where
       to [] m r k = subst (λ (zs : List Name). K zs (inside t j ∷ w)) (append-nil xs) (subst (λ (ts : List Mark). K (xs ++ []) ts) (sym r) k)
       to (y ∷ ys) m r k = absurd (other (cc (r.1)))
 
-  -- the text ends behind a name
+  -- the text ends after a name
   pub names_end : (xs : List Name) → NamesThen K d xs [] → K xs []
   names_end xs h = to h.0 h.1 h.2 h.3
     where

@@ -70,17 +70,17 @@ module _ (n : ℕ) where
 
   pub simple_spans : (l : Bool) (d : ℕ) (s : Simple) (ts rest : List Mark) → ReadsSimple l d s ts rest → HaveSpans n ts → SimpleSpans n s × HaveSpans n rest
   simple_spans l d (express e) ts rest r a = value_spans l d e ts rest r a
-  simple_spans l d (assign ls place es) ts rest r a =
-      let i = values_spans n l d ls ts (inside (Assign place) d ∷ r.0) r.1 a in
+  simple_spans l d (assign ls pos es) ts rest r a =
+      let i = values_spans n l d ls ts (inside (Assign pos) d ∷ r.0) r.1 a in
       let k = values_spans n l d es r.0 rest r.2 i.1.1 in
       ((i.0, k.0), k.1)
-  simple_spans l d (update ls place op es) ts rest r a =
-      let i = values_spans n l d ls ts (inside (Update place op) d ∷ r.0) r.1 a in
+  simple_spans l d (update ls pos op es) ts rest r a =
+      let i = values_spans n l d ls ts (inside (Update pos op) d ∷ r.0) r.1 a in
       let k = values_spans n l d es r.0 rest r.2 i.1.1 in
       ((i.0, k.0), k.1)
-  simple_spans l d (define xs place es) ts rest r a =
-      let i = names_spans d xs ts (inside (Define place) d ∷ r.0) r.1 a in
+  simple_spans l d (define xs pos es) ts rest r a =
+      let i = names_spans d xs ts (inside (Define pos) d ∷ r.0) r.1 a in
       let k = values_spans n l d es r.0 rest r.2 i.1.1 in
       ((i.0, k.0), k.1)
-  simple_spans l d (increment e place) ts rest r a = let i = value_spans l d e ts (inside (Increment place) d ∷ rest) r a in (i.0, i.1.1)
-  simple_spans l d (decrement e place) ts rest r a = let i = value_spans l d e ts (inside (Decrement place) d ∷ rest) r a in (i.0, i.1.1)
+  simple_spans l d (increment e pos) ts rest r a = let i = value_spans l d e ts (inside (Increment pos) d ∷ rest) r a in (i.0, i.1.1)
+  simple_spans l d (decrement e pos) ts rest r a = let i = value_spans l d e ts (inside (Decrement pos) d ∷ rest) r a in (i.0, i.1.1)

@@ -1,4 +1,4 @@
--- A terminal behind an expression, an operator or a value of a simple statement divides the texts by it from the left.
+-- A terminal after an expression, an operator or a value of a simple statement divides the texts by it from the left.
 use Rattle.std.proofs.Common.{◌≡◌, ℕ, if◌then◌else◌, Bool, true, false, List, [], ◌∷◌, inl, inr, Option, Some, None, refl, sym, subst}
 use Rattle.base.specs.declared.pos.Pos.{Pos}
 use Rattle.syntax.specs.declared.operator.ArithmeticOp.{ArithmeticOp}
@@ -13,7 +13,7 @@ use Rattle.parse_expressions.specs.Machine as expression
 use Rattle.parse_expressions.specs.Machine.{Open, at_operand, operand}
 use Rattle.parse_expressions.proofs.Following as following
 use Rattle.parse_expressions.proofs.Following.{Iff}
-use Rattle.parse_simple_statements.specs.Simples.{Place, base_of, Listed, to_assign, to_update, to_define, listed_simple, at_value, fails, names_in, defines_names, behind_one, behind_list, behind_left, after_left, behind_value, after_value, ranges_over, step, nesting_after}
+use Rattle.parse_simple_statements.specs.Simples.{Context, expression_context, Listed, to_assign, to_update, to_define, listed_simple, at_value, fails, names_in, defines_names, behind_one, behind_list, behind_left, after_left, behind_value, after_value, ranges_over, step, nesting_after}
 use Rattle.parse_expressions.proofs.Quotient.{quotient as open_quotient}
 use Rattle.parse_expressions.proofs.Relations.{changed}
 use Rattle.parse_simple_statements.proofs.Marks.{next_at_read, next_at_other, iff_same, iff_trans, and_then, only_left, only_right}
@@ -21,7 +21,7 @@ use Rattle.parse_simple_statements.proofs.Starts.{NeverEnds, operand_starts}
 use Rattle.parse_simple_statements.proofs.ValueLists.{MoreValues, values_begin, values_comma, values_other, values_apart, value_valid}
 use Rattle.parse_simple_statements.proofs.SimplesFollowing.{RangeOver, BehindOperator, Operated, assigned, updated, defined, Single, expressed, incremented, decremented, Alone, BehindLeft, BehindValue, Apart, GoesOn, After}
 
-left_on : (p : Place) (t : Terminal) → following.GoesOn (base_of p) t → GoesOn p t
+left_on : (p : Context) (t : Terminal) → following.GoesOn (expression_context p) t → GoesOn p t
 left_on p (Operator q op) on = tt
 left_on p (LeftParen q) on = tt
 left_on p (Period q) on = tt
@@ -37,28 +37,28 @@ NoOperator (Update q op) = ⊥
 NoOperator (Define q) = ⊥
 NoOperator t = Unit {0}
 
-module _ (p : Place) (K : Simple → List Mark → Type 0) (R : Targets → Pos → List Mark → Type 0) where
-  -- ---- behind a value
+module _ (p : Context) (K : Simple → List Mark → Type 0) (R : Targets → Pos → List Mark → Type 0) where
+  -- ---- after a value
 
-  pub value_is_apart : Apart p K → (l : Listed) (es : Exs) → following.Apart (base_of p) (BehindValue p K l es)
+  pub value_is_apart : Apart p K → (l : Listed) (es : Exs) → following.Apart (expression_context p) (BehindValue p K l es)
   value_is_apart apart l es = values_apart p.literals p.depth (λ all_of m. K (listed_simple l all_of) m) es (λ xs t j w on. apart.never (listed_simple l xs) t j w (left_on p t on))
 
   behind_value_step : Apart p K → (l : Listed) (es : Exs) (e : Ex) (t : Terminal) (j : ℕ) (w : List Mark) → Iff (BehindValue p K l es e (inside t j ∷ w)) (After p K R (behind_value l (with_ex es e) t) p.depth t j w)
   behind_value_step apart l es e Comma j w = values_comma p.literals p.depth _ es e j w (apart.never (listed_simple l (with_ex es e)) Comma j w tt)
   behind_value_step apart l es e t j w = values_other p.literals p.depth (λ all_of m. K (listed_simple l all_of) m) es e t j w (λ is. cc)
 
-  pub value_after : Apart p K → (l : Listed) (es : Exs) (x : Open) (t : Terminal) (j : ℕ) (w : List Mark) (q : expression.Progress) → following.ValidNext (base_of p) q
-      → Iff (following.After (base_of p) (BehindValue p K l es) q (expression.nesting (base_of p) x t) t j w) (After p K R (after_value l es t q) (nesting_after (base_of p) x t q) t j w)
+  pub value_after : Apart p K → (l : Listed) (es : Exs) (x : Open) (t : Terminal) (j : ℕ) (w : List Mark) (q : expression.Progress) → following.ValidNext (expression_context p) q
+      → Iff (following.After (expression_context p) (BehindValue p K l es) q (expression.nesting (expression_context p) x t) t j w) (After p K R (after_value l es t q) (nesting_after (expression_context p) x t q) t j w)
   value_after apart l es x t j w expression.fails valid = iff_same _
   value_after apart l es x t j w (expression.goes y) valid = iff_same _
   value_after apart l es x t j w (expression.ends e) valid = let i = behind_value_step apart l es e t j w in (λ h. i.0 h.1, λ h. (valid, i.1 h))
 
-  -- ---- behind the operator
+  -- ---- after the operator
 
-  value_read : Apart p K → (l : Listed) (t : Terminal) (j : ℕ) (w : List Mark) → Iff (following.Rest (base_of p) (BehindValue p K l none) (at_operand []) (inside t j ∷ w)) (After p K R (after_value l none t (expression.step (base_of p) (at_operand []) t)) p.depth t j w)
-  value_read apart l t j w = iff_trans _ _ _ (open_quotient (base_of p) (BehindValue p K l none) (at_operand []) t j w (value_valid p.literals p.depth) (value_is_apart apart l none)) (starts (operand [] t) (operand_starts t))
+  value_read : Apart p K → (l : Listed) (t : Terminal) (j : ℕ) (w : List Mark) → Iff (following.Rest (expression_context p) (BehindValue p K l none) (at_operand []) (inside t j ∷ w)) (After p K R (after_value l none t (expression.step (expression_context p) (at_operand []) t)) p.depth t j w)
+  value_read apart l t j w = iff_trans _ _ _ (open_quotient (expression_context p) (BehindValue p K l none) (at_operand []) t j w (value_valid p.literals p.depth) (value_is_apart apart l none)) (starts (operand [] t) (operand_starts t))
     where
-      starts : (q : expression.Progress) → NeverEnds q → Iff (following.After (base_of p) (BehindValue p K l none) q p.depth t j w) (After p K R (after_value l none t q) p.depth t j w)
+      starts : (q : expression.Progress) → NeverEnds q → Iff (following.After (expression_context p) (BehindValue p K l none) q p.depth t j w) (After p K R (after_value l none t q) p.depth t j w)
       starts expression.fails never = iff_same _
       starts (expression.goes y) never = iff_same _
       starts (expression.ends e) never = absurd never
@@ -79,7 +79,7 @@ module _ (p : Place) (K : Simple → List Mark → Type 0) (R : Targets → Pos 
       (λ h. next_at_other Range p.depth (RangeOver R l) t j w (λ q e. cc) h.1)
       (iff_trans _ _ _ (values_begin p.literals p.depth (λ all_of m. K (listed_simple l all_of) m) (inside t j ∷ w)) (value_read apart l t j w))
 
-  -- ---- behind an expression that a statement begins with
+  -- ---- after an expression that a statement begins with
 
   alone_some : (es : Exs) (e g : Ex) (m : List Mark) → Alone p K (with_ex es e) g m → ⊥
   alone_some none e g m h = h
@@ -124,7 +124,7 @@ module _ (p : Place) (K : Simple → List Mark → Type 0) (R : Targets → Pos 
       to : (i : ℕ) → Operated p K R ls (inside (Define q) i ∷ w) → (i ≡ p.depth) × ((p.defines ≡ true) × (xs : List Name) × (names_in ls ≡ Some xs) × BehindOperator p K R (to_define xs q) w)
       to _ (defined {xs = xs} may is h) = (refl, (may, xs, is, h))
 
-  -- where a `:=` may stand, behind names alone
+  -- where a `:=` may stand, after names alone
   defines_read : (flag : Bool) (found : Option (List Name)) (q : Pos) (j : ℕ) (w : List Mark) → Iff ((j ≡ p.depth) × ((flag ≡ true) × (xs : List Name) × (found ≡ Some xs) × BehindOperator p K R (to_define xs q) w)) (After p K R (if flag then defines_names found q else fails) p.depth (Define q) j w)
   defines_read true (Some xs) q j w = (
     λ h.
@@ -136,20 +136,20 @@ module _ (p : Place) (K : Simple → List Mark → Type 0) (R : Targets → Pos 
   defines_read true None q j w = (λ h. let d = h.1 in absurd (cc (d.2)), λ h. absurd h)
   defines_read false found q j w = (λ h. let d = h.1 in absurd (cc (d.0)), λ h. absurd h)
 
-  left_comma : Apart p K → (es : Exs) (e : Ex) (j : ℕ) (w : List Mark) → Iff (BehindLeft p K R es e (inside Comma j ∷ w)) ((j ≡ p.depth) × following.Rest (base_of p) (BehindLeft p K R (with_ex es e)) (at_operand []) w)
+  left_comma : Apart p K → (es : Exs) (e : Ex) (j : ℕ) (w : List Mark) → Iff (BehindLeft p K R es e (inside Comma j ∷ w)) ((j ≡ p.depth) × following.Rest (expression_context p) (BehindLeft p K R (with_ex es e)) (at_operand []) w)
   left_comma apart es e j w =
       only_left _ _ _ (alone es)
       (iff_trans _ _ _ (values_comma p.literals p.depth (Operated p K R) es e j w (operated_comma (with_ex es e) j w))
       (and_then _ _ _ (
-        changed (base_of p) (MoreValues p.literals p.depth (Operated p K R) (with_ex es e)) (BehindLeft p K R (with_ex es e)) (at_operand []) w (λ g m h. inl h),
-        changed (base_of p) (BehindLeft p K R (with_ex es e)) (MoreValues p.literals p.depth (Operated p K R) (with_ex es e)) (at_operand []) w (λ g m h. elim h [ inl f ↦ f | inr f ↦ absurd (alone_some es e g m f) ]),
+        changed (expression_context p) (MoreValues p.literals p.depth (Operated p K R) (with_ex es e)) (BehindLeft p K R (with_ex es e)) (at_operand []) w (λ g m h. inl h),
+        changed (expression_context p) (BehindLeft p K R (with_ex es e)) (MoreValues p.literals p.depth (Operated p K R) (with_ex es e)) (at_operand []) w (λ g m h. elim h [ inl f ↦ f | inr f ↦ absurd (alone_some es e g m f) ]),
       )))
     where
       alone : (xs : Exs) → Alone p K xs e (inside Comma j ∷ w) → ⊥
       alone none h = apart.never (express e) Comma j w tt (single_other apart e Comma j w (λ q is. cc) (λ q is. cc) h)
       alone (some a xs) h = h
 
-  -- ---- behind an expression that is no list
+  -- ---- after an expression that is no list
 
   one_step : Apart p K → (e : Ex) (t : Terminal) (j : ℕ) (w : List Mark) → Iff (Single p K e (inside t j ∷ w)) (After p K R (behind_one e t) p.depth t j w)
   one_step apart e (Increment q) j w = (to j, λ h. subst (λ (i : ℕ). Single p K e (inside (Increment q) i ∷ w)) (sym h.0) (incremented h.1))
@@ -178,23 +178,23 @@ module _ (p : Place) (K : Simple → List Mark → Type 0) (R : Targets → Pos 
   behind_left_step apart es e (Define q) j w = iff_trans _ _ _ (operator_next apart es e (Define q) j w (λ is. cc) tt (λ x is. cc) (λ x is. cc)) (iff_trans _ _ _ (define_read (with_ex es e) q j w) (defines_read p.defines (names_in (with_ex es e)) q j w))
   behind_left_step apart es e t j w = iff_trans _ _ _ (no_operator es e t j w tt) (list_step apart es e t j w)
 
-  pub left_after : Apart p K → (es : Exs) (x : Open) (t : Terminal) (j : ℕ) (w : List Mark) (q : expression.Progress) → following.ValidNext (base_of p) q
-      → Iff (following.After (base_of p) (BehindLeft p K R es) q (expression.nesting (base_of p) x t) t j w) (After p K R (after_left p es t q) (nesting_after (base_of p) x t q) t j w)
+  pub left_after : Apart p K → (es : Exs) (x : Open) (t : Terminal) (j : ℕ) (w : List Mark) (q : expression.Progress) → following.ValidNext (expression_context p) q
+      → Iff (following.After (expression_context p) (BehindLeft p K R es) q (expression.nesting (expression_context p) x t) t j w) (After p K R (after_left p es t q) (nesting_after (expression_context p) x t q) t j w)
   left_after apart es x t j w expression.fails valid = iff_same _
   left_after apart es x t j w (expression.goes y) valid = iff_same _
   left_after apart es x t j w (expression.ends e) valid = let i = behind_left_step apart es e t j w in (λ h. i.0 h.1, λ h. (valid, i.1 h))
 
-  pub left_is_apart : Apart p K → (es : Exs) → following.Apart (base_of p) (BehindLeft p K R es)
+  pub left_is_apart : Apart p K → (es : Exs) → following.Apart (expression_context p) (BehindLeft p K R es)
   left_is_apart apart es = record { never = λ is e t j w on h. elim h [ inl f ↦ (values_is_apart).never is e t j w on f | inr f ↦ alone es e t j w on f ] }
     where
-      operator_on : (ls : Exs) (t : Terminal) (j : ℕ) (w : List Mark) → following.GoesOn (base_of p) t → Operated p K R ls (inside t j ∷ w) → ⊥
+      operator_on : (ls : Exs) (t : Terminal) (j : ℕ) (w : List Mark) → following.GoesOn (expression_context p) t → Operated p K R ls (inside t j ∷ w) → ⊥
       operator_on ls _ j w on (assigned h) = on
       operator_on ls _ j w on (updated h) = on
       operator_on ls _ j w on (defined may is h) = on
 
-      values_is_apart : following.Apart (base_of p) (MoreValues p.literals p.depth (Operated p K R) es)
+      values_is_apart : following.Apart (expression_context p) (MoreValues p.literals p.depth (Operated p K R) es)
       values_is_apart = values_apart p.literals p.depth (Operated p K R) es operator_on
 
-      alone : (xs : Exs) (e : Ex) (t : Terminal) (j : ℕ) (w : List Mark) → following.GoesOn (base_of p) t → Alone p K xs e (inside t j ∷ w) → ⊥
-      alone none e t j w on h = apart.never (express e) t j w (left_on p t on) (single_other apart e t j w (λ q is. subst (following.GoesOn (base_of p)) is on) (λ q is. subst (following.GoesOn (base_of p)) is on) h)
+      alone : (xs : Exs) (e : Ex) (t : Terminal) (j : ℕ) (w : List Mark) → following.GoesOn (expression_context p) t → Alone p K xs e (inside t j ∷ w) → ⊥
+      alone none e t j w on h = apart.never (express e) t j w (left_on p t on) (single_other apart e t j w (λ q is. subst (following.GoesOn (expression_context p)) is on) (λ q is. subst (following.GoesOn (expression_context p)) is on) h)
       alone (some a xs) e t j w on h = h

@@ -12,7 +12,7 @@ NeverEnds p = Unit {0}
 
 prefix_starts : (o : Option Prefix) → NeverEnds (after_prefix [] o)
 prefix_starts None = tt
-prefix_starts (Some (prefix place op)) = tt
+prefix_starts (Some (prefix pos op)) = tt
 
 pub operand_starts : (t : Terminal) → NeverEnds (operand [] t)
 operand_starts (Number q n) = tt
@@ -24,8 +24,8 @@ operand_starts t = prefix_starts (prefix_in t)
 
 type_prefix_starts : (o : Option Prefix) → NeverEnds (after_type_prefix [] o)
 type_prefix_starts None = tt
-type_prefix_starts (Some (prefix place Star)) = tt
-type_prefix_starts (Some (prefix place op)) = tt
+type_prefix_starts (Some (prefix pos Star)) = tt
+type_prefix_starts (Some (prefix pos op)) = tt
 
 pub type_starts : (t : Terminal) → NeverEnds (type_operand [] t)
 type_starts (Identifier x) = tt

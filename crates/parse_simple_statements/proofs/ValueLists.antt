@@ -5,13 +5,13 @@ use Rattle.syntax.specs.Lists.{appended, with_ex}
 use Rattle.parse_expressions.specs.declared.terminal.Terminal.{Terminal}
 use Rattle.parse_expressions.specs.declared.terminal.Terminal.TheVariants.{Comma}
 use Rattle.parse_expressions.specs.Grammar.{Mark, inside, AreValues, ReadsValue, ReadsEx, ReadsExs, ReadsMore}
-use Rattle.parse_expressions.specs.Machine.{Base, at_operand}
+use Rattle.parse_expressions.specs.Machine.{Context, at_operand}
 use Rattle.parse_expressions.proofs.Following.{Iff, Apart, GoesOn, ValidOpen}
 use Rattle.parse_expressions.proofs.Following as expression
 use Rattle.parse_expressions.proofs.Starts.{begins, begins_valid}
 
 -- where a value stands
-abbrev pub value_at : Bool → ℕ → Base
+abbrev pub value_at : Bool → ℕ → Context
 value_at l d = record { depth = d; literals = l; types = false }
 
 -- one value, and then what Then says
@@ -28,7 +28,7 @@ pub record Values (l : Bool) (d : ℕ) (Then : Exs → List Mark → Type 0) (w 
   pub reads : ReadsExs l d whole w rest
   pub follows : Then whole rest
 
--- other values behind es and e
+-- other values after es and e
 pub record MoreValues (l : Bool) (d : ℕ) (Then : Exs → List Mark → Type 0) (es : Exs) (e : Ex) (m : List Mark) : Type 0 where
   pub others : Exs
   pub rest : List Mark
@@ -95,7 +95,7 @@ module _ (l : Bool) (d : ℕ) (Then : Exs → List Mark → Type 0) where
       apart e t j w on none n r f = never (with_ex es e) t j w on (subst (λ (ts : List Mark). Then (with_ex es e) ts) (sym r) f)
       apart e t j w on (some g gs) n r f = let is : t ≡ Comma = cc (r.2) in subst (GoesOn (value_at l d)) is on
 
-  -- the text ends behind a value
+  -- the text ends after a value
   pub values_end : (es : Exs) (e : Ex) → MoreValues l d Then es e [] → Then (with_ex es e) []
   values_end es e h = to h.others h.rest h.reads h.follows
     where

@@ -1,4 +1,4 @@
--- What may follow where a declaration of constants or variables begins, behind its word, and where it may end.
+-- What may follow where a declaration of constants or variables begins, after its word, and where it may end.
 use Rattle.std.proofs.Common.{ℕ, suc, true, List, [], ◌∷◌, inl, inr, Option, Some, None, refl, sym, subst}
 use Rattle.syntax.specs.declared.expression.Name.{Name}
 use Rattle.syntax.specs.Expressions.{Ex, Exs, none, some}
@@ -9,7 +9,7 @@ use Rattle.parse_expressions.specs.Grammar.{Mark, inside}
 use Rattle.parse_expressions.specs.Machine.{at_type_operand}
 use Rattle.parse_expressions.proofs.Following.{Iff}
 use Rattle.parse_simple_statements.specs.Grammar.{Declares, of_constants, of_variables, IsGiven, ReadsOptionalType, ReadsInitial, ReadsValueSpec, AreGrouped, last_of_group, next_of_group, IsGroup, alone}
-use Rattle.parse_simple_statements.specs.ValueSpecs.{Spot, alone_here, in_group, Specs, at_first, at_spec, at_next_name, at_names, in_type, in_value, at_group_end, spot_depth, type_base, value_base}
+use Rattle.parse_simple_statements.specs.ValueSpecs.{Spot, alone_here, in_group, Specs, at_first, at_spec, at_next_name, at_names, in_type, in_value, at_group_end, spot_depth, type_context, value_context}
 use Rattle.parse_expressions.proofs.Starts.{begins_type}
 use Rattle.parse_expressions.proofs.TextEnds.{unfinished as open_unfinished}
 use Rattle.parse_simple_statements.proofs.Marks.{next_some}
@@ -64,7 +64,7 @@ module _ (k : Declares) (d : ℕ) (K : List ValueSpec → List Mark → Type 0) 
       to None none m n typed r g f = absurd (never_given k g)
       to None (some x es) m n typed r g f = absurd (cc (typed, r.2))
       to (Some t) es m n typed r g f =
-          let i = open_unfinished (type_base d s) (BehindType k d K s xs) (at_type_operand []) ((begins_type (type_base d s) (BehindType k d K s xs) [] refl).0 (t, m, typed, record { values = es; rest = n; reads = r; given = g; follows = f })) in
+          let i = open_unfinished (type_context d s) (BehindType k d K s xs) (at_type_operand []) ((begins_type (type_context d s) (BehindType k d K s xs) [] refl).0 (t, m, typed, record { values = es; rest = n; reads = r; given = g; follows = f })) in
           type_end s xs i.0 i.1
 
   pub unfinished : (s : Specs) → Rest k d K s [] → (specs : List ValueSpec) × K specs []
@@ -72,6 +72,6 @@ module _ (k : Declares) (d : ℕ) (K : List ValueSpec → List Mark → Type 0) 
   unfinished (at_spec done) h = absurd (group_some k d h.others h.rest h.reads)
   unfinished (at_next_name s xs) h = absurd (cc (h.4))
   unfinished (at_names s xs) h = names_then_end s xs (names_end (BehindNames k d K s) (spot_depth d s) xs h)
-  unfinished (in_type s xs o) h = let i = open_unfinished (type_base d s) (BehindType k d K s xs) o h in type_end s xs i.0 i.1
-  unfinished (in_value s xs o es e) h = let i = open_unfinished (value_base d s) (BehindValue k d K s xs o es) e h in value_end s xs o es i.0 i.1
+  unfinished (in_type s xs o) h = let i = open_unfinished (type_context d s) (BehindType k d K s xs) o h in type_end s xs i.0 i.1
+  unfinished (in_value s xs o es e) h = let i = open_unfinished (value_context d s) (BehindValue k d K s xs o es) e h in value_end s xs o es i.0 i.1
   unfinished (at_group_end done) h = (done, h)

@@ -9,7 +9,7 @@ use Rattle.parse_expressions.specs.declared.terminal.Terminal.TheVariants.{Opera
 use Rattle.parse_expressions.specs.Grammar.{Mark, inside}
 use Rattle.parse_expressions.proofs.Following as expression
 use Rattle.parse_simple_statements.specs.Grammar.{Declares, IsGiven, ReadsOptionalType, ReadsInitial, ReadsValueSpec, AreGrouped, IsGroup}
-use Rattle.parse_simple_statements.specs.ValueSpecs.{Spot, alone_here, in_group, Specs, at_first, at_spec, at_next_name, at_names, in_type, in_value, at_group_end, Progress, fails, goes, ends, spot_depth, type_base, value_base}
+use Rattle.parse_simple_statements.specs.ValueSpecs.{Spot, alone_here, in_group, Specs, at_first, at_spec, at_next_name, at_names, in_type, in_value, at_group_end, Progress, fails, goes, ends, spot_depth, type_context, value_context}
 use Rattle.parse_simple_statements.proofs.Marks.{Next}
 use Rattle.parse_simple_statements.proofs.NameLists.{NamesThen, NameWanted}
 use Rattle.parse_simple_statements.proofs.ValueLists.{MoreValues}
@@ -26,19 +26,19 @@ pub record Declared (k : Declares) (d : ℕ) (K : List ValueSpec → List Mark �
   pub reads : IsGroup (ReadsValueSpec k) d whole w rest
   pub follows : K whole rest
 
--- in parentheses, behind these
+-- in parentheses, after these
 pub record Grouped (k : Declares) (d : ℕ) (K : List ValueSpec → List Mark → Type 0) (done : List ValueSpec) (w : List Mark) : Type 0 where
   pub others : List ValueSpec
   pub rest : List Mark
   pub reads : AreGrouped (ReadsValueSpec k) d others w rest
   pub follows : K (done ++ others) rest
 
--- behind a whole one of them
+-- after a whole one of them
 abbrev pub BehindSpec : Declares → ℕ → (List ValueSpec → List Mark → Type 0) → Spot → ValueSpec → List Mark → Type 0
 BehindSpec k d K alone_here s m = K (s ∷ []) m
 BehindSpec k d K (in_group done) s m = Next RightParen d (K (done ++ s ∷ [])) m ⊎ Next Semicolon (suc d) (Grouped k d K (done ++ s ∷ [])) m
 
--- behind its names
+-- after its names
 pub record BehindNames (k : Declares) (d : ℕ) (K : List ValueSpec → List Mark → Type 0) (s : Spot) (xs : List Name) (w : List Mark) : Type 0 where
   pub type_expr : Option Ex
   pub values : Exs
@@ -49,7 +49,7 @@ pub record BehindNames (k : Declares) (d : ℕ) (K : List ValueSpec → List Mar
   pub given : IsGiven k type_expr values
   pub follows : BehindSpec k d K s (spec xs type_expr values) rest
 
--- behind its type
+-- after its type
 pub record BehindType (k : Declares) (d : ℕ) (K : List ValueSpec → List Mark → Type 0) (s : Spot) (xs : List Name) (e : Ex) (w : List Mark) : Type 0 where
   pub values : Exs
   pub rest : List Mark
@@ -57,7 +57,7 @@ pub record BehindType (k : Declares) (d : ℕ) (K : List ValueSpec → List Mark
   pub given : IsGiven k (Some e) values
   pub follows : BehindSpec k d K s (spec xs (Some e) values) rest
 
--- behind one of its values, behind the values es
+-- after one of its values, after the values es
 abbrev pub BehindValue : Declares → ℕ → (List ValueSpec → List Mark → Type 0) → Spot → List Name → Option Ex → Exs → Ex → List Mark → Type 0
 BehindValue k d K s xs o es e w = MoreValues true (spot_depth d s) (λ all_of m. BehindSpec k d K s (spec xs o all_of) m) es e w
 
@@ -66,15 +66,15 @@ Rest k d K at_first w = Declared k d K w
 Rest k d K (at_spec done) w = Grouped k d K done w
 Rest k d K (at_next_name s xs) w = NameWanted (BehindNames k d K s) (spot_depth d s) xs w
 Rest k d K (at_names s xs) w = NamesThen (BehindNames k d K s) (spot_depth d s) xs w
-Rest k d K (in_type s xs o) w = expression.Rest (type_base d s) (BehindType k d K s xs) o w
-Rest k d K (in_value s xs o es e) w = expression.Rest (value_base d s) (BehindValue k d K s xs o es) e w
+Rest k d K (in_type s xs o) w = expression.Rest (type_context d s) (BehindType k d K s xs) o w
+Rest k d K (in_value s xs o es e) w = expression.Rest (value_context d s) (BehindValue k d K s xs o es) e w
 Rest k d K (at_group_end done) w = K done w
 
 -- ---- what each state keeps
 
 abbrev pub Valid : ℕ → Specs → Type 0
-Valid d (in_type s xs o) = expression.ValidOpen (type_base d s) o
-Valid d (in_value s xs o es e) = expression.ValidOpen (value_base d s) e
+Valid d (in_type s xs o) = expression.ValidOpen (type_context d s) o
+Valid d (in_value s xs o es e) = expression.ValidOpen (value_context d s) e
 Valid d _ = Unit {0}
 
 abbrev pub ValidNext : ℕ → Progress → Type 0
@@ -82,16 +82,16 @@ ValidNext d fails = Unit {0}
 ValidNext d (goes s) = Valid d s
 ValidNext d (ends done) = Unit {0}
 
--- ---- a terminal, and what follows behind it
+-- ---- a terminal, and what follows it
 
 -- a terminal that goes on with a declaration that may be whole
 abbrev pub GoesOn : Terminal → Type 0
-GoesOn (Operator place op) = Unit {0}
-GoesOn (LeftParen place) = Unit {0}
-GoesOn (Period place) = Unit {0}
-GoesOn (LeftBracket place) = Unit {0}
-GoesOn (LeftBrace place) = Unit {0}
-GoesOn (Assign place) = Unit {0}
+GoesOn (Operator pos op) = Unit {0}
+GoesOn (LeftParen pos) = Unit {0}
+GoesOn (Period pos) = Unit {0}
+GoesOn (LeftBracket pos) = Unit {0}
+GoesOn (LeftBrace pos) = Unit {0}
+GoesOn (Assign pos) = Unit {0}
 GoesOn Comma = Unit {0}
 GoesOn _ = ⊥
 

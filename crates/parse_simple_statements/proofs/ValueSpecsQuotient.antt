@@ -9,7 +9,7 @@ use Rattle.parse_expressions.specs.Grammar.{Mark, inside}
 use Rattle.parse_expressions.specs.Machine as expression
 use Rattle.parse_expressions.proofs.Following.{Iff}
 use Rattle.parse_simple_statements.specs.Grammar.{Declares, ReadsValueSpec, AreGrouped, group_ends, last_of_group, next_of_group, IsGroup, alone, grouped}
-use Rattle.parse_simple_statements.specs.ValueSpecs.{Spot, alone_here, in_group, Specs, at_first, at_spec, at_next_name, at_names, in_type, in_value, at_group_end, spot_depth, type_base, value_base, step, nesting}
+use Rattle.parse_simple_statements.specs.ValueSpecs.{Spot, alone_here, in_group, Specs, at_first, at_spec, at_next_name, at_names, in_type, in_value, at_group_end, spot_depth, type_context, value_context, step, nesting}
 use Rattle.parse_expressions.proofs.Quotient.{quotient as open_quotient}
 use Rattle.parse_expressions.proofs.Viable.{valid_next as open_valid}
 use Rattle.parse_simple_statements.proofs.Marks.{iff_same, iff_trans}
@@ -51,7 +51,7 @@ module _ (k : Declares) (d : ℕ) (K : List ValueSpec → List Mark → Type 0) 
     where
       to : (x : Terminal) (i : ℕ) (v : List Mark) → ((q : Pos) → x ≡ LeftParen q → ⊥) → (specs : List ValueSpec) (rest : List Mark) → IsGroup (ReadsValueSpec k) d specs (inside x i ∷ v) rest → K specs rest → OneSpec k d K alone_here (inside x i ∷ v)
       to x i v never _ rest (alone {a = a} r) f = record { whole = a; rest = rest; reads = r; follows = f }
-      to _ i v never specs rest (grouped {place = q} r) f = absurd (never q refl)
+      to _ i v never specs rest (grouped {pos = q} r) f = absurd (never q refl)
 
   group_read : (q : Pos) (j : ℕ) (w : List Mark) → Iff (Declared k d K (inside (LeftParen q) j ∷ w)) ((j ≡ d) × Grouped k d K [] w)
   group_read q j w = (λ h. to j h.whole h.rest h.reads h.follows, λ h. back j h.0 h.1)
@@ -111,10 +111,10 @@ quotient k d K (at_next_name s xs) t j w valid apart = next_name_step k d K apar
 quotient k d K (at_names s xs) t j w valid apart = names_step k d K apart s xs t j w
 quotient k d K (in_type s xs o) t j w valid apart =
     iff_trans _ _ _
-    (open_quotient (type_base d s) (BehindType k d K s xs) o t j w valid (type_is_apart k d K s xs))
-    (type_after k d K apart s xs o t j w (expression.step (type_base d s) o t) (open_valid (type_base d s) o t valid))
+    (open_quotient (type_context d s) (BehindType k d K s xs) o t j w valid (type_is_apart k d K s xs))
+    (type_after k d K apart s xs o t j w (expression.step (type_context d s) o t) (open_valid (type_context d s) o t valid))
 quotient k d K (in_value s xs o es e) t j w valid apart =
     iff_trans _ _ _
-    (open_quotient (value_base d s) (BehindValue k d K s xs o es) e t j w valid (value_is_apart k d K apart s xs o es))
-    (value_after k d K apart s xs o es e t j w (expression.step (value_base d s) e t) (open_valid (value_base d s) e t valid))
+    (open_quotient (value_context d s) (BehindValue k d K s xs o es) e t j w valid (value_is_apart k d K apart s xs o es))
+    (value_after k d K apart s xs o es e t j w (expression.step (value_context d s) e t) (open_valid (value_context d s) e t valid))
 quotient k d K (at_group_end done) t j w valid apart = iff_same _

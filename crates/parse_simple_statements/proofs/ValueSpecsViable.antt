@@ -12,7 +12,7 @@ use Rattle.parse_expressions.specs.Machine as expression
 use Rattle.parse_expressions.specs.Machine.{at_type_operand}
 use Rattle.parse_expressions.proofs.Following as following
 use Rattle.parse_simple_statements.specs.Grammar.{Declares, of_constants, of_variables, IsGiven, group_ends, alone}
-use Rattle.parse_simple_statements.specs.ValueSpecs.{Spot, alone_here, in_group, Specs, at_first, at_spec, at_next_name, at_names, in_type, in_value, at_group_end, goes, spot_depth, type_base, value_base, spec_ends, value_wanted, behind_type, after_type, behind_value, after_value, step}
+use Rattle.parse_simple_statements.specs.ValueSpecs.{Spot, alone_here, in_group, Specs, at_first, at_spec, at_next_name, at_names, in_type, in_value, at_group_end, goes, spot_depth, type_context, value_context, spec_ends, value_wanted, behind_type, after_type, behind_value, after_value, step}
 use Rattle.parse_expressions.proofs.Starts.{begins_type_valid}
 use Rattle.parse_expressions.proofs.Viable.{valid_next as open_valid, viable as open_viable}
 use Rattle.parse_simple_statements.proofs.Shortest.{origin, some_word, zero_at_origin}
@@ -35,7 +35,7 @@ behind_type_valid k d s xs e (Assign q) = wanted_valid d s xs (Some e) none
 behind_type_valid of_constants d s xs e t = tt
 behind_type_valid of_variables d s xs e t = ends_valid d s (spec xs (Some e) none) t
 
-after_type_valid : (k : Declares) (d : ℕ) (s : Spot) (xs : List Name) (t : Terminal) (p : expression.Progress) → following.ValidNext (type_base d s) p → ValidNext d (after_type k s xs t p)
+after_type_valid : (k : Declares) (d : ℕ) (s : Spot) (xs : List Name) (t : Terminal) (p : expression.Progress) → following.ValidNext (type_context d s) p → ValidNext d (after_type k s xs t p)
 after_type_valid k d s xs t expression.fails valid = tt
 after_type_valid k d s xs t (expression.goes o) valid = valid
 after_type_valid k d s xs t (expression.ends e) valid = behind_type_valid k d s xs e t
@@ -44,7 +44,7 @@ behind_value_valid : (d : ℕ) (s : Spot) (xs : List Name) (o : Option Ex) (es :
 behind_value_valid d s xs o es Comma = wanted_valid d s xs o es
 behind_value_valid d s xs o es t = ends_valid d s (spec xs o es) t
 
-after_value_valid : (d : ℕ) (s : Spot) (xs : List Name) (o : Option Ex) (es : Exs) (t : Terminal) (p : expression.Progress) → following.ValidNext (value_base d s) p → ValidNext d (after_value s xs o es t p)
+after_value_valid : (d : ℕ) (s : Spot) (xs : List Name) (o : Option Ex) (es : Exs) (t : Terminal) (p : expression.Progress) → following.ValidNext (value_context d s) p → ValidNext d (after_value s xs o es t p)
 after_value_valid d s xs o es t expression.fails valid = tt
 after_value_valid d s xs o es t (expression.goes e) valid = valid
 after_value_valid d s xs o es t (expression.ends e) valid = behind_value_valid d s xs o (with_ex es e) t
@@ -66,15 +66,15 @@ next_name_valid k d s xs t = tt
 names_valid : (k : Declares) (d : ℕ) (s : Spot) (xs : List Name) (t : Terminal) → ValidNext d (step k d (at_names s xs) t)
 names_valid k d s xs Comma = tt
 names_valid k d s xs (Assign q) = wanted_valid d s xs None none
-names_valid k d s xs t = after_type_valid k d s xs t (expression.step (type_base d s) (at_type_operand []) t) (open_valid (type_base d s) (at_type_operand []) t (begins_type_valid (type_base d s) refl))
+names_valid k d s xs t = after_type_valid k d s xs t (expression.step (type_context d s) (at_type_operand []) t) (open_valid (type_context d s) (at_type_operand []) t (begins_type_valid (type_context d s) refl))
 
 pub valid_next : (k : Declares) (d : ℕ) (s : Specs) (t : Terminal) → Valid d s → ValidNext d (step k d s t)
 valid_next k d at_first t valid = first_valid k d t
 valid_next k d (at_spec done) t valid = spec_valid k d done t
 valid_next k d (at_next_name s xs) t valid = next_name_valid k d s xs t
 valid_next k d (at_names s xs) t valid = names_valid k d s xs t
-valid_next k d (in_type s xs o) t valid = after_type_valid k d s xs t (expression.step (type_base d s) o t) (open_valid (type_base d s) o t valid)
-valid_next k d (in_value s xs o es e) t valid = after_value_valid d s xs o es t (expression.step (value_base d s) e t) (open_valid (value_base d s) e t valid)
+valid_next k d (in_type s xs o) t valid = after_type_valid k d s xs t (expression.step (type_context d s) o t) (open_valid (type_context d s) o t valid)
+valid_next k d (in_value s xs o es e) t valid = after_value_valid d s xs o es t (expression.step (value_context d s) e t) (open_valid (value_context d s) e t valid)
 valid_next k d (at_group_end done) t valid = tt
 
 pub valid_step : (k : Declares) (d : ℕ) (s : Specs) (t : Terminal) (next : Specs) → Valid d s → step k d s t ≡ goes next → Valid d next
@@ -82,7 +82,7 @@ valid_step k d s t next valid is = subst (ValidNext d) is (valid_next k d s t va
 
 -- ---- some text follows
 
--- the value 0 behind a `=`, inside of d brackets
+-- the value 0 after a `=`, inside of d brackets
 abbrev zero_given : ℕ → List Mark → List Mark
 zero_given d n = inside (Assign origin) d ∷ inside (Number origin 0) d ∷ n
 
@@ -122,9 +122,9 @@ module _ (k : Declares) (d : ℕ) (K : List ValueSpec → List Mark → Type 0) 
   viable_in (at_names s xs) valid =
       let f = names_then s xs in
       (f.0, ([], f.0, refl, subst (λ (zs : List Name). BehindNames k d K s zs f.0) (sym (append-nil xs)) f.1))
-  viable_in (in_type s xs o) valid = open_viable (type_base d s) (BehindType k d K s xs) o valid (λ e is. type_then s xs e)
+  viable_in (in_type s xs o) valid = open_viable (type_context d s) (BehindType k d K s xs) o valid (λ e is. type_then s xs e)
   viable_in (in_value s xs o es e) valid =
-      open_viable (value_base d s) _ e valid (λ x is. let f = spec_then s (spec xs o (with_ex es x)) in (f.0, record { others = none; rest = f.0; values = tt; reads = refl; follows = f.1 }))
+      open_viable (value_context d s) _ e valid (λ x is. let f = spec_then s (spec xs o (with_ex es x)) in (f.0, record { others = none; rest = f.0; values = tt; reads = refl; follows = f.1 }))
   viable_in (at_group_end done) valid = done_some done
 
 pub viable : (k : Declares) (d : ℕ) (K : List ValueSpec → List Mark → Type 0) (s : Specs) → Valid d s → ((specs : List ValueSpec) → (n : List Mark) × K specs n) → (w : List Mark) × Rest k d K s w

@@ -1,5 +1,5 @@
 -- The grammar of declarations of constants and variables, and of simple statements [Go specification, Constant declarations, Variable
--- declarations, Statements]. In each relation the marks ts begin with those of the tree, and rest is left behind them; all that a
+-- declarations, Statements]. In each relation the marks ts begin with those of the tree, and rest is left after them; all that a
 -- statement has stands inside of d brackets.
 use Rattle.std.specs.Prelude.{◌≡◌, ℕ, suc, Bool, true, false, List, [], ◌∷◌, Option, Some, None}
 use Rattle.base.specs.declared.pos.Pos.{Pos}
@@ -11,7 +11,7 @@ use Rattle.parse_expressions.specs.Grammar.{Mark, inside, ReadsType, ReadsValue,
 
 -- ---- names
 
--- further names, each behind a comma
+-- further names, each after a comma
 abbrev pub ReadsMoreNames : ℕ → List Name → List Mark → List Mark → Type 0
 ReadsMoreNames d [] ts rest = ts ≡ rest
 ReadsMoreNames d (x ∷ xs) ts rest = (m : List Mark) × (ts ≡ inside Comma d ∷ inside (Identifier x) d ∷ m) × ReadsMoreNames d xs m rest
@@ -41,17 +41,17 @@ abbrev pub ReadsOptionalType : ℕ → Option Ex → List Mark → List Mark →
 ReadsOptionalType d None ts rest = ts ≡ rest
 ReadsOptionalType d (Some t) ts rest = ReadsType true d t ts rest
 
--- the values, behind a `=`
+-- the values, after a `=`
 abbrev pub ReadsInitial : ℕ → Exs → List Mark → List Mark → Type 0
 ReadsInitial d none ts rest = ts ≡ rest
-ReadsInitial d (some e es) ts rest = (place : Pos) × (m : List Mark) × (ts ≡ inside (Assign place) d ∷ m) × ReadsExs true d (some e es) m rest
+ReadsInitial d (some e es) ts rest = (pos : Pos) × (m : List Mark) × (ts ≡ inside (Assign pos) d ∷ m) × ReadsExs true d (some e es) m rest
 
 abbrev pub ReadsValueSpec : Declares → ℕ → ValueSpec → List Mark → List Mark → Type 0
 ReadsValueSpec k d s ts rest = (m n : List Mark) × ReadsNames d s.names ts m × ReadsOptionalType d s.type_expr m n × ReadsInitial d s.values n rest × IsGiven k s.type_expr s.values
 
--- One of some kind, or any number of them in parentheses, each with a semicolon behind it; the last one may leave it out.
+-- One of some kind, or any number of them in parentheses, each with a semicolon after it; the last one may leave it out.
 module _ {A : Type 0} (Reads : ℕ → A → List Mark → List Mark → Type 0) where
-  -- from behind the opening parenthesis to behind the closing one
+  -- from after the opening parenthesis to after the closing one
   pub data AreGrouped : ℕ → List A → List Mark → List Mark → Type 0 where
     group_ends : {d : ℕ} {rest : List Mark} → AreGrouped d [] (inside RightParen d ∷ rest) rest
     last_of_group : {d : ℕ} {a : A} {ts rest : List Mark} → Reads (suc d) a ts (inside RightParen d ∷ rest) → AreGrouped d (a ∷ []) ts rest
@@ -59,20 +59,20 @@ module _ {A : Type 0} (Reads : ℕ → A → List Mark → List Mark → Type 0)
 
   pub data IsGroup : ℕ → List A → List Mark → List Mark → Type 0 where
     alone : {d : ℕ} {a : A} {ts rest : List Mark} → Reads d a ts rest → IsGroup d (a ∷ []) ts rest
-    grouped : {d : ℕ} {all_of : List A} {place : Pos} {m rest : List Mark} → AreGrouped d all_of m rest → IsGroup d all_of (inside (LeftParen place) d ∷ m) rest
+    grouped : {d : ℕ} {all_of : List A} {pos : Pos} {m rest : List Mark} → AreGrouped d all_of m rest → IsGroup d all_of (inside (LeftParen pos) d ∷ m) rest
 
 -- ---- simple statements
 
 -- with `false` a literal that begins with a name stands in parentheses
 abbrev pub ReadsSimple : Bool → ℕ → Simple → List Mark → List Mark → Type 0
 ReadsSimple l d (express e) ts rest = ReadsValue l d e ts rest
-ReadsSimple l d (assign ls place es) ts rest = (m : List Mark) × ReadsExs l d ls ts (inside (Assign place) d ∷ m) × ReadsExs l d es m rest
-ReadsSimple l d (update ls place op es) ts rest = (m : List Mark) × ReadsExs l d ls ts (inside (Update place op) d ∷ m) × ReadsExs l d es m rest
-ReadsSimple l d (define xs place es) ts rest = (m : List Mark) × ReadsNames d xs ts (inside (Define place) d ∷ m) × ReadsExs l d es m rest
-ReadsSimple l d (increment e place) ts rest = ReadsValue l d e ts (inside (Increment place) d ∷ rest)
-ReadsSimple l d (decrement e place) ts rest = ReadsValue l d e ts (inside (Decrement place) d ∷ rest)
+ReadsSimple l d (assign ls pos es) ts rest = (m : List Mark) × ReadsExs l d ls ts (inside (Assign pos) d ∷ m) × ReadsExs l d es m rest
+ReadsSimple l d (update ls pos op es) ts rest = (m : List Mark) × ReadsExs l d ls ts (inside (Update pos op) d ∷ m) × ReadsExs l d es m rest
+ReadsSimple l d (define xs pos es) ts rest = (m : List Mark) × ReadsNames d xs ts (inside (Define pos) d ∷ m) × ReadsExs l d es m rest
+ReadsSimple l d (increment e pos) ts rest = ReadsValue l d e ts (inside (Increment pos) d ∷ rest)
+ReadsSimple l d (decrement e pos) ts rest = ReadsValue l d e ts (inside (Decrement pos) d ∷ rest)
 
 -- a post statement declares nothing
 abbrev pub IsPost : Simple → Type 0
-IsPost (define xs place es) = ⊥
+IsPost (define xs pos es) = ⊥
 IsPost _ = Unit {0}

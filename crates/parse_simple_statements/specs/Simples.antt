@@ -9,19 +9,19 @@ use Rattle.syntax.specs.Statements.{Simple, express, assign, update, define, inc
 use Rattle.syntax.specs.Lists.{with_ex}
 use Rattle.parse_expressions.specs.declared.terminal.Terminal.{Terminal}
 use Rattle.parse_expressions.specs.declared.terminal.Terminal.TheVariants.{Range, Assign, Update, Define, Increment, Decrement, Comma}
-use Rattle.parse_expressions.specs.Machine.{Base, Open, at_operand}
+use Rattle.parse_expressions.specs.Machine.{Context as ExpressionContext, Open, at_operand}
 use Rattle.parse_expressions.specs.Machine as expression
 
 -- where a simple statement stands: inside of how many brackets, whether a literal in it may begin with a name, whether it may be a
 -- `:=`, and whether a `range` may follow its operator
-pub record Place : Type 0 where
+pub record Context : Type 0 where
   pub depth : ℕ
   pub literals : Bool
   pub defines : Bool
   pub ranges : Bool
 
-abbrev pub base_of : Place → Base
-base_of p = record { depth = p.depth; literals = p.literals; types = false }
+abbrev pub expression_context : Context → ExpressionContext
+expression_context p = record { depth = p.depth; literals = p.literals; types = false }
 
 -- a statement with values, up to its operator
 pub data Listed : Type 0 where
@@ -30,19 +30,19 @@ pub data Listed : Type 0 where
   to_define : List Name → Pos → Listed
 
 abbrev pub listed_simple : Listed → Exs → Simple
-listed_simple (to_assign ls place) es = assign ls place es
-listed_simple (to_update ls place op) es = update ls place op es
-listed_simple (to_define xs place) es = define xs place es
+listed_simple (to_assign ls pos) es = assign ls pos es
+listed_simple (to_update ls pos op) es = update ls pos op es
+listed_simple (to_define xs pos) es = define xs pos es
 
 -- what was read, and what is wanted next
 pub data Simples : Type 0 where
-  -- an expression is read behind these
+  -- an expression is read after these
   in_left : Exs → Open → Simples
-  -- behind the operator
+  -- after the operator
   at_value : Listed → Simples
-  -- a value is read behind these
+  -- a value is read after these
   in_value : Listed → Exs → Open → Simples
-  -- behind `++` or `--`
+  -- after `++` or `--`
   at_end : Simple → Simples
 
 -- where a simple statement begins
@@ -63,28 +63,28 @@ names_in (some (name x) es) = option_map (λ xs. x ∷ xs) (names_in es)
 names_in (some e es) = None
 
 abbrev pub defines_names : Option (List Name) → Pos → Progress
-defines_names (Some xs) place = goes (at_value (to_define xs place))
-defines_names None place = fails
+defines_names (Some xs) pos = goes (at_value (to_define xs pos))
+defines_names None pos = fails
 
--- a terminal behind the only expression so far
+-- a terminal after the only expression so far
 abbrev pub behind_one : Ex → Terminal → Progress
-behind_one e (Increment place) = goes (at_end (increment e place))
-behind_one e (Decrement place) = goes (at_end (decrement e place))
+behind_one e (Increment pos) = goes (at_end (increment e pos))
+behind_one e (Decrement pos) = goes (at_end (decrement e pos))
 behind_one e t = ends (express e)
 
--- a terminal behind these expressions, of which e is the last
+-- a terminal after these expressions, of which e is the last
 abbrev pub behind_list : Exs → Ex → Terminal → Progress
 behind_list none e t = behind_one e t
 behind_list (some a es) e t = fails
 
-abbrev pub behind_left : Place → Exs → Ex → Terminal → Progress
+abbrev pub behind_left : Context → Exs → Ex → Terminal → Progress
 behind_left p es e Comma = goes (in_left (with_ex es e) (at_operand []))
-behind_left p es e (Assign place) = goes (at_value (to_assign (with_ex es e) place))
-behind_left p es e (Update place op) = goes (at_value (to_update (with_ex es e) place op))
-behind_left p es e (Define place) = if p.defines then defines_names (names_in (with_ex es e)) place else fails
+behind_left p es e (Assign pos) = goes (at_value (to_assign (with_ex es e) pos))
+behind_left p es e (Update pos op) = goes (at_value (to_update (with_ex es e) pos op))
+behind_left p es e (Define pos) = if p.defines then defines_names (names_in (with_ex es e)) pos else fails
 behind_left p es e t = behind_list es e t
 
-abbrev pub after_left : Place → Exs → Terminal → expression.Progress → Progress
+abbrev pub after_left : Context → Exs → Terminal → expression.Progress → Progress
 after_left p es t expression.fails = fails
 after_left p es t (expression.goes o) = goes (in_left es o)
 after_left p es t (expression.ends e) = behind_left p es e t
@@ -98,27 +98,27 @@ after_value l es t expression.fails = fails
 after_value l es t (expression.goes o) = goes (in_value l es o)
 after_value l es t (expression.ends e) = behind_value l (with_ex es e) t
 
--- a `range` behind the operator
+-- a `range` after the operator
 abbrev pub ranges_over : Listed → Pos → Progress
-ranges_over (to_assign ls place) at = ranges (targets_assigned ls place) at
-ranges_over (to_update ls place op) at = fails
-ranges_over (to_define xs place) at = ranges (targets_defined xs place) at
+ranges_over (to_assign ls pos) range_pos = ranges (targets_assigned ls pos) range_pos
+ranges_over (to_update ls pos op) range_pos = fails
+ranges_over (to_define xs pos) range_pos = ranges (targets_defined xs pos) range_pos
 
-abbrev pub step : Place → Simples → Terminal → Progress
-step p (in_left es o) t = after_left p es t (expression.step (base_of p) o t)
-step p (at_value l) (Range at) = if p.ranges then ranges_over l at else fails
-step p (at_value l) t = after_value l none t (expression.step (base_of p) (at_operand []) t)
-step p (in_value l es o) t = after_value l es t (expression.step (base_of p) o t)
+abbrev pub step : Context → Simples → Terminal → Progress
+step p (in_left es o) t = after_left p es t (expression.step (expression_context p) o t)
+step p (at_value l) (Range range_pos) = if p.ranges then ranges_over l range_pos else fails
+step p (at_value l) t = after_value l none t (expression.step (expression_context p) (at_operand []) t)
+step p (in_value l es o) t = after_value l es t (expression.step (expression_context p) o t)
 step p (at_end s) t = ends s
 
 -- ---- the nesting of the next terminal, where the machine goes on or a `range` begins
 
-abbrev pub nesting_after : Base → Open → Terminal → expression.Progress → ℕ
+abbrev pub nesting_after : ExpressionContext → Open → Terminal → expression.Progress → ℕ
 nesting_after b o t (expression.goes q) = expression.nesting b o t
 nesting_after b o t q = b.depth
 
-abbrev pub nesting : Place → Simples → Terminal → ℕ
-nesting p (in_left es o) t = nesting_after (base_of p) o t (expression.step (base_of p) o t)
+abbrev pub nesting : Context → Simples → Terminal → ℕ
+nesting p (in_left es o) t = nesting_after (expression_context p) o t (expression.step (expression_context p) o t)
 nesting p (at_value l) t = p.depth
-nesting p (in_value l es o) t = nesting_after (base_of p) o t (expression.step (base_of p) o t)
+nesting p (in_value l es o) t = nesting_after (expression_context p) o t (expression.step (expression_context p) o t)
 nesting p (at_end s) t = p.depth

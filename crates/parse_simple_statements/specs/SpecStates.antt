@@ -1,5 +1,6 @@
 -- The states of the code that reads declarations of constants and variables, as those of the machine, and what a step answers.
 use Rattle.std.specs.Prelude.{◌≡◌, ℕ, ◌<◌, ◌≤◌, Result, Ok, Err}
+use Rattle.syntax.specs.declared.limit.TheConstants.{NESTING_LIMIT}
 use Rattle.syntax.specs.Expressions.{exs_of, ex_in}
 use Rattle.syntax.specs.Statements.{value_specs_of}
 use Rattle.parse_expressions.specs.declared.fault.StepFault.{StepFault}
@@ -39,9 +40,9 @@ GoesOn _ = ⊥
 abbrev pub FailsStep : StepFault → Progress → ℕ → Type 0
 FailsStep fault.NoMemory then n = Unit {0}
 FailsStep fault.Unexpected then n = then ≡ fails
-FailsStep fault.TooDeep then n = (200 < n) × GoesOn then
+FailsStep fault.TooDeep then n = (NESTING_LIMIT < n) × GoesOn then
 
 abbrev pub Steps : Result SpecsProgress StepFault → ℕ → Progress → ℕ → Type 0
-Steps (Ok (progress.Goes s)) d then n = (then ≡ goes (specs_of s)) × (depth_of s ≡ d) × (n ≤ 200)
+Steps (Ok (progress.Goes s)) d then n = (then ≡ goes (specs_of s)) × (depth_of s ≡ d) × (n ≤ NESTING_LIMIT)
 Steps (Ok (progress.Ends specs)) d then n = then ≡ ends (value_specs_of specs.items)
 Steps (Err e) d then n = FailsStep e then n

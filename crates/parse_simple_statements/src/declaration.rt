@@ -1,13 +1,13 @@
 //! The machine of declarations of constants and variables.
 
-ghost use Rattle.std.specs.Prelude.{◌≡◌, ℕ, ◌≤◌, ◌∷◌, ◌++◌, [], Some, None, IfOk};
+ghost use Rattle.std.specs.Prelude.{◌+◌, ◌≡◌, ℕ, ◌≤◌, ◌∷◌, ◌++◌, [], Some, None, IfOk};
 ghost use Rattle.syntax.specs.Expressions.{none, ex_of, exs_of, ex_in};
 ghost use Rattle.syntax.specs.Statements.{ValueSpec as AnySpec, value_spec_of, value_specs_of};
 ghost use Rattle.syntax.specs.Lists.{with_ex};
 ghost use Rattle.parse_expressions.specs.Machine as expression;
-ghost use Rattle.parse_expressions.specs.States.{open_of, base_of};
+ghost use Rattle.parse_expressions.specs.States.{open_of, context_in};
 ghost use Rattle.parse_simple_statements.specs.Grammar.{Declares as AnyDeclares};
-ghost use Rattle.parse_simple_statements.specs.ValueSpecs.{in_group, at_first, at_spec, at_next_name, at_names, goes, spot_depth, type_base, value_base, spec_ends, value_wanted, behind_type, after_type, behind_value, after_value, step, nesting, nesting_at_end, nesting_after};
+ghost use Rattle.parse_simple_statements.specs.ValueSpecs.{in_group, at_first, at_spec, at_next_name, at_names, goes, spot_depth, type_context, value_context, spec_ends, value_wanted, behind_type, after_type, behind_value, after_value, step, nesting, nesting_at_end, nesting_after};
 ghost use Rattle.parse_simple_statements.specs.Spots.{declares_of, spot_of};
 ghost use Rattle.parse_simple_statements.specs.SpecStates.{specs_of, depth_of, Steps};
 
@@ -15,13 +15,13 @@ use crate::depth::Depth;
 use crate::nodes::{with_spec, with_value};
 use crate::spot::{Declares, Spot};
 use crate::value_specs::{InType, InValue, Named, SpecsProgress, ValueSpecs, Valued};
-use parse_expressions::{MOST, Open, Progress, StepFault, Terminal, expression, step, type_wanted};
+use parse_expressions::{Open, Progress, StepFault, Terminal, expression, step, type_wanted};
 use std::alloc::{AllocError, Global};
-use syntax::{Expr, Name, ValueSpec};
+use syntax::{Expr, NESTING_LIMIT, Name, ValueSpec};
 
-/// A declaration begins behind its word, inside of `depth` brackets.
+/// A declaration begins after its word, inside of `depth` brackets.
 pub fn begin_specs(depth: usize) -> ValueSpecs
-    requires { depth ≤ 201 }
+    requires { depth ≤ NESTING_LIMIT + 1 }
     ensures first { specs_of result ≡ at_first }
     ensures depth { depth_of result ≡ depth }
 {
@@ -32,14 +32,14 @@ pub fn begin_specs(depth: usize) -> ValueSpecs
 fn limited(nesting: usize, next: ValueSpecs) -> Result<SpecsProgress, StepFault>
     ensures { Steps result (depth_of next) (goes (specs_of next)) nesting }
 {
-    if nesting > MOST {
+    if nesting > NESTING_LIMIT {
         drop(next);
         return Err(StepFault::TooDeep);
     }
     Ok(SpecsProgress::Goes(next))
 }
 
-/// A token behind the word.
+/// A token after the word.
 fn first(alloc: Global, depth: Depth, token: Terminal) -> Result<SpecsProgress, StepFault>
     ensures { (k : AnyDeclares) → let d = depth.brackets in
         Steps result d (step k d at_first token) (nesting d at_first token) }
@@ -88,7 +88,7 @@ fn spec(
 /// Inside of how many brackets one of them stands.
 fn spot_depth(depth: Depth, spot: &Spot) -> usize
     ensures depth { result ≡ spot_depth depth.brackets (spot_of spot.now) }
-    ensures small { result ≤ 202 }
+    ensures small { result ≤ NESTING_LIMIT + 2 }
 {
     match spot {
         Spot::Alone => depth.brackets,
@@ -96,7 +96,7 @@ fn spot_depth(depth: Depth, spot: &Spot) -> usize
     }
 }
 
-/// A token behind names and a comma.
+/// A token after names and a comma.
 fn next_name(mut named: Named, token: Terminal) -> Result<SpecsProgress, StepFault>
     ensures { (k : AnyDeclares) → let d = named.depth.brackets in
         let s = at_next_name (spot_of named.spot) named.names.items in
@@ -114,7 +114,7 @@ fn next_name(mut named: Named, token: Terminal) -> Result<SpecsProgress, StepFau
     }
 }
 
-/// A token behind the last of the names.
+/// A token after the last of the names.
 fn names(
     alloc: Global,
     kind: Declares,
@@ -151,10 +151,10 @@ fn in_type(
     reading: Open,
     token: Terminal,
 ) -> Result<SpecsProgress, StepFault>
-    requires { base_of reading ≡ type_base named.depth.brackets (spot_of named.spot) }
+    requires { context_in reading ≡ type_context named.depth.brackets (spot_of named.spot) }
     ensures { let d = named.depth.brackets in
         let s = spot_of named.spot in
-        let b = type_base d s in
+        let b = type_context d s in
         let o = open_of reading in
         let next = expression.step b o token in
         Steps result d (after_type (declares_of kind) s named.names.items token next)
@@ -169,7 +169,7 @@ fn in_type(
     }
 }
 
-/// A token behind the type.
+/// A token after the type.
 fn behind_type(
     alloc: Global,
     kind: Declares,
@@ -215,10 +215,10 @@ fn in_value(
     reading: Open,
     token: Terminal,
 ) -> Result<SpecsProgress, StepFault>
-    requires { base_of reading ≡ value_base before.named.depth.brackets (spot_of before.named.spot) }
+    requires { context_in reading ≡ value_context before.named.depth.brackets (spot_of before.named.spot) }
     ensures { let d = before.named.depth.brackets in
         let s = spot_of before.named.spot in
-        let b = value_base d s in
+        let b = value_context d s in
         let o = open_of reading in
         let next = expression.step b o token in
         Steps result d
@@ -245,7 +245,7 @@ fn in_value(
     }
 }
 
-/// A token behind a value.
+/// A token after a value.
 fn behind_value(alloc: Global, before: Valued, token: Terminal) -> Result<SpecsProgress, StepFault>
     ensures { let d = before.named.depth.brackets in
         let s = spot_of before.named.spot in
@@ -259,7 +259,7 @@ fn behind_value(alloc: Global, before: Valued, token: Terminal) -> Result<SpecsP
     }
 }
 
-/// A token behind a whole one of them.
+/// A token after a whole one of them.
 fn spec_ends(alloc: Global, valued: Valued, token: Terminal) -> Result<SpecsProgress, StepFault>
     ensures { let d = valued.named.depth.brackets in
         let s = spot_of valued.named.spot in
@@ -282,7 +282,7 @@ fn spec_ends(alloc: Global, valued: Valued, token: Terminal) -> Result<SpecsProg
     }
 }
 
-/// A token behind a whole one of them in parentheses.
+/// A token after a whole one of them in parentheses.
 fn group_goes_on(
     depth: Depth,
     specs: Vec<ValueSpec>,

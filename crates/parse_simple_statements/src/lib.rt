@@ -7,18 +7,19 @@
 //! step calls itself. What a refused token leaves behind is let go by a call of `drop`, as in the machine of expressions.
 #![tactic(auto)]
 
+mod context;
 mod declaration;
 mod depth;
+pub mod laws;
 mod nodes;
-mod place;
 mod simple;
 mod simples;
 mod spot;
 mod value_specs;
 
+pub use context::Context;
 pub use declaration::{begin_specs, step_specs};
 pub use nodes::with_value;
-pub use place::Place;
 pub use simple::{begin_simple, step_simple};
 pub use simples::{SimpleProgress, Simples};
 pub use spot::Declares;

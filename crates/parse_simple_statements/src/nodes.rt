@@ -5,9 +5,9 @@ ghost use Rattle.syntax.specs.Expressions.{ex_of, exs_of};
 ghost use Rattle.syntax.specs.Statements.{value_specs_of, value_spec_of, simple_of};
 ghost use Rattle.syntax.specs.Lists.{with_ex};
 ghost use Rattle.parse_simple_statements.specs.Simples.{listed_simple};
-ghost use Rattle.parse_simple_statements.specs.Places.{listed_of};
+ghost use Rattle.parse_simple_statements.specs.Contexts.{listed_of};
 
-use crate::place::Listed;
+use crate::context::Listed;
 use std::alloc::AllocError;
 use syntax::{Expr, Simple, ValueSpec};
 

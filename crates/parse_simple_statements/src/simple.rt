@@ -5,41 +5,41 @@ ghost use Rattle.syntax.specs.Expressions.{ex_of, exs_of};
 ghost use Rattle.syntax.specs.Statements.{simple_of};
 ghost use Rattle.parse_expressions.specs.Machine as expression;
 ghost use Rattle.parse_expressions.specs.States.{open_of};
-ghost use Rattle.parse_simple_statements.specs.Simples.{base_of, beginning, at_value, in_left, in_value, fails, goes, names_in, defines_names, behind_one, behind_list, behind_left, behind_value, ranges_over, step, nesting};
-ghost use Rattle.parse_simple_statements.specs.Places.{place_of, listed_of, names_of};
-ghost use Rattle.parse_simple_statements.specs.SimpleStates.{simples_of, place_at, Steps};
+ghost use Rattle.parse_simple_statements.specs.Simples.{expression_context, beginning, at_value, in_left, in_value, fails, goes, names_in, defines_names, behind_one, behind_list, behind_left, behind_value, ranges_over, step, nesting};
+ghost use Rattle.parse_simple_statements.specs.Contexts.{context_of, listed_of, names_of};
+ghost use Rattle.parse_simple_statements.specs.SimpleStates.{simples_of, context_at, Steps};
 
+use crate::context::{Context, Listed};
 use crate::nodes::{listed_simple, with_value};
-use crate::place::{Listed, Place};
 use crate::simples::{InExpression, SimpleProgress, Simples};
 use base::Pos;
-use parse_expressions::{MOST, Progress, StepFault, Terminal, expression, step};
+use parse_expressions::{Progress, StepFault, Terminal, expression, step};
 use std::alloc::{AllocError, Global};
-use syntax::{Expr, Name, Simple, Targets};
+use syntax::{Expr, NESTING_LIMIT, Name, Simple, Targets};
 
 /// A simple statement begins.
-pub fn begin_simple(alloc: Global, place: Place) -> Simples
+pub fn begin_simple(alloc: Global, context: Context) -> Simples
     ensures begins { simples_of result ≡ beginning }
-    ensures place { place_at result ≡ place_of place }
+    ensures context { context_at result ≡ context_of context }
 {
-    Simples::Left(Vec::new(alloc), expression_wanted(alloc, place))
+    Simples::Left(Vec::new(alloc), expression_wanted(alloc, context))
 }
 
-fn expression_wanted(alloc: Global, place: Place) -> InExpression
+fn expression_wanted(alloc: Global, context: Context) -> InExpression
     ensures wanted { open_of result.reading ≡ expression.at_operand [] }
-    ensures place { result.place ≡ place }
+    ensures context { result.context ≡ context }
 {
     InExpression {
-        place,
-        reading: expression(alloc, place.depth, place.literals),
+        context,
+        reading: expression(alloc, context.depth, context.literals),
     }
 }
 
 /// The next state, where the token's nesting keeps the limit.
 fn limited(nesting: usize, next: Simples) -> Result<SimpleProgress, StepFault>
-    ensures { Steps result (place_at next) (goes (simples_of next)) nesting }
+    ensures { Steps result (context_at next) (goes (simples_of next)) nesting }
 {
-    if nesting > MOST {
+    if nesting > NESTING_LIMIT {
         drop(next);
         return Err(StepFault::TooDeep);
     }
@@ -53,69 +53,69 @@ fn in_left(
     left: InExpression,
     token: Terminal,
 ) -> Result<SimpleProgress, StepFault>
-    ensures { let p = place_of left.place in
+    ensures { let p = context_of left.context in
         let s = in_left (exs_of before.items) (open_of left.reading) in
         Steps result p (step p s token) (nesting p s token) }
 {
-    let InExpression { place, reading } = left;
+    let InExpression { context, reading } = left;
     match step(alloc, reading, token) {
         Err(fault) => Err(fault),
         Ok(Progress::Goes(reading)) => {
-            let left = InExpression { place, reading };
+            let left = InExpression { context, reading };
             Ok(SimpleProgress::Goes(Simples::Left(before, left)))
         }
-        Ok(Progress::Ends(part)) => behind_left(alloc, place, before, part.expr, token),
+        Ok(Progress::Ends(part)) => behind_left(alloc, context, before, part.expr, token),
     }
 }
 
-/// A token behind expressions on the left.
+/// A token after expressions on the left.
 fn behind_left(
     alloc: Global,
-    place: Place,
+    context: Context,
     before: Vec<Expr>,
     last: Expr,
     token: Terminal,
 ) -> Result<SimpleProgress, StepFault>
-    ensures { let p = place_of place in
+    ensures { let p = context_of context in
         Steps result p (behind_left p (exs_of before.items) (ex_of last) token) p.depth }
 {
     match token {
         Terminal::Comma => {
             let before = with_value(before, last)?;
-            let next = expression_wanted(alloc, place);
-            limited(place.depth, Simples::Left(before, next))
+            let next = expression_wanted(alloc, context);
+            limited(context.depth, Simples::Left(before, next))
         }
         Terminal::Assign(pos) => {
             let listed = Listed::Assign(with_value(before, last)?, pos);
-            limited(place.depth, Simples::Value(place, listed))
+            limited(context.depth, Simples::Value(context, listed))
         }
         Terminal::Update(pos, op) => {
             let listed = Listed::Update(with_value(before, last)?, pos, op);
-            limited(place.depth, Simples::Value(place, listed))
+            limited(context.depth, Simples::Value(context, listed))
         }
-        Terminal::Define(pos) => defines(alloc, place, with_value(before, last)?, pos),
-        _ => behind_list(place, before, last, token),
+        Terminal::Define(pos) => defines(alloc, context, with_value(before, last)?, pos),
+        _ => behind_list(context, before, last, token),
     }
 }
 
-/// A `:=` behind expressions.
+/// A `:=` after expressions.
 fn defines(
     alloc: Global,
-    place: Place,
+    context: Context,
     left: Vec<Expr>,
     pos: Pos,
 ) -> Result<SimpleProgress, StepFault>
-    ensures { let p = place_of place in
+    ensures { let p = context_of context in
         let next = if p.defines then defines_names (names_in (exs_of left.items)) pos else fails in
         Steps result p next p.depth }
 {
-    if !place.defines {
+    if !context.defines {
         return Err(StepFault::Unexpected);
     }
     match names_in(alloc, &left)? {
         Some(names) => limited(
-            place.depth,
-            Simples::Value(place, Listed::Define(names, pos)),
+            context.depth,
+            Simples::Value(context, Listed::Define(names, pos)),
         ),
         None => Err(StepFault::Unexpected),
     }
@@ -135,73 +135,73 @@ fn names_in(alloc: Global, values: &[Expr]) -> Result<Option<Vec<Name>>, AllocEr
     Ok(Some(names))
 }
 
-/// A token that goes on with no list, behind expressions.
+/// A token that goes on with no list, after expressions.
 fn behind_list(
-    place: Place,
+    context: Context,
     before: Vec<Expr>,
     last: Expr,
     token: Terminal,
 ) -> Result<SimpleProgress, StepFault>
-    ensures { let p = place_of place in
+    ensures { let p = context_of context in
         Steps result p (behind_list (exs_of before.items) (ex_of last) token) p.depth }
 {
     if before.is_empty() {
-        behind_one(place, last, token)
+        behind_one(context, last, token)
     } else {
         drop(last);
         Err(StepFault::Unexpected)
     }
 }
 
-/// A token behind the only expression.
-fn behind_one(place: Place, value: Expr, token: Terminal) -> Result<SimpleProgress, StepFault>
-    ensures { let p = place_of place in
+/// A token after the only expression.
+fn behind_one(context: Context, value: Expr, token: Terminal) -> Result<SimpleProgress, StepFault>
+    ensures { let p = context_of context in
         Steps result p (behind_one (ex_of value) token) p.depth }
 {
     match token {
         Terminal::Increment(pos) => {
             limited(
-                place.depth,
-                Simples::End(place, Simple::Increment(value, pos)),
+                context.depth,
+                Simples::End(context, Simple::Increment(value, pos)),
             )
         }
         Terminal::Decrement(pos) => {
             limited(
-                place.depth,
-                Simples::End(place, Simple::Decrement(value, pos)),
+                context.depth,
+                Simples::End(context, Simple::Decrement(value, pos)),
             )
         }
         _ => Ok(SimpleProgress::Ends(Simple::Express(value))),
     }
 }
 
-/// A token behind the operator.
+/// A token after the operator.
 fn first_value(
     alloc: Global,
-    place: Place,
+    context: Context,
     listed: Listed,
     token: Terminal,
 ) -> Result<SimpleProgress, StepFault>
-    ensures { let p = place_of place in
+    ensures { let p = context_of context in
         let s = at_value (listed_of listed) in
         Steps result p (step p s token) (nesting p s token) }
 {
     match token {
-        Terminal::Range(pos) => ranges(place, listed, pos),
+        Terminal::Range(pos) => ranges(context, listed, pos),
         _ => {
-            let value = expression_wanted(alloc, place);
+            let value = expression_wanted(alloc, context);
             in_value(alloc, listed, Vec::new(alloc), value, token)
         }
     }
 }
 
-/// A `range` behind the operator.
-fn ranges(place: Place, listed: Listed, pos: Pos) -> Result<SimpleProgress, StepFault>
-    ensures { let p = place_of place in
+/// A `range` after the operator.
+fn ranges(context: Context, listed: Listed, pos: Pos) -> Result<SimpleProgress, StepFault>
+    ensures { let p = context_of context in
         let next = if p.ranges then ranges_over (listed_of listed) pos else fails in
         Steps result p next p.depth }
 {
-    if !place.ranges {
+    if !context.ranges {
         drop(listed);
         return Err(StepFault::Unexpected);
     }
@@ -210,7 +210,7 @@ fn ranges(place: Place, listed: Listed, pos: Pos) -> Result<SimpleProgress, Step
         Listed::Update(..) => return Err(StepFault::Unexpected),
         Listed::Define(names, operator) => Targets::Define(names, operator),
     };
-    if place.depth > MOST {
+    if context.depth > NESTING_LIMIT {
         drop(targets);
         return Err(StepFault::TooDeep);
     }
@@ -225,39 +225,39 @@ fn in_value(
     value: InExpression,
     token: Terminal,
 ) -> Result<SimpleProgress, StepFault>
-    ensures { let p = place_of value.place in
+    ensures { let p = context_of value.context in
         let s = in_value (listed_of listed) (exs_of before.items) (open_of value.reading) in
         Steps result p (step p s token) (nesting p s token) }
 {
-    let InExpression { place, reading } = value;
+    let InExpression { context, reading } = value;
     match step(alloc, reading, token) {
         Err(fault) => Err(fault),
         Ok(Progress::Goes(reading)) => {
-            let value = InExpression { place, reading };
+            let value = InExpression { context, reading };
             Ok(SimpleProgress::Goes(Simples::InValue(listed, before, value)))
         }
         Ok(Progress::Ends(part)) => {
             let values = with_value(before, part.expr)?;
-            behind_value(alloc, place, listed, values, token)
+            behind_value(alloc, context, listed, values, token)
         }
     }
 }
 
-/// A token behind a value.
+/// A token after a value.
 fn behind_value(
     alloc: Global,
-    place: Place,
+    context: Context,
     listed: Listed,
     values: Vec<Expr>,
     token: Terminal,
 ) -> Result<SimpleProgress, StepFault>
-    ensures { let p = place_of place in
+    ensures { let p = context_of context in
         Steps result p (behind_value (listed_of listed) (exs_of values.items) token) p.depth }
 {
     match token {
         Terminal::Comma => {
-            let next = expression_wanted(alloc, place);
-            limited(place.depth, Simples::InValue(listed, values, next))
+            let next = expression_wanted(alloc, context);
+            limited(context.depth, Simples::InValue(listed, values, next))
         }
         _ => Ok(SimpleProgress::Ends(listed_simple(listed, values))),
     }
@@ -270,12 +270,12 @@ pub fn step_simple(
     token: Terminal,
 ) -> Result<SimpleProgress, StepFault>
     ensures { let s = simples_of state in
-        let p = place_at state in
+        let p = context_at state in
         Steps result p (step p s token) (nesting p s token) }
 {
     match state {
         Simples::Left(before, left) => in_left(alloc, before, left, token),
-        Simples::Value(place, listed) => first_value(alloc, place, listed, token),
+        Simples::Value(context, listed) => first_value(alloc, context, listed, token),
         Simples::InValue(listed, before, value) => in_value(alloc, listed, before, value, token),
         Simples::End(_, simple) => Ok(SimpleProgress::Ends(simple)),
     }

@@ -1,11 +1,11 @@
 //! What was read of a simple statement, and what is wanted next.
 
 ghost use Rattle.std.specs.Prelude.{◌≡◌};
-ghost use Rattle.parse_expressions.specs.States.{base_of};
+ghost use Rattle.parse_expressions.specs.States.{context_in};
 ghost use Rattle.parse_simple_statements.specs.Simples as simples;
-ghost use Rattle.parse_simple_statements.specs.Places.{place_of};
+ghost use Rattle.parse_simple_statements.specs.Contexts.{context_of};
 
-use crate::place::{Listed, Place};
+use crate::context::{Context, Listed};
 use base::Pos;
 use parse_expressions::Open;
 use syntax::{Expr, Simple, Targets};
@@ -13,22 +13,22 @@ use syntax::{Expr, Simple, Targets};
 /// An expression of the statement is read.
 #[derive(Drop)]
 pub struct InExpression {
-    pub place: Place,
+    pub context: Context,
     pub reading: Open,
-    ghost based: { base_of reading ≡ simples.base_of (place_of place) },
+    ghost in_context: { context_in reading ≡ simples.expression_context (context_of context) },
 }
 
 /// What was read of a simple statement, and what is wanted next.
 #[derive(Drop)]
 pub enum Simples {
-    /// An expression is read behind these.
+    /// An expression is read after these.
     Left(Vec<Expr>, InExpression),
-    /// Behind the operator.
-    Value(Place, Listed),
-    /// A value is read behind these.
+    /// After the operator.
+    Value(Context, Listed),
+    /// A value is read after these.
     InValue(Listed, Vec<Expr>, InExpression),
-    /// Behind `++` or `--`.
-    End(Place, Simple),
+    /// After `++` or `--`.
+    End(Context, Simple),
 }
 
 /// What a token does.
@@ -38,6 +38,6 @@ pub enum SimpleProgress {
     Goes(Simples),
     /// It ended before the token.
     Ends(Simple),
-    /// The token is a `range` behind these, with its place.
+    /// The token is a `range` after these, with its position.
     Ranges(Targets, Pos),
 }

@@ -15,6 +15,6 @@ pub enum Declares {
 #[derive(Drop)]
 pub enum Spot {
     Alone,
-    /// In parentheses, behind these.
+    /// In parentheses, after these.
     Group(Vec<ValueSpec>),
 }

@@ -1,8 +1,8 @@
 //! What was read of a declaration of constants or variables, and what is wanted next.
 
 ghost use Rattle.std.specs.Prelude.{◌≡◌};
-ghost use Rattle.parse_expressions.specs.States.{base_of};
-ghost use Rattle.parse_simple_statements.specs.ValueSpecs.{type_base, value_base};
+ghost use Rattle.parse_expressions.specs.States.{context_in};
+ghost use Rattle.parse_simple_statements.specs.ValueSpecs.{type_context, value_context};
 ghost use Rattle.parse_simple_statements.specs.Spots.{spot_of};
 
 use crate::depth::Depth;
@@ -23,7 +23,7 @@ pub struct Named {
 pub struct InType {
     pub named: Named,
     pub reading: Open,
-    ghost based: { base_of reading ≡ type_base named.depth.brackets (spot_of named.spot) },
+    ghost in_context: { context_in reading ≡ type_context named.depth.brackets (spot_of named.spot) },
 }
 
 /// Its names, the type if it stands there, and the values so far.
@@ -34,28 +34,28 @@ pub struct Valued {
     pub values: Vec<Expr>,
 }
 
-/// One of its values is read, behind the ones before.
+/// One of its values is read, after the ones before.
 #[derive(Drop)]
 pub struct InValue {
     pub before: Valued,
     pub reading: Open,
-    ghost based: { base_of reading ≡ value_base before.named.depth.brackets (spot_of before.named.spot) },
+    ghost in_context: { context_in reading ≡ value_context before.named.depth.brackets (spot_of before.named.spot) },
 }
 
 /// What was read of a declaration, and what is wanted next.
 #[derive(Drop)]
 pub enum ValueSpecs {
-    /// Behind the word.
+    /// After the word.
     First(Depth),
-    /// In parentheses behind the opening one or a semicolon, behind these.
+    /// In parentheses after the opening one or a semicolon, after these.
     Spec(Depth, Vec<ValueSpec>),
-    /// Behind a comma behind these names.
+    /// After a comma after these names.
     NextName(Named),
-    /// Behind the last of these names.
+    /// After the last of these names.
     Names(Named),
     Type(InType),
     Value(InValue),
-    /// Behind the closing parenthesis.
+    /// After the closing parenthesis.
     GroupEnd(Depth, Vec<ValueSpec>),
 }
 

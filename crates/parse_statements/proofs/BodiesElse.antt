@@ -1,4 +1,4 @@
--- A terminal behind the first body of an `if`, or behind its `else`, divides the texts by it from the left.
+-- A terminal after the first body of an `if`, or after its `else`, divides the texts by it from the left.
 use Rattle.std.proofs.Common.{◌≡◌, ℕ, suc, List, ◌∷◌, refl, sym, subst}
 use Rattle.base.specs.declared.pos.Pos.{Pos}
 use Rattle.syntax.specs.Statements.{Stms, Els, no_else, else_block, else_if}
@@ -17,7 +17,7 @@ module _ (K : Stms → Pos → List Mark → Type 0) (b : Blocks) (bs : List Bra
   abbrev D : ℕ
   D = chain_depth bs (statement_depth b)
 
-  -- ---- behind the first body
+  -- ---- after the first body
 
   then_else : (j : ℕ) (w : List Mark) → Iff (Rest K (at_then b bs last) (inside Else j ∷ w)) ((j ≡ D) × Rest K (at_else b bs last) w)
   then_else j w = (
@@ -42,7 +42,7 @@ module _ (K : Stms → Pos → List Mark → Type 0) (b : Blocks) (bs : List Bra
   then_step Else j w = then_else j w
   then_step t j w = iff_trans _ _ _ (then_other t j w (λ is. cc)) (stop_step K (with_statement b (whole_if bs last no_else)) t j w)
 
-  -- ---- behind its `else`
+  -- ---- after its `else`
 
   else_brace : (q : Pos) (j : ℕ) (w : List Mark) → Iff (Rest K (at_else b bs last) (inside (LeftBrace q) j ∷ w)) ((j ≡ D) × InBody K (within b (in_else b.done bs last)) w)
   else_brace q j w = (
@@ -63,13 +63,13 @@ module _ (K : Stms → Pos → List Mark → Type 0) (b : Blocks) (bs : List Bra
         let body = o.follows in
         let e = body.follows in
         subst (λ (n : ℕ). Rest K (at_else b bs last) (inside (If q) n ∷ w)) (sym h.0)
-        (record { whole = else_if q i.guard body.others e.whole; rest = e.rest; reads = otherwise_if o.place (subst (λ (ts : List Mark). ReadsGuard (suc D) i.guard w ts) o.mark i.reads) body.reads e.reads; follows = e.follows }),
+        (record { whole = else_if q i.guard body.others e.whole; rest = e.rest; reads = otherwise_if o.pos (subst (λ (ts : List Mark). ReadsGuard (suc D) i.guard w ts) o.mark i.reads) body.reads e.reads; follows = e.follows }),
   )
     where
       to : (n i : ℕ) (e : Els) (m : List Mark) → IsElse D e (inside Else n ∷ inside (If q) i ∷ w) m → WholeIf K b bs last e m → (i ≡ suc D) × BehindIf K b (last ∷ bs) q w
       to n i _ _ absent f = absurd (stop_other K (with_statement b (whole_if bs last no_else)) Else n (inside (If q) i ∷ w) (λ is. cc) (λ p is. cc) f)
       to _ _ _ m (otherwise_if {g = g} {ss = ss} {end = end} {e = e} {k = k} {n = n} p guard body els) f =
-          (refl, record { guard = g; rest = inside (LeftBrace p) (suc D) ∷ k; reads = guard; follows = record { place = p; rest = k; mark = refl; follows = record { others = ss; end = end; rest = n; reads = body; follows = record { whole = e; rest = m; reads = els; follows = f } } } })
+          (refl, record { guard = g; rest = inside (LeftBrace p) (suc D) ∷ k; reads = guard; follows = record { pos = p; rest = k; mark = refl; follows = record { others = ss; end = end; rest = n; reads = body; follows = record { whole = e; rest = m; reads = els; follows = f } } } })
 
   else_other : (t : Terminal) (j : ℕ) (w : List Mark) → ((q : Pos) → t ≡ LeftBrace q → ⊥) → ((q : Pos) → t ≡ If q → ⊥) → Rest K (at_else b bs last) (inside t j ∷ w) → ⊥
   else_other t j w not_brace not_if h = to D t j w not_brace not_if h.whole h.rest h.reads h.follows
@@ -77,7 +77,7 @@ module _ (K : Stms → Pos → List Mark → Type 0) (b : Blocks) (bs : List Bra
       to : (n : ℕ) (x : Terminal) (i : ℕ) (v : List Mark) → ((q : Pos) → x ≡ LeftBrace q → ⊥) → ((q : Pos) → x ≡ If q → ⊥) → (e : Els) (m : List Mark) → IsElse D e (inside Else n ∷ inside x i ∷ v) m → WholeIf K b bs last e m → ⊥
       to n x i v never nor _ _ absent f = stop_other K (with_statement b (whole_if bs last no_else)) Else n (inside x i ∷ v) (λ is. cc) (λ p is. cc) f
       to _ _ _ v never nor _ m (otherwise {q = q} body) f = never q refl
-      to _ _ _ v never nor _ m (otherwise_if {place = q} p guard body els) f = nor q refl
+      to _ _ _ v never nor _ m (otherwise_if {pos = q} p guard body els) f = nor q refl
 
   pub else_step : (t : Terminal) (j : ℕ) (w : List Mark) → Iff (Rest K (at_else b bs last) (inside t j ∷ w)) (After K (step (at_else b bs last) t) (nesting (at_else b bs last) t) j w)
   else_step (LeftBrace q) j w = else_brace q j w

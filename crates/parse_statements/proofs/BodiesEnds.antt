@@ -50,12 +50,12 @@ module _ (d : ℕ) (done : Stms) (Then : Stms → Pos → List Mark → Type 0) 
       to ss end k t = elim t [ ]
 
 module _ (K : Stms → Pos → List Mark → Type 0) where
-  -- the state behind a block allows what may follow the block
+  -- the state after a block allows what may follow the block
   up_is : (os : List Outer) (ss : Stms) (q : Pos) (n j : ℕ) (w : List Mark) → Iff ((j ≡ n) × Up K os ss q w) (After K (up os ss q) n j w)
   up_is [] ss q n j w = iff_same _
   up_is (in_block done ∷ os) ss q n j w = iff_same _
-  up_is (in_loop done place c ∷ os) ss q n j w = iff_same _
-  up_is (in_then done bs place g ∷ os) ss q n j w = iff_same _
+  up_is (in_loop done pos c ∷ os) ss q n j w = iff_same _
+  up_is (in_then done bs pos g ∷ os) ss q n j w = iff_same _
   up_is (in_else done bs b ∷ os) ss q n j w = iff_same _
 
   pub closes_block : (b : Blocks) (q : Pos) (j : ℕ) (w : List Mark) → Iff ((j ≡ brace_depth b.outer) × Up K b.outer b.done q w) (After K (stop b (RightBrace q)) (brace_depth b.outer) j w)

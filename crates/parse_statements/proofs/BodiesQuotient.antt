@@ -17,17 +17,17 @@ use Rattle.parse_statements.proofs.BodiesStatements.{statement_step}
 
 pub quotient : (K : Stms → Pos → List Mark → Type 0) (s : State) (t : Terminal) (j : ℕ) (w : List Mark) → Valid s → Iff (Rest K s (inside t j ∷ w)) (After K (step s t) (nesting s t) j w)
 quotient K (at_statement b) t j w valid = statement_step K b t j w
-quotient K (in_var b place s) t j w valid = var_step K b place s t j w valid
+quotient K (in_var b pos s) t j w valid = var_step K b pos s t j w valid
 quotient K (in_simple b s p) t j w valid = simple_step K b s p t j w valid
-quotient K (at_return b place) t j w valid = return_step K b place t j w
-quotient K (in_return b place es o) t j w valid = returned_step K b place es o t j w valid
-quotient K (at_if b bs place) t j w valid = if_step K b bs place t j w
-quotient K (in_condition b bs place i o) t j w valid = condition_step K b bs place i o t j w valid
-quotient K (at_for b place) t j w valid = for_step K b place t j w
-quotient K (at_second b place i) t j w valid = second_step K b place i t j w
-quotient K (in_second b place i o) t j w valid = in_second_step K b place i o t j w valid
-quotient K (at_post b place i c) t j w valid = post_step K b place i c t j w
-quotient K (in_range b place vars at o) t j w valid = range_step K b place vars at o t j w valid
+quotient K (at_return b pos) t j w valid = return_step K b pos t j w
+quotient K (in_return b pos es o) t j w valid = returned_step K b pos es o t j w valid
+quotient K (at_if b bs pos) t j w valid = if_step K b bs pos t j w
+quotient K (in_condition b bs pos i o) t j w valid = condition_step K b bs pos i o t j w valid
+quotient K (at_for b pos) t j w valid = for_step K b pos t j w
+quotient K (at_second b pos i) t j w valid = second_step K b pos i t j w
+quotient K (in_second b pos i o) t j w valid = in_second_step K b pos i o t j w valid
+quotient K (at_post b pos i c) t j w valid = post_step K b pos i c t j w
+quotient K (in_range b pos vars at o) t j w valid = range_step K b pos vars at o t j w valid
 quotient K (at_then b bs last) t j w valid = then_step K b bs last t j w
 quotient K (at_else b bs last) t j w valid = else_step K b bs last t j w
 quotient K (at_stop b) t j w valid = stop_step K b t j w

@@ -2,7 +2,7 @@
 use Rattle.std.proofs.Common.{◌≡◌, ℕ, suc, true, List, [], ◌∷◌, inl, inr, refl, sym, ap, subst}
 use Rattle.base.specs.declared.pos.Pos.{Pos}
 use Rattle.syntax.specs.Expressions.{none}
-use Rattle.syntax.specs.Statements.{Simple, Stm, declare, simple, block, choice, loop, break_at, continue_at, give_back, Stms, nil, cons}
+use Rattle.syntax.specs.Statements.{Simple, Stm, var_stmt, simple, block, if_stmt, for_stmt, break_stmt, continue_stmt, return_stmt, Stms, nil, cons}
 use Rattle.syntax.specs.Lists.{joined, one}
 use Rattle.parse_expressions.specs.declared.terminal.Terminal.{Terminal}
 use Rattle.parse_expressions.specs.declared.terminal.Terminal.TheVariants.{Var, If, For, Break, Continue, Return, Semicolon, LeftBrace, RightBrace}
@@ -14,7 +14,7 @@ use Rattle.parse_simple_statements.specs.Grammar.{of_variables, ReadsSimple}
 use Rattle.parse_statements.specs.Grammar.{ReadsGuard, ReadsClause, IsStm, declares, is_simple, breaks, continues, returns, returns_values, chooses, repeats, blocks, IsBody, close, empty, last, next}
 use Rattle.parse_simple_statements.specs.Simples.{beginning}
 use Rattle.parse_statements.specs.Outer.{in_block, brace_depth, Blocks, statement_depth, with_statement, within}
-use Rattle.parse_statements.specs.Bodies.{in_body, at_statement, at_return, place_of, step, nesting_at_stop}
+use Rattle.parse_statements.specs.Bodies.{in_body, at_statement, at_return, context_of, step, nesting_at_stop}
 use Rattle.parse_simple_statements.proofs.Marks.{iff_trans}
 use Rattle.parse_simple_statements.proofs.ValueSpecsFollowing as value_specs
 use Rattle.parse_simple_statements.proofs.SimplesBegins.{begins}
@@ -71,10 +71,10 @@ module _ (K : Stms → Pos → List Mark → Type 0) (b : Blocks) where
   -- ---- simple statements
 
   pub simple_in : (x : Simple) (w m : List Mark) → ReadsSimple true (statement_depth b) x w m → BehindStm K (with_statement b (simple x)) m → InSimple K b in_body beginning w
-  simple_in x w m r f = (begins (place_of b in_body) (BehindSimple K b in_body) (BehindRange K b in_body) w).0 (inl (record { whole = x; rest = m; allowed = tt; reads = r; follows = f }))
+  simple_in x w m r f = (begins (context_of b in_body) (BehindSimple K b in_body) (BehindRange K b in_body) w).0 (inl (record { whole = x; rest = m; allowed = tt; reads = r; follows = f }))
 
   simple_out : (w : List Mark) → InSimple K b in_body beginning w → OneStm K b w
-  simple_out w h = elim ((begins (place_of b in_body) (BehindSimple K b in_body) (BehindRange K b in_body) w).1 h) [
+  simple_out w h = elim ((begins (context_of b in_body) (BehindSimple K b in_body) (BehindRange K b in_body) w).1 h) [
     | inl x ↦ record { whole = simple x.whole; rest = x.rest; reads = is_simple x.reads; follows = x.follows }
     | inr r ↦ absurd (cc (r.may))
   ]
@@ -101,30 +101,30 @@ module _ (K : Stms → Pos → List Mark → Type 0) (b : Blocks) where
   var_begins : (q : Pos) (j : ℕ) (w : List Mark) → Iff (OneStm K b (inside (Var q) j ∷ w)) ((j ≡ statement_depth b) × value_specs.Declared of_variables (statement_depth b) (Declared K b q) w)
   var_begins q j w = (
     λ h. to j w h.whole h.rest h.reads h.follows,
-    λ h. let v = h.1 in subst (λ (i : ℕ). OneStm K b (inside (Var q) i ∷ w)) (sym h.0) (record { whole = declare q v.whole; rest = v.rest; reads = declares v.reads; follows = v.follows }),
+    λ h. let v = h.1 in subst (λ (i : ℕ). OneStm K b (inside (Var q) i ∷ w)) (sym h.0) (record { whole = var_stmt q v.whole; rest = v.rest; reads = declares v.reads; follows = v.follows }),
   )
     where
       to : (i : ℕ) (v : List Mark) (s : Stm) (m : List Mark) → IsStm (statement_depth b) s (inside (Var q) i ∷ v) m → BehindStm K (with_statement b s) m → (i ≡ statement_depth b) × value_specs.Declared of_variables (statement_depth b) (Declared K b q) v
       to i v _ m (is_simple {s = s} r) f = absurd (no_simple (Var q) i v s m refl r f)
       to _ _ _ m (declares {specs = specs} r) f = (refl, record { whole = specs; rest = m; reads = r; follows = f })
 
-  break_begins : (q : Pos) (j : ℕ) (w : List Mark) → Iff (OneStm K b (inside (Break q) j ∷ w)) ((j ≡ statement_depth b) × BehindStm K (with_statement b (break_at q)) w)
+  break_begins : (q : Pos) (j : ℕ) (w : List Mark) → Iff (OneStm K b (inside (Break q) j ∷ w)) ((j ≡ statement_depth b) × BehindStm K (with_statement b (break_stmt q)) w)
   break_begins q j w = (
     λ h. to j w h.whole h.rest h.reads h.follows,
-    λ h. subst (λ (i : ℕ). OneStm K b (inside (Break q) i ∷ w)) (sym h.0) (record { whole = break_at q; rest = w; reads = breaks; follows = h.1 }),
+    λ h. subst (λ (i : ℕ). OneStm K b (inside (Break q) i ∷ w)) (sym h.0) (record { whole = break_stmt q; rest = w; reads = breaks; follows = h.1 }),
   )
     where
-      to : (i : ℕ) (v : List Mark) (s : Stm) (m : List Mark) → IsStm (statement_depth b) s (inside (Break q) i ∷ v) m → BehindStm K (with_statement b s) m → (i ≡ statement_depth b) × BehindStm K (with_statement b (break_at q)) v
+      to : (i : ℕ) (v : List Mark) (s : Stm) (m : List Mark) → IsStm (statement_depth b) s (inside (Break q) i ∷ v) m → BehindStm K (with_statement b s) m → (i ≡ statement_depth b) × BehindStm K (with_statement b (break_stmt q)) v
       to i v _ m (is_simple {s = s} r) f = absurd (no_simple (Break q) i v s m refl r f)
       to _ _ _ _ breaks f = (refl, f)
 
-  continue_begins : (q : Pos) (j : ℕ) (w : List Mark) → Iff (OneStm K b (inside (Continue q) j ∷ w)) ((j ≡ statement_depth b) × BehindStm K (with_statement b (continue_at q)) w)
+  continue_begins : (q : Pos) (j : ℕ) (w : List Mark) → Iff (OneStm K b (inside (Continue q) j ∷ w)) ((j ≡ statement_depth b) × BehindStm K (with_statement b (continue_stmt q)) w)
   continue_begins q j w = (
     λ h. to j w h.whole h.rest h.reads h.follows,
-    λ h. subst (λ (i : ℕ). OneStm K b (inside (Continue q) i ∷ w)) (sym h.0) (record { whole = continue_at q; rest = w; reads = continues; follows = h.1 }),
+    λ h. subst (λ (i : ℕ). OneStm K b (inside (Continue q) i ∷ w)) (sym h.0) (record { whole = continue_stmt q; rest = w; reads = continues; follows = h.1 }),
   )
     where
-      to : (i : ℕ) (v : List Mark) (s : Stm) (m : List Mark) → IsStm (statement_depth b) s (inside (Continue q) i ∷ v) m → BehindStm K (with_statement b s) m → (i ≡ statement_depth b) × BehindStm K (with_statement b (continue_at q)) v
+      to : (i : ℕ) (v : List Mark) (s : Stm) (m : List Mark) → IsStm (statement_depth b) s (inside (Continue q) i ∷ v) m → BehindStm K (with_statement b s) m → (i ≡ statement_depth b) × BehindStm K (with_statement b (continue_stmt q)) v
       to i v _ m (is_simple {s = s} r) f = absurd (no_simple (Continue q) i v s m refl r f)
       to _ _ _ _ continues f = (refl, f)
 
@@ -141,42 +141,42 @@ module _ (K : Stms → Pos → List Mark → Type 0) (b : Blocks) where
 
       back : Rest K (at_return b q) w → OneStm K b (inside (Return q) (statement_depth b) ∷ w)
       back h = elim h [
-        | inl f ↦ record { whole = give_back q none; rest = w; reads = returns; follows = f }
-        | inr v ↦ record { whole = give_back q v.whole; rest = v.rest; reads = returns_values v.reads; follows = v.follows }
+        | inl f ↦ record { whole = return_stmt q none; rest = w; reads = returns; follows = f }
+        | inr v ↦ record { whole = return_stmt q v.whole; rest = v.rest; reads = returns_values v.reads; follows = v.follows }
       ]
 
-  if_begins : (place : Pos) (j : ℕ) (w : List Mark) → Iff (OneStm K b (inside (If place) j ∷ w)) ((j ≡ statement_depth b) × BehindIf K b [] place w)
-  if_begins place j w = (
+  if_begins : (pos : Pos) (j : ℕ) (w : List Mark) → Iff (OneStm K b (inside (If pos) j ∷ w)) ((j ≡ statement_depth b) × BehindIf K b [] pos w)
+  if_begins pos j w = (
     λ h. to j w h.whole h.rest h.reads h.follows,
     λ h.
         let i = h.1 in
         let o = i.follows in
         let body = o.follows in
         let e = body.follows in
-        subst (λ (n : ℕ). OneStm K b (inside (If place) n ∷ w)) (sym h.0)
-        (record { whole = choice place i.guard body.others e.whole; rest = e.rest; reads = chooses o.place (subst (λ (ts : List Mark). ReadsGuard (statement_depth b) i.guard w ts) o.mark i.reads) body.reads e.reads; follows = e.follows }),
+        subst (λ (n : ℕ). OneStm K b (inside (If pos) n ∷ w)) (sym h.0)
+        (record { whole = if_stmt pos i.guard body.others e.whole; rest = e.rest; reads = chooses o.pos (subst (λ (ts : List Mark). ReadsGuard (statement_depth b) i.guard w ts) o.mark i.reads) body.reads e.reads; follows = e.follows }),
   )
     where
-      to : (i : ℕ) (v : List Mark) (s : Stm) (m : List Mark) → IsStm (statement_depth b) s (inside (If place) i ∷ v) m → BehindStm K (with_statement b s) m → (i ≡ statement_depth b) × BehindIf K b [] place v
-      to i v _ m (is_simple {s = s} r) f = absurd (no_simple (If place) i v s m refl r f)
+      to : (i : ℕ) (v : List Mark) (s : Stm) (m : List Mark) → IsStm (statement_depth b) s (inside (If pos) i ∷ v) m → BehindStm K (with_statement b s) m → (i ≡ statement_depth b) × BehindIf K b [] pos v
+      to i v _ m (is_simple {s = s} r) f = absurd (no_simple (If pos) i v s m refl r f)
       to _ _ _ m (chooses {g = g} {ss = ss} {end = end} {e = e} {k = k} {n = n} q guard body els) f =
-          (refl, record { guard = g; rest = inside (LeftBrace q) (statement_depth b) ∷ k; reads = guard; follows = record { place = q; rest = k; mark = refl; follows = record { others = ss; end = end; rest = n; reads = body; follows = record { whole = e; rest = m; reads = els; follows = f } } } })
+          (refl, record { guard = g; rest = inside (LeftBrace q) (statement_depth b) ∷ k; reads = guard; follows = record { pos = q; rest = k; mark = refl; follows = record { others = ss; end = end; rest = n; reads = body; follows = record { whole = e; rest = m; reads = els; follows = f } } } })
 
-  for_begins : (place : Pos) (j : ℕ) (w : List Mark) → Iff (OneStm K b (inside (For place) j ∷ w)) ((j ≡ statement_depth b) × BehindFor K b place w)
-  for_begins place j w = (
+  for_begins : (pos : Pos) (j : ℕ) (w : List Mark) → Iff (OneStm K b (inside (For pos) j ∷ w)) ((j ≡ statement_depth b) × BehindFor K b pos w)
+  for_begins pos j w = (
     λ h. to j w h.whole h.rest h.reads h.follows,
     λ h.
         let i = h.1 in
         let o = i.follows in
         let body = o.follows in
-        subst (λ (n : ℕ). OneStm K b (inside (For place) n ∷ w)) (sym h.0)
-        (record { whole = loop place i.clause body.others; rest = body.rest; reads = repeats o.place (subst (λ (ts : List Mark). ReadsClause (statement_depth b) i.clause w ts) o.mark i.reads) body.reads; follows = body.follows }),
+        subst (λ (n : ℕ). OneStm K b (inside (For pos) n ∷ w)) (sym h.0)
+        (record { whole = for_stmt pos i.clause body.others; rest = body.rest; reads = repeats o.pos (subst (λ (ts : List Mark). ReadsClause (statement_depth b) i.clause w ts) o.mark i.reads) body.reads; follows = body.follows }),
   )
     where
-      to : (i : ℕ) (v : List Mark) (s : Stm) (m : List Mark) → IsStm (statement_depth b) s (inside (For place) i ∷ v) m → BehindStm K (with_statement b s) m → (i ≡ statement_depth b) × BehindFor K b place v
-      to i v _ m (is_simple {s = s} r) f = absurd (no_simple (For place) i v s m refl r f)
+      to : (i : ℕ) (v : List Mark) (s : Stm) (m : List Mark) → IsStm (statement_depth b) s (inside (For pos) i ∷ v) m → BehindStm K (with_statement b s) m → (i ≡ statement_depth b) × BehindFor K b pos v
+      to i v _ m (is_simple {s = s} r) f = absurd (no_simple (For pos) i v s m refl r f)
       to _ _ _ m (repeats {c = c} {ss = ss} {end = end} {k = k} q clause body) f =
-          (refl, record { clause = c; rest = inside (LeftBrace q) (statement_depth b) ∷ k; reads = clause; follows = record { place = q; rest = k; mark = refl; follows = record { others = ss; end = end; rest = m; reads = body; follows = f } } })
+          (refl, record { clause = c; rest = inside (LeftBrace q) (statement_depth b) ∷ k; reads = clause; follows = record { pos = q; rest = k; mark = refl; follows = record { others = ss; end = end; rest = m; reads = body; follows = f } } })
 
   block_begins : (q : Pos) (j : ℕ) (w : List Mark) → Iff (OneStm K b (inside (LeftBrace q) j ∷ w)) ((j ≡ statement_depth b) × InBody K (within b (in_block b.done)) w)
   block_begins q j w = (

@@ -14,3 +14,4 @@ pub mod Failures
 pub mod Chains
 pub mod BodyBegins
 pub mod Ranges
+mod Foretelling

@@ -38,8 +38,8 @@ module _ (n : ℕ) where
 
   targets_spans : (d : ℕ) (t : Targets) (ts rest : List Mark) → ReadsTargets d t ts rest → HaveSpans n ts → TargetsSpans n t × HaveSpans n rest
   targets_spans d no_targets ts rest r a = (tt, subst (HaveSpans n) r a)
-  targets_spans d (targets_assigned ls place) ts rest r a = let i = values_spans n false d ls ts (inside (Assign place) d ∷ rest) r a in (i.0, i.1.1)
-  targets_spans d (targets_defined xs place) ts rest r a = let i = names_spans n d xs ts (inside (Define place) d ∷ rest) r a in (i.0, i.1.1)
+  targets_spans d (targets_assigned ls pos) ts rest r a = let i = values_spans n false d ls ts (inside (Assign pos) d ∷ rest) r a in (i.0, i.1.1)
+  targets_spans d (targets_defined xs pos) ts rest r a = let i = names_spans n d xs ts (inside (Define pos) d ∷ rest) r a in (i.0, i.1.1)
 
   clause_spans : (d : ℕ) (c : Clause) (ts rest : List Mark) → ReadsClause d c ts rest → HaveSpans n ts → ClauseSpans n c × HaveSpans n rest
   clause_spans d forever ts rest r a = (tt, subst (HaveSpans n) r a)
@@ -49,8 +49,8 @@ module _ (n : ℕ) where
       let k = optional_value_spans d c r.0 (inside Semicolon d ∷ r.1) r.3 i.1.1 in
       let q = post_spans d p r.1 rest r.4 k.1.1 in
       ((i.0, k.0, q.0), q.1)
-  clause_spans d (ranging t place e) ts rest r a =
-      let i = targets_spans d t ts (inside (Range place) d ∷ r.0) r.1 a in
+  clause_spans d (ranging t pos e) ts rest r a =
+      let i = targets_spans d t ts (inside (Range pos) d ∷ r.0) r.1 a in
       let k = value_spans n false d e r.0 rest r.2 i.1.1 in
       ((i.0, k.0), k.1)
 

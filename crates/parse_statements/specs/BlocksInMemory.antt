@@ -15,11 +15,11 @@ blocks_of b = around (outers_of b.outer.items) (stms_of b.done.items)
 abbrev pub blocks_at : SimpleSpot → Blocks
 blocks_at (spot.Body b) = blocks_of b
 blocks_at (spot.If h) = blocks_of h.blocks
-blocks_at (spot.For b place) = blocks_of b
-blocks_at (spot.Post b place i c) = blocks_of b
+blocks_at (spot.For b pos) = blocks_of b
+blocks_at (spot.Post b pos i c) = blocks_of b
 
 abbrev pub spot_at : SimpleSpot → Spot
 spot_at (spot.Body b) = in_body
 spot_at (spot.If h) = in_if (branches_of h.branches.items) h.pos
-spot_at (spot.For b place) = in_for place
-spot_at (spot.Post b place i c) = in_post place (simple_in i) (ex_in c)
+spot_at (spot.For b pos) = in_for pos
+spot_at (spot.Post b pos i c) = in_post pos (simple_in i) (ex_in c)

@@ -1,5 +1,6 @@
 -- The states of the code that reads the body of a function, as those of the machine, and what a step answers.
 use Rattle.std.specs.Prelude.{◌≡◌, ℕ, ◌<◌, ◌≤◌, Result, Ok, Err}
+use Rattle.syntax.specs.declared.limit.TheConstants.{NESTING_LIMIT}
 use Rattle.syntax.specs.Expressions.{exs_of, ex_in}
 use Rattle.syntax.specs.Statements.{simple_in, targets_of, stms_of}
 use Rattle.parse_expressions.specs.declared.fault.StepFault.{StepFault}
@@ -19,15 +20,15 @@ abbrev pub state_of : BodyState → State
 state_of (state.Statement b) = at_statement (blocks_of b)
 state_of (state.Var v) = in_var (blocks_of v.blocks) v.pos (specs_of v.specs)
 state_of (state.Simple s) = in_simple (blocks_at s.spot) (spot_at s.spot) (simples_of s.simples)
-state_of (state.Return b place) = at_return (blocks_of b) place
+state_of (state.Return b pos) = at_return (blocks_of b) pos
 state_of (state.InReturn r) = in_return (blocks_of r.blocks) r.pos (exs_of r.values.items) (open_of r.reading)
 state_of (state.If h) = at_if (blocks_of h.blocks) (branches_of h.branches.items) h.pos
 state_of (state.Condition c) = in_condition (blocks_of c.header.blocks) (branches_of c.header.branches.items) c.header.pos (simple_in c.init) (open_of c.reading)
-state_of (state.For b place) = at_for (blocks_of b) place
-state_of (state.Second b place i) = at_second (blocks_of b) place (simple_in i)
+state_of (state.For b pos) = at_for (blocks_of b) pos
+state_of (state.Second b pos i) = at_second (blocks_of b) pos (simple_in i)
 state_of (state.InSecond f i) = in_second (blocks_of f.blocks) f.pos (simple_in i) (open_of f.reading)
-state_of (state.Post b place i c) = at_post (blocks_of b) place (simple_in i) (ex_in c)
-state_of (state.Range f vars at) = in_range (blocks_of f.blocks) f.pos (targets_of vars) at (open_of f.reading)
+state_of (state.Post b pos i c) = at_post (blocks_of b) pos (simple_in i) (ex_in c)
+state_of (state.Range f vars range_pos) = in_range (blocks_of f.blocks) f.pos (targets_of vars) range_pos (open_of f.reading)
 state_of (state.Then b bs last) = at_then (blocks_of b) (branches_of bs.items) (branch_of last)
 state_of (state.Else b bs last) = at_else (blocks_of b) (branches_of bs.items) (branch_of last)
 state_of (state.Stop b) = at_stop (blocks_of b)
@@ -41,9 +42,9 @@ GoesOn _ = Unit {0}
 abbrev pub FailsStep : StepFault → Progress → ℕ → Type 0
 FailsStep fault.NoMemory then n = Unit {0}
 FailsStep fault.Unexpected then n = then ≡ fails
-FailsStep fault.TooDeep then n = (200 < n) × GoesOn then
+FailsStep fault.TooDeep then n = (NESTING_LIMIT < n) × GoesOn then
 
 abbrev pub Steps : Result BodyProgress StepFault → Progress → ℕ → Type 0
-Steps (Ok (progress.Goes s)) then n = (then ≡ goes (state_of s)) × (n ≤ 200)
-Steps (Ok (progress.Ends body)) then n = (then ≡ ends (stms_of body.statements.items) body.end) × (n ≤ 200)
+Steps (Ok (progress.Goes s)) then n = (then ≡ goes (state_of s)) × (n ≤ NESTING_LIMIT)
+Steps (Ok (progress.Ends body)) then n = (then ≡ ends (stms_of body.statements.items) body.end) × (n ≤ NESTING_LIMIT)
 Steps (Err e) then n = FailsStep e then n

@@ -1,16 +1,16 @@
 -- The blocks around a statement.
 use Rattle.std.specs.Prelude.{ℕ, suc, List, [], ◌∷◌}
 use Rattle.base.specs.declared.pos.Pos.{Pos}
-use Rattle.syntax.specs.Statements.{Guard, Clause, Stm, choice, Stms, nil, Els, else_if}
+use Rattle.syntax.specs.Statements.{Guard, Clause, Stm, if_stmt, Stms, nil, Els, else_if}
 use Rattle.syntax.specs.Lists.{joined, one}
 
 -- an `if` up to the end of its first body
 pub record Branch : Type 0 where
-  pub place : Pos
+  pub pos : Pos
   pub guard : Guard
   pub body : Stms
 
--- what a block that is open belongs to, behind the statements before it in the block around it
+-- what a block that is open belongs to, after the statements before it in the block around it
 pub data Outer : Type 0 where
   in_block : Stms → Outer
   in_loop : Stms → Pos → Clause → Outer
@@ -28,14 +28,14 @@ chain_depth (b ∷ bs) d = suc (chain_depth bs d)
 abbrev pub brace_depth : List Outer → ℕ
 brace_depth [] = 0
 brace_depth (in_block done ∷ os) = suc (brace_depth os)
-brace_depth (in_loop done place c ∷ os) = suc (brace_depth os)
-brace_depth (in_then done bs place g ∷ os) = chain_depth bs (suc (brace_depth os))
+brace_depth (in_loop done pos c ∷ os) = suc (brace_depth os)
+brace_depth (in_then done bs pos g ∷ os) = chain_depth bs (suc (brace_depth os))
 brace_depth (in_else done bs b ∷ os) = chain_depth bs (suc (brace_depth os))
 
 -- the whole `if` of which a branch is the last
 abbrev pub whole_if : List Branch → Branch → Els → Stm
-whole_if [] b e = choice b.place b.guard b.body e
-whole_if (o ∷ bs) b e = whole_if bs o (else_if b.place b.guard b.body e)
+whole_if [] b e = if_stmt b.pos b.guard b.body e
+whole_if (o ∷ bs) b e = whole_if bs o (else_if b.pos b.guard b.body e)
 
 -- the blocks that are open in a body, and the statements of the innermost so far
 pub record Blocks : Type 0 where
@@ -59,7 +59,7 @@ within b o = around (o ∷ b.outer) nil
 
 -- where the body of an `if` or of a `for` begins
 abbrev pub opened_if : Blocks → List Branch → Pos → Guard → Blocks
-opened_if b bs place g = within b (in_then b.done bs place g)
+opened_if b bs pos g = within b (in_then b.done bs pos g)
 
 abbrev pub opened_for : Blocks → Pos → Clause → Blocks
-opened_for b place c = within b (in_loop b.done place c)
+opened_for b pos c = within b (in_loop b.done pos c)

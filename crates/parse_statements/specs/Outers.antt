@@ -7,7 +7,7 @@ use Rattle.parse_statements.specs.declared.outer.Outer.TheVariants as outer
 use Rattle.parse_statements.specs.Outer.{Branch, Outer, in_block, in_loop, in_then, in_else}
 
 abbrev pub branch_of : CodeBranch → Branch
-branch_of b = record { place = b.pos; guard = guard_of b.guard; body = stms_of b.body.items }
+branch_of b = record { pos = b.pos; guard = guard_of b.guard; body = stms_of b.body.items }
 
 -- the innermost stands last in the code's lists
 abbrev pub branches_of : List CodeBranch → List Branch
@@ -15,8 +15,8 @@ branches_of bs = reverse (map branch_of bs)
 
 abbrev pub outer_of : CodeOuter → Outer
 outer_of (outer.Block done) = in_block (stms_of done.items)
-outer_of (outer.For done place c) = in_loop (stms_of done.items) place (clause_of c)
-outer_of (outer.Then done bs place g) = in_then (stms_of done.items) (branches_of bs.items) place (guard_of g)
+outer_of (outer.For done pos c) = in_loop (stms_of done.items) pos (clause_of c)
+outer_of (outer.Then done bs pos g) = in_then (stms_of done.items) (branches_of bs.items) pos (guard_of g)
 outer_of (outer.Else done bs b) = in_else (stms_of done.items) (branches_of bs.items) (branch_of b)
 
 abbrev pub outers_of : List CodeOuter → List Outer

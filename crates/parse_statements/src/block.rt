@@ -1,6 +1,6 @@
 //! The steps of the machine where blocks open and close.
 
-ghost use Rattle.std.specs.Prelude.{◌≡◌, ◌≤◌, ◌∷◌, suc, IfOk};
+ghost use Rattle.std.specs.Prelude.{◌+◌, ◌≡◌, ◌≤◌, ◌∷◌, suc, IfOk};
 ghost use Rattle.syntax.specs.Statements.{nil, guard_of, clause_of, stm_of, stms_of};
 ghost use Rattle.parse_statements.specs.Outer.{brace_depth, chain_depth, statement_depth, with_statement, around, opened_if, opened_for};
 ghost use Rattle.parse_statements.specs.Outers.{branches_of, outer_of, outers_of};
@@ -13,15 +13,15 @@ use crate::nodes::{append, whole_if};
 use crate::outer::{Branch, Outer};
 use crate::state::{BodyProgress, BodyState};
 use base::Pos;
-use parse_expressions::{MOST, StepFault, Terminal};
+use parse_expressions::{StepFault, Terminal};
 use std::alloc::{AllocError, Global};
-use syntax::{Body, Clause, Guard, Stmt, block, else_block, repetition};
+use syntax::{Body, Clause, Guard, NESTING_LIMIT, Stmt, block, else_block, repetition};
 
 /// The next state, where the token's nesting keeps the limit.
 pub fn limited(nesting: usize, next: BodyState) -> Result<BodyProgress, StepFault>
     ensures { Steps result (goes (state_of next)) nesting }
 {
-    if nesting > MOST {
+    if nesting > NESTING_LIMIT {
         drop(next);
         return Err(StepFault::TooDeep);
     }
@@ -42,13 +42,13 @@ pub fn with_statement(blocks: Blocks, stmt: Stmt) -> Result<Blocks, AllocError>
 /// The blocks around the innermost one, where a statement has this nesting.
 fn around(outer: Vec<Outer>, done: Vec<Stmt>, depth: usize) -> Blocks
     requires is_depth { depth ≡ suc (brace_depth (outers_of outer.items)) }
-    requires small { depth ≤ 201 }
+    requires small { depth ≤ NESTING_LIMIT + 1 }
     ensures { blocks_of result ≡ around (outers_of outer.items) (stms_of done.items) }
 {
     Blocks { outer, done, depth }
 }
 
-/// The innermost block, whose closing brace stands at a place, is closed.
+/// The innermost block, whose closing brace stands at a position, is closed.
 #[tactic(auto, using(crate::proofs::Chains::popped))]
 fn close(alloc: Global, blocks: Blocks, end: Pos) -> Result<BodyProgress, StepFault>
     ensures { let b = blocks_of blocks in Steps result (up b.outer b.done end) (brace_depth b.outer) }
@@ -80,7 +80,7 @@ fn behind_block(
     depth: usize,
 ) -> Result<BodyState, AllocError>
     requires is_depth { depth ≡ suc (brace_depth (outer_of inner ∷ outers_of outer.items)) }
-    requires small { depth ≤ 201 }
+    requires small { depth ≤ NESTING_LIMIT + 1 }
     ensures { IfOk result (λ s. state_of s
         ≡ behind_block (outers_of outer.items) (outer_of inner) (stms_of body.items)) }
 {
@@ -107,7 +107,7 @@ fn behind_block(
     }
 }
 
-/// A token behind a statement.
+/// A token after a statement.
 pub fn stop(alloc: Global, blocks: Blocks, token: Terminal) -> Result<BodyProgress, StepFault>
     ensures { let b = blocks_of blocks in
         Steps result (stop b token) (nesting_at_stop b token) }
@@ -119,7 +119,7 @@ pub fn stop(alloc: Global, blocks: Blocks, token: Terminal) -> Result<BodyProgre
     }
 }
 
-/// A token behind the end of a statement.
+/// A token after the end of a statement.
 pub fn ends(
     alloc: Global,
     blocks: Blocks,
@@ -143,7 +143,7 @@ pub fn enter(
     ensures { Steps result
         (goes (at_statement (around (outer_of inner ∷ outers_of outer.items) nil))) depth }
 {
-    if depth > MOST {
+    if depth > NESTING_LIMIT {
         drop(inner);
         return Err(StepFault::TooDeep);
     }

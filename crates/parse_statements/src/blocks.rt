@@ -1,6 +1,7 @@
 //! Where a statement stands.
 
-ghost use Rattle.std.specs.Prelude.{◌≡◌, ◌≤◌, suc};
+ghost use Rattle.std.specs.Prelude.{◌+◌, ◌≡◌, ◌≤◌, suc};
+ghost use Rattle.syntax.specs.declared.limit.TheConstants.{NESTING_LIMIT};
 ghost use Rattle.parse_statements.specs.Outer.{brace_depth, chain_depth};
 ghost use Rattle.parse_statements.specs.Outers.{branches_of, outers_of};
 
@@ -16,10 +17,10 @@ pub struct Blocks {
     pub done: Vec<Stmt>,
     pub depth: usize,
     ghost is_depth: { depth ≡ suc (brace_depth (outers_of outer.items)) },
-    ghost small: { depth ≤ 201 },
+    ghost small: { depth ≤ NESTING_LIMIT + 1 },
 }
 
-/// The header of an `if`: the branches that it is the else of, the innermost last, its place, and its nesting.
+/// The header of an `if`: the branches that it is the else of, the innermost last, its position, and its nesting.
 #[derive(Drop)]
 pub struct IfHeader {
     pub blocks: Blocks,
@@ -27,7 +28,7 @@ pub struct IfHeader {
     pub pos: Pos,
     pub depth: usize,
     ghost is_depth: { depth ≡ chain_depth (branches_of branches.items) (suc (brace_depth (outers_of blocks.outer.items))) },
-    ghost small: { depth ≤ 201 },
+    ghost small: { depth ≤ NESTING_LIMIT + 1 },
 }
 
 /// Where a simple statement stands.
@@ -35,8 +36,8 @@ pub struct IfHeader {
 pub enum SimpleSpot {
     Body(Blocks),
     If(IfHeader),
-    /// In the header of a `for`, with the place of the word.
+    /// In the header of a `for`, with the position of the word.
     For(Blocks, Pos),
-    /// A post statement, behind the init statement and the condition.
+    /// A post statement, after the init statement and the condition.
     Post(Blocks, Pos, Option<Simple>, Option<Expr>),
 }

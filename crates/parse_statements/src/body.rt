@@ -16,7 +16,7 @@ use crate::statement::{in_return, in_simple, in_var, returned, statement};
 use parse_expressions::{StepFault, Terminal};
 use std::alloc::Global;
 
-/// A body begins behind its opening brace.
+/// A body begins after its opening brace.
 pub fn begin_body(alloc: Global) -> BodyState
     ensures { state_of result ≡ at_statement (around [] nil) }
 {
@@ -49,7 +49,9 @@ pub fn step_body(
         BodyState::Post(blocks, pos, init, condition) => {
             post(alloc, blocks, pos, init, condition, token)
         }
-        BodyState::Range(header, targets, at) => in_range(alloc, header, targets, at, token),
+        BodyState::Range(header, targets, range_pos) => in_range(
+            alloc, header, targets, range_pos, token,
+        ),
         BodyState::Then(blocks, branches, last) => {
             behind_then(alloc, blocks, branches, last, token)
         }

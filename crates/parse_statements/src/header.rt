@@ -4,10 +4,10 @@ ghost use Rattle.std.specs.Prelude.{◌≡◌, ◌≤◌, [], Some, None};
 ghost use Rattle.syntax.specs.Expressions.{ex_of, ex_in};
 ghost use Rattle.syntax.specs.Statements.{simple_of, simple_in, targets_of};
 ghost use Rattle.parse_expressions.specs.Machine as expression;
-ghost use Rattle.parse_expressions.specs.States.{open_of, base_of};
+ghost use Rattle.parse_expressions.specs.States.{open_of, context_in};
 ghost use Rattle.parse_statements.specs.Outer.{chain_depth, statement_depth};
 ghost use Rattle.parse_statements.specs.Outers.{branch_of, branches_of};
-ghost use Rattle.parse_statements.specs.Bodies.{in_if, in_for, at_if, in_condition, at_for, at_second, in_second, at_post, in_range, at_then, at_else, goes, header_base, behind_simple, ranges_at, step, nesting, nesting_behind};
+ghost use Rattle.parse_statements.specs.Bodies.{in_if, in_for, at_if, in_condition, at_for, at_second, in_second, at_post, in_range, at_then, at_else, goes, header_context, behind_simple, ranges_at, step, nesting, nesting_behind};
 ghost use Rattle.parse_statements.specs.BlocksInMemory.{blocks_of, blocks_at, spot_at};
 ghost use Rattle.parse_statements.specs.BodyStates.{state_of, Steps};
 
@@ -18,11 +18,11 @@ use crate::outer::{Branch, Outer};
 use crate::state::{BodyProgress, BodyState, InCondition, InFor};
 use crate::statement::simple_begins;
 use base::Pos;
-use parse_expressions::{MOST, Open, Progress, StepFault, Terminal, expression, step};
+use parse_expressions::{Open, Progress, StepFault, Terminal, expression, step};
 use std::alloc::Global;
-use syntax::{Clause, Else, Expr, Guard, Simple, Stmt, Targets};
+use syntax::{Clause, Else, Expr, Guard, NESTING_LIMIT, Simple, Stmt, Targets};
 
-/// A token behind a simple statement.
+/// A token after a simple statement.
 pub fn behind_simple(
     alloc: Global,
     spot: SimpleSpot,
@@ -52,7 +52,7 @@ pub fn behind_simple(
     }
 }
 
-/// A token behind a simple statement in the header of an `if`.
+/// A token after a simple statement in the header of an `if`.
 fn behind_init(
     alloc: Global,
     header: IfHeader,
@@ -86,7 +86,7 @@ fn behind_init(
     }
 }
 
-/// A token behind a simple statement that begins the header of a `for`.
+/// A token after a simple statement that begins the header of a `for`.
 fn behind_first(
     alloc: Global,
     blocks: Blocks,
@@ -118,7 +118,7 @@ fn behind_first(
     }
 }
 
-/// A token behind `if`.
+/// A token after `if`.
 pub fn if_header(
     alloc: Global,
     header: IfHeader,
@@ -133,7 +133,7 @@ pub fn if_header(
     }
 }
 
-/// The condition of an `if` is wanted behind a semicolon.
+/// The condition of an `if` is wanted after a semicolon.
 fn condition_wanted(
     alloc: Global,
     header: IfHeader,
@@ -195,7 +195,7 @@ pub fn condition(
     }
 }
 
-/// A token behind `for`.
+/// A token after `for`.
 pub fn for_header(
     alloc: Global,
     blocks: Blocks,
@@ -211,7 +211,7 @@ pub fn for_header(
             let depth = blocks.depth;
             limited(depth, BodyState::Second(blocks, pos, None))
         }
-        Terminal::Range(at) => range_begins(alloc, blocks, pos, Targets::Absent, at),
+        Terminal::Range(range_pos) => range_begins(alloc, blocks, pos, Targets::Absent, range_pos),
         _ => simple_begins(alloc, SimpleSpot::For(blocks, pos), token),
     }
 }
@@ -222,15 +222,15 @@ fn range_begins(
     blocks: Blocks,
     pos: Pos,
     targets: Targets,
-    at: Pos,
+    range_pos: Pos,
 ) -> Result<BodyProgress, StepFault>
     ensures { let b = blocks_of blocks in
-        let s = in_range b pos (targets_of targets) at (expression.at_operand []) in
+        let s = in_range b pos (targets_of targets) range_pos (expression.at_operand []) in
         Steps result (goes s) (statement_depth b) }
 {
     let depth = blocks.depth;
     let reading = for_expression(alloc, blocks, pos);
-    limited(depth, BodyState::Range(reading, targets, at))
+    limited(depth, BodyState::Range(reading, targets, range_pos))
 }
 
 /// An expression in the header of a `for` begins.
@@ -252,13 +252,13 @@ pub fn ranges(
     alloc: Global,
     spot: SimpleSpot,
     targets: Targets,
-    at: Pos,
+    range_pos: Pos,
 ) -> Result<BodyProgress, StepFault>
     ensures { let b = blocks_at spot in
-        Steps result (ranges_at b (spot_at spot) (targets_of targets) at) (statement_depth b) }
+        Steps result (ranges_at b (spot_at spot) (targets_of targets) range_pos) (statement_depth b) }
 {
     match spot {
-        SimpleSpot::For(blocks, pos) => range_begins(alloc, blocks, pos, targets, at),
+        SimpleSpot::For(blocks, pos) => range_begins(alloc, blocks, pos, targets, range_pos),
         other => {
             drop(other);
             drop(targets);
@@ -267,7 +267,7 @@ pub fn ranges(
     }
 }
 
-/// A token behind the first semicolon of a `for`.
+/// A token after the first semicolon of a `for`.
 pub fn second(
     alloc: Global,
     blocks: Blocks,
@@ -287,7 +287,7 @@ pub fn second(
     }
 }
 
-/// A token inside the condition behind it.
+/// A token inside the condition after it.
 pub fn in_second(
     alloc: Global,
     header: InFor,
@@ -329,7 +329,7 @@ pub fn in_second(
     }
 }
 
-/// A token behind the second semicolon of a `for`.
+/// A token after the second semicolon of a `for`.
 pub fn post(
     alloc: Global,
     blocks: Blocks,
@@ -355,10 +355,10 @@ pub fn in_range(
     alloc: Global,
     header: InFor,
     targets: Targets,
-    at: Pos,
+    range_pos: Pos,
     token: Terminal,
 ) -> Result<BodyProgress, StepFault>
-    ensures { let s = in_range (blocks_of header.blocks) header.pos (targets_of targets) at (open_of header.reading) in
+    ensures { let s = in_range (blocks_of header.blocks) header.pos (targets_of targets) range_pos (open_of header.reading) in
         Steps result (step s token) (nesting s token) }
 {
     let InFor {
@@ -377,11 +377,11 @@ pub fn in_range(
                 pos,
                 reading,
             };
-            Ok(BodyProgress::Goes(BodyState::Range(header, targets, at)))
+            Ok(BodyProgress::Goes(BodyState::Range(header, targets, range_pos)))
         }
         Ok(Progress::Ends(part)) => match token {
             Terminal::LeftBrace(_) => {
-                let clause = Clause::Range(targets, at, part.expr);
+                let clause = Clause::Range(targets, range_pos, part.expr);
                 enter_for(alloc, blocks, pos, clause)
             }
             _ => {
@@ -402,7 +402,7 @@ fn chain_depth(blocks: &Blocks, branches: &[Branch]) -> usize
     blocks.depth + branches.len()
 }
 
-/// A token behind the first body of an `if` that is the else of these branches.
+/// A token after the first body of an `if` that is the else of these branches.
 pub fn behind_then(
     alloc: Global,
     blocks: Blocks,
@@ -425,7 +425,7 @@ pub fn behind_then(
     }
 }
 
-/// A token behind the `else` of such an `if`.
+/// A token after the `else` of such an `if`.
 pub fn behind_else(
     alloc: Global,
     blocks: Blocks,
@@ -443,7 +443,7 @@ pub fn behind_else(
             enter(alloc, blocks.outer, inner, depth)
         }
         Terminal::If(pos) => {
-            if depth >= MOST {
+            if depth >= NESTING_LIMIT {
                 drop(last);
                 return Err(StepFault::TooDeep);
             }

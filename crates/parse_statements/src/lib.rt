@@ -11,6 +11,7 @@ mod block;
 mod blocks;
 mod body;
 mod header;
+pub mod laws;
 mod nodes;
 mod outer;
 mod state;

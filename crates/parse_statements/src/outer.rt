@@ -16,11 +16,11 @@ pub struct Branch {
 pub enum Outer {
     /// It is a statement itself.
     Block(Vec<Stmt>),
-    /// The body of a `for`, with its place and what stands before the body.
+    /// The body of a `for`, with its position and what stands before the body.
     For(Vec<Stmt>, Pos, Clause),
-    /// The first body of an `if`, with its place and what stands before the body, behind the branches that it is the else
+    /// The first body of an `if`, with its position and what stands before the body, after the branches that it is the else
     /// of, the innermost last.
     Then(Vec<Stmt>, Vec<Branch>, Pos, Guard),
-    /// The last body of an `if`, behind its branches.
+    /// The last body of an `if`, after its branches.
     Else(Vec<Stmt>, Vec<Branch>, Branch),
 }

@@ -4,16 +4,16 @@ ghost use Rattle.std.specs.Prelude.{◌≡◌, []};
 ghost use Rattle.syntax.specs.Expressions.{none, exs_of};
 ghost use Rattle.syntax.specs.Statements.{simple_of};
 ghost use Rattle.parse_expressions.specs.Machine as expression;
-ghost use Rattle.parse_expressions.specs.States.{open_of, base_of};
+ghost use Rattle.parse_expressions.specs.States.{open_of, context_in};
 ghost use Rattle.parse_simple_statements.specs.Grammar.{of_variables};
 ghost use Rattle.parse_statements.specs.Outer.{statement_depth};
 ghost use Rattle.parse_simple_statements.specs.ValueSpecs as value_specs;
 ghost use Rattle.parse_simple_statements.specs.Simples as simples;
-ghost use Rattle.parse_statements.specs.Bodies.{at_statement, in_var, in_simple, at_return, in_return, place_of, simple_begins, behind_returned, spot_depth, step, nesting, nesting_at_stop};
-ghost use Rattle.parse_simple_statements.specs.Places as places;
+ghost use Rattle.parse_statements.specs.Bodies.{at_statement, in_var, in_simple, at_return, in_return, context_of, simple_begins, behind_returned, spot_depth, step, nesting, nesting_at_stop};
+ghost use Rattle.parse_simple_statements.specs.Contexts as contexts;
 ghost use Rattle.parse_statements.specs.BlocksInMemory.{blocks_of, blocks_at, spot_at};
 ghost use Rattle.parse_simple_statements.specs.SpecStates.{specs_of, depth_of};
-ghost use Rattle.parse_simple_statements.specs.SimpleStates.{simples_of, place_at};
+ghost use Rattle.parse_simple_statements.specs.SimpleStates.{simples_of, context_at};
 ghost use Rattle.parse_statements.specs.BodyStates.{state_of, Steps};
 
 use crate::block::{ends, enter, limited, stop, with_statement};
@@ -24,8 +24,8 @@ use crate::state::{BodyProgress, BodyState, InReturn, InSimple, InVar};
 use base::Pos;
 use parse_expressions::{Open, Progress, StepFault, Terminal, expression, step};
 use parse_simple_statements::{
-    Declares, Place, SimpleProgress, Simples, SpecsProgress, ValueSpecs, begin_simple, begin_specs,
-    step_simple, step_specs, with_value,
+    Context, Declares, SimpleProgress, Simples, SpecsProgress, ValueSpecs, begin_simple,
+    begin_specs, step_simple, step_specs, with_value,
 };
 use std::alloc::Global;
 use syntax::{Expr, Stmt};
@@ -88,29 +88,29 @@ pub fn in_var(
 }
 
 /// Where a simple statement stands.
-fn place_of(spot: &SimpleSpot) -> Place
-    ensures { places.place_of result ≡ place_of (blocks_at spot.now) (spot_at spot.now) }
+fn context_of(spot: &SimpleSpot) -> Context
+    ensures { contexts.context_of result ≡ context_of (blocks_at spot.now) (spot_at spot.now) }
 {
     match spot {
-        SimpleSpot::Body(blocks) => Place {
+        SimpleSpot::Body(blocks) => Context {
             depth: blocks.depth,
             literals: true,
             defines: true,
             ranges: false,
         },
-        SimpleSpot::If(header) => Place {
+        SimpleSpot::If(header) => Context {
             depth: header.depth,
             literals: false,
             defines: true,
             ranges: false,
         },
-        SimpleSpot::For(blocks, _) => Place {
+        SimpleSpot::For(blocks, _) => Context {
             depth: blocks.depth,
             literals: false,
             defines: true,
             ranges: true,
         },
-        SimpleSpot::Post(blocks, ..) => Place {
+        SimpleSpot::Post(blocks, ..) => Context {
             depth: blocks.depth,
             literals: false,
             defines: false,
@@ -129,7 +129,7 @@ pub fn simple_begins(
         let s = spot_at spot in
         Steps result (simple_begins b s token) (spot_depth b s) }
 {
-    let simples = begin_simple(alloc, place_of(&spot));
+    let simples = begin_simple(alloc, context_of(&spot));
     in_simple(alloc, spot, simples, token)
 }
 
@@ -140,7 +140,7 @@ pub fn in_simple(
     simples: Simples,
     token: Terminal,
 ) -> Result<BodyProgress, StepFault>
-    requires { place_at simples ≡ place_of (blocks_at spot) (spot_at spot) }
+    requires { context_at simples ≡ context_of (blocks_at spot) (spot_at spot) }
     ensures { let s = in_simple (blocks_at spot) (spot_at spot) (simples_of simples) in
         Steps result (step s token) (nesting s token) }
 {
@@ -153,11 +153,11 @@ pub fn in_simple(
             Ok(BodyProgress::Goes(BodyState::Simple(InSimple { spot, simples })))
         }
         Ok(SimpleProgress::Ends(simple)) => behind_simple(alloc, spot, simple, token),
-        Ok(SimpleProgress::Ranges(targets, at)) => ranges(alloc, spot, targets, at),
+        Ok(SimpleProgress::Ranges(targets, range_pos)) => ranges(alloc, spot, targets, range_pos),
     }
 }
 
-/// A token behind `return`.
+/// A token after `return`.
 pub fn returned(
     alloc: Global,
     blocks: Blocks,
@@ -218,7 +218,7 @@ fn value_wanted(alloc: Global, blocks: Blocks, pos: Pos, values: Vec<Expr>) -> I
     }
 }
 
-/// A token behind a value of a `return`.
+/// A token after a value of a `return`.
 fn behind_returned(
     alloc: Global,
     blocks: Blocks,

@@ -19,9 +19,9 @@ reverse-set xs i x h =
     let q = drop (suc i) xs in
     let y = get_or xs i x in
     let whole : p ++ y ∷ q ≡ xs = sym (set_split xs i y h) ∙ set-get_or xs i x in
-    let behind : length (reverse q) ≡ length xs - 1 - i = length-reverse q ∙ length-drop (suc i) xs ∙ omega arith in
+    let after : length (reverse q) ≡ length xs - 1 - i = length-reverse q ∙ length-drop (suc i) xs ∙ omega arith in
     let turned : reverse xs ≡ reverse q ++ y ∷ reverse p = ap reverse (sym whole) ∙ reverse_at p q y in
-    let here : set (reverse xs) (length xs - 1 - i) x ≡ reverse q ++ x ∷ reverse p = rw turned (set_at (reverse q) y (reverse p) x _ behind) in
+    let here : set (reverse xs) (length xs - 1 - i) x ≡ reverse q ++ x ∷ reverse p = rw turned (set_at (reverse q) y (reverse p) x _ after) in
     ap reverse (set_split xs i x h) ∙ reverse_at p q x ∙ sym here
 
 pub lowered : (hi to : ℕ) (xs : List ℕ) → length xs ≤ hi → to ≤ hi - length xs → reverse (take (hi - to) xs ++ replicate (hi - to - length xs) 0) ≡ replicate (hi - length (reverse xs) - to) 0 ++ reverse xs

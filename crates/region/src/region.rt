@@ -49,7 +49,7 @@ impl Region {
         self.lo
     }
 
-    /// The address behind the highest one.
+    /// The address after the highest one.
     pub fn hi(&self) -> u64
         ensures is { result ≡ self.now.hi }
         ensures bounds { IsBounded self.now }

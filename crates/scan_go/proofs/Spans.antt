@@ -5,13 +5,13 @@ use Rattle.std.specs.List.{prefix_len}
 use Rattle.std.proofs.lemmas.List.{length-take, length-drop}
 use Rattle.std.proofs.lemmas.Bool.{cases_Bool}
 use Rattle.std.proofs.lemmas.List.Sums.{prefix_len-le-length}
-use Rattle.scan_go.specs.TokenList.{IsWithin}
+use Rattle.scan_go.specs.TokenList.{IsWithin, most_bytes}
 use Rattle.base.specs.declared.pos.Pos.{Pos}
 use Rattle.scan_go.specs.declared.lexeme.Lexeme.{Lexeme}
 use Rattle.scan_go.specs.declared.token.Token.{Token}
 use Rattle.scan_go.specs.Characters.{is_within_line}
 use Rattle.scan_go.specs.Tokens.{InOrder}
-use Rattle.scan_go.specs.Lines.{text_start, pos_step, pos_after, pos_at, closes_line, gap_behind, ends_line, semicolon_at, with_semicolons, AreSpans, IsSpan}
+use Rattle.scan_go.specs.Lines.{text_start, pos_step, pos_after, pos_at, closes_line, gap_after, ends_line, semicolon_at, with_semicolons, AreSpans, IsSpan}
 
 step_offset : (p : Pos) (b : ℕ) → (pos_step p b).offset ≡ p.offset + 1
 step_offset p b = elim (cases_Bool (b == 10)) [
@@ -31,32 +31,32 @@ order_within : (place : ℕ) (ls : List Lexeme) (n : ℕ) → InOrder place ls n
 order_within place [] n order = order
 order_within place (l ∷ ls) n order = omega (arith, order_within l.end ls n order.2, order.0, order.1)
 
--- the end of the line behind a token lies before the next token
-line_end_before : (text : List ℕ) (l : Lexeme) (ls : List Lexeme) → InOrder l.end ls (length text) → InOrder (l.end + prefix_len is_within_line (gap_behind text l ls)) ls (length text)
+-- the end of the line after a token lies before the next token
+line_end_before : (text : List ℕ) (l : Lexeme) (ls : List Lexeme) → InOrder l.end ls (length text) → InOrder (l.end + prefix_len is_within_line (gap_after text l ls)) ls (length text)
 line_end_before text l [] order = omega (arith, prefix_len-le-length is_within_line (drop l.end text), length-drop l.end text)
 line_end_before text l (m ∷ ls) order = (omega (arith, order.0, prefix_len-le-length is_within_line (take (m.start - l.end) (drop l.end text)), length-take (m.start - l.end) (drop l.end text)), order.1, order.2)
 
 -- a semicolon that may be inserted before the others
 with_inserted : (text : List ℕ) (place q : ℕ) (rest : List Token) (t : Bool) → place ≤ q → q ≤ length text → AreSpans place rest (length text) → AreSpans q rest (length text)
     → AreSpans place (cond t (semicolon_at text q ∷ []) [] ++ rest) (length text)
-with_inserted text place q rest true le within whole behind = (omega (arith, offset_at text q within), omega (arith, offset_at text q within), behind)
-with_inserted text place q rest false le within whole behind = whole
+with_inserted text place q rest true le within whole after = (omega (arith, offset_at text q within), omega (arith, offset_at text q within), after)
+with_inserted text place q rest false le within whole after = whole
 
 spans_of : (text : List ℕ) (place : ℕ) (ls : List Lexeme) → InOrder place ls (length text) → AreSpans place (with_semicolons text ls) (length text)
 spans_of text place [] order = order
 spans_of text place (l ∷ ls) order =
     let within : l.end ≤ length text = order_within l.end ls (length text) order.2 in
     let start : (pos_at text l.start).offset ≡ l.start = offset_at text l.start (omega (arith, order.1)) in
-    let gap = gap_behind text l ls in
+    let gap = gap_after text l ls in
     let q = l.end + prefix_len is_within_line gap in
-    let behind = line_end_before text l ls order.2 in (
+    let after = line_end_before text l ls order.2 in (
       omega (arith, order.0),
       omega (arith, order.1),
-      with_inserted text l.end q (with_semicolons text ls) (closes_line l.kind && ends_line gap ls) (omega arith) (order_within q ls (length text) behind)
-          (spans_of text l.end ls order.2) (spans_of text q ls behind),
+      with_inserted text l.end q (with_semicolons text ls) (closes_line l.kind && ends_line gap ls) (omega arith) (order_within q ls (length text) after)
+          (spans_of text l.end ls order.2) (spans_of text q ls after),
     )
 
-pub within : (text : List ℕ) (ls : List Lexeme) → length text ≤ 1048576 → InOrder 0 ls (length text) → IsWithin text (with_semicolons text ls)
+pub within : (text : List ℕ) (ls : List Lexeme) → length text ≤ most_bytes → InOrder 0 ls (length text) → IsWithin text (with_semicolons text ls)
 within text ls short order = record { short = short; spans = spans_of text 0 ls order }
 
 spans_within : (place : ℕ) (ts : List Token) (n : ℕ) → AreSpans place ts n → place ≤ n

@@ -47,20 +47,20 @@ no_end rest h i le = rw (drop_all i rest le) refl
 
 -- ---- faults
 
-abbrev pub behind : ℕ → Option (FaultKind × ℕ) → Option (FaultKind × ℕ)
-behind n None = None
-behind n (Some f) = Some (f.0, n + f.1)
+abbrev pub after : ℕ → Option (FaultKind × ℕ) → Option (FaultKind × ℕ)
+after n None = None
+after n (Some f) = Some (f.0, n + f.1)
 
 abbrev placed : FaultKind → ℕ → Option (FaultKind × ℕ)
 placed kind n = Some (kind, n)
 
-behind-farther : (i : ℕ) (o : Option (FaultKind × ℕ)) → behind i (farther o) ≡ behind (i + 1) o
-behind-farther i None = refl
-behind-farther i (Some f) = ap (placed f.0) (omega arith)
+after-farther : (i : ℕ) (o : Option (FaultKind × ℕ)) → after i (farther o) ≡ after (i + 1) o
+after-farther i None = refl
+after-farther i (Some f) = ap (placed f.0) (omega arith)
 
-pub behind-zero : (o : Option (FaultKind × ℕ)) → behind 0 o ≡ o
-behind-zero None = refl
-behind-zero (Some f) = ap (placed f.0) (omega arith)
+pub after-zero : (o : Option (FaultKind × ℕ)) → after 0 o ≡ o
+after-zero None = refl
+after-zero (Some f) = ap (placed f.0) (omega arith)
 
 cons_fault : (h : Bool) (b : ℕ) (rest : List ℕ) → fault_within h (b ∷ rest) ≡ here_or (fault_at h (b ∷ rest)) (fault_within (hides h b) rest)
 unfolding fault_within
@@ -74,17 +74,17 @@ from rest h i lt =
     ∙ ap (λ (r : List ℕ). here_or (fault_at h r) (fault_within (hides h (get_or rest i 0)) (drop (i + 1) rest))) (sym e)
 
 pub fault_here : (rest : List ℕ) (h : Bool) (i : ℕ) (kind : FaultKind) → i < length rest → fault_at h (drop i rest) ≡ Some kind
-    → behind i (fault_within h (drop i rest)) ≡ Some (kind, i)
+    → after i (fault_within h (drop i rest)) ≡ Some (kind, i)
 fault_here rest h i kind lt is =
-    ap (behind i) (from rest h i lt ∙ ap (λ (o : Option FaultKind). here_or o (fault_within (hides h (get_or rest i 0)) (drop (i + 1) rest))) is)
+    ap (after i) (from rest h i lt ∙ ap (λ (o : Option FaultKind). here_or o (fault_within (hides h (get_or rest i 0)) (drop (i + 1) rest))) is)
     ∙ ap (placed kind) (omega arith)
 
 pub fault_later : (rest : List ℕ) (h : Bool) (i : ℕ) → i < length rest → fault_at h (drop i rest) ≡ None
-    → behind i (fault_within h (drop i rest)) ≡ behind (i + 1) (fault_within (hides h (get_or rest i 0)) (drop (i + 1) rest))
+    → after i (fault_within h (drop i rest)) ≡ after (i + 1) (fault_within (hides h (get_or rest i 0)) (drop (i + 1) rest))
 fault_later rest h i lt is =
-    ap (behind i) (from rest h i lt ∙ ap (λ (o : Option FaultKind). here_or o (fault_within (hides h (get_or rest i 0)) (drop (i + 1) rest))) is)
-    ∙ behind-farther i (fault_within (hides h (get_or rest i 0)) (drop (i + 1) rest))
+    ap (after i) (from rest h i lt ∙ ap (λ (o : Option FaultKind). here_or o (fault_within (hides h (get_or rest i 0)) (drop (i + 1) rest))) is)
+    ∙ after-farther i (fault_within (hides h (get_or rest i 0)) (drop (i + 1) rest))
 
-pub no_fault : (rest : List ℕ) (h : Bool) (i : ℕ) → length rest ≤ i → behind i (fault_within h (drop i rest)) ≡ None
+pub no_fault : (rest : List ℕ) (h : Bool) (i : ℕ) → length rest ≤ i → after i (fault_within h (drop i rest)) ≡ None
 unfolding fault_within
 no_fault rest h i le = rw (drop_all i rest le) refl

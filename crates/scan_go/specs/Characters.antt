@@ -1,8 +1,8 @@
 -- Characters and their classes [Go specification, Characters, and Letters and digits].
 use Rattle.std.specs.Prelude.{ℕ, Bool, true, false, List, chars, slice_index, nat_le, nat_lt, ◌==◌, ◌||◌, ◌&&◌, if◌then◌else◌}
-use Rattle.ucd_category.specs.declared.GeneralCategory.{GeneralCategory}
-use Rattle.ucd_category.specs.declared.GeneralCategory.TheVariants as category
-use Rattle.ucd_category.specs.GeneralCategory.{general_category}
+use Rattle.unicode.specs.declared.properties.GeneralCategory.{GeneralCategory}
+use Rattle.unicode.specs.declared.properties.GeneralCategory.TheVariants as category
+use Rattle.unicode.specs.GeneralCategory.{general_category}
 
 -- the character that a text begins with
 abbrev pub char_at : List ℕ → ℕ

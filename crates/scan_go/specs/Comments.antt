@@ -31,6 +31,6 @@ abbrev pub closed_at : Option ℕ → List ℕ → Piece
 closed_at None rest = piece.Fault fault.OpenComment 0
 closed_at (Some n) rest = gap_of (2 + n) rest
 
--- up to the first */ behind the opening /*
+-- up to the first */ after the opening /*
 abbrev pub general_comment : List ℕ → Piece
 general_comment rest = closed_at (comment_end (drop 2 rest)) rest

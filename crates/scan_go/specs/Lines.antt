@@ -24,7 +24,7 @@ pos_after p bytes = fold pos_step p bytes
 abbrev pub PosFits : Pos → Type 0
 PosFits p = (p.line ≤ p.offset + 1) × (p.col ≤ p.offset + 1)
 
--- the position behind the first n bytes
+-- the position after the first n bytes
 unfoldable pub pos_at : List ℕ → ℕ → Pos
 pos_at text n = pos_after text_start (take n text)
 
@@ -45,9 +45,9 @@ closes_line (kind.Op op.RightBrace) = true
 closes_line _ = false
 
 -- the bytes between a token and the next one, or the end of the text
-abbrev pub gap_behind : List ℕ → Lexeme → List Lexeme → List ℕ
-gap_behind text l [] = drop l.end text
-gap_behind text l (n ∷ ls) = take (n.start - l.end) (drop l.end text)
+abbrev pub gap_after : List ℕ → Lexeme → List Lexeme → List ℕ
+gap_after text l [] = drop l.end text
+gap_after text l (n ∷ ls) = take (n.start - l.end) (drop l.end text)
 
 -- No token follows on the same line. A comment with a newline in it ends the line, too.
 abbrev pub ends_line : List ℕ → List Lexeme → Bool
@@ -60,10 +60,10 @@ token_of text l = record { kind = l.kind; pos = pos_at text l.start; end = l.end
 abbrev pub semicolon_at : List ℕ → ℕ → Token
 semicolon_at text place = record { kind = kind.Op op.Semicolon; pos = pos_at text place; end = place }
 
--- An inserted semicolon stands at the first newline behind its token, or at the end of the text.
+-- An inserted semicolon stands at the first newline after its token, or at the end of the text.
 abbrev pub inserted : List ℕ → Lexeme → List Lexeme → List Token
 inserted text l ls =
-    let gap = gap_behind text l ls in
+    let gap = gap_after text l ls in
     if closes_line l.kind && ends_line gap ls then semicolon_at text (l.end + prefix_len is_within_line gap) ∷ [] else []
 
 abbrev pub with_semicolons : List ℕ → List Lexeme → List Token

@@ -35,7 +35,7 @@ abbrev pub begins_digit : Base → List ℕ → Bool
 begins_digit b [] = false
 begins_digit b (c ∷ run) = is_digit c (radix b)
 
--- digits of the base, and marks behind each of which stands such a digit
+-- digits of the base, and marks that such a digit follows
 abbrev pub digits_fit : Base → List ℕ → Bool
 digits_fit b [] = true
 digits_fit b (c ∷ run) = (is_digit c (radix b) || ((c == 95) && begins_digit b run)) && digits_fit b run
@@ -44,7 +44,7 @@ digits_fit b (c ∷ run) = (is_digit c (radix b) || ((c == 95) && begins_digit b
 abbrev pub begins_other_form : ℕ → Bool
 begins_other_form b = (b == 46) || ((b == 101) || ((b == 69) || ((b == 112) || ((b == 80) || (b == 105)))))
 
--- a number behind so many bytes of a prefix: the run of digits and marks, and the byte behind it, or 0 at the end
+-- a number after a prefix of `front` bytes: the run of digits and marks, and the byte after it, or 0 at the end
 unfoldable pub literal : Base → ℕ → List ℕ → ℕ → Piece
 literal b front run next =
     if begins_other_form next then piece.Fault fault.OutOfProfile 0
@@ -73,13 +73,13 @@ plain_number rest =
     let n = prefix_len (is_digit_or_mark number_base.Decimal) rest in
     literal (plain_base (take n rest)) 0 (take n rest) (slice_index rest n)
 
--- behind a prefix of two bytes
+-- after a prefix of two bytes
 abbrev pub prefixed_number : Base → List ℕ → Piece
 prefixed_number b rest =
     let n = prefix_len (is_digit_or_mark b) rest in
     literal b 2 (take n rest) (slice_index rest n)
 
--- the longest run of digits and marks, behind a prefix or not
+-- the longest run of digits and marks, after a prefix or without one
 abbrev pub number_by : Option Base → List ℕ → Piece
 number_by None rest = plain_number rest
 number_by (Some b) rest = prefixed_number b (drop 2 rest)

@@ -17,25 +17,25 @@ use Rattle.scan_go.specs.Numbers.{radix, value}
 abbrev pub closes : Bool → ℕ → Bool
 closes hidden b = not hidden && (b == 34)
 
--- a backslash that hides the byte behind it, since none hides it
+-- a backslash that hides the byte after it, since none hides it
 abbrev pub hides : Bool → ℕ → Bool
 hides hidden b = not hidden && (b == 92)
 
--- How many bytes there are up to the closing quote and with it, if it stands on the same line. A backslash hides the
--- character behind it, but no newline.
+-- How many bytes there are up to and including the closing quote, if it stands on the same line. A backslash hides the
+-- character after it, but no newline.
 unfoldable pub closing : Bool → List ℕ → Option ℕ
 closing hidden [] = None
 closing hidden (b ∷ rest) = if is_within_line b then (if closes hidden b then Some 1 else later 1 (closing (hides hidden b) rest)) else None
 
--- the letters that stand for a byte behind a backslash, the backslash and the quote
+-- the letters that stand for a byte after a backslash, the backslash and the quote
 abbrev pub is_simple_escape : ℕ → Bool
 is_simple_escape c = (c == 97) || ((c == 98) || ((c == 102) || ((c == 110) || ((c == 114) || ((c == 116) || ((c == 118) || ((c == 92) || (c == 34))))))))
 
--- so many digits stand at the front
+-- n digits stand at the front
 abbrev pub begins_digits : Base → ℕ → List ℕ → Bool
 begins_digits b n rest = nat_le n (length rest) && list_all (λ c. is_digit c (radix b)) (take n rest)
 
--- so many hexadecimal digits, which give a code point
+-- n hexadecimal digits, which give a code point
 abbrev pub begins_code_point : ℕ → List ℕ → Bool
 begins_code_point n rest = begins_digits number_base.Hexadecimal n rest && is_code_point (value number_base.Hexadecimal (take n rest))
 
@@ -43,7 +43,7 @@ begins_code_point n rest = begins_digits number_base.Hexadecimal n rest && is_co
 abbrev pub begins_byte : List ℕ → Bool
 begins_byte rest = begins_digits number_base.Octal 3 rest && nat_lt (value number_base.Octal (take 3 rest)) 256
 
--- an escape, behind its backslash
+-- an escape, without its backslash
 unfoldable pub begins_escape : List ℕ → Bool
 begins_escape rest =
     let c = slice_index rest 0 in
@@ -74,14 +74,14 @@ unfoldable pub fault_within : Bool → List ℕ → Option (FaultKind × ℕ)
 fault_within hidden [] = None
 fault_within hidden (b ∷ rest) = here_or (fault_at hidden (b ∷ rest)) (fault_within (hides hidden b) rest)
 
--- a string of n bytes, or the first fault in it, counted from behind its opening quote
+-- a string of n bytes, or the first fault in it, counted from its opening quote on
 abbrev pub string_or_fault : ℕ → Option (FaultKind × ℕ) → Piece
 string_or_fault n None = piece.Token kind.String n
 string_or_fault n (Some f) = piece.Fault f.0 (1 + f.1)
 
 abbrev pub closed_string : Option ℕ → List ℕ → Piece
-closed_string None behind = piece.Fault fault.OpenString 0
-closed_string (Some n) behind = string_or_fault (1 + n) (fault_within false (take (n - 1) behind))
+closed_string None after = piece.Fault fault.OpenString 0
+closed_string (Some n) after = string_or_fault (1 + n) (fault_within false (take (n - 1) after))
 
 -- from the opening quote on
 abbrev pub string_piece : List ℕ → Piece

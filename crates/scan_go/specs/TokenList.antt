@@ -7,7 +7,11 @@ pub record TokenList : Type 0 where
   pub text : List ℕ
   pub list : List Token
 
--- the text has at most 1,048,576 bytes, and the spans lie within it
+-- the most bytes of a text
+abbrev pub most_bytes : ℕ
+most_bytes = 1048576
+
+-- the text is not too long, and the spans lie within it
 pub record IsWithin (text : List ℕ) (list : List Token) : Type 0 where
-  pub short : length text ≤ 1048576
+  pub short : length text ≤ most_bytes
   pub spans : AreSpans 0 list (length text)

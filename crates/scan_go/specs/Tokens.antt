@@ -36,7 +36,7 @@ found_in place (piece.Fault f n ∷ ps) = Err (f, place + n)
 abbrev pub mark_len : List ℕ → ℕ
 mark_len text = if starts_with nat_eq text (239 ∷ 187 ∷ 191 ∷ []) then 3 else 0
 
--- The tokens of the text, or its first fault from the left: behind the mark only tokens and gaps stand before it.
+-- The tokens of the text, or its first fault from the left: after the mark only tokens and gaps stand before it.
 abbrev pub Lexes : List ℕ → Found → Type 0
 Lexes text found = (ps : List Piece) × Cut (drop (mark_len text) text) ps × (found_in (mark_len text) ps ≡ found)
 

@@ -4,7 +4,7 @@ ghost use Rattle.std.specs.Prelude.{◌≡◌, ◌+◌, ◌-◌, ◌*◌, ◌<�
 ghost use Rattle.std.specs.Char.{is_digit};
 ghost use Rattle.scan_go.specs.Characters.{char_at, is_continuation, is_code_point, is_letter_category, is_digit_category, is_letter, is_name_digit, is_letter_or_digit, is_space, begins_other_literal, is_within_line};
 
-use ucd_category::GeneralCategory;
+use unicode::properties::GeneralCategory;
 
 /// The code of a character with one more byte of its UTF-8.
 fn extended(code: u32, b: u8) -> u32

@@ -54,7 +54,7 @@ impl FaultKind {
 pub enum ScanFault {
     #[error("no memory")]
     NoMemory,
-    #[error("more than 1048576 bytes")]
+    #[error("too many bytes")]
     TooLong(Pos),
     #[error("not UTF-8")]
     NotUtf8(Pos),
@@ -77,7 +77,7 @@ impl ScanFault {
         }
     }
 
-    /// Where the text is refused. Want of memory has no place.
+    /// Where the text is refused. Want of memory has no position.
     pub fn pos(&self) -> Option<Pos>
         ensures { result ≡ fault_pos self.now }
     {

@@ -7,7 +7,7 @@ use crate::fault::FaultKind;
 use crate::token::Kind;
 use std::alloc::AllocFailed;
 
-/// A token and its span: its first byte, and the offset behind its last one.
+/// A token and its span: its first byte, and the offset after its last one.
 #[derive(Clone, Copy, Debug, PartialEq, Eq)]
 pub struct Lexeme {
     pub kind: Kind,
@@ -15,7 +15,7 @@ pub struct Lexeme {
     pub end: usize,
 }
 
-/// Why a text was not cut: memory ran out, or a fault behind so many bytes.
+/// Why a text was not cut: memory ran out, or a fault after this number of bytes.
 #[derive(Clone, Copy, Debug, PartialEq, Eq)]
 pub enum LexemesFault {
     NoMemory,

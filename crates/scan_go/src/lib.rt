@@ -7,7 +7,7 @@
 //! A text is cut in two passes. The first goes over its bytes from left to right. At each place stands a piece: a gap
 //! (a space or a comment), a token, or a fault, and which one it is, each class of pieces says by itself from the
 //! bytes that are left. So a text is a sequence of pieces, and the first fault is where they stop. The second pass
-//! goes over the tokens. It counts lines and columns, and puts a semicolon behind a token that can end a statement
+//! goes over the tokens. It counts lines and columns, and puts a semicolon after a token that can end a statement
 //! where no token follows on its line: a gap breaks a line exactly where it has a newline in it, within a comment or
 //! not. The semicolon stands at that newline, or at the end of the text.
 #![tactic(auto)]

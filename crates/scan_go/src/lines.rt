@@ -2,7 +2,8 @@
 
 ghost use Rattle.std.specs.Prelude.{◌≡◌, ◌+◌, ◌<◌, ◌≤◌, IfOk, OnOk, ◌++◌, length};
 ghost use Rattle.scan_go.specs.Tokens.{InOrder};
-ghost use Rattle.scan_go.specs.Lines.{text_start, pos_after, pos_at, PosFits, inserted, closes_line, gap_behind, ends_line, with_semicolons};
+ghost use Rattle.scan_go.specs.TokenList.{most_bytes};
+ghost use Rattle.scan_go.specs.Lines.{text_start, pos_after, pos_at, PosFits, inserted, closes_line, gap_after, ends_line, with_semicolons};
 
 use crate::comment::line_len;
 use crate::lexeme::Lexeme;
@@ -23,10 +24,10 @@ pub fn text_start() -> Pos
     }
 }
 
-/// The position behind the bytes.
+/// The position after the bytes.
 fn pos_after(start: Pos, bytes: &[u8]) -> Pos
     requires start { PosFits start }
-    requires room { start.offset + length bytes.now ≤ 1048576 }
+    requires room { start.offset + length bytes.now ≤ most_bytes }
     ensures value { result ≡ pos_after start bytes.now }
     ensures offset { result.offset ≡ start.offset + length bytes.now }
     ensures fits { PosFits result }
@@ -50,19 +51,19 @@ fn pos_after(start: Pos, bytes: &[u8]) -> Pos
     pos
 }
 
-/// The position of a later byte.
+/// The position of a later byte than the one at a position.
 #[tactic(auto, using(crate::proofs::LinesSoFar::pos_later))]
-pub fn pos_of(text: &[u8], from: Pos, to: usize) -> Pos
-    requires from { from ≡ pos_at text.now from.offset }
-    requires fits { PosFits from }
-    requires order { from.offset ≤ to }
+pub fn pos_of(text: &[u8], pos: Pos, to: usize) -> Pos
+    requires pos { pos ≡ pos_at text.now pos.offset }
+    requires fits { PosFits pos }
+    requires order { pos.offset ≤ to }
     requires within { to ≤ length text.now }
-    requires room { length text.now ≤ 1048576 }
+    requires room { length text.now ≤ most_bytes }
     ensures value { result ≡ pos_at text.now to }
     ensures offset { result.offset ≡ to }
     ensures fits { PosFits result }
 {
-    pos_after(from, &text[from.offset as usize..to])
+    pos_after(pos, &text[pos.offset as usize..to])
 }
 
 /// Whether the token ends a statement where its line ends.
@@ -96,9 +97,9 @@ fn semicolon(pos: Pos) -> Token
 
 /// The bytes between a token and the next one.
 #[tactic(auto, using(crate::proofs::LinesSoFar::order_within))]
-fn gap_behind<'a>(text: &'a [u8], lexeme: &Lexeme, others: &[Lexeme]) -> &'a [u8]
+fn gap_after<'a>(text: &'a [u8], lexeme: &Lexeme, others: &[Lexeme]) -> &'a [u8]
     requires { InOrder lexeme.now.end others.now (length text.now) }
-    ensures value { result.now ≡ gap_behind text.now lexeme.now others.now }
+    ensures value { result.now ≡ gap_after text.now lexeme.now others.now }
     ensures within { lexeme.now.end + length result.now ≤ length text.now }
 {
     match others.split_first() {
@@ -114,25 +115,25 @@ fn ends_line(gap: &[u8], others: &[Lexeme]) -> bool
     others.is_empty() || line_len(gap) < gap.len()
 }
 
-/// Puts the semicolon behind a token that the end of its line brings.
+/// Puts the semicolon after a token, where the end of its line brings one.
 fn insert_semicolon(
     tokens: &mut Vec<Token>,
     text: &[u8],
     lexeme: &Lexeme,
-    end: Pos,
+    pos: Pos,
     others: &[Lexeme],
 ) -> Result<(), AllocError>
-    requires end { end ≡ pos_at text.now end.offset }
-    requires offset { end.offset ≡ lexeme.now.end }
-    requires fits { PosFits end }
+    requires pos { pos ≡ pos_at text.now pos.offset }
+    requires offset { pos.offset ≡ lexeme.now.end }
+    requires fits { PosFits pos }
     requires order { InOrder lexeme.now.end others.now (length text.now) }
-    requires room { length text.now ≤ 1048576 }
+    requires room { length text.now ≤ most_bytes }
     ensures { OnOk result (tokens.new.items ≡ tokens.old.items ++ inserted text.now lexeme.now others.now) }
 {
-    let gap = gap_behind(text, lexeme, others);
+    let gap = gap_after(text, lexeme, others);
     if closes_line(lexeme.kind) && ends_line(gap, others) {
         let line_end = lexeme.end + line_len(gap);
-        tokens.push(semicolon(pos_of(text, end, line_end)))?;
+        tokens.push(semicolon(pos_of(text, pos, line_end)))?;
     }
     Ok(())
 }
@@ -145,14 +146,14 @@ pub fn with_semicolons(
     lexemes: &[Lexeme],
 ) -> Result<Vec<Token>, AllocError>
     requires order { InOrder 0 lexemes.now (length text.now) }
-    requires room { length text.now ≤ 1048576 }
+    requires room { length text.now ≤ most_bytes }
     ensures { IfOk result (λ v. v.items ≡ with_semicolons text.now lexemes.now) }
 {
     let mut tokens = Vec::new(alloc);
-    let mut place = text_start();
+    let mut pos = text_start();
     let mut rest = lexemes;
     while let Some((lexeme, others)) = rest.split_first() {
-        let start = pos_of(text, place, lexeme.start);
+        let start = pos_of(text, pos, lexeme.start);
         let end = pos_of(text, start, lexeme.end);
         tokens.push(Token {
             kind: lexeme.kind,
@@ -160,7 +161,7 @@ pub fn with_semicolons(
             end: end.offset,
         })?;
         insert_semicolon(&mut tokens, text, lexeme, end, others)?;
-        place = end;
+        pos = end;
         rest = others;
     }
     Ok(tokens)

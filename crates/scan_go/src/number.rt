@@ -15,7 +15,7 @@ use crate::piece::Piece;
 use crate::token::Kind;
 
 /// The greatest value of a number.
-const MOST: u128 = 170141183460469231731687303715884105727;
+const GREATEST_NUMBER: u128 = 170_141_183_460_469_231_731_687_303_715_884_105_727;
 
 /// Whether the byte is a digit, or the mark `_` between digits.
 fn is_digit_or_mark(base: Base, b: u8) -> bool
@@ -43,7 +43,7 @@ fn begins_digit(base: Base, run: &[u8]) -> bool
     }
 }
 
-/// Whether there are digits of the base, and marks behind each of which stands such a digit.
+/// Whether there are only digits of the base, and marks that such a digit follows.
 fn digits_fit(base: Base, run: &[u8]) -> bool
     ensures { result ≡ digits_fit base run.now }
 {
@@ -67,7 +67,11 @@ fn add_digit(base: Base, value: u128, b: u8) -> Option<u128>
             let grown = value
                 .checked_mul(u128::from(base.radix()))?
                 .checked_add(u128::from(digit))?;
-            if grown <= MOST { Some(grown) } else { None }
+            if grown <= GREATEST_NUMBER {
+                Some(grown)
+            } else {
+                None
+            }
         }
         None => Some(value),
     }
@@ -84,14 +88,14 @@ pub fn value(base: Base, run: &[u8]) -> Option<u128>
     Some(value)
 }
 
-/// Whether the byte behind a number makes it a floating-point or an imaginary one.
+/// Whether the byte after a number makes it a floating-point or an imaginary one.
 fn begins_other_form(b: u8) -> bool
     ensures { result ≡ begins_other_form b }
 {
     b == b'.' || b == b'e' || b == b'E' || b == b'p' || b == b'P' || b == b'i'
 }
 
-/// A number by the bytes of its prefix, by its run of digits and marks, and by the byte behind it.
+/// A number by the bytes of its prefix, by its run of digits and marks, and by the byte after it.
 #[tactic(auto, unfolding(crate::specs::Numbers::literal))]
 fn literal(base: Base, front: usize, run: &[u8], next: u8) -> Piece
     requires some { 0 < front + length run.now }
@@ -163,7 +167,7 @@ fn plain_number(rest: &[u8]) -> Piece
     literal(plain_base(run), 0, run, byte_at(rest, len))
 }
 
-/// A number from behind its prefix on.
+/// A number, from the end of its prefix on.
 fn prefixed_number(base: Base, rest: &[u8]) -> Piece
     ensures value { result ≡ prefixed_number base rest.now }
     ensures within { PieceFits (2 + length rest.now) result }
@@ -172,7 +176,7 @@ fn prefixed_number(base: Base, rest: &[u8]) -> Piece
     literal(base, 2, &rest[..len], byte_at(rest, len))
 }
 
-/// A number: the longest run of digits and marks, behind a prefix or not.
+/// A number: the longest run of digits and marks, after a prefix or without one.
 pub fn number_piece(rest: &[u8]) -> Piece
     requires { IsTrue (is_ascii_digit (slice_index rest.now 0)) }
     ensures value { result ≡ number_piece rest.now }

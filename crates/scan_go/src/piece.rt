@@ -15,11 +15,11 @@ use crate::word::word_piece;
 /// What stands at a place of a text.
 #[derive(Clone, Copy, Debug, PartialEq, Eq)]
 pub enum Piece {
-    /// A space or a comment of so many bytes.
+    /// A space or a comment, with its number of bytes.
     Gap(usize),
-    /// A token of so many bytes.
+    /// A token, with its number of bytes.
     Token(Kind, usize),
-    /// A fault, so many bytes further on.
+    /// A fault, with the number of bytes before it.
     Fault(FaultKind, usize),
 }
 

@@ -7,6 +7,7 @@ ghost use Rattle.scan_go.specs.declared.spelling.Op.{Op};
 ghost use Rattle.scan_go.specs.Spelling.{op_spelling};
 ghost use Rattle.scan_go.specs.Operators.{operator_of};
 ghost use Rattle.scan_go.specs.Tokens.{Found, Lexes};
+ghost use Rattle.scan_go.specs.TokenList.{most_bytes};
 ghost use Rattle.scan_go.specs.Lines.{pos_at};
 ghost use Rattle.scan_go.specs.Scan.{GivesTokens, AreTokens, OnlyTokens};
 
@@ -19,13 +20,13 @@ use base::Pos;
 use std::alloc::Global;
 use std::str;
 
-/// The greatest length of a text in bytes.
-const MOST_BYTES: usize = 1048576;
+/// The most bytes of a text.
+const MOST_BYTES: usize = 1_048_576;
 
 #[tactic(auto, unfolding(crate::specs::Lines::pos_at))]
 fn pos_at(text: &[u8], offset: usize) -> Pos
     requires within { offset ≤ length text.now }
-    requires room { length text.now ≤ 1048576 }
+    requires room { length text.now ≤ most_bytes }
     ensures { result ≡ pos_at text.now offset }
 {
     pos_of(text, text_start(), offset)

@@ -21,21 +21,21 @@ fn closes(hidden: bool, b: u8) -> bool
     !hidden && b == b'"'
 }
 
-/// Whether the byte hides the one behind it, unless it is hidden itself.
+/// Whether the byte hides the one after it, unless it is hidden itself.
 fn hides(hidden: bool, b: u8) -> bool
     ensures { result ≡ hides hidden b }
 {
     !hidden && b == b'\\'
 }
 
-/// How many bytes there are up to the closing quote and with it, if it stands on the same line.
-fn closing(behind: &[u8]) -> Option<usize>
-    ensures value { result ≡ closing false behind.now }
-    ensures within { IfSome result (λ n. (0 < n) × (n ≤ length behind.now)) }
+/// How many bytes there are up to and including the closing quote, if it stands on the same line.
+fn closing(after: &[u8]) -> Option<usize>
+    ensures value { result ≡ closing false after.now }
+    ensures within { IfSome result (λ n. (0 < n) × (n ≤ length after.now)) }
 {
     let mut hidden = false;
-    for i in 0..behind.len() {
-        let b = behind[i];
+    for i in 0..after.len() {
+        let b = after[i];
         if !is_within_line(b) {
             return None;
         }
@@ -47,7 +47,7 @@ fn closing(behind: &[u8]) -> Option<usize>
     None
 }
 
-/// Whether the letter stands for a byte behind a backslash, or is a backslash or a quote.
+/// Whether the letter stands for a byte after a backslash, or is a backslash or a quote.
 fn is_simple_escape(b: u8) -> bool
     ensures { result ≡ is_simple_escape b }
 {
@@ -68,14 +68,14 @@ fn all_digits(base: Base, digits: &[u8]) -> bool
     digits.iter().all(|b| is_digit(*b, base.radix()))
 }
 
-/// Whether so many digits stand at the front.
+/// Whether `count` digits stand at the front.
 fn begins_digits(base: Base, count: usize, rest: &[u8]) -> bool
     ensures { result ≡ begins_digits base count rest.now }
 {
     count <= rest.len() && all_digits(base, &rest[..count])
 }
 
-/// Whether so many hexadecimal digits stand at the front and give a code point.
+/// Whether `count` hexadecimal digits stand at the front and give a code point.
 fn begins_code_point(count: usize, rest: &[u8]) -> bool
     ensures { result ≡ begins_code_point count rest.now }
 {
@@ -101,7 +101,7 @@ fn begins_byte(rest: &[u8]) -> bool
     }
 }
 
-/// Whether an escape stands behind a backslash.
+/// Whether an escape stands after a backslash.
 #[tactic(auto, unfolding(crate::specs::Strings::begins_escape))]
 fn begins_escape(rest: &[u8]) -> bool
     ensures { result ≡ begins_escape rest.now }
@@ -109,11 +109,11 @@ fn begins_escape(rest: &[u8]) -> bool
     if rest.is_empty() {
         return false;
     }
-    let behind = &rest[1..];
+    let after = &rest[1..];
     match rest[0] {
-        b'x' => begins_digits(Base::Hexadecimal, 2, behind),
-        b'u' => begins_code_point(4, behind),
-        b'U' => begins_code_point(8, behind),
+        b'x' => begins_digits(Base::Hexadecimal, 2, after),
+        b'u' => begins_code_point(4, after),
+        b'U' => begins_code_point(8, after),
         b if is_digit(b, 8) => begins_byte(rest),
         b => is_simple_escape(b),
     }
@@ -157,11 +157,11 @@ pub fn string_piece(rest: &[u8]) -> Piece
     ensures value { result ≡ string_piece rest.now }
     ensures within { PieceFits (length rest.now) result }
 {
-    let behind = &rest[1..];
-    let Some(len) = closing(behind) else {
+    let after = &rest[1..];
+    let Some(len) = closing(after) else {
         return Piece::Fault(FaultKind::OpenString, 0);
     };
-    match fault_within(&behind[..len - 1]) {
+    match fault_within(&after[..len - 1]) {
         Some((kind, place)) => Piece::Fault(kind, 1 + place),
         None => Piece::Token(Kind::String, 1 + len),
     }

@@ -14,7 +14,7 @@ pub enum Kind {
     Op(Op),
 }
 
-/// A token: what it is, where it begins and the offset behind its last byte. An inserted semicolon is empty.
+/// A token: what it is, where it begins and the offset after its last byte. An inserted semicolon is empty.
 #[derive(Clone, Copy, Debug, PartialEq, Eq)]
 pub struct Token {
     pub kind: Kind,

@@ -2,14 +2,14 @@
 
 ghost use Rattle.std.specs.Prelude.{◌≡◌, ◌≤◌, All, length};
 ghost use Rattle.scan_go.specs.Lines.{pos_at, AreSpans, IsSpan};
-ghost use Rattle.scan_go.specs.TokenList.{IsWithin};
+ghost use Rattle.scan_go.specs.TokenList.{IsWithin, most_bytes};
 
 use crate::lines::{pos_of, text_start};
 use crate::token::Token;
 use base::Pos;
 use std::marker::Model;
 
-/// The tokens of a text beside a copy of the text, which their spans index. A text has at most 1,048,576 bytes.
+/// The tokens of a text beside a copy of the text, which their spans index. A text has at most `MOST_BYTES` bytes.
 #[derive(Drop)]
 pub struct Tokens {
     text: Vec<u8>,
@@ -39,7 +39,7 @@ impl Tokens {
     /// The text that was scanned.
     pub fn text(&self) -> &[u8]
         ensures value { result.now ≡ self.now.text }
-        ensures short { length result.now ≤ 1048576 }
+        ensures short { length result.now ≤ most_bytes }
     {
         &self.text
     }
@@ -55,7 +55,14 @@ impl Tokens {
         &self.list
     }
 
-    /// The place behind the last byte of the text.
+    /// The text alone, for a caller that keeps it.
+    pub fn into_text(self) -> Vec<u8>
+        ensures { result.items ≡ self.text }
+    {
+        self.text
+    }
+
+    /// The position after the last byte of the text.
     #[tactic(auto, unfolding(crate::specs::Lines::pos_at))]
     pub fn end(&self) -> Pos
         ensures { result ≡ pos_at self.now.text (length self.now.text) }

@@ -19,8 +19,7 @@ fn goes_on(rest: &[u8]) -> bool
     is_continuation(rest[0]) || is_letter_or_digit(char_at(rest))
 }
 
-/// How many bytes from the front on are of letters and digits.
-
+/// How many bytes from the front on belong to letters and digits.
 fn word_len(rest: &[u8]) -> usize
     ensures value { result ≡ word_len rest.now }
     ensures within { result ≤ length rest.now }

@@ -1,12 +1,12 @@
 -- What names with types keep of a scope: the blocks outside the innermost one, the declarations before it, and what it has of the
 -- package.
--- There are at least as many strings behind it.
+-- There are at least as many strings after it.
 use Rattle.std.proofs.Common.{◌≡◌, ℕ, ◌≤◌, Bool, true, false, cond, List, [], ◌∷◌, ◌++◌, length, Option, Some, None, refl, sym, ap, ◌∙◌, subst, arith, append-nil, append_assoc, length-append}
 use Rattle.std.specs.Prelude.{⊤, not, ◌&&◌}
 use Rattle.std.specs.List.{AllByRecursion}
 use Rattle.base.specs.declared.pos.Pos.{Pos}
 use Rattle.std.specs.Str.{bytes_eq}
-use Rattle.value_types.specs.declared.constant.Fixed.{Fixed}
+use Rattle.constants.specs.declared.constant.Fixed.{Fixed}
 use Rattle.base.specs.declared.value_type.ValueType.{ValueType}
 use Rattle.syntax.specs.declared.expression.Name.{Name}
 use Rattle.syntax.specs.Expressions.{spelled}
@@ -26,11 +26,11 @@ IsLocal (Variable site t) = ⊤
 IsLocal Untyped = ⊤
 IsLocal other = ⊥
 
--- some declarations, and more of statements behind them
+-- some declarations, and more of statements after them
 abbrev pub Longer : List Declared → List Declared → Type 0
 Longer ds es = (more : List Declared) × (es ≡ ds ++ more) × AllByRecursion IsLocal more
 
--- some sites, and more behind them
+-- some sites, and more after them
 abbrev pub Extends : List Site → List Site → Type 0
 Extends a b = (more : List Site) × (b ≡ a ++ more)
 
@@ -54,7 +54,7 @@ abbrev pub InnerAbove : ℕ → Blocks → Type 0
 InnerAbove n [] = Unit {0}
 InnerAbove n (b ∷ bs) = EntriesAbove n b
 
--- the names of the innermost block that are new have numbers behind those of the declarations so far
+-- the names of the innermost block that are new have numbers after those of the declarations so far
 pub record Grows (s r : Scope) : Type 0 where
   pub around : outer r.blocks ≡ outer s.blocks
   pub depth : length r.blocks ≡ length s.blocks
@@ -130,7 +130,7 @@ keeps_strings s strings =
 pub grows_strings : (s : Scope) (strings : List (List ℕ)) → Grows s (with_strings s strings)
 grows_strings s strings = keeps_grows s (with_strings s strings) (keeps_strings s strings)
 
--- behind a block
+-- after a block
 pub keeps_inner : (s r : Scope) → Grows (opened s) r → Keeps s (closed r)
 keeps_inner s r g = record { blocks = g.around; declared = g.declared; sites = g.sites; kept = g.kept; strings = g.strings }
 

@@ -5,14 +5,14 @@ use Rattle.std.specs.Option.{option_map}
 use Rattle.syntax.specs.declared.expression.Name.{Name}
 use Rattle.syntax.specs.Expressions.{spelled}
 use Rattle.typed.specs.declared.program.Site.{Site}
-use Rattle.typed.specs.Syntax.{Program, type_in, site_type}
+use Rattle.typed_syntax.specs.Syntax.{Program, type_in, site_type}
 use Rattle.typed.specs.Tables.{Table}
 use Rattle.typed.specs.Trees.{trees, tree_named}
 use Rattle.typed.specs.View.{site_types}
-use Rattle.typed.specs.Form.{LeftsFit, new_sites, scope_behind, scope_with, SitesNext, ParamsFit, NamedFit, named_params as with_sites, params_scope}
-use Rattle.value_trees.specs.Types.{ValueType as TypeTree, ints}
+use Rattle.typed_syntax.specs.Form.{LeftsFit, new_sites, scope_behind, scope_with, SitesNext, ParamsFit, NamedFit, named_params as with_sites, params_scope}
+use Rattle.typed_syntax.specs.Types.{TypeTree, ints}
 use Rattle.base.specs.declared.value_type.ValueType.{ValueType}
-use Rattle.value_types.proofs.Options.{and_then_some, map_some, none_some, same_some}
+use Rattle.type_faults.proofs.Options.{and_then_some, map_some, none_some, same_some}
 use Rattle.names.specs.Universe.{is_blank}
 use Rattle.names.specs.Scope.{Scope, type_number, type_tree, type_trees, is_here, with_variable}
 use Rattle.signatures.specs.declared.slots.Slot.{Slot}

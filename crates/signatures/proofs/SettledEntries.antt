@@ -1,4 +1,4 @@
--- Names with types in a block: each has its entry, or a rule fails there, and never both; behind them every variable has a type.
+-- Names with types in a block: each has its entry, or a rule fails there, and never both; after them every variable has a type.
 use Rattle.std.proofs.Common.{◌≡◌, ℕ, Bool, true, false, cond, List, [], ◌∷◌, ◌++◌, map, length, Option, Some, None, refl, sym, subst, arith}
 use Rattle.std.specs.Prelude.{is_some, not, ◌&&◌}
 use Rattle.std.specs.List.{AllByRecursion}
@@ -6,11 +6,11 @@ use Rattle.std.specs.Option.{option_map}
 use Rattle.base.specs.declared.pos.Pos.{Pos}
 use Rattle.syntax.specs.declared.expression.Name.{Name}
 use Rattle.syntax.specs.Expressions.{spelled}
-use Rattle.value_types.specs.declared.fault.Fault.{Fault}
-use Rattle.value_types.specs.declared.fault.FaultKind.TheVariants.{Redeclared, OutOfProfile}
+use Rattle.type_faults.specs.declared.fault.Fault.{Fault}
+use Rattle.type_faults.specs.declared.fault.FaultKind.TheVariants.{Redeclared, OutOfProfile}
 use Rattle.base.specs.declared.value_type.ValueType.{ValueType}
-use Rattle.value_types.specs.Faults.{fault, IsFault}
-use Rattle.value_types.proofs.Decided.{Decided, Tested, mapped, after}
+use Rattle.type_faults.specs.Faults.{fault, IsFault}
+use Rattle.type_faults.proofs.Decided.{Decided, Tested, mapped, after}
 use Rattle.names.specs.declared.scope.Declared.{Declared}
 use Rattle.names.specs.Universe.{is_blank}
 use Rattle.names.specs.Scope.{Scope, is_here, with_variable, opened, closed}

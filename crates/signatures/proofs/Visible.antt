@@ -5,9 +5,9 @@ use Rattle.std.specs.Str.{bytes_eq}
 use Rattle.base.specs.declared.ids.SiteId.{SiteId}
 use Rattle.base.specs.declared.pos.Pos.{Pos}
 use Rattle.base.specs.declared.value_type.ValueType.{ValueType}
-use Rattle.typed.specs.Form.{InScope}
+use Rattle.typed_syntax.specs.Form.{InScope}
 use Rattle.typed.specs.Tables.{Table}
-use Rattle.value_types.proofs.Options.{none_some}
+use Rattle.type_faults.proofs.Options.{none_some}
 use Rattle.operators.proofs.Held.{AreHeld}
 use Rattle.typed.specs.declared.program.Site.{Site}
 use Rattle.names.specs.Blocks.{Names, Blocks, entry_of, or_else, lookup, with_entry, insert}
@@ -68,7 +68,7 @@ insert_below : (n k : ℕ) → k < n → (bs : Blocks) (name : List ℕ) → Blo
 insert_below n k lt [] name below = tt
 insert_below n k lt (b ∷ bs) name below = (with_entry_below n k lt b name below.0, below.1)
 
--- behind an insertion a name has the new number or its old one
+-- after an insertion a name has the new number or its old one
 entry_with : (es : Names) (name other : List ℕ) (k j : ℕ) → entry_of (with_entry es name k) other ≡ Some j → (j ≡ k) ⊎ (entry_of es other ≡ Some j)
 entry_with [] name other k j is = by (bytes_eq other name) is
   where

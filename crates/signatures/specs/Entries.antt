@@ -4,7 +4,7 @@ use Rattle.std.specs.Prelude.{ℕ, length, Bool, not, ◌&&◌, List, [], ◌∷
 use Rattle.std.specs.Option.{option_map}
 use Rattle.syntax.specs.declared.expression.Name.{Name}
 use Rattle.syntax.specs.Expressions.{spelled}
-use Rattle.typed.specs.Syntax.{Left, blank, new}
+use Rattle.typed_syntax.specs.Syntax.{Left, blank, new}
 use Rattle.base.specs.declared.value_type.ValueType.{ValueType}
 use Rattle.names.specs.Universe.{is_blank}
 use Rattle.names.specs.Scope.{Scope, is_here, with_variable}

@@ -3,9 +3,9 @@ use Rattle.std.specs.Prelude.{ℕ, ◌⊎◌, Bool, true, false, List, [], ◌�
 use Rattle.base.specs.declared.pos.Pos.{Pos}
 use Rattle.syntax.specs.declared.expression.Name.{Name}
 use Rattle.syntax.specs.Expressions.{spelled}
-use Rattle.value_types.specs.declared.fault.Fault.{Fault}
-use Rattle.value_types.specs.declared.fault.FaultKind.TheVariants.{Redeclared, OutOfProfile}
-use Rattle.value_types.specs.Faults.{fault, IsFault}
+use Rattle.type_faults.specs.declared.fault.Fault.{Fault}
+use Rattle.type_faults.specs.declared.fault.FaultKind.TheVariants.{Redeclared, OutOfProfile}
+use Rattle.type_faults.specs.Faults.{fault, IsFault}
 use Rattle.names.specs.Universe.{is_blank}
 use Rattle.names.specs.Scope.{Scope, is_here}
 use Rattle.signatures.specs.declared.slots.Slot.{Slot}
@@ -15,16 +15,16 @@ use Rattle.signatures.specs.Entries.{behind_entry}
 
 -- a blank result
 abbrev pub blank_fault : Role → Pos → Option Fault
-blank_fault parameter at = None
-blank_fault result at = Some (fault OutOfProfile at)
+blank_fault parameter pos = None
+blank_fault result pos = Some (fault OutOfProfile pos)
 
 abbrev pub variable_fault : (is_here : Bool) → Pos → Option Fault
-variable_fault true at = Some (fault Redeclared at)
-variable_fault false at = None
+variable_fault true pos = Some (fault Redeclared pos)
+variable_fault false pos = None
 
 abbrev pub named_fault : Role → (is_blank is_here : Bool) → Pos → Option Fault
-named_fault role true is_here at = blank_fault role at
-named_fault role false is_here at = variable_fault is_here at
+named_fault role true is_here pos = blank_fault role pos
+named_fault role false is_here pos = variable_fault is_here pos
 
 module _ (text : List ℕ) where
   abbrev pub EntryFails : Role → Scope → Option Name → Fault → Type 0

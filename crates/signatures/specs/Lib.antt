@@ -1,3 +1,5 @@
+-- Signatures is the contract: the types of parameters and results, and the names of a package; Entries says what a list of names with types
+-- declares, EntryFaults and SignatureFaults which rules fail. Failing is inside: a rule that fails where a test says so.
 pub mod Entries
 pub mod EntryFaults
 pub mod Failing

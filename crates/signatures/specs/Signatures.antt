@@ -12,7 +12,7 @@ use Rattle.syntax.specs.Declarations as tree
 use Rattle.base.specs.declared.pos.Pos.{Pos}
 use Rattle.base.specs.declared.value_type.ValueType.{ValueType}
 use Rattle.base.specs.declared.value_type.ValueType.TheVariants.{Int, Bool as Boolean}
-use Rattle.typed.specs.Syntax.{all_width}
+use Rattle.typed_syntax.specs.Syntax.{all_width}
 use Rattle.typed.specs.Tables.{Table}
 use Rattle.names.specs.declared.scope.External.{External as ExternalData}
 use Rattle.names.specs.declared.scope.External.TheVariants as external
@@ -60,9 +60,13 @@ types_of (p ∷ ps) = option_and_then (λ t. option_map (λ ts. t ∷ ts) (types
 abbrev pub words : Table → Signature → ℕ
 words T sig = all_width (type_trees T sig.params) + all_width (type_trees T sig.results)
 
+-- the most words that the arguments and the results of a function have together
+abbrev pub most_words : ℕ
+most_words = 65535
+
 abbrev pub is_small : Table → Option Signature → Bool
 is_small T None = false
-is_small T (Some sig) = nat_le (words T sig) 65535
+is_small T (Some sig) = nat_le (words T sig) most_words
 
 -- a package has no name `init`
 abbrev pub is_init : List ℕ → Bool
@@ -105,8 +109,8 @@ external_named name = if bytes_eq name (codes "exit") then external.Exit else ex
 
 -- whether a name stands for the function without a body that is declared at a place
 abbrev pub is_external_at : Pos → Option Declared → Bool
-is_external_at place (Some (External e at)) = at.offset == place.offset
-is_external_at place other = false
+is_external_at pos (Some (External e declared_pos)) = declared_pos.offset == pos.offset
+is_external_at pos other = false
 
 module _ (text : List ℕ) where
   -- ---- the names that the package declares, which tell what the types of its heads stand for
@@ -127,9 +131,9 @@ module _ (text : List ℕ) where
   with_types s (t ∷ ts) = with_types (with_name TypeName s t.name) ts
 
   abbrev pub with_head : Scope → Declaration → Scope
-  with_head s (constants at specs) = with_values s specs
-  with_head s (variables at specs) = with_values s specs
-  with_head s (types at specs) = with_types s specs
+  with_head s (constants pos specs) = with_values s specs
+  with_head s (variables pos specs) = with_values s specs
+  with_head s (types pos specs) = with_types s specs
   with_head s (tree.function f) = with_name Untyped s f.name
 
   abbrev pub with_heads : Scope → List Declaration → Scope
@@ -198,9 +202,9 @@ module _ (text : List ℕ) (heads : Scope) where
       if is_external f then with_name text (External (external_named (spelled text f.name)) f.name.pos) s f.name else with_signature (with_name text (Function (record { 0 = length s.signatures })) s f.name) (signature_in f)
 
   abbrev pub with_item : Scope → Declaration → Scope
-  with_item s (constants at specs) = with_constants text s specs
-  with_item s (variables at specs) = with_package_variables text s specs
-  with_item s (types at specs) = with_types text s specs
+  with_item s (constants pos specs) = with_constants text s specs
+  with_item s (variables pos specs) = with_package_variables text s specs
+  with_item s (types pos specs) = with_types text s specs
   with_item s (tree.function f) = with_function s f
 
   abbrev pub with_items : Scope → List Declaration → Scope

@@ -4,21 +4,21 @@ ghost use Rattle.std.specs.Prelude.{◌≡◌, Option, Some, None, IfOk, OnOk, L
 ghost use Rattle.std.specs.Option.{option_map};
 ghost use Rattle.syntax.specs.Expressions.{spelled};
 ghost use Rattle.typed.specs.View.{site_in, left_of as left_view};
-ghost use Rattle.value_types.specs.Least.{IsLeast};
-ghost use Rattle.value_types.specs.Faults.{IsFault};
+ghost use Rattle.type_faults.specs.Least.{IsLeast};
+ghost use Rattle.type_faults.specs.Faults.{IsFault};
 ghost use Rattle.names.specs.Universe.{is_blank};
 ghost use Rattle.names.specs.Scope.{scope_of, is_here};
 ghost use Rattle.signatures.specs.Entries.{entry_of, entry_left, sites_of, named_entry, entry_in, behind_entry_name, behind_entry, entries, behind_entries};
 ghost use Rattle.signatures.specs.EntryFaults.{EntryFails, EntriesFail, named_fault};
-ghost use Rattle.value_types.specs.Given.{with_last};
+ghost use Rattle.type_faults.specs.Given.{with_last};
 
 use crate::slots::Slot;
 use base::{NoMemory, Pos, SiteId, ValueType};
-use names::{Scope, declare_variable, is_blank, is_here, next_site, spelled};
+use names::{Scope, is_blank, spelled};
 use std::alloc::Global;
 use syntax::Name;
+use type_faults::{Fault, FaultKind, lesser};
 use typed::Left;
-use value_types::{Fault, FaultKind, lesser};
 
 /// Where a name with a type stands.
 #[derive(Clone, Copy, Debug, PartialEq, Eq)]
@@ -76,8 +76,8 @@ fn named_entry(
     ensures { IfOk result (λ r. option_map site_in r ≡ named_entry text.now role (scope_of scope.now) name) }
 {
     let bytes = spelled(text, name);
-    let site = next_site(scope)?;
-    Ok(entry_of(role, is_blank(bytes), is_here(scope, bytes), site))
+    let site = scope.next_site()?;
+    Ok(entry_of(role, is_blank(bytes), scope.is_here(bytes), site))
 }
 
 fn entry_in(
@@ -94,12 +94,12 @@ fn entry_in(
     }
 }
 
-#[tactic(auto, using(value_types::proofs::Leasts::leaf))]
+#[tactic(auto, using(type_faults::proofs::Leasts::leaf))]
 fn named_fault(text: &[u8], scope: &Scope, role: Role, name: Name) -> Option<Fault>
     ensures { IsLeast (IsFault (named_fault role (is_blank (spelled text.now name)) (is_here (scope_of scope.now) (spelled text.now name)) name.pos)) result }
 {
     let bytes = spelled(text, name);
-    named_fault_of(role, is_blank(bytes), is_here(scope, bytes), name.pos)
+    named_fault_of(role, is_blank(bytes), scope.is_here(bytes), name.pos)
 }
 
 fn entry_fault(text: &[u8], scope: &Scope, role: Role, name: Option<Name>) -> Option<Fault>
@@ -123,8 +123,8 @@ fn declare_entry_name(
         return Ok(());
     };
     let bytes = spelled(text, name);
-    if !is_blank(bytes) && !is_here(scope, bytes) {
-        declare_variable(scope, bytes, name.pos, value_type)
+    if !is_blank(bytes) && !scope.is_here(bytes) {
+        scope.declare_variable(bytes, name.pos, value_type)
     } else {
         Ok(())
     }

@@ -3,7 +3,7 @@
 ghost use Rattle.std.specs.Prelude.{◌≡◌, Option, Some, None};
 ghost use Rattle.signatures.specs.Failing.{fault_where};
 
-use value_types::Fault;
+use type_faults::Fault;
 
 /// A rule that fails where this holds.
 pub fn fault_where(fails: bool, own: Fault) -> Option<Fault>

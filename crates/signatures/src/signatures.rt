@@ -6,7 +6,7 @@ ghost use Rattle.std.specs.Str.{bytes_eq};
 ghost use Rattle.syntax.specs.Expressions.{spelled};
 ghost use Rattle.syntax.specs.Statements.{value_specs_of};
 ghost use Rattle.syntax.specs.Declarations.{parameters_of, type_specs_of, function_of, declaration_of, declarations_of};
-ghost use Rattle.typed.specs.Syntax.{all_width};
+ghost use Rattle.typed_syntax.specs.Syntax.{all_width};
 ghost use Rattle.names.specs.declared.scope.Declared.TheVariants.{Untyped as NoType};
 ghost use Rattle.names.specs.Universe.{is_blank};
 ghost use Rattle.names.specs.Scope.{scope_of, signature_of, type_trees, declaration, is_here};
@@ -16,14 +16,11 @@ ghost use Rattle.signatures.specs.SignatureFaults.{function_name_fault, size_fau
 use crate::failing::fault_where;
 use crate::slots::{is_named, slots_of, types_of};
 use base::{FuncId, NoMemory, Pos, ValueType};
-use names::{
-    Declared, External, GlobalId, Scope, Signature, ValueId, add_global, add_signature, add_value,
-    declare, global_count, is_blank, is_here, spelled, type_id, value_count,
-};
+use names::{Declared, External, GlobalId, Scope, Signature, ValueId, is_blank, spelled, type_id};
 use std::alloc::Global;
 use syntax::{Decl, Func, Name, TypeSpec, ValueSpec};
+use type_faults::{Fault, FaultKind};
 use typed::TypeTable;
-use value_types::{Fault, FaultKind};
 
 /// The most words that the arguments and results of a function may have.
 const MOST_WORDS: u32 = 65_535;
@@ -138,7 +135,7 @@ pub fn is_init(name: &[u8]) -> bool
 fn declares_name(scope: &Scope, name: &[u8]) -> bool
     ensures { result ≡ declares_name (scope_of scope.now) name.now }
 {
-    !(is_blank(name) || is_init(name)) && !is_here(scope, name)
+    !(is_blank(name) || is_init(name)) && !scope.is_here(name)
 }
 
 /// Declares a name, if it is the first one.
@@ -147,7 +144,7 @@ fn add_name(text: &[u8], scope: &mut Scope, name: Name, declared: Declared) -> R
 {
     let bytes = spelled(text, name);
     if declares_name(scope, bytes) {
-        declare(scope, bytes, declared)
+        scope.declare(bytes, declared)
     } else {
         Ok(())
     }
@@ -209,7 +206,7 @@ pub fn add_heads(text: &[u8], heads: &mut Scope, decls: &[Decl]) -> Result<(), N
 fn next_value(scope: &Scope) -> Result<ValueId, NoMemory>
     ensures { IfOk result (λ k. k.0 ≡ length (scope_of scope.now).values) }
 {
-    match u32::try_from(value_count(scope)) {
+    match u32::try_from(scope.value_count()) {
         Ok(number) => Ok(ValueId(number)),
         Err(_) => Err(NoMemory),
     }
@@ -219,7 +216,7 @@ fn next_value(scope: &Scope) -> Result<ValueId, NoMemory>
 fn next_global(scope: &Scope) -> Result<GlobalId, NoMemory>
     ensures { IfOk result (λ g. g.0 ≡ length (scope_of scope.now).globals) }
 {
-    match u32::try_from(global_count(scope)) {
+    match u32::try_from(scope.global_count()) {
         Ok(number) => Ok(GlobalId(number)),
         Err(_) => Err(NoMemory),
     }
@@ -231,7 +228,7 @@ fn add_constant_name(text: &[u8], scope: &mut Scope, name: Name) -> Result<(), N
 {
     let number = next_value(scope)?;
     add_name(text, scope, name, Declared::Constant(number))?;
-    add_value(scope, None)
+    scope.add_value(None)
 }
 
 fn add_constant_names(text: &[u8], scope: &mut Scope, names: &[Name]) -> Result<(), NoMemory>
@@ -260,7 +257,7 @@ fn add_numbered_name(text: &[u8], scope: &mut Scope, name: Name) -> Result<(), N
     let number = next_value(scope)?;
     let global = next_global(scope)?;
     add_name(text, scope, name, Declared::Global(number, global))?;
-    add_global(scope)
+    scope.add_global()
 }
 
 /// Declares a package variable with the next number, of which nothing is known yet.
@@ -270,7 +267,7 @@ fn add_variable_name(text: &[u8], scope: &mut Scope, name: Name) -> Result<(), N
     if !is_blank(spelled(text, name)) {
         add_numbered_name(text, scope, name)?;
     }
-    add_value(scope, None)
+    scope.add_value(None)
 }
 
 fn add_variable_names(text: &[u8], scope: &mut Scope, names: &[Name]) -> Result<(), NoMemory>
@@ -319,7 +316,7 @@ fn add_function(
         return Err(NoMemory);
     };
     add_name(text, scope, f.name, Declared::Function(FuncId(number)))?;
-    add_signature(scope, signature)
+    scope.add_signature(signature)
 }
 
 fn add_item(
@@ -393,16 +390,16 @@ pub fn function_name_fault(
 }
 
 /// Whether a name stands for the function without a body that is declared at a place.
-pub fn is_external_at(place: Pos, declared: Option<Declared>) -> bool
-    ensures { result ≡ is_external_at place declared }
+pub fn is_external_at(pos: Pos, declared: Option<Declared>) -> bool
+    ensures { result ≡ is_external_at pos declared }
 {
     match declared {
-        Some(Declared::External(_, pos)) => pos.offset == place.offset,
+        Some(Declared::External(_, declared_pos)) => declared_pos.offset == pos.offset,
         _ => false,
     }
 }
 
-/// How many of some words are left behind values of these types; none where the values have more.
+/// How many of some words are left after values of these types; none where the values have more.
 fn words_left(types: &TypeTable, room: u32, value_types: &[ValueType]) -> Option<u32>
     ensures { MatchOption result
         (room < all_width (type_trees types.now value_types.now))

@@ -4,9 +4,9 @@ ghost use Rattle.std.specs.Prelude.{◌≡◌, ◌⊎◌, Option, Some, None, If
 ghost use Rattle.std.specs.Option.{option_map};
 ghost use Rattle.syntax.specs.Expressions.{ex_of as tree_of, exs_of as trees_of};
 ghost use Rattle.syntax.specs.Declarations.{parameters_of, field_of, fields_of};
-ghost use Rattle.value_types.specs.Least.{IsLeast};
+ghost use Rattle.type_faults.specs.Least.{IsLeast};
 ghost use Rattle.names.specs.Scope.{scope_of};
-ghost use Rattle.value_types.specs.Given.{with_last};
+ghost use Rattle.type_faults.specs.Given.{with_last};
 ghost use Rattle.signatures.specs.Entries.{slot_with, slots_each};
 ghost use Rattle.signatures.specs.Signatures.{param_with, field_params, named_params, unnamed_params, params_of, is_named, slot_of, slots_of, types_of};
 ghost use Rattle.signatures.specs.SignatureFaults.{TypesFail};
@@ -15,7 +15,7 @@ use base::{NoMemory, ValueType};
 use names::{Scope, type_fault, type_in};
 use std::alloc::Global;
 use syntax::{Expr, Field, Name, Params};
-use value_types::{Fault, lesser};
+use type_faults::{Fault, lesser};
 
 /// A parameter or a result: its name, if it has one, and its type, where that is known.
 #[derive(Clone, Copy, Debug, PartialEq, Eq)]
@@ -111,7 +111,7 @@ fn unnamed_slots(
     Ok(slots)
 }
 
-/// One for each name of a field behind others. Its type is looked up once.
+/// One for each name of a field after others. Its type is looked up once.
 fn with_field(
     slots: Vec<Slot>,
     text: &[u8],

@@ -8,24 +8,25 @@ use Rattle.syntax.specs.declared.expression.Name.{Name}
 use Rattle.syntax.specs.declared.operator.ArithmeticOp.{ArithmeticOp}
 use Rattle.syntax.specs.declared.operator.ArithmeticOp.TheVariants as arithmetic
 use Rattle.syntax.specs.declared.operator.BinOp.TheVariants.{Arithmetic}
-use Rattle.syntax.specs.FirstBytes.{first_place}
+use Rattle.syntax.specs.FirstBytes.{first_pos}
 use Rattle.syntax.specs.Expressions.{Ex as TreeEx, Exs as TreeExs, some, spelled}
 use Rattle.syntax.specs.Expressions as expressions
 use Rattle.syntax.specs.Statements.{Simple}
 use Rattle.syntax.specs.Statements as tree
-use Rattle.typed.specs.declared.operators.BinOp.{BinOp as TypedOp}
-use Rattle.typed.specs.declared.operators.BinOp.TheVariants as op
+use Rattle.typed_syntax.specs.declared.operators.BinOp.{BinOp as TypedOp}
+use Rattle.typed_syntax.specs.declared.operators.BinOp.TheVariants as op
 use Rattle.typed.specs.declared.program.Site.{Site}
-use Rattle.typed.specs.Syntax.{Exs, Left, Pl, St, Program, read, global, here, none, more, results, asked as asked_two, blank, new, to, update, give_back}
-use Rattle.typed.specs.Form.{IsArithmetic, IsStep, PlFits, LeftsFit, new_sites, births, scope_behind, scope_after, ExFits, ExsFit, PieceFits, PiecesFit, ReturnFits, StFits}
-use Rattle.value_trees.specs.Types.{ValueType as TypeTree, ints, bools}
-use Rattle.value_types.specs.declared.constant.Fixed.{Fixed}
+use Rattle.typed.specs.Positions.{position}
+use Rattle.typed_syntax.specs.Syntax.{Exs, Left, Pl, St, Program, read, global, here, none, more, results, read_int as asked_two, blank, new, to, update, return_stmt}
+use Rattle.typed_syntax.specs.Form.{IsArithmetic, IsStep, PlFits, LeftsFit, new_sites, births, scope_behind, scope_after, ExFits, ExsFit, PieceFits, PiecesFit, ReturnFits, StFits}
+use Rattle.typed_syntax.specs.Types.{TypeTree, ints, bools}
+use Rattle.constants.specs.declared.constant.Fixed.{Fixed}
 use Rattle.base.specs.declared.value_type.ValueType.{ValueType}
 use Rattle.base.specs.declared.value_type.ValueType.TheVariants.{Int, Bool as Truth, Struct, Array}
 use Rattle.typed.specs.Tables.{Table}
 use Rattle.typed.specs.Formed.{IsFormed}
-use Rattle.value_types.specs.Given.{both}
-use Rattle.value_types.proofs.Options.{and_then_some, map_some, none_some, same_some}
+use Rattle.type_faults.specs.Given.{both}
+use Rattle.type_faults.proofs.Options.{and_then_some, map_some, none_some, same_some}
 use Rattle.operators.specs.Operands.{value}
 use Rattle.operators.specs.Operators.{arithmetic_of, combined}
 use Rattle.names.specs.declared.scope.Declared.{Declared}
@@ -142,7 +143,7 @@ module _ (T : Table) (p : Program) where
         let q = map_some (λ xs. r.0 ∷ xs) (lefts text s es) ls r.2 in
         subst (λ (l : List Left). OldFit scope (t ∷ ts) l) q.2 (old_more scope t ts r.0 q.0 (side_old s scope known (name_in e) t r.0 a.0 r.1) (lefts_fit s scope known es ts q.0 a.1 q.1))
 
-    -- left sides in a scope, some of which are new variables, behind others
+    -- left sides in a scope, some of which are new variables, after others
     record NewFit (scope0 : List ℕ) (s : Scope) (scope : List ℕ) (vs : List Slot) (ts : List ValueType) (ls : List Left) (n : ℕ) : Type 0 where
       fit : LeftsFit p scope0 (length s.sites) n (type_trees T ts) ls
       visible : Visible (with_variables text s vs) (scope_behind scope ls)
@@ -238,9 +239,9 @@ module _ (T : Table) (text : List ℕ) (p : Program) (all : List Site) (has : Ha
 
     return_still : (looped : Bool) (scope : List ℕ) (r : Returns) (goes : ReturnsFit T r wanted1 named) (formed : IsFormed T) (os : List Seen) (t : St) → AllFit T p scope os → returned r os ≡ Some t → Still looped scope t
     return_still looped scope r goes formed [] t fits is =
-        let w = where_some r.may_be_bare (Some (give_back none)) t is in subst (λ (x : St). Still looped scope x) (same_some w.1) (refl, λ m n. goes.bare w.0, refl)
+        let w = where_some r.may_be_bare (Some (return_stmt none)) t is in subst (λ (x : St). Still looped scope x) (same_some w.1) (refl, λ m n. goes.bare w.0, refl)
     return_still looped scope r goes formed (o ∷ os) t fits is =
-        let q = map_some give_back (taken r.wanted (o ∷ os)) t is in
+        let q = map_some return_stmt (taken r.wanted (o ∷ os)) t is in
         let f = taken_fits T p scope formed r.wanted (o ∷ os) q.0 fits q.1 in
         let same1 = asked_types goes.types f.types (subst (λ (l : List (Option ValueType)). AreAccepted l f.types) goes.wanted f.accepted) in
         let whole : ExsFit p scope wanted1 q.0 = subst (λ (l : List TypeTree). ExsFit p scope l q.0) (ap (type_trees T) (sym same1) ∙ goes.trees) f.fit in
@@ -325,31 +326,31 @@ module _ (T : Table) (text : List ℕ) (p : Program) (all : List Site) (has : Ha
           by true is1 = absurd (none_some is1)
           by false is1 = of_variable (variable_named text s n) (known_all s scope visible types_are agrees ext (spelled text n)) is1
 
-      update_one_still : Extends s.sites all → (tree_op : ArithmeticOp) (e v : TreeEx) (t : St) → update_one text s tree_op e v ≡ Some t → Still looped scope t
-      update_one_still ext tree_op e v t is =
+      update_one_still : Extends s.sites all → (at : Pos) (tree_op : ArithmeticOp) (e v : TreeEx) (t : St) → update_one text s at tree_op e v ≡ Some t → Still looped scope t
+      update_one_still ext at tree_op e v t is =
           let a = own_value text s (name_in e) in
           let b = operand_in (gives text s v) in
-          let q = and_then_some updated (both (combined (first_place e) (Arithmetic tree_op)) a b) t is in
-          let u = update_some (first_place e) tree_op a b q.0 (λ x x_is. own_read text s (name_in e) x x_is) q.1 in
+          let q = and_then_some updated (both (combined at (Arithmetic tree_op)) a b) t is in
+          let u = update_some at tree_op a b q.0 (λ x x_is. own_read text s (name_in e) x x_is) q.1 in
           let form = u.5 in
           let place1 : PlFits p scope ints u.1 = subst (λ (x : TypeTree). PlFits p scope x u.1) (int_tree T formed) (subst (λ (k : ValueType). PlFits p scope (type_tree T k) u.1) form.2 (own_fits ext (name_in e) u.0 u.1 u.3)) in
           let right : OperandFits T p scope u.2 = operand_fits T p scope (gives text s v) u.2 (maybe_fits T p scope (gives text s v) (λ g g_is. given_fits v g g_is)) u.4 in
           let right1 : ExFits p scope ints form.0 = subst (λ (x : TypeTree). ExFits p scope x form.0) (int_tree T formed) (subst (λ (k : ValueType). ExFits p scope (type_tree T k) form.0) form.1 (value_fits T p scope formed u.2 form.0 right form.3)) in
-          let whole : update (first_place e) u.1 (arithmetic_of tree_op) form.0 ≡ t = same_some (ap updated (sym form.4) ∙ q.2) in
+          let whole : update (position at) u.1 (arithmetic_of tree_op) form.0 ≡ t = same_some (ap updated (sym form.4) ∙ q.2) in
           subst (λ (x : St). Still looped scope x) whole (refl, λ m n. (arithmetic_is tree_op, place1, right1), refl)
 
-      update_still : Extends s.sites all → (tree_op : ArithmeticOp) (e v : Option TreeEx) (t : St) → update_statement text s tree_op e v ≡ Some t → Still looped scope t
-      update_still ext tree_op None v t is = absurd (none_some is)
-      update_still ext tree_op (Some e) None t is = absurd (none_some is)
-      update_still ext tree_op (Some e) (Some v) t is = update_one_still ext tree_op e v t is
+      update_still : Extends s.sites all → (at : Pos) (tree_op : ArithmeticOp) (e v : Option TreeEx) (t : St) → update_statement text s at tree_op e v ≡ Some t → Still looped scope t
+      update_still ext at tree_op None v t is = absurd (none_some is)
+      update_still ext at tree_op (Some e) None t is = absurd (none_some is)
+      update_still ext at tree_op (Some e) (Some v) t is = update_one_still ext at tree_op e v t is
 
-      step_still : Extends s.sites all → (typed_op : TypedOp) → IsStep typed_op → (e : TreeEx) (t : St) → step_statement text s typed_op e ≡ Some t → Still looped scope t
-      step_still ext typed_op steps e t is =
-          let q = and_then_some (stepped typed_op) (own_value text s (name_in e)) t is in
+      step_still : Extends s.sites all → (at : Pos) (typed_op : TypedOp) → IsStep typed_op → (e : TreeEx) (t : St) → step_statement text s at typed_op e ≡ Some t → Still looped scope t
+      step_still ext at typed_op steps e t is =
+          let q = and_then_some (stepped (position at) typed_op) (own_value text s (name_in e)) t is in
           let x = own_read text s (name_in e) q.0 q.1 in
-          by x.0 x.1 (q.1 ∙ ap Some x.2) (ap (stepped typed_op) (sym x.2) ∙ q.2)
+          by x.0 x.1 (q.1 ∙ ap Some x.2) (ap (stepped (position at) typed_op) (sym x.2) ∙ q.2)
         where
-          by : (u : ValueType) (l : Pl) → own_value text s (name_in e) ≡ Some (value u (read l)) → stepped typed_op (value u (read l)) ≡ Some t → Still looped scope t
+          by : (u : ValueType) (l : Pl) → own_value text s (name_in e) ≡ Some (value u (read l)) → stepped (position at) typed_op (value u (read l)) ≡ Some t → Still looped scope t
           by Truth l found is1 = absurd (none_some is1)
           by (Struct k) l found is1 = absurd (none_some is1)
           by (Array n u) l found is1 = absurd (none_some is1)
@@ -365,10 +366,10 @@ module _ (T : Table) (text : List ℕ) (p : Program) (all : List Site) (has : Ha
       pub simple_still : (m : Simple) (t : St) → DeclaresNone m → Within p all (behind_simple text s m) → simple_statement text s m ≡ Some t → Still looped scope t
       simple_still (tree.express e) t none1 within is = call_still e t within is
       simple_still (tree.assign ls at es) t none1 within is = assign_still ls es t within.0 is
-      simple_still (tree.update ls at tree_op es) t none1 within is = update_still within.0 tree_op (only ls) (only es) t is
+      simple_still (tree.update ls at tree_op es) t none1 within is = update_still within.0 at tree_op (only ls) (only es) t is
       simple_still (tree.define ns at es) t none1 within is = absurd none1
-      simple_still (tree.increment e at) t none1 within is = step_still within.0 op.Add (inl refl) e t is
-      simple_still (tree.decrement e at) t none1 within is = step_still within.0 op.Sub (inr refl) e t is
+      simple_still (tree.increment e at) t none1 within is = step_still within.0 at op.Add (inl refl) e t is
+      simple_still (tree.decrement e at) t none1 within is = step_still within.0 at op.Sub (inr refl) e t is
 
       call_formed : (e : TreeEx) (t : St) → Still looped scope t → StFormed looped s scope (behind_simple text s (tree.express e)) t × Visible (behind_simple text s (tree.express e)) (scope_after scope t)
       call_formed e t f =

@@ -4,14 +4,14 @@ use Rattle.std.specs.Prelude.{option_and_then, is_some, not, ◌&&◌, ◌==◌}
 use Rattle.base.specs.declared.pos.Pos.{Pos}
 use Rattle.syntax.specs.declared.expression.Name.{Name}
 use Rattle.syntax.specs.Expressions.{Exs as TreeExs}
-use Rattle.typed.specs.Syntax.{Left}
-use Rattle.value_types.specs.declared.fault.Fault.{Fault}
-use Rattle.value_types.specs.declared.fault.FaultKind.TheVariants.{ArgCount, ResultCount, NothingNew}
+use Rattle.typed_syntax.specs.Syntax.{Left}
+use Rattle.type_faults.specs.declared.fault.Fault.{Fault}
+use Rattle.type_faults.specs.declared.fault.FaultKind.TheVariants.{WrongCount, ResultCount, NothingNew}
 use Rattle.base.specs.declared.value_type.ValueType.{ValueType}
-use Rattle.value_types.specs.Least.{IsLeast, lesser}
-use Rattle.value_types.specs.Faults.{fault, IsFault}
-use Rattle.value_types.proofs.Decided.{Tested}
-use Rattle.value_types.proofs.Leasts.{least_join, leaf}
+use Rattle.type_faults.specs.Least.{IsLeast, lesser}
+use Rattle.type_faults.specs.Faults.{fault, IsFault}
+use Rattle.type_faults.proofs.Decided.{Tested}
+use Rattle.type_faults.proofs.Leasts.{least_join, leaf}
 use Rattle.names.specs.Scope.{Scope}
 use Rattle.expression_types.specs.declared.gives.Item.{Item}
 use Rattle.expression_types.specs.Typing.{Seen, count, seen}
@@ -34,20 +34,20 @@ not_twice false b = refl
 
 module _ (text : List ℕ) (s : Scope) where
   pub define_least : (ns : List Name) (at : Pos) (es : TreeExs) (ps : List (Option ValueType)) (os : List Seen) (a b c d : Option Fault) → ps ≡ all_new_wanted text s ns → os ≡ seen text s es
-      → IsLeast (FailsInEach text s es) a → IsLeast (TakeFails (fault ArgCount (names_place ns at)) ps os) b → IsLeast (NewNamesFail text s ns) c
+      → IsLeast (FailsInEach text s es) a → IsLeast (TakeFails (fault WrongCount (names_place ns at)) ps os) b → IsLeast (NewNamesFail text s ns) c
       → IsLeast (λ f. TwiceFails text ([] ∷ []) ns f ⊎ IsFault (fault_where (has_all text s ns) (fault NothingNew at)) f) d
       → IsLeast (FailsInDefinition text s ns at es) (lesser (lesser (lesser a b) c) d)
   define_least ns at es ps os a b c d ps_is os_is each take1 news whole =
-      let own = fault ArgCount (names_place ns at) in
+      let own = fault WrongCount (names_place ns at) in
       let take2 : IsLeast (TakeFails own (all_new_wanted text s ns) (seen text s es)) b =
       subst (λ (l : List Seen). IsLeast (TakeFails own (all_new_wanted text s ns) l) b) os_is (subst (λ (l : List (Option ValueType)). IsLeast (TakeFails own l os) b) ps_is take1) in
       least_join _ _ (lesser (lesser a b) c) d (least_join _ _ (lesser a b) c (least_join (FailsInEach text s es) (TakeFails own (all_new_wanted text s ns) (seen text s es)) a b each take2) news) whole
 
   pub assign_least : (ns : TreeExs) (at : Pos) (es : TreeExs) (ls : Option (List Left)) (ps : List (Option ValueType)) (os : List Seen) (a b c : Option Fault) → ls ≡ lefts text s ns → ps ≡ all_wanted text s ns → os ≡ seen text s es
       → IsLeast (LeftsFail text s ns) a → IsLeast (FailsInEach text s es) b → IsLeast (PlacedFail ps os) c
-      → IsLeast (FailsInAssignment text s ns at es) (lesser (lesser a b) (lesser c (count_fault (option_and_then (λ l. count os) ls) (length ps) (fault ArgCount (lefts_place ns at)))))
+      → IsLeast (FailsInAssignment text s ns at es) (lesser (lesser a b) (lesser c (count_fault (option_and_then (λ l. count os) ls) (length ps) (fault WrongCount (lefts_place ns at)))))
   assign_least ns at es ls ps os a b c ls_is ps_is os_is left each placed =
-      let own = fault ArgCount (lefts_place ns at) in
+      let own = fault WrongCount (lefts_place ns at) in
       let Whole : Option (List Left) → List (Option ValueType) → List Seen → Fault → Type 0 = λ ls1 ps1 os1 f. (LeftsFail text s ns f ⊎ FailsInEach text s es f) ⊎ (PlacedFail ps1 os1 f ⊎ CountFails (option_and_then (λ l. count os1) ls1) (length ps1) own f) in
       let answer = lesser (lesser a b) (lesser c (count_fault (option_and_then (λ l. count os) ls) (length ps) own)) in
       let whole : IsLeast (Whole ls ps os) answer = least_join (λ f. LeftsFail text s ns f ⊎ FailsInEach text s es f) (λ f. PlacedFail ps os f ⊎ CountFails (option_and_then (λ l. count os) ls) (length ps) own f)

@@ -5,8 +5,8 @@ use Rattle.std.specs.Option.{option_map}
 use Rattle.std.specs.Global.{Vec}
 use Rattle.typed.specs.declared.stmt.Stmt.{Stmt}
 use Rattle.typed.specs.View.{st_of, sts_of}
-use Rattle.typed.specs.Syntax.{St, Sts, done, next}
-use Rattle.value_types.specs.Given.{with_last}
+use Rattle.typed_syntax.specs.Syntax.{St, Sts, done, next}
+use Rattle.type_faults.specs.Given.{with_last}
 use Rattle.simple_statements.specs.SimpleStatements.{before}
 
 pub before_done : (b : Sts) → before b done ≡ b
@@ -17,7 +17,7 @@ pub before_more : (xs ys : List Stmt) (r : Sts) → before (sts_of xs) (before (
 before_more [] ys r = refl
 before_more (x ∷ xs) ys r = ap (next (st_of x)) (before_more xs ys r)
 
--- typed statements, and more behind them
+-- typed statements, and more after them
 abbrev pub joined : Option (List Stmt) → Option Sts → Option Sts
 joined values later = option_and_then (λ v. option_map (before (sts_of v)) later) values
 

@@ -4,26 +4,28 @@ use Rattle.std.specs.Prelude.{option_and_then, is_some, not, ◌&&◌}
 use Rattle.std.specs.Option.{option_map}
 use Rattle.std.proofs.lemmas.List.{length-map}
 use Rattle.base.specs.declared.pos.Pos.{Pos}
-use Rattle.value_types.specs.declared.fault.Fault.{Fault}
+use Rattle.type_faults.specs.declared.fault.Fault.{Fault}
 use Rattle.syntax.specs.declared.expression.Name.{Name}
 use Rattle.syntax.specs.declared.operator.ArithmeticOp.{ArithmeticOp}
 use Rattle.syntax.specs.declared.operator.BinOp.TheVariants.{Arithmetic}
-use Rattle.syntax.specs.FirstBytes.{first_place}
+use Rattle.syntax.specs.FirstBytes.{first_pos}
 use Rattle.syntax.specs.Expressions.{Ex as TreeEx, Exs as TreeExs, some, spelled}
 use Rattle.syntax.specs.Expressions as expressions
 use Rattle.syntax.specs.Statements.{Simple}
 use Rattle.syntax.specs.Statements as tree
-use Rattle.typed.specs.declared.operators.BinOp.{BinOp as TypedOp}
-use Rattle.typed.specs.declared.operators.BinOp.TheVariants as op
-use Rattle.typed.specs.Syntax.{Ex, Exs, Left, Pl, St, to, binary, read, none, assign, update, give_back}
-use Rattle.value_types.specs.declared.fault.FaultKind.TheVariants.{Unknown, Redeclared, NothingNew, NotAssignable, NotUsedValue, ArgCount, ResultCount, BadOperand, OutOfProfile}
-use Rattle.value_types.specs.declared.constant.Fixed.{Fixed}
+use Rattle.typed_syntax.specs.declared.operators.BinOp.{BinOp as TypedOp}
+use Rattle.typed_syntax.specs.declared.operators.BinOp.TheVariants as op
+use Rattle.typed.specs.Positions.{position}
+use Rattle.typed_syntax.specs.Positions.{Position}
+use Rattle.typed_syntax.specs.Syntax.{Ex, Exs, Left, Pl, St, to, binary, read, none, assign, update, return_stmt}
+use Rattle.type_faults.specs.declared.fault.FaultKind.TheVariants.{Unknown, Redeclared, NothingNew, NotAssignable, NotUsedValue, WrongCount, ResultCount, Unfit, OutOfProfile}
+use Rattle.constants.specs.declared.constant.Fixed.{Fixed}
 use Rattle.base.specs.declared.value_type.ValueType.{ValueType}
 use Rattle.base.specs.declared.value_type.ValueType.TheVariants.{Int, Bool as Truth}
-use Rattle.value_types.specs.Given.{both}
-use Rattle.value_types.specs.Faults.{fault, IsFault}
-use Rattle.value_types.proofs.Decided.{Decided, Tested, further, mapped, after, both_tested}
-use Rattle.value_types.proofs.Options.{and_then_some, map_some, none_some, same_some}
+use Rattle.type_faults.specs.Given.{both}
+use Rattle.type_faults.specs.Faults.{fault, IsFault}
+use Rattle.type_faults.proofs.Decided.{Decided, Tested, further, mapped, after, both_tested}
+use Rattle.type_faults.proofs.Options.{and_then_some, map_some, none_some, same_some}
 use Rattle.operators.specs.Operands.{Operand, value, type_of, as_value}
 use Rattle.operators.specs.Operators.{takes, right_allowed, both_values, arithmetic_of, combined}
 use Rattle.operators.specs.Faults.{pair_fault}
@@ -63,8 +65,8 @@ left_decided s false None at whole typed = (fault Unknown at, refl)
 left_decided s false (Some (declared.Variable site t)) at whole typed = λ f h. h
 left_decided s false (Some (declared.Global k g)) at whole typed = known_decided (λ v. to v.place) g.0 (fixed s k.0) (typed (declared.Global k g) refl)
 left_decided s false (Some declared.Untyped) at whole typed = absurd (typed declared.Untyped refl)
-left_decided s false (Some declared.TypeName) at whole typed = (fault BadOperand at, refl)
-left_decided s false (Some (declared.«Type» t)) at whole typed = (fault BadOperand at, refl)
+left_decided s false (Some declared.TypeName) at whole typed = (fault Unfit at, refl)
+left_decided s false (Some (declared.«Type» t)) at whole typed = (fault Unfit at, refl)
 left_decided s false (Some declared.LeftOutType) at whole typed = (fault OutOfProfile at, refl)
 left_decided s false (Some declared.LeftOutValue) at whole typed = (fault OutOfProfile at, refl)
 left_decided s false (Some other) at whole typed = (fault NotAssignable whole, refl)
@@ -75,8 +77,8 @@ own_decided s false None at whole typed = (fault Unknown at, refl)
 own_decided s false (Some (declared.Variable site t)) at whole typed = λ f h. h
 own_decided s false (Some (declared.Global k g)) at whole typed = known_decided (λ v. value v.value_type (read v.place)) g.0 (fixed s k.0) (typed (declared.Global k g) refl)
 own_decided s false (Some declared.Untyped) at whole typed = absurd (typed declared.Untyped refl)
-own_decided s false (Some declared.TypeName) at whole typed = (fault BadOperand at, refl)
-own_decided s false (Some (declared.«Type» t)) at whole typed = (fault BadOperand at, refl)
+own_decided s false (Some declared.TypeName) at whole typed = (fault Unfit at, refl)
+own_decided s false (Some (declared.«Type» t)) at whole typed = (fault Unfit at, refl)
 own_decided s false (Some declared.LeftOutType) at whole typed = (fault OutOfProfile at, refl)
 own_decided s false (Some declared.LeftOutValue) at whole typed = (fault OutOfProfile at, refl)
 own_decided s false (Some other) at whole typed = (fault NotAssignable whole, refl)
@@ -132,12 +134,12 @@ use_decided n (Some (panicked place p)) at P d = λ f h. elim h [ inl k ↦ d f 
 use_decided n (Some (exited place e)) at P d = λ f h. elim h [ inl k ↦ d f k | inr k ↦ k ]
 
 pub return_decided : (at : Pos) (r : Returns) (os : List Seen) (P : Fault → Type 0) → Decided (given_all os) P → Decided (returned r os) (λ f. P f ⊎ ReturnFails at r os f)
-return_decided at r [] P d = further P (ReturnFails at r []) (cond r.may_be_bare (Some (give_back none)) None) d (by r.may_be_bare)
+return_decided at r [] P d = further P (ReturnFails at r []) (cond r.may_be_bare (Some (return_stmt none)) None) d (by r.may_be_bare)
   where
-    by : (b : Bool) → Decided (cond b (Some (give_back none)) None) (IsFault (fault_where (not b) (fault ResultCount at)))
+    by : (b : Bool) → Decided (cond b (Some (return_stmt none)) None) (IsFault (fault_where (not b) (fault ResultCount at)))
     by true = λ f h. h
     by false = (fault ResultCount at, refl)
-return_decided at r (o ∷ os) P d = mapped give_back (taken r.wanted (o ∷ os)) _ (take_decided (o ∷ os) P d (fault ResultCount at) r.wanted)
+return_decided at r (o ∷ os) P d = mapped return_stmt (taken r.wanted (o ∷ os)) _ (take_decided (o ∷ os) P d (fault ResultCount at) r.wanted)
 
 -- ---- variables that are given values of their own
 
@@ -151,7 +153,7 @@ variable_read (Some v) x is = (v.value_type, v.place, sym (same_some is))
 
 -- what an operator gives of a variable and an operand has the form of an operator on two
 abbrev pub UpdatedAs : Pos → TypedOp → ValueType → Pl → Operand → Operand → Type 0
-UpdatedAs at typed_op t q y z = (e : Ex) × (type_of y ≡ Int) × (t ≡ Int) × (as_value y ≡ Some e) × (z ≡ value Int (binary at typed_op (read q) e))
+UpdatedAs at typed_op t q y z = (e : Ex) × (type_of y ≡ Int) × (t ≡ Int) × (as_value y ≡ Some e) × (z ≡ value Int (binary (position at) typed_op (read q) e))
 
 takes_ints : (tree_op : ArithmeticOp) (s t : ValueType) → takes (Arithmetic tree_op) s t ≡ true → (s ≡ Int) × (t ≡ Int)
 takes_ints tree_op Int Int is = (refl, refl)
@@ -193,39 +195,39 @@ update_passes : (at : Pos) (tree_op : ArithmeticOp) (a b : Option Operand) (z : 
 update_passes at tree_op a b z reads is =
     let r = update_some at tree_op a b z reads is in
     let form = r.5 in
-    (update at r.1 (arithmetic_of tree_op) form.0, ap updated form.4)
+    (update (position at) r.1 (arithmetic_of tree_op) form.0, ap updated form.4)
 
-step_decided : (typed_op : TypedOp) (o : Option Operand) (at : Pos) (P : Fault → Type 0) → ((x : Operand) → o ≡ Some x → IsRead x) → Decided o P
-    → Decided (option_and_then (stepped typed_op) o) (λ f. P f ⊎ IsFault (step_fault o at) f)
-step_decided typed_op None at P reads d = (d.0, inl d.1)
-step_decided typed_op (Some x) at P reads d =
+step_decided : (op_at : Position) (typed_op : TypedOp) (o : Option Operand) (at : Pos) (P : Fault → Type 0) → ((x : Operand) → o ≡ Some x → IsRead x) → Decided o P
+    → Decided (option_and_then (stepped op_at typed_op) o) (λ f. P f ⊎ IsFault (step_fault o at) f)
+step_decided op_at typed_op None at P reads d = (d.0, inl d.1)
+step_decided op_at typed_op (Some x) at P reads d =
     let r = reads x refl in
-    subst (λ (y : Operand). Decided (stepped typed_op y) (λ f. P f ⊎ IsFault (step_fault (Some y) at) f)) (sym r.2) (by r.0 r.1)
+    subst (λ (y : Operand). Decided (stepped op_at typed_op y) (λ f. P f ⊎ IsFault (step_fault (Some y) at) f)) (sym r.2) (by r.0 r.1)
   where
-    by : (t : ValueType) (q : Pl) → Decided (stepped typed_op (value t (read q))) (λ f. P f ⊎ IsFault (step_fault (Some (value t (read q))) at) f)
+    by : (t : ValueType) (q : Pl) → Decided (stepped op_at typed_op (value t (read q))) (λ f. P f ⊎ IsFault (step_fault (Some (value t (read q))) at) f)
     by Int q = λ f h. elim h [ inl k ↦ d f k | inr k ↦ k ]
-    by t q = (fault BadOperand at, inr refl)
+    by t q = (fault Unfit at, inr refl)
 
 module _ (text : List ℕ) where
-  value_decided : (s : Scope) (e : TreeEx) (o : Option Gives) → Decided o (Fails text s e) → (f : Fault) × (Fails text s e f ⊎ IsFault (value_left_fault o (first_place e)) f)
+  value_decided : (s : Scope) (e : TreeEx) (o : Option Gives) → Decided o (Fails text s e) → (f : Fault) × (Fails text s e f ⊎ IsFault (value_left_fault o (first_pos e)) f)
   value_decided s e None d = (d.0, inl d.1)
-  value_decided s e (Some (one x)) d = (fault NotAssignable (first_place e), inr refl)
-  value_decided s e (Some (called at ts g es)) d = (fault NotAssignable (first_place e), inr refl)
-  value_decided s e (Some (asking at)) d = (fault NotAssignable (first_place e), inr refl)
+  value_decided s e (Some (one x)) d = (fault NotAssignable (first_pos e), inr refl)
+  value_decided s e (Some (called at ts g es)) d = (fault NotAssignable (first_pos e), inr refl)
+  value_decided s e (Some (asking at)) d = (fault NotAssignable (first_pos e), inr refl)
   value_decided s e (Some (quoted at bytes)) d = (fault OutOfProfile at, inr refl)
-  value_decided s e (Some (printed at line ps)) d = (fault NotAssignable (first_place e), inr refl)
-  value_decided s e (Some (panicked at p)) d = (fault NotAssignable (first_place e), inr refl)
-  value_decided s e (Some (exited at x)) d = (fault NotAssignable (first_place e), inr refl)
+  value_decided s e (Some (printed at line ps)) d = (fault NotAssignable (first_pos e), inr refl)
+  value_decided s e (Some (panicked at p)) d = (fault NotAssignable (first_pos e), inr refl)
+  value_decided s e (Some (exited at x)) d = (fault NotAssignable (first_pos e), inr refl)
 
   side_decided : (s : Scope) (settled : IsSettled s) (o : Option Name) (e : TreeEx) → Decided (left text s o) (LeftSideFails text s o e)
   side_decided s settled None e = value_decided s e (gives text s e) (gives_decided text s settled e)
   side_decided s settled (Some n) e =
-      left_decided s (is_blank (spelled text n)) (declaration s (spelled text n)) n.pos (first_place e) (λ x is. declared_typed s settled (spelled text n) x is)
+      left_decided s (is_blank (spelled text n)) (declaration s (spelled text n)) n.pos (first_pos e) (λ x is. declared_typed s settled (spelled text n) x is)
 
   own_side_decided : (s : Scope) (settled : IsSettled s) (o : Option Name) (e : TreeEx) → Decided (own_value text s o) (OwnSideFails text s o e)
   own_side_decided s settled None e = value_decided s e (gives text s e) (gives_decided text s settled e)
   own_side_decided s settled (Some n) e =
-      own_decided s (is_blank (spelled text n)) (declaration s (spelled text n)) n.pos (first_place e) (λ x is. declared_typed s settled (spelled text n) x is)
+      own_decided s (is_blank (spelled text n)) (declaration s (spelled text n)) n.pos (first_pos e) (λ x is. declared_typed s settled (spelled text n) x is)
 
   pub own_read : (s : Scope) (o : Option Name) (x : Operand) → own_value text s o ≡ Some x → IsRead x
   own_read s None x is = absurd (none_some is)
@@ -266,28 +268,28 @@ module _ (text : List ℕ) where
       → Decided (cond (may_define text s ns) (assignment (new_lefts text s (length s.sites) ns) (taken (all_new_wanted text s ns) (seen text s es))) None) (FailsInDefinition text s ns at es)
   define_statement s ns at es settled =
       let v = taken (all_new_wanted text s ns) (seen text s es) in
-      define_decided (may_define text s ns) (new_lefts text s (length s.sites) ns) v (λ f. FailsInEach text s es f ⊎ TakeFails (fault ArgCount (names_place ns at)) (all_new_wanted text s ns) (seen text s es) f)
+      define_decided (may_define text s ns) (new_lefts text s (length s.sites) ns) v (λ f. FailsInEach text s es f ⊎ TakeFails (fault WrongCount (names_place ns at)) (all_new_wanted text s ns) (seen text s es) f)
       (NewNamesFail text s ns) (λ f. TwiceFails text ([] ∷ []) ns f ⊎ IsFault (fault_where (has_all text s ns) (fault NothingNew at)) f)
       (both_tested (TwiceFails text ([] ∷ []) ns) (IsFault (fault_where (has_all text s ns) _)) (are_distinct text ([] ∷ []) ns) (not (has_all text s ns)) (distinct_tested ([] ∷ []) ns) (where_tested (has_all text s ns) _))
       (λ is. new_lefts_decided s settled (length s.sites) ns)
-      (take_decided (seen text s es) (FailsInEach text s es) (seen_decided text s settled es) (fault ArgCount (names_place ns at)) (all_new_wanted text s ns))
+      (take_decided (seen text s es) (FailsInEach text s es) (seen_decided text s settled es) (fault WrongCount (names_place ns at)) (all_new_wanted text s ns))
 
   assign_statement : (s : Scope) (ls : TreeExs) (at : Pos) (es : TreeExs) → IsSettled s → Decided (assignment (lefts text s ls) (taken (all_wanted text s ls) (seen text s es))) (FailsInAssignment text s ls at es)
   assign_statement s ls at es settled =
-      assign_decided (lefts text s ls) (taken (all_wanted text s ls) (seen text s es)) (count (seen text s es)) (length (all_wanted text s ls)) (fault ArgCount (lefts_place ls at)) (LeftsFail text s ls) (FailsInEach text s es) _
-      (lefts_decided s settled ls) (take_decided (seen text s es) (FailsInEach text s es) (seen_decided text s settled es) (fault ArgCount (lefts_place ls at)) (all_wanted text s ls))
+      assign_decided (lefts text s ls) (taken (all_wanted text s ls) (seen text s es)) (count (seen text s es)) (length (all_wanted text s ls)) (fault WrongCount (lefts_place ls at)) (LeftsFail text s ls) (FailsInEach text s es) _
+      (lefts_decided s settled ls) (take_decided (seen text s es) (FailsInEach text s es) (seen_decided text s settled es) (fault WrongCount (lefts_place ls at)) (all_wanted text s ls))
 
-  update_one_decided : (s : Scope) (tree_op : ArithmeticOp) (e v : TreeEx) → IsSettled s
-      → Decided (update_one text s tree_op e v)
-      (λ f. (OwnSideFails text s (name_in e) e f ⊎ FailsAsOperand text s v f) ⊎ IsFault (pair_fault (first_place e) (first_place v) (Arithmetic tree_op) (own_value text s (name_in e)) (operand_in (gives text s v))) f)
-  update_one_decided s tree_op e v settled =
+  update_one_decided : (s : Scope) (at : Pos) (tree_op : ArithmeticOp) (e v : TreeEx) → IsSettled s
+      → Decided (update_one text s at tree_op e v)
+      (λ f. (OwnSideFails text s (name_in e) e f ⊎ FailsAsOperand text s v f) ⊎ IsFault (pair_fault (first_pos e) (first_pos v) (Arithmetic tree_op) (own_value text s (name_in e)) (operand_in (gives text s v))) f)
+  update_one_decided s at tree_op e v settled =
       let a = own_value text s (name_in e) in
       let b = operand_in (gives text s v) in
-      let k = combined (first_place e) (Arithmetic tree_op) in
+      let k = combined at (Arithmetic tree_op) in
       passed (both k a b) updated _
-      (pair_decided (first_place e) (first_place v) (Arithmetic tree_op) a b (OwnSideFails text s (name_in e) e) (FailsAsOperand text s v) (own_side_decided s settled (name_in e) e)
+      (pair_decided at (first_pos e) (first_pos v) (Arithmetic tree_op) a b (OwnSideFails text s (name_in e) e) (FailsAsOperand text s v) (own_side_decided s settled (name_in e) e)
       (operand_decided (gives text s v) (Fails text s v) (gives_decided text s settled v)))
-      (λ z is. update_passes (first_place e) tree_op a b z (λ x x_is. own_read s (name_in e) x x_is) is)
+      (λ z is. update_passes at tree_op a b z (λ x x_is. own_read s (name_in e) x x_is) is)
 
   refused_update : (s : Scope) (ls : TreeExs) (own : Fault) (es : TreeExs) → IsSettled s
       → (f : Fault) × (((OwnSidesFail text s ls f ⊎ FailsInEach text s es f) ⊎ ValuesFail (many (seen text s es)) (seen text s es) f) ⊎ IsFault (refused_fault (given_count (have_values text s ls) (seen text s es)) own) f)
@@ -300,23 +302,23 @@ module _ (text : List ℕ) where
           let r = refused (seen text s es) (FailsInEach text s es) (seen_decided text s settled es) own in
           (r.0, elim r.1 [ inl h ↦ inl (inl (inr h)) | inr h ↦ elim h [ inl k ↦ inl (inr k) | inr k ↦ inr k ] ])
 
-  update_decided : (s : Scope) (ls : TreeExs) (at : Pos) (tree_op : ArithmeticOp) (es : TreeExs) → IsSettled s → (e v : Option TreeEx) → Decided (update_statement text s tree_op e v) (UpdateFails text s ls at tree_op es e v)
-  update_decided s ls at tree_op es settled (Some e) (Some v) = update_one_decided s tree_op e v settled
-  update_decided s ls at tree_op es settled (Some e) None = refused_update s ls (fault ArgCount (lefts_place ls at)) es settled
-  update_decided s ls at tree_op es settled None (Some v) = refused_update s ls (fault ArgCount (lefts_place ls at)) es settled
-  update_decided s ls at tree_op es settled None None = refused_update s ls (fault ArgCount (lefts_place ls at)) es settled
+  update_decided : (s : Scope) (ls : TreeExs) (at : Pos) (tree_op : ArithmeticOp) (es : TreeExs) → IsSettled s → (e v : Option TreeEx) → Decided (update_statement text s at tree_op e v) (UpdateFails text s ls at tree_op es e v)
+  update_decided s ls at tree_op es settled (Some e) (Some v) = update_one_decided s at tree_op e v settled
+  update_decided s ls at tree_op es settled (Some e) None = refused_update s ls (fault WrongCount (lefts_place ls at)) es settled
+  update_decided s ls at tree_op es settled None (Some v) = refused_update s ls (fault WrongCount (lefts_place ls at)) es settled
+  update_decided s ls at tree_op es settled None None = refused_update s ls (fault WrongCount (lefts_place ls at)) es settled
 
-  step_statement_decided : (s : Scope) (typed_op : TypedOp) (e : TreeEx) → IsSettled s → Decided (step_statement text s typed_op e) (FailsInStep text s e)
-  step_statement_decided s typed_op e settled =
-      step_decided typed_op (own_value text s (name_in e)) (first_place e) (OwnSideFails text s (name_in e) e) (λ x is. own_read s (name_in e) x is) (own_side_decided s settled (name_in e) e)
+  step_statement_decided : (s : Scope) (op_at : Pos) (typed_op : TypedOp) (e : TreeEx) → IsSettled s → Decided (step_statement text s op_at typed_op e) (FailsInStep text s e)
+  step_statement_decided s op_at typed_op e settled =
+      step_decided (position op_at) typed_op (own_value text s (name_in e)) (first_pos e) (OwnSideFails text s (name_in e) e) (λ x is. own_read s (name_in e) x is) (own_side_decided s settled (name_in e) e)
 
   pub simple_decided : (s : Scope) (m : Simple) → IsSettled s → Decided (simple_statement text s m) (FailsInSimple text s m)
-  simple_decided s (tree.express e) settled = use_decided (length s.strings) (gives text s e) (first_place e) (Fails text s e) (gives_decided text s settled e)
+  simple_decided s (tree.express e) settled = use_decided (length s.strings) (gives text s e) (first_pos e) (Fails text s e) (gives_decided text s settled e)
   simple_decided s (tree.assign ls at es) settled = assign_statement s ls at es settled
   simple_decided s (tree.update ls at tree_op es) settled = update_decided s ls at tree_op es settled (only ls) (only es)
   simple_decided s (tree.define ns at es) settled = define_statement s ns at es settled
-  simple_decided s (tree.increment e at) settled = step_statement_decided s op.Add e settled
-  simple_decided s (tree.decrement e at) settled = step_statement_decided s op.Sub e settled
+  simple_decided s (tree.increment e at) settled = step_statement_decided s at op.Add e settled
+  simple_decided s (tree.decrement e at) settled = step_statement_decided s at op.Sub e settled
 
   pub settled_simple : (s : Scope) (m : Simple) (t : St) → IsSettled s → simple_statement text s m ≡ Some t → IsSettled (behind_simple text s m)
   settled_simple s (tree.express e) t settled is = record { all = settled.all; formed = settled.formed }

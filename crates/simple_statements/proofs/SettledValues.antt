@@ -1,14 +1,14 @@
--- The types of values that are taken; behind the new variables of a `:=` every variable has a type.
+-- The types of values that are taken; after the new variables of a `:=` every variable has a type.
 use Rattle.std.proofs.Common.{◌≡◌, ℕ, suc, Bool, true, false, cond, List, [], ◌∷◌, length, Option, Some, None, refl, sym, ap, ◌∙◌, subst}
 use Rattle.std.specs.Prelude.{option_and_then, ◌&&◌, ◌==◌}
 use Rattle.std.specs.Option.{option_map}
 use Rattle.std.proofs.lemmas.Bool.{eqb-true}
 use Rattle.syntax.specs.declared.expression.Name.{Name}
 use Rattle.syntax.specs.Expressions.{spelled}
-use Rattle.typed.specs.Syntax.{Ex, Exs}
+use Rattle.typed_syntax.specs.Syntax.{Ex, Exs}
 use Rattle.base.specs.declared.value_type.ValueType.{ValueType}
-use Rattle.value_types.specs.Given.{allowed}
-use Rattle.value_types.proofs.Options.{and_then_some, map_some, none_some}
+use Rattle.type_faults.specs.Given.{allowed}
+use Rattle.type_faults.proofs.Options.{and_then_some, map_some, none_some}
 use Rattle.operators.specs.Operands.{type_of, as_value}
 use Rattle.names.specs.Scope.{Scope}
 use Rattle.names.proofs.Settled.{IsSettled}
@@ -76,6 +76,6 @@ module _ (text : List ℕ) where
   settled_variables s (v ∷ vs) all settled =
       settled_variables (with_slot text v.value_type s v.name) vs all.2 (subst (λ (o : Option ValueType). IsSettled (with_slot text o s v.name)) (sym all.1) (settled_slot s all.0 v.name settled))
 
-  -- behind the new variables of a `:=`
+  -- after the new variables of a `:=`
   pub settled_new : (s : Scope) (ts : List ValueType) (ns : List Name) → length ts ≡ length ns → IsSettled s → IsSettled (with_variables text s (new_slots text s (slots_each (Some ts) ns)))
   settled_new s ts ns long settled = settled_variables s (new_slots text s (slots_each (Some ts) ns)) (new_typed s (slots_each (Some ts) ns) (each_typed ts ns long)) settled

@@ -7,13 +7,13 @@ use Rattle.base.specs.declared.pos.Pos.{Pos}
 use Rattle.syntax.specs.declared.expression.Name.{Name}
 use Rattle.syntax.specs.Expressions.{Ex as TreeEx}
 use Rattle.syntax.specs.Statements.{ValueSpec}
-use Rattle.typed.specs.Syntax.{Exs, Left, St, Sts, declare, next}
-use Rattle.value_types.specs.declared.fault.Fault.{Fault}
-use Rattle.value_types.specs.declared.fault.FaultKind.TheVariants.{ArgCount}
+use Rattle.typed_syntax.specs.Syntax.{Exs, Left, St, Sts, declare, next}
+use Rattle.type_faults.specs.declared.fault.Fault.{Fault}
+use Rattle.type_faults.specs.declared.fault.FaultKind.TheVariants.{WrongCount}
 use Rattle.base.specs.declared.value_type.ValueType.{ValueType}
-use Rattle.value_types.specs.Faults.{fault}
-use Rattle.value_types.proofs.Decided.{Decided, Tested, further, tested, mapped, after}
-use Rattle.value_types.proofs.Options.{and_then_some, map_some}
+use Rattle.type_faults.specs.Faults.{fault}
+use Rattle.type_faults.proofs.Decided.{Decided, Tested, further, tested, mapped, after}
+use Rattle.type_faults.proofs.Options.{and_then_some, map_some}
 use Rattle.names.specs.Scope.{Scope}
 use Rattle.names.specs.Types.{type_in}
 use Rattle.names.proofs.Settled.{IsSettled, type_decided}
@@ -48,7 +48,7 @@ module _ (text : List ℕ) where
       (mapped (λ es. declare (sites_of es)) (spec_entries text s v) (EntriesFail text Parameter s (spec_slots text s v)) (entries_decided text Parameter s (spec_slots text s v)))
   names_decided s at v settled false =
       taking_decided (option_map (map entry_left) (spec_entries text s v)) (taken (spec_wanted text s v) (seen text s v.values)) (SpecTakeFails text s at v) (EntriesFail text Parameter s (spec_slots text s v))
-      (take_decided (seen text s v.values) (FailsInEach text s v.values) (seen_decided text s settled v.values) (fault ArgCount at) (spec_wanted text s v))
+      (take_decided (seen text s v.values) (FailsInEach text s v.values) (seen_decided text s settled v.values) (fault WrongCount at) (spec_wanted text s v))
       (mapped (map entry_left) (spec_entries text s v) (EntriesFail text Parameter s (spec_slots text s v)) (entries_decided text Parameter s (spec_slots text s v)))
 
   spec_decided : (s : Scope) (at : Pos) (v : ValueSpec) → IsSettled s → Decided (spec_statement text s v) (FailsInSpec text s at v)

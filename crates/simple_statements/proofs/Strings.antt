@@ -1,7 +1,7 @@
--- Strings behind those of a scope, and the operands that name them, one after the other.
+-- Strings after those of a scope, and the operands that name them, one after the other.
 use Rattle.std.proofs.Common.{◌≡◌, ℕ, ◌+◌, List, [], ◌∷◌, ◌++◌, length, map, refl, ap, ◌∙◌, arith, append-nil, append_assoc}
 use Rattle.std.proofs.lemmas.List.{map-append}
-use Rattle.typed.specs.Syntax.{Piece, shown}
+use Rattle.typed_syntax.specs.Syntax.{Piece, shown}
 use Rattle.typed.specs.View.{piece_of}
 use Rattle.typed.specs.declared.stmt.Piece.{Piece as PieceData}
 use Rattle.names.specs.Scope.{Scope, with_strings}

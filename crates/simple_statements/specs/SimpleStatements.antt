@@ -2,22 +2,25 @@
 -- declarations", "Variable declarations", "Assignment statements", "IncDec statements", "Expression statements", "Return statements").
 use Rattle.std.specs.Prelude.{ℕ, ◌+◌, length, Bool, true, false, not, ◌&&◌, ◌||◌, List, [], ◌∷◌, map, Option, Some, None, is_some, option_and_then, if◌then◌else◌}
 use Rattle.std.specs.Option.{option_map}
-use Rattle.value_types.specs.declared.constant.Fixed.{Fixed}
+use Rattle.constants.specs.declared.constant.Fixed.{Fixed}
 use Rattle.base.specs.declared.value_type.ValueType.{ValueType}
+use Rattle.base.specs.declared.pos.Pos.{Pos}
 use Rattle.syntax.specs.declared.expression.Name.{Name}
 use Rattle.syntax.specs.declared.operator.ArithmeticOp.{ArithmeticOp}
 use Rattle.syntax.specs.declared.operator.BinOp.TheVariants.{Arithmetic}
-use Rattle.syntax.specs.FirstBytes.{first_place}
+use Rattle.syntax.specs.FirstBytes.{first_pos}
 use Rattle.syntax.specs.Expressions.{Ex as TreeEx, Exs as TreeExs, some, spelled}
 use Rattle.syntax.specs.Expressions as expressions
 use Rattle.syntax.specs.Statements.{Simple, ValueSpec}
 use Rattle.syntax.specs.Statements as tree
-use Rattle.typed.specs.declared.operators.BinOp.{BinOp as TypedOp}
-use Rattle.typed.specs.declared.operators.BinOp.TheVariants as op
+use Rattle.typed_syntax.specs.declared.operators.BinOp.{BinOp as TypedOp}
+use Rattle.typed_syntax.specs.declared.operators.BinOp.TheVariants as op
 use Rattle.typed.specs.View.{place_of}
-use Rattle.typed.specs.Syntax.{Exs, Left, Piece, Pl, St, Sts, text as string_number, shown, binary, read, local, global, here, none, results, asked, blank, new, to, declare, assign, update, bump, discard, give_back, print, raise, quit, done, next}
+use Rattle.typed.specs.Positions.{position}
+use Rattle.typed_syntax.specs.Positions.{Position}
+use Rattle.typed_syntax.specs.Syntax.{Exs, Left, Piece, Pl, St, Sts, text as string_number, shown, binary, read, local, global, here, none, results, read_int, blank, new, to, declare, assign, update, bump, discard, return_stmt, print, panic, exit, done, next}
 use Rattle.base.specs.declared.value_type.ValueType.TheVariants.{Int}
-use Rattle.value_types.specs.Given.{allowed, both}
+use Rattle.type_faults.specs.Given.{allowed, both}
 use Rattle.operators.specs.Operands.{Operand, value}
 use Rattle.operators.specs.Operators.{combined}
 use Rattle.names.specs.Blocks.{Blocks, innermost, insert}
@@ -130,8 +133,8 @@ pieces_from n (valued t e ∷ ps) = shown t e ∷ pieces_from n ps
 
 -- those of a call
 abbrev pub strings_in_call : Gives → List (List ℕ)
-strings_in_call (printed at line ps) = strings_of ps
-strings_in_call (panicked at p) = strings_of (p ∷ [])
+strings_in_call (printed pos line ps) = strings_of ps
+strings_in_call (panicked pos p) = strings_of (p ∷ [])
 strings_in_call other = []
 
 abbrev pub strings_in : Option Gives → List (List ℕ)
@@ -141,12 +144,12 @@ strings_in (Some g) = strings_in_call g
 -- a call as a statement, where its strings are numbered from one on
 abbrev pub expressed : ℕ → Gives → Option St
 expressed n (one x) = None
-expressed n (called at ts f es) = Some (discard (results f es))
-expressed n (asking at) = Some (discard asked)
-expressed n (quoted at bytes) = None
-expressed n (printed at line ps) = Some (print line (pieces_from n ps))
-expressed n (panicked at p) = Some (raise at (piece_from n p))
-expressed n (exited at e) = Some (quit at e)
+expressed n (called pos ts f es) = Some (discard (results f es))
+expressed n (asking pos) = Some (discard read_int)
+expressed n (quoted pos bytes) = None
+expressed n (printed pos line ps) = Some (print line (pieces_from n ps))
+expressed n (panicked pos p) = Some (panic (position pos) (piece_from n p))
+expressed n (exited pos e) = Some (exit (position pos) e)
 
 -- a declaration or an assignment with these left sides and values
 abbrev pub assignment : Option (List Left) → Option Exs → Option St
@@ -154,18 +157,18 @@ assignment ls v = option_and_then (λ l. option_map (assign l) v) ls
 
 -- an assignment with an operator, of what the operator gives of the variable and the operand
 abbrev pub updated : Operand → Option St
-updated (value t (binary at typed_op (read q) e)) = Some (update at q typed_op e)
+updated (value t (binary pos typed_op (read q) e)) = Some (update pos q typed_op e)
 updated other = None
 
 -- `++` or `--` on a variable, which is an int
-abbrev pub stepped : TypedOp → Operand → Option St
-stepped typed_op (value Int (read q)) = Some (bump q typed_op)
-stepped typed_op other = None
+abbrev pub stepped : Position → TypedOp → Operand → Option St
+stepped pos typed_op (value Int (read q)) = Some (bump pos q typed_op)
+stepped pos typed_op other = None
 
 -- the values of a `return`
 abbrev pub returned : Returns → List Seen → Option St
-returned r [] = if r.may_be_bare then Some (give_back none) else None
-returned r (o ∷ os) = option_map give_back (taken r.wanted (o ∷ os))
+returned r [] = if r.may_be_bare then Some (return_stmt none) else None
+returned r (o ∷ os) = option_map return_stmt (taken r.wanted (o ∷ os))
 
 -- a declaration with a type and no values
 abbrev pub is_bare : Option TreeEx → TreeExs → Bool
@@ -218,7 +221,7 @@ module _ (text : List ℕ) where
   abbrev pub all_new_wanted : Scope → List Name → List (Option ValueType)
   all_new_wanted s ns = map (new_wanted s) ns
 
-  -- the scope behind new variables, with types or without
+  -- the scope after new variables, with types or without
   abbrev pub with_slot : Option ValueType → Scope → Option Name → Scope
   with_slot t s None = s
   with_slot t s (Some n) = with_variable t s (spelled text n) n.pos
@@ -252,28 +255,28 @@ module _ (text : List ℕ) where
 
   abbrev pub behind_simple : Scope → Simple → Scope
   behind_simple s (tree.express e) = with_strings s (strings_in (gives text s e))
-  behind_simple s (tree.assign ls at es) = s
-  behind_simple s (tree.update ls at tree_op es) = s
-  behind_simple s (tree.define ns at es) = with_variables s (new_slots s (slots_each (definition_types s ns es) ns))
-  behind_simple s (tree.increment e at) = s
-  behind_simple s (tree.decrement e at) = s
+  behind_simple s (tree.assign ls pos es) = s
+  behind_simple s (tree.update ls pos tree_op es) = s
+  behind_simple s (tree.define ns pos es) = with_variables s (new_slots s (slots_each (definition_types s ns es) ns))
+  behind_simple s (tree.increment e pos) = s
+  behind_simple s (tree.decrement e pos) = s
 
-  abbrev pub update_one : Scope → ArithmeticOp → TreeEx → TreeEx → Option St
-  update_one s tree_op e v = option_and_then updated (both (combined (first_place e) (Arithmetic tree_op)) (own_value s (name_in e)) (operand_in (gives text s v)))
+  abbrev pub update_one : Scope → Pos → ArithmeticOp → TreeEx → TreeEx → Option St
+  update_one s pos tree_op e v = option_and_then updated (both (combined pos (Arithmetic tree_op)) (own_value s (name_in e)) (operand_in (gives text s v)))
 
-  abbrev pub update_statement : Scope → ArithmeticOp → Option TreeEx → Option TreeEx → Option St
-  update_statement s tree_op e v = option_and_then (λ x. option_and_then (update_one s tree_op x) v) e
+  abbrev pub update_statement : Scope → Pos → ArithmeticOp → Option TreeEx → Option TreeEx → Option St
+  update_statement s pos tree_op e v = option_and_then (λ x. option_and_then (update_one s pos tree_op x) v) e
 
-  abbrev pub step_statement : Scope → TypedOp → TreeEx → Option St
-  step_statement s typed_op e = option_and_then (stepped typed_op) (own_value s (name_in e))
+  abbrev pub step_statement : Scope → Pos → TypedOp → TreeEx → Option St
+  step_statement s pos typed_op e = option_and_then (stepped (position pos) typed_op) (own_value s (name_in e))
 
   abbrev pub simple_statement : Scope → Simple → Option St
   simple_statement s (tree.express e) = option_and_then (expressed (length s.strings)) (gives text s e)
-  simple_statement s (tree.assign ls at es) = assignment (lefts s ls) (taken (all_wanted s ls) (seen text s es))
-  simple_statement s (tree.update ls at tree_op es) = update_statement s tree_op (only ls) (only es)
-  simple_statement s (tree.define ns at es) = if may_define s ns then assignment (new_lefts s (length s.sites) ns) (taken (all_new_wanted s ns) (seen text s es)) else None
-  simple_statement s (tree.increment e at) = step_statement s op.Add e
-  simple_statement s (tree.decrement e at) = step_statement s op.Sub e
+  simple_statement s (tree.assign ls pos es) = assignment (lefts s ls) (taken (all_wanted s ls) (seen text s es))
+  simple_statement s (tree.update ls pos tree_op es) = update_statement s pos tree_op (only ls) (only es)
+  simple_statement s (tree.define ns pos es) = if may_define s ns then assignment (new_lefts s (length s.sites) ns) (taken (all_new_wanted s ns) (seen text s es)) else None
+  simple_statement s (tree.increment e pos) = step_statement s pos op.Add e
+  simple_statement s (tree.decrement e pos) = step_statement s pos op.Sub e
 
   -- ---- a `var` among statements: the values are worked out before the names are declared
 

@@ -3,32 +3,30 @@
 ghost use Rattle.std.specs.Prelude.{◌≡◌, Option, Some, None, IfOk, OnOk, List, map, length, is_some, [], ◌∷◌, not, ◌&&◌, ◌||◌, ◌⊎◌, ◌+◌, ◌++◌, if◌then◌else◌};
 ghost use Rattle.std.specs.Option.{option_map};
 ghost use Rattle.syntax.specs.Expressions.{spelled, ex_of as tree_of, exs_of as trees_of};
-ghost use Rattle.syntax.specs.FirstBytes.{first_place};
+ghost use Rattle.syntax.specs.FirstBytes.{first_pos};
 ghost use Rattle.typed.specs.View.{left_of as left_view};
-ghost use Rattle.value_types.specs.Least.{IsLeast};
-ghost use Rattle.value_types.specs.Faults.{fault as fault_at, IsFault};
-ghost use Rattle.value_types.specs.declared.fault.FaultKind.TheVariants.{NothingNew};
+ghost use Rattle.type_faults.specs.Least.{IsLeast};
+ghost use Rattle.type_faults.specs.Faults.{fault as fault_at, IsFault};
+ghost use Rattle.type_faults.specs.declared.fault.FaultKind.TheVariants.{NothingNew};
 ghost use Rattle.names.specs.Universe.{is_blank};
 ghost use Rattle.names.specs.Scope.{scope_of, declaration, is_here};
 ghost use Rattle.names.specs.Naming.{name_in};
 ghost use Rattle.expression_types.specs.Typing.{gives};
-ghost use Rattle.value_types.specs.Given.{with_last};
+ghost use Rattle.type_faults.specs.Given.{with_last};
 ghost use Rattle.expression_types.specs.Passing.{gives_of};
 ghost use Rattle.simple_statements.specs.SimpleStatements.{variable_view, variable_of, variable_named, target, variable_type, left_of, wanted_of, new_left_of, new_wanted_of, declares, slot_declares, left, wanted, new_left, new_wanted, noted, is_noted, lefts, all_wanted, new_lefts, all_new_wanted, new_slots, with_slot, with_variables, has_all, may_define};
 ghost use Rattle.signatures.specs.Failing.{fault_where};
 ghost use Rattle.simple_statements.specs.SimpleFaults.{left_fault, new_name_fault, value_left_fault, LeftSideFails, LeftsFail, NewNamesFail, TwiceFails, names_place, lefts_place};
 
 use base::{NoMemory, Pos, SiteId, ValueType};
+use constants::constant_type;
 use expression_types::{Gives, check_expr};
-use names::{
-    Block, Declared, Scope, declaration, declare_variable, fixed, is_blank, is_here, name_in,
-    site_behind, spelled,
-};
+use names::{Blocks, Declared, Scope, is_blank, name_in, spelled};
 use signatures::{Slot, fault_where};
 use std::alloc::Global;
 use syntax::{Expr, Name};
+use type_faults::{Fault, FaultKind, lesser};
 use typed::{Left, Place};
-use value_types::{Fault, FaultKind, constant_type, lesser};
 
 /// What is known of left sides.
 #[derive(Drop)]
@@ -61,7 +59,7 @@ fn variable_of(alloc: Global, scope: &Scope, declared: Option<Declared>) -> Opti
             value_type,
             place: Place::Local(site, Vec::new(alloc)),
         }),
-        Some(Declared::Global(number, global)) => match fixed(scope, number) {
+        Some(Declared::Global(number, global)) => match scope.fixed(number) {
             Some(known) => Some(Variable {
                 value_type: constant_type(known),
                 place: Place::Global(global.0, Vec::new(alloc)),
@@ -75,7 +73,7 @@ fn variable_of(alloc: Global, scope: &Scope, declared: Option<Declared>) -> Opti
 pub fn variable_named(alloc: Global, text: &[u8], scope: &Scope, name: Name) -> Option<Variable>
     ensures { option_map variable_view result ≡ variable_named text.now (scope_of scope.now) name }
 {
-    variable_of(alloc, scope, declaration(scope, spelled(text, name)))
+    variable_of(alloc, scope, scope.declaration(spelled(text, name)))
 }
 
 /// A variable as a left side.
@@ -157,7 +155,7 @@ pub fn left_fault_of(blank: bool, declared: Option<Declared>, pos: Pos, whole: P
     let (kind, pos) = match declared {
         None => (FaultKind::Unknown, pos),
         Some(Declared::Variable(_, _) | Declared::Untyped | Declared::Global(_, _)) => return None,
-        Some(Declared::TypeName | Declared::Type(_)) => (FaultKind::BadOperand, pos),
+        Some(Declared::TypeName | Declared::Type(_)) => (FaultKind::Unfit, pos),
         Some(Declared::LeftOutType | Declared::LeftOutValue) => (FaultKind::OutOfProfile, pos),
         Some(_) => (FaultKind::NotAssignable, whole),
     };
@@ -227,12 +225,12 @@ pub fn all_wanted(
 }
 
 /// The fault of a name as a left side, which begins at a place.
-#[tactic(auto, using(value_types::proofs::Leasts::leaf))]
+#[tactic(auto, using(type_faults::proofs::Leasts::leaf))]
 fn name_left_fault(text: &[u8], scope: &Scope, name: Name, whole: Pos) -> Option<Fault>
     ensures { IsLeast (IsFault (left_fault (is_blank (spelled text.now name)) (declaration (scope_of scope.now) (spelled text.now name)) name.pos whole)) result }
 {
     let bytes = spelled(text, name);
-    left_fault_of(is_blank(bytes), declaration(scope, bytes), name.pos, whole)
+    left_fault_of(is_blank(bytes), scope.declaration(bytes), name.pos, whole)
 }
 
 /// The fault of a left side that is no name and gives something.
@@ -240,7 +238,7 @@ fn value_left_fault(gives: &Option<Gives>, pos: Pos) -> Option<Fault>
     ensures { result ≡ value_left_fault (option_map gives_of gives.now) pos }
 {
     let (kind, pos) = match gives {
-        Some(Gives::Quoted(place, _)) => (FaultKind::OutOfProfile, *place),
+        Some(Gives::Quoted(pos, _)) => (FaultKind::OutOfProfile, *pos),
         Some(_) => (FaultKind::NotAssignable, pos),
         None => return None,
     };
@@ -298,7 +296,7 @@ pub fn check_lefts(
     Ok(Lefts { lefts, fault })
 }
 
-/// The left side that a name of a `:=` is, behind so many new ones.
+/// The left side that a name of a `:=` is, after `before` new ones.
 fn new_left(
     alloc: Global,
     text: &[u8],
@@ -309,10 +307,10 @@ fn new_left(
     ensures { IfOk result (λ l. option_map left_view l ≡ new_left text.now (scope_of scope.now) (length (scope_of scope.now).sites + before) name) }
 {
     let bytes = spelled(text, name);
-    let site = site_behind(scope, before)?;
+    let site = scope.site_behind(before)?;
     Ok(new_left_of(
         is_blank(bytes),
-        is_here(scope, bytes),
+        scope.is_here(bytes),
         variable_named(alloc, text, scope, name),
         site,
     ))
@@ -324,7 +322,7 @@ fn new_wanted(alloc: Global, text: &[u8], scope: &Scope, name: Name) -> Option<V
     let bytes = spelled(text, name);
     new_wanted_of(
         is_blank(bytes),
-        is_here(scope, bytes),
+        scope.is_here(bytes),
         variable_named(alloc, text, scope, name),
     )
 }
@@ -350,7 +348,7 @@ fn declares(text: &[u8], scope: &Scope, name: Name) -> bool
     ensures { result ≡ declares (scope_of scope.now) (spelled text.now name) }
 {
     let bytes = spelled(text, name);
-    !is_blank(bytes) && !is_here(scope, bytes)
+    !is_blank(bytes) && !scope.is_here(bytes)
 }
 
 /// The number of new sites so far, and that of one more, where there is one.
@@ -366,15 +364,15 @@ fn next_count(declared: bool, count: usize) -> Result<usize, NoMemory>
     }
 }
 
-#[tactic(auto, using(value_types::proofs::Leasts::leaf))]
+#[tactic(auto, using(type_faults::proofs::Leasts::leaf))]
 fn new_name_fault(text: &[u8], scope: &Scope, name: Name) -> Option<Fault>
     ensures { IsLeast (IsFault (new_name_fault (is_blank (spelled text.now name)) (is_here (scope_of scope.now) (spelled text.now name)) (declaration (scope_of scope.now) (spelled text.now name)) name.pos)) result }
 {
     let bytes = spelled(text, name);
     new_name_fault_of(
         is_blank(bytes),
-        is_here(scope, bytes),
-        declaration(scope, bytes),
+        scope.is_here(bytes),
+        scope.declaration(bytes),
         name.pos,
     )
 }
@@ -446,7 +444,7 @@ fn declare_slot(text: &[u8], scope: &mut Scope, slot: Slot) -> Result<(), NoMemo
     ensures { OnOk result (scope_of scope.new ≡ with_slot text.now slot.value_type (scope_of scope.old) slot.name) }
 {
     match slot.name {
-        Some(name) => declare_variable(scope, spelled(text, name), name.pos, slot.value_type),
+        Some(name) => scope.declare_variable(spelled(text, name), name.pos, slot.value_type),
         None => Ok(()),
     }
 }
@@ -461,13 +459,13 @@ pub fn declare_variables(text: &[u8], scope: &mut Scope, slots: &[Slot]) -> Resu
     Ok(())
 }
 
-fn is_noted(names: &Block, name: &[u8]) -> bool
+fn is_noted(names: &Blocks, name: &[u8]) -> bool
     ensures { result ≡ is_noted names.now name.now }
 {
     !is_blank(name) && names.innermost(name).is_some()
 }
 
-fn note(names: &mut Block, name: &[u8]) -> Result<(), NoMemory>
+fn note(names: &mut Blocks, name: &[u8]) -> Result<(), NoMemory>
     ensures { OnOk result (names.new ≡ noted names.old name.now) }
 {
     if is_blank(name) {
@@ -481,7 +479,7 @@ fn note(names: &mut Block, name: &[u8]) -> Result<(), NoMemory>
 fn twice_fault(alloc: Global, text: &[u8], names: &[Name]) -> Result<Option<Fault>, NoMemory>
     ensures { IfOk result (λ f. IsLeast (TwiceFails text.now ([] ∷ []) names.now) f) }
 {
-    let mut noted = Block::new(alloc);
+    let mut noted = Blocks::new(alloc);
     let mut fault = None;
     for name in names {
         let bytes = spelled(text, *name);
@@ -499,7 +497,7 @@ fn has(text: &[u8], scope: &Scope, name: Name) -> bool
     ensures { result ≡ (is_blank (spelled text.now name) || is_here (scope_of scope.now) (spelled text.now name)) }
 {
     let bytes = spelled(text, name);
-    is_blank(bytes) || is_here(scope, bytes)
+    is_blank(bytes) || scope.is_here(bytes)
 }
 
 /// Whether each name is blank, or the innermost block has it.

@@ -8,7 +8,7 @@ ghost use Rattle.simple_statements.specs.SimpleStatements.{strings_of, piece_fro
 
 use base::NoMemory;
 use expression_types::Part;
-use names::{Scope, string_count};
+use names::Scope;
 use std::alloc::Global;
 use typed::Piece;
 
@@ -16,13 +16,13 @@ use typed::Piece;
 fn next_string(scope: &Scope) -> Result<u32, NoMemory>
     ensures { IfOk result (λ number. number ≡ length (scope_of scope.now).strings) }
 {
-    match u32::try_from(string_count(scope)) {
+    match u32::try_from(scope.string_count()) {
         Ok(number) => Ok(number),
         Err(_) => Err(NoMemory),
     }
 }
 
-/// Puts a string behind those of the statements so far.
+/// Puts a string after those of the statements so far.
 fn add_string(scope: &mut Scope, bytes: Vec<u8>) -> Result<(), NoMemory>
     ensures { OnOk result (scope_of scope.new ≡ with_strings (scope_of scope.old) (bytes.items ∷ [])) }
 {
@@ -30,7 +30,7 @@ fn add_string(scope: &mut Scope, bytes: Vec<u8>) -> Result<(), NoMemory>
     Ok(())
 }
 
-/// One operand: a string comes behind those of the statements so far.
+/// One operand: a string comes after those of the statements so far.
 pub fn numbered(scope: &mut Scope, part: Part) -> Result<Piece, NoMemory>
     ensures piece { IfOk result (λ q. piece_of q ≡ piece_from (length (scope_of scope.old).strings) (part_view part)) }
     ensures scope { OnOk result (scope_of scope.new ≡ with_strings (scope_of scope.old) (strings_of (part_view part ∷ []))) }

@@ -3,12 +3,12 @@
 ghost use Rattle.std.specs.Prelude.{◌≡◌, ◌⊎◌, Option, Some, None, IfOk, OnOk, List, map, length, not, option_and_then, if◌then◌else◌};
 ghost use Rattle.std.specs.Option.{option_map};
 ghost use Rattle.syntax.specs.Expressions.{ex_of as tree_of, exs_of as trees_of};
-ghost use Rattle.syntax.specs.FirstBytes.{first_place};
+ghost use Rattle.syntax.specs.FirstBytes.{first_pos};
 ghost use Rattle.syntax.specs.Statements.{simple_of, express, define};
 ghost use Rattle.typed.specs.View.{exs_of_values, left_of as left_view, st_of};
-ghost use Rattle.typed.specs.Syntax.{give_back as given_back, none};
-ghost use Rattle.value_types.specs.Least.{IsLeast};
-ghost use Rattle.value_types.specs.Faults.{fault as fault_at, IsFault, FormFails};
+ghost use Rattle.typed_syntax.specs.Syntax.{return_stmt as given_back, none};
+ghost use Rattle.type_faults.specs.Least.{IsLeast};
+ghost use Rattle.type_faults.specs.Faults.{fault as fault_at, IsFault, FormFails};
 ghost use Rattle.names.specs.Scope.{scope_of, with_strings};
 ghost use Rattle.expression_types.specs.Typing.{count, seen, taken};
 ghost use Rattle.expression_types.specs.Faults.{FailsInEach};
@@ -33,8 +33,8 @@ use operators::Operand;
 use signatures::{fault_where, slots_each};
 use std::alloc::Global;
 use syntax::{Expr, Name, Simple};
+use type_faults::{Fault, FaultKind, lesser};
 use typed::{BinOp, Left, Values};
-use value_types::{Fault, FaultKind, lesser};
 
 /// What a function gives back: the types of its values, where they are known, and whether a `return` may have none.
 #[derive(Drop)]
@@ -105,7 +105,7 @@ pub fn types_where(values: &Option<Values>, types: Option<Vec<ValueType>>) -> Op
     }
 }
 
-/// A `:=`, which declares its new names behind its values.
+/// A `:=`, which declares its new names after its values.
 fn check_define(
     alloc: Global,
     text: &[u8],
@@ -121,7 +121,7 @@ fn check_define(
     let right = check_list(alloc, text, scope, es)?;
     let wanted = all_new_wanted(alloc, text, scope, names)?;
     let own = Fault {
-        kind: FaultKind::ArgCount,
+        kind: FaultKind::WrongCount,
         pos: names_pos(names, pos),
     };
     let values_fault = take_fault(own, &wanted, &right.items);
@@ -172,7 +172,7 @@ fn check_assign(
     let listed = check_list(alloc, text, scope, es)?;
     let wanted = all_wanted(alloc, text, scope, places)?;
     let own = Fault {
-        kind: FaultKind::ArgCount,
+        kind: FaultKind::WrongCount,
         pos: lefts_pos(places, pos),
     };
     let counted = count_where(&left.lefts, &listed.items);
@@ -187,7 +187,7 @@ fn check_assign(
     })
 }
 
-/// A call as a statement, whose strings come behind those of the statements before it.
+/// A call as a statement, whose strings come after those of the statements before it.
 fn expressed(
     alloc: Global,
     scope: &mut Scope,
@@ -221,7 +221,7 @@ fn use_fault(gives: &Option<Gives>, pos: Pos) -> Option<Fault>
 {
     let (kind, pos) = match gives {
         Some(Gives::One(_)) => (FaultKind::NotUsedValue, pos),
-        Some(Gives::Quoted(place, _)) => (FaultKind::OutOfProfile, *place),
+        Some(Gives::Quoted(pos, _)) => (FaultKind::OutOfProfile, *pos),
         _ => return None,
     };
     Some(Fault { kind, pos })
@@ -242,7 +242,7 @@ fn check_express(alloc: Global, text: &[u8], scope: &mut Scope, e: &Expr) -> Res
     })
 }
 
-/// A simple statement. The scope becomes the one behind it.
+/// A simple statement. The scope becomes the one after it.
 pub fn check_simple(
     alloc: Global,
     text: &[u8],
@@ -260,8 +260,8 @@ pub fn check_simple(
             check_update(alloc, text, scope, lefts, *pos, *op, es)
         }
         Simple::Define(names, pos, es) => check_define(alloc, text, scope, names, *pos, es),
-        Simple::Increment(e, _) => check_step(alloc, text, scope, BinOp::Add, e),
-        Simple::Decrement(e, _) => check_step(alloc, text, scope, BinOp::Sub, e),
+        Simple::Increment(e, pos) => check_step(alloc, text, scope, *pos, BinOp::Add, e),
+        Simple::Decrement(e, pos) => check_step(alloc, text, scope, *pos, BinOp::Sub, e),
     }
 }
 
@@ -281,7 +281,7 @@ fn return_fault(pos: Pos, returns: &Returns, items: &[Item]) -> Option<Fault>
 }
 
 /// The fault of a `return` without values.
-#[tactic(auto, using(value_types::proofs::Leasts::leaf))]
+#[tactic(auto, using(type_faults::proofs::Leasts::leaf))]
 fn bare_fault(may_be_bare: bool, own: Fault) -> Option<Fault>
     ensures { IsLeast (IsFault (fault_where (not may_be_bare) own)) result }
 {

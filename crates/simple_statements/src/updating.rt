@@ -4,12 +4,13 @@ ghost use Rattle.std.specs.Prelude.{◌≡◌, ◌⊎◌, Option, Some, None, If
 ghost use Rattle.std.specs.Option.{option_map};
 ghost use Rattle.syntax.specs.declared.operator.BinOp.TheVariants.{Arithmetic as ArithmeticOf};
 ghost use Rattle.syntax.specs.Expressions.{spelled, ex_of as tree_of, exs_of as trees_of};
-ghost use Rattle.syntax.specs.FirstBytes.{first_place};
+ghost use Rattle.syntax.specs.FirstBytes.{first_pos};
 ghost use Rattle.typed.specs.View.{st_of};
-ghost use Rattle.value_types.specs.Least.{IsLeast};
-ghost use Rattle.value_types.specs.Given.{both};
-ghost use Rattle.value_types.specs.Faults.{fault as fault_at, IsFault};
-ghost use Rattle.value_types.specs.declared.fault.FaultKind.TheVariants.{ArgCount as WrongNumber};
+ghost use Rattle.typed.specs.Positions.{position};
+ghost use Rattle.type_faults.specs.Least.{IsLeast};
+ghost use Rattle.type_faults.specs.Given.{both};
+ghost use Rattle.type_faults.specs.Faults.{fault as fault_at, IsFault};
+ghost use Rattle.type_faults.specs.declared.fault.FaultKind.TheVariants.{WrongCount as WrongNumber};
 ghost use Rattle.operators.specs.Operators.{combined};
 ghost use Rattle.operators.specs.Faults.{pair_fault};
 ghost use Rattle.operators.specs.Passing.{operand_of};
@@ -26,13 +27,13 @@ use crate::declaring::{Variable, left_fault_of, lefts_pos, value_fault, variable
 use crate::statements::Line;
 use base::{NoMemory, Pos, ValueType, same_type};
 use expression_types::{Item, check_list, check_single, count, values_fault};
-use names::{Declared, Scope, declaration, is_blank, name_in, spelled};
+use names::{Declared, Scope, is_blank, name_in, spelled};
 use operators::{Operand, pair_fault, paired, type_of};
 use signatures::fault_where;
 use std::alloc::Global;
 use syntax::{ArithmeticOp, Expr, Name};
+use type_faults::{Fault, FaultKind, lesser};
 use typed::BinOp;
-use value_types::{Fault, FaultKind, lesser};
 
 /// What is known of left sides that have values of their own: whether each has one, and the fault.
 #[derive(Clone, Copy, Debug, PartialEq, Eq)]
@@ -88,12 +89,12 @@ fn own_fault_of(blank: bool, declared: Option<Declared>, pos: Pos, whole: Pos) -
 }
 
 /// The fault of a name whose value is asked for, as a left side that begins at a place.
-#[tactic(auto, using(value_types::proofs::Leasts::leaf))]
+#[tactic(auto, using(type_faults::proofs::Leasts::leaf))]
 fn name_fault(text: &[u8], scope: &Scope, name: Name, whole: Pos) -> Option<Fault>
     ensures { IsLeast (IsFault (own_fault (is_blank (spelled text.now name)) (declaration (scope_of scope.now) (spelled text.now name)) name.pos whole)) result }
 {
     let bytes = spelled(text, name);
-    own_fault_of(is_blank(bytes), declaration(scope, bytes), name.pos, whole)
+    own_fault_of(is_blank(bytes), scope.declaration(bytes), name.pos, whole)
 }
 
 /// The fault of a left side whose value is asked for.
@@ -163,24 +164,25 @@ fn updated_of(operand: Option<Operand>) -> Option<typed::Stmt>
     }
 }
 
-/// An assignment with an operator of one value to one variable.
+/// An assignment with an operator, at a position of its own, of one value to one variable.
 fn check_one(
     alloc: Global,
     text: &[u8],
     scope: &Scope,
     e: &Expr,
+    pos: Pos,
     op: ArithmeticOp,
     value: &Expr,
 ) -> Result<Line, NoMemory>
-    ensures statement { IfOk result (λ c. option_map st_of c.statement ≡ update_one text.now (scope_of scope.now) op (tree_of e.now) (tree_of value.now)) }
-    ensures fault { IfOk result (λ c. IsLeast (λ f. (OwnSideFails text.now (scope_of scope.now) (name_in (tree_of e.now)) (tree_of e.now) f ⊎ FailsAsOperand text.now (scope_of scope.now) (tree_of value.now) f) ⊎ IsFault (pair_fault (first_place (tree_of e.now)) (first_place (tree_of value.now)) (ArithmeticOf op) (own_value text.now (scope_of scope.now) (name_in (tree_of e.now))) (operand_in (gives text.now (scope_of scope.now) (tree_of value.now)))) f) c.fault) }
+    ensures statement { IfOk result (λ c. option_map st_of c.statement ≡ update_one text.now (scope_of scope.now) pos op (tree_of e.now) (tree_of value.now)) }
+    ensures fault { IfOk result (λ c. IsLeast (λ f. (OwnSideFails text.now (scope_of scope.now) (name_in (tree_of e.now)) (tree_of e.now) f ⊎ FailsAsOperand text.now (scope_of scope.now) (tree_of value.now) f) ⊎ IsFault (pair_fault (first_pos (tree_of e.now)) (first_pos (tree_of value.now)) (ArithmeticOf op) (own_value text.now (scope_of scope.now) (name_in (tree_of e.now))) (operand_in (gives text.now (scope_of scope.now) (tree_of value.now)))) f) c.fault) }
 {
     let side = side_fault(alloc, text, scope, e)?;
     let right = check_single(alloc, text, scope, value)?;
     let left = own_value(alloc, text, scope, e);
     let tree_op = syntax::BinOp::Arithmetic(op);
     let own = pair_fault(tree_op, e.pos(), right.pos, &left, &right.operand);
-    let operand = paired(alloc, tree_op, e.pos(), left, right.operand)?;
+    let operand = paired(alloc, tree_op, pos, left, right.operand)?;
     Ok(Line {
         statement: updated_of(operand),
         fault: lesser(lesser(side, right.fault), own),
@@ -217,7 +219,7 @@ fn check_refused(
     let sides = check_sides(alloc, text, scope, lefts)?;
     let listed = check_list(alloc, text, scope, es)?;
     let own = Fault {
-        kind: FaultKind::ArgCount,
+        kind: FaultKind::WrongCount,
         pos: lefts_pos(lefts, pos),
     };
     let before = lesser(
@@ -249,12 +251,12 @@ pub fn check_update(
     op: ArithmeticOp,
     es: &[Expr],
 ) -> Result<Line, NoMemory>
-    ensures statement { IfOk result (λ c. option_map st_of c.statement ≡ update_statement text.now (scope_of scope.now) op (only (trees_of lefts.now)) (only (trees_of es.now))) }
+    ensures statement { IfOk result (λ c. option_map st_of c.statement ≡ update_statement text.now (scope_of scope.now) pos op (only (trees_of lefts.now)) (only (trees_of es.now))) }
     ensures fault { IfOk result (λ c. IsLeast (FailsInUpdate text.now (scope_of scope.now) (trees_of lefts.now) pos op (trees_of es.now)) c.fault) }
 {
     match only(lefts) {
         Some(left) => match only(es) {
-            Some(value) => check_one(alloc, text, scope, left, op, value),
+            Some(value) => check_one(alloc, text, scope, left, pos, op, value),
             None => check_refused(alloc, text, scope, lefts, pos, es),
         },
         None => check_refused(alloc, text, scope, lefts, pos, es),
@@ -262,12 +264,12 @@ pub fn check_update(
 }
 
 /// `++` or `--` on a variable, which is an int.
-fn stepped(op: BinOp, operand: Option<Operand>) -> Option<typed::Stmt>
-    ensures { option_map st_of result ≡ option_and_then (stepped op) (option_map operand_of operand) }
+fn stepped(pos: Pos, op: BinOp, operand: Option<Operand>) -> Option<typed::Stmt>
+    ensures { option_map st_of result ≡ option_and_then (stepped (position pos) op) (option_map operand_of operand) }
 {
     match operand {
         Some(Operand::Value(ValueType::Int, typed::Expr::Read(place))) => {
-            Some(typed::Stmt::Bump(place, op))
+            Some(typed::Stmt::Bump(pos, place, op))
         }
         _ => None,
     }
@@ -278,7 +280,7 @@ fn step_fault(operand: &Option<Operand>, pos: Pos) -> Option<Fault>
     ensures { result ≡ step_fault (option_map operand_of operand.now) pos }
 {
     let own = Fault {
-        kind: FaultKind::BadOperand,
+        kind: FaultKind::Unfit,
         pos,
     };
     match operand {
@@ -292,17 +294,18 @@ pub fn check_step(
     alloc: Global,
     text: &[u8],
     scope: &Scope,
+    pos: Pos,
     op: BinOp,
     e: &Expr,
 ) -> Result<Line, NoMemory>
-    ensures statement { IfOk result (λ c. option_map st_of c.statement ≡ step_statement text.now (scope_of scope.now) op (tree_of e.now)) }
+    ensures statement { IfOk result (λ c. option_map st_of c.statement ≡ step_statement text.now (scope_of scope.now) pos op (tree_of e.now)) }
     ensures fault { IfOk result (λ c. IsLeast (FailsInStep text.now (scope_of scope.now) (tree_of e.now)) c.fault) }
 {
     let side = side_fault(alloc, text, scope, e)?;
     let operand = own_value(alloc, text, scope, e);
     let own = step_fault(&operand, e.pos());
     Ok(Line {
-        statement: stepped(op, operand),
+        statement: stepped(pos, op, operand),
         fault: lesser(side, own),
     })
 }

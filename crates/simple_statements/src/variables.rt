@@ -4,13 +4,13 @@ ghost use Rattle.std.specs.Prelude.{◌≡◌, ◌⊎◌, Option, Some, None, If
 ghost use Rattle.std.specs.Option.{option_map};
 ghost use Rattle.syntax.specs.Expressions.{ex_of as tree_of, exs_of as trees_of, ex_in};
 ghost use Rattle.syntax.specs.Statements.{value_spec_of, value_specs_of};
-ghost use Rattle.typed.specs.Syntax.{declare};
+ghost use Rattle.typed_syntax.specs.Syntax.{declare};
 ghost use Rattle.typed.specs.View.{exs_of_values, st_of, sts_of, site_in, left_of as left_view};
-ghost use Rattle.value_types.specs.Least.{IsLeast};
-ghost use Rattle.value_types.specs.Given.{allowed};
+ghost use Rattle.type_faults.specs.Least.{IsLeast};
+ghost use Rattle.type_faults.specs.Given.{allowed};
 ghost use Rattle.names.specs.Scope.{scope_of};
 ghost use Rattle.expression_types.specs.Typing.{seen, taken};
-ghost use Rattle.value_types.specs.Given.{with_last};
+ghost use Rattle.type_faults.specs.Given.{with_last};
 ghost use Rattle.signatures.specs.Entries.{sites_of, entry_left};
 ghost use Rattle.simple_statements.specs.SimpleStatements.{assignment, taken_types, is_bare, spec_type, spec_wanted, spec_slots_of, spec_slots, is_known, spec_declared, spec_assigned, spec_statement, spec_statements, behind_spec, behind_specs};
 ghost use Rattle.signatures.specs.declared.entries.Role.TheVariants.{Parameter};
@@ -26,8 +26,8 @@ use signatures::{
 };
 use std::alloc::Global;
 use syntax::{Expr, ValueSpec};
+use type_faults::{Fault, FaultKind, lesser};
 use typed::Values;
-use value_types::{Fault, FaultKind, lesser};
 
 /// What is known of the values of a declaration: they themselves, their types, and the fault.
 #[derive(Drop)]
@@ -85,7 +85,7 @@ fn check_values(
     let listed = check_list(alloc, text, scope, &spec.values)?;
     let wanted = spec_wanted(alloc, text, scope, spec)?;
     let own = Fault {
-        kind: FaultKind::ArgCount,
+        kind: FaultKind::WrongCount,
         pos,
     };
     let values_fault = take_fault(own, &wanted, &listed.items);
@@ -242,7 +242,7 @@ fn check_spec(
     })
 }
 
-/// One more statement behind those that have typed forms.
+/// One more statement after those that have typed forms.
 fn with_statement(
     statements: Option<Vec<typed::Stmt>>,
     statement: Option<typed::Stmt>,

@@ -4,7 +4,7 @@ use Rattle.std.specs.Prelude.{None, slice_get, slice_index, slice_set, nat_le, n
 use Rattle.std.specs.Int.{w64, cast_signed}
 use Rattle.std.proofs.lemmas.Bool.{le-leb, lt-ltb, ltb-true}
 use Rattle.std.proofs.lemmas.Bool.Decides.{leb_tells}
-use Rattle.base.specs.declared.pos.Pos.{Pos}
+use Rattle.typed_syntax.specs.Positions.{Position}
 use Rattle.meaning.specs.Trace.{World, Ending, Panic, Trace, Fault, index_out_of_range}
 use Rattle.meaning.specs.Meaning
 use Rattle.meaning.specs.Meaning.{Env, Then, Ways, element_of}
@@ -15,9 +15,9 @@ use Rattle.heap_bump.specs.Words.{Words, first_address}
 use Rattle.isa.specs.declared.instr.Instr.TheVariants.{Load, Store, Address, Index}
 use Rattle.machine.specs.declared.memory.Spot.{Spot}
 use Rattle.machine.specs.declared.memory.Spot.TheVariants.{InHeap, InStack, Nowhere}
-use Rattle.machine.specs.declared.place.Ending.{Ending as Stop}
-use Rattle.machine.specs.declared.place.Ending.TheVariants.{Panic as Panicked}
-use Rattle.machine.specs.declared.place.Panic.TheVariants.{IndexOutOfRange}
+use Rattle.machine.specs.declared.run_state.Ending.{Ending as Stop}
+use Rattle.machine.specs.declared.run_state.Ending.TheVariants.{Panic as Panicked}
+use Rattle.machine.specs.declared.run_state.Panic.TheVariants.{IndexOutOfRange}
 use Rattle.machine.specs.Machine.{Event, State, Does, act, act_on, puts, puts_words, put_words, words_at, address_of, address_behind, lie_within, spot_of, reaches_by, loads_from, stores_at, element_address, element_at}
 use Rattle.simulated_code.specs.Correct.{same_event, same_end}
 use Rattle.simulated_code.proofs.Frames.{Built}
@@ -28,7 +28,7 @@ not_le : (a b : ℕ) → b < a → nat_le a b ≡ false
 not_le a b l = elim (leb_tells a b) [ inl p ↦ absurd (let le = p.1 in omega arith) | inr p ↦ p.0 ]
 
 module _ (m : Built) where
-  -- the address of a slot of the lowest frame of a stack of so many words
+  -- the address of a slot of the lowest frame of a stack of these words
   abbrev pub slot_address : (deep a : ℕ) → ℕ
   slot_address deep a = address_of m.max deep + a
 
@@ -52,7 +52,7 @@ module _ (m : Built) where
         ap (λ b. if b then InHeap (at - first_address) else (if lie_within low (address_of m.max 0) at n then InStack (at - low) else Nowhere)) outside
         ∙ ap (λ b. if b then InStack (at - low) else Nowhere) inside ∙ ap InStack back
 
-    -- a part lies so far behind an address
+    -- a part lies an offset above an address
     reached_by : (word off near a : ℕ) (does : ℕ → Does) → word ≡ slot_address deep near → near + off ≡ a → a ≤ deep → reaches_by (address_behind word off) does ≡ does (slot_address deep a)
     reached_by word off near a does there e le =
         let at : word + off ≡ slot_address deep a = omega arith in let small = address_small a le in
@@ -104,7 +104,7 @@ module _ (m : Built) where
       ∙ ap (λ x. puts before a (x % 2 ^ 64)) sum ∙ ap (λ x. puts before a x) (mod-eq_of_lt {n = slot_address deep (near + i * wide)} {m = 2 ^ 64} small)) post
 
   -- the address of an array in a slot becomes that of an element, if there is one
-  module _ (at : Pos) (ws : Ways) (env : Env) (k : Then ℕ) (w : World) (running words : List ℕ) (deep a c n wide near pc lo hi b : ℕ) (long : length words ≡ deep) (room : deep ≤ m.max) (here : slice_get m.code.instrs pc ≡ Some (Index a a c n wide)) (stops : Panics ws)
+  module _ (at : Position) (ws : Ways) (env : Env) (k : Then ℕ) (w : World) (running words : List ℕ) (deep a c n wide near pc lo hi b : ℕ) (long : length words ≡ deep) (room : deep ≤ m.max) (here : slice_get m.code.instrs pc ≡ Some (Index a a c n wide)) (stops : Panics ws)
       (there : slice_index words a ≡ slot_address deep near) (inside : near ≤ deep) (within : (i : ℕ) → i < n → near + i * wide ≤ deep)
       (post : (i : ℕ) → i < n → At m running lo hi b (k i w) (pc + 1) (slice_set words a (slot_address deep (near + i * wide))) w) where
     abbrev before : Words → State

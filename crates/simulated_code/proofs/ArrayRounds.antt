@@ -3,8 +3,8 @@ use Rattle.std.proofs.Common.{◌≡◌, ℕ, zero, suc, ◌+◌, ◌-◌, ◌^�
 use Rattle.std.specs.Prelude.{slice_get, slice_index, slice_set, ◌==◌, int_lt, if◌then◌else◌}
 use Rattle.std.specs.Int.{w64, cast_signed}
 use Rattle.std.proofs.lemmas.Int.{to_z_pos}
-use Rattle.value_trees.specs.Value.{Value, int}
-use Rattle.typed.specs.Frames.{temps_of}
+use Rattle.typed_syntax.specs.Value.{Value, int}
+use Rattle.typed_syntax.specs.Frames.{temps_of}
 use Rattle.meaning.specs.Trace.{World}
 use Rattle.meaning.specs.Meaning
 use Rattle.meaning.specs.Meaning.{Env, Go}
@@ -12,7 +12,7 @@ use Rattle.isa.specs.Bin.{bit_of, bin_of}
 use Rattle.isa.specs.declared.instr.BinOp.TheVariants as Word
 use Rattle.isa.specs.declared.instr.Instr.TheVariants.{Const, Bin, Jump, JumpZero}
 use Rattle.machine.specs.Machine.{puts_or_panics}
-use Rattle.simulated_code.specs.Code.{temp, slots_of}
+use Rattle.program_code.specs.Code.{temp, slots_of}
 use Rattle.simulated_code.proofs.Frames.{Built, Stands, Frame, during, numbers, Good, wide_of}
 use Rattle.simulated_code.proofs.Changes.{one_more, temp_set, spare_set, fewer, held_word}
 use Rattle.simulated_code.proofs.Places.{At, place_is, none_asked, turned, turned_less, stepped}

@@ -3,9 +3,9 @@ use Rattle.std.proofs.Common.{◌≡◌, ◌≢◌, inl, inr, ℕ, zero, suc, �
 use Rattle.std.specs.Prelude.{slice_get, slice_index, slice_set, nat_le, ◌==◌, ◌||◌, if◌then◌else◌}
 use Rattle.std.proofs.lemmas.Bool.{eq-eqb, le-leb, lt-leb}
 use Rattle.std.proofs.lemmas.Bool.Decides.{leb_tells}
-use Rattle.value_trees.specs.Value.{Value, int, bool, composite, words}
-use Rattle.typed.specs.Placement.{among}
-use Rattle.typed.specs.Form.{IsWord}
+use Rattle.typed_syntax.specs.Value.{Value, int, bool, composite, words}
+use Rattle.typed_syntax.specs.Placement.{among}
+use Rattle.typed_syntax.specs.Form.{IsWord}
 use Rattle.meaning.specs.Trace.{Ending, HeapLimit, World}
 use Rattle.meaning.specs.Store.{value_of, born}
 use Rattle.meaning.specs.Meaning
@@ -17,9 +17,9 @@ use Rattle.simulation.specs.Follows.{Follows}
 use Rattle.simulation.proofs.Rules
 use Rattle.heap_bump.specs.Words.{first_address, with_word}
 use Rattle.machine.specs.Machine.{Event}
-use Rattle.machine.specs.declared.place.Ending.{Ending as Stop}
-use Rattle.machine.specs.declared.place.Ending.TheVariants.{HeapLimit as Full}
-use Rattle.simulated_code.specs.Code.{word_of}
+use Rattle.machine.specs.declared.run_state.Ending.{Ending as Stop}
+use Rattle.machine.specs.declared.run_state.Ending.TheVariants.{HeapLimit as Full}
+use Rattle.program_code.specs.Code.{word_of}
 use Rattle.simulated_code.specs.Correct.{same_event, same_end, first_words}
 use Rattle.simulated_code.proofs.Changes.{born_earlier, born_value, born_length}
 use Rattle.simulated_code.proofs.Crossing.{different}
@@ -50,7 +50,7 @@ pub first_length : (gs : List (ℕ × Value)) → length (first_words gs) ≡ le
 first_length [] = refl
 first_length (g ∷ gs) = ap suc (first_length gs)
 
--- a word that is taken behind others gets its value
+-- a word that is taken after others gets its value
 last_set : (ws : List ℕ) (x y : ℕ) → slice_set (ws ++ x ∷ []) (length ws) y ≡ ws ++ y ∷ []
 last_set [] x y = refl
 last_set (w ∷ ws) x y = ap (λ l. w ∷ l) (last_set ws x y)
@@ -78,7 +78,7 @@ one_word (bool b) is = refl
 one_word (composite vs) is = absurd is
 
 module _ (around : Setting) where
-  -- the state behind the births
+  -- the state after the births
   abbrev pub born_all : List (ℕ × Value) → World → World
   born_all [] w = w
   born_all (g ∷ gs) w = born_all gs (born w (Meaning.new_cell around 0 g.0 g.1))

@@ -6,22 +6,22 @@ use Rattle.std.proofs.Math.Seq.{get_or-append_seam}
 use Rattle.std.proofs.lemmas.List.{get_or_append_left, get_or-append_right, get_or-append-add, length-replicate}
 use Rattle.std.proofs.lemmas.Bool.{eq-eqb}
 use Rattle.std.proofs.lemmas.Bool.Decides.{eqb_tells}
-use Rattle.value_trees.specs.Types.{ValueType, width}
-use Rattle.value_trees.specs.Value.{Value, int, IsOf}
-use Rattle.value_trees.specs.Paths.{with_path, Leads, offset}
-use Rattle.value_trees.specs.Words.{Content, contents}
-use Rattle.value_trees.specs.Laws.{PartWords}
-use Rattle.value_trees.proofs.Parts.{count_of, with_is, part_words, within}
-use Rattle.typed.specs.Syntax.{Func, site_type, global_type}
-use Rattle.typed.specs.Form.{InScope}
-use Rattle.typed.specs.Frames.{outgoing_of, temps_of, frame_of}
+use Rattle.typed_syntax.specs.Types.{TypeTree, width}
+use Rattle.typed_syntax.specs.Value.{Value, int, IsOf}
+use Rattle.typed_syntax.specs.Paths.{with_path, Leads, offset}
+use Rattle.typed_syntax.specs.Words.{Content, contents}
+use Rattle.value_laws.specs.Laws.{PartWords}
+use Rattle.value_laws.proofs.Parts.{count_of, with_is, part_words, within}
+use Rattle.typed_syntax.specs.Syntax.{Func, site_type, global_type}
+use Rattle.typed_syntax.specs.Form.{InScope}
+use Rattle.typed_syntax.specs.Frames.{outgoing_of, temps_of, frame_of}
 use Rattle.meaning.specs.Trace.{World, Cell}
 use Rattle.meaning.specs.Store.{no_cell, value_of, written, change, born}
 use Rattle.meaning.specs.Meaning.{Env, with_home}
 use Rattle.machine.specs.Machine.{put_words, words_at, entered}
-use Rattle.simulated_code.specs.Code.{temp, site_slot, slots_of}
+use Rattle.program_code.specs.Code.{temp, site_slot, slots_of}
 use Rattle.simulated_code.proofs.Distances.{put_one, word_at, word_slot, read_length, read_index, put_length, put_other, put_same, entered_length, entered_link, entered_return, entered_keeps, dropped_length, dropped}
-use Rattle.simulated_code.proofs.Sites.{site_before, site_within}
+use Rattle.program_code.proofs.Sites.{site_before, site_within}
 use Rattle.simulated_code.proofs.Frames.{Built, StandsFor, nothing, Stands, StandIn, contents_of, wide_of, stands_same, LieAt, lie_kept, AreAt, Frame, hold, grown, fresh, back_of, depth, depth_is, link_of, Good, stack_keeps, good_keeps}
 
 pub home_same : (env : Env) (site v : ℕ) → with_home env site v site ≡ v
@@ -406,7 +406,7 @@ module _ (m : Built) where
       ]
 
   -- a part of a variable in scope gets a value
-  pub written_site : (c : Frame) (calls : List Frame) (w : World) (words : List ℕ) (y : Value) (v : ℕ) (path : List ℕ) (t : ValueType) (xs : List ℕ) → InScope v c.scope → Leads (site_type m.program v) path t → StandIn (contents y) xs → IsOf t y → Good m (c ∷ calls) w words →
+  pub written_site : (c : Frame) (calls : List Frame) (w : World) (words : List ℕ) (y : Value) (v : ℕ) (path : List ℕ) (t : TypeTree) (xs : List ℕ) → InScope v c.scope → Leads (site_type m.program v) path t → StandIn (contents y) xs → IsOf t y → Good m (c ∷ calls) w words →
       Good m (c ∷ calls) (written w (c.env v) path y) (put_words words (site_slot (slots_of m.program c.func) v + offset (site_type m.program v) path) xs)
   written_site c calls w words y v path t xs i leads e typed g = let s = g.stack.0 in record {
     long = site_length c calls w words g v from xs among.0 among.1 many ∙ g.long;

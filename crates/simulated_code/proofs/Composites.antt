@@ -4,21 +4,21 @@ use Rattle.std.specs.Prelude.{nat_le, slice_index, take, drop, replicate}
 use Rattle.std.proofs.lemmas.List.{get_or-take, get_or-drop, length-drop, length-replicate, length-take-le, take-append-drop, take_all}
 use Rattle.std.proofs.Math.Seq.{take-add}
 use Rattle.std.proofs.lemmas.Bool.{true≢false, leb-true}
-use Rattle.value_trees.specs.Types.{ValueType, PartTypes, no_types, more_types, width, widths, types_in, nth_type, widths_before, part_types, part_count, part_type, part_offset}
-use Rattle.value_trees.specs.Value.{Value, int, bool, IsOf, zero_of}
-use Rattle.value_trees.specs.Paths.{part, with_part}
-use Rattle.value_trees.specs.Words.{Content, number, truth, contents, Hold, IsZero}
-use Rattle.value_trees.proofs.Lists
-use Rattle.value_trees.proofs.Lists.{held_long}
-use Rattle.value_trees.proofs.Parts.{count_of, width_parts, part_is, with_part_is, Split, split_part}
-use Rattle.value_trees.proofs.Zeros.{zero_held, zero_is}
-use Rattle.typed.specs.Syntax.{Elements, no_elements, element, ascend_from, words_before, words_through}
-use Rattle.typed.specs.Form.{ElementsFit}
-use Rattle.typed.specs.Frames.{outgoing_of, temps_of}
+use Rattle.typed_syntax.specs.Types.{TypeTree, PartTypes, no_types, more_types, width, widths, types_in, nth_type, widths_before, part_types, part_count, part_type, part_offset}
+use Rattle.typed_syntax.specs.Value.{Value, int, bool, IsOf, zero_of}
+use Rattle.typed_syntax.specs.Paths.{part, with_part}
+use Rattle.typed_syntax.specs.Words.{Content, number, truth, contents, Hold, IsZero}
+use Rattle.value_laws.proofs.Lists
+use Rattle.value_laws.proofs.Lists.{held_long}
+use Rattle.value_laws.proofs.Parts.{count_of, width_parts, part_is, with_part_is, Split, split_part}
+use Rattle.value_laws.proofs.Zeros.{zero_held, zero_is}
+use Rattle.typed_syntax.specs.Syntax.{Elements, no_elements, element, ascend_from, words_before, words_through}
+use Rattle.typed_syntax.specs.Form.{ElementsFit}
+use Rattle.typed_syntax.specs.Frames.{outgoing_of, temps_of}
 use Rattle.isa.specs.Bin.{bit_of}
 use Rattle.meaning.specs.Trace.{World, Trace}
 use Rattle.machine.specs.Machine.{put_words, words_at}
-use Rattle.simulated_code.specs.Code.{temp, slots_of, gap_code, gap_size}
+use Rattle.program_code.specs.Code.{temp, slots_of, gap_code, gap_size}
 use Rattle.simulated_code.proofs.Places.{Standing, At, later, place_is, words_zeroed}
 use Rattle.simulated_code.proofs.Distances.{word_at, put_length, put_other, put_same, read_length, read_index}
 use Rattle.simulated_code.proofs.Frames.{Built, Frame, hold, numbers, Good, depth, StandsFor, StandIn, LieAt, nothing, contents_of, wide_of, stands_same}
@@ -39,7 +39,7 @@ zero_word : (c : Content) → IsZero c → StandsFor c 0
 zero_word (number z) e = (sym e, omega arith)
 zero_word (truth b) e = sym (ap bit_of e)
 
-pub zero_stands : (t : ValueType) → StandIn (contents (zero_of t)) (replicate (width t) 0)
+pub zero_stands : (t : TypeTree) → StandIn (contents (zero_of t)) (replicate (width t) 0)
 zero_stands t = held_stand_in (contents (zero_of t)) (replicate (width t) 0) (zero_held StandsFor zero_word t)
 
 all_zero : (n i : ℕ) → slice_index (replicate n 0) i ≡ 0
@@ -48,7 +48,7 @@ all_zero (suc n) zero = refl
 all_zero (suc n) (suc i) = all_zero n i
 
 -- each word of it is 0
-pub zero_behind : (t : ValueType) (j : ℕ) → j < width t → StandsFor (get_or (contents (zero_of t)) j nothing) 0
+pub zero_behind : (t : TypeTree) (j : ℕ) → j < width t → StandsFor (get_or (contents (zero_of t)) j nothing) 0
 zero_behind t j l = subst (λ x. StandsFor (get_or (contents (zero_of t)) j nothing) x) (all_zero (width t) j) ((zero_stands t).each j (omega (arith, count_of t (zero_of t) (zero_is t))))
 
 -- ---- contents that are no value of their own
@@ -70,7 +70,7 @@ contents_as (truth b ∷ cs) = ap (λ l. truth b ∷ l) (contents_as cs)
 pub contents_one : (v : Value) → contents_of (v ∷ []) ≡ contents v
 contents_one v = append-nil (contents v)
 
--- behind some values
+-- after some values
 pub contents_with : (held : List Value) (cs : List Content) → contents_of (held ++ as_values cs) ≡ contents_of held ++ cs
 contents_with held cs = contents_joined held (as_values cs) ∙ ap (λ l. contents_of held ++ l) (contents_as cs)
 
@@ -79,7 +79,7 @@ contents_with_one held v = contents_joined held (v ∷ []) ∙ ap (λ l. content
 
 -- ---- a value up to a part
 
-module _ (t : ValueType) (x v : Value) (i : ℕ) (l : i < part_count t) (ix : IsOf t x) (iv : IsOf (part_type t i) v) where
+module _ (t : TypeTree) (x v : Value) (i : ℕ) (l : i < part_count t) (ix : IsOf t x) (iv : IsOf (part_type t i) v) where
   abbrev split : Split (contents x) (λ y. contents (with_part x i y)) (part x i) (part_offset t i) (width (part_type t i)) (width t)
   split = split_part t x i ix l
 
@@ -112,7 +112,7 @@ module _ (t : ValueType) (x v : Value) (i : ℕ) (l : i < part_count t) (ix : Is
       ap (λ c. get_or c (part_offset t i + j) nothing) (split.becomes v)
       ∙ Lists.in_middle Content split.front (contents v) split.rest (part_offset t i) j nothing split.before (omega (arith, count_of (part_type t i) v iv))
 
-pub part_words : (t : ValueType) (x : Value) (i j : ℕ) → i < part_count t → IsOf t x → j < width (part_type t i) → get_or (contents (part x i)) j nothing ≡ get_or (contents x) (part_offset t i + j) nothing
+pub part_words : (t : TypeTree) (x : Value) (i j : ℕ) → i < part_count t → IsOf t x → j < width (part_type t i) → get_or (contents (part x i)) j nothing ≡ get_or (contents x) (part_offset t i + j) nothing
 part_words t x i j l ix lt =
     let r = split_part t x i ix l in
     sym (ap (λ c. get_or c (part_offset t i + j) nothing) r.was
@@ -123,7 +123,7 @@ nth_within no_types i l = absurd (omega arith)
 nth_within (more_types t ts) zero l = omega arith
 nth_within (more_types t ts) (suc i) l = omega (arith, nth_within ts i (omega arith))
 
-pub part_within : (t : ValueType) (i : ℕ) → i < part_count t → words_through t i ≤ width t
+pub part_within : (t : TypeTree) (i : ℕ) → i < part_count t → words_through t i ≤ width t
 part_within t i l = omega (arith, nth_within (part_types t) i l, width_parts t i l)
 
 before_next : (ts : PartTypes) (i j : ℕ) → i < j → j < types_in ts → widths_before ts i + width (nth_type ts i) ≤ widths_before ts j
@@ -136,16 +136,16 @@ both_true : (a b : Bool) → (a && b) ≡ true → (a ≡ true) × (b ≡ true)
 both_true true b e = (refl, e)
 both_true false b e = absurd (true≢false (sym e))
 
--- elements in order: each lies behind the one before it
+-- elements in order: each lies after the one before it
 pub in_order : (n i : ℕ) (e : _) (es : Elements) → ascend_from n (element i e es) ≡ true → (n ≤ i) × (ascend_from (suc i) es ≡ true)
 in_order n i e es h = let b = both_true (nat_le n i) (ascend_from (suc i) es) h in (leb-true n i b.0, b.1)
 
 module _ (m : Built) where
-  pub gap_fits : (scope : List ℕ) (t : ValueType) (x : Value) (i : ℕ) (es : Elements) → IsOf t x → i < part_count t → ElementsFit m.program scope t es → ascend_from (suc i) es ≡ true → words_through t i ≤ words_before t es
+  pub gap_fits : (scope : List ℕ) (t : TypeTree) (x : Value) (i : ℕ) (es : Elements) → IsOf t x → i < part_count t → ElementsFit m.program scope t es → ascend_from (suc i) es ≡ true → words_through t i ≤ words_before t es
   gap_fits scope t x i no_elements ix l fit h = (split_part t x i ix l).ends
   gap_fits scope t x i (element j e es) ix l fit h = before_next (part_types t) i j (in_order (suc i) j e es h).0 fit.0
 
-  pub before_fits : (scope : List ℕ) (t : ValueType) (x : Value) (es : Elements) → IsOf t x → ElementsFit m.program scope t es → words_before t es ≤ width t
+  pub before_fits : (scope : List ℕ) (t : TypeTree) (x : Value) (es : Elements) → IsOf t x → ElementsFit m.program scope t es → words_before t es ≤ width t
   before_fits scope t x no_elements ix fit = omega arith
   before_fits scope t x (element i e es) ix fit = let ends = (split_part t x i ix fit.0).ends in omega arith
 
@@ -175,7 +175,7 @@ module _ (m : Built) where
     );
   }
 
-  module _ (c : Frame) (calls : List Frame) (w : World) (held : List Value) (t : ValueType) (x : Value) (ix : IsOf t x) where
+  module _ (c : Frame) (calls : List Frame) (w : World) (held : List Value) (t : TypeTree) (x : Value) (ix : IsOf t x) where
     -- a value stands up to n words
     abbrev pub UpTo : ℕ → List ℕ → Type 0
     UpTo n words = Good m (hold c (held ++ as_values (take n (contents x))) ∷ calls) w words
@@ -205,7 +205,7 @@ module _ (m : Built) where
         (contents_with_one (held ++ as_values before) v ∙ ap (λ l. l ++ contents v) (contents_with held before) ∙ append_assoc (contents_of held) before (contents v)
         ∙ ap (λ l. contents_of held ++ l) (joined_part t x v i l ix iv) ∙ sym (contents_with held (take (words_through t i) (contents (with_part x i v))))) g
 
-    -- zeros behind it
+    -- zeros after it
     pub up_to_zeros : (n more : ℕ) (words : List ℕ) → n + more ≤ width t → wide_of held + width t ≤ temps_of m.program c.func → ((j : ℕ) → n ≤ j → j < n + more → StandsFor (get_or (contents x) j nothing) 0)
         → UpTo n words → UpTo (n + more) (put_words words (temp (slots_of m.program c.func) (wide_of held + n)) (replicate more 0))
     up_to_zeros n more words le room zeros g =
@@ -224,7 +224,7 @@ module _ (m : Built) where
         })) g)
 
   -- the words between a part and the next element are zeroed again
-  pub gap_follows : (c : Frame) (calls : List Frame) (w : World) (held : List Value) (t : ValueType) (x : Value) (ix : IsOf t x) (h from to pc lo b : ℕ) (words : List ℕ) (rest : Trace) → wide_of held ≡ h → from ≤ to → to ≤ width t → h + width t ≤ temps_of m.program c.func
+  pub gap_follows : (c : Frame) (calls : List Frame) (w : World) (held : List Value) (t : TypeTree) (x : Value) (ix : IsOf t x) (h from to pc lo b : ℕ) (words : List ℕ) (rest : Trace) → wide_of held ≡ h → from ≤ to → to ≤ width t → h + width t ≤ temps_of m.program c.func
       → ((j : ℕ) → from ≤ j → j < to → StandsFor (get_or (contents x) j nothing) 0) → Standing m.code c.fn pc (gap_code (to - from) (temp (slots_of m.program c.func) (h + from))) → UpTo c calls w held t x ix from words
       → ((words1 : List ℕ) → UpTo c calls w held t x ix to words1 → At m (numbers (c ∷ calls)) lo 0 b rest (pc + gap_size (to - from)) words1 w) → At m (numbers (c ∷ calls)) (suc lo) 0 b rest pc words w
   gap_follows c calls w held t x ix h from to pc lo b words rest hh le inside room zeros has g post = by (to - from) refl has post
@@ -243,7 +243,7 @@ module _ (m : Built) where
           (post (put_words words there (replicate (suc k) 0)) (subst (λ n. UpTo c calls w held t x ix n (put_words words there (replicate (suc k) 0))) more (subst (λ a. UpTo c calls w held t x ix (from + suc k) (put_words words a (replicate (suc k) 0))) same g1))))
 
   -- a part of a value in temps gets another value
-  module _ (c : Frame) (calls : List Frame) (w : World) (words xs : List ℕ) (held : List Value) (h : ℕ) (t : ValueType) (x v : Value) (i : ℕ) (hh : wide_of held ≡ h) (l : i < part_count t) (ix : IsOf t x) (iv : IsOf (part_type t i) v) (stand : StandIn (contents v) xs) (g : Good m (hold c (held ++ x ∷ []) ∷ calls) w words) where
+  module _ (c : Frame) (calls : List Frame) (w : World) (words xs : List ℕ) (held : List Value) (h : ℕ) (t : TypeTree) (x v : Value) (i : ℕ) (hh : wide_of held ≡ h) (l : i < part_count t) (ix : IsOf t x) (iv : IsOf (part_type t i) v) (stand : StandIn (contents v) xs) (g : Good m (hold c (held ++ x ∷ []) ∷ calls) w words) where
     abbrev new : Value
     new = with_part x i v
 
@@ -316,7 +316,7 @@ module _ (m : Built) where
         (fewer m c calls w words held (x ∷ []) g)
 
   -- a part of a value in temps as words that are read
-  module _ (c : Frame) (calls : List Frame) (w : World) (words : List ℕ) (held : List Value) (h : ℕ) (t : ValueType) (x : Value) (i : ℕ) (hh : wide_of held ≡ h) (l : i < part_count t) (ix : IsOf t x) (g : Good m (hold c (held ++ x ∷ []) ∷ calls) w words) where
+  module _ (c : Frame) (calls : List Frame) (w : World) (words : List ℕ) (held : List Value) (h : ℕ) (t : TypeTree) (x : Value) (i : ℕ) (hh : wide_of held ≡ h) (l : i < part_count t) (ix : IsOf t x) (g : Good m (hold c (held ++ x ∷ []) ∷ calls) w words) where
     pub part_room : temp (slots_of m.program c.func) (h + part_offset t i) + width (part_type t i) ≤ length words
     part_room = let r = held_room m c calls w words held [] x h (width t) hh (count_of t x ix) g in let e = (split_part t x i ix l).ends in omega arith
 

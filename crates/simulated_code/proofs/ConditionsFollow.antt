@@ -1,7 +1,7 @@
 -- The machine follows a truth value.
 use Rattle.std.proofs.Common.{◌≡◌, ℕ, suc, ◌+◌, true, false, Bool, List, [], Some, ap}
 use Rattle.std.specs.Prelude.{slice_get, slice_index, ◌==◌, if◌then◌else◌}
-use Rattle.value_trees.specs.Value.{Value, bool, IsOf}
+use Rattle.typed_syntax.specs.Value.{Value, bool, IsOf}
 use Rattle.meaning.specs.Trace.{World, Trace}
 use Rattle.meaning.specs.Meaning
 use Rattle.meaning.specs.Meaning.{Go}
@@ -11,7 +11,7 @@ use Rattle.isa.specs.declared.instr.Instr.TheVariants.{JumpZero}
 use Rattle.machine.specs.Machine.{State}
 use Rattle.simulated_code.proofs.Frames.{Built, Stands}
 use Rattle.simulated_code.proofs.Places.{At, stepped}
-use Rattle.value_trees.specs.Types.{bools}
+use Rattle.typed_syntax.specs.Types.{bools}
 
 module _ (m : Built) where
   -- a jump is not taken, or taken

@@ -5,7 +5,7 @@ use mir.Val.{sel}
 use Rattle.std.specs.Int.{w64, cast_signed, cast_unsigned, int_wrapping_add}
 use Rattle.std.proofs.lemmas.Bool.{lt-ltb, le-ltb, ltb-true}
 use Rattle.std.proofs.lemmas.Int.{to_z_pos}
-use Rattle.value_trees.specs.Value.{int}
+use Rattle.typed_syntax.specs.Value.{int}
 use Rattle.meaning.specs.Meaning.{count_of}
 use Rattle.isa.specs.Bin.{bit_of, bin_of, of_numbers}
 use Rattle.isa.specs.declared.instr.BinOp.TheVariants.{Add, Less}
@@ -15,7 +15,7 @@ pub bit_small : (r : Bool) → bit_of r < 2 ^ 64
 bit_small true = omega arith
 bit_small false = omega arith
 
--- so many rounds are left at an index
+-- how many rounds are left at an index
 abbrev pub Remains : ℤ → (i left : ℕ) → Type 0
 Remains (pos n) i left = i + left ≡ n
 Remains (negsuc n) i left = left ≡ 0

@@ -4,10 +4,10 @@ use Rattle.std.specs.Prelude.{slice_get, slice_index, nat_le, nat_lt, ◌==◌, 
 use Rattle.std.proofs.lemmas.Bool.{eq-eqb, le-leb, le-ltb, lt-ltb}
 use Rattle.std.proofs.lemmas.Bool.Decides.{eqb_tells, leb_tells}
 use Rattle.std.proofs.lemmas.List.{length-replicate}
-use Rattle.value_trees.specs.Value.{Value}
-use Rattle.typed.specs.Form.{AreOf}
-use Rattle.typed.specs.Syntax.{Func, argument_words, result_words}
-use Rattle.typed.specs.Frames.{frame_in, frame_of, outgoing_of}
+use Rattle.typed_syntax.specs.Value.{Value}
+use Rattle.typed_syntax.specs.Form.{AreOf}
+use Rattle.typed_syntax.specs.Syntax.{Func, argument_words, result_words}
+use Rattle.typed_syntax.specs.Frames.{frame_in, frame_of, outgoing_of}
 use Rattle.meaning.specs.Trace.{Call as Called, Ending, Exit, StackLimit, World, Trace, Note, End}
 use Rattle.meaning.specs.Output.{Sight, out, used_by}
 use Rattle.simulation.specs.Outcome as Run
@@ -20,10 +20,10 @@ use Rattle.isa.specs.Code.{Tables}
 use Rattle.isa.specs.declared.instr.Instr.{Instr}
 use Rattle.isa.specs.declared.instr.Instr.TheVariants.{Call, Return}
 use Rattle.machine.specs.Machine.{Event, State, Does, act, act_on, slot, zeroed, entered, address_of, calls as calling, exits, calls_function, follows_call, goes_back, owner_of, frame_of as code_frame}
-use Rattle.machine.specs.declared.place.Ending.{Ending as Stop}
-use Rattle.machine.specs.declared.place.Ending.TheVariants.{StackLimit as Limit, WildReturn, WildLink}
+use Rattle.machine.specs.declared.run_state.Ending.{Ending as Stop}
+use Rattle.machine.specs.declared.run_state.Ending.TheVariants.{StackLimit as Limit, WildReturn, WildLink}
 use Rattle.simulated_code.specs.Correct.{same_event, same_end}
-use Rattle.simulated_code.proofs.Compiled.{Placed}
+use Rattle.program_code.proofs.Compiled.{Placed}
 use Rattle.simulated_code.proofs.Distances.{word_at, word_slot, put_length, put_other, entered_keeps}
 use Rattle.simulated_code.proofs.Frames.{Built, AreAt, Frame, placed, fresh, numbers, back_of, depth, link_of, Stack, Good, moved, contents_of, lie_kept, of_length, wide_of}
 use Rattle.simulated_code.proofs.Changes.{outgoing_put, entered_frame}
@@ -39,7 +39,7 @@ pub different : (a b : ℕ) → a ≢ b → (a == b) ≡ false
 different a b ne = elim (eqb_tells a b) [ inl p ↦ absurd (ne p.1) | inr p ↦ p.0 ]
 
 module _ (m : Built) where
-  -- a call of a function from these ends behind an instruction that calls it
+  -- a call of a function from these ends after an instruction that calls it
   pub record Behind (f : ℕ) (c : Frame) : Type 0 where
     pub some : 0 < c.place
     pub call : slice_get m.code.instrs (c.place - 1) ≡ Some (Call f)

@@ -1,28 +1,28 @@
 -- The machine follows the parameters at the entry of a function.
 use Rattle.std.proofs.Common.{◌≡◌, inr, ℕ, suc, ◌+◌, ◌-◌, ◌≤◌, List, [], ◌∷◌, length, Option, Some, None, refl, sym, ap, ◌∙◌, subst, arith, length-append, get_or}
 use Rattle.std.specs.Prelude.{slice_index}
-use Rattle.value_trees.specs.Value.{Value, IsOf}
-use Rattle.typed.specs.Form.{AreOf, ParamsFit, named_params, params_scope}
-use Rattle.typed.specs.Frames.{frame_of}
+use Rattle.typed_syntax.specs.Value.{Value, IsOf}
+use Rattle.typed_syntax.specs.Form.{AreOf, ParamsFit, named_params, params_scope}
+use Rattle.typed_syntax.specs.Frames.{frame_of}
 use Rattle.meaning.specs.Trace.{World}
 use Rattle.meaning.specs.Store.{born}
 use Rattle.meaning.specs.Meaning
 use Rattle.meaning.specs.Meaning.{Env, Go, Setting, with_home}
-use Rattle.simulated_code.specs.Code.{site_slot, slots_of, params_code, params_size}
+use Rattle.program_code.specs.Code.{site_slot, slots_of, params_code, params_size}
 use Rattle.simulated_code.proofs.Distances.{read_length, read_index, put_other}
 use Rattle.simulated_code.proofs.Frames.{Built, AreAt, Frame, during, numbers, depth, room_of, depth_is, Good, StandIn, contents_of, lie_kept, nothing, stands_same, wide_of}
 use Rattle.simulated_code.proofs.Changes.{are_first, are_rest, born_site}
-use Rattle.simulated_code.proofs.Sites.{site_within}
+use Rattle.program_code.proofs.Sites.{site_within}
 use Rattle.machine.specs.Machine.{put_words, words_at}
 use Rattle.simulated_code.proofs.Places.{Standing, At, place_is, frame_here, turned, bore, argument}
 use Rattle.simulated_code.proofs.Globals.{born_kept}
-use Rattle.value_trees.specs.Types.{ValueType, width}
-use Rattle.value_trees.specs.Words.{contents}
-use Rattle.value_trees.proofs.Parts.{count_of}
-use Rattle.typed.specs.Syntax.{each_width, site_type}
+use Rattle.typed_syntax.specs.Types.{TypeTree, width}
+use Rattle.typed_syntax.specs.Words.{contents}
+use Rattle.value_laws.proofs.Parts.{count_of}
+use Rattle.typed_syntax.specs.Syntax.{each_width, site_type}
 
 module _ (m : Built) (around : Setting) (c : Frame) (calls : List Frame) where
-  pub params_follow : (ps : List (Option ℕ)) (ts : List ValueType) (vs : List Value) (env : Env) (scope : List ℕ) (entry : ℕ) (k : Env → Go) (w : World) (words : List ℕ) (q i pc lo b : ℕ) → AreOf ts vs → Standing m.code c.fn pc (params_code (slots_of m.program c.func) (each_width ts) ps i) → ParamsFit m.program q ts ps
+  pub params_follow : (ps : List (Option ℕ)) (ts : List TypeTree) (vs : List Value) (env : Env) (scope : List ℕ) (entry : ℕ) (k : Env → Go) (w : World) (words : List ℕ) (q i pc lo b : ℕ) → AreOf ts vs → Standing m.code c.fn pc (params_code (slots_of m.program c.func) (each_width ts) ps i) → ParamsFit m.program q ts ps
       → c.func.first ≤ q → q + named_params ps ≤ c.func.first + c.func.count → i + wide_of vs ≤ room_of m calls → AreAt vs (depth m calls) i words → Good m (during c env scope [] ∷ calls) w words
       → ((env1 : Env) (w1 : World) (words1 : List ℕ) → Good m (during c env1 (params_scope scope ps) [] ∷ calls) w1 words1 → At m (numbers (c ∷ calls)) lo 0 b (k env1 w1) (pc + params_size ps) words1 w1)
       → At m (numbers (c ∷ calls)) lo 0 b (Meaning.bear_params around entry ps vs env k w) pc words w

@@ -6,15 +6,15 @@ use Rattle.std.specs.Int.{w64, cast_signed, cast_unsigned}
 use Rattle.std.specs.Ordering.{int_eq}
 use Rattle.std.proofs.lemmas.Int.{of_z-to_z}
 use Rattle.std.proofs.lemmas.Bool.Decides.{Decides-int_eq, Decides-eqb}
-use Rattle.base.specs.declared.pos.Pos.{Pos}
-use Rattle.value_trees.specs.Types.{ValueType, bools, width}
-use Rattle.value_trees.specs.Value.{Value, int, bool, composite, IsOf, same}
-use Rattle.value_trees.specs.Words.{Content, number, truth, contents, AreAlike, Hold, all_equal}
-use Rattle.value_trees.proofs.Equal.{compared}
-use Rattle.value_trees.proofs.Parts.{count_of}
-use Rattle.typed.specs.declared.operators.BinOp.{BinOp}
-use Rattle.typed.specs.declared.operators.BinOp.TheVariants.{Add, Sub, Mul, Div, Rem, And, Or, Xor, AndNot, ShiftLeft, ShiftRight, Equal, NotEqual, Less, LessEqual, Greater, GreaterEqual}
-use Rattle.typed.specs.Form.{IsPlain, Takes}
+use Rattle.typed_syntax.specs.Positions.{Position}
+use Rattle.typed_syntax.specs.Types.{TypeTree, bools, width}
+use Rattle.typed_syntax.specs.Value.{Value, int, bool, composite, IsOf, same}
+use Rattle.typed_syntax.specs.Words.{Content, number, truth, contents, AreAlike, Hold, all_equal}
+use Rattle.value_laws.proofs.Equal.{compared}
+use Rattle.value_laws.proofs.Parts.{count_of}
+use Rattle.typed_syntax.specs.declared.operators.BinOp.{BinOp}
+use Rattle.typed_syntax.specs.declared.operators.BinOp.TheVariants.{Add, Sub, Mul, Div, Rem, And, Or, Xor, AndNot, ShiftLeft, ShiftRight, Equal, NotEqual, Less, LessEqual, Greater, GreaterEqual}
+use Rattle.typed_syntax.specs.Form.{IsPlain, Takes}
 use Rattle.meaning.specs.Trace.{World}
 use Rattle.meaning.specs.Operators.{binary_of}
 use Rattle.meaning.specs.Meaning
@@ -26,7 +26,7 @@ use Rattle.isa.specs.declared.instr.BinOp.TheVariants as Word
 use Rattle.isa.specs.declared.instr.Instr.{Instr}
 use Rattle.isa.specs.declared.instr.Instr.TheVariants.{Bin, Same, Differ}
 use Rattle.machine.specs.Machine.{words_at, same_words, act_on}
-use Rattle.simulated_code.specs.Code.{operation, binary_code, same_code, differ_code}
+use Rattle.program_code.specs.Code.{operation, binary_code, same_code, differ_code}
 use Rattle.simulated_code.proofs.Distances.{read_index}
 use Rattle.simulated_code.proofs.Frames.{Built, Stands, StandsFor, StandIn, nothing}
 use Rattle.simulated_code.proofs.Counting.{bit_small}
@@ -74,7 +74,7 @@ pairs_equal [] (y ∷ ys) = refl
 pairs_equal (x ∷ xs) [] = refl
 pairs_equal (x ∷ xs) (y ∷ ys) = ap (λ b. nat_eq x y && b) (pairs_equal xs ys)
 
-words_compared : (t : ValueType) (v u : Value) (xs ys : List ℕ) → IsOf t v → IsOf t u → StandIn (contents v) xs → StandIn (contents u) ys → pointwise nat_eq xs ys ≡ same v u
+words_compared : (t : TypeTree) (v u : Value) (xs ys : List ℕ) → IsOf t v → IsOf t u → StandIn (contents v) xs → StandIn (contents u) ys → pointwise nat_eq xs ys ≡ same v u
 words_compared t v u xs ys iv iu sx sy = pairs_equal xs ys ∙ compared StandsFor nat_eq words_decide t v u xs ys iv iu (stand_held (contents v) xs sx) (stand_held (contents u) ys sy)
 
 -- one word is compared as a number
@@ -92,7 +92,7 @@ and_nothing : (b : Bool) → (b && true) ≡ b
 and_nothing true = refl
 and_nothing false = refl
 
-word_compared : (t : ValueType) (v u : Value) (x y : ℕ) → IsOf t v → IsOf t u → StandIn (contents v) (x ∷ []) → StandIn (contents u) (y ∷ []) → int_eq (cast_signed w64 x) (cast_signed w64 y) ≡ same v u
+word_compared : (t : TypeTree) (v u : Value) (x y : ℕ) → IsOf t v → IsOf t u → StandIn (contents v) (x ∷ []) → StandIn (contents u) (y ∷ []) → int_eq (cast_signed w64 x) (cast_signed w64 y) ≡ same v u
 word_compared t v u x y iv iu sx sy =
     sym (and_nothing (int_eq (cast_signed w64 x) (cast_signed w64 y)))
     ∙ compared StandsFor (λ a b. int_eq (cast_signed w64 a) (cast_signed w64 b)) numbers_decide t v u (x ∷ []) (y ∷ []) iv iu (stand_held (contents v) (x ∷ []) sx) (stand_held (contents u) (y ∷ []) sy)
@@ -121,8 +121,8 @@ differ_is (composite vs) (int b) = refl
 differ_is (composite vs) (bool b) = refl
 differ_is (composite vs) (composite us) = refl
 
-module _ (m : Built) (s t : ValueType) (x y : Value) (ix : IsOf s x) (iy : IsOf s y) (w : World) (running words : List ℕ) (n a c pc lo hi b : ℕ) (count : n ≡ width s) (some : 0 < n)
-    (sx : StandIn (contents x) (words_at words a n)) (sy : StandIn (contents y) (words_at words c n)) (at : Pos) (ws : Ways) (env : Env) (k : Then Value)
+module _ (m : Built) (s t : TypeTree) (x y : Value) (ix : IsOf s x) (iy : IsOf s y) (w : World) (running words : List ℕ) (n a c pc lo hi b : ℕ) (count : n ≡ width s) (some : 0 < n)
+    (sx : StandIn (contents x) (words_at words a n)) (sy : StandIn (contents y) (words_at words c n)) (at : Position) (ws : Ways) (env : Env) (k : Then Value)
     (post : (v : Value) (word : ℕ) → IsOf t v → Stands v word → At m running lo hi b (k v w) (pc + 1) (slice_set words a word) w) where
   -- an instruction that tells a truth value
   tells : (i : Instr) (z : Bool) → t ≡ bools → slice_get m.code.instrs pc ≡ Some i

@@ -2,20 +2,20 @@
 use Rattle.std.proofs.Common.{◌≡◌, ℕ, zero, suc, ◌+◌, ◌<◌, ◌≤◌, Bool, true, false, List, [], ◌∷◌, ◌++◌, length, Some, refl, sym, ap, ◌∙◌, subst, arith, append_assoc, append-nil, get_or}
 use Rattle.std.specs.Prelude.{slice_get, slice_index, slice_set, take, replicate, max, None, IfSome, FitsSigned}
 use Rattle.std.specs.Int.{w64}
-use Rattle.value_trees.specs.Value.{Value, int, bool, IsOf, composite, zero_of}
-use Rattle.typed.specs.Syntax.{Pl, Steps, local, global, here as itself, inner, at_index, type_in, type_named, site_type, Ex, Exs, Piece, Func, Program, constant, read, unary, binary, both, either, call, part_of, literal, Elements, no_elements, element, none, more, results, asked, text, shown, wide, ascend_from, ascend, words_before, words_through, gap_behind}
-use Rattle.value_trees.proofs.Parts.{words_count, count_of, part_is, with_part_is}
+use Rattle.typed_syntax.specs.Value.{Value, int, bool, IsOf, composite, zero_of}
+use Rattle.typed_syntax.specs.Syntax.{Pl, Steps, local, global, here as itself, inner, at_index, type_in, type_named, site_type, Ex, Exs, Piece, Func, Program, constant, read, unary, binary, logical_and, logical_or, call, part_of, literal, Elements, no_elements, element, none, more, results, read_int, text, shown, wide, ascend_from, ascend, words_before, words_through, gap_behind}
+use Rattle.value_laws.proofs.Parts.{words_count, count_of, part_is, with_part_is}
 use Rattle.simulated_code.proofs.Numbers.{truth_of}
-use Rattle.typed.specs.Form.{IsPlain, AreOf, IsWord, PlFits, StepsLead, ExFits, ExsFit, ElementsFit, PiecesFit}
-use Rattle.typed.specs.Frames.{far, place_need, steps_need, place_reach, steps_reach, need, need_all, elements_need, need_pieces, reach, reach_all, elements_reach, reach_pieces, outgoing_of, temps_of}
+use Rattle.typed_syntax.specs.Form.{IsPlain, AreOf, IsWord, PlFits, StepsLead, ExFits, ExsFit, ElementsFit, PiecesFit}
+use Rattle.typed_syntax.specs.Frames.{far, place_need, steps_need, place_reach, steps_reach, need, need_all, elements_need, need_pieces, reach, reach_all, elements_reach, reach_pieces, outgoing_of, temps_of}
 use Rattle.meaning.specs.Trace.{World, Asked, Trace, Turn, Note}
 use Rattle.meaning.specs.Operators.{unary_of}
 use Rattle.meaning.specs.Meaning
 use Rattle.meaning.specs.Meaning.{Go, Then, Ways, Calls, Setting, Item, Aim, Step, fixed, worked, only_value}
 use Rattle.isa.specs.declared.instr.Instr.TheVariants.{Const, Jump, JumpZero, ReadInt}
 use Rattle.machine.specs.Machine.{put_words, words_at, item_words}
-use Rattle.simulated_code.specs.Code.{temp, slots_of, binary_code, unary_code, place_above, steps_above, address_code, address_size, fetch_code, place_code, place_size, steps_code, steps_size, moves, gap_code, gap_size, ex_code, exs_code, elements_code, pieces_code, size, exs_size, elements_size, pieces_size, call_code, call_size, word_of}
-use Rattle.simulated_code.proofs.Sizes.{length_gap, length_address, length_place, place_sum, length_code, length_exs}
+use Rattle.program_code.specs.Code.{temp, slots_of, binary_code, unary_code, place_above, steps_above, address_code, address_size, fetch_code, place_code, place_size, steps_code, steps_size, moves, gap_code, gap_size, ex_code, exs_code, elements_code, pieces_code, size, exs_size, elements_size, pieces_size, call_code, call_size, word_of}
+use Rattle.program_code.proofs.Sizes.{length_gap, length_address, length_place, place_sum, length_code, length_exs}
 use Rattle.simulated_code.proofs.Frames.{Built, Stands, Frame, hold, numbers, Good, good_read, StandIn, StandsFor, contents_of, nothing, wide_of}
 use Rattle.simulated_code.proofs.Changes.{one_more, temp_set, temps_put, value_put, fewer, held_word, held_room, held_stand}
 use Rattle.simulated_code.proofs.Composites.{as_values, zero_stands, zero_behind, part_within, behind_part, in_order, gap_fits, before_fits, UpTo, up_to_wide, up_to_end, up_to_front, up_to_part, part_put, part_room, part_stand, gap_follows}
@@ -27,19 +27,19 @@ use Rattle.simulated_code.proofs.OperatorsFollow.{operates_one}
 use Rattle.simulated_code.proofs.EqualityFollows.{both_operate}
 use Rattle.simulated_code.proofs.ConditionsFollow.{goes_on, goes_to}
 use Rattle.simulated_code.proofs.LinesFollow.{piece_types, texts}
-use Rattle.simulated_code.proofs.Wide.{AllPlain, place_is_of, plain_one, plain_value, takes_gives, takes_some, takes_one, wide_is}
-use Rattle.value_trees.specs.Types.{ValueType, bools, ints, width, part_type, part_offset}
-use Rattle.value_trees.specs.Paths.{part, with_part}
-use Rattle.value_trees.proofs.Zeros.{zero_is}
-use Rattle.value_trees.specs.Words.{contents}
+use Rattle.program_code.proofs.Wide.{AllPlain, place_is_of, plain_one, plain_value, takes_gives, takes_some, takes_one, wide_is}
+use Rattle.typed_syntax.specs.Types.{TypeTree, bools, ints, width, part_type, part_offset}
+use Rattle.typed_syntax.specs.Paths.{part, with_part}
+use Rattle.value_laws.proofs.Zeros.{zero_is}
+use Rattle.typed_syntax.specs.Words.{contents}
 
 -- the one value of a call with one result
-single : (t : ValueType) (rs : List Value) → AreOf (t ∷ []) rs → rs ≡ only_value rs ∷ []
+single : (t : TypeTree) (rs : List Value) → AreOf (t ∷ []) rs → rs ≡ only_value rs ∷ []
 single t [] are = absurd are
 single t (r ∷ []) are = refl
 single t (r ∷ q ∷ rs) are = absurd are.1
 
-only_of : (t : ValueType) (rs : List Value) → AreOf (t ∷ []) rs → IsOf t (only_value rs)
+only_of : (t : TypeTree) (rs : List Value) → AreOf (t ∷ []) rs → IsOf t (only_value rs)
 only_of t [] are = absurd are
 only_of t (r ∷ rs) are = are.0
 
@@ -54,7 +54,7 @@ word_one (bool x) is = refl
 word_one (composite vs) is = absurd is
 
 -- what `readInt` gives
-pub asked_fits : (p : Program) (scope : List ℕ) (ts : List ValueType) → ExsFit p scope ts asked → ts ≡ ints ∷ bools ∷ []
+pub asked_fits : (p : Program) (scope : List ℕ) (ts : List TypeTree) → ExsFit p scope ts read_int → ts ≡ ints ∷ bools ∷ []
 asked_fits p scope [] fit = fit
 asked_fits p scope (t ∷ ts) fit = fit
 
@@ -83,13 +83,13 @@ item_stands : (item : Item) → IfSome item (FitsSigned w64) → StandIn (conten
 item_stands item fits = record { long = item_long item; each = item_each item fits }
 
 -- the last call of some expressions
-pub last_fits : (p : Program) (scope : List ℕ) (ts : List ValueType) (f : ℕ) (es : Exs) → ExsFit p scope ts (results f es) → (func : Func) × (slice_get p.funcs f ≡ Some func) × (func.results ≡ ts) × ExsFit p scope func.param_types es
+pub last_fits : (p : Program) (scope : List ℕ) (ts : List TypeTree) (f : ℕ) (es : Exs) → ExsFit p scope ts (results f es) → (func : Func) × (slice_get p.funcs f ≡ Some func) × (func.results ≡ ts) × ExsFit p scope func.param_types es
 last_fits p scope [] f es fit = fit
 last_fits p scope (t ∷ ts) f es fit = fit
 
 module _ (m : Built) where
   -- the words of a value are among the temps that working it out needs
-  pub wide_need : (scope : List ℕ) (t : ValueType) (e : Ex) → ExFits m.program scope t e → width t ≤ need m.program e
+  pub wide_need : (scope : List ℕ) (t : TypeTree) (e : Ex) → ExFits m.program scope t e → width t ≤ need m.program e
   wide_need scope t (constant (int z)) fit = let l = wide_is m.program scope t (constant (int z)) fit in omega (arith, l)
   wide_need scope t (constant (bool b)) fit = let l = wide_is m.program scope t (constant (bool b)) fit in omega (arith, l)
   wide_need scope t (constant (composite vs)) fit = absurd fit.1
@@ -97,21 +97,21 @@ module _ (m : Built) where
   wide_need scope t (unary op e) fit = wide_need scope t e fit.1
   wide_need scope t (binary at op a b) fit =
       let one = plain_one t (takes_gives op fit.0 t fit.1) in let some = takes_some op fit.0 t fit.1 in let l = wide_need scope fit.0 a fit.2 in omega arith
-  wide_need scope t (both a b) fit = let l = wide_need scope bools a fit.1 in let e = ap width fit.0 in omega arith
-  wide_need scope t (either a b) fit = let l = wide_need scope bools a fit.1 in let e = ap width fit.0 in omega arith
+  wide_need scope t (logical_and a b) fit = let l = wide_need scope bools a fit.1 in let e = ap width fit.0 in omega arith
+  wide_need scope t (logical_or a b) fit = let l = wide_need scope bools a fit.1 in let e = ap width fit.0 in omega arith
   wide_need scope t (call f es) fit = let r = wide_is m.program scope t (call f es) fit in omega (arith, r)
   wide_need scope t (part_of n i e) fit = let s = type_named m.program n in let l = wide_need scope s e fit.3 in let e = ap width fit.1 in let r = part_within s i fit.0 in omega arith
   wide_need scope t (literal n es) fit = let e = ap width fit.0 in omega arith
 
-  pub some_need : (scope : List ℕ) (t : ValueType) (e : Ex) → 0 < width t → ExFits m.program scope t e → 0 < need m.program e
+  pub some_need : (scope : List ℕ) (t : TypeTree) (e : Ex) → 0 < width t → ExFits m.program scope t e → 0 < need m.program e
   some_need scope t e some fit = let l = wide_need scope t e fit in omega arith
 
   -- the first temp of a number or a truth value is there
-  plain_need : (scope : List ℕ) (t : ValueType) (e : Ex) → IsPlain t → ExFits m.program scope t e → 0 < need m.program e
+  plain_need : (scope : List ℕ) (t : TypeTree) (e : Ex) → IsPlain t → ExFits m.program scope t e → 0 < need m.program e
   plain_need scope t e plain fit = let one = plain_one t plain in some_need scope t e (omega arith) fit
 
   module _ (around : Setting) (types : around.types ≡ m.program.types) (inputs : around.items ≡ m.items) (callees : Calls) (n : ℕ) (cf : CallsFollow m callees n) where
-    -- behind the first operand of `&&`, and of `||`, which is in its temp; where it decides, the turn has an instruction to spare
+    -- after the first operand of `&&`, and of `||`, which is in its temp; where it decides, the turn has an instruction to spare
     both_end : (x : Value) (g : Go) (c : Frame) (calls : List Frame) (ws : Ways) (k : Then Value) (w : World) (words : List ℕ) (h goal pc lo b : ℕ) → slice_get m.code.instrs pc ≡ Some (JumpZero (temp (slots_of m.program c.func) h) goal)
         → wide_of c.held ≡ h → IsOf bools x → Good m (hold c (c.held ++ x ∷ []) ∷ calls) w words → At m (numbers (c ∷ calls)) lo 0 b (g w) (pc + 1) words w
         → (Good m (hold c (c.held ++ bool false ∷ []) ∷ calls) w words → At m (numbers (c ∷ calls)) (suc lo) 0 b (k (bool false) w) goal words w)
@@ -152,7 +152,7 @@ module _ (m : Built) where
 
     mutual
       -- the last turn of an evaluation has an instruction to spare, for what a literal does with an element
-      pub ev_pays : (e : Ex) (t : ValueType) (c : Frame) (calls : List Frame) (ws : Ways) (k : Then Value) (w : World) (words : List ℕ) (h pc lo b : ℕ) → b ≤ suc n → wide_of c.held ≡ h → Panics ws → Standing m.code c.fn pc (ex_code m.program (slots_of m.program c.func) e h pc)
+      pub ev_pays : (e : Ex) (t : TypeTree) (c : Frame) (calls : List Frame) (ws : Ways) (k : Then Value) (w : World) (words : List ℕ) (h pc lo b : ℕ) → b ≤ suc n → wide_of c.held ≡ h → Panics ws → Standing m.code c.fn pc (ex_code m.program (slots_of m.program c.func) e h pc)
           → ExFits m.program c.scope t e → h + need m.program e ≤ temps_of m.program c.func → reach m.program e ≤ outgoing_of m.program c.func → Good m (c ∷ calls) w words
           → ((v : Value) (w1 : World) (words1 : List ℕ) → IsOf t v → Good m (hold c (c.held ++ v ∷ []) ∷ calls) w1 words1 → At m (numbers (c ∷ calls)) (suc lo) 0 b (k v w1) (pc + size m.program e) words1 w1)
           → At m (numbers (c ∷ calls)) lo 0 b (Meaning.ev around callees e ws c.env k w) pc words w
@@ -201,7 +201,7 @@ module _ (m : Built) where
           (held_stand m c calls w2 words2 c.held [] x h n hh long under) (held_stand m c calls w2 words2 (c.held ++ x ∷ []) [] y (h + n) n (one_more c.held x h n hh long) (count_of fit.0 y iy ∙ sym count) g2) at ws c.env _ (λ v word iv sv.
           seen m _ (place_is m (let e : pc + (na + nd + 1) ≡ pc + na + nd + 1 = omega arith in e)
           (post v w2 (slice_set words2 (temp s h) word) iv (temp_set m c calls w2 words2 h word v hh (omega arith) (count_of t v iv ∙ one) sv (fewer m c calls w2 words2 c.held (x ∷ []) under))))) o fit.1 stops has_i.0.0)))))
-      ev_pays (both a d) t c calls ws k w words h pc lo b le hh stops has fit enough reaches g post =
+      ev_pays (logical_and a d) t c calls ws k w words h pc lo b le hh stops has fit enough reaches g post =
           let s = slots_of m.program c.func in let na = size m.program a in let nd = size m.program d in
           let ca = ex_code m.program s a h pc in let cd = ex_code m.program s d h (pc + na + 1) in let i = JumpZero (temp s h) (pc + na + 1 + nd) in
           let has_i = back m.code c.fn pc na ca (i ∷ cd) (length_code m.program s a h pc) has in
@@ -210,7 +210,7 @@ module _ (m : Built) where
           (ev_pays d bools c calls ws k w1 words1 h (pc + na + 1) lo b le hh stops has_i.1 fit.2 (omega arith) (omega arith) (fewer m c calls w1 words1 c.held (x ∷ []) g1) (λ v w2 words2 iv g2.
           place_is m (let e : pc + (na + 1 + nd) ≡ pc + na + 1 + nd = omega arith in e) (post v w2 words2 (subst (λ u. IsOf u v) (sym fit.0) iv) g2)))
           (λ g2. place_is m (let e : pc + (na + 1 + nd) ≡ pc + na + 1 + nd = omega arith in e) (post (bool false) w1 words1 (truth_of t false fit.0) g2))))
-      ev_pays (either a d) t c calls ws k w words h pc lo b le hh stops has fit enough reaches g post =
+      ev_pays (logical_or a d) t c calls ws k w words h pc lo b le hh stops has fit enough reaches g post =
           let s = slots_of m.program c.func in let na = size m.program a in let nd = size m.program d in
           let ca = ex_code m.program s a h pc in let cd = ex_code m.program s d h (pc + na + 2) in let i = JumpZero (temp s h) (pc + na + 2) in let j = Jump (pc + na + 2 + nd) in
           let has_i = back m.code c.fn pc na ca (i ∷ j ∷ cd) (length_code m.program s a h pc) has in
@@ -249,7 +249,7 @@ module _ (m : Built) where
           let words1 = put_words words (temp s h) xs in let count = zero_is u in
           let g1 = value_put m c calls w words xs h n zero hh (count_of u zero (zero_is u)) (omega arith) (zero_stands u) g in
           let typed = λ (y : Value) (iy : IsOf u y). subst (λ r. IsOf r y) fit.0 iy in
-          subst (λ (those : List ValueType). At m (numbers (c ∷ calls)) lo 0 b (Turn (Meaning.fill around callees es (zero_of (type_in those number)) ws c.env (Meaning.give ws k) w)) pc words w) (sym types)
+          subst (λ (those : List TypeTree). At m (numbers (c ∷ calls)) lo 0 b (Turn (Meaning.fill around callees es (zero_of (type_in those number)) ws c.env (Meaning.give ws k) w)) pc words w) (sym types)
           (turned m {lo1 = suc (suc lo)} (omega arith)
           (later m {lo = suc (suc lo)} {hi = 1} {b = b} (omega arith) (omega arith) (omega arith)
           (words_zeroed m {lo = suc lo} {hi = 0} n (temp s h) has.0.0 some (omega arith)
@@ -262,8 +262,8 @@ module _ (m : Built) where
           seen m _ (place_is m (let q : pc + (1 + elements_size m.program u (ascend es) es) ≡ pc + 1 + elements_size m.program u (ascend es) es = omega arith in q)
           (post y w1 words2 (typed y iy) g2)))))))
 
-      -- the operands of a place, and room for so many words behind them
-      pub place_follows : (q : Pl) (t : ValueType) (behind others : ℕ) (c : Frame) (calls : List Frame) (ws : Ways) (k : Then Aim) (w : World) (words : List ℕ) (h pc lo b : ℕ) → b ≤ suc n → wide_of c.held ≡ h → Panics ws → Standing m.code c.fn pc (place_code m.program (slots_of m.program c.func) q h pc)
+      -- the operands of a place, and room for some words after them
+      pub place_follows : (q : Pl) (t : TypeTree) (behind others : ℕ) (c : Frame) (calls : List Frame) (ws : Ways) (k : Then Aim) (w : World) (words : List ℕ) (h pc lo b : ℕ) → b ≤ suc n → wide_of c.held ≡ h → Panics ws → Standing m.code c.fn pc (place_code m.program (slots_of m.program c.func) q h pc)
           → PlFits m.program c.scope t q → h + place_need m.program q behind ≤ temps_of m.program c.func → place_reach m.program q others ≤ outgoing_of m.program c.func → Good m (c ∷ calls) w words
           → ((vs : List Value) (w1 : World) (words1 : List ℕ) → Operands (steps_of q) vs → wide_of (c.held ++ vs) ≡ place_above q h → place_above q h + behind ≤ temps_of m.program c.func → Good m (hold c (c.held ++ vs) ∷ calls) w1 words1
           → At m (numbers (c ∷ calls)) lo 0 b (k (aimed c.env q vs) w1) (pc + place_size m.program q 0) words1 w1)
@@ -275,7 +275,7 @@ module _ (m : Built) where
       place_follows (global g0 (inner i steps)) t behind others c calls ws k w words h pc lo b le hh stops has fit enough reaches g post = absurd fit
       place_follows (global g0 (at_index at e x steps)) t behind others c calls ws k w words h pc lo b le hh stops has fit enough reaches g post = absurd fit
 
-      steps_follow : (steps : Steps) (u t : ValueType) (behind others : ℕ) (c : Frame) (calls : List Frame) (ws : Ways) (k : Then (List Step)) (w : World) (words : List ℕ) (h pc lo b : ℕ) → b ≤ suc n → wide_of c.held ≡ h → Panics ws → Standing m.code c.fn pc (steps_code m.program (slots_of m.program c.func) steps h pc)
+      steps_follow : (steps : Steps) (u t : TypeTree) (behind others : ℕ) (c : Frame) (calls : List Frame) (ws : Ways) (k : Then (List Step)) (w : World) (words : List ℕ) (h pc lo b : ℕ) → b ≤ suc n → wide_of c.held ≡ h → Panics ws → Standing m.code c.fn pc (steps_code m.program (slots_of m.program c.func) steps h pc)
           → StepsLead m.program c.scope u steps t → h + steps_need m.program steps behind ≤ temps_of m.program c.func → steps_reach m.program steps others ≤ outgoing_of m.program c.func → Good m (c ∷ calls) w words
           → ((vs : List Value) (w1 : World) (words1 : List ℕ) → Operands steps vs → wide_of (c.held ++ vs) ≡ steps_above steps h → steps_above steps h + behind ≤ temps_of m.program c.func → Good m (hold c (c.held ++ vs) ∷ calls) w1 words1
           → At m (numbers (c ∷ calls)) lo 0 b (k (steps_with steps vs) w1) (pc + steps_size m.program steps 0) words1 w1)
@@ -293,8 +293,8 @@ module _ (m : Built) where
           place_is m (let q : pc + (ne + steps_size m.program steps 0) ≡ pc + ne + steps_size m.program steps 0 = omega arith in q)
           (post (v ∷ vs) w2 words2 (iv, given) (ap wide_of (sym (append_assoc c.held (v ∷ []) vs)) ∙ above) room (subst (λ l. Good m (hold c l ∷ calls) w2 words2) (append_assoc c.held (v ∷ []) vs) g2)))))
 
-      -- elements in order: what lies before the first of them stands, and behind that the value is zero
-      placed_follow : (es : Elements) (first : ℕ) (t : ValueType) (x : Value) (c : Frame) (held : List Value) (calls : List Frame) (ws : Ways) (k : Then Value) (w : World) (words : List ℕ) (h pc lo b : ℕ) → b ≤ suc n → wide_of held ≡ h → Panics ws
+      -- elements in order: what lies before the first of them stands, and after that the value is zero
+      placed_follow : (es : Elements) (first : ℕ) (t : TypeTree) (x : Value) (c : Frame) (held : List Value) (calls : List Frame) (ws : Ways) (k : Then Value) (w : World) (words : List ℕ) (h pc lo b : ℕ) → b ≤ suc n → wide_of held ≡ h → Panics ws
           → Standing m.code c.fn pc (elements_code m.program (slots_of m.program c.func) t true es h pc) → ascend_from first es ≡ true → (ix : IsOf t x) → ((j : ℕ) → words_before t es ≤ j → j < width t → StandsFor (get_or (contents x) j nothing) 0) → ElementsFit m.program c.scope t es
           → h + max (width t) (elements_need m.program t true es) ≤ temps_of m.program c.func → elements_reach m.program es ≤ outgoing_of m.program c.func → UpTo m c calls w held t x ix (words_before t es) words
           → ((y : Value) (w1 : World) (words1 : List ℕ) → IsOf t y → Good m (hold c (held ++ y ∷ []) ∷ calls) w1 words1 → At m (numbers (c ∷ calls)) lo 0 b (k y w1) (pc + elements_size m.program t true es) words1 w1)
@@ -319,8 +319,8 @@ module _ (m : Built) where
           placed_follow es (suc i) t y c held calls (Meaning.holding ws v) k w1 words2 h next lo b le hh stops has_r (in_order first i e es order).1 iy (λ j from l. zero j (omega arith) l) fit.3 (omega arith) (omega arith) g2 (λ z w2 words3 iz g3.
           place_is m (let q : pc + (ne + (gap_size gap + elements_size m.program t true es)) ≡ next + elements_size m.program t true es = omega arith in q) (post z w2 words3 iz g3))))
 
-      -- elements in another order: each is worked out behind the value, and its words go to their place
-      moved_follow : (es : Elements) (t : ValueType) (x : Value) (c : Frame) (held : List Value) (calls : List Frame) (ws : Ways) (k : Then Value) (w : World) (words : List ℕ) (h pc lo b : ℕ) → b ≤ suc n → wide_of held ≡ h → Panics ws
+      -- elements in another order: each is worked out after the value, and its words go to their place
+      moved_follow : (es : Elements) (t : TypeTree) (x : Value) (c : Frame) (held : List Value) (calls : List Frame) (ws : Ways) (k : Then Value) (w : World) (words : List ℕ) (h pc lo b : ℕ) → b ≤ suc n → wide_of held ≡ h → Panics ws
           → Standing m.code c.fn pc (elements_code m.program (slots_of m.program c.func) t false es h pc) → IsOf t x → ElementsFit m.program c.scope t es
           → h + max (width t) (elements_need m.program t false es) ≤ temps_of m.program c.func → elements_reach m.program es ≤ outgoing_of m.program c.func → Good m (hold c (held ++ x ∷ []) ∷ calls) w words
           → ((y : Value) (w1 : World) (words1 : List ℕ) → IsOf t y → Good m (hold c (held ++ y ∷ []) ∷ calls) w1 words1 → At m (numbers (c ∷ calls)) lo 0 b (k y w1) (pc + elements_size m.program t false es) words1 w1)
@@ -343,7 +343,7 @@ module _ (m : Built) where
           (part_put m c calls w1 words1 xs held h t x v i hh fit.0 ix iv stand (fewer m c calls w1 words1 (held ++ x ∷ []) (v ∷ []) g1)) (λ z w2 words3 iz g3.
           place_is m (let q : pc + (ne + (1 + elements_size m.program t false es)) ≡ pc + ne + 1 + elements_size m.program t false es = omega arith in q) (post z w2 words3 iz g3)))))
 
-      pub evs_follow : (es : Exs) (ts : List ValueType) (c : Frame) (calls : List Frame) (ws : Ways) (k : Then (List Value)) (w : World) (words : List ℕ) (h pc lo b : ℕ) → b ≤ suc n → wide_of c.held ≡ h → Panics ws → Standing m.code c.fn pc (exs_code m.program (slots_of m.program c.func) es h pc)
+      pub evs_follow : (es : Exs) (ts : List TypeTree) (c : Frame) (calls : List Frame) (ws : Ways) (k : Then (List Value)) (w : World) (words : List ℕ) (h pc lo b : ℕ) → b ≤ suc n → wide_of c.held ≡ h → Panics ws → Standing m.code c.fn pc (exs_code m.program (slots_of m.program c.func) es h pc)
           → ExsFit m.program c.scope ts es → h + need_all m.program es ≤ temps_of m.program c.func → reach_all m.program es ≤ outgoing_of m.program c.func → Good m (c ∷ calls) w words
           → ((vs : List Value) (w1 : World) (words1 : List ℕ) → AreOf ts vs → Good m (hold c (c.held ++ vs) ∷ calls) w1 words1 → At m (numbers (c ∷ calls)) lo 0 b (k vs w1) (pc + exs_size m.program es) words1 w1)
           → At m (numbers (c ∷ calls)) lo 0 b (Meaning.evs around callees es ws c.env k w) pc words w
@@ -358,7 +358,7 @@ module _ (m : Built) where
           evs_follow es ts (hold c (c.held ++ v ∷ [])) calls (Meaning.holding ws v) _ w1 words1 (h + wide m.program e) (pc + ne) lo b le (one_more c.held v h (wide m.program e) hh (count_of t v iv ∙ sym lw)) stops (back m.code c.fn pc ne ce ces (length_code m.program s e h pc) has) fit.1 (omega arith) (omega arith) g1 (λ vs w2 words2 are g2.
           place_is m (let q : pc + (ne + nes) ≡ pc + ne + nes = omega arith in q)
           (post (v ∷ vs) w2 words2 (iv, are) (subst (λ l. Good m (hold c l ∷ calls) w2 words2) (append_assoc c.held (v ∷ []) vs) g2)))))
-      evs_follow asked ts c calls ws k w words h pc lo b le hh stops has fit enough reaches g post =
+      evs_follow read_int ts c calls ws k w words h pc lo b le hh stops has fit enough reaches g post =
           let two : ts ≡ ints ∷ bools ∷ [] = asked_fits m.program c.scope ts fit in
           item_read c calls ws k w words h pc lo b hh has enough g (λ vs w1 words1 are g1. post vs w1 words1 (subst (λ us. AreOf us vs) (sym two) are) g1)
       evs_follow (results f es) ts c calls ws k w words h pc lo b le hh stops has fit enough reaches g post =
@@ -372,7 +372,7 @@ module _ (m : Built) where
           (seen m _ (place_is m (let e : pc + (nes + call_size m.program f) ≡ pc + nes + call_size m.program f = omega arith in e)
           (post rs w2 words2 (subst (λ us. AreOf us rs) last.2 some) g2)))))
 
-    pub ev_follows : (e : Ex) (t : ValueType) (c : Frame) (calls : List Frame) (ws : Ways) (k : Then Value) (w : World) (words : List ℕ) (h pc lo b : ℕ) → b ≤ suc n → wide_of c.held ≡ h → Panics ws → Standing m.code c.fn pc (ex_code m.program (slots_of m.program c.func) e h pc)
+    pub ev_follows : (e : Ex) (t : TypeTree) (c : Frame) (calls : List Frame) (ws : Ways) (k : Then Value) (w : World) (words : List ℕ) (h pc lo b : ℕ) → b ≤ suc n → wide_of c.held ≡ h → Panics ws → Standing m.code c.fn pc (ex_code m.program (slots_of m.program c.func) e h pc)
         → ExFits m.program c.scope t e → h + need m.program e ≤ temps_of m.program c.func → reach m.program e ≤ outgoing_of m.program c.func → Good m (c ∷ calls) w words
         → ((v : Value) (w1 : World) (words1 : List ℕ) → IsOf t v → Good m (hold c (c.held ++ v ∷ []) ∷ calls) w1 words1 → At m (numbers (c ∷ calls)) lo 0 b (k v w1) (pc + size m.program e) words1 w1)
         → At m (numbers (c ∷ calls)) lo 0 b (Meaning.ev around callees e ws c.env k w) pc words w

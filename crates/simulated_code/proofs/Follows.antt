@@ -1,17 +1,17 @@
 -- The machine follows a program.
 use Rattle.std.proofs.Common.{◌≡◌, inl, inr, ℕ, zero, suc, ◌+◌, ◌-◌, ◌^◌, ◌<◌, ◌≤◌, Bool, true, false, List, [], ◌∷◌, ◌++◌, length, Option, Some, None, refl, sym, ap, ◌∙◌, subst, arith, get_or}
 use Rattle.std.specs.Prelude.{slice_get, slice_index, nat_le, replicate, if◌then◌else◌}
-use Rattle.value_trees.specs.Value.{Value, IsOf}
+use Rattle.typed_syntax.specs.Value.{Value, IsOf}
 use Rattle.std.proofs.lemmas.List.{length-map}
 use Rattle.std.proofs.lemmas.Bool.{leb-true}
 use Rattle.std.proofs.lemmas.Option.{slice_get-get_or}
-use Rattle.typed.specs.Syntax.{Func, Program, argument_words, result_words, global_type, site_type, all_width, each_width}
+use Rattle.typed_syntax.specs.Syntax.{Func, Program, argument_words, result_words, global_type, site_type, all_width, each_width}
 use Rattle.std.proofs.lemmas.List.{nil_from_length}
-use Rattle.value_trees.specs.Words.{contents}
-use Rattle.value_trees.proofs.Zeros.{zero_is as zero_is_of}
-use Rattle.typed.specs.Form.{IsWord, AreOf, InScope, SitesNext, FuncFits, GlobalFits, IsInForm, ParamsFit, named_params, scope_with, params_scope, scope_in, body_first, breaks_all, ends_all}
-use Rattle.typed.specs.Placement.{on_heap}
-use Rattle.typed.specs.Frames.{frame_in, frame_of, widest, temps_of}
+use Rattle.typed_syntax.specs.Words.{contents}
+use Rattle.value_laws.proofs.Zeros.{zero_is as zero_is_of}
+use Rattle.typed_syntax.specs.Form.{IsWord, AreOf, InScope, SitesNext, FuncFits, GlobalFits, IsInForm, ParamsFit, named_params, scope_with, params_scope, scope_in, body_first, breaks_all, ends_all}
+use Rattle.typed_syntax.specs.Placement.{on_heap}
+use Rattle.typed_syntax.specs.Frames.{frame_in, frame_of, widest, temps_of}
 use Rattle.meaning.specs.Trace.{Ending, Exit, StackLimit, World}
 use Rattle.meaning.specs.Store.{value_of}
 use Rattle.meaning.specs.Meaning
@@ -25,12 +25,12 @@ use Rattle.heap_bump.specs.Words.{Words}
 use Rattle.isa.specs.Code.{Tables}
 use Rattle.isa.specs.declared.instr.Instr.{Instr}
 use Rattle.machine.specs.Machine.{Event, act, owner_of}
-use Rattle.machine.specs.declared.place.Ending.{Ending as Stop}
-use Rattle.machine.specs.declared.place.Ending.TheVariants.{StackLimit as Limit, HeapLimit as Full}
-use Rattle.simulated_code.specs.Code.{word_of, slots_of, params_code, zeros_code, params_size, entry_code, entry_size, sts_code, sts_size, leave_code, values_code, func_code}
+use Rattle.machine.specs.declared.run_state.Ending.{Ending as Stop}
+use Rattle.machine.specs.declared.run_state.Ending.TheVariants.{StackLimit as Limit, HeapLimit as Full}
+use Rattle.program_code.specs.Code.{word_of, slots_of, params_code, zeros_code, params_size, entry_code, entry_size, sts_code, sts_size, leave_code, values_code, func_code}
 use Rattle.simulated_code.specs.Correct.{same_event, same_end, limits, first_words, entered, target, Simulated, AreNumbers}
-use Rattle.simulated_code.proofs.Sizes.{length_params, length_entry, length_sts, length_func}
-use Rattle.simulated_code.proofs.Compiled.{Placed, Compiled}
+use Rattle.program_code.proofs.Sizes.{length_params, length_entry, length_sts, length_func}
+use Rattle.program_code.proofs.Compiled.{Placed, Compiled}
 use Rattle.simulated_code.proofs.Frames.{Built, Stands, AreAt, Frame, placed, fresh, numbers, depth, room_of, Good, moved_back, StandIn, of_length, wide_of}
 use Rattle.simulated_code.proofs.Changes.{first_frame}
 use Rattle.simulated_code.proofs.Composites.{zero_stands}
@@ -45,7 +45,7 @@ use Rattle.simulated_code.proofs.LeftsFollow.{named_next, zeros_follow}
 use Rattle.simulated_code.proofs.Leading.{Leads}
 use Rattle.simulated_code.proofs.StatementsFollow.{all_follow}
 use Rattle.simulated_code.proofs.EntriesFollow.{params_follow}
-use Rattle.value_trees.specs.Types.{ValueType, width}
+use Rattle.typed_syntax.specs.Types.{TypeTree, width}
 
 -- results with names are in scope at the beginning of a body
 named_in : (scope sites : List ℕ) (v : ℕ) → InScope v sites → InScope v (scope_with scope sites)
@@ -53,7 +53,7 @@ named_in scope [] v i = absurd i
 named_in scope (site ∷ sites) v (inl e) = with_has (site ∷ scope) sites v (inl e)
 named_in scope (site ∷ sites) v (inr i) = named_in (site ∷ scope) sites v i
 
-params_below : (p : Program) (scope : List ℕ) (q : ℕ) (ts : List ValueType) (ps : List (Option ℕ)) → ParamsFit p q ts ps → ((v : ℕ) → InScope v scope → v < q) → (v : ℕ) → InScope v (params_scope scope ps) → v < q + named_params ps
+params_below : (p : Program) (scope : List ℕ) (q : ℕ) (ts : List TypeTree) (ps : List (Option ℕ)) → ParamsFit p q ts ps → ((v : ℕ) → InScope v scope → v < q) → (v : ℕ) → InScope v (params_scope scope ps) → v < q + named_params ps
 params_below p scope q [] [] fit below v i = let l = below v i in omega arith
 params_below p scope q (t ∷ ts) [] fit below v i = absurd fit
 params_below p scope q [] (o ∷ ps) fit below v i = absurd fit
@@ -63,7 +63,7 @@ params_below p scope q (t ∷ ts) (Some site ∷ ps) fit below v i =
     let l = params_below p (site ∷ scope) (suc q) ts ps fit.2 (λ u j. elim j [ inl r ↦ omega arith | inr r ↦ (let k = below u r in omega arith) ]) v i in omega arith
 
 -- no values of no types
-none_of : (ts : List ValueType) → length ts ≡ 0 → AreOf ts []
+none_of : (ts : List TypeTree) → length ts ≡ 0 → AreOf ts []
 none_of [] e = tt
 none_of (t ∷ ts) e = absurd (omega arith)
 

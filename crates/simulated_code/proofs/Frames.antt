@@ -2,25 +2,25 @@
 use Rattle.std.proofs.Common.{◌≡◌, ℕ, ◌+◌, ◌-◌, ◌^◌, ◌<◌, ◌≤◌, false, List, [], ◌∷◌, ◌++◌, length, Some, refl, sym, ◌∙◌, subst, arith, get_or, length-append}
 use Rattle.std.specs.Prelude.{slice_get, slice_index}
 use Rattle.std.specs.Int.{w64, cast_signed}
-use Rattle.value_trees.specs.Types.{ValueType, width}
-use Rattle.value_trees.specs.Value.{Value, IsOf}
-use Rattle.value_trees.specs.Words.{Content, number, truth, contents}
-use Rattle.value_trees.proofs.Parts.{count_of}
-use Rattle.typed.specs.Syntax.{Func, Program, all_width, site_type, global_type}
-use Rattle.typed.specs.Form.{AreOf, IsPlain, InScope, FuncFits}
-use Rattle.typed.specs.Frames.{words_between, outgoing_of, temps_of, frame_of}
-use Rattle.typed.specs.Placement.{on_heap}
+use Rattle.typed_syntax.specs.Types.{TypeTree, width}
+use Rattle.typed_syntax.specs.Value.{Value, IsOf}
+use Rattle.typed_syntax.specs.Words.{Content, number, truth, contents}
+use Rattle.value_laws.proofs.Parts.{count_of}
+use Rattle.typed_syntax.specs.Syntax.{Func, Program, all_width, site_type, global_type}
+use Rattle.typed_syntax.specs.Form.{AreOf, IsPlain, InScope, FuncFits}
+use Rattle.typed_syntax.specs.Frames.{words_between, outgoing_of, temps_of, frame_of}
+use Rattle.typed_syntax.specs.Placement.{on_heap}
 use Rattle.meaning.specs.Trace.{World}
 use Rattle.meaning.specs.Store.{value_of}
 use Rattle.meaning.specs.Meaning.{Env, Item, with_home}
 use Rattle.isa.specs.Bin.{bit_of}
 use Rattle.isa.specs.Code.{Tables}
 use Rattle.machine.specs.Machine.{address_of}
-use Rattle.simulated_code.specs.Code.{site_slot, slots_of}
+use Rattle.program_code.specs.Code.{site_slot, slots_of}
 use Rattle.simulated_code.specs.Correct.{AreNumbers}
-use Rattle.simulated_code.proofs.Compiled.{Compiled}
+use Rattle.program_code.proofs.Compiled.{Compiled}
 use Rattle.simulated_code.proofs.Distances.{word_at}
-use Rattle.simulated_code.proofs.Sites.{site_within}
+use Rattle.program_code.proofs.Sites.{site_within}
 
 -- A program in form, its code, the most words that the stack and the heap may have, and the items of the input. The package
 -- variables have room in the heap, and no site of a function is theirs.
@@ -66,7 +66,7 @@ abbrev pub wide_of : List Value → ℕ
 wide_of vs = length (contents_of vs)
 
 -- values of types have as many words as the types say
-pub of_length : (ts : List ValueType) (vs : List Value) → AreOf ts vs → wide_of vs ≡ all_width ts
+pub of_length : (ts : List TypeTree) (vs : List Value) → AreOf ts vs → wide_of vs ≡ all_width ts
 of_length [] [] are = refl
 of_length (t ∷ ts) (v ∷ vs) are = omega (arith, length-append (contents v) (contents_of vs), count_of t v are.0, of_length ts vs are.1)
 of_length [] (v ∷ vs) are = absurd are
@@ -155,7 +155,7 @@ module _ (m : Built) where
   link_of (c ∷ calls) = address_of m.max (depth calls)
 
   -- A frame below those of these calls. Its variables are among those from its entry to the entry of the next inner call, and
-  -- behind those of the package.
+  -- after those of the package.
   pub record Level (top : ℕ) (c : Frame) (calls : List Frame) (w : World) (words : List ℕ) : Type 0 where
     pub named : slice_get m.program.funcs c.fn ≡ Some c.func
     pub room : wide_of c.held ≤ temps_of m.program c.func

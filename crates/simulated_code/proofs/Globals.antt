@@ -3,10 +3,10 @@ use Rattle.std.proofs.Common.{◌≡◌, inl, inr, ℕ, suc, ◌+◌, ◌-◌, �
 use Rattle.std.specs.Prelude.{None, slice_get, slice_index, slice_set, nat_le, ◌==◌, ◌&&◌, if◌then◌else◌}
 use Rattle.std.proofs.lemmas.Bool.{le-leb}
 use Rattle.std.proofs.lemmas.Bool.Decides.{eqb_tells}
-use Rattle.value_trees.specs.Value.{Value, IsOf}
-use Rattle.typed.specs.Syntax.{Pl, Steps, local, global, here as itself, inner, path_of, global_type, site_type}
-use Rattle.typed.specs.Form.{PlFits}
-use Rattle.typed.specs.Frames.{far, temps_of}
+use Rattle.typed_syntax.specs.Value.{Value, IsOf}
+use Rattle.typed_syntax.specs.Syntax.{Pl, Steps, local, global, here as itself, inner, path_of, global_type, site_type}
+use Rattle.typed_syntax.specs.Form.{PlFits}
+use Rattle.typed_syntax.specs.Frames.{far, temps_of}
 use Rattle.meaning.specs.Trace.{World, Cell, Ending, Trace, Turn}
 use Rattle.meaning.specs.Store.{value_of, written, born}
 use Rattle.meaning.specs.Meaning
@@ -18,20 +18,20 @@ use Rattle.heap_bump.specs.Words.{first_address}
 use Rattle.isa.specs.declared.instr.Instr.TheVariants.{Const, Load, Store}
 use Rattle.machine.specs.declared.memory.Spot.{Spot as Where}
 use Rattle.machine.specs.declared.memory.Spot.TheVariants.{InHeap, InStack, Nowhere}
-use Rattle.machine.specs.declared.place.Ending.{Ending as Stop}
+use Rattle.machine.specs.declared.run_state.Ending.{Ending as Stop}
 use Rattle.machine.specs.Machine.{Event, State, Does, act, act_on, puts_words, put_words, words_at, address_of, address_behind, lie_within, spot_of, reaches_by, loads_from, loads, stores_at, stores}
-use Rattle.simulated_code.specs.Code.{temp, site_slot, part_slot, part_words, slots_of, global_address, read_code, write_code}
+use Rattle.program_code.specs.Code.{temp, site_slot, part_slot, part_words, slots_of, global_address, read_code, write_code}
 use Rattle.simulated_code.specs.Correct.{same_event, same_end}
-use Rattle.value_trees.proofs.Parts.{count_of, leads_to, at_is, within, part_words as words_of_part}
+use Rattle.value_laws.proofs.Parts.{count_of, leads_to, at_is, within, part_words as words_of_part}
 use Rattle.simulated_code.proofs.Distances.{one_word, put_one, read_length, read_index}
-use Rattle.simulated_code.proofs.Sites.{site_within}
+use Rattle.program_code.proofs.Sites.{site_within}
 use Rattle.simulated_code.proofs.Frames.{Built, Stands, stands_same, Frame, hold, Good, StandIn, StandsFor, contents_of, nothing, wide_of}
 use Rattle.simulated_code.proofs.Changes.{born_earlier, change_same, change_other, temp_set, spare_set, held_word, site_word, written_site, written_global, held_value, value_put, wide_joined}
 use Rattle.simulated_code.proofs.Places.{value_same, Standing, Heaps, At, state_at, later, stepped, words_moved}
-use Rattle.value_trees.specs.Types.{ValueType, width}
-use Rattle.value_trees.specs.Paths.{at_path, offset}
-use Rattle.value_trees.specs.Words.{contents}
-use Rattle.simulated_code.proofs.Wide.{plain_one, plain_value}
+use Rattle.typed_syntax.specs.Types.{TypeTree, width}
+use Rattle.typed_syntax.specs.Paths.{at_path, offset}
+use Rattle.typed_syntax.specs.Words.{contents}
+use Rattle.program_code.proofs.Wide.{plain_one, plain_value}
 
 pub not_none : (a : ℕ) → 0 < a → (a == 0) ≡ false
 not_none a some = elim (eqb_tells a 0) [ inl p ↦ (let none = p.1 in absurd (omega arith)) | inr p ↦ p.0 ]

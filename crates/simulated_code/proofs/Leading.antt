@@ -1,13 +1,13 @@
--- What follows statements: what stands behind them, and where a break, a continue, a return and a panic lead.
+-- What follows statements: what stands after them, and where a break, a continue, a return and a panic lead.
 use Rattle.std.proofs.Common.{◌≡◌, ℕ, suc, ◌+◌, ◌≤◌, Bool, true, false, List, ◌∷◌, length, arith}
-use Rattle.value_trees.specs.Value.{Value}
-use Rattle.typed.specs.Syntax.{St, Sts, argument_words}
-use Rattle.typed.specs.Form.{InScope, scope_after, breaks, breaks_all, ends, ends_all, StFits, StsFit}
-use Rattle.typed.specs.Frames.{st_need, sts_need, st_reach, sts_reach, outgoing_of, temps_of}
+use Rattle.typed_syntax.specs.Value.{Value}
+use Rattle.typed_syntax.specs.Syntax.{St, Sts, argument_words}
+use Rattle.typed_syntax.specs.Form.{InScope, scope_after, breaks, breaks_all, ends, ends_all, StFits, StsFit}
+use Rattle.typed_syntax.specs.Frames.{st_need, sts_need, st_reach, sts_reach, outgoing_of, temps_of}
 use Rattle.meaning.specs.Trace.{World}
 use Rattle.meaning.specs.Meaning
 use Rattle.meaning.specs.Meaning.{Env, Go, Ways, Calls, Setting}
-use Rattle.simulated_code.specs.Code.{slots_of, st_code, sts_code, st_size, sts_size}
+use Rattle.program_code.specs.Code.{slots_of, st_code, sts_code, st_size, sts_size}
 use Rattle.simulated_code.proofs.Frames.{Built, Frame, during, numbers, Good, wide_of}
 use Rattle.simulated_code.proofs.Places.{Standing, Panics, At, later}
 use Rattle.simulated_code.proofs.Scopes.{Scoped}

@@ -1,26 +1,26 @@
 -- The machine follows the writing of left sides, whose operands are held, and new variables.
 use Rattle.std.proofs.Common.{◌≡◌, ◌⊎◌, inl, inr, ℕ, suc, ◌+◌, ◌<◌, ◌≤◌, List, [], ◌∷◌, ◌++◌, length, refl, sym, ap, ◌∙◌, subst, arith, append_assoc, append-nil}
 use Rattle.std.specs.Prelude.{replicate}
-use Rattle.value_trees.specs.Value.{Value, IsOf}
-use Rattle.typed.specs.Syntax.{Pl, Steps, here as itself, inner, at_index, Left, Program, blank, new, to, local, global, site_type, each_width}
-use Rattle.typed.specs.Form.{AreOf, InScope, new_sites, AllInScope, PlFits, LeftsFit, SitesNext, NamedFit, scope_behind, scope_with}
-use Rattle.typed.specs.Frames.{far, lefts_far, widest, temps_of}
+use Rattle.typed_syntax.specs.Value.{Value, IsOf}
+use Rattle.typed_syntax.specs.Syntax.{Pl, Steps, here as itself, inner, at_index, Left, Program, blank, new, to, local, global, site_type, each_width}
+use Rattle.typed_syntax.specs.Form.{AreOf, InScope, new_sites, AllInScope, PlFits, LeftsFit, SitesNext, NamedFit, scope_behind, scope_with}
+use Rattle.typed_syntax.specs.Frames.{far, lefts_far, widest, temps_of}
 use Rattle.meaning.specs.Trace.{World, Trace}
 use Rattle.meaning.specs.Store.{value_of, written, born}
 use Rattle.meaning.specs.Meaning
 use Rattle.meaning.specs.Meaning.{Env, Go, Ways, Calls, Setting, Landing, nowhere, birth, on, with_home}
 use Rattle.machine.specs.Machine.{put_words, words_at}
-use Rattle.simulated_code.specs.Code.{temp, site_slot, slots_of, steps_above, place_above, address_code, address_size, land_code, lefts_code, lefts_size, zeros_code, renew_code, renew_size}
-use Rattle.simulated_code.proofs.Sizes.{length_address, length_write}
+use Rattle.program_code.specs.Code.{temp, site_slot, slots_of, steps_above, place_above, address_code, address_size, land_code, lefts_code, lefts_size, zeros_code, renew_code, renew_size}
+use Rattle.program_code.proofs.Sizes.{length_address, length_write}
 use Rattle.simulated_code.proofs.Frames.{Built, Frame, hold, grown, during, numbers, Good, narrowed, StandIn, wide_of}
 use Rattle.simulated_code.proofs.Changes.{home_other, held_room, held_stand, site_room, site_stand, one_more, fewer, born_site, value_put}
 use Rattle.simulated_code.proofs.Places.{Standing, front, back, Panics, At, later, place_is, turned, seen, bore, read_of, write_of, words_moved, words_zeroed}
 use Rattle.simulated_code.proofs.Globals.{born_kept}
 use Rattle.simulated_code.proofs.Reached.{variable_of, steps_of, Operands, aimed, Located, located, held_by, settled_follow, address_at, landed}
-use Rattle.simulated_code.proofs.Sites.{site_within}
-use Rattle.value_trees.specs.Types.{ValueType, ints, width}
-use Rattle.value_trees.specs.Words.{contents}
-use Rattle.value_trees.proofs.Parts.{count_of}
+use Rattle.program_code.proofs.Sites.{site_within}
+use Rattle.typed_syntax.specs.Types.{TypeTree, ints, width}
+use Rattle.typed_syntax.specs.Words.{contents}
+use Rattle.value_laws.proofs.Parts.{count_of}
 
 -- values for the indices of each left side that is a place
 abbrev pub Gives : List Left → List (List Value) → Type 0
@@ -31,7 +31,7 @@ Gives (new site ∷ ls) uss = Gives ls uss
 Gives (to q ∷ ls) [] = ⊥
 Gives (to q ∷ ls) (us ∷ uss) = Operands (steps_of q) us × Gives ls uss
 
--- one behind the other
+-- one after the other
 abbrev pub together : List (List Value) → List Value
 together [] = []
 together (us ∷ uss) = us ++ together uss
@@ -72,20 +72,20 @@ operands_above (local site steps) us h held hh given = steps_operands steps us h
 operands_above (global g steps) us h held hh given = steps_operands steps us h held hh given
 
 module _ (m : Built) (around : Setting) where
-  -- what holds of the sites in scope before the left sides: each comes before the new ones or behind them all
+  -- what holds of the sites in scope before the left sides: each comes before the new ones or after them all
   abbrev pub Kept : List ℕ → (scope : List ℕ) → (first env : Env) → (n top : ℕ) → Type 0
   Kept before scope first env n top = (v : ℕ) → InScope v before → InScope v scope × (env v ≡ first v) × ((v < n) ⊎ (top ≤ v))
 
   -- a place keeps its variable
-  kept_place : (before scope : List ℕ) (first env : Env) (n top : ℕ) (t : ValueType) (p : Pl) → Kept before scope first env n top → PlFits m.program before t p → Located m scope t p × (variable_of env p ≡ variable_of first p)
+  kept_place : (before scope : List ℕ) (first env : Env) (n top : ℕ) (t : TypeTree) (p : Pl) → Kept before scope first env n top → PlFits m.program before t p → Located m scope t p × (variable_of env p ≡ variable_of first p)
   kept_place before scope first env n top t (local site steps) kept fit = let k = kept site fit.0 in let l = located m before t (local site steps) fit in ((k.0, l.1, l.2), k.1)
   kept_place before scope first env n top t (global g itself) kept fit = (fit, refl)
   kept_place before scope first env n top t (global g (inner i steps)) kept fit = absurd fit
   kept_place before scope first env n top t (global g (at_index at e x steps)) kept fit = absurd fit
 
-  -- Operands are in temps from one on, and values in temps from another one on, with others before and behind them. An address
+  -- Operands are in temps from one on, and values in temps from another one on, with others before and after them. An address
   -- goes to temp `at`, which is free.
-  pub lefts_follow : (ls : List Left) (ts : List ValueType) (vs gone tail all : List Value) (uss : List (List Value)) (ahead more : List Value) (c : Frame) (first env : Env) (before scope : List ℕ) (calls : List Frame) (ws : Ways) (k : Env → Go) (w : World) (words : List ℕ) (n top at ho h pc lo b : ℕ) → Panics ws
+  pub lefts_follow : (ls : List Left) (ts : List TypeTree) (vs gone tail all : List Value) (uss : List (List Value)) (ahead more : List Value) (c : Frame) (first env : Env) (before scope : List ℕ) (calls : List Frame) (ws : Ways) (k : Env → Go) (w : World) (words : List ℕ) (n top at ho h pc lo b : ℕ) → Panics ws
       → AreOf ts vs → wide_of gone ≡ h → all ≡ gone ++ (vs ++ tail) → Gives ls uss → wide_of ahead ≡ ho → all ≡ ahead ++ (together uss ++ more) → wide_of all ≡ at
       → Standing m.code c.fn pc (lefts_code (slots_of m.program c.func) (each_width ts) ls ho at h) → LeftsFit m.program before n (c.func.first + c.func.count) ts ls → at + lefts_far ls ≤ temps_of m.program c.func → c.func.first ≤ n → n + new_sites ls ≤ top → Kept before scope first env n top
       → Good m (during c env scope all ∷ calls) w words

@@ -1,11 +1,5 @@
-pub mod Compiled
 pub mod Scopes
-pub mod Sizes
-pub mod Stands
 pub mod Distances
-pub mod Sites
-pub mod Wide
-pub mod Rooms
 pub mod Frames
 pub mod Changes
 pub mod Places

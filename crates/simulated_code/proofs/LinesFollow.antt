@@ -2,25 +2,25 @@
 use Rattle.std.proofs.Common.{◌≡◌, ℕ, suc, ◌+◌, true, false, List, [], ◌∷◌, ◌++◌, length, refl, sym, ap, ◌∙◌, subst, arith, append_assoc, get_or}
 use Rattle.std.specs.Prelude.{slice_get, slice_index, Some}
 use Rattle.std.specs.Fmt.{signed_decimal}
-use Rattle.value_trees.specs.Value.{Value, int, bool, IsOf}
-use Rattle.typed.specs.Syntax.{Piece, text, shown}
-use Rattle.value_trees.specs.Types.{ValueType, ints, bools, struct_of, array_of}
+use Rattle.typed_syntax.specs.Value.{Value, int, bool, IsOf}
+use Rattle.typed_syntax.specs.Syntax.{Piece, text, shown}
+use Rattle.typed_syntax.specs.Types.{TypeTree, ints, bools, struct_of, array_of}
 use Rattle.simulated_code.proofs.Numbers.{no_struct, no_array}
-use Rattle.typed.specs.Form.{IsPlain, AreOf}
+use Rattle.typed_syntax.specs.Form.{IsPlain, AreOf}
 use Rattle.meaning.specs.Trace.{World, Print, Trace, Note}
 use Rattle.meaning.specs.Meaning
 use Rattle.meaning.specs.Meaning.{Go, shown_bytes}
 use Rattle.simulation.specs.Steps.{Goes}
 use Rattle.isa.specs.declared.instr.Instr.TheVariants.{PrintInt, PrintBool, PrintText, PrintSpace, PrintLine}
 use Rattle.machine.specs.Machine.{State, Printed, truth_bytes}
-use Rattle.simulated_code.specs.Code.{temp, slots_of, shown_code, show_more, show_line, show_plain, more_size, shown_size}
+use Rattle.program_code.specs.Code.{temp, slots_of, shown_code, show_more, show_line, show_plain, more_size, shown_size}
 use Rattle.simulated_code.proofs.Frames.{Built, Stands, Frame, hold, numbers, Good, wide_of}
 use Rattle.simulated_code.proofs.Changes.{one_more, held_word}
 use Rattle.simulated_code.proofs.Places.{Standing, At, place_is, turned, printing}
-use Rattle.simulated_code.proofs.Wide.{AllPlain, plain_value}
+use Rattle.program_code.proofs.Wide.{AllPlain, plain_value}
 
 -- the types of the operands that are values
-abbrev pub piece_types : List Piece → List ValueType
+abbrev pub piece_types : List Piece → List TypeTree
 piece_types [] = []
 piece_types (text number ∷ ps) = piece_types ps
 piece_types (shown t e ∷ ps) = t ∷ piece_types ps
@@ -34,7 +34,7 @@ texts strings (shown t e ∷ ps) (v ∷ vs) = shown_bytes v ∷ texts strings ps
 
 module _ (m : Built) where
   -- an operand's value
-  value_printed : {w : World} (t : ValueType) (v : Value) (running : List ℕ) (words : List ℕ) (a pc lo hi b : ℕ) (rest : Trace) → IsPlain t → IsOf t v → slice_get m.code.instrs pc ≡ Some (shown_code t a) → Stands v (slice_index words a)
+  value_printed : {w : World} (t : TypeTree) (v : Value) (running : List ℕ) (words : List ℕ) (a pc lo hi b : ℕ) (rest : Trace) → IsPlain t → IsOf t v → slice_get m.code.instrs pc ≡ Some (shown_code t a) → Stands v (slice_index words a)
       → At m running lo hi b rest (pc + 1) words w → At m running (suc lo) 1 b (Note (Print (shown_bytes v)) rest) pc words w
   value_printed {w} ints (int z) running words a pc lo hi b rest plain typed here stands post =
       printing m {lo = lo} {hi = hi} (PrintInt a) (signed_decimal z) here (λ heap. let s1 : State = record { pc = pc + 1; words = words; reads = w.reads; heap = heap } in ap (λ x. Goes (Printed (signed_decimal x) ∷ []) s1) stands.0) post

@@ -1,19 +1,19 @@
 -- The machine follows statements with others inside, where it follows those.
 use Rattle.std.proofs.Common.{◌≡◌, inl, inr, ℕ, suc, ◌+◌, ◌-◌, ◌≤◌, ℤ, pos, true, false, List, [], ◌∷◌, ◌++◌, length, Option, Some, None, refl, sym, ap, ◌∙◌, subst, arith, append_assoc, append-nil, length-append}
 use Rattle.std.specs.Prelude.{slice_set, ◌&&◌}
-use Rattle.value_trees.specs.Value.{Value, int, IsOf}
-use Rattle.typed.specs.Syntax.{Ex, Left, St, Sts, blank, new, to, over_int, choose, loop, range, done, next, argument_words}
-use Rattle.typed.specs.Form.{TestFits, births, births_all, new_sites, scope_behind, scope_after, breaks, breaks_all, ends, ends_all}
-use Rattle.typed.specs.Frames.{test_need, test_reach, sts_reach, left_far, outgoing_of, temps_of}
+use Rattle.typed_syntax.specs.Value.{Value, int, IsOf}
+use Rattle.typed_syntax.specs.Syntax.{Ex, Left, St, Sts, blank, new, to, over_int, if_stmt, for_stmt, range, done, next, argument_words}
+use Rattle.typed_syntax.specs.Form.{TestFits, births, births_all, new_sites, scope_behind, scope_after, breaks, breaks_all, ends, ends_all}
+use Rattle.typed_syntax.specs.Frames.{test_need, test_reach, sts_reach, left_far, outgoing_of, temps_of}
 use Rattle.meaning.specs.Trace.{World}
 use Rattle.meaning.specs.Meaning
 use Rattle.meaning.specs.Meaning.{Env, Go, Ways, Calls, Setting}
 use Rattle.isa.specs.declared.instr.BinOp.TheVariants as Word
 use Rattle.isa.specs.declared.instr.Instr.{Instr}
 use Rattle.isa.specs.declared.instr.Instr.TheVariants.{Const, Bin, Jump, JumpZero}
-use Rattle.simulated_code.specs.Code.{temp, slots_of, lefts_above, ready_code, lefts_sized, ex_code, test_code, lefts_code, renew_code, st_code, sts_code, size, test_size, lefts_size, renew_size, st_size, sts_size}
-use Rattle.simulated_code.proofs.Sizes.{length_code, length_test, length_ready, length_lefts, lefts_sum, length_renew, length_st, length_sts}
-use Rattle.simulated_code.proofs.Rooms.{key_alone, key_room, lefts_room, lefts_others}
+use Rattle.program_code.specs.Code.{temp, slots_of, lefts_above, ready_code, lefts_sized, ex_code, test_code, lefts_code, renew_code, st_code, sts_code, size, test_size, lefts_size, renew_size, st_size, sts_size}
+use Rattle.program_code.proofs.Sizes.{length_code, length_test, length_ready, length_lefts, lefts_sum, length_renew, length_st, length_sts}
+use Rattle.program_code.proofs.Rooms.{key_alone, key_room, lefts_room, lefts_others}
 use Rattle.simulated_code.proofs.Frames.{Built, Frame, hold, during, numbers, Good, narrowed, wide_of}
 use Rattle.simulated_code.proofs.Changes.{one_more, temp_set, fewer, held_word}
 use Rattle.simulated_code.proofs.Places.{Standing, front, back, Panics, At, later, place_is, turned, seen, stepped}
@@ -26,8 +26,8 @@ use Rattle.simulated_code.proofs.Scopes.{behind_has, after_has, both_go_on, one_
 use Rattle.simulated_code.proofs.Counting.{remains_first}
 use Rattle.simulated_code.proofs.RoundsFollow.{counting, counting_is, two_held, Tests, Round, rounds_follow, CountRound, counted_follow}
 use Rattle.simulated_code.proofs.Leading.{After, after_later, leads_later, leads_alone, inside, leads_inside, leads_holding, Followed, AllFollowed}
-use Rattle.value_trees.specs.Types.{bools, ints}
-use Rattle.simulated_code.proofs.Wide.{plain_value}
+use Rattle.typed_syntax.specs.Types.{bools, ints}
+use Rattle.program_code.proofs.Wide.{plain_value}
 
 module _ (m : Built) (around : Setting) (types : around.types ≡ m.program.types) (inputs : around.items ≡ m.items) (callees : Calls) (n : ℕ) (cf : CallsFollow m callees n) (c : Frame) (calls : List Frame) where
   pub done_follows : AllFollowed m c calls around callees n done
@@ -47,7 +47,7 @@ module _ (m : Built) (around : Setting) (types : around.types ≡ m.program.type
       (λ go_on env2 w2 words2 g2. place_is m (let e : pc + (lx + lxs) ≡ pc + lx + lxs = omega arith in e)
       (post (both_go_on x xs goes go_on) env2 w2 words2 (narrowed m (hold c held) env2 (scope_after scope x) scope calls w2 words2 (after_has scope x) g2)))))
 
-  pub choose_follows : (e : Ex) (x y : Sts) → AllFollowed m c calls around callees n x → AllFollowed m c calls around callees n y → Followed m c calls around callees n (choose e x y)
+  pub choose_follows : (e : Ex) (x y : Sts) → AllFollowed m c calls around callees n x → AllFollowed m c calls around callees n y → Followed m c calls around callees n (if_stmt e x y)
   choose_follows e x y first second ws env k w words held h looped outer scope q out again pc lo b le hh has fit enough reaches sc leads g post =
       let s = slots_of m.program c.func in let fs = m.program in let a = argument_words c.func in let named = c.func.named in
       let lx = sts_size fs a named x in let ly = sts_size fs a named y in
@@ -85,7 +85,7 @@ module _ (m : Built) (around : Setting) (types : around.types ≡ m.program.type
       (branches m v g1 g2 w1 (numbers (c ∷ calls)) words1 (temp s h) behind (pc + size fs e) lo d has1.0.0 iv (held_word m (during c env scope held) calls w1 words1 held [] v h hh (plain_value bools v (inr refl) iv) good1)
       (place_is m (let q : pc + (size fs e + 1) ≡ pc + size fs e + 1 = omega arith in q) (on w1 words1 good2)) (off refl w1 words1 good2)))
 
-  pub loop_follows : (sites : List ℕ) (test : Option Ex) (after body : Sts) → AllFollowed m c calls around callees n after → AllFollowed m c calls around callees n body → Followed m c calls around callees n (loop sites test after body)
+  pub loop_follows : (sites : List ℕ) (test : Option Ex) (after body : Sts) → AllFollowed m c calls around callees n after → AllFollowed m c calls around callees n body → Followed m c calls around callees n (for_stmt sites test after body)
   loop_follows sites test after body afters bodies ws env k w words held h looped outer scope q out again pc lo b le hh has fit enough reaches sc leads g post =
       rounds_follow m c calls held scope pc here last behind (tested test) has_j.0.0 (Meaning.test_of around callees test ws) body_of (Meaning.outside k) lo b
       (test_follows test ws held scope h pc behind lo b le hh leads.panics (front m.code c.fn pc ct (cb ++ (cr ++ (cp ++ Jump pc ∷ []))) has) fit.1 (omega arith) (omega arith))
@@ -136,7 +136,7 @@ module _ (m : Built) (around : Setting) (types : around.types ≡ m.program.type
       body_of : ℕ → Env → (ℕ → Env → Go) → Go
       body_of v env1 j = Meaning.exec_all around callees (suc n) body (inside m c calls ws (Meaning.outside k v) (next_of v j)) env1 (next_of v j)
 
-      behind_loop : ends (loop sites test after body) ≡ false → (v : ℕ) → After m c calls held scope behind lo b (Meaning.outside k v)
+      behind_loop : ends (for_stmt sites test after body) ≡ false → (v : ℕ) → After m c calls held scope behind lo b (Meaning.outside k v)
       behind_loop goes v env1 w1 words1 g1 =
           seen m _ (place_is m (let e : pc + (test_size m.program test + sts_size m.program (argument_words c.func) c.func.named body + renew_size sites + sts_size m.program (argument_words c.func) c.func.named after + 1) ≡ behind = omega arith in e) (post goes env1 w1 words1 g1))
 

@@ -1,24 +1,24 @@
 -- Arguments go to the outgoing area, and results come from it.
 use Rattle.std.proofs.Common.{◌≡◌, ℕ, zero, suc, ◌+◌, ◌-◌, ◌≤◌, List, [], ◌∷◌, ◌++◌, length, Some, None, refl, sym, ap, ◌∙◌, subst, arith, get_or}
 use Rattle.std.specs.Prelude.{Option, slice_get, slice_index}
-use Rattle.value_trees.specs.Value.{Value}
-use Rattle.value_trees.specs.Types.{ValueType}
-use Rattle.typed.specs.Form.{AreOf, ParamsFit}
-use Rattle.typed.specs.Syntax.{Func, Program, argument_words, result_words, arguments_in, results_in, arguments_of, results_of}
-use Rattle.typed.specs.Frames.{outgoing_of, temps_of}
+use Rattle.typed_syntax.specs.Value.{Value}
+use Rattle.typed_syntax.specs.Types.{TypeTree}
+use Rattle.typed_syntax.specs.Form.{AreOf, ParamsFit}
+use Rattle.typed_syntax.specs.Syntax.{Func, Program, argument_words, result_words, arguments_in, results_in, arguments_of, results_of}
+use Rattle.typed_syntax.specs.Frames.{outgoing_of, temps_of}
 use Rattle.meaning.specs.Trace.{World, Trace, Turn}
 use Rattle.meaning.specs.Meaning.{Env, Then, Ways, Calls}
 use Rattle.isa.specs.declared.instr.Instr.TheVariants.{MoveWords, Call}
 use Rattle.machine.specs.Machine.{put_words, words_at, owner_of}
-use Rattle.simulated_code.specs.Code.{temp, slots_of, move_code, move_size, call_code, call_size}
-use Rattle.simulated_code.proofs.Sizes.{length_move}
+use Rattle.program_code.specs.Code.{temp, slots_of, move_code, move_size, call_code, call_size}
+use Rattle.program_code.proofs.Sizes.{length_move}
 use Rattle.simulated_code.proofs.Distances.{word_at, word_slot, put_same, read_length, read_index}
 use Rattle.simulated_code.proofs.Frames.{Built, nothing, stands_same, contents_of, wide_of, of_length, AreAt, Frame, hold, numbers, depth, Good}
 use Rattle.simulated_code.proofs.Changes.{wide_joined, held_more, temps_put, fewer, held_words, outgoing_put, are_none}
 use Rattle.simulated_code.proofs.Places.{Standing, front, back, Panics, At, later, place_is, turned_less, stepped}
 
 -- parameters are as many as their types
-pub params_length : (p : Program) (m : ℕ) (ts : List ValueType) (ps : List (Option ℕ)) → ParamsFit p m ts ps → length ts ≡ length ps
+pub params_length : (p : Program) (m : ℕ) (ts : List TypeTree) (ps : List (Option ℕ)) → ParamsFit p m ts ps → length ts ≡ length ps
 params_length p m [] [] fit = refl
 params_length p m (t ∷ ts) (None ∷ ps) fit = ap suc (params_length p m ts ps fit)
 params_length p m (t ∷ ts) (Some site ∷ ps) fit = ap suc (params_length p (suc m) ts ps fit.2)

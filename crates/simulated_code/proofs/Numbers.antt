@@ -7,13 +7,13 @@ use Rattle.std.specs.Int.{w64, cast_signed, cast_unsigned, int_shl, int_shr, int
 use Rattle.std.proofs.lemmas.Int.{to_z-of_z, of_z-to_z}
 use lib.Signed.{mag_rem, mag_shr}
 use borrow.Author.Differences.{fits_in, read_fits}
-use Rattle.value_trees.specs.Value.{Value, int, bool, IsOf}
-use Rattle.typed.specs.declared.operators.BinOp.{BinOp}
-use Rattle.typed.specs.declared.operators.BinOp.TheVariants.{Add, Sub, Mul, Div, Rem, And, Or, Xor, AndNot, ShiftLeft, ShiftRight, Equal, NotEqual, Less, LessEqual, Greater, GreaterEqual}
-use Rattle.typed.specs.declared.operators.UnOp.{UnOp}
-use Rattle.typed.specs.declared.operators.UnOp.TheVariants.{Plus, Negate, Complement, Not}
-use Rattle.value_trees.specs.Types.{ValueType, PartTypes, ints, bools, struct_of, array_of}
-use Rattle.typed.specs.Form.{IsPlain, IsArithmetic, IsStep, Takes, TakesOne}
+use Rattle.typed_syntax.specs.Value.{Value, int, bool, IsOf}
+use Rattle.typed_syntax.specs.declared.operators.BinOp.{BinOp}
+use Rattle.typed_syntax.specs.declared.operators.BinOp.TheVariants.{Add, Sub, Mul, Div, Rem, And, Or, Xor, AndNot, ShiftLeft, ShiftRight, Equal, NotEqual, Less, LessEqual, Greater, GreaterEqual}
+use Rattle.typed_syntax.specs.declared.operators.UnOp.{UnOp}
+use Rattle.typed_syntax.specs.declared.operators.UnOp.TheVariants.{Plus, Negate, Complement, Not}
+use Rattle.typed_syntax.specs.Types.{TypeTree, PartTypes, ints, bools, struct_of, array_of}
+use Rattle.typed_syntax.specs.Form.{IsPlain, IsArithmetic, IsStep, Takes, TakesOne}
 use Rattle.meaning.specs.Trace.{Fault}
 use Rattle.meaning.specs.Operators.{divide, shift, of_ints, of_bools, binary_of, unary_of}
 use Rattle.isa.specs.Bin.{bit_of, word_of, divided, shifted, of_numbers, bin_of, un_of}
@@ -21,12 +21,12 @@ use Rattle.isa.specs.declared.instr.BinFault.{BinFault}
 use Rattle.isa.specs.declared.instr.UnOp.TheVariants as WordOne
 use Rattle.machine.specs.Machine.{panic_of}
 use Rattle.simulated_code.specs.Correct.{same_fault}
-use Rattle.simulated_code.specs.Code.{operation}
+use Rattle.program_code.specs.Code.{operation}
 use Rattle.simulated_code.proofs.Frames.{Stands}
-use Rattle.simulated_code.proofs.Wide.{takes_one}
+use Rattle.program_code.proofs.Wide.{takes_one}
 
 -- what an operator gives, and what the machine's gives: a value of a type that stands as a word, or the same fault
-abbrev pub Agree : ValueType → Result Value Fault → Result ℕ BinFault → Type 0
+abbrev pub Agree : TypeTree → Result Value Fault → Result ℕ BinFault → Type 0
 Agree t (Ok v) (Ok word) = IsOf t v × Stands v word
 Agree t (Err f) (Err g) = (strings : List (List ℕ)) → same_fault strings f (panic_of g)
 Agree t a b = ⊥
@@ -57,29 +57,29 @@ pub signed_once : (x y : ℕ) → x < 2 ^ 64 → y < 2 ^ 64 → cast_signed w64 
 signed_once x y lx ly e = sym (of_z-to_z w64 x lx) ∙ ap (cast_unsigned w64) e ∙ of_z-to_z w64 y ly
 
 -- numbers are no truth values
-abbrev is_ints : ValueType → Bool
+abbrev is_ints : TypeTree → Bool
 is_ints ints = true
 is_ints t = false
 
 pub apart : ints ≡ bools → ⊥
 apart e = true≢false (ap is_ints e)
 
-pub number_of : (t : ValueType) (z : ℤ) → t ≡ ints → IsOf t (int z)
+pub number_of : (t : TypeTree) (z : ℤ) → t ≡ ints → IsOf t (int z)
 number_of t z e = subst (λ u. IsOf u (int z)) (sym e) tt
 
-pub truth_of : (t : ValueType) (b : Bool) → t ≡ bools → IsOf t (bool b)
+pub truth_of : (t : TypeTree) (b : Bool) → t ≡ bools → IsOf t (bool b)
 truth_of t b e = subst (λ u. IsOf u (bool b)) (sym e) tt
 
-divides : (t : ValueType) (f : ℤ → ℤ → ℤ) (a d : ℤ) → t ≡ ints → Stands (int (f a d)) (word_of (f a d)) → Agree t (divide f a d) (divided f a d)
+divides : (t : TypeTree) (f : ℤ → ℤ → ℤ) (a d : ℤ) → t ≡ ints → Stands (int (f a d)) (word_of (f a d)) → Agree t (divide f a d) (divided f a d)
 divides t f a (pos zero) is e = λ strings. tt
 divides t f a (pos (suc n)) is e = (number_of t (f a (pos (suc n))) is, e)
 divides t f a (negsuc n) is e = (number_of t (f a (negsuc n)) is, e)
 
-shifts : (t : ValueType) (f : ℤ → ℕ → ℤ) (a d : ℤ) → t ≡ ints → ((n : ℕ) → Stands (int (f a n)) (word_of (f a n))) → Agree t (shift f a d) (shifted f a d)
+shifts : (t : TypeTree) (f : ℤ → ℕ → ℤ) (a d : ℤ) → t ≡ ints → ((n : ℕ) → Stands (int (f a n)) (word_of (f a n))) → Agree t (shift f a d) (shifted f a d)
 shifts t f a (pos n) is e = (number_of t (f a (min n 64)) is, e (min n 64))
 shifts t f a (negsuc n) is e = λ strings. refl
 
-on_ints : (op : BinOp) (s t : ValueType) (a d : ℤ) → Takes op s t → FitsSigned w64 a → Agree t (of_ints op a d) (of_numbers (operation op) a d)
+on_ints : (op : BinOp) (s t : TypeTree) (a d : ℤ) → Takes op s t → FitsSigned w64 a → Agree t (of_ints op a d) (of_numbers (operation op) a d)
 on_ints Add s t a d is f = (number_of t (int_wrapping_add w64 a d) is.1, signed_twice _)
 on_ints Sub s t a d is f = (number_of t (int_wrapping_sub w64 a d) is.1, signed_twice _)
 on_ints Mul s t a d is f = (number_of t (int_wrapping_mul w64 a d) is.1, signed_twice _)
@@ -98,7 +98,7 @@ on_ints LessEqual s t a d is f = (truth_of t (int_le a d) is.1, refl)
 on_ints Greater s t a d is f = (truth_of t (int_lt d a) is.1, refl)
 on_ints GreaterEqual s t a d is f = (truth_of t (int_le d a) is.1, refl)
 
-on_bools : (op : BinOp) (s t : ValueType) (a d : Bool) → Takes op s t → s ≡ bools → Agree t (of_bools op a d) (bin_of (operation op) (bit_of a) (bit_of d))
+on_bools : (op : BinOp) (s t : TypeTree) (a d : Bool) → Takes op s t → s ≡ bools → Agree t (of_bools op a d) (bin_of (operation op) (bit_of a) (bit_of d))
 on_bools Equal s t true true is e = (truth_of t true is.1, refl)
 on_bools Equal s t true false is e = (truth_of t false is.1, refl)
 on_bools Equal s t false true is e = (truth_of t false is.1, refl)
@@ -123,7 +123,7 @@ on_bools LessEqual s t a d is e = absurd (apart (sym is.0 ∙ e))
 on_bools Greater s t a d is e = absurd (apart (sym is.0 ∙ e))
 on_bools GreaterEqual s t a d is e = absurd (apart (sym is.0 ∙ e))
 
-abbrev is_plain : ValueType → Bool
+abbrev is_plain : TypeTree → Bool
 is_plain ints = true
 is_plain bools = true
 is_plain t = false
@@ -132,12 +132,12 @@ pub no_struct : (ts : PartTypes) → IsPlain (struct_of ts) → ⊥
 no_struct ts (inl e) = true≢false (sym (ap is_plain e))
 no_struct ts (inr e) = true≢false (sym (ap is_plain e))
 
-pub no_array : (n : ℕ) (e : ValueType) → IsPlain (array_of n e) → ⊥
+pub no_array : (n : ℕ) (e : TypeTree) → IsPlain (array_of n e) → ⊥
 no_array n t (inl e) = true≢false (sym (ap is_plain e))
 no_array n t (inr e) = true≢false (sym (ap is_plain e))
 
 -- an operator of the source on numbers or truth values, and that of the machine on their words
-pub agrees : (op : BinOp) (s t : ValueType) (v u : Value) (x y : ℕ) → IsPlain s → Takes op s t → IsOf s v → IsOf s u → Stands v x → Stands u y → Agree t (binary_of op v u) (bin_of (operation op) x y)
+pub agrees : (op : BinOp) (s t : TypeTree) (v u : Value) (x y : ℕ) → IsPlain s → Takes op s t → IsOf s v → IsOf s u → Stands v x → Stands u y → Agree t (binary_of op v u) (bin_of (operation op) x y)
 agrees op ints t (int a) (int d) x y plain takes is iu sv su =
     subst (λ z. Agree t (of_ints op a d) (of_numbers (operation op) z (cast_signed w64 y))) (sym sv.0)
     (subst (λ z. Agree t (of_ints op a d) (of_numbers (operation op) a z)) (sym su.0) (on_ints op ints t a d takes (subst (λ z. FitsSigned w64 z) sv.0 (read_small x))))
@@ -170,7 +170,7 @@ one_truth Plus b x takes s = absurd (apart (sym takes))
 one_truth Negate b x takes s = absurd (apart (sym takes))
 one_truth Complement b x takes s = absurd (apart (sym takes))
 
-pub agrees_one : (op : UnOp) (t : ValueType) (v : Value) (x : ℕ) → TakesOne op t → IsOf t v → Stands v x → IsOf t (unary_of op v) × Stands (unary_of op v) (unary_word op x)
+pub agrees_one : (op : UnOp) (t : TypeTree) (v : Value) (x : ℕ) → TakesOne op t → IsOf t v → Stands v x → IsOf t (unary_of op v) × Stands (unary_of op v) (unary_word op x)
 agrees_one op ints (int a) x takes is s = one_number op a x takes s
 agrees_one op ints v x takes is s = absurd is
 agrees_one op bools (bool b) x takes is s = one_truth op b x takes s

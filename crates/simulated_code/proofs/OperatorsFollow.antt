@@ -1,12 +1,12 @@
 -- The machine follows an operator.
 use Rattle.std.proofs.Common.{◌≡◌, ℕ, suc, ◌+◌, List, Some, Result, Ok, Err, refl, sym, ap, subst}
 use Rattle.std.specs.Prelude.{slice_get, slice_index, slice_set}
-use Rattle.base.specs.declared.pos.Pos.{Pos}
-use Rattle.value_trees.specs.Value.{Value, IsOf}
-use Rattle.typed.specs.declared.operators.BinOp.{BinOp}
-use Rattle.typed.specs.declared.operators.UnOp.{UnOp}
-use Rattle.typed.specs.declared.operators.UnOp.TheVariants.{Plus, Negate, Complement, Not}
-use Rattle.typed.specs.Form.{IsPlain, Takes}
+use Rattle.typed_syntax.specs.Positions.{Position}
+use Rattle.typed_syntax.specs.Value.{Value, IsOf}
+use Rattle.typed_syntax.specs.declared.operators.BinOp.{BinOp}
+use Rattle.typed_syntax.specs.declared.operators.UnOp.{UnOp}
+use Rattle.typed_syntax.specs.declared.operators.UnOp.TheVariants.{Plus, Negate, Complement, Not}
+use Rattle.typed_syntax.specs.Form.{IsPlain, Takes}
 use Rattle.meaning.specs.Trace.{World, Trace, Fault, Panic}
 use Rattle.meaning.specs.Operators.{binary_of}
 use Rattle.meaning.specs.Meaning
@@ -16,16 +16,16 @@ use Rattle.isa.specs.declared.instr.Instr.TheVariants.{Move, Bin, Un}
 use Rattle.isa.specs.declared.instr.UnOp.TheVariants as WordOne
 use Rattle.isa.specs.declared.instr.BinFault.{BinFault}
 use Rattle.machine.specs.Machine.{panic_of, puts_or_panics}
-use Rattle.machine.specs.declared.place.Ending.TheVariants.{Panic as Panicked}
-use Rattle.simulated_code.specs.Code.{operation, unary_code}
+use Rattle.machine.specs.declared.run_state.Ending.TheVariants.{Panic as Panicked}
+use Rattle.program_code.specs.Code.{operation, unary_code}
 use Rattle.simulated_code.proofs.Frames.{Built, Stands}
 use Rattle.simulated_code.proofs.Numbers.{Agree, agrees, unary_word}
 use Rattle.simulated_code.proofs.Places.{Panics, At, stepped, halted}
-use Rattle.value_trees.specs.Types.{ValueType}
+use Rattle.typed_syntax.specs.Types.{TypeTree}
 
 module _ (m : Built) where
   -- on two operands in slots: a slot gets the word of what it gives, or it panics
-  pub operates : (at : Pos) (o : BinOp) (s t : ValueType) (x y : Value) (ws : Ways) (env : Env) (k : Then Value) (w : World) (running : List ℕ) (words : List ℕ) (to left right pc lo hi b : ℕ) → slice_get m.code.instrs pc ≡ Some (Bin (operation o) to left right)
+  pub operates : (at : Position) (o : BinOp) (s t : TypeTree) (x y : Value) (ws : Ways) (env : Env) (k : Then Value) (w : World) (running : List ℕ) (words : List ℕ) (to left right pc lo hi b : ℕ) → slice_get m.code.instrs pc ≡ Some (Bin (operation o) to left right)
       → Panics ws → IsPlain s → Takes o s t → IsOf s x → IsOf s y → Stands x (slice_index words left) → Stands y (slice_index words right)
       → ((v : Value) (word : ℕ) → IsOf t v → Stands v word → At m running lo hi b (k v w) (pc + 1) (slice_set words to word) w)
       → At m running (suc lo) 1 b (Meaning.or_panic ws env at (binary_of o x y) k w) pc words w

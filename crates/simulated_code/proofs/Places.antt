@@ -2,11 +2,11 @@
 use Rattle.std.proofs.Common.{◌≡◌, ℕ, zero, suc, ◌+◌, ◌-◌, ◌<◌, ◌≤◌, Bool, List, [], ◌∷◌, ◌++◌, length, Some, refl, sym, ap, ◌∙◌, subst, arith}
 use Rattle.std.specs.Prelude.{slice_get, slice_index, replicate, nat_le, false, if◌then◌else◌}
 use Rattle.std.proofs.lemmas.Bool.{le-leb}
-use Rattle.value_trees.specs.Value.{Value}
-use Rattle.typed.specs.Syntax.{Func}
-use Rattle.typed.specs.Frames.{frame_in, frame_of}
-use Rattle.typed.specs.Placement.{on_heap}
-use Rattle.base.specs.declared.pos.Pos.{Pos}
+use Rattle.typed_syntax.specs.Value.{Value}
+use Rattle.typed_syntax.specs.Syntax.{Func}
+use Rattle.typed_syntax.specs.Frames.{frame_in, frame_of}
+use Rattle.typed_syntax.specs.Placement.{on_heap}
+use Rattle.typed_syntax.specs.Positions.{Position}
 use Rattle.meaning.specs.Trace.{Born, Read, Write, Print, Asked, Fault, Ending, Exit, Panic, HeapLimit, World, Mark, Trace, Turn, Note, Seen, End, Cut}
 use Rattle.meaning.specs.Store.{value_of}
 use Rattle.meaning.specs.Output as Output
@@ -21,12 +21,12 @@ use Rattle.isa.specs.Code.{Tables}
 use Rattle.isa.specs.declared.instr.Instr.{Instr}
 use Rattle.isa.specs.declared.instr.Instr.TheVariants.{Const, Zero, Move, MoveWords, ArgumentWords, SetResults}
 use Rattle.machine.specs.Machine.{Event, Printed, State, Does, act, act_on, puts_words, put_words, words_at, reaches, address_of, owner_of, frame_of as code_frame, frame_in as entry_frame}
-use Rattle.machine.specs.declared.place.Ending.{Ending as Stop}
-use Rattle.machine.specs.declared.place.Ending.TheVariants.{Exit as Stopped, WildAddress}
-use Rattle.simulated_code.specs.Code.{moves, zeros}
+use Rattle.machine.specs.declared.run_state.Ending.{Ending as Stop}
+use Rattle.machine.specs.declared.run_state.Ending.TheVariants.{Exit as Stopped, WildAddress}
+use Rattle.program_code.specs.Code.{moves, zeros}
 use Rattle.simulated_code.proofs.Distances.{one_word, put_one}
 use Rattle.simulated_code.specs.Correct.{same_event, same_end}
-use Rattle.simulated_code.proofs.Compiled.{HasAt}
+use Rattle.program_code.proofs.Compiled.{HasAt}
 use Rattle.simulated_code.proofs.Frames.{Built, Stands}
 
 -- these instructions of one function stand at this place
@@ -64,7 +64,7 @@ value_same v u x y ev ex s = subst (λ a. Stands a y) (sym ev) (subst (λ b. Sta
 
 -- a panic ends the run
 abbrev pub Panics : Ways → Type 0
-Panics ws = (at : Pos) (f : Fault) (env : Env) (w : World) → ws.panicked at f env w ≡ End (Panic at f)
+Panics ws = (at : Position) (f : Fault) (env : Env) (w : World) → ws.panicked at f env w ≡ End (Panic at f)
 
 module _ (m : Built) where
   abbrev pub words_limits : Limits

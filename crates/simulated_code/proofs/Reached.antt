@@ -3,23 +3,23 @@ use Rattle.std.proofs.Common.{◌≡◌, ℕ, zero, suc, ◌+◌, ◌*◌, ◌<�
 use Rattle.std.specs.Prelude.{slice_get, slice_index, slice_set}
 use Rattle.std.specs.Int.{w64, cast_signed, cast_unsigned}
 use Rattle.std.proofs.lemmas.Int.{of_z-to_z}
-use Rattle.value_trees.specs.Types.{ValueType, ints, array_of, width, part_count, part_type, part_offset}
-use Rattle.value_trees.specs.Value.{Value, int, bool, composite, IsOf}
-use Rattle.value_trees.specs.Paths.{at_path, Leads, type_at, offset}
-use Rattle.value_trees.specs.Words.{contents}
-use Rattle.value_trees.proofs.Parts.{count_of, leads_to, at_is, within, element, joined_types, part_words as words_of_part}
-use Rattle.typed.specs.Syntax.{Pl, Steps, Ex, local, global, here as itself, inner, at_index, path_of, global_type, site_type}
-use Rattle.typed.specs.Form.{InScope, PlFits, StepsLead}
-use Rattle.typed.specs.Frames.{steps_far, far, outgoing_of, temps_of}
+use Rattle.typed_syntax.specs.Types.{TypeTree, ints, array_of, width, part_count, part_type, part_offset}
+use Rattle.typed_syntax.specs.Value.{Value, int, bool, composite, IsOf}
+use Rattle.typed_syntax.specs.Paths.{at_path, Leads, type_at, offset}
+use Rattle.typed_syntax.specs.Words.{contents}
+use Rattle.value_laws.proofs.Parts.{count_of, leads_to, at_is, within, element, joined_types, part_words as words_of_part}
+use Rattle.typed_syntax.specs.Syntax.{Pl, Steps, Ex, local, global, here as itself, inner, at_index, path_of, global_type, site_type}
+use Rattle.typed_syntax.specs.Form.{InScope, PlFits, StepsLead}
+use Rattle.typed_syntax.specs.Frames.{steps_far, far, outgoing_of, temps_of}
 use Rattle.meaning.specs.Trace.{World, Trace}
 use Rattle.meaning.specs.Store.{value_of, written}
 use Rattle.meaning.specs.Meaning
 use Rattle.meaning.specs.Meaning.{Env, Then, Ways, Aim, Spot, Step, fixed, worked, variable}
 use Rattle.isa.specs.declared.instr.Instr.TheVariants.{Const, Load, Store}
 use Rattle.machine.specs.Machine.{put_words, words_at}
-use Rattle.simulated_code.specs.Code.{temp, site_slot, slots_of, moves, global_address, index_code, steps_address, index_count, steps_address_size, address_code, address_size, far_offset, fetch_part, fetch_code, land_part, land_code}
+use Rattle.program_code.specs.Code.{temp, site_slot, slots_of, moves, global_address, index_code, steps_address, index_count, steps_address_size, address_code, address_size, far_offset, fetch_part, fetch_code, land_part, land_code}
 use Rattle.simulated_code.proofs.Distances.{read_length, read_index}
-use Rattle.simulated_code.proofs.Sites.{site_within}
+use Rattle.program_code.proofs.Sites.{site_within}
 use Rattle.simulated_code.proofs.Frames.{Built, Stands, StandsFor, StandIn, Frame, hold, numbers, Good, depth, nothing, contents_of, wide_of, stands_same}
 use Rattle.simulated_code.proofs.Changes.{one_more, temp_set, fewer, held_word, held_room, held_stand, site_word, value_put, written_site, written_global}
 use Rattle.simulated_code.proofs.Places.{Standing, Panics, At, later, place_is, turned, stepped, words_moved}
@@ -27,7 +27,7 @@ use Rattle.simulated_code.proofs.Globals.{written_kept, loaded, stored}
 use Rattle.simulated_code.proofs.Moves.{held_none}
 use Rattle.simulated_code.proofs.Numbers.{signed_once}
 use Rattle.simulated_code.proofs.Addresses.{slot_address, address_small, stack_loaded, stack_stored, addressed, index_follows}
-use Rattle.simulated_code.proofs.Wide.{plain_one, plain_value}
+use Rattle.program_code.proofs.Wide.{plain_one, plain_value}
 
 -- ---- places without their operands
 
@@ -59,42 +59,42 @@ abbrev pub aimed : Env → Pl → List Value → Aim
 aimed env q vs = record { base = variable (variable_of env q); steps = steps_with (steps_of q) vs }
 
 -- the types on the way, whatever the indices are
-abbrev pub Shaped : ValueType → Steps → ValueType → Type 0
+abbrev pub Shaped : TypeTree → Steps → TypeTree → Type 0
 Shaped t itself s = t ≡ s
 Shaped t (inner i steps) s = (i < part_count t) × Shaped (part_type t i) steps s
-Shaped t (at_index at e n steps) s = (r : ValueType) × (t ≡ array_of n r) × (0 < n) × Shaped r steps s
+Shaped t (at_index at e n steps) s = (r : TypeTree) × (t ≡ array_of n r) × (0 < n) × Shaped r steps s
 
 -- an element of an array
-pub element_leads : (t r : ValueType) (n i : ℕ) → t ≡ array_of n r → i < n → Leads t (i ∷ []) r
+pub element_leads : (t r : TypeTree) (n i : ℕ) → t ≡ array_of n r → i < n → Leads t (i ∷ []) r
 element_leads t r n i e l = subst (λ u. Leads u (i ∷ []) r) (sym e) ((element n r r i [] l).leads refl)
 
-pub element_offset : (t r : ValueType) (n i : ℕ) → t ≡ array_of n r → i < n → offset t (i ∷ []) ≡ i * width r
+pub element_offset : (t r : TypeTree) (n i : ℕ) → t ≡ array_of n r → i < n → offset t (i ∷ []) ≡ i * width r
 element_offset t r n i e l =
     let q = (element n r r i [] l).offset in let none : i * width r + 0 ≡ i * width r = omega arith in
     ap (λ u. offset u (i ∷ [])) e ∙ q ∙ none
 
-first_offset : (t r : ValueType) (n : ℕ) → t ≡ array_of n r → 0 < n → part_offset t 0 ≡ 0
+first_offset : (t r : TypeTree) (n : ℕ) → t ≡ array_of n r → 0 < n → part_offset t 0 ≡ 0
 first_offset t r n e l = let q = element_offset t r n 0 e l in let none : 0 * width r ≡ 0 = omega arith in omega (arith, q, none)
 
-pub shaped_leads : (t s : ValueType) (steps : Steps) → Shaped t steps s → Leads t (path_of steps) s
+pub shaped_leads : (t s : TypeTree) (steps : Steps) → Shaped t steps s → Leads t (path_of steps) s
 shaped_leads t s itself shape = shape
 shaped_leads t s (inner i steps) shape = (shape.0, shaped_leads (part_type t i) s steps shape.1)
 shaped_leads t s (at_index at e n steps) (r, eq, some, shape) = subst (λ u. Leads u (0 ∷ path_of steps) s) (sym eq) ((element n r s 0 (path_of steps) some).leads (shaped_leads r s steps shape))
 
 module _ (m : Built) where
-  steps_shape : (scope : List ℕ) (t s : ValueType) (steps : Steps) → StepsLead m.program scope t steps s → Shaped t steps s
+  steps_shape : (scope : List ℕ) (t s : TypeTree) (steps : Steps) → StepsLead m.program scope t steps s → Shaped t steps s
   steps_shape scope t s itself fit = fit
   steps_shape scope t s (inner i steps) fit = (fit.0, steps_shape scope (part_type t i) s steps fit.1)
   steps_shape scope t s (at_index at e n steps) (r, eq, some, index, fit) = (r, eq, some, steps_shape scope r s steps fit)
 
   -- a place in scope, of a type
-  abbrev pub Located : List ℕ → ValueType → Pl → Type 0
+  abbrev pub Located : List ℕ → TypeTree → Pl → Type 0
   Located scope t (local site steps) = InScope site scope × Shaped (site_type m.program site) steps t × (0 < width t)
   Located scope t (global g itself) = (g < length m.program.globals) × (global_type m.program g ≡ t)
   Located scope t (global g (inner i steps)) = ⊥
   Located scope t (global g (at_index at e n steps)) = ⊥
 
-  pub located : (scope : List ℕ) (t : ValueType) (q : Pl) → PlFits m.program scope t q → Located scope t q
+  pub located : (scope : List ℕ) (t : TypeTree) (q : Pl) → PlFits m.program scope t q → Located scope t q
   located scope t (local site steps) fit = (fit.0, steps_shape scope (site_type m.program site) t steps fit.1, fit.2)
   located scope t (global g itself) fit = fit
   located scope t (global g (inner i steps)) fit = absurd fit
@@ -113,12 +113,12 @@ module _ (m : Built) where
   -- A part of a variable of a site, by the path to it. Where it is reached by an address, that is one of the stack, and what it
   -- lacks of the steps from a type on is added to it.
   module _ (c : Frame) (calls : List Frame) (site : ℕ) where
-    abbrev pub PartFrom : (far : ℕ) → ValueType → Steps → (before path : List ℕ) → (word : ℕ) → Type 0
+    abbrev pub PartFrom : (far : ℕ) → TypeTree → Steps → (before path : List ℕ) → (word : ℕ) → Type 0
     PartFrom zero t steps before path word = path ≡ before ++ path_of steps
     PartFrom (suc n) t steps before path word =
         (near : ℕ) × (word ≡ slot_address m (depth m (c ∷ calls)) near) × (near ≤ depth m (c ∷ calls)) × (near + far_offset t steps ≡ site_slot (slots_of m.program c.func) site + offset (site_type m.program site) path)
 
-  abbrev pub PlaceIn : Frame → List Frame → ValueType → Pl → (path : List ℕ) → (word : ℕ) → Type 0
+  abbrev pub PlaceIn : Frame → List Frame → TypeTree → Pl → (path : List ℕ) → (word : ℕ) → Type 0
   PlaceIn c calls t (local site steps) path word = Leads (site_type m.program site) path t × PartFrom c calls site (steps_far steps) (site_type m.program site) steps [] path word
   PlaceIn c calls t (global g steps) path word = (path ≡ []) × (word ≡ global_address g)
 
@@ -134,8 +134,8 @@ module _ (m : Built) where
 
   -- ---- the checks of a place, from its operands to its address
 
-  module _ (c : Frame) (calls : List Frame) (ws : Ways) (stops : Panics ws) (env : Env) (var : ℕ) (k : Then Spot) (w : World) (site : ℕ) (from : c.func.first ≤ site) (to : site < c.func.first + c.func.count) (s : ValueType) (at lo b : ℕ) (ha : wide_of c.held ≡ at) where
-    abbrev own : ValueType
+  module _ (c : Frame) (calls : List Frame) (ws : Ways) (stops : Panics ws) (env : Env) (var : ℕ) (k : Then Spot) (w : World) (site : ℕ) (from : c.func.first ≤ site) (to : site < c.func.first + c.func.count) (s : TypeTree) (at lo b : ℕ) (ha : wide_of c.held ≡ at) where
+    abbrev own : TypeTree
     own = site_type m.program site
 
     abbrev slot : ℕ
@@ -153,8 +153,8 @@ module _ (m : Built) where
     site_inside : slot + width own ≤ deep
     site_inside = let r = site_within m.program c.func site from to in omega arith
 
-    -- behind the address of the first array
-    indexed : (steps : Steps) (vs gone more : List Value) (t : ValueType) (path : List ℕ) (first near skipped pc : ℕ) (words : List ℕ) → Shaped t steps s → Operands steps vs → c.held ≡ gone ++ (vs ++ more) → wide_of gone ≡ first → at < temps_of m.program c.func → Leads own path t
+    -- after the address of the first array
+    indexed : (steps : Steps) (vs gone more : List Value) (t : TypeTree) (path : List ℕ) (first near skipped pc : ℕ) (words : List ℕ) → Shaped t steps s → Operands steps vs → c.held ≡ gone ++ (vs ++ more) → wide_of gone ≡ first → at < temps_of m.program c.func → Leads own path t
         → near + skipped ≡ slot + offset own path → near ≤ deep → Standing m.code c.fn pc (index_code (slots_of m.program c.func) t steps first at) → Good m (hold c (c.held ++ as_number (slot_address m deep near) ∷ []) ∷ calls) w words
         → ((path1 : List ℕ) (near1 : ℕ) (words1 : List ℕ) → Leads own path1 s → near1 ≤ deep → near1 + (skipped + offset t (path_of steps)) ≡ slot + offset own path1 → Good m (hold c (c.held ++ as_number (slot_address m deep near1) ∷ []) ∷ calls) w words1
         → At m (numbers (c ∷ calls)) (12 + lo) 1 b (k (spot_at path1) w) (pc + index_count steps) words1 w)
@@ -196,7 +196,7 @@ module _ (m : Built) where
         place_is m (let q : pc + suc (index_count steps) ≡ pc + 1 + index_count steps = omega arith in q) (post path1 near1 words1 leads1 le1 (omega (arith, at_part1, rest)) g1))) z stands.0))
 
     -- from the beginning of the variable
-    started : (steps : Steps) (vs gone more : List Value) (t : ValueType) (path : List ℕ) (first front pc : ℕ) (words : List ℕ) → Shaped t steps s → Operands steps vs → c.held ≡ gone ++ (vs ++ more) → wide_of gone ≡ first → at + steps_far steps ≤ temps_of m.program c.func → Leads own path t
+    started : (steps : Steps) (vs gone more : List Value) (t : TypeTree) (path : List ℕ) (first front pc : ℕ) (words : List ℕ) → Shaped t steps s → Operands steps vs → c.held ≡ gone ++ (vs ++ more) → wide_of gone ≡ first → at + steps_far steps ≤ temps_of m.program c.func → Leads own path t
         → front ≡ slot + offset own path → Standing m.code c.fn pc (steps_address (slots_of m.program c.func) front t steps first at) → Good m (c ∷ calls) w words
         → ((path1 : List ℕ) (word : ℕ) (words1 : List ℕ) → Leads own path1 s → PartFrom c calls site (steps_far steps) t steps path path1 word → Good m (hold c (c.held ++ held_by (steps_far steps) word) ∷ calls) w words1
         → At m (numbers (c ∷ calls)) (12 + lo) 1 b (k (spot_at path1) w) (pc + steps_address_size steps) words1 w)
@@ -226,7 +226,7 @@ module _ (m : Built) where
         (post path1 (slot_address m deep near1) words1 leads1 (near1, refl, le1, omega (arith, at_part1, none)) g1)))
 
   -- a place takes its turns, its operands are tested, and its address is worked out
-  pub settled_follow : (q : Pl) (t : ValueType) (vs gone more : List Value) (c : Frame) (calls : List Frame) (ws : Ways) (env env0 : Env) (k : Then Spot) (w : World) (words : List ℕ) (first at pc lo b : ℕ) → Panics ws → Located c.scope t q → Operands (steps_of q) vs → c.held ≡ gone ++ (vs ++ more) → wide_of gone ≡ first → wide_of c.held ≡ at → at + far q ≤ temps_of m.program c.func
+  pub settled_follow : (q : Pl) (t : TypeTree) (vs gone more : List Value) (c : Frame) (calls : List Frame) (ws : Ways) (env env0 : Env) (k : Then Spot) (w : World) (words : List ℕ) (first at pc lo b : ℕ) → Panics ws → Located c.scope t q → Operands (steps_of q) vs → c.held ≡ gone ++ (vs ++ more) → wide_of gone ≡ first → wide_of c.held ≡ at → at + far q ≤ temps_of m.program c.func
       → Standing m.code c.fn pc (address_code (slots_of m.program c.func) q first at) → Good m (c ∷ calls) w words
       → ((path : List ℕ) (word : ℕ) (words1 : List ℕ) → PlaceIn c calls t q path word → Good m (hold c (c.held ++ held_by (far q) word) ∷ calls) w words1 → At m (numbers (c ∷ calls)) (12 + lo) 1 b (k (record { variable = variable_of env0 q; path = path }) w) (pc + address_size q) words1 w)
       → At m (numbers (c ∷ calls)) lo 0 b (Meaning.settle ws env (aimed env0 q vs) k w) pc words w
@@ -247,7 +247,7 @@ module _ (m : Built) where
   abbrev pub AddressAt : Frame → Pl → (at word : ℕ) → List ℕ → Type 0
   AddressAt c q at word words = (n : ℕ) → far q ≡ suc n → slice_index words (temp (slots_of m.program c.func) at) ≡ word
 
-  pub address_at : (q : Pl) (t : ValueType) (c : Frame) (calls : List Frame) (w : World) (words path : List ℕ) (held more : List Value) (at word : ℕ) → Located c.scope t q → PlaceIn c calls t q path word → wide_of held ≡ at → Good m (hold c ((held ++ held_by (far q) word) ++ more) ∷ calls) w words → AddressAt c q at word words
+  pub address_at : (q : Pl) (t : TypeTree) (c : Frame) (calls : List Frame) (w : World) (words path : List ℕ) (held more : List Value) (at word : ℕ) → Located c.scope t q → PlaceIn c calls t q path word → wide_of held ≡ at → Good m (hold c ((held ++ held_by (far q) word) ++ more) ∷ calls) w words → AddressAt c q at word words
   address_at (local site steps) t c calls w words path held more at word fit part ha g n reached = by (steps_far steps) reached part.1 g
     where
       by : (f : ℕ) → f ≡ suc n → PartFrom c calls site f (site_type m.program site) steps [] path word → Good m (hold c ((held ++ held_by f word) ++ more) ∷ calls) w words → slice_index words (temp (slots_of m.program c.func) at) ≡ word
@@ -261,7 +261,7 @@ module _ (m : Built) where
 
   module _ (c : Frame) (calls : List Frame) where
     -- words go from a part to temps, and from temps to it
-    part_fetched : (f site : ℕ) (steps : Steps) (t : ValueType) (path : List ℕ) (w : World) (words running : List ℕ) (at h word pc lo hi b : ℕ) (rest : Trace) → slice_get m.code.instrs pc ≡ Some (fetch_part (slots_of m.program c.func) site steps f at h) → type_at (site_type m.program site) (path_of steps) ≡ t → 0 < width t
+    part_fetched : (f site : ℕ) (steps : Steps) (t : TypeTree) (path : List ℕ) (w : World) (words running : List ℕ) (at h word pc lo hi b : ℕ) (rest : Trace) → slice_get m.code.instrs pc ≡ Some (fetch_part (slots_of m.program c.func) site steps f at h) → type_at (site_type m.program site) (path_of steps) ≡ t → 0 < width t
         → PartFrom c calls site f (site_type m.program site) steps [] path word → ((n : ℕ) → f ≡ suc n → slice_index words (temp (slots_of m.program c.func) at) ≡ word) → site_slot (slots_of m.program c.func) site + offset (site_type m.program site) path + width t ≤ depth m (c ∷ calls)
         → temp (slots_of m.program c.func) h + width t ≤ depth m (c ∷ calls) → length words ≡ depth m (c ∷ calls) → depth m (c ∷ calls) ≤ m.max
         → At m running lo hi b rest (pc + 1) (put_words words (temp (slots_of m.program c.func) h) (words_at words (site_slot (slots_of m.program c.func) site + offset (site_type m.program site) path) (width t))) w → At m running (suc lo) 1 b rest pc words w
@@ -273,7 +273,7 @@ module _ (m : Built) where
         stack_loaded m w running words (depth m (c ∷ calls)) pc lo hi b rest long deep (temp s h) (temp s at) (far_offset own steps) near (site_slot s site + offset own path) (width t)
         (subst (λ u. slice_get m.code.instrs pc ≡ Some (Load (temp s h) (temp s at) (far_offset own steps) (width u))) is here) (there n refl ∙ of) behind inside post
 
-    part_landed : (f site : ℕ) (steps : Steps) (t : ValueType) (path : List ℕ) (w : World) (words running : List ℕ) (at h word pc lo hi b : ℕ) (rest : Trace) → slice_get m.code.instrs pc ≡ Some (land_part (slots_of m.program c.func) site steps f at h) → type_at (site_type m.program site) (path_of steps) ≡ t → 0 < width t
+    part_landed : (f site : ℕ) (steps : Steps) (t : TypeTree) (path : List ℕ) (w : World) (words running : List ℕ) (at h word pc lo hi b : ℕ) (rest : Trace) → slice_get m.code.instrs pc ≡ Some (land_part (slots_of m.program c.func) site steps f at h) → type_at (site_type m.program site) (path_of steps) ≡ t → 0 < width t
         → PartFrom c calls site f (site_type m.program site) steps [] path word → ((n : ℕ) → f ≡ suc n → slice_index words (temp (slots_of m.program c.func) at) ≡ word) → site_slot (slots_of m.program c.func) site + offset (site_type m.program site) path + width t ≤ depth m (c ∷ calls)
         → temp (slots_of m.program c.func) h + width t ≤ depth m (c ∷ calls) → length words ≡ depth m (c ∷ calls) → depth m (c ∷ calls) ≤ m.max
         → At m running lo hi b rest (pc + 1) (put_words words (site_slot (slots_of m.program c.func) site + offset (site_type m.program site) path) (words_at words (temp (slots_of m.program c.func) h) (width t))) w → At m running (suc lo) 1 b rest pc words w
@@ -285,8 +285,8 @@ module _ (m : Built) where
         stack_stored m w running words (depth m (c ∷ calls)) pc lo hi b rest long deep (temp s at) (temp s h) (far_offset own steps) near (site_slot s site + offset own path) (width t)
         (subst (λ u. slice_get m.code.instrs pc ≡ Some (Store (temp s at) (far_offset own steps) (temp s h) (width u))) is here) (there n refl ∙ of) behind inside post
 
-    -- the value of a place goes to temps from h on, behind the values that stay
-    pub fetched : (q : Pl) (t : ValueType) (path : List ℕ) (word : ℕ) (base gone : List Value) (w : World) (words running : List ℕ) (at h pc lo hi b : ℕ) (rest : Trace) → slice_get m.code.instrs pc ≡ Some (fetch_code (slots_of m.program c.func) q at h) → Located c.scope t q → PlaceIn c calls t q path word → AddressAt c q at word words
+    -- the value of a place goes to temps from h on, after the values that stay
+    pub fetched : (q : Pl) (t : TypeTree) (path : List ℕ) (word : ℕ) (base gone : List Value) (w : World) (words running : List ℕ) (at h pc lo hi b : ℕ) (rest : Trace) → slice_get m.code.instrs pc ≡ Some (fetch_code (slots_of m.program c.func) q at h) → Located c.scope t q → PlaceIn c calls t q path word → AddressAt c q at word words
         → wide_of base ≡ h → h + width t ≤ temps_of m.program c.func → Good m (hold c (base ++ gone) ∷ calls) w words
         → ((words1 : List ℕ) → IsOf t (at_path (value_of w (variable_of c.env q)) path) → Good m (hold c (base ++ at_path (value_of w (variable_of c.env q)) path ∷ []) ∷ calls) w words1 → At m running lo hi b rest (pc + 1) words1 w)
         → At m running (suc lo) 1 b rest pc words w
@@ -325,7 +325,7 @@ module _ (m : Built) where
         (subst (λ p. Good m (hold c (base ++ at_path x p ∷ []) ∷ calls) w (slice_set words (temp s h) y)) (sym part.0) (temp_set m (hold c base) calls w words h y x hh (omega arith) one stands g0)))
 
     -- a place gets the value in temps from h on
-    pub landed : (q : Pl) (t : ValueType) (path : List ℕ) (word : ℕ) (gone more : List Value) (x : Value) (w : World) (words running : List ℕ) (at h pc lo hi b : ℕ) (rest : Trace) → slice_get m.code.instrs pc ≡ Some (land_code (slots_of m.program c.func) q at h) → Located c.scope t q → PlaceIn c calls t q path word → AddressAt c q at word words
+    pub landed : (q : Pl) (t : TypeTree) (path : List ℕ) (word : ℕ) (gone more : List Value) (x : Value) (w : World) (words running : List ℕ) (at h pc lo hi b : ℕ) (rest : Trace) → slice_get m.code.instrs pc ≡ Some (land_code (slots_of m.program c.func) q at h) → Located c.scope t q → PlaceIn c calls t q path word → AddressAt c q at word words
         → c.held ≡ gone ++ x ∷ more → wide_of gone ≡ h → IsOf t x → Good m (c ∷ calls) w words
         → ((words1 : List ℕ) → Good m (c ∷ calls) (written w (variable_of c.env q) path x) words1 → At m running lo hi b rest (pc + 1) words1 (written w (variable_of c.env q) path x))
         → At m running (suc lo) 1 b rest pc words w

@@ -1,16 +1,16 @@
 -- The machine follows the operands of left sides.
 use Rattle.std.proofs.Common.{◌≡◌, ℕ, suc, ◌+◌, ◌≤◌, List, [], ◌∷◌, ◌++◌, sym, ap, ◌∙◌, subst, arith, append_assoc, append-nil}
-use Rattle.value_trees.specs.Types.{ValueType}
-use Rattle.value_trees.specs.Value.{Value}
-use Rattle.typed.specs.Syntax.{Left, blank, new, to}
-use Rattle.typed.specs.Form.{LeftsFit}
-use Rattle.typed.specs.Frames.{lefts_need, lefts_reach, outgoing_of, temps_of}
+use Rattle.typed_syntax.specs.Types.{TypeTree}
+use Rattle.typed_syntax.specs.Value.{Value}
+use Rattle.typed_syntax.specs.Syntax.{Left, blank, new, to}
+use Rattle.typed_syntax.specs.Form.{LeftsFit}
+use Rattle.typed_syntax.specs.Frames.{lefts_need, lefts_reach, outgoing_of, temps_of}
 use Rattle.meaning.specs.Trace.{World}
 use Rattle.meaning.specs.Meaning
 use Rattle.meaning.specs.Meaning.{Go, Ways, Calls, Setting, Landing, nowhere, birth, on}
-use Rattle.simulated_code.specs.Code.{slots_of, place_above, lefts_above, place_code, place_end, place_size, ready_code, lefts_sized}
-use Rattle.simulated_code.proofs.Sizes.{length_place, place_ends, place_sum}
-use Rattle.simulated_code.proofs.Rooms.{place_others}
+use Rattle.program_code.specs.Code.{slots_of, place_above, lefts_above, place_code, place_end, place_size, ready_code, lefts_sized}
+use Rattle.program_code.proofs.Sizes.{length_place, place_ends, place_sum}
+use Rattle.program_code.proofs.Rooms.{place_others}
 use Rattle.simulated_code.proofs.Frames.{Built, Frame, hold, numbers, Good, wide_of}
 use Rattle.simulated_code.proofs.Places.{Standing, front, back, Panics, At, place_is}
 use Rattle.simulated_code.proofs.Moves.{held_none, CallsFollow}
@@ -19,7 +19,7 @@ use Rattle.simulated_code.proofs.Reached.{aimed}
 use Rattle.simulated_code.proofs.LeftsFollow.{Gives, together, landings}
 
 module _ (m : Built) (around : Setting) (types : around.types ≡ m.program.types) (inputs : around.items ≡ m.items) (callees : Calls) (n : ℕ) (cf : CallsFollow m callees n) where
-  pub ready_follow : (ls : List Left) (ts : List ValueType) (behind others q limit : ℕ) (c : Frame) (calls : List Frame) (ws : Ways) (k : List Landing → Ways → Go) (w : World) (words : List ℕ) (h pc lo b : ℕ) → b ≤ suc n → wide_of c.held ≡ h → Panics ws → Standing m.code c.fn pc (ready_code m.program (slots_of m.program c.func) ls h pc)
+  pub ready_follow : (ls : List Left) (ts : List TypeTree) (behind others q limit : ℕ) (c : Frame) (calls : List Frame) (ws : Ways) (k : List Landing → Ways → Go) (w : World) (words : List ℕ) (h pc lo b : ℕ) → b ≤ suc n → wide_of c.held ≡ h → Panics ws → Standing m.code c.fn pc (ready_code m.program (slots_of m.program c.func) ls h pc)
       → LeftsFit m.program c.scope q limit ts ls → h + lefts_need m.program ls behind ≤ temps_of m.program c.func → lefts_reach m.program ls others ≤ outgoing_of m.program c.func → Good m (c ∷ calls) w words
       → ((uss : List (List Value)) (ws1 : Ways) (w1 : World) (words1 : List ℕ) → Panics ws1 → Gives ls uss → wide_of (c.held ++ together uss) ≡ lefts_above ls h → Good m (hold c (c.held ++ together uss) ∷ calls) w1 words1
       → At m (numbers (c ∷ calls)) lo 0 b (k (landings c.env ls uss) ws1 w1) (pc + lefts_sized m.program ls 0) words1 w1)

@@ -1,35 +1,35 @@
 -- The machine follows a return.
 use Rattle.std.proofs.Common.{◌≡◌, ◌⊎◌, inl, inr, ℕ, zero, suc, ◌+◌, ◌-◌, ◌<◌, ◌≤◌, List, [], ◌∷◌, ◌++◌, length, map, Some, refl, sym, ap, ◌∙◌, subst, arith, append_assoc, append-nil, get_or}
 use Rattle.std.specs.Prelude.{slice_get, slice_index, drop}
-use Rattle.value_trees.specs.Value.{Value}
-use Rattle.typed.specs.Syntax.{Func, argument_words, result_words, site_type, all_width}
-use Rattle.typed.specs.Form.{AreOf, InScope}
-use Rattle.typed.specs.Frames.{frame_of, widest, temps_of}
+use Rattle.typed_syntax.specs.Value.{Value}
+use Rattle.typed_syntax.specs.Syntax.{Func, argument_words, result_words, site_type, all_width}
+use Rattle.typed_syntax.specs.Form.{AreOf, InScope}
+use Rattle.typed_syntax.specs.Frames.{frame_of, widest, temps_of}
 use Rattle.meaning.specs.Trace.{Exit, World, End}
 use Rattle.meaning.specs.Store.{value_of, written}
 use Rattle.meaning.specs.Meaning
 use Rattle.meaning.specs.Meaning.{Env, Go, Then}
 use Rattle.isa.specs.declared.instr.Instr.TheVariants.{Return}
 use Rattle.machine.specs.Machine.{put_words, words_at, owner_of}
-use Rattle.simulated_code.specs.Code.{temp, site_slot, slots_of, result_code, named_write_code, named_read_code, named_read_size, values_code, leave_code}
-use Rattle.simulated_code.proofs.Sizes.{length_named_write, length_named_read}
+use Rattle.program_code.specs.Code.{temp, site_slot, slots_of, result_code, named_write_code, named_read_code, named_read_size, values_code, leave_code}
+use Rattle.program_code.proofs.Sizes.{length_named_write, length_named_read}
 use Rattle.simulated_code.proofs.Distances.{word_at, put_length, put_other, put_same, read_length, read_index, dropped}
 use Rattle.simulated_code.proofs.Frames.{Built, stands_same, of_length, AreAt, Frame, hold, during, numbers, depth, room_of, depth_is, Good, level_keeps, stack_keeps, LieAt, StandsFor, contents_of, lie_kept, nothing, wide_of}
 use Rattle.simulated_code.proofs.Changes.{held_room, held_stand, site_room, site_stand, contents_joined, lie_joined, wide_one, one_more, are_none, fewer, written_site, left, held_words, value_put, wide_joined}
 use Rattle.simulated_code.proofs.Crossing.{Linked, first_returns, returned}
 use Rattle.simulated_code.proofs.Places.{Standing, front, back, At, later, place_is, frame_here, turned, read_of, write_of, results_set, words_moved}
 use Rattle.simulated_code.proofs.Globals.{written_kept}
-use Rattle.value_trees.specs.Types.{ValueType, width}
-use Rattle.value_trees.specs.Words.{contents}
-use Rattle.value_trees.proofs.Parts.{count_of}
+use Rattle.typed_syntax.specs.Types.{TypeTree, width}
+use Rattle.typed_syntax.specs.Words.{contents}
+use Rattle.value_laws.proofs.Parts.{count_of}
 
 -- no values of no types
-no_types : (ts : List ValueType) → length ts ≡ 0 → AreOf ts []
+no_types : (ts : List TypeTree) → length ts ≡ 0 → AreOf ts []
 no_types [] e = tt
 no_types (t ∷ ts) e = absurd (omega arith)
 
 module _ (m : Built) where
-  -- what goes on behind a return to these calls, with the results in the outgoing area
+  -- what goes on after a return to these calls, with the results in the outgoing area
   abbrev pub Home : (lo b : ℕ) → Func → List Frame → Then (List Value) → Type 0
   Home lo b func [] k = (rs : List Value) (w : World) → k rs w ≡ End (Exit 0)
   Home lo b func (up ∷ calls) k =

@@ -2,8 +2,8 @@
 use Rattle.std.proofs.Common.{◌≡◌, ℕ, zero, suc, ◌+◌, ◌-◌, ◌^◌, ◌<◌, ◌≤◌, ℤ, pos, Bool, true, false, List, [], ◌∷◌, ◌++◌, Some, Ok, refl, sym, ap, ◌∙◌, subst, arith, append_assoc, get_or-set_same}
 use Rattle.std.specs.Prelude.{slice_get, slice_index, slice_set, ◌==◌, int_lt, if◌then◌else◌}
 use Rattle.std.specs.Int.{w64, cast_signed}
-use Rattle.value_trees.specs.Value.{Value, int}
-use Rattle.typed.specs.Frames.{temps_of}
+use Rattle.typed_syntax.specs.Value.{Value, int}
+use Rattle.typed_syntax.specs.Frames.{temps_of}
 use Rattle.meaning.specs.Trace.{World}
 use Rattle.meaning.specs.Meaning
 use Rattle.meaning.specs.Meaning.{Env, Go, Then}
@@ -11,7 +11,7 @@ use Rattle.isa.specs.Bin.{bit_of, bin_of}
 use Rattle.isa.specs.declared.instr.BinOp.TheVariants as Word
 use Rattle.isa.specs.declared.instr.Instr.TheVariants.{Const, Bin, Jump, JumpZero}
 use Rattle.machine.specs.Machine.{puts_or_panics}
-use Rattle.simulated_code.specs.Code.{temp, slots_of}
+use Rattle.program_code.specs.Code.{temp, slots_of}
 use Rattle.simulated_code.proofs.Frames.{Built, Stands, Frame, during, numbers, Good, wide_of}
 use Rattle.simulated_code.proofs.Changes.{one_more, temp_set, spare_set, fewer, held_word}
 use Rattle.simulated_code.proofs.Places.{At, place_is, none_asked, turned, turned_less, stepped}
@@ -39,12 +39,12 @@ module _ (m : Built) (c : Frame) (calls : List Frame) where
       → (tested ≡ true → (w1 : World) (words1 : List ℕ) → Good m (during c env scope held ∷ calls) w1 words1 → At m (numbers (c ∷ calls)) lo 0 d (h w1) behind words1 w1)
       → At m (numbers (c ∷ calls)) lo 0 d (test env (λ v. Meaning.branch v g h) w) pc words w
 
-  -- what a round does, from behind its test to the jump back
+  -- what a round does, from after its test to the jump back
   abbrev pub Round : (held : List Value) → (scope : List ℕ) → (inside last lo b : ℕ) → (ℕ → Env → (ℕ → Env → Go) → Go) → Type 0
   Round held scope inside last lo b body =
       (v : ℕ) (j : ℕ → Env → Go) (d : ℕ) → d ≤ b → ((v1 : ℕ) → After m c calls held scope last lo d (j v1)) → After m c calls held scope inside lo d (λ env. body v env j)
 
-  -- the rounds of a loop whose test and body follow; behind the loop goes on only what a test leads to
+  -- the rounds of a loop whose test and body follow; after the loop goes on only what a test leads to
   module _ (held : List Value) (scope : List ℕ) (pc inside last behind : ℕ) (tested : Bool) (back : slice_get m.code.instrs last ≡ Some (Jump pc)) where
     pub rounds_follow : (test : Env → Then Value → Go) (body : ℕ → Env → (ℕ → Env → Go) → Go) (k : ℕ → Env → Go) (lo b : ℕ) → Tests held scope tested pc inside behind lo b test → Round held scope inside last lo b body → (tested ≡ true → (v : ℕ) → After m c calls held scope behind lo b (k v))
         → (fuel d : ℕ) → d ≤ b → d ≤ fuel → (v : ℕ) → After m c calls held scope pc lo d (Meaning.rounds fuel test body k v)

@@ -2,15 +2,15 @@
 use Rattle.std.proofs.Common.{◌≡◌, inl, inr, ℕ, zero, suc, ◌+◌, ◌≤◌, ℤ, pos, negsuc, Bool, true, false, List, [], ◌∷◌, ◌++◌, length, Some, refl, sym, ap, ◌∙◌, subst, arith, get_or, append_assoc, append-nil}
 use Rattle.std.specs.Prelude.{slice_get, slice_index, slice_set, max, replicate, not, ◌==◌, nat_lt, if◌then◌else◌}
 use Rattle.std.specs.Int.{w64, cast_signed}
-use Rattle.base.specs.declared.pos.Pos.{Pos}
-use Rattle.typed.specs.declared.operators.BinOp.{BinOp}
-use Rattle.typed.specs.declared.operators.BinOp.TheVariants.{Add, Sub, Mul, Div, Rem, And, Or, Xor, AndNot, ShiftLeft, ShiftRight, Equal, NotEqual, Less, LessEqual, Greater, GreaterEqual}
-use Rattle.value_trees.specs.Value.{Value, int, bool, IsOf}
-use Rattle.typed.specs.Syntax.{Ex, Exs, Pl, Left, Piece, none, more, results, asked, text, shown, declare, assign, update, bump, discard, break_off, go_on, give_back, print, raise, quit, argument_words, site_type, all_wide, value_widths}
-use Rattle.value_trees.specs.Types.{ValueType, ints, bools, width, struct_of, array_of}
+use Rattle.typed_syntax.specs.Positions.{Position}
+use Rattle.typed_syntax.specs.declared.operators.BinOp.{BinOp}
+use Rattle.typed_syntax.specs.declared.operators.BinOp.TheVariants.{Add, Sub, Mul, Div, Rem, And, Or, Xor, AndNot, ShiftLeft, ShiftRight, Equal, NotEqual, Less, LessEqual, Greater, GreaterEqual}
+use Rattle.typed_syntax.specs.Value.{Value, int, bool, IsOf}
+use Rattle.typed_syntax.specs.Syntax.{Ex, Exs, Pl, Left, Piece, none, more, results, read_int, text, shown, declare, assign, update, bump, discard, break_stmt, continue_stmt, return_stmt, print, panic, exit, argument_words, site_type, all_wide, value_widths}
+use Rattle.typed_syntax.specs.Types.{TypeTree, ints, bools, width, struct_of, array_of}
 use Rattle.simulated_code.proofs.Numbers.{no_struct, no_array}
-use Rattle.typed.specs.Form.{IsPlain, AreOf, IsArithmetic, IsStep, Takes, PlFits, new_sites, scope_behind, ExsFit, ReturnFits}
-use Rattle.typed.specs.Frames.{far, lefts_far, behind_values, need, need_all, reach, reach_all, temps_of}
+use Rattle.typed_syntax.specs.Form.{IsPlain, AreOf, IsArithmetic, IsStep, Takes, PlFits, new_sites, scope_behind, ExsFit, ReturnFits}
+use Rattle.typed_syntax.specs.Frames.{far, lefts_far, behind_values, need, need_all, reach, reach_all, temps_of}
 use Rattle.meaning.specs.Trace.{World, Trace, Exit, Panic, raised, raised_text, exit_code}
 use Rattle.meaning.specs.Store.{value_of, written}
 use Rattle.meaning.specs.Operators.{binary_of}
@@ -20,11 +20,11 @@ use Rattle.simulation.specs.Steps.{Stops}
 use Rattle.isa.specs.Bin.{bit_of}
 use Rattle.isa.specs.declared.instr.Instr.TheVariants.{Const, Bin, Jump, Exit as ExitWith, PanicText, PanicInt, PanicBool}
 use Rattle.machine.specs.Machine.{exits_with, panics}
-use Rattle.machine.specs.declared.place.Ending.TheVariants.{Exit as Exited, Panic as Panicked}
-use Rattle.machine.specs.declared.place.Panic.TheVariants.{Text, Int, Bool as Truth, ExitCode}
-use Rattle.simulated_code.specs.Code.{temp, slots_of, operation, place_above, above_address, lefts_above, place_code, place_size, place_end, address_code, address_size, fetch_code, land_code, ready_code, lefts_sized, lefts_end, ex_code, exs_code, pieces_code, show_code, lefts_code, values_code, leave_code, raised_code, size, exs_size, pieces_size, lefts_size, shown_size}
-use Rattle.simulated_code.proofs.Sizes.{length_address, length_place, length_ready, place_sum, place_ends, lefts_sum, lefts_ends, length_code, length_exs, length_pieces}
-use Rattle.simulated_code.proofs.Rooms.{address_room, lefts_room, place_others, lefts_others}
+use Rattle.machine.specs.declared.run_state.Ending.TheVariants.{Exit as Exited, Panic as Panicked}
+use Rattle.machine.specs.declared.run_state.Panic.TheVariants.{Text, Int, Bool as Truth, ExitCode}
+use Rattle.program_code.specs.Code.{temp, slots_of, operation, place_above, above_address, lefts_above, place_code, place_size, place_end, address_code, address_size, fetch_code, land_code, ready_code, lefts_sized, lefts_end, ex_code, exs_code, pieces_code, show_code, lefts_code, values_code, leave_code, raised_code, size, exs_size, pieces_size, lefts_size, shown_size}
+use Rattle.program_code.proofs.Sizes.{length_address, length_place, length_ready, place_sum, place_ends, lefts_sum, lefts_ends, length_code, length_exs, length_pieces}
+use Rattle.program_code.proofs.Rooms.{address_room, lefts_room, place_others, lefts_others}
 use Rattle.simulated_code.proofs.Frames.{Built, Stands, of_length, Frame, hold, during, numbers, Good, narrowed, StandIn, wide_of}
 use Rattle.simulated_code.proofs.Changes.{one_more, temp_set, fewer, held_word, wide_joined}
 use Rattle.simulated_code.proofs.Places.{Standing, front, back, Panics, At, later, place_is, turned, read_of, write_of, stepped, halted}
@@ -37,9 +37,9 @@ use Rattle.simulated_code.proofs.LeftsFollow.{together, landings, lefts_follow, 
 use Rattle.simulated_code.proofs.ReadyFollows.{ready_follow}
 use Rattle.simulated_code.proofs.ReturnsFollow.{Given}
 use Rattle.simulated_code.proofs.Leading.{After, Followed}
-use Rattle.simulated_code.proofs.Wide.{AllPlain, all_wide_is, plain_value, widths_are}
-use Rattle.value_trees.specs.Paths.{at_path}
-use Rattle.value_trees.specs.Words.{contents}
+use Rattle.program_code.proofs.Wide.{AllPlain, all_wide_is, plain_value, widths_are}
+use Rattle.typed_syntax.specs.Paths.{at_path}
+use Rattle.typed_syntax.specs.Words.{contents}
 
 arithmetic_takes : (o : BinOp) → IsArithmetic o → Takes o ints ints
 arithmetic_takes Add is = (refl, refl)
@@ -75,8 +75,8 @@ bit_tells false = refl
 
 module _ (m : Built) where
   module _ (c : Frame) (calls : List Frame) where
-    -- two operands behind a place's operands and its address: the operator, and the place gets the result
-    updated : (at : Pos) (o : BinOp) (q : Pl) (path : List ℕ) (word there a : ℕ) (ws : Ways) (env : Env) (scope : List ℕ) (held us : List Value) (v u : Value) (k : Env → Go) (w : World) (words : List ℕ) (pc lo b : ℕ)
+    -- two operands after a place's operands and its address: the operator, and the place gets the result
+    updated : (at : Position) (o : BinOp) (q : Pl) (path : List ℕ) (word there a : ℕ) (ws : Ways) (env : Env) (scope : List ℕ) (held us : List Value) (v u : Value) (k : Env → Go) (w : World) (words : List ℕ) (pc lo b : ℕ)
         → slice_get m.code.instrs pc ≡ Some (Bin (operation o) (temp (slots_of m.program c.func) a) (temp (slots_of m.program c.func) a) (temp (slots_of m.program c.func) (a + 1))) → slice_get m.code.instrs (pc + 1) ≡ Some (land_code (slots_of m.program c.func) q there a)
         → wide_of (held ++ us) ≡ there → wide_of ((held ++ us) ++ held_by m (far q) word) ≡ a → Located m scope ints q → PlaceIn m (during c env scope held) calls ints q path word → Panics ws → Takes o ints ints → IsOf ints v → IsOf ints u
         → Good m (during c env scope ((((held ++ us) ++ held_by m (far q) word) ++ v ∷ []) ++ u ∷ []) ∷ calls) w words → After m c calls held scope (pc + 1 + 1) lo b k
@@ -130,7 +130,7 @@ module _ (m : Built) where
         place_is m (let e : pc + lefts_sized m.program ls (exs_size m.program es + lefts_size ls) ≡ behind + exs_size m.program es + lefts_size ls = omega (arith, lefts_sum m.program ls (exs_size m.program es + lefts_size ls), ends) in e)
         (post refl env1 w3 words3 (fewer m (during c env1 (scope_behind scope ls) held) calls w3 words3 held (together uss ++ vs) (subst (λ l. Good m (during c env1 (scope_behind scope ls) l ∷ calls) w3 words3) (append_assoc held (together uss) vs) g3)))))))
 
-    pub update_follows : (at : Pos) (p : Pl) (o : BinOp) (e : Ex) → Followed m c calls around callees n (update at p o e)
+    pub update_follows : (at : Position) (p : Pl) (o : BinOp) (e : Ex) → Followed m c calls around callees n (update at p o e)
     update_follows at p o e ws env k w words held h looped outer scope q out again pc lo b le hh has fit enough reaches sc leads g post =
         let s = slots_of m.program c.func in let fs = m.program in let c0 = during c env scope held in
         let there = place_above p h in let a = above_address (far p) there in let operands = place_size fs p 0 in let behind = place_end fs p pc + (address_size p + 1) in
@@ -157,8 +157,8 @@ module _ (m : Built) where
         (updated c calls at o p path word there a ws env scope held us v u k w1 words3 (behind + size fs e) lo b has_o.0.0 has_o.1.0.0 above wide loc part leads.panics (arithmetic_takes o fit.0) iv iu g3
         (λ env1 w2 words4 g4. place_is m (let r : pc + place_size fs p (address_size p + 1 + size fs e + 1 + 1) ≡ behind + size fs e + 1 + 1 = omega (arith, place_sum fs p (address_size p + 1 + size fs e + 1 + 1), begins) in r) (post refl env1 w2 words4 g4))))))))))
 
-    pub bump_follows : (p : Pl) (o : BinOp) → Followed m c calls around callees n (bump p o)
-    bump_follows p o ws env k w words held h looped outer scope q out again pc lo b le hh has fit enough reaches sc leads g post =
+    pub bump_follows : (at : Position) (p : Pl) (o : BinOp) → Followed m c calls around callees n (bump at p o)
+    bump_follows at p o ws env k w words held h looped outer scope q out again pc lo b le hh has fit enough reaches sc leads g post =
         let s = slots_of m.program c.func in let fs = m.program in let c0 = during c env scope held in
         let there = place_above p h in let a = above_address (far p) there in let size = place_size fs p 0 in let behind = pc + size + address_size p + 1 in
         let cp = place_code fs s p h pc in let ca = address_code s p h there in
@@ -177,7 +177,7 @@ module _ (m : Built) where
         (fetched m c0 calls p ints path word base [] w0 words1 (numbers (c ∷ calls)) there a (pc + size + address_size p) (suc (suc (suc lo))) 1 b _ has_f.0.0 loc part address wide (omega arith) (subst (λ l. Good m (during c env scope l ∷ calls) w0 words1) (sym (append-nil base)) g1) (λ words2 iv g2.
         let above_v = one_more base v a 1 wide (plain_value ints v (inl refl) iv) in
         stepped m {lo = suc (suc lo)} {hi = 1} (Const (temp s (a + 1)) 1) has_f.1.0.0 (λ heap. refl)
-        (updated c calls Meaning.no_pos o p path word there a ws env scope held us v (int (pos 1)) k w0 (slice_set words2 (temp s (a + 1)) 1) (behind + 1) lo b has_f.1.1.0.0 has_f.1.1.1.0.0 above wide loc part leads.panics (step_takes o fit.0) iv tt
+        (updated c calls at o p path word there a ws env scope held us v (int (pos 1)) k w0 (slice_set words2 (temp s (a + 1)) 1) (behind + 1) lo b has_f.1.1.0.0 has_f.1.1.1.0.0 above wide loc part leads.panics (step_takes o fit.0) iv tt
         (temp_set m (hold c0 (base ++ v ∷ [])) calls w0 words2 (a + 1) 1 (int (pos 1)) above_v (omega arith) refl (refl, omega arith) g2)
         (λ env1 w2 words4 g4. place_is m (let r : pc + place_size fs p (address_size p + 1 + 2 + 1) ≡ behind + 1 + 1 + 1 = omega (arith, place_sum fs p (address_size p + 1 + 2 + 1)) in r) (post refl env1 w2 words4 g4))))))))
 
@@ -187,16 +187,16 @@ module _ (m : Built) where
         post refl env w1 words1 (fewer m (during c env scope held) calls w1 words1 held vs g1))
     discard_follows none ws env k w words held h looped outer scope q out again pc lo b le hh has fit enough reaches sc leads g post = absurd fit
     discard_follows (more e es) ws env k w words held h looped outer scope q out again pc lo b le hh has fit enough reaches sc leads g post = absurd fit
-    discard_follows asked ws env k w words held h looped outer scope q out again pc lo b le hh has fit enough reaches sc leads g post =
-        evs_follow m around types inputs callees n cf asked fit.0 (during c env scope held) calls ws (λ vs. k env) w words h pc lo b le hh leads.panics has fit.1 enough reaches g (λ vs w1 words1 are g1.
+    discard_follows read_int ws env k w words held h looped outer scope q out again pc lo b le hh has fit enough reaches sc leads g post =
+        evs_follow m around types inputs callees n cf read_int fit.0 (during c env scope held) calls ws (λ vs. k env) w words h pc lo b le hh leads.panics has fit.1 enough reaches g (λ vs w1 words1 are g1.
         post refl env w1 words1 (fewer m (during c env scope held) calls w1 words1 held vs g1))
 
-    pub break_follows : Followed m c calls around callees n break_off
+    pub break_follows : Followed m c calls around callees n break_stmt
     break_follows ws env k w words held h looped outer scope q out again pc lo b le hh has fit enough reaches sc leads g post =
         turned m {lo1 = suc lo} (omega arith) (stepped m {lo = lo} {hi = 0} (Jump out) has.0.0 (λ heap. refl)
         (leads.broken fit refl env w words (narrowed m (hold c held) env scope outer calls w words leads.around g)))
 
-    pub continue_follows : Followed m c calls around callees n go_on
+    pub continue_follows : Followed m c calls around callees n continue_stmt
     continue_follows ws env k w words held h looped outer scope q out again pc lo b le hh has fit enough reaches sc leads g post =
         turned m {lo1 = suc lo} (omega arith) (stepped m {lo = lo} {hi = 0} (Jump again) has.0.0 (λ heap. refl)
         (leads.continued fit env w words (narrowed m (hold c held) env scope outer calls w words leads.around g)))
@@ -211,13 +211,13 @@ module _ (m : Built) where
     none_given (v ∷ vs) are = absurd are
 
     return_values : (scope : List ℕ) (es : Exs) → ReturnFits m.program scope c.func.results (length c.func.named) es
-        → (ts : List ValueType) × ExsFit m.program scope ts es × ((vs : List Value) → AreOf ts vs → (wide_of vs ≡ all_wide m.program es) × Given m c.func (all_wide m.program es) vs)
+        → (ts : List TypeTree) × ExsFit m.program scope ts es × ((vs : List Value) → AreOf ts vs → (wide_of vs ≡ all_wide m.program es) × Given m c.func (all_wide m.program es) vs)
     return_values scope none fit = ([], tt, λ vs are. (of_length [] vs are, inr (refl, none_given vs are, sym fit)))
     return_values scope (more e es) fit = (c.func.results, fit, values_given scope (more e es) fit)
     return_values scope (results f es) fit = (c.func.results, fit, values_given scope (results f es) fit)
-    return_values scope asked fit = (c.func.results, fit, values_given scope asked fit)
+    return_values scope read_int fit = (c.func.results, fit, values_given scope read_int fit)
 
-    pub return_follows : (es : Exs) → Followed m c calls around callees n (give_back es)
+    pub return_follows : (es : Exs) → Followed m c calls around callees n (return_stmt es)
     return_follows es ws env k w words held h looped outer scope q out again pc lo b le hh has fit enough reaches sc leads g post =
         let s = slots_of m.program c.func in let fs = m.program in let a = argument_words c.func in let named = c.func.named in
         let ces = exs_code fs s es h pc in let behind = values_code s a (all_wide fs es) named h ++ leave_code s a named in
@@ -241,7 +241,7 @@ module _ (m : Built) where
         showing plain false vs w1 words1 are has_l g1 on = plain_follows m around.strings strings ps vs held (held ++ vs) (k env) (during c env scope held) calls w1 words1 h (pc + pieces_size m.program ps) lo b plain are hh refl has_l g1 on
 
     -- a panic that a value is raised with
-    raises : (at : Pos) (t : ValueType) (v : Value) (ws : Ways) (env : Env) (w : World) (words : List ℕ) (a pc lo b : ℕ) → IsPlain t → Panics ws → slice_get m.code.instrs pc ≡ Some (raised_code t a) → IsOf t v → Stands v (slice_index words a)
+    raises : (at : Position) (t : TypeTree) (v : Value) (ws : Ways) (env : Env) (w : World) (words : List ℕ) (a pc lo b : ℕ) → IsPlain t → Panics ws → slice_get m.code.instrs pc ≡ Some (raised_code t a) → IsOf t v → Stands v (slice_index words a)
         → At m (numbers (c ∷ calls)) (suc lo) 1 b (ws.panicked at (raised v) env w) pc words w
     raises at ints (int z) ws env w words a pc lo b plain stops here typed stands =
         subst (λ (u : Trace). At m (numbers (c ∷ calls)) (suc lo) 1 b u pc words w) (sym (stops at (raised (int z)) env w))
@@ -254,7 +254,7 @@ module _ (m : Built) where
     raises at (struct_of ts) v ws env w words a pc lo b plain stops here typed stands = absurd (no_struct ts plain)
     raises at (array_of i t) v ws env w words a pc lo b plain stops here typed stands = absurd (no_array i t plain)
 
-    pub raise_follows : (at : Pos) (p : Piece) → Followed m c calls around callees n (raise at p)
+    pub raise_follows : (at : Position) (p : Piece) → Followed m c calls around callees n (panic at p)
     raise_follows at (text number) ws env k w words held h looped outer scope q out again pc lo b le hh has fit enough reaches sc leads g post =
         turned m {lo1 = suc lo} (omega arith)
         (subst (λ (u : Trace). At m (numbers (c ∷ calls)) (suc lo) 1 b u pc words w) (sym (leads.panics at (raised_text (get_or around.strings number [])) env w))
@@ -267,7 +267,7 @@ module _ (m : Built) where
         turned m {lo1 = suc lo} (omega arith) (raises at t v ws env w1 words1 (temp s h) (pc + size fs e) lo b fit.0 leads.panics has_p.0.0 iv (held_word m (during c env scope held) calls w1 words1 held [] v h hh (plain_value t v fit.0 iv) g1)))
 
     -- an exit, with a status or with a panic
-    quits : (at : Pos) (z : ℤ) (ws : Ways) (env : Env) (w : World) (words : List ℕ) (a pc lo b : ℕ) → Panics ws → slice_get m.code.instrs pc ≡ Some (ExitWith a) → cast_signed w64 (slice_index words a) ≡ z
+    quits : (at : Position) (z : ℤ) (ws : Ways) (env : Env) (w : World) (words : List ℕ) (a pc lo b : ℕ) → Panics ws → slice_get m.code.instrs pc ≡ Some (ExitWith a) → cast_signed w64 (slice_index words a) ≡ z
         → At m (numbers (c ∷ calls)) (suc lo) 1 b (Meaning.quit_with ws env at z w) pc words w
     quits at (pos z) ws env w words a pc lo b stops here stands = by (nat_lt z 126) refl
       where
@@ -280,7 +280,7 @@ module _ (m : Built) where
         subst (λ (u : Trace). At m (numbers (c ∷ calls)) (suc lo) 1 b u pc words w) (sym (stops at (exit_code (negsuc z)) env w))
         (halted m {lo = lo} (ExitWith a) (Panic at (exit_code (negsuc z))) (Panicked (ExitCode (negsuc z))) here refl (λ heap. ap exits_with stands))
 
-    pub quit_follows : (at : Pos) (e : Ex) → Followed m c calls around callees n (quit at e)
+    pub quit_follows : (at : Position) (e : Ex) → Followed m c calls around callees n (exit at e)
     quit_follows at e ws env k w words held h looped outer scope q out again pc lo b le hh has fit enough reaches sc leads g post =
         let s = slots_of m.program c.func in let fs = m.program in
         let ce = ex_code fs s e h pc in

@@ -1,12 +1,10 @@
 -- What the code of a program does, against what the program means.
 use Rattle.std.specs.Prelude.{◌≡◌, ⊤, ℕ, ◌*◌, ◌^◌, ◌≤◌, List, [], ◌∷◌, length, replicate, get_or, slice_get, Option, Some, None, nat_le, if◌then◌else◌, IfSome, FitsSigned}
 use Rattle.std.specs.Int.{w64}
-use Rattle.typed.specs.declared.expr.Const.{Const}
-use Rattle.value_trees.specs.Value.{Value, int, bool}
-use Rattle.typed.specs.Syntax.{Program}
-use Rattle.typed.specs.View.{value_of}
-use Rattle.typed.specs.Frames.{frame_words}
-use Rattle.typed.specs.Placement.{on_heap}
+use Rattle.typed_syntax.specs.Value.{Value, int, bool}
+use Rattle.typed_syntax.specs.Syntax.{Program}
+use Rattle.typed_syntax.specs.Frames.{frame_words}
+use Rattle.typed_syntax.specs.Placement.{on_heap}
 use Rattle.meaning.specs.Trace.{Ending, Exit, Panic, StackLimit, HeapLimit, Fault, divide_by_zero, shift_count, index_out_of_range, exit_code, raised_text, raised}
 use Rattle.meaning.specs.Meaning.{Item}
 use Rattle.meaning.specs.Output.{Limits, Sight, printing, asking, source}
@@ -16,12 +14,12 @@ use Rattle.heap_bump.specs.Words.{Words}
 use Rattle.isa.specs.Code.{Tables}
 use Rattle.isa.specs.declared.func.Func.{Func as Entry}
 use Rattle.machine.specs.Machine.{State, Event, Printed, Asked, act}
-use Rattle.machine.specs.declared.place.Ending.{Ending as Stop}
-use Rattle.machine.specs.declared.place.Ending.TheVariants as Machine
-use Rattle.machine.specs.declared.place.Panic.{Panic as MachinePanic}
-use Rattle.machine.specs.declared.place.Panic.TheVariants as machine_panic
-use Rattle.simulated_code.specs.Code.{word_of, code_of}
-use Rattle.typed.specs.Form.{IsInForm}
+use Rattle.machine.specs.declared.run_state.Ending.{Ending as Stop}
+use Rattle.machine.specs.declared.run_state.Ending.TheVariants as Machine
+use Rattle.machine.specs.declared.run_state.Panic.{Panic as MachinePanic}
+use Rattle.machine.specs.declared.run_state.Panic.TheVariants as machine_panic
+use Rattle.program_code.specs.Code.{word_of, code_of}
+use Rattle.typed_syntax.specs.Form.{IsInForm}
 
 abbrev pub same_event : Sight → Event → Type 0
 same_event (printing bytes) e = e ≡ Printed bytes
@@ -58,11 +56,6 @@ abbrev pub first_words : List (ℕ × Value) → List ℕ
 first_words [] = []
 first_words (g ∷ gs) = word_of g.1 ∷ first_words gs
 
--- the same of data: the zero value of each type stands as 0
-abbrev pub begun_word : Option Const → ℕ
-begun_word None = 0
-begun_word (Some c) = word_of (value_of c)
-
 -- a function is entered, with no words of the stack in use before, and with a heap
 abbrev pub first_state : Entry → Words → State
 first_state f heap = record { pc = f.start; words = replicate f.frame 0; reads = 0; heap = heap }
@@ -73,7 +66,7 @@ entered code items stack_max heap (Some f) k =
     if nat_le f.frame stack_max then exec (act code stack_max items) k (first_state f heap) else Ends (Machine.StackLimit 0 f.frame stack_max)
 
 -- What the code shows in at most k instructions from the entry of the function `main`, where these are the items of the
--- input, and the stack and the heap have at most so many words. The package variables come first: each takes a word of the
+-- input, and the stack has at most stack_max and the heap at most heap_max words. The package variables come first: each takes a word of the
 -- heap, so the first that has no room finds the heap full.
 abbrev pub target : Tables → (ℕ → Item) → (globals : List ℕ) → (main stack_max heap_max : ℕ) → ℕ → Outcome Event Stop
 target code items globals main stack_max heap_max k =

@@ -1,4 +1,4 @@
-//! The law. The function carries it as its clause, and does nothing.
+//! The theorem as a law: the function carries it as its clause, and does nothing.
 
 ghost use Rattle.simulated_code.specs.Correct.{CodeSimulates};
 

@@ -18,7 +18,7 @@ abbrev pub after : {S D Y : Type 0} → Done S D Y → (S → Outcome D Y) → O
 after (Goes es s) k = giving es (k s)
 after (Stops es e) k = giving es (Ends e)
 
--- what is shown by at most so many steps
+-- what is shown by at most n steps
 abbrev pub exec : {S D Y : Type 0} → (S → Done S D Y) → ℕ → S → Outcome D Y
 exec step zero s = Unfinished
 exec step (suc n) s = after (step s) (exec step n)
@@ -32,7 +32,7 @@ abbrev pub go_on : {S D Y : Type 0} → Done S D Y → (S → Done S D Y) → Do
 go_on (Goes es s) k = behind es (k s)
 go_on (Stops es e) k = Stops es e
 
--- what so many steps, or fewer where the run stops before, come to
+-- what n steps, or fewer where the run stops before, come to
 unfoldable pub many : {S D Y : Type 0} → (S → Done S D Y) → ℕ → S → Done S D Y
 many step zero s = Goes [] s
 many step (suc n) s = go_on (step s) (many step n)

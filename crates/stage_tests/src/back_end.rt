@@ -5,7 +5,7 @@ ghost use Rattle.machine.specs.Inside.{Inside};
 use compile::compile;
 use heap_bump::Heap;
 use isa::{Code, Instr};
-use machine::{Ending, Next, Place, run};
+use machine::{Ending, Next, RunState, run};
 use outside::{IntReader, MemSink, MemSource};
 use std::alloc::Global;
 use std::process::Abort;
@@ -19,8 +19,8 @@ const MOST: u64 = 100;
 
 pub(crate) const END: u64 = (1 << 40) + MOST;
 
-/// Whether a frame lies inside so many words.
-fn is_inside(code: &Code, long: usize, at: Place) -> bool
+/// Whether a frame lies inside `long` words.
+fn is_inside(code: &Code, long: usize, at: RunState) -> bool
     requires { at.base ≤ 2 ^ 32 }
     ensures { IsTrue result → Inside code.now long at.pc at.base }
 {
@@ -32,13 +32,13 @@ fn is_inside(code: &Code, long: usize, at: Place) -> bool
     f < funcs.len() && at.base + funcs[f].frame as usize <= long
 }
 
-/// Runs so many steps from a place, with an empty heap, and with nothing to read.
+/// Runs `steps` steps from a place, with an empty heap, and with nothing to read.
 pub(crate) fn run_from(
     rt: &impl Abort,
     alloc: Global,
     code: &Code,
     words: &mut Vec<u64>,
-    at: Place,
+    at: RunState,
     steps: u64,
     out: &mut MemSink,
 ) -> Next {
@@ -62,19 +62,17 @@ pub(crate) fn run_from(
     )
 }
 
-#[test]
-fn a_run_goes_on(rt: HostRuntime) -> Result<(), Fail> {
-    let alloc = rt.alloc();
-    let compiled = compile(alloc, TEXT.as_bytes())?;
-    let main = compiled.code.funcs().first().ok_or("no function")?;
+/// A code whose run is stopped and goes on.
+fn check_run(rt: &impl Abort, alloc: Global, code: &Code) -> Result<(), Fail> {
+    let main = code.funcs().first().ok_or("no function")?;
     let mut words = vec![in alloc; 0; main.frame as usize]?;
     let mut out = MemSink::new(alloc, Vec::new(alloc));
-    let mut at = Place {
+    let mut at = RunState {
         pc: main.start as usize,
         base: 0,
     };
     for (steps, want) in [(0, None), (60, None), (1000, Some(Ending::Exit(0)))] {
-        let next = run_from(&rt, alloc, &compiled.code, &mut words, at, steps, &mut out);
+        let next = run_from(rt, alloc, code, &mut words, at, steps, &mut out);
         assert_eq!(rt; next.ending, want);
         at = next.at;
     }
@@ -82,10 +80,16 @@ fn a_run_goes_on(rt: HostRuntime) -> Result<(), Fail> {
     Ok(())
 }
 
-/// Places of the code: behind the first call, of the only argument that is taken, and of the last results and return.
+#[test]
+fn a_run_goes_on(rt: HostRuntime) -> Result<(), Fail> {
+    let compiled = compile(rt.alloc(), TEXT.as_bytes())?;
+    check_run(&rt, rt.alloc(), &compiled.code)
+}
+
+/// Places of the code: after the first call, of the only argument that is taken, and of the last results and return.
 #[derive(Clone, Copy)]
 struct Places {
-    behind: usize,
+    after: usize,
     argument: usize,
     results: usize,
     leave: usize,
@@ -93,14 +97,14 @@ struct Places {
 
 fn places_of(code: &Code) -> Places {
     let mut places = Places {
-        behind: 0,
+        after: 0,
         argument: 0,
         results: 0,
         leave: 0,
     };
     for (place, instr) in code.instrs().iter().enumerate() {
         match instr {
-            Instr::Call { .. } if places.behind == 0 => places.behind = place.saturating_add(1),
+            Instr::Call { .. } if places.after == 0 => places.after = place.saturating_add(1),
             Instr::Argument { .. } | Instr::ArgumentWords { .. } => places.argument = place,
             Instr::SetResults { .. } => places.results = place,
             Instr::Return => places.leave = place,
@@ -110,7 +114,7 @@ fn places_of(code: &Code) -> Places {
     places
 }
 
-/// The words of a frame with its link and return place at its upper end, and some words behind it.
+/// The words of a frame with its link and return place at its upper end, and some words after it.
 fn stack(alloc: Global, frame: u16, link: u64, place: u64, more: usize) -> Result<Vec<u64>, Fail> {
     let mut words = vec![in alloc; 0; (frame as usize).saturating_sub(2)]?;
     words.push(link)?;
@@ -129,30 +133,26 @@ fn ending_from(
     mut words: Vec<u64>,
 ) -> Option<Ending> {
     let mut out = MemSink::new(alloc, Vec::new(alloc));
-    let at = Place { pc, base: 0 };
+    let at = RunState { pc, base: 0 };
     run_from(rt, alloc, code, &mut words, at, 1000, &mut out).ending
 }
 
 /// The frame of `sum` lies alone, or before a frame of `main` or a part of it, and is left, or its incoming words are touched.
-#[test]
-fn wild_words_are_found(rt: HostRuntime) -> Result<(), Fail> {
-    let alloc = rt.alloc();
-    let compiled = compile(alloc, TEXT.as_bytes())?;
-    let code = &compiled.code;
+fn check_wild_words(rt: &impl Abort, alloc: Global, code: &Code) -> Result<(), Fail> {
     let places = places_of(code);
-    let behind = places.behind as u64;
+    let after = places.after as u64;
     let main = code.funcs().first().ok_or("no function")?.frame as usize;
     let sum = code.funcs().last().ok_or("no function")?.frame;
     let returns: [(u64, u64, usize, Ending); 10] = [
         (0, 0, 0, Ending::Exit(0)),
-        (0, behind, 0, Ending::WildReturn(behind)),
+        (0, after, 0, Ending::WildReturn(after)),
         (END - MOST, 0, 0, Ending::WildLink(END - MOST)),
-        (END - MOST, behind, 0, Ending::WildReturn(behind)),
-        (END, behind, main, Ending::Exit(0)),
-        (END - 1, behind, main, Ending::WildLink(END - 1)),
+        (END - MOST, after, 0, Ending::WildReturn(after)),
+        (END, after, main, Ending::Exit(0)),
+        (END - 1, after, main, Ending::WildLink(END - 1)),
         (
             END + 1,
-            behind,
+            after,
             main.saturating_sub(1),
             Ending::WildLink(END + 1),
         ),
@@ -162,12 +162,12 @@ fn wild_words_are_found(rt: HostRuntime) -> Result<(), Fail> {
     ];
     for (link, place, more, want) in returns {
         let words = stack(alloc, sum, link, place, more)?;
-        let got = ending_from(&rt, alloc, code, places.leave, words);
+        let got = ending_from(rt, alloc, code, places.leave, words);
         assert_eq!(rt; got, Some(want), "link {link} place {place}");
     }
     for (pc, more) in [(places.argument, 0), (places.results, 1)] {
         let words = stack(alloc, sum, 0, 0, more)?;
-        let got = ending_from(&rt, alloc, code, pc, words);
+        let got = ending_from(rt, alloc, code, pc, words);
         assert_eq!(rt;
             got,
             Some(Ending::WildAddress(END)),
@@ -175,4 +175,10 @@ fn wild_words_are_found(rt: HostRuntime) -> Result<(), Fail> {
         );
     }
     Ok(())
+}
+
+#[test]
+fn wild_words_are_found(rt: HostRuntime) -> Result<(), Fail> {
+    let compiled = compile(rt.alloc(), TEXT.as_bytes())?;
+    check_wild_words(&rt, rt.alloc(), &compiled.code)
 }

@@ -18,8 +18,8 @@ a := 1; { a := a; a = 3 }; a = 4 => (set +v2 = 1) { (set +v3 = v2) (set v3 = 3) 
 a := 1; _, (a) = a, 2 => (set +v2 = 1) (set _ v2 = v2 2)
 var a, _ int; var b = a + 1; var _, c bool = true, false => (new v2) (set +v3 = (+ v2 1)) (set _ +v4 = true false)
 var (a int; b, c = a, a) => (new v2) (set +v3 +v4 = v2 v2)
-a := 7; a /= 2; a <<= 1; a -= a; a++; a-- => (set +v2 = 7) (/@9= v2 2) (<<@17= v2 1) (-= v2 v2) (+1 v2) (-1 v2)
-a := 1; a = -a + ^a*2 - a/3%4 => (set +v2 = 1) (set v2 = (- (+ (- v2) (* (^ v2) 2)) (%@25 (/@25 v2 3) 4)))
+a := 7; a /= 2; a <<= 1; a -= a; a++; a-- => (set +v2 = 7) (/@11= v2 2) (<<@19= v2 1) (-= v2 v2) (+1 v2) (-1 v2)
+a := 1; a = -a + ^a*2 - a/3%4 => (set +v2 = 1) (set v2 = (- (+ (- v2) (* (^ v2) 2)) (%@28 (/@26 v2 3) 4)))
 a := 1<<3 + 4/3; b := a < 9 && true || !(a == 1 << 2) => (set +v2 = 9) (set +v3 = (|| (&& (< v2 9) true) (! (== v2 4))))
 a := f(1, true); f(a, false) => (set +v2 = (f0 1 true)) (do (all f0 v2 false))
 a, b := g(); a, _ = g(); f(g()) => (set +v2 +v3 = (all f1)) (set v2 _ = (all f1)) (do (all f0 (all f1)))
@@ -37,7 +37,7 @@ i := 0; for i = range i { }; for _ = range 2 { } => (set +v2 = 0) (count v2 v2 {
 return => (return)
 ";
 
-/// Whole programs behind the clause of their package, on a line of their own: their functions, sites and strings in the order of the text.
+/// Whole programs after the clause of their package, on a line of their own: their functions, sites and strings in the order of the text.
 const PROGRAMS: &str = "
 func main() { } => f0 (func@6 0+0::: { })
 func f(a int, _ bool, b int) (int, bool) { return b, true }; func main() { c := 1; f(c, true, 2) } => f1 (func@6 0+2: v0 _ v1: int bool int: int bool { (return v1 true) }) (func@67 2+1::: { (set +v2 = 1) (do (all f0 v2 true 2)) }) int@8 int@23 int@76
@@ -55,6 +55,20 @@ fn write_main(compiled: &Compiled, out: &mut String) -> Result<(), AllocError> {
     }
 }
 
+/// What a text comes to: the body of `main` or the whole program, or the fault.
+fn write_outcome(
+    alloc: Global,
+    text: &str,
+    is_body: bool,
+    out: &mut String,
+) -> Result<(), AllocError> {
+    match compile(alloc, text.as_bytes()) {
+        Ok(compiled) if is_body => write_main(&compiled, out),
+        Ok(compiled) => write_program(&compiled.program, out),
+        Err(fault) => write!(out, "{fault:?}"),
+    }
+}
+
 #[test]
 fn bodies(rt: HostRuntime) -> Result<(), Fail> {
     let alloc = rt.alloc();
@@ -63,10 +77,7 @@ fn bodies(rt: HostRuntime) -> Result<(), Fail> {
             Some((line, want)) => {
                 let text = format!(in alloc; "{BEFORE}\n{line}\n}}")?;
                 let mut got = String::new(alloc);
-                match compile(alloc, text.as_bytes()) {
-                    Ok(compiled) => write_main(&compiled, &mut got)?,
-                    Err(fault) => write!(got, "{fault:?}")?,
-                }
+                write_outcome(alloc, text.as_str(), true, &mut got)?;
                 assert_eq!(rt; got.as_str().trim_start(), want, "{line}");
             }
             None => assert!(rt; row.is_empty(), "{row}"),
@@ -83,10 +94,7 @@ fn programs(rt: HostRuntime) -> Result<(), Fail> {
             Some((line, want)) => {
                 let text = format!(in alloc; "package main\n{line}")?;
                 let mut got = String::new(alloc);
-                match compile(alloc, text.as_bytes()) {
-                    Ok(compiled) => write_program(&compiled.program, &mut got)?,
-                    Err(fault) => write!(got, "{fault:?}")?,
-                }
+                write_outcome(alloc, text.as_str(), false, &mut got)?;
                 assert_eq!(rt; got.as_str(), want, "{line}");
             }
             None => assert!(rt; row.is_empty(), "{row}"),

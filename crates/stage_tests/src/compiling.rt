@@ -3,18 +3,12 @@
 use base::Pos;
 use compile::{CompileFault, compile};
 use frame_layout::LayoutFault;
-use parse_go::ParseFault;
-use scan_go::{FaultKind as ScanKind, ScanFault};
 use std::alloc::Global;
 use std::test::Fail;
-use value_types::{Fault, FaultKind, TypeFault};
+use type_faults::{Fault, FaultKind, TypeFault};
 
 fn pos(offset: u32, line: u32, col: u32) -> Pos {
     Pos { offset, line, col }
-}
-
-fn type_fault(kind: FaultKind, pos: Pos) -> CompileFault {
-    CompileFault::Typing(TypeFault::Fault(Fault { kind, pos }))
 }
 
 /// The fault of a text, if it has one.
@@ -23,72 +17,6 @@ fn fault_of(alloc: Global, text: &[u8]) -> Option<CompileFault> {
         Ok(_) => None,
         Err(fault) => Some(fault),
     }
-}
-
-// Each body stands behind `func main() {` on line 2, so a fault at the body's first byte stands at column 15.
-#[test]
-fn faults_of_each_stage(rt: HostRuntime) -> Result<(), Fail> {
-    let table: [(&str, CompileFault); 17] = [
-        (
-            "x := #",
-            CompileFault::Scan(ScanFault::Fault(ScanKind::BadChar, pos(32, 2, 20))),
-        ),
-        (
-            "x := 08",
-            CompileFault::Scan(ScanFault::Fault(ScanKind::BadNumber, pos(32, 2, 20))),
-        ),
-        (
-            "x + = 1",
-            CompileFault::Parse(ParseFault::Unexpected(pos(31, 2, 19))),
-        ),
-        ("x + 1", type_fault(FaultKind::Unknown, pos(27, 2, 15))),
-        ("1 + 1", type_fault(FaultKind::NotUsedValue, pos(27, 2, 15))),
-        ("x = 1", type_fault(FaultKind::Unknown, pos(27, 2, 15))),
-        ("println(y)", type_fault(FaultKind::Unknown, pos(35, 2, 23))),
-        ("x := x", type_fault(FaultKind::Unknown, pos(32, 2, 20))),
-        (
-            "x := 1; x := 2",
-            type_fault(FaultKind::NothingNew, pos(37, 2, 25)),
-        ),
-        (
-            "println(9223372036854775808)",
-            type_fault(FaultKind::ConstRange, pos(35, 2, 23)),
-        ),
-        (
-            "x := 1; y := x + 9223372036854775808",
-            type_fault(FaultKind::ConstRange, pos(44, 2, 32)),
-        ),
-        (
-            "x := 9223372036854775807 + 1",
-            type_fault(FaultKind::ConstRange, pos(32, 2, 20)),
-        ),
-        (
-            "x := 170141183460469231731687303715884105727 + 1 - 1",
-            type_fault(FaultKind::ConstRange, pos(32, 2, 20)),
-        ),
-        (
-            "x := true + 1",
-            type_fault(FaultKind::Mismatch, pos(32, 2, 20)),
-        ),
-        (
-            "x := len",
-            type_fault(FaultKind::OutOfProfile, pos(32, 2, 20)),
-        ),
-        ("_ := y", type_fault(FaultKind::NothingNew, pos(29, 2, 17))),
-        (
-            "x := y; println(x, 9223372036854775808)",
-            type_fault(FaultKind::Unknown, pos(32, 2, 20)),
-        ),
-    ];
-    for (body, fault) in table {
-        let text = format!(in rt.alloc(); "package main\nfunc main() {{ {body} }}\n")?;
-        assert_eq!(rt;
-            fault_of(rt.alloc(), text.as_bytes()),
-            Some(fault),
-            "of {body}"
-        );
-    }
-    Ok(())
 }
 
 #[test]
@@ -140,5 +68,23 @@ fn the_largest_frame(rt: HostRuntime) -> Result<(), Fail> {
             "{operands} operands"
         );
     }
+    Ok(())
+}
+
+/// The 4,097th function stands at its name.
+#[test]
+fn too_many_functions(rt: HostRuntime) -> Result<(), Fail> {
+    let alloc = rt.alloc();
+    let mut text = String::from_str(alloc, "package main\nfunc main() {}\n")?;
+    for _ in 1..4096 {
+        text.push_str("func _() {}\n")?;
+    }
+    assert_eq!(rt; fault_of(alloc, text.as_bytes()), None);
+    text.push_str("func _() {}\n")?;
+    let too_many = CompileFault::Typing(TypeFault::Fault(Fault {
+        kind: FaultKind::TooLarge,
+        pos: pos(49_173, 4098, 6),
+    }));
+    assert_eq!(rt; fault_of(alloc, text.as_bytes()), Some(too_many));
     Ok(())
 }

@@ -7,7 +7,7 @@ ghost use Rattle.isa.specs.declared.func.Func.{Func};
 use crate::back_end::{END, run_from};
 use heap_bump::HEAP_LOW;
 use isa::{Code, Func, Instr};
-use machine::{Ending, Panic, Place};
+use machine::{Ending, Panic, RunState};
 use outside::MemSink;
 use std::alloc::{AllocError, Global};
 use std::process::Abort;
@@ -27,7 +27,7 @@ fn func() -> Func
     }
 }
 
-/// Whether so many slots from one on are slots of the function.
+/// Whether the `n` slots from `a` on are slots of the function.
 fn are_slots(a: u16, n: u16) -> bool
     ensures { IsTrue result → a + n ≤ 7 }
 {
@@ -82,8 +82,8 @@ const LOW: u64 = END - 12;
 /// heap's first one.
 const ADDRESSES: [u64; SLOTS] = [10, 20, 0, LOW, LOW - 1, END - 2, HEAP_LOW];
 
-/// The first slots behind an instruction; the others keep their words.
-fn slots_behind(before: [u64; SLOTS], first: &[u64]) -> [u64; SLOTS] {
+/// The first slots after an instruction; the others keep their words.
+fn slots_after(before: [u64; SLOTS], first: &[u64]) -> [u64; SLOTS] {
     let mut slots = before;
     for (slot, word) in slots.iter_mut().zip(first.iter()) {
         *slot = *word;
@@ -105,12 +105,12 @@ fn check_step(
     let code = code_with(alloc, instr)?;
     let mut words = stack(alloc, before, incoming)?;
     let mut out = MemSink::new(alloc, Vec::new(alloc));
-    let at = Place { pc: 0, base: 0 };
+    let at = RunState { pc: 0, base: 0 };
     let next = run_from(rt, alloc, &code, &mut words, at, 1, &mut out);
     assert_eq!(rt; next.ending, ending, "{instr:?}");
     assert_eq!(rt;
         words,
-        stack(alloc, slots_behind(before, first), incoming)?,
+        stack(alloc, slots_after(before, first), incoming)?,
         "{instr:?}"
     );
     Ok(())

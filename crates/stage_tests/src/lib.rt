@@ -10,8 +10,6 @@ mod back_end;
 #[cfg(test)]
 mod checker;
 #[cfg(test)]
-mod checker_faults;
-#[cfg(test)]
 mod compiling;
 #[cfg(test)]
 mod instructions;

@@ -2,7 +2,7 @@
 
 use crate::trees::{write_stmts, write_tree};
 use parse_go::{ParseFault, parse};
-use scan_go::scan;
+use scan_go::{Tokens, scan};
 use std::alloc::{AllocError, Global};
 use std::test::Fail;
 use syntax::{Decl, Tree};
@@ -67,7 +67,7 @@ return 1, x; { { } } => (return 1 x) { { } }
 ";
 
 /// Whole texts, with the offsets of words, names and closing braces (Go specification, "Declarations and scope"); and some that
-/// break off, with the column behind their last byte.
+/// break off, with the column after their last byte.
 const TEXTS: &str = "
 package m => m@8
 package m; const a = 1 => m@8 const@11 a = 1;
@@ -98,7 +98,7 @@ package m; type (T struct { } => kind 1 at 30
 package m; func f() { }; func => kind 1 at 30
 ";
 
-/// Words, what stands so many times before a middle, the middle, what stands as many times behind it, how many times are not too deep,
+/// Words, what stands N times before a middle, the middle, what stands N times after it, the greatest N that is not too deep,
 /// and the column that is with once more. The body of the function is one bracket, and a call is one higher than its parts.
 const LIMITS: &str = "
 |(|1|)|199|223
@@ -120,7 +120,7 @@ var x |*|T||199|229
 |if x{}else |{}||200|2223
 ";
 
-fn write_fault(fault: ParseFault, out: &mut String) -> Result<(), AllocError> {
+fn write_fault(fault: &ParseFault, out: &mut String) -> Result<(), AllocError> {
     match (fault.number(), fault.pos()) {
         (Some(number), Some(pos)) => write!(out, "kind {number} at {}", pos.col),
         _ => out.push_str("no memory"),
@@ -137,16 +137,37 @@ fn write_body(tree: &Tree, out: &mut String) -> Result<(), AllocError> {
     out.push_str("no body")
 }
 
-/// The tree of a text, or of its first body alone, or the fault.
+/// What a parse gave: another text, the first body alone or the whole tree, or the fault.
+fn write_parsed(
+    parsed: &Result<Tree, ParseFault>,
+    text: &str,
+    is_body: bool,
+    out: &mut String,
+) -> Result<(), AllocError> {
+    match parsed {
+        Ok(tree) if tree.text.as_slice() != text.as_bytes() => out.push_str("another text"),
+        Ok(tree) if is_body => write_body(tree, out),
+        Ok(tree) => write_tree(tree, out),
+        Err(fault) => write_fault(fault, out),
+    }
+}
+
+/// The tree of the tokens of a text, or of its first body alone, or the fault.
+fn write_outcome(
+    alloc: Global,
+    tokens: &Tokens,
+    text: &str,
+    is_body: bool,
+    out: &mut String,
+) -> Result<(), AllocError> {
+    let parsed = parse(alloc, tokens);
+    write_parsed(&parsed, text, is_body, out)
+}
+
 fn outcome(alloc: Global, text: &str, is_body: bool) -> Result<String, Fail> {
     let tokens = scan(alloc, text.as_bytes())?;
     let mut out = String::new(alloc);
-    match parse(alloc, &tokens) {
-        Ok(tree) if tree.text.as_slice() != text.as_bytes() => out.push_str("another text")?,
-        Ok(tree) if is_body => write_body(&tree, &mut out)?,
-        Ok(tree) => write_tree(&tree, &mut out)?,
-        Err(fault) => write_fault(fault, &mut out)?,
-    }
+    write_outcome(alloc, &tokens, text, is_body, &mut out)?;
     Ok(out)
 }
 
@@ -190,18 +211,18 @@ fn push_times(out: &mut String, part: &str, times: u32) -> Result<(), AllocError
     Ok(())
 }
 
-/// What becomes of a body in which parts stand so many times around a middle.
+/// What becomes of a body in which parts stand a number of times around a middle.
 fn nested(
     alloc: Global,
     words: &str,
     parts: (&str, &str, &str),
     times: u32,
 ) -> Result<String, Fail> {
-    let (front, middle, behind) = parts;
+    let (front, middle, back) = parts;
     let mut text = format!(in alloc; "package m; func f() {{ {words}")?;
     push_times(&mut text, front, times)?;
     text.push_str(middle)?;
-    push_times(&mut text, behind, times)?;
+    push_times(&mut text, back, times)?;
     text.push_str(" }")?;
     outcome(alloc, text.as_str(), false)
 }
@@ -212,8 +233,8 @@ fn limits(rt: HostRuntime) -> Result<(), Fail> {
     for row in LIMITS.lines() {
         let fields: Vec<&str> = row.split('|').collect(alloc)?;
         match fields.as_slice() {
-            [words, front, middle, behind, most, col] => {
-                let parts = (*front, *middle, *behind);
+            [words, front, middle, back, most, col] => {
+                let parts = (*front, *middle, *back);
                 let most = most.parse::<u32>()?;
                 let good = nested(alloc, words, parts, most)?;
                 assert!(rt; good.as_str().starts_with("m@8"), "{row}: {good}");

@@ -1,6 +1,6 @@
-//! Typed programs, written down in short: a local variable is the number of its site behind a `v`, a package variable its own behind a `g`, a function that of itself behind an `f`, a
-//! string that of itself behind an `s`, a type that of itself behind a `t`; a step to a field or an element is its number behind a `.`, one to an element by an index is the
-//! index in brackets; a place in the text is a column behind an `@`.
+//! Typed programs, written down in short: a local variable is the number of its site after a `v`, a package variable its own after a `g`, a function that of itself after an `f`, a
+//! string that of itself after an `s`, a type that of itself after a `t`; a step to a field or an element is its number after a `.`, one to an element by an index is the
+//! index in brackets; a place in the text is a column after an `@`.
 
 use base::{Pos, SiteId, TypeId};
 use std::alloc::AllocError;
@@ -60,7 +60,7 @@ fn type_name(type_id: TypeId) -> &'static str {
     }
 }
 
-/// Each type behind a space.
+/// Each type after a space.
 fn write_types(types: &[TypeId], out: &mut String) -> Result<(), AllocError> {
     for type_id in types {
         out.push(' ')?;
@@ -69,7 +69,7 @@ fn write_types(types: &[TypeId], out: &mut String) -> Result<(), AllocError> {
     Ok(())
 }
 
-/// Each variable behind a space.
+/// Each variable after a space.
 fn write_sites(sites: &[SiteId], out: &mut String) -> Result<(), AllocError> {
     for site in sites {
         write!(out, " v{}", site.0)?;
@@ -77,7 +77,7 @@ fn write_sites(sites: &[SiteId], out: &mut String) -> Result<(), AllocError> {
     Ok(())
 }
 
-/// A place behind a space.
+/// A place after a space.
 #[cycle(expressions)]
 fn write_place(place: &Place, out: &mut String) -> Result<(), AllocError> {
     match place {
@@ -108,7 +108,7 @@ fn write_steps(steps: &[Step], out: &mut String) -> Result<(), AllocError> {
     Ok(())
 }
 
-/// An expression behind a space.
+/// An expression after a space.
 #[cycle(expressions)]
 fn write_expr(e: &Expr, out: &mut String) -> Result<(), AllocError> {
     match e {
@@ -127,13 +127,13 @@ fn write_expr(e: &Expr, out: &mut String) -> Result<(), AllocError> {
             write_expr(right, out)?;
             out.push(')')
         }
-        Expr::Both(left, right) => {
+        Expr::LogicalAnd(left, right) => {
             out.push_str(" (&&")?;
             write_expr(left, out)?;
             write_expr(right, out)?;
             out.push(')')
         }
-        Expr::Either(left, right) => {
+        Expr::LogicalOr(left, right) => {
             out.push_str(" (||")?;
             write_expr(left, out)?;
             write_expr(right, out)?;
@@ -157,7 +157,7 @@ fn write_expr(e: &Expr, out: &mut String) -> Result<(), AllocError> {
     }
 }
 
-/// Elements, each with its number behind a space.
+/// Elements, each with its number after a space.
 #[cycle(expressions)]
 fn write_elements(elements: &[Element], out: &mut String) -> Result<(), AllocError> {
     for element in elements {
@@ -171,7 +171,7 @@ fn write_elements(elements: &[Element], out: &mut String) -> Result<(), AllocErr
     Ok(())
 }
 
-/// Values, each behind a space; all results of one call are behind an `all`.
+/// Values, each after a space; all results of one call are after an `all`.
 #[cycle(expressions)]
 fn write_values(values: &Values, out: &mut String) -> Result<(), AllocError> {
     match values {
@@ -190,7 +190,7 @@ fn write_values(values: &Values, out: &mut String) -> Result<(), AllocError> {
     }
 }
 
-/// A left side behind a space; a new variable is behind a `+`.
+/// A left side after a space; a new variable is after a `+`.
 fn write_left(left: &Left, out: &mut String) -> Result<(), AllocError> {
     match left {
         Left::Blank => out.push_str(" _"),
@@ -206,7 +206,7 @@ fn write_lefts(lefts: &[Left], out: &mut String) -> Result<(), AllocError> {
     Ok(())
 }
 
-/// An operand behind a space, with its type.
+/// An operand after a space, with its type.
 fn write_piece(piece: &Piece, out: &mut String) -> Result<(), AllocError> {
     match piece {
         Piece::Text(number) => write!(out, " s{number}"),
@@ -244,7 +244,7 @@ fn write_plain(stmt: &Stmt, out: &mut String) -> Result<(), AllocError> {
             write_place(place, out)?;
             write_expr(e, out)
         }
-        Stmt::Bump(place, op) => {
+        Stmt::Bump(_, place, op) => {
             write!(out, "{}1", sign(*op))?;
             write_place(place, out)
         }
@@ -307,7 +307,7 @@ fn write_stmt(stmt: &Stmt, out: &mut String) -> Result<(), AllocError> {
             write_block(otherwise, out)?;
             out.push(')')
         }
-        Stmt::Loop(sites, condition, post, body) => {
+        Stmt::For(sites, condition, post, body) => {
             out.push_str(" (loop")?;
             write_sites(sites, out)?;
             out.push(';')?;
@@ -333,7 +333,7 @@ fn write_stmt(stmt: &Stmt, out: &mut String) -> Result<(), AllocError> {
     }
 }
 
-/// Statements, each behind a space.
+/// Statements, each after a space.
 #[cycle(statements)]
 pub fn write_stmts(body: &[Stmt], out: &mut String) -> Result<(), AllocError> {
     for stmt in body {
@@ -342,7 +342,7 @@ pub fn write_stmts(body: &[Stmt], out: &mut String) -> Result<(), AllocError> {
     Ok(())
 }
 
-/// The same in braces, behind a space.
+/// The same in braces, after a space.
 #[cycle(statements)]
 fn write_block(body: &[Stmt], out: &mut String) -> Result<(), AllocError> {
     out.push_str(" {")?;

@@ -1,4 +1,4 @@
-//! Trees, written down in short: a node stands in parentheses behind its sign, and what the text itself has in parentheses in brackets.
+//! Trees, written down in short: a node stands in parentheses after its sign, and what the text itself has in parentheses in brackets.
 
 use std::alloc::AllocError;
 use std::str::from_utf8;
@@ -43,8 +43,8 @@ fn sign(op: BinOp) -> &'static str {
         BinOp::Compare(CompareOp::LessEqual) => "<=",
         BinOp::Compare(CompareOp::Greater) => ">",
         BinOp::Compare(CompareOp::GreaterEqual) => ">=",
-        BinOp::Both => "&&",
-        BinOp::Either => "||",
+        BinOp::LogicalAnd => "&&",
+        BinOp::LogicalOr => "||",
     }
 }
 
@@ -64,7 +64,7 @@ fn write_placed(text: &[u8], name: Name, out: &mut String) -> Result<(), AllocEr
     write!(out, "@{}", name.pos.offset)
 }
 
-/// Each name behind a space.
+/// Each name after a space.
 fn write_names(text: &[u8], names: &[Name], out: &mut String) -> Result<(), AllocError> {
     for name in names {
         out.push(' ')?;
@@ -150,7 +150,7 @@ fn write_expr(text: &[u8], e: &Expr, out: &mut String) -> Result<(), AllocError>
     }
 }
 
-/// An expression behind a space.
+/// An expression after a space.
 #[cycle(expressions)]
 fn write_part(text: &[u8], e: &Expr, out: &mut String) -> Result<(), AllocError> {
     out.push(' ')?;
@@ -230,7 +230,7 @@ fn write_setting(
     out.push(')')
 }
 
-/// A simple statement that may be absent, behind a space.
+/// A simple statement that may be absent, after a space.
 fn write_optional(
     text: &[u8],
     simple: &Option<Simple>,
@@ -275,7 +275,7 @@ fn write_clause(text: &[u8], clause: &Clause, out: &mut String) -> Result<(), Al
     }
 }
 
-/// The names, the type, and the values, each behind a space.
+/// The names, the type, and the values, each after a space.
 fn write_specs(text: &[u8], specs: &[ValueSpec], out: &mut String) -> Result<(), AllocError> {
     for spec in specs {
         write_names(text, &spec.names, out)?;
@@ -336,7 +336,7 @@ fn write_stmt(text: &[u8], stmt: &Stmt, out: &mut String) -> Result<(), AllocErr
     }
 }
 
-/// Each statement behind a space.
+/// Each statement after a space.
 #[cycle(statements)]
 pub fn write_stmts(text: &[u8], body: &[Stmt], out: &mut String) -> Result<(), AllocError> {
     for stmt in body {
@@ -443,7 +443,7 @@ fn write_decl(text: &[u8], decl: &Decl, out: &mut String) -> Result<(), AllocErr
     }
 }
 
-/// The name of the package, and the declarations, each behind a space.
+/// The name of the package, and the declarations, each after a space.
 pub fn write_tree(tree: &Tree, out: &mut String) -> Result<(), AllocError> {
     write_placed(&tree.text, tree.package, out)?;
     for decl in &tree.decls {

@@ -25,7 +25,7 @@ NoBackslash (suc n) [] = Unit {0}
 NoBackslash (suc n) (b ∷ rest) = ((b == 92) ≡ false) × NoBackslash n rest
 
 -- The first n bytes belong to a piece that has begun, and begin no other one. Where the first of them is hidden, it
--- stands behind the backslash of that piece.
+-- stands after the backslash of that piece.
 abbrev Ready : Bool → ℕ → List ℕ → Type 0
 Ready false n rest = NoBackslash n rest
 Ready true zero rest = ⊥
@@ -58,7 +58,7 @@ number_plain b n rest test is =
     let begins = of_digits (begins_digits b n rest) (value b (take n rest)) test is in
     all_digits b n rest (and_parts (nat_le n (length rest)) (list_all (λ c. is_digit c (radix b)) (take n rest)) begins).1
 
--- Where a piece stands for something, none of its bytes behind its backslash is a backslash, but for the first one,
+-- Where a piece stands for something, none of its bytes after its backslash is a backslash, but for the first one,
 -- which that one hides.
 abbrev Ends : List ℕ → Piece → Type 0
 Ends rest p = something p.meaning ≡ true → Ready true (p.len - 1) rest

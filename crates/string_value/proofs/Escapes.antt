@@ -122,10 +122,10 @@ pub agree : (rest : List ℕ) → begins_escape rest ≡ something (escape rest)
 unfolding begins_escape escape
 agree rest =
     let c = slice_index rest 0 in
-    let behind = drop 1 rest in
-    by_test (c == 120) _ _ _ _ (hexadecimal_byte behind ∙ sym (of_byte (byte number_base.Hexadecimal 2 behind) 4))
-    (by_test (c == 117) _ _ _ _ (code_point 4 behind ∙ sym (of_character (character 4 behind) 6))
-    (by_test (c == 85) _ _ _ _ (code_point 8 behind ∙ sym (of_character (character 8 behind) 10))
+    let after = drop 1 rest in
+    by_test (c == 120) _ _ _ _ (hexadecimal_byte after ∙ sym (of_byte (byte number_base.Hexadecimal 2 after) 4))
+    (by_test (c == 117) _ _ _ _ (code_point 4 after ∙ sym (of_character (character 4 after) 6))
+    (by_test (c == 85) _ _ _ _ (code_point 8 after ∙ sym (of_character (character 8 after) 10))
     (by_test (is_digit c 8) _ _ _ _ (octal_byte rest ∙ sym (of_byte (byte number_base.Octal 3 rest) 4))
     (simple c ∙ sym (of_byte (simple_escape c) 2)))))
 

@@ -36,37 +36,37 @@ Keeps spelling = AllByRecursion IsSomething (meanings 0 (content spelling))
 -- ---- from quote to quote
 
 closed_within : (line quote : Bool) (o : Option ℕ) (len n : ℕ) → ((m : ℕ) → o ≡ Some m → m ≤ len) → cond line (cond quote (Some 1) (later 1 o)) None ≡ Some n → n ≤ suc len
-closed_within true true o len n behind is = let e : 1 ≡ n = cc is in omega arith
-closed_within true false (Some m) len n behind is = let e : 1 + m ≡ n = cc is in omega (arith, behind m refl)
-closed_within true false None len n behind is = absurd (cc is)
-closed_within false quote o len n behind is = absurd (cc is)
+closed_within true true o len n after is = let e : 1 ≡ n = cc is in omega arith
+closed_within true false (Some m) len n after is = let e : 1 + m ≡ n = cc is in omega (arith, after m refl)
+closed_within true false None len n after is = absurd (cc is)
+closed_within false quote o len n after is = absurd (cc is)
 
 closing_within : (h : Bool) (rest : List ℕ) (n : ℕ) → closing h rest ≡ Some n → n ≤ length rest
 unfolding closing
 closing_within h [] n is = absurd (cc is)
 closing_within h (b ∷ rest) n is = closed_within _ _ (closing (hides h b) rest) (length rest) n (closing_within (hides h b) rest) is
 
-content_of : (q m : ℕ) (behind : List ℕ) → m ≤ length behind → content (take (1 + m) (q ∷ behind)) ≡ take (m - 1) behind
-content_of q m behind within =
+content_of : (q m : ℕ) (after : List ℕ) → m ≤ length after → content (take (1 + m) (q ∷ after)) ≡ take (m - 1) after
+content_of q m after within =
     let front : 1 + m ≡ suc m = omega arith in
-    let least : suc (length (take m behind)) - 2 ≡ m - 1 = omega (arith, length-take-le m behind within) in
-    ap (λ (k : ℕ). content (take k (q ∷ behind))) front ∙ ap (λ (k : ℕ). take k (take m behind)) least ∙ take-take (m - 1) m behind (omega arith)
+    let least : suc (length (take m after)) - 2 ≡ m - 1 = omega (arith, length-take-le m after within) in
+    ap (λ (k : ℕ). content (take k (q ∷ after))) front ∙ ap (λ (k : ℕ). take k (take m after)) least ∙ take-take (m - 1) m after (omega arith)
 
 without_fault : (m n : ℕ) (o : Option (FaultKind × ℕ)) → string_or_fault (1 + m) o ≡ piece.Token kind.String n → (1 + m ≡ n) × (o ≡ None)
 without_fault m n None is = (cc is, refl)
 without_fault m n (Some f) is = absurd (cc is)
 
-closed_keeps : (q : ℕ) (behind : List ℕ) (n : ℕ) (o : Option ℕ) → closing false behind ≡ o → closed_string o behind ≡ piece.Token kind.String n → Keeps (take n (q ∷ behind))
-closed_keeps q behind n None closes is = absurd (cc is)
-closed_keeps q behind n (Some m) closes is =
-    let found = without_fault m n (fault_within false (take (m - 1) behind)) is in
-    let same : content (take n (q ∷ behind)) ≡ take (m - 1) behind = ap (λ (k : ℕ). content (take k (q ∷ behind))) (sym found.0) ∙ content_of q m behind (closing_within false behind m closes) in
-    subst (λ (c : List ℕ). AllByRecursion IsSomething (meanings 0 c)) (sym same) (all_something false 0 (take (m - 1) behind) tt found.1)
+closed_keeps : (q : ℕ) (after : List ℕ) (n : ℕ) (o : Option ℕ) → closing false after ≡ o → closed_string o after ≡ piece.Token kind.String n → Keeps (take n (q ∷ after))
+closed_keeps q after n None closes is = absurd (cc is)
+closed_keeps q after n (Some m) closes is =
+    let found = without_fault m n (fault_within false (take (m - 1) after)) is in
+    let same : content (take n (q ∷ after)) ≡ take (m - 1) after = ap (λ (k : ℕ). content (take k (q ∷ after))) (sym found.0) ∙ content_of q m after (closing_within false after m closes) in
+    subst (λ (c : List ℕ). AllByRecursion IsSomething (meanings 0 c)) (sym same) (all_something false 0 (take (m - 1) after) tt found.1)
 
 string_keeps : (rest : List ℕ) (n : ℕ) → string_piece rest ≡ piece.Token kind.String n → Keeps (take n rest)
 unfolding closing
 string_keeps [] n is = absurd (cc is)
-string_keeps (q ∷ behind) n is = closed_keeps q behind n (closing false behind) refl is
+string_keeps (q ∷ after) n is = closed_keeps q after n (closing false after) refl is
 
 -- ---- no other piece is a string
 
@@ -128,16 +128,16 @@ module _ (rest : List ℕ) (n : ℕ) where
 abbrev LexemeKeeps : List ℕ → Lexeme → Type 0
 LexemeKeeps text l = l.kind ≡ kind.String → (l.start ≤ length text) × Keeps (take (l.end - l.start) (drop l.start text))
 
-behind_front : (front : List Lexeme) (f : Found) (ls : List Lexeme) → with_front front f ≡ Ok ls → (more : List Lexeme) × (f ≡ Ok more) × (front ++ more ≡ ls)
-behind_front front (Ok more) ls is = (more, refl, cc is)
-behind_front front (Err e) ls is = absurd (cc is)
+after_front : (front : List Lexeme) (f : Found) (ls : List Lexeme) → with_front front f ≡ Ok ls → (more : List Lexeme) × (f ≡ Ok more) × (front ++ more ≡ ls)
+after_front front (Ok more) ls is = (more, refl, cc is)
+after_front front (Err e) ls is = absurd (cc is)
 
 lexemes_keep : (text : List ℕ) (place : ℕ) (ps : List Piece) (ls : List Lexeme) → Cut (drop place text) ps → found_in place ps ≡ Ok ls → AllByRecursion (LexemeKeeps text) ls
 lexemes_keep text place [] ls cut is = let e : [] ≡ ls = cc is in subst (AllByRecursion (LexemeKeeps text)) e tt
 lexemes_keep text place (piece.Gap n ∷ ps) ls cut is = lexemes_keep text (place + n) ps ls (subst (λ (r : List ℕ). Cut r ps) (drop-drop n place text) cut.2) is
 lexemes_keep text place (piece.Token k n ∷ ps) ls cut is =
     let l : Lexeme = record { kind = k; start = place; end = place + n } in
-    let f = behind_front (l ∷ []) (found_in (place + n) ps) ls is in
+    let f = after_front (l ∷ []) (found_in (place + n) ps) ls is in
     let len : n ≡ place + n - place = omega arith in
     let here : LexemeKeeps text l = λ string. (
       omega (arith, cut.0, length-drop place text),

@@ -1,4 +1,4 @@
--- Behind the last byte stands no escape.
+-- After the last byte stands no escape.
 use Rattle.std.proofs.Common.{◌≡◌, ℕ, List, [], ◌∷◌, length, refl, arith}
 use Rattle.string_value.specs.Pieces.{simple_escape, escape, bare_backslash}
 

@@ -11,18 +11,18 @@ skipped zero rest = refl
 skipped (suc n) [] = refl
 skipped (suc n) (b ∷ rest) = skipped n rest
 
-behind : (n : ℕ) (b : ℕ) (rest : List ℕ) → 0 < n → drop (n - 1) rest ≡ drop n (b ∷ rest)
-behind zero b rest some = absurd (omega arith)
-behind (suc n) b rest some = ap (λ k. drop k rest) (omega arith)
+after : (n : ℕ) (b : ℕ) (rest : List ℕ) → 0 < n → drop (n - 1) rest ≡ drop n (b ∷ rest)
+after zero b rest some = absurd (omega arith)
+after (suc n) b rest some = ap (λ k. drop k rest) (omega arith)
 
 cut : (rest : List ℕ) (p : Piece) → 0 < length rest → p ≡ first_piece rest → 0 < p.len
     → meanings 0 rest ≡ p.meaning ∷ meanings 0 (drop p.len rest)
 unfolding meanings
 cut [] p some is long = absurd (omega arith)
 cut (b ∷ rest) p some is long =
-    rw (← is) (ap (λ ps. p.meaning ∷ ps) (skipped (p.len - 1) rest ∙ ap (meanings 0) (behind p.len b rest long)))
+    rw (← is) (ap (λ ps. p.meaning ∷ ps) (skipped (p.len - 1) rest ∙ ap (meanings 0) (after p.len b rest long)))
 
--- the value of what is left is that of its first piece, and of what is left behind it
+-- the value of what is left is that of its first piece, and of what is left after it
 pub with_piece : (done rest : List ℕ) (p : Piece) → 0 < length rest → p ≡ first_piece rest → 0 < p.len
     → (done ++ bytes_of p.meaning) ++ flat_map bytes_of (meanings 0 (drop p.len rest)) ≡ done ++ flat_map bytes_of (meanings 0 rest)
 with_piece done rest p some is long =

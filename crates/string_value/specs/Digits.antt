@@ -16,11 +16,11 @@ add_digit b v c = radix b * v + digit_value c
 abbrev pub value : Base → List ℕ → ℕ
 value b digits = fold (add_digit b) 0 digits
 
--- so many digits stand at the front
+-- n digits stand at the front
 abbrev pub begins_digits : Base → ℕ → List ℕ → Bool
 begins_digits b n rest = nat_le n (length rest) && list_all (λ c. is_digit c (radix b)) (take n rest)
 
--- the number that so many digits at the front give
+-- the number that n digits at the front give
 abbrev pub number : Base → ℕ → List ℕ → Option ℕ
 number b n rest = if begins_digits b n rest then Some (value b (take n rest)) else None
 
@@ -28,7 +28,7 @@ number b n rest = if begins_digits b n rest then Some (value b (take n rest)) el
 abbrev pub if_byte : ℕ → Option ℕ
 if_byte c = if nat_lt c 256 then Some c else None
 
--- the byte that so many digits at the front give
+-- the byte that n digits at the front give
 abbrev pub byte : Base → ℕ → List ℕ → Option ℕ
 byte b n rest = option_and_then if_byte (number b n rest)
 
@@ -40,6 +40,6 @@ is_code_point c = nat_lt c 0xD800 || (nat_lt 0xDFFF c && nat_lt c 0x11_0000)
 abbrev pub if_character : ℕ → Option ℕ
 if_character c = if is_code_point c then Some c else None
 
--- the character that so many hexadecimal digits at the front give
+-- the character that n hexadecimal digits at the front give
 abbrev pub character : ℕ → List ℕ → Option ℕ
 character n rest = option_and_then if_character (number number_base.Hexadecimal n rest)

@@ -14,7 +14,7 @@ use Rattle.string_value.specs.StringValue.{meanings, content}
 abbrev pub IsSomething : Meaning → Type 0
 IsSomething m = m ≢ meaning.Nothing
 
--- Behind a backslash the tokens of a text allow just those escapes that stand for something.
+-- After a backslash the tokens of a text allow just those escapes that stand for something.
 abbrev pub EscapesAgree : Type 0
 EscapesAgree = (rest : List ℕ) → IsTrue (begins_escape rest) ↔ IsSomething (escape rest).meaning
 

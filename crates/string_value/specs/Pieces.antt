@@ -6,7 +6,7 @@ use Rattle.string_value.specs.declared.piece.Meaning.TheVariants as meaning
 use Rattle.string_value.specs.declared.piece.Piece.{Piece}
 use Rattle.string_value.specs.Digits.{byte, character}
 
--- the byte that a letter stands for behind a backslash: that of \a, \b, \f, \n, \r, \t, \v; a backslash and a quote stand
+-- the byte that a letter stands for after a backslash: that of \a, \b, \f, \n, \r, \t, \v; a backslash and a quote stand
 -- for themselves
 unfoldable pub simple_escape : ℕ → Option ℕ
 simple_escape c =
@@ -24,17 +24,17 @@ simple_escape c =
 abbrev pub bare_backslash : Piece
 bare_backslash = record { meaning = meaning.Nothing; len = 1 }
 
--- a piece of so many bytes that stands for a byte
+-- a piece of n bytes that stands for a byte
 abbrev pub byte_piece : Option ℕ → ℕ → Piece
 byte_piece (Some b) n = record { meaning = meaning.Byte b; len = n }
 byte_piece None n = bare_backslash
 
--- a piece of so many bytes that stands for a character
+-- a piece of n bytes that stands for a character
 abbrev pub character_piece : Option ℕ → ℕ → Piece
 character_piece (Some c) n = record { meaning = meaning.Character c; len = n }
 character_piece None n = bare_backslash
 
--- An escape, from behind its backslash on: \x with two hexadecimal digits, \u with four, \U with eight, three octal
+-- An escape, without its backslash: \x with two hexadecimal digits, \u with four, \U with eight, three octal
 -- digits, or a letter. Those of two and three digits stand for a byte, \u and \U for a character.
 unfoldable pub escape : List ℕ → Piece
 escape rest =

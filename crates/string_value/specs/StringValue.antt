@@ -10,7 +10,7 @@ bytes_of meaning.Nothing = []
 bytes_of (meaning.Byte b) = b ∷ []
 bytes_of (meaning.Character c) = encode_utf8 c
 
--- what the pieces stand for, one behind the other; the first n bytes still belong to the piece before them
+-- what the pieces stand for, one after the other; the first n bytes still belong to the piece before them
 unfoldable pub meanings : ℕ → List ℕ → List Meaning
 meanings n [] = []
 meanings (suc n) (b ∷ rest) = meanings n rest

@@ -14,7 +14,7 @@ fn with_digit(base: Base, number: u32, digit: u32) -> u32
     base.radix() * number + digit
 }
 
-/// The number that so many digits at the front give.
+/// The number that `count` digits at the front give.
 fn number(base: Base, count: usize, rest: &[u8]) -> Option<u32>
     requires { count ≤ 8 }
     ensures value { result ≡ number base count rest.now }
@@ -32,7 +32,7 @@ fn number(base: Base, count: usize, rest: &[u8]) -> Option<u32>
     Some(number)
 }
 
-/// The byte that so many digits at the front give.
+/// The byte that `count` digits at the front give.
 pub fn byte(base: Base, count: usize, rest: &[u8]) -> Option<u8>
     requires { count ≤ 8 }
     ensures value { result ≡ byte base count rest.now }
@@ -41,7 +41,7 @@ pub fn byte(base: Base, count: usize, rest: &[u8]) -> Option<u8>
     u8::try_from(number(base, count, rest)?).ok()
 }
 
-/// The character that so many hexadecimal digits at the front give.
+/// The character that `count` hexadecimal digits at the front give.
 pub fn character(count: usize, rest: &[u8]) -> Option<char>
     requires { count ≤ 8 }
     ensures value { result ≡ character count rest.now }

@@ -2,7 +2,7 @@
 
 ghost use Rattle.string_value.specs.Laws.{EscapesAgree, LiteralsHaveNoBareBackslash};
 
-/// Behind a backslash the tokens of a text allow just those escapes that stand for something.
+/// After a backslash the tokens of a text allow just those escapes that stand for something.
 pub fn escapes_agree()
     ensures { EscapesAgree }
 {}

@@ -17,7 +17,7 @@ fn content(spelling: &[u8]) -> &[u8]
     &spelling[1..spelling.len() - 1]
 }
 
-/// Puts what a piece stands for behind the bytes.
+/// Puts after the bytes what a piece stands for.
 fn append(bytes: &mut Vec<u8>, meaning: Meaning) -> Result<(), NoMemory>
     ensures { OnOk result (bytes.new.items ≡ bytes.old.items ++ bytes_of meaning) }
 {

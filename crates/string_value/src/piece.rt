@@ -28,7 +28,7 @@ const BARE_BACKSLASH: Piece = Piece {
     len: 1,
 };
 
-/// The byte that a letter stands for behind a backslash.
+/// The byte that a letter stands for after a backslash.
 #[tactic(auto, unfolding(crate::specs::Pieces::simple_escape))]
 fn simple_escape(c: u8) -> Option<u8>
     ensures { result ≡ simple_escape c }
@@ -71,7 +71,7 @@ fn character_piece(character: Option<char>, len: usize) -> Piece
     }
 }
 
-/// An escape, from behind its backslash on.
+/// An escape, without its backslash.
 #[tactic(auto, unfolding(crate::specs::Pieces::escape))]
 fn escape(rest: &[u8]) -> Piece
     ensures value { result ≡ escape rest.now }
@@ -81,11 +81,11 @@ fn escape(rest: &[u8]) -> Piece
     if rest.is_empty() {
         return BARE_BACKSLASH;
     }
-    let behind = &rest[1..];
+    let after = &rest[1..];
     match rest[0] {
-        b'x' => byte_piece(byte(Base::Hexadecimal, 2, behind), 4),
-        b'u' => character_piece(character(4, behind), 6),
-        b'U' => character_piece(character(8, behind), 10),
+        b'x' => byte_piece(byte(Base::Hexadecimal, 2, after), 4),
+        b'u' => character_piece(character(4, after), 6),
+        b'U' => character_piece(character(8, after), 10),
         b'0'..=b'7' => byte_piece(byte(Base::Octal, 3, rest), 4),
         c => byte_piece(simple_escape(c), 2),
     }

@@ -29,20 +29,20 @@ pub record TypeSpec : Type 0 where
   pub name : Name
   pub fields : List Field
 
--- the body of a function, with the place of its closing brace
+-- the body of a function, with the position of its closing brace
 pub record Body : Type 0 where
   pub statements : Stms
   pub end : Pos
 
--- a function, with the place of its word
+-- a function, with the position of its word
 pub record Function : Type 0 where
-  pub place : Pos
+  pub pos : Pos
   pub name : Name
   pub params : Parameters
   pub results : Parameters
   pub body : Option Body
 
--- a declaration at the level of the package, with the place of its word
+-- a declaration at the level of the package, with the position of its word
 pub data Declaration : Type 0 where
   constants : Pos → List ValueSpec → Declaration
   variables : Pos → List ValueSpec → Declaration
@@ -85,12 +85,12 @@ body_in None = None
 body_in (Some b) = Some (body_of b)
 
 abbrev pub function_of : Func → Function
-function_of f = record { place = f.pos; name = f.name; params = parameters_of f.params; results = parameters_of f.results; body = body_in f.body }
+function_of f = record { pos = f.pos; name = f.name; params = parameters_of f.params; results = parameters_of f.results; body = body_in f.body }
 
 abbrev pub declaration_of : Decl → Declaration
-declaration_of (decl.Const at specs) = constants at (value_specs_of specs.items)
-declaration_of (decl.Var at specs) = variables at (value_specs_of specs.items)
-declaration_of (decl.Type at specs) = types at (type_specs_of specs.items)
+declaration_of (decl.Const pos specs) = constants pos (value_specs_of specs.items)
+declaration_of (decl.Var pos specs) = variables pos (value_specs_of specs.items)
+declaration_of (decl.Type pos specs) = types pos (type_specs_of specs.items)
 declaration_of (decl.Func f) = function (function_of f)
 
 abbrev pub declarations_of : List Decl → List Declaration

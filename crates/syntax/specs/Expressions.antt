@@ -12,16 +12,16 @@ use Rattle.syntax.specs.declared.expression.Element.{Element}
 use Rattle.syntax.specs.declared.expression.Element.TheVariants as item
 
 mutual
-  -- an expression or a type; a place is that of the node's own first token
+  -- an expression or a type; a position is that of the node's own first token
   pub data Ex : Type 0 where
     number : Pos → ℕ → Ex
-    -- a string, and the offset behind its last byte
+    -- a string, and the offset after its last byte
     string : Pos → ℕ → Ex
     name : Name → Ex
     unary : Pos → UnOp → Ex → Ex
     binary : Pos → BinOp → Ex → Ex → Ex
     paren : Pos → Ex → Ex
-    -- the function, the arguments, and whether `...` stands behind them
+    -- the function, the arguments, and whether `...` stands after them
     call : Ex → Exs → Bool → Ex
     selector : Ex → Pos → Name → Ex
     index : Ex → Pos → Ex → Ex
@@ -56,20 +56,20 @@ spelled text n = take (n.end - n.pos.offset) (drop n.pos.offset text)
 
 abbrev mutual
   pub ex_of : Expr → Ex
-  ex_of (expr.Int at n) = number at n
-  ex_of (expr.String at behind) = string at behind
+  ex_of (expr.Int pos n) = number pos n
+  ex_of (expr.String pos end) = string pos end
   ex_of (expr.Name n) = name n
-  ex_of (expr.Unary' at op p e) = unary at op (ex_of e)
-  ex_of (expr.Binary' at op p a q b) = binary at op (ex_of a) (ex_of b)
-  ex_of (expr.Paren' at p e) = paren at (ex_of e)
+  ex_of (expr.Unary' pos op p e) = unary pos op (ex_of e)
+  ex_of (expr.Binary' pos op p a q b) = binary pos op (ex_of a) (ex_of b)
+  ex_of (expr.Paren' pos p e) = paren pos (ex_of e)
   ex_of (expr.Call' p f shape args spread) = call (ex_of f) (arguments_of args) spread
-  ex_of (expr.Selector' p e at n) = selector (ex_of e) at n
-  ex_of (expr.Index' p e at q i) = index (ex_of e) at (ex_of i)
-  ex_of (expr.Slice' p e at low high) = slice (ex_of e) at (bound_of low) (bound_of high)
-  ex_of (expr.ArrayType' at p len q e) = array_type at (ex_of len) (ex_of e)
-  ex_of (expr.SliceType' at p e) = slice_type at (ex_of e)
+  ex_of (expr.Selector' p e pos n) = selector (ex_of e) pos n
+  ex_of (expr.Index' p e pos q i) = index (ex_of e) pos (ex_of i)
+  ex_of (expr.Slice' p e pos low high) = slice (ex_of e) pos (bound_of low) (bound_of high)
+  ex_of (expr.ArrayType' pos p len q e) = array_type pos (ex_of len) (ex_of e)
+  ex_of (expr.SliceType' pos p e) = slice_type pos (ex_of e)
   ex_of (expr.Literal' p t shape es) = literal (ex_of t) (element_row es)
-  ex_of (expr.Elements' at shape es) = elements at (element_row es)
+  ex_of (expr.Elements' pos shape es) = elements pos (element_row es)
 
   pub bound_of : CodeBound → Bound
   bound_of bound.Absent = no_bound

@@ -2,18 +2,18 @@
 use Rattle.base.specs.declared.pos.Pos.{Pos}
 use Rattle.syntax.specs.Expressions.{Ex, number, string, name, unary, binary, paren, call, selector, index, slice, array_type, slice_type, literal, elements}
 
-abbrev pub first_place : Ex → Pos
-first_place (number place n) = place
-first_place (string place behind) = place
-first_place (name x) = x.pos
-first_place (unary place op e) = place
-first_place (binary place op a b) = first_place a
-first_place (paren place e) = place
-first_place (call f es spread) = first_place f
-first_place (selector e place x) = first_place e
-first_place (index e place i) = first_place e
-first_place (slice e place low high) = first_place e
-first_place (array_type place len e) = place
-first_place (slice_type place e) = place
-first_place (literal t es) = first_place t
-first_place (elements place es) = place
+abbrev pub first_pos : Ex → Pos
+first_pos (number pos n) = pos
+first_pos (string pos end) = pos
+first_pos (name x) = x.pos
+first_pos (unary pos op e) = pos
+first_pos (binary pos op a b) = first_pos a
+first_pos (paren pos e) = pos
+first_pos (call f es spread) = first_pos f
+first_pos (selector e pos x) = first_pos e
+first_pos (index e pos i) = first_pos e
+first_pos (slice e pos low high) = first_pos e
+first_pos (array_type pos len e) = pos
+first_pos (slice_type pos e) = pos
+first_pos (literal t es) = first_pos t
+first_pos (elements pos es) = pos

@@ -1,9 +1,10 @@
 -- How high an expression is, and how tightly its operators bind.
 use Rattle.std.specs.Prelude.{ℕ, suc, max, min}
+use Rattle.syntax.specs.declared.limit.TheConstants.{NESTING_LIMIT}
 use Rattle.syntax.specs.declared.operator.ArithmeticOp.{ArithmeticOp}
 use Rattle.syntax.specs.declared.operator.ArithmeticOp.TheVariants as arithmetic
 use Rattle.syntax.specs.declared.operator.BinOp.{BinOp}
-use Rattle.syntax.specs.declared.operator.BinOp.TheVariants.{Arithmetic, Compare, Both, Either}
+use Rattle.syntax.specs.declared.operator.BinOp.TheVariants.{Arithmetic, Compare, LogicalAnd, LogicalOr}
 use Rattle.syntax.specs.Expressions.{Ex, number, string, name, unary, binary, paren, call, selector, index, slice, array_type, slice_type, literal, elements, Exs, none, some, Bound, no_bound, bound_at, Elements, no_elements, element}
 
 abbrev pub arithmetic_precedence : ArithmeticOp → ℕ
@@ -17,27 +18,27 @@ arithmetic_precedence _ = 5
 abbrev pub precedence : BinOp → ℕ
 precedence (Arithmetic op) = arithmetic_precedence op
 precedence (Compare op) = 3
-precedence Both = 2
-precedence Either = 1
+precedence LogicalAnd = 2
+precedence LogicalOr = 1
 
 -- How high an expression is: a node is one higher than the highest of its parts, and parentheses add nothing.
 abbrev mutual
   pub height : Ex → ℕ
-  height (number place n) = 0
-  height (string place behind) = 0
+  height (number pos n) = 0
+  height (string pos end) = 0
   height (name x) = 0
-  height (unary place op e) = suc (height e)
-  height (binary place op a b) = suc (max (height a) (height b))
-  height (paren place e) = height e
+  height (unary pos op e) = suc (height e)
+  height (binary pos op a b) = suc (max (height a) (height b))
+  height (paren pos e) = height e
   height (call f es spread) = suc (max (height f) (greatest_height es))
-  height (selector e place x) = suc (height e)
-  height (index e place i) = suc (max (height e) (height i))
-  height (slice e place low high) = suc (max (height e) (max (bound_height low) (bound_height high)))
-  height (array_type place len e) = suc (max (height len) (height e))
-  height (slice_type place e) = suc (height e)
+  height (selector e pos x) = suc (height e)
+  height (index e pos i) = suc (max (height e) (height i))
+  height (slice e pos low high) = suc (max (height e) (max (bound_height low) (bound_height high)))
+  height (array_type pos len e) = suc (max (height len) (height e))
+  height (slice_type pos e) = suc (height e)
   height (literal t es) = suc (max (height t) (elements_height es))
-  height (elements place no_elements) = 0
-  height (elements place (element key e es)) = suc (max (height e) (elements_height es))
+  height (elements pos no_elements) = 0
+  height (elements pos (element key e es)) = suc (max (height e) (elements_height es))
 
   pub greatest_height : Exs → ℕ
   greatest_height none = 0
@@ -53,4 +54,4 @@ abbrev mutual
 
 -- a height as a parser counts it: all above the limit are one
 abbrev pub capped_height : Ex → ℕ
-capped_height e = min (height e) 201
+capped_height e = min (height e) (suc NESTING_LIMIT)

@@ -1,4 +1,4 @@
--- Lists of the tree, one behind the other.
+-- Lists of the tree, one after the other.
 use Rattle.std.specs.Prelude.{Option}
 use Rattle.syntax.specs.declared.expression.Name.{Name}
 use Rattle.syntax.specs.Expressions.{Ex, Exs, none, some, Elements, no_elements, element}

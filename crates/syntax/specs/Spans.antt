@@ -4,12 +4,12 @@ use Rattle.std.specs.List.{AllByRecursion}
 use Rattle.base.specs.declared.pos.Pos.{Pos}
 use Rattle.syntax.specs.declared.expression.Name.{Name}
 use Rattle.syntax.specs.Expressions.{Ex, number, string, name, unary, binary, paren, call, selector, index, slice, array_type, slice_type, literal, elements, Exs, none, some, Bound, no_bound, bound_at, Elements, no_elements, element}
-use Rattle.syntax.specs.Statements.{Simple, express, assign, update, define, increment, decrement, ValueSpec, Guard, Targets, no_targets, targets_assigned, targets_defined, Clause, forever, while_true, counting, ranging, Stm, declare, simple, block, choice, loop, break_at, continue_at, give_back, Stms, nil, cons, Els, no_else, else_block, else_if}
+use Rattle.syntax.specs.Statements.{Simple, express, assign, update, define, increment, decrement, ValueSpec, Guard, Targets, no_targets, targets_assigned, targets_defined, Clause, forever, while_true, counting, ranging, Stm, var_stmt, simple, block, if_stmt, for_stmt, break_stmt, continue_stmt, return_stmt, Stms, nil, cons, Els, no_else, else_block, else_if}
 use Rattle.syntax.specs.Declarations.{Field, Parameters, unnamed, named, TypeSpec, Body, Function, Declaration, constants, variables, types, function, File}
 
--- from a place to an offset
+-- from a position to an offset
 abbrev pub IsSpan : ℕ → Pos → ℕ → Type 0
-IsSpan n place behind = (place.offset ≤ behind) × (behind ≤ n)
+IsSpan n pos end = (pos.offset ≤ end) × (end ≤ n)
 
 -- the span of a name lies in the text
 abbrev pub IsNameSpan : ℕ → Name → Type 0
@@ -25,20 +25,20 @@ KeySpan n (Some x) = IsNameSpan n x
 -- of each name and string in an expression
 abbrev mutual
   pub ExSpans : ℕ → Ex → Type 0
-  ExSpans n (number place k) = Unit {0}
-  ExSpans n (string place behind) = IsSpan n place behind
+  ExSpans n (number pos k) = Unit {0}
+  ExSpans n (string pos end) = IsSpan n pos end
   ExSpans n (name x) = IsNameSpan n x
-  ExSpans n (unary place op e) = ExSpans n e
-  ExSpans n (binary place op a b) = ExSpans n a × ExSpans n b
-  ExSpans n (paren place e) = ExSpans n e
+  ExSpans n (unary pos op e) = ExSpans n e
+  ExSpans n (binary pos op a b) = ExSpans n a × ExSpans n b
+  ExSpans n (paren pos e) = ExSpans n e
   ExSpans n (call f es spread) = ExSpans n f × ExsSpans n es
-  ExSpans n (selector e place x) = ExSpans n e × IsNameSpan n x
-  ExSpans n (index e place i) = ExSpans n e × ExSpans n i
-  ExSpans n (slice e place low high) = ExSpans n e × BoundSpans n low × BoundSpans n high
-  ExSpans n (array_type place len e) = ExSpans n len × ExSpans n e
-  ExSpans n (slice_type place e) = ExSpans n e
+  ExSpans n (selector e pos x) = ExSpans n e × IsNameSpan n x
+  ExSpans n (index e pos i) = ExSpans n e × ExSpans n i
+  ExSpans n (slice e pos low high) = ExSpans n e × BoundSpans n low × BoundSpans n high
+  ExSpans n (array_type pos len e) = ExSpans n len × ExSpans n e
+  ExSpans n (slice_type pos e) = ExSpans n e
   ExSpans n (literal t es) = ExSpans n t × ElementsSpans n es
-  ExSpans n (elements place es) = ElementsSpans n es
+  ExSpans n (elements pos es) = ElementsSpans n es
 
   pub ExsSpans : ℕ → Exs → Type 0
   ExsSpans n none = Unit {0}
@@ -58,11 +58,11 @@ OptionalSpans n (Some e) = ExSpans n e
 
 abbrev pub SimpleSpans : ℕ → Simple → Type 0
 SimpleSpans n (express e) = ExSpans n e
-SimpleSpans n (assign ls place es) = ExsSpans n ls × ExsSpans n es
-SimpleSpans n (update ls place op es) = ExsSpans n ls × ExsSpans n es
-SimpleSpans n (define xs place es) = NamesSpans n xs × ExsSpans n es
-SimpleSpans n (increment e place) = ExSpans n e
-SimpleSpans n (decrement e place) = ExSpans n e
+SimpleSpans n (assign ls pos es) = ExsSpans n ls × ExsSpans n es
+SimpleSpans n (update ls pos op es) = ExsSpans n ls × ExsSpans n es
+SimpleSpans n (define xs pos es) = NamesSpans n xs × ExsSpans n es
+SimpleSpans n (increment e pos) = ExSpans n e
+SimpleSpans n (decrement e pos) = ExSpans n e
 
 abbrev pub OptionalSimpleSpans : ℕ → Option Simple → Type 0
 OptionalSimpleSpans n None = Unit {0}
@@ -76,26 +76,26 @@ GuardSpans n g = OptionalSimpleSpans n g.init × ExSpans n g.condition
 
 abbrev pub TargetsSpans : ℕ → Targets → Type 0
 TargetsSpans n no_targets = Unit {0}
-TargetsSpans n (targets_assigned es place) = ExsSpans n es
-TargetsSpans n (targets_defined xs place) = NamesSpans n xs
+TargetsSpans n (targets_assigned es pos) = ExsSpans n es
+TargetsSpans n (targets_defined xs pos) = NamesSpans n xs
 
 abbrev pub ClauseSpans : ℕ → Clause → Type 0
 ClauseSpans n forever = Unit {0}
 ClauseSpans n (while_true e) = ExSpans n e
 ClauseSpans n (counting s c p) = OptionalSimpleSpans n s × OptionalSpans n c × OptionalSimpleSpans n p
-ClauseSpans n (ranging t place e) = TargetsSpans n t × ExSpans n e
+ClauseSpans n (ranging t pos e) = TargetsSpans n t × ExSpans n e
 
--- of each name in a statement, in the statements of a block, and behind the body of an `if`
+-- of each name in a statement, in the statements of a block, and after the body of an `if`
 abbrev mutual
   pub StmSpans : ℕ → Stm → Type 0
-  StmSpans n (declare place specs) = AllByRecursion (ValueSpecSpans n) specs
+  StmSpans n (var_stmt pos specs) = AllByRecursion (ValueSpecSpans n) specs
   StmSpans n (simple s) = SimpleSpans n s
   StmSpans n (block ss) = StmsSpans n ss
-  StmSpans n (choice place g ss e) = GuardSpans n g × StmsSpans n ss × ElsSpans n e
-  StmSpans n (loop place c ss) = ClauseSpans n c × StmsSpans n ss
-  StmSpans n (break_at place) = Unit {0}
-  StmSpans n (continue_at place) = Unit {0}
-  StmSpans n (give_back place es) = ExsSpans n es
+  StmSpans n (if_stmt pos g ss e) = GuardSpans n g × StmsSpans n ss × ElsSpans n e
+  StmSpans n (for_stmt pos c ss) = ClauseSpans n c × StmsSpans n ss
+  StmSpans n (break_stmt pos) = Unit {0}
+  StmSpans n (continue_stmt pos) = Unit {0}
+  StmSpans n (return_stmt pos es) = ExsSpans n es
 
   pub StmsSpans : ℕ → Stms → Type 0
   StmsSpans n nil = Unit {0}
@@ -104,7 +104,7 @@ abbrev mutual
   pub ElsSpans : ℕ → Els → Type 0
   ElsSpans n no_else = Unit {0}
   ElsSpans n (else_block ss) = StmsSpans n ss
-  ElsSpans n (else_if place g ss e) = GuardSpans n g × StmsSpans n ss × ElsSpans n e
+  ElsSpans n (else_if pos g ss e) = GuardSpans n g × StmsSpans n ss × ElsSpans n e
 
 abbrev pub FieldSpans : ℕ → Field → Type 0
 FieldSpans n f = NamesSpans n f.names × ExSpans n f.type_expr
@@ -124,9 +124,9 @@ abbrev pub FunctionSpans : ℕ → Function → Type 0
 FunctionSpans n f = IsNameSpan n f.name × ParametersSpans n f.params × ParametersSpans n f.results × BodySpans n f.body
 
 abbrev pub DeclarationSpans : ℕ → Declaration → Type 0
-DeclarationSpans n (constants place specs) = AllByRecursion (ValueSpecSpans n) specs
-DeclarationSpans n (variables place specs) = AllByRecursion (ValueSpecSpans n) specs
-DeclarationSpans n (types place specs) = AllByRecursion (TypeSpecSpans n) specs
+DeclarationSpans n (constants pos specs) = AllByRecursion (ValueSpecSpans n) specs
+DeclarationSpans n (variables pos specs) = AllByRecursion (ValueSpecSpans n) specs
+DeclarationSpans n (types pos specs) = AllByRecursion (TypeSpecSpans n) specs
 DeclarationSpans n (function f) = FunctionSpans n f
 
 -- of each name in a tree

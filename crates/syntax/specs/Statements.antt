@@ -17,7 +17,7 @@ use Rattle.syntax.specs.declared.statement.Else.{Else}
 use Rattle.syntax.specs.declared.statement.Else.TheVariants as els
 use Rattle.syntax.specs.Expressions.{Ex, Exs, ex_of, exs_of, ex_in}
 
--- a simple statement; the place is that of its operator
+-- a simple statement; the position is that of its operator
 pub data Simple : Type 0 where
   express : Ex → Simple
   -- the places that are assigned to, and the values
@@ -38,7 +38,7 @@ pub record Guard : Type 0 where
   pub init : Option Simple
   pub condition : Ex
 
--- what a `range` gives its values to, with the place of the operator behind it
+-- what a `range` gives its values to, with the position of the operator after it
 pub data Targets : Type 0 where
   no_targets : Targets
   targets_assigned : Exs → Pos → Targets
@@ -50,27 +50,27 @@ pub data Clause : Type 0 where
   while_true : Ex → Clause
   -- the init statement, the condition and the post statement
   counting : Option Simple → Option Ex → Option Simple → Clause
-  -- the place of the word `range`, and its operand
+  -- the position of the word `range`, and its operand
   ranging : Targets → Pos → Ex → Clause
 
 mutual
-  -- a statement; the place is that of its word
+  -- a statement; the position is that of its word
   pub data Stm : Type 0 where
-    declare : Pos → List ValueSpec → Stm
+    var_stmt : Pos → List ValueSpec → Stm
     simple : Simple → Stm
     block : Stms → Stm
-    choice : Pos → Guard → Stms → Els → Stm
-    loop : Pos → Clause → Stms → Stm
-    break_at : Pos → Stm
-    continue_at : Pos → Stm
-    give_back : Pos → Exs → Stm
+    if_stmt : Pos → Guard → Stms → Els → Stm
+    for_stmt : Pos → Clause → Stms → Stm
+    break_stmt : Pos → Stm
+    continue_stmt : Pos → Stm
+    return_stmt : Pos → Exs → Stm
 
   -- the statements of a block
   pub data Stms : Type 0 where
     nil : Stms
     cons : Stm → Stms → Stms
 
-  -- what stands behind the body of an `if`
+  -- what stands after the body of an `if`
   pub data Els : Type 0 where
     no_else : Els
     else_block : Stms → Els
@@ -80,11 +80,11 @@ mutual
 
 abbrev pub simple_of : CodeSimple → Simple
 simple_of (simple_variant.Express e) = express (ex_of e)
-simple_of (simple_variant.Assign ls at es) = assign (exs_of ls.items) at (exs_of es.items)
-simple_of (simple_variant.Update ls at op es) = update (exs_of ls.items) at op (exs_of es.items)
-simple_of (simple_variant.Define xs at es) = define xs.items at (exs_of es.items)
-simple_of (simple_variant.Increment e at) = increment (ex_of e) at
-simple_of (simple_variant.Decrement e at) = decrement (ex_of e) at
+simple_of (simple_variant.Assign ls pos es) = assign (exs_of ls.items) pos (exs_of es.items)
+simple_of (simple_variant.Update ls pos op es) = update (exs_of ls.items) pos op (exs_of es.items)
+simple_of (simple_variant.Define xs pos es) = define xs.items pos (exs_of es.items)
+simple_of (simple_variant.Increment e pos) = increment (ex_of e) pos
+simple_of (simple_variant.Decrement e pos) = decrement (ex_of e) pos
 
 abbrev pub simple_in : Option CodeSimple → Option Simple
 simple_in None = None
@@ -101,30 +101,30 @@ guard_of g = record { init = simple_in g.init; condition = ex_of g.condition }
 
 abbrev pub targets_of : CodeTargets → Targets
 targets_of targets_variant.Absent = no_targets
-targets_of (targets_variant.Assign es at) = targets_assigned (exs_of es.items) at
-targets_of (targets_variant.Define xs at) = targets_defined xs.items at
+targets_of (targets_variant.Assign es pos) = targets_assigned (exs_of es.items) pos
+targets_of (targets_variant.Define xs pos) = targets_defined xs.items pos
 
 abbrev pub clause_of : CodeClause → Clause
 clause_of clause_variant.Forever = forever
 clause_of (clause_variant.While e) = while_true (ex_of e)
 clause_of (clause_variant.Counting s c p) = counting (simple_in s) (ex_in c) (simple_in p)
-clause_of (clause_variant.Range t at e) = ranging (targets_of t) at (ex_of e)
+clause_of (clause_variant.Range t pos e) = ranging (targets_of t) pos (ex_of e)
 
 abbrev mutual
   pub stm_of : Stmt → Stm
-  stm_of (stmt.Var at specs) = declare at (value_specs_of specs.items)
+  stm_of (stmt.Var pos specs) = var_stmt pos (value_specs_of specs.items)
   stm_of (stmt.Simple s) = simple (simple_of s)
   stm_of (stmt.Block' shape body) = block (row_of body)
-  stm_of (stmt.If' at g shape body e) = choice at (guard_of g) (row_of body) (els_of e)
-  stm_of (stmt.For' at c shape body) = loop at (clause_of c) (row_of body)
-  stm_of (stmt.Break at) = break_at at
-  stm_of (stmt.Continue at) = continue_at at
-  stm_of (stmt.Return at es) = give_back at (exs_of es.items)
+  stm_of (stmt.If' pos g shape body e) = if_stmt pos (guard_of g) (row_of body) (els_of e)
+  stm_of (stmt.For' pos c shape body) = for_stmt pos (clause_of c) (row_of body)
+  stm_of (stmt.Break pos) = break_stmt pos
+  stm_of (stmt.Continue pos) = continue_stmt pos
+  stm_of (stmt.Return pos es) = return_stmt pos (exs_of es.items)
 
   pub els_of : Else → Els
   els_of els.Absent = no_else
   els_of (els.Block' shape body) = else_block (row_of body)
-  els_of (els.If' at g shape body p e) = else_if at (guard_of g) (row_of body) (els_of e)
+  els_of (els.If' pos g shape body p e) = else_if pos (guard_of g) (row_of body) (els_of e)
 
   pub row_of : {m : _} → Row_of-Stmt m → Stms
   row_of end_of-Stmt = nil

@@ -26,14 +26,14 @@ pub struct TypeSpec {
     pub fields: Vec<Field>,
 }
 
-/// The body of a function, with the place of its closing brace.
+/// The body of a function, with the position of its closing brace.
 #[derive(Drop)]
 pub struct Body {
     pub statements: Vec<Stmt>,
     pub end: Pos,
 }
 
-/// A function, with the place of its word `func`.
+/// A function, with the position of its word `func`.
 #[derive(Drop)]
 pub struct Func {
     pub pos: Pos,
@@ -43,7 +43,7 @@ pub struct Func {
     pub body: Option<Body>,
 }
 
-/// A declaration at the level of the package. The place is that of its word.
+/// A declaration at the level of the package. The position is that of its word.
 #[derive(Drop)]
 pub enum Decl {
     Const(Pos, Vec<ValueSpec>),

@@ -5,7 +5,7 @@ ghost use Rattle.std.specs.Prelude.{◌≡◌};
 use crate::operator::{BinOp, UnOp};
 use base::Pos;
 
-/// A name of the text: where it begins, and the offset behind its last byte.
+/// A name of the text: where it begins, and the offset after its last byte.
 #[derive(Clone, Copy, Debug, PartialEq, Eq)]
 pub struct Name {
     pub pos: Pos,
@@ -13,19 +13,19 @@ pub struct Name {
 }
 
 /// An expression or a type (Go specification, "Expressions", "Types"): which of them a name, a `*` or parentheses are is
-/// often known only where names are looked up. A place is that of the node's own first token: of a prefix its operator, of
+/// often known only where names are looked up. A position is that of the node's own first token: of a prefix its operator, of
 /// parentheses the opening one, of a binary operator, a `.` or an index that token.
 #[derive(Drop)]
 #[cycle(expression)]
 pub enum Expr {
     Int(Pos, u128),
-    /// A string in double quotes: its place, and the offset behind its last byte.
+    /// A string in double quotes: its position, and the offset after its last byte.
     String(Pos, u32),
     Name(Name),
     Unary(Pos, UnOp, Box<Expr>),
     Binary(Pos, BinOp, Box<Expr>, Box<Expr>),
     Paren(Pos, Box<Expr>),
-    /// The function, the arguments, and whether `...` stands behind them.
+    /// The function, the arguments, and whether `...` stands after them.
     Call(Box<Expr>, Vec<Expr>, bool),
     /// A field of a value.
     Selector(Box<Expr>, Pos, Name),
@@ -49,7 +49,7 @@ pub enum Bound {
     At(Box<Expr>),
 }
 
-/// An element of a composite literal, behind the name of its field where that stands before it.
+/// An element of a composite literal, after the name of its field where that stands before it.
 #[derive(Drop)]
 #[cycle(expression)]
 pub enum Element {
@@ -59,11 +59,11 @@ pub enum Element {
 
 impl Expr {
     ghost use Rattle.syntax.specs.Expressions.{ex_of};
-    ghost use Rattle.syntax.specs.FirstBytes.{first_place};
+    ghost use Rattle.syntax.specs.FirstBytes.{first_pos};
 
-    /// The place of its first byte.
+    /// The position of its first byte.
     pub fn pos(&self) -> Pos
-        ensures { result ≡ first_place (ex_of self.now) }
+        ensures { result ≡ first_pos (ex_of self.now) }
     {
         match self {
             Expr::Int(pos, _) => *pos,

@@ -2,14 +2,14 @@
 
 ghost use Rattle.std.specs.Prelude.{◌≡◌, IfOk};
 ghost use Rattle.syntax.specs.Expressions.{call, literal, elements, ex_of, exs_of, elements_of};
-ghost use Rattle.syntax.specs.Statements.{block, choice, loop, else_block, else_if, guard_of, clause_of, stm_of, els_of, stms_of};
+ghost use Rattle.syntax.specs.Statements.{block, if_stmt, for_stmt, else_block, else_if, guard_of, clause_of, stm_of, els_of, stms_of};
 
 use crate::expression::{Element, Expr};
 use crate::statement::{Clause, Else, Guard, Stmt};
 use base::Pos;
 use std::alloc::{AllocError, Global};
 
-/// A call, with `...` behind its arguments or not.
+/// A call, with `...` after its arguments or not.
 pub fn call(
     alloc: Global,
     function: Expr,
@@ -28,7 +28,7 @@ pub fn literal(alloc: Global, type_expr: Expr, list: Vec<Element>) -> Result<Exp
     Ok(Expr::Literal(Box::new(alloc, type_expr)?, list))
 }
 
-/// The elements of a literal without a type, whose brace stands at a place.
+/// The elements of a literal without a type, whose brace stands at a position.
 pub fn elements(pos: Pos, list: Vec<Element>) -> Expr
     ensures { ex_of result ≡ elements pos (elements_of list.items) }
 {
@@ -42,16 +42,16 @@ pub fn block(body: Vec<Stmt>) -> Stmt
     Stmt::Block(body)
 }
 
-/// A `for`, with the place of its word.
+/// A `for`, with the position of its word.
 pub fn repetition(pos: Pos, clause: Clause, body: Vec<Stmt>) -> Stmt
-    ensures { stm_of result ≡ loop pos (clause_of clause) (stms_of body.items) }
+    ensures { stm_of result ≡ for_stmt pos (clause_of clause) (stms_of body.items) }
 {
     Stmt::For(pos, clause, body)
 }
 
-/// An `if`, with the place of its word, and what stands behind its body.
+/// An `if`, with the position of its word, and what stands after its body.
 pub fn choice(pos: Pos, guard: Guard, body: Vec<Stmt>, otherwise: Else) -> Stmt
-    ensures { stm_of result ≡ choice pos (guard_of guard) (stms_of body.items) (els_of otherwise) }
+    ensures { stm_of result ≡ if_stmt pos (guard_of guard) (stms_of body.items) (els_of otherwise) }
 {
     Stmt::If(pos, guard, body, otherwise)
 }
@@ -63,7 +63,7 @@ pub fn else_block(body: Vec<Stmt>) -> Else
     Else::Block(body)
 }
 
-/// An `if` behind an `else`, with the place of its word, and what stands behind its body.
+/// An `if` after an `else`, with the position of its word, and what stands after its body.
 pub fn else_if(
     alloc: Global,
     pos: Pos,

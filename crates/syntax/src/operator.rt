@@ -33,9 +33,9 @@ pub enum BinOp {
     Arithmetic(ArithmeticOp),
     Compare(CompareOp),
     /// `&&`
-    Both,
+    LogicalAnd,
     /// `||`
-    Either,
+    LogicalOr,
 }
 
 /// An operator on one operand.

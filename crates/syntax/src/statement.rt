@@ -4,7 +4,7 @@ use crate::expression::{Expr, Name};
 use crate::operator::ArithmeticOp;
 use base::Pos;
 
-/// A simple statement (Go specification, "Statements"). The place is that of its operator.
+/// A simple statement (Go specification, "Statements"). The position is that of its operator.
 #[derive(Drop)]
 pub enum Simple {
     /// An expression as a statement.
@@ -54,11 +54,11 @@ pub enum Clause {
     While(Expr),
     /// The init statement, the condition and the post statement, each of which may be absent.
     Counting(Option<Simple>, Option<Expr>, Option<Simple>),
-    /// The place is that of the word `range`.
+    /// The position is that of the word `range`.
     Range(Targets, Pos, Expr),
 }
 
-/// A statement. The place is that of its word.
+/// A statement. The position is that of its word.
 #[derive(Drop)]
 #[cycle(statement)]
 pub enum Stmt {
@@ -72,12 +72,12 @@ pub enum Stmt {
     Return(Pos, Vec<Expr>),
 }
 
-/// What stands behind the body of an `if`.
+/// What stands after the body of an `if`.
 #[derive(Drop)]
 #[cycle(statement)]
 pub enum Else {
     Absent,
     Block(Vec<Stmt>),
-    /// Another `if`, with its place.
+    /// Another `if`, with its position.
     If(Pos, Guard, Vec<Stmt>, Box<Else>),
 }

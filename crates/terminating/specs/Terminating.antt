@@ -1,4 +1,4 @@
--- Terminating statements: nothing goes on behind them (Go specification, "Terminating statements").
+-- Terminating statements: nothing goes on after them (Go specification, "Terminating statements").
 use Rattle.std.specs.Prelude.{ℕ, Bool, true, false, not, ◌&&◌, ◌||◌, List, Option, Some, None, is_some}
 use Rattle.syntax.specs.declared.expression.Name.{Name}
 use Rattle.syntax.specs.Expressions.{Ex as TreeEx, spelled}
@@ -15,24 +15,24 @@ abbrev pub is_endless : Clause → Bool
 is_endless forever = true
 is_endless (while_true e) = false
 is_endless (counting init test1 post) = not (is_some test1)
-is_endless (ranging t at e) = false
+is_endless (ranging t pos e) = false
 
 -- whether a `break` leaves the loop around a statement
 abbrev mutual
   pub leaves : Stm → Bool
-  leaves (tree.declare at specs) = false
+  leaves (tree.var_stmt pos specs) = false
   leaves (tree.simple m) = false
   leaves (tree.block ms) = leaves_any ms
-  leaves (tree.choice at g body rest) = leaves_any body || leaves_else rest
-  leaves (tree.loop at c body) = false
-  leaves (tree.break_at at) = true
-  leaves (tree.continue_at at) = false
-  leaves (tree.give_back at es) = false
+  leaves (tree.if_stmt pos g body rest) = leaves_any body || leaves_else rest
+  leaves (tree.for_stmt pos c body) = false
+  leaves (tree.break_stmt pos) = true
+  leaves (tree.continue_stmt pos) = false
+  leaves (tree.return_stmt pos es) = false
 
   pub leaves_else : Els → Bool
   leaves_else tree.no_else = false
   leaves_else (tree.else_block ms) = leaves_any ms
-  leaves_else (tree.else_if at g body rest) = leaves_any body || leaves_else rest
+  leaves_else (tree.else_if pos g body rest) = leaves_any body || leaves_else rest
 
   pub leaves_any : Stms → Bool
   leaves_any tree.nil = false
@@ -51,7 +51,7 @@ module _ (text : List ℕ) (s : Scope) where
 
   abbrev pub panics : TreeEx → Bool
   panics (expressions.call g es spread) = names_panic (name_in g)
-  panics (expressions.paren at e) = panics e
+  panics (expressions.paren pos e) = panics e
   panics other = false
 
   abbrev pub ends_simple : Simple → Bool
@@ -60,21 +60,21 @@ module _ (text : List ℕ) (s : Scope) where
 
   abbrev mutual
     pub is_terminating : Stm → Bool
-    is_terminating (tree.declare at specs) = false
+    is_terminating (tree.var_stmt pos specs) = false
     is_terminating (tree.simple m) = ends_simple m
     is_terminating (tree.block ms) = ends_after false ms
-    is_terminating (tree.choice at g body rest) = ends_after false body && is_terminating_else rest
-    is_terminating (tree.loop at c body) = is_endless c && not (leaves_any body)
-    is_terminating (tree.break_at at) = false
-    is_terminating (tree.continue_at at) = false
-    is_terminating (tree.give_back at es) = true
+    is_terminating (tree.if_stmt pos g body rest) = ends_after false body && is_terminating_else rest
+    is_terminating (tree.for_stmt pos c body) = is_endless c && not (leaves_any body)
+    is_terminating (tree.break_stmt pos) = false
+    is_terminating (tree.continue_stmt pos) = false
+    is_terminating (tree.return_stmt pos es) = true
 
     pub is_terminating_else : Els → Bool
     is_terminating_else tree.no_else = false
     is_terminating_else (tree.else_block ms) = ends_after false ms
-    is_terminating_else (tree.else_if at g body rest) = ends_after false body && is_terminating_else rest
+    is_terminating_else (tree.else_if pos g body rest) = ends_after false body && is_terminating_else rest
 
-    -- whether the last of some statements is terminating, behind one of which that is known
+    -- whether the last of some statements is terminating, after one of which that is known
     pub ends_after : Bool → Stms → Bool
     ends_after ends tree.nil = ends
     ends_after ends (tree.cons m ms) = ends_after (is_terminating m) ms

@@ -1,4 +1,4 @@
-//! Terminating statements: nothing goes on behind them.
+//! Terminating statements: nothing goes on after them.
 
 ghost use Rattle.std.specs.Prelude.{◌≡◌, false};
 ghost use Rattle.syntax.specs.Expressions.{ex_of as tree_of};
@@ -7,7 +7,7 @@ ghost use Rattle.names.specs.Scope.{scope_of};
 ghost use Rattle.names.specs.Naming.{name_in};
 ghost use Rattle.terminating.specs.Terminating.{is_endless, is_panic, leaves, leaves_else, leaves_any, names_panic, panics, ends_simple, is_terminating, is_terminating_else, ends_after};
 
-use names::{Declared, Scope, declaration, name_in, spelled};
+use names::{Declared, Scope, name_in, spelled};
 use syntax::{Clause, Else, Expr, Name, Simple, Stmt};
 
 /// Whether a loop has no condition.
@@ -76,7 +76,7 @@ fn names_panic(text: &[u8], scope: &Scope, name: Option<Name>) -> bool
     ensures { result ≡ names_panic text.now (scope_of scope.now) name }
 {
     match name {
-        Some(name) => is_panic(declaration(scope, spelled(text, name))),
+        Some(name) => is_panic(scope.declaration(spelled(text, name))),
         None => false,
     }
 }

@@ -1,7 +1,7 @@
 -- What is kept of words is what the trees have.
 use Rattle.std.proofs.Common.{◌≡◌, ℕ, zero, suc, ◌*◌, List, [], ◌∷◌, get_or, map, Option, None, Some, slice_get, refl, sym, ap, ◌∙◌}
 use Rattle.std.specs.Option.{unwrap_or, option_map, option_and_then}
-use Rattle.value_trees.specs.Types.{struct_of, array_of, width}
+use Rattle.typed_syntax.specs.Types.{struct_of, array_of, width}
 use Rattle.base.specs.declared.ids.TypeId.{TypeId}
 use Rattle.typed.specs.declared.told.Told.{Told}
 use Rattle.base.specs.declared.ids.StructId.{StructId}
@@ -23,7 +23,7 @@ map_then : {A B C : Type 0} (f : A → Option B) (h : B → C) (o : Option A) �
 map_then f h None = refl
 map_then f h (Some a) = refl
 
--- the item of a map at an index, which is none behind its end
+-- the item of a map at an index, which is none past its end
 get_map : (f : ValueType → Option ℕ) (ts : List ValueType) (i : ℕ) → get_or (map f ts) i None ≡ option_and_then f (slice_get ts i)
 get_map f [] i = refl
 get_map f (t ∷ ts) zero = refl

@@ -3,7 +3,7 @@ use Rattle.std.proofs.Common.{◌≡◌, inl, inr, ℕ, zero, suc, ◌*◌, ◌^
 use Rattle.std.specs.Option.{unwrap_or, option_map, option_and_then}
 use Rattle.std.proofs.lemmas.Option.{slice_get_within, slice_get-get_or}
 use Rattle.std.proofs.Math.Nat.{mul-le-mul_left}
-use Rattle.value_trees.specs.Types.{ValueType as Tree, PartTypes, struct_of, array_of, more_types, width}
+use Rattle.typed_syntax.specs.Types.{TypeTree, PartTypes, struct_of, array_of, more_types, width}
 use Rattle.base.specs.declared.ids.TypeId.{TypeId}
 use Rattle.base.specs.declared.ids.StructId.{StructId}
 use Rattle.base.specs.declared.value_type.ValueType.{ValueType}
@@ -42,25 +42,25 @@ abbrev pub AllStand : Table → List TypeId → Type 0
 AllStand T [] = Unit {0}
 AllStand T (e ∷ es) = (e.0 < length T.types) × AllStand T es
 
-part_stands : (T : Table) (f : ValueType → Option Tree) (i : ℕ) (x : Tree) → part_by T f i ≡ Some x → i < length T.types
+part_stands : (T : Table) (f : ValueType → Option TypeTree) (i : ℕ) (x : TypeTree) → part_by T f i ≡ Some x → i < length T.types
 part_stands T f i x p = by (slice_get T.types i) refl p
   where
     by : (o : Option ValueType) → slice_get T.types i ≡ o → option_and_then f o ≡ Some x → i < length T.types
     by None e q = absurd cc q
     by (Some t) e q = slice_get_within T.types i t e
 
-pub more_is : (o : Option Tree) (os : Option PartTypes) (xs : PartTypes) → more_by o os ≡ Some xs → (y : Tree) × (ys : PartTypes) × (o ≡ Some y) × (os ≡ Some ys) × (more_types y ys ≡ xs)
+pub more_is : (o : Option TypeTree) (os : Option PartTypes) (xs : PartTypes) → more_by o os ≡ Some xs → (y : TypeTree) × (ys : PartTypes) × (o ≡ Some y) × (os ≡ Some ys) × (more_types y ys ≡ xs)
 more_is None os xs p = absurd cc p
 more_is (Some y) None xs p = absurd cc p
 more_is (Some y) (Some ys) xs p = (y, ys, refl, refl, cc p)
 
-parts_stand : (T : Table) (f : ValueType → Option Tree) (es : List TypeId) (xs : PartTypes) → parts_by T f es ≡ Some xs → AllStand T es
+parts_stand : (T : Table) (f : ValueType → Option TypeTree) (es : List TypeId) (xs : PartTypes) → parts_by T f es ≡ Some xs → AllStand T es
 parts_stand T f [] xs p = tt
 parts_stand T f (e ∷ es) xs p =
     let m = more_is (part_by T f e.0) (parts_by T f es) xs p in
     (part_stands T f e.0 m.0 m.2, parts_stand T f es m.1 m.3)
 
-fields_stand : (T : Table) (f : ValueType → Option Tree) (s : StructId) (fields : List TypeId) (x : Tree) → fields_of T s.0 ≡ Some fields → tree_by T f (Struct s) ≡ Some x → AllStand T fields
+fields_stand : (T : Table) (f : ValueType → Option TypeTree) (s : StructId) (fields : List TypeId) (x : TypeTree) → fields_of T s.0 ≡ Some fields → tree_by T f (Struct s) ≡ Some x → AllStand T fields
 fields_stand T f s fields x told p =
     by (parts_by T f fields) refl (sym (ap (option_and_then (λ fs. option_map struct_of (parts_by T f fs))) told) ∙ p)
   where
@@ -72,7 +72,7 @@ module _ (T : Table) (formed : IsFormed T) (t : ValueType) where
   told_stand : (s : StructId) (fields : List TypeId) → fields_of T s.0 ≡ Some fields → AllStand T fields
   told_stand s fields p = by (base_of T) (formed.nested s fields p)
     where
-      by : (d : ℕ) → (x : Tree) × (tree_within T d (Struct s) ≡ Some x) → AllStand T fields
+      by : (d : ℕ) → (x : TypeTree) × (tree_within T d (Struct s) ≡ Some x) → AllStand T fields
       by zero x = absurd cc x.1
       by (suc d) x = fields_stand T (tree_within T d) s fields x.0 p x.1
 
@@ -83,7 +83,7 @@ module _ (T : Table) (formed : IsFormed T) (t : ValueType) where
   stands_placed i (Array n e) h = let p = formed.placed i (Array n e) h in let q = p.0 in let l = slice_get_within T.types i (Array n e) h in omega arith
 
   -- parts of the table are the same in the longer one
-  module _ (f h : ValueType → Option Tree) (same : (u : ValueType) → Stands T u → f u ≡ h u) where
+  module _ (f h : ValueType → Option TypeTree) (same : (u : ValueType) → Stands T u → f u ≡ h u) where
     part_entered : (i : ℕ) → i < length T.types → part_by (entered T t) f i ≡ part_by T h i
     part_entered i l =
         ap (option_and_then f) (get_within T.types t i l) ∙ part_same T f h i (λ u held. same u (stands_placed i u held))

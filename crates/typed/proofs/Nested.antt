@@ -2,7 +2,7 @@
 use Rattle.std.proofs.Common.{◌≡◌, ℕ, zero, suc, ◌+◌, ◌*◌, ◌<◌, ◌≤◌, List, length, Option, None, Some, slice_get, refl, sym, ap, ◌∙◌, arith}
 use Rattle.std.specs.Option.{option_map, option_and_then}
 use Rattle.std.proofs.lemmas.Option.{slice_get_within}
-use Rattle.value_trees.specs.Types.{ValueType as Tree, struct_of, array_of}
+use Rattle.typed_syntax.specs.Types.{TypeTree, struct_of, array_of}
 use Rattle.base.specs.declared.ids.TypeId.{TypeId}
 use Rattle.base.specs.declared.ids.StructId.{StructId}
 use Rattle.base.specs.declared.value_type.ValueType.{ValueType}
@@ -23,10 +23,10 @@ then_same : {A B : Type 0} (o : Option A) (f h : A → Option B) → ((a : A) �
 then_same None f h same = refl
 then_same (Some a) f h same = same a refl
 
-pub part_same : (T : Table) (f h : ValueType → Option Tree) (i : ℕ) → ((t : ValueType) → Holds T i t → f t ≡ h t) → part_by T f i ≡ part_by T h i
+pub part_same : (T : Table) (f h : ValueType → Option TypeTree) (i : ℕ) → ((t : ValueType) → Holds T i t → f t ≡ h t) → part_by T f i ≡ part_by T h i
 part_same T f h i same = then_same (slice_get T.types i) f h same
 
--- the elements of an array of the table, or behind a number, stand before it
+-- the elements of an array of the table, or under a number, stand before it
 abbrev pub IsBehind : Table → ℕ → ValueType → Type 0
 IsBehind T i (Array n e) = (t : ValueType) → Holds T e.0 t → e.0 < i
 IsBehind T i t = Unit {0}
@@ -46,7 +46,7 @@ behind_all T (Array n e) = λ t h. slice_get_within T.types e.0 t h
 -- what is needed of a table for that
 pub record IsDeep (T : Table) : Type 0 where
   pub placed : (i : ℕ) (t : ValueType) → Holds T i t → IsPlaced i t
-  pub nested : (s : StructId) (fields : List TypeId) → fields_of T s.0 ≡ Some fields → (x : Tree) × (tree_within T (base_of T) (Struct s) ≡ Some x)
+  pub nested : (s : StructId) (fields : List TypeId) → fields_of T s.0 ≡ Some fields → (x : TypeTree) × (tree_within T (base_of T) (Struct s) ≡ Some x)
 
 pub deep : (T : Table) → IsFormed T → IsDeep T
 deep T formed = record { placed = formed.placed; nested = formed.nested }
@@ -65,7 +65,7 @@ module _ (T : Table) (formed : IsDeep T) where
   array_fixed : (k d n : ℕ) (e : TypeId) → ((t : ValueType) → Holds T e.0 t → tree_within T k t ≡ tree_within T d t) → tree_within T (suc k) (Array n e) ≡ tree_within T (suc d) (Array n e)
   array_fixed k d n e same = ap (option_map (array_of n)) (part_same T (tree_within T k) (tree_within T d) e.0 same)
 
-  -- a type that stands behind its parts has its tree within so much depth
+  -- a type that stands after its parts has its tree within the depth `base_of`
   pub fixed : (i k d : ℕ) (t : ValueType) → IsBehind T i t → base_of T + i ≤ k → base_of T + i ≤ d → tree_within T (suc k) t ≡ tree_within T (suc d) t
   fixed i k d Int b lk ld = refl
   fixed i k d Truth b lk ld = refl
@@ -91,7 +91,7 @@ pub made : (T : Table) → IsFormed T → TreesAreMade T
 made T formed = made_by T (deep T formed)
 
 -- a struct that's told has a tree
-pub told_tree : (T : Table) → IsFormed T → (r : StructId) (fields : List TypeId) → fields_of T r.0 ≡ Some fields → (x : Tree) × (tree_of T (Struct r) ≡ Some x)
+pub told_tree : (T : Table) → IsFormed T → (r : StructId) (fields : List TypeId) → fields_of T r.0 ≡ Some fields → (x : TypeTree) × (tree_of T (Struct r) ≡ Some x)
 unfolding tree_of
 told_tree T formed r fields p =
     let x = formed.nested r fields p in

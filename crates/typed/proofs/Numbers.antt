@@ -19,7 +19,7 @@ number_holds T t i p =
     let f = position-Some (same_type t) T.types i Int p in
     slice_get-get_or T.types i Int f.0 ∙ ap (λ u. Some u) (sym (same_is t (get_or T.types i Int) f.1))
 
--- where no type passes, the first place is behind them all
+-- where no type passes, the first place is after them all
 first_behind : (t : ValueType) (ts : List ValueType) → position (same_type t) ts ≡ None → length ts ≤ position_or_len (same_type t) ts
 first_behind t ts p = by (nat_lt (position_or_len (same_type t) ts) (length ts)) refl p
   where

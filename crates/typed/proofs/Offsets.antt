@@ -3,7 +3,7 @@ use Rattle.std.proofs.Common.{◌≡◌, ℕ, zero, suc, ◌+◌, ◌≤◌, Lis
 use Rattle.std.specs.Option.{unwrap_or, option_map, option_and_then}
 use Rattle.std.proofs.lemmas.List.{take_min}
 use Rattle.std.proofs.lemmas.List.Sums.{sum_by-cons, sum_by-take-le}
-use Rattle.value_trees.specs.Types.{PartTypes, struct_of, no_types, width, widths, widths_before}
+use Rattle.typed_syntax.specs.Types.{PartTypes, struct_of, no_types, width, widths, widths_before}
 use Rattle.base.specs.declared.ids.TypeId.{TypeId}
 use Rattle.typed.specs.declared.told.Told.{Told}
 use Rattle.base.specs.declared.ids.StructId.{StructId}

@@ -3,7 +3,7 @@ use Rattle.std.proofs.Common.{◌≡◌, ◌⊎◌, inl, inr, ℕ, zero, suc, �
 use Rattle.std.specs.Bool.{then_some}
 use Rattle.std.specs.Option.{unwrap_or, option_map, option_copied, option_and_then}
 use Rattle.std.proofs.lemmas.Bool.{ltb-true, ltb-false}
-use Rattle.value_trees.specs.Types.{ValueType as Tree, PartTypes, ints, bools, array_of, no_types, width, repeated, nth_type, widths_before, part_type, part_offset}
+use Rattle.typed_syntax.specs.Types.{TypeTree, PartTypes, ints, bools, array_of, no_types, width, repeated, nth_type, widths_before, part_type, part_offset}
 use Rattle.base.specs.declared.ids.TypeId.{TypeId}
 use Rattle.base.specs.declared.ids.StructId.{StructId}
 use Rattle.base.specs.declared.value_type.ValueType.{ValueType}
@@ -16,43 +16,43 @@ use Rattle.typed.proofs.Entered.{more_is}
 use Rattle.typed.proofs.Offsets.{struct_parts}
 
 -- what has no tree counts as a whole number
-abbrev or_ints : Option Tree → Tree
+abbrev or_ints : Option TypeTree → TypeTree
 or_ints o = unwrap_or o ints
 
 -- ---- arrays
 
-nth_repeated : (n : ℕ) (t : Tree) (i : ℕ) → i < n → nth_type (repeated n t) i ≡ t
+nth_repeated : (n : ℕ) (t : TypeTree) (i : ℕ) → i < n → nth_type (repeated n t) i ≡ t
 nth_repeated zero t i l = absurd (omega arith)
 nth_repeated (suc n) t zero l = refl
 nth_repeated (suc n) t (suc i) l = nth_repeated n t i (omega arith)
 
-nth_behind : (n : ℕ) (t : Tree) (i : ℕ) → n ≤ i → nth_type (repeated n t) i ≡ ints
+nth_behind : (n : ℕ) (t : TypeTree) (i : ℕ) → n ≤ i → nth_type (repeated n t) i ≡ ints
 nth_behind zero t i l = refl
 nth_behind (suc n) t zero l = absurd (omega arith)
 nth_behind (suc n) t (suc i) l = nth_behind n t i (omega arith)
 
-before_repeated : (n : ℕ) (t : Tree) (i k : ℕ) → k ≡ min i n → widths_before (repeated n t) i ≡ k * width t
+before_repeated : (n : ℕ) (t : TypeTree) (i k : ℕ) → k ≡ min i n → widths_before (repeated n t) i ≡ k * width t
 before_repeated zero t i k e = let z : k ≡ 0 = omega arith in omega (arith, ap (λ k. k * width t) z)
 before_repeated (suc n) t zero k e = let z : k ≡ 0 = omega arith in omega (arith, ap (λ k. k * width t) z)
 before_repeated (suc n) t (suc i) zero e = absurd (omega arith)
 before_repeated (suc n) t (suc i) (suc k) e = omega (arith, before_repeated n t i k (omega arith), suc-mul k (width t))
 
 -- the parts of arrays, and of what has no tree
-element_type : (n : ℕ) (o : Option Tree) (i : ℕ) → i < n → or_ints o ≡ part_type (or_ints (option_map (array_of n) o)) i
+element_type : (n : ℕ) (o : Option TypeTree) (i : ℕ) → i < n → or_ints o ≡ part_type (or_ints (option_map (array_of n) o)) i
 element_type n None i l = refl
 element_type n (Some x) i l = sym (nth_repeated n x i l)
 
-behind_elements : (n : ℕ) (o : Option Tree) (i : ℕ) → n ≤ i → part_type (or_ints (option_map (array_of n) o)) i ≡ ints
+behind_elements : (n : ℕ) (o : Option TypeTree) (i : ℕ) → n ≤ i → part_type (or_ints (option_map (array_of n) o)) i ≡ ints
 behind_elements n None i l = refl
 behind_elements n (Some x) i l = nth_behind n x i l
 
-element_offset : (n : ℕ) (o : Option Tree) (i k : ℕ) → k ≡ min i n → k * unwrap_or (option_map width o) 0 ≡ part_offset (or_ints (option_map (array_of n) o)) i
+element_offset : (n : ℕ) (o : Option TypeTree) (i k : ℕ) → k ≡ min i n → k * unwrap_or (option_map width o) 0 ≡ part_offset (or_ints (option_map (array_of n) o)) i
 element_offset n None i k e = omega arith
 element_offset n (Some x) i k e = sym (before_repeated n x i k e)
 
 -- ---- the trees by their numbers
 
-named_in : (f : ValueType → Option Tree) (ts : List ValueType) (i : ℕ) → get_or (map (λ t. or_ints (f t)) ts) i ints ≡ or_ints (option_and_then f (slice_get ts i))
+named_in : (f : ValueType → Option TypeTree) (ts : List ValueType) (i : ℕ) → get_or (map (λ t. or_ints (f t)) ts) i ints ≡ or_ints (option_and_then f (slice_get ts i))
 named_in f [] i = refl
 named_in f (t ∷ ts) zero = refl
 named_in f (t ∷ ts) (suc i) = named_in f ts i
@@ -60,7 +60,7 @@ named_in f (t ∷ ts) (suc i) = named_in f ts i
 named : (T : Table) (i : ℕ) → tree_named T i ≡ or_ints (tree_at T i)
 named T i = named_in (tree_of T) T.types i
 
-get_map : (f : ValueType → Tree) (ts : List ValueType) (i : ℕ) (d : ValueType) (e : Tree) → f d ≡ e → get_or (map f ts) i e ≡ f (get_or ts i d)
+get_map : (f : ValueType → TypeTree) (ts : List ValueType) (i : ℕ) (d : ValueType) (e : TypeTree) → f d ≡ e → get_or (map f ts) i e ≡ f (get_or ts i d)
 get_map f [] i d e p = sym p
 get_map f (t ∷ ts) zero d e p = refl
 get_map f (t ∷ ts) (suc i) d e p = get_map f ts i d e p
@@ -68,11 +68,11 @@ get_map f (t ∷ ts) (suc i) d e p = get_map f ts i d e p
 pub named_width : (T : Table) (i : ℕ) → unwrap_or (words_at T i) 1 ≡ width (tree_named T i)
 named_width T i = by (tree_at T i) ∙ sym (ap width (named T i))
   where
-    by : (o : Option Tree) → unwrap_or (option_map width o) 1 ≡ width (or_ints o)
+    by : (o : Option TypeTree) → unwrap_or (option_map width o) 1 ≡ width (or_ints o)
     by None = refl
     by (Some x) = refl
 
--- the types of a struct's fields, and behind them
+-- the types of a struct's fields, and past them
 nth_field : (T : Table) (es : List TypeId) (xs : PartTypes) (j : ℕ) (d : TypeId) → parts_by T (tree_of T) es ≡ Some xs → j < length es → tree_named T (get_or es j d).0 ≡ nth_type xs j
 nth_field T [] xs j d p l = absurd (omega arith)
 nth_field T (e ∷ es) xs zero d p l =
@@ -122,7 +122,7 @@ module _ (T : Table) (formed : IsFormed T) where
     part_or_first (Some part) first e p = p
 
     -- whole numbers and truth values have no parts
-    no_part : (P : Tree → Type 0) → P ints → P bools → (t : ValueType) → (t ≡ Int) ⊎ (t ≡ Truth) → t ≡ type_at T i → P (tree_named T i)
+    no_part : (P : TypeTree → Type 0) → P ints → P bools → (t : ValueType) → (t ≡ Int) ⊎ (t ≡ Truth) → t ≡ type_at T i → P (tree_named T i)
     no_part P a b t (inl e) is = subst P (sym (named_as Int (sym e ∙ is) ∙ int_tree)) a
     no_part P a b t (inr e) is = subst P (sym (named_as Truth (sym e ∙ is) ∙ ap or_ints (made T formed Truth))) b
 
@@ -148,7 +148,7 @@ module _ (T : Table) (formed : IsFormed T) where
     pub field_before : (s : StructId) → Struct s ≡ type_at T i → offset_in (tree_of T (Struct s)) j ≡ part_offset (tree_named T i) j
     field_before s e = by (tree_of T (Struct s)) ∙ sym (ap (λ t. part_offset t j) (named_as (Struct s) e))
       where
-        by : (o : Option Tree) → offset_in o j ≡ part_offset (or_ints o) j
+        by : (o : Option TypeTree) → offset_in o j ≡ part_offset (or_ints o) j
         by None = refl
         by (Some x) = refl
 

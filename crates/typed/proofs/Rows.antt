@@ -9,7 +9,8 @@ use Rattle.typed.specs.declared.expr.Element.TheVariants as item
 use Rattle.typed.specs.declared.expr.Element.TheViews.{the_lemmas as expr_lemmas}
 use Rattle.typed.specs.declared.stmt.Stmt.{Row_of-Stmt, end_of-Stmt, more_of-Stmt, items-the_row-Stmt}
 use Rattle.typed.specs.declared.stmt.Stmt.TheViews.{the_lemmas as stmt_lemmas}
-use Rattle.typed.specs.Syntax.{more, inner, at_index, element, next}
+use Rattle.typed.specs.Positions.{position}
+use Rattle.typed_syntax.specs.Syntax.{more, inner, at_index, element, next}
 use Rattle.typed.specs.View.{ex_of, exs_of, exs_of_row, steps_of, steps_of_row, elements_of, elements_of_row, st_of, sts_of, sts_of_row}
 
 pub expr_items : (n : Count) (k : Row_of-Expr n) → exs_of_row k ≡ exs_of (items-the_row-Expr n k)
@@ -19,7 +20,7 @@ expr_items n (more_of-Expr e rest) = ap (more (ex_of e)) (expr_items _ rest)
 pub step_items : (n : Count) (k : Row_of-Step n) → steps_of_row k ≡ steps_of (items-the_row-Step n k)
 step_items n end_of-Step = refl
 step_items n (more_of-Step (way.Inner i) rest) = ap (inner i) (step_items _ rest)
-step_items n (more_of-Step (way.Index at e length) rest) = ap (at_index at (ex_of e) length) (step_items _ rest)
+step_items n (more_of-Step (way.Index at e length) rest) = ap (at_index (position at) (ex_of e) length) (step_items _ rest)
 
 pub element_items : (n : Count) (k : Row_of-Element n) → elements_of_row k ≡ elements_of (items-the_row-Element n k)
 element_items n end_of-Element = refl

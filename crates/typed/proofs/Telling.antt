@@ -6,7 +6,7 @@ use Rattle.std.proofs.lemmas.Option.{slice_get_within, slice_get-get_or, get_or_
 use Rattle.std.proofs.lemmas.List.{get_or-set_same, get_or-set_other}
 use Rattle.std.proofs.lemmas.List.Sums.{sum_by-cons}
 use Rattle.std.proofs.Math.Nat.{mul-le-mul_left, mul-le-mul_right}
-use Rattle.value_trees.specs.Types.{ValueType as Tree, PartTypes, struct_of, no_types, more_types, width, widths}
+use Rattle.typed_syntax.specs.Types.{TypeTree, PartTypes, struct_of, no_types, more_types, width, widths}
 use Rattle.base.specs.declared.ids.TypeId.{TypeId}
 use Rattle.base.specs.declared.ids.StructId.{StructId}
 use Rattle.base.specs.declared.value_type.ValueType.{ValueType}
@@ -40,7 +40,7 @@ some_parts T (e ∷ es) have =
     let xs = some_parts T es (λ k d l. have (suc k) d (omega arith)) in
     (more_types x.0 xs.0, ap₂ more_by x.1 xs.1)
 
-parts_same : (T : Table) (f h : ValueType → Option Tree) (es : List TypeId) → ((i : ℕ) → part_by T f i ≡ part_by T h i) → parts_by T f es ≡ parts_by T h es
+parts_same : (T : Table) (f h : ValueType → Option TypeTree) (es : List TypeId) → ((i : ℕ) → part_by T f i ≡ part_by T h i) → parts_by T f es ≡ parts_by T h es
 parts_same T f h [] same = refl
 parts_same T f h (e ∷ es) same = ap₂ more_by (same e.0) (parts_same T f h es same)
 
@@ -118,10 +118,10 @@ module _ (T : Table) (formed : IsFormed T) (s : ℕ) (untold : IsUntold T s) (fi
       ∙ ap (option_and_then (λ fs. option_map struct_of (parts_by after (tree_within after least) fs))) (ap (fields_of after) e ∙ told_now)
       ∙ ap (option_map struct_of) parts_least
 
-  nested_now : (r : StructId) (fs : List TypeId) → fields_of after r.0 ≡ Some fs → (x : Tree) × (tree_within after (base_of after) (Struct r) ≡ Some x)
+  nested_now : (r : StructId) (fs : List TypeId) → fields_of after r.0 ≡ Some fs → (x : TypeTree) × (tree_within after (base_of after) (Struct r) ≡ Some x)
   nested_now r fs p = by (r.0 == s) refl
     where
-      by : (b : Bool) → (r.0 == s) ≡ b → (x : Tree) × (tree_within after (base_of after) (Struct r) ≡ Some x)
+      by : (b : Bool) → (r.0 == s) ≡ b → (x : TypeTree) × (tree_within after (base_of after) (Struct r) ≡ Some x)
       by true e = (struct_of parts, told_within r (eqb-true r.0 s e))
       by false e =
           let x = formed.nested r fs (sym (others_stay r.0 e) ∙ p) in
@@ -145,7 +145,7 @@ module _ (T : Table) (formed : IsFormed T) (s : ℕ) (untold : IsUntold T s) (fi
   pub words_stay : (u : ValueType) (w : ℕ) → words_of T u ≡ Some w → words_of after u ≡ Some w
   words_stay u w p = by (tree_of T u) refl p
     where
-      by : (o : Option Tree) → tree_of T u ≡ o → option_map width o ≡ Some w → words_of after u ≡ Some w
+      by : (o : Option TypeTree) → tree_of T u ≡ o → option_map width o ≡ Some w → words_of after u ≡ Some w
       by None e q = absurd cc q
       by (Some x) e q = ap (option_map width) (telling_keeps u x e) ∙ q
 

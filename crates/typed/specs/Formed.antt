@@ -2,7 +2,7 @@
 use Rattle.std.specs.Prelude.{◌≡◌, ℕ, ◌*◌, ◌^◌, ◌<◌, ◌≤◌, suc, Bool, if◌then◌else◌, List, length, sum_by, Option, None, Some, IsSome}
 use Rattle.std.specs.List.{list_any}
 use Rattle.std.specs.Option.{unwrap_or, option_map, option_or}
-use Rattle.value_trees.specs.Types.{ValueType as Tree, width}
+use Rattle.typed_syntax.specs.Types.{TypeTree, width}
 use Rattle.base.specs.declared.ids.TypeId.{TypeId}
 use Rattle.base.specs.declared.ids.StructId.{StructId}
 use Rattle.base.specs.declared.value_type.ValueType.{ValueType}
@@ -13,7 +13,7 @@ use Rattle.typed.specs.Tables.{Table, Holds, fields_of, with_fields, told}
 use Rattle.typed.specs.Trees.{part_by, tree_by, tree_within, tree_of, words_of}
 use Rattle.typed.specs.Words.{IsInLimits, refusal_by, is_over}
 
--- an array with a number stands behind the type of its elements
+-- an array with a number stands after the type of its elements
 abbrev pub IsPlaced : ℕ → ValueType → Type 0
 IsPlaced i (Array n e) = (e.0 < i) × IsInLimits n
 IsPlaced i t = Unit {0}
@@ -26,7 +26,7 @@ pub record IsFormed (T : Table) : Type 0 where
   pub once : (i j : ℕ) (t : ValueType) → Holds T i t → Holds T j t → i ≡ j
   pub placed : (i : ℕ) (t : ValueType) → Holds T i t → IsPlaced i t
   -- a struct that's told has a tree, in which only structs that are told nest, and between two of them only types of the table
-  pub nested : (s : StructId) (fields : List TypeId) → fields_of T s.0 ≡ Some fields → (x : Tree) × (tree_within T (told T.structs * suc (length T.types)) (Struct s) ≡ Some x)
+  pub nested : (s : StructId) (fields : List TypeId) → fields_of T s.0 ≡ Some fields → (x : TypeTree) × (tree_within T (told T.structs * suc (length T.types)) (Struct s) ≡ Some x)
   -- each number fits a word of 32 bits
   pub numbers : length T.types ≤ 2 ^ 32
   -- no type has too many words, or none
@@ -39,7 +39,7 @@ TreesAreMade T = (t : ValueType) → tree_of T t ≡ tree_by T (tree_of T) t
 
 -- types that have a tree keep it
 abbrev pub KeepsTrees : Table → Table → Type 0
-KeepsTrees T U = (t : ValueType) (x : Tree) → tree_of T t ≡ Some x → tree_of U t ≡ Some x
+KeepsTrees T U = (t : ValueType) (x : TypeTree) → tree_of T t ≡ Some x → tree_of U t ≡ Some x
 
 -- ---- what is refused
 
@@ -49,7 +49,7 @@ Stands T (Array n e) = e.0 < length T.types
 Stands T t = Unit {0}
 
 -- the tree of the type with a number
-abbrev pub tree_at : Table → ℕ → Option Tree
+abbrev pub tree_at : Table → ℕ → Option TypeTree
 tree_at T i = part_by T (tree_of T) i
 
 abbrev pub words_at : Table → ℕ → Option ℕ

@@ -1,8 +1,5 @@
-pub mod Syntax
+pub mod Positions
 pub mod View
-pub mod Form
-pub mod Frames
-pub mod Placement
 pub mod Words
 pub mod Tables
 pub mod Trees

@@ -36,7 +36,7 @@ abbrev pub least_by : List (Option ℕ) → List (Option Told) → ValueType →
 least_by words told (Array n e) = n * unwrap_or (get_or words e.0 None) 1
 least_by words told t = unwrap_or (words_by words told t) 1
 
--- where the struct s is told too, and has so many words
+-- where the struct s is told too, and has `words` words
 abbrev pub told_by : List (Option ℕ) → List (Option Told) → ℕ → ℕ → ValueType → Option ℕ
 told_by before told s words Int = Some 1
 told_by before told s words Truth = Some 1

@@ -8,27 +8,28 @@ use Rattle.typed.specs.declared.expr.Step.TheVariants as way
 use Rattle.typed.specs.declared.expr.Place.{Place, Row_of-Step, end_of-Step, more_of-Step, Local', Global'}
 use Rattle.typed.specs.declared.expr.Element.{Element}
 use Rattle.typed.specs.declared.expr.Element.TheVariants as item
-use Rattle.typed.specs.declared.expr.Expr.{Expr, Row_of-Element, end_of-Element, more_of-Element, Constant, Read, Unary', Binary', Both', Either', Call', Part', Literal'}
+use Rattle.typed.specs.declared.expr.Expr.{Expr, Row_of-Element, end_of-Element, more_of-Element, Constant, Read, Unary', Binary', LogicalAnd', LogicalOr', Call', Part', Literal'}
 use Rattle.typed.specs.declared.expr.Values.{Values, Row_of-Expr, end_of-Expr, more_of-Expr, Each', Results', ReadInt}
 use Rattle.typed.specs.declared.stmt.Left.{Left as LeftData}
 use Rattle.typed.specs.declared.stmt.Left.TheVariants.{Blank, New, To}
 use Rattle.typed.specs.declared.stmt.Piece.{Piece as PieceData}
 use Rattle.typed.specs.declared.stmt.Piece.TheVariants.{Text, Shown}
-use Rattle.typed.specs.declared.stmt.Stmt.{Stmt, Row_of-Stmt, end_of-Stmt, more_of-Stmt, Declare, Assign, Update, Bump, Discard, Block', If', Loop', Count', Indices', Elements', Break, Continue, Return, Print, Panic, Exit}
+use Rattle.typed.specs.declared.stmt.Stmt.{Stmt, Row_of-Stmt, end_of-Stmt, more_of-Stmt, Declare, Assign, Update, Bump, Discard, Block', If', For', Count', Indices', Elements', Break, Continue, Return, Print, Panic, Exit}
 use Rattle.typed.specs.declared.program.Func.{Func as FuncData}
 use Rattle.typed.specs.declared.program.PackageVariable.{PackageVariable}
 use Rattle.typed.specs.declared.program.Site.{Site}
 use Rattle.typed.specs.declared.program.Program.{Program as ProgramData}
+use Rattle.typed.specs.Positions.{position}
 use Rattle.typed.specs.Trees.{trees}
-use Rattle.value_trees.specs.Types.{ValueType, ints, bools}
-use Rattle.value_trees.specs.Value.{Value, int, bool, zero_of}
-use Rattle.typed.specs.Syntax.{Ex, Exs, Pl, Steps, Elements, Left, Piece, St, Sts, Func, Program, constant, read, unary, binary, both, either, call, part_of, literal, no_elements, element, local, global, here, inner, at_index, none, more, results, asked, blank, new, to, text, shown, over_int, over_length, over_copy, declare, assign, update, bump, discard, block, choose, loop, range, break_off, go_on, give_back, print, raise, quit, done, next, type_in}
+use Rattle.typed_syntax.specs.Types.{TypeTree, ints, bools}
+use Rattle.typed_syntax.specs.Value.{Value, int, bool, zero_of}
+use Rattle.typed_syntax.specs.Syntax.{Ex, Exs, Pl, Steps, Elements, Left, Piece, St, Sts, Func, Program, constant, read, unary, binary, logical_and, logical_or, call, part_of, literal, no_elements, element, local, global, here, inner, at_index, none, more, results, read_int, blank, new, to, text, shown, over_int, over_length, over_copy, declare, assign, update, bump, discard, block, if_stmt, for_stmt, range, break_stmt, continue_stmt, return_stmt, print, panic, exit, done, next, type_in}
 
 -- the types of whole numbers and of truth values, by their numbers: they come first in each table
-abbrev pub basic_types : List ValueType
+abbrev pub basic_types : List TypeTree
 basic_types = ints ∷ bools ∷ []
 
-abbrev pub type_of : ℕ → ValueType
+abbrev pub type_of : ℕ → TypeTree
 type_of n = type_in basic_types n
 
 abbrev pub value_of : Const → Value
@@ -40,9 +41,9 @@ abbrev mutual
   ex_of (Constant c) = constant (value_of c)
   ex_of (Read q) = read (place_of q)
   ex_of (Unary' op p a) = unary op (ex_of a)
-  ex_of (Binary' at op p a q b) = binary at op (ex_of a) (ex_of b)
-  ex_of (Both' p a q b) = both (ex_of a) (ex_of b)
-  ex_of (Either' p a q b) = either (ex_of a) (ex_of b)
+  ex_of (Binary' at op p a q b) = binary (position at) op (ex_of a) (ex_of b)
+  ex_of (LogicalAnd' p a q b) = logical_and (ex_of a) (ex_of b)
+  ex_of (LogicalOr' p a q b) = logical_or (ex_of a) (ex_of b)
   ex_of (Call' f p vs) = call f.0 (exs_of_values vs)
   ex_of (Part' t i p e) = part_of t.0 i (ex_of e)
   ex_of (Literal' t shape row) = literal t.0 (elements_of_row row)
@@ -54,7 +55,7 @@ abbrev mutual
   pub steps_of_row : {m : _} → Row_of-Step m → Steps
   steps_of_row end_of-Step = here
   steps_of_row (more_of-Step (way.Inner i) rest) = inner i (steps_of_row rest)
-  steps_of_row (more_of-Step (way.Index at e n) rest) = at_index at (ex_of e) n (steps_of_row rest)
+  steps_of_row (more_of-Step (way.Index at e n) rest) = at_index (position at) (ex_of e) n (steps_of_row rest)
 
   pub elements_of_row : {m : _} → Row_of-Element m → Elements
   elements_of_row end_of-Element = no_elements
@@ -67,7 +68,7 @@ abbrev mutual
   pub exs_of_values : Values → Exs
   exs_of_values (Each' shape row) = exs_of_row row
   exs_of_values (Results' f p vs) = results f.0 (exs_of_values vs)
-  exs_of_values ReadInt = asked
+  exs_of_values ReadInt = read_int
 
 -- the same at lists
 abbrev pub exs_of : List Expr → Exs
@@ -77,7 +78,7 @@ exs_of (e ∷ es) = more (ex_of e) (exs_of es)
 abbrev pub steps_of : List Step → Steps
 steps_of [] = here
 steps_of (way.Inner i ∷ steps) = inner i (steps_of steps)
-steps_of (way.Index at e n ∷ steps) = at_index at (ex_of e) n (steps_of steps)
+steps_of (way.Index at e n ∷ steps) = at_index (position at) (ex_of e) n (steps_of steps)
 
 abbrev pub elements_of : List Element → Elements
 elements_of [] = no_elements
@@ -103,21 +104,21 @@ abbrev mutual
   pub st_of : Stmt → St
   st_of (Declare sites) = declare (site_numbers sites.items)
   st_of (Assign ls vs) = assign (map left_of ls.items) (exs_of_values vs)
-  st_of (Update at q op e) = update at (place_of q) op (ex_of e)
-  st_of (Bump q op) = bump (place_of q) op
+  st_of (Update at q op e) = update (position at) (place_of q) op (ex_of e)
+  st_of (Bump at q op) = bump (position at) (place_of q) op
   st_of (Discard vs) = discard (exs_of_values vs)
   st_of (Block' shape row) = block (sts_of_row row)
-  st_of (If' e shape row shape' row') = choose (ex_of e) (sts_of_row row) (sts_of_row row')
-  st_of (Loop' sites test shape row shape' row') = loop (site_numbers sites.items) (test_of test) (sts_of_row row) (sts_of_row row')
+  st_of (If' e shape row shape' row') = if_stmt (ex_of e) (sts_of_row row) (sts_of_row row')
+  st_of (For' sites test shape row shape' row') = for_stmt (site_numbers sites.items) (test_of test) (sts_of_row row) (sts_of_row row')
   st_of (Count' e key shape row) = range (over_int (ex_of e)) (left_of key) blank (sts_of_row row)
   st_of (Indices' n key shape row) = range (over_length n) (left_of key) blank (sts_of_row row)
   st_of (Elements' site e n key value shape row) = range (over_copy site.0 (ex_of e) n) (left_of key) (left_of value) (sts_of_row row)
-  st_of Break = break_off
-  st_of Continue = go_on
-  st_of (Return vs) = give_back (exs_of_values vs)
+  st_of Break = break_stmt
+  st_of Continue = continue_stmt
+  st_of (Return vs) = return_stmt (exs_of_values vs)
   st_of (Print ln ps) = print ln (map piece_of ps.items)
-  st_of (Panic at p) = raise at (piece_of p)
-  st_of (Exit at e) = quit at (ex_of e)
+  st_of (Panic at p) = panic (position at) (piece_of p)
+  st_of (Exit at e) = exit (position at) (ex_of e)
 
   pub sts_of_row : {m : _} → Row_of-Stmt m → Sts
   sts_of_row end_of-Stmt = done
@@ -134,7 +135,7 @@ site_in None = None
 site_in (Some site) = Some site.0
 
 -- a function, where these are the types
-abbrev pub func_of : List ValueType → FuncData → Func
+abbrev pub func_of : List TypeTree → FuncData → Func
 func_of types f = record {
   first = f.first_site;
   count = f.sites;
@@ -146,19 +147,19 @@ func_of types f = record {
 }
 
 -- the value that a package variable of a type begins with
-abbrev pub first_value : ValueType → Option Const → Value
+abbrev pub first_value : TypeTree → Option Const → Value
 first_value t None = zero_of t
 first_value t (Some c) = value_of c
 
-abbrev pub site_types : List ValueType → List Site → List ValueType
+abbrev pub site_types : List TypeTree → List Site → List TypeTree
 site_types types sites = map (λ site. type_in types site.type_id.0) sites
 
 -- a package variable, where these are the types of the sites
-abbrev pub global_of : List ValueType → PackageVariable → ℕ × Value
+abbrev pub global_of : List TypeTree → PackageVariable → ℕ × Value
 global_of types g = (g.site.0, first_value (get_or types g.site.0 ints) g.value)
 
 -- a program, where these are its types
-abbrev pub program_in : List ValueType → ProgramData → Program
+abbrev pub program_in : List TypeTree → ProgramData → Program
 program_in types p = record {
   funcs = map (func_of types) p.funcs.items;
   types = types;

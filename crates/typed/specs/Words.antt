@@ -18,7 +18,7 @@ within_limit words = if nat_lt most_words words then None else Some words
 abbrev pub allowed : Option ℕ → Option ℕ
 allowed words = option_and_then within_limit words
 
--- what is wrong with a type of so many words
+-- what is wrong with a type of this number of words
 abbrev pub refusal_by : ℕ → Option TableFault
 refusal_by words = if words == 0 then Some Empty else if nat_lt most_words words then Some TooLarge else None
 

@@ -1,7 +1,7 @@
 //! Typed expressions.
 
-use crate::operators::{BinOp, UnOp};
 use base::{FuncId, Pos, SiteId, TypeId};
+use typed_syntax::{BinOp, UnOp};
 
 /// A constant.
 #[derive(Clone, Copy, Debug, PartialEq, Eq)]
@@ -50,9 +50,9 @@ pub enum Expr {
     Unary(UnOp, Box<Expr>),
     Binary(Pos, BinOp, Box<Expr>, Box<Expr>),
     /// `&&`: the second operand is worked out where the first is true.
-    Both(Box<Expr>, Box<Expr>),
+    LogicalAnd(Box<Expr>, Box<Expr>),
     /// `||`: the second operand is worked out where the first is false.
-    Either(Box<Expr>, Box<Expr>),
+    LogicalOr(Box<Expr>, Box<Expr>),
     /// A call of a function with one result, and its arguments.
     Call(FuncId, Box<Values>),
     /// A field or an element, by its number, of a value of a type that is no place.

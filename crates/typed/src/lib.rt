@@ -1,6 +1,6 @@
 //! The typed program as plain data, and the types of a program, each once, by numbers.
 //!
-//! A type is a small value: a basic type, a declared struct by its number, or an array of so many elements of a type that stands in the
+//! A type is a small value: a basic type, a declared struct by its number, or an array, by its length and the number of its elements' type, that stands in the
 //! table. In the table each type stands once, so that two types are identical exactly where these values are equal, and exactly where
 //! their numbers are (Go specification, "Type identity").
 //!
@@ -14,13 +14,11 @@
 //! total function of the table, with `tree_by` as its equation. `width`, `part` and `part_offset` answer by the tree of the type that
 //! has a number; where there is none, by that of whole numbers. `specs/Formed` says what holds of each table, and what is refused.
 //!
-//! `specs/Syntax` is the abstract syntax of typed programs and `specs/View` how the data is seen as it, `specs/Form` says which programs
-//! are in form, and `specs/Frames` what their frames hold.
+//! `specs/View` is how the data is seen as a program of `typed_syntax`.
 #![tactic(auto)]
 
 mod expr;
 mod fault;
-mod operators;
 mod parts;
 mod program;
 mod sizes;
@@ -30,7 +28,7 @@ mod told;
 
 pub use expr::{Const, Element, Expr, Place, Step, Values};
 pub use fault::TableFault;
-pub use operators::{BinOp, UnOp};
 pub use program::{BOOL, Func, INT, PackageVariable, Program, Site};
 pub use stmt::{Left, Piece, Stmt};
 pub use table::{ProgramTypes, TypeTable};
+pub use typed_syntax::{BinOp, UnOp};

@@ -1,7 +1,7 @@
 //! The parts of values: the fields of structs and the elements of arrays, by the numbers of the types.
 
 ghost use Rattle.std.specs.Prelude.{◌≡◌, MatchOption};
-ghost use Rattle.value_trees.specs.Types.{ints, width, part_type, part_offset};
+ghost use Rattle.typed_syntax.specs.Types.{ints, width, part_type, part_offset};
 ghost use Rattle.typed.specs.Trees.{tree_named};
 ghost use Rattle.typed.specs.Formed.{IsFormed};
 

@@ -94,7 +94,7 @@ pub fn sum_words(words: &[Option<u32>], fields: &[TypeId]) -> Option<u32>
     Some(sum)
 }
 
-/// The words of a type where one more struct is told and has so many words, by those of the types before it.
+/// The words of a type where one more struct is told and has `words` words, by those of the types before it.
 pub fn words_when_told(
     before: &[Option<u32>],
     structs: &[Option<Told>],

@@ -1,8 +1,8 @@
 //! Typed statements.
 
 use crate::expr::{Expr, Place, Values};
-use crate::operators::BinOp;
 use base::{Pos, SiteId, TypeId};
+use typed_syntax::BinOp;
 
 /// A left side of a declaration or an assignment.
 #[derive(Drop)]
@@ -33,8 +33,8 @@ pub enum Stmt {
     Assign(Vec<Left>, Values),
     /// An assignment with an operator to a place.
     Update(Pos, Place, BinOp, Expr),
-    /// `++` and `--`: the place, and the operator on it and 1.
-    Bump(Place, BinOp),
+    /// `++` and `--`: the position of that operator, the place, and the operator on it and 1.
+    Bump(Pos, Place, BinOp),
     /// A call whose results are not used.
     Discard(Values),
     Block(Vec<Stmt>),
@@ -42,12 +42,12 @@ pub enum Stmt {
     If(Expr, Vec<Stmt>, Vec<Stmt>),
     /// The variables of the header, of which each round has its own; the condition, if there is one; the post statement; and
     /// the body. The init statement stands before it.
-    Loop(Vec<SiteId>, Option<Expr>, Vec<Stmt>, Vec<Stmt>),
+    For(Vec<SiteId>, Option<Expr>, Vec<Stmt>, Vec<Stmt>),
     /// `range` over the numbers from 0 to one below an int, which the left side gets, and the body.
     Count(Expr, Left, Vec<Stmt>),
-    /// `range` over the indices of an array of so many elements, which is not worked out; the left side gets them.
+    /// `range` over the indices of an array of this length, which is not worked out; the left side gets them.
     Indices(u64, Left, Vec<Stmt>),
-    /// `range` over the elements of an array of so many, of which a hidden variable of a site gets a copy; the left sides get the index
+    /// `range` over the elements of an array of this length, of which a hidden variable of a site gets a copy; the left sides get the index
     /// and the element.
     Elements(SiteId, Expr, u64, Left, Left, Vec<Stmt>),
     Break,

@@ -3,7 +3,7 @@
 ghost use Rattle.std.specs.Prelude.{◌≡◌, ◌⊎◌, ◌<◌, ℕ, [], ◌∷◌, Option, None, Some, true, false, IsSome, All, length, map, replicate, OnOk, OnErr, IfOk, IfSome, MatchResult};
 ghost use Rattle.std.specs.List.{list_any};
 ghost use Rattle.std.specs.Option.{option_map, option_copied, unwrap_or};
-ghost use Rattle.value_trees.specs.Types.{ints, bools};
+ghost use Rattle.typed_syntax.specs.Types.{ints, bools};
 ghost use Rattle.base.specs.declared.value_type.ValueType.TheVariants.{Int, Bool as Truth, Struct};
 ghost use Rattle.typed.specs.declared.fault.TableFault.TheVariants.{NoMemory as OutOfMemory, TooLarge as TypeTooLarge};
 ghost use Rattle.typed.specs.Tables.{Holds, finished, type_at, fields_of, number_of, with_type, with_fields};
@@ -51,7 +51,7 @@ pub struct ProgramTypes {
 }
 
 impl TypeTable {
-    /// A table of the basic types, in a program with so many structs.
+    /// A table of the basic types, in a program with `structs` structs.
     pub fn new(alloc: Global, structs: u32) -> Result<TypeTable, NoMemory>
         ensures basic { IfOk result (λ t. t ≡ record { types = Int ∷ Truth ∷ []; structs = replicate structs None }) }
         ensures formed { IfOk result IsFormed }

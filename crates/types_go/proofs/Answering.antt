@@ -3,7 +3,7 @@ use Rattle.std.proofs.Common.{◌≡◌, ℕ, Bool, true, false, cond, List, [],
 use Rattle.std.specs.Prelude.{is_some, not, codes}
 use Rattle.std.specs.Option.{option_map}
 use Rattle.base.specs.declared.ids.FuncId.{FuncId}
-use Rattle.value_types.specs.declared.fault.Fault.{Fault}
+use Rattle.type_faults.specs.declared.fault.Fault.{Fault}
 use Rattle.syntax.specs.declared.expression.Name.{Name}
 use Rattle.syntax.specs.declared.declaration.Decl.{Decl}
 use Rattle.syntax.specs.declared.declaration.Tree.{Tree}
@@ -11,21 +11,21 @@ use Rattle.syntax.specs.Expressions.{spelled}
 use Rattle.syntax.specs.Statements.{ValueSpec}
 use Rattle.syntax.specs.Declarations.{TypeSpec, Function as TreeFunction, Declaration, constants, variables, types, Syntax, declarations_of, syntax_of}
 use Rattle.syntax.specs.Declarations as tree
-use Rattle.typed.specs.Syntax.{Func, Program}
+use Rattle.typed_syntax.specs.Syntax.{Func, Program}
 use Rattle.typed.specs.Trees.{trees}
 use Rattle.typed.specs.View.{func_of, global_of, site_types, program_in, program_of}
 use Rattle.typed.specs.declared.program.Program.{Program as ProgramData}
 use Rattle.typed.specs.declared.program.Site.{Site}
-use Rattle.value_trees.specs.Types.{ValueType as TypeTree}
-use Rattle.value_trees.specs.Value.{Value}
+use Rattle.typed_syntax.specs.Types.{TypeTree}
+use Rattle.typed_syntax.specs.Value.{Value}
 use Rattle.std.specs.Global.{Vec}
-use Rattle.value_types.specs.declared.fault.FaultKind.TheVariants.{NoMain}
-use Rattle.value_types.specs.Least.{IsLeast, lesser}
-use Rattle.value_types.specs.Given.{allowed}
-use Rattle.value_types.specs.Faults.{fault, IsFault}
-use Rattle.value_types.proofs.Decided.{Decided}
-use Rattle.value_types.proofs.Leasts.{least_join}
-use Rattle.value_types.proofs.Options.{none_some, same_some}
+use Rattle.type_faults.specs.declared.fault.FaultKind.TheVariants.{NoMain}
+use Rattle.type_faults.specs.Least.{IsLeast, lesser}
+use Rattle.type_faults.specs.Given.{allowed}
+use Rattle.type_faults.specs.Faults.{fault, IsFault}
+use Rattle.type_faults.proofs.Decided.{Decided}
+use Rattle.type_faults.proofs.Leasts.{least_join}
+use Rattle.type_faults.proofs.Options.{none_some, same_some}
 use Rattle.names.specs.Blocks.{Blocks, insert}
 use Rattle.names.specs.declared.scope.Declared.{Declared}
 use Rattle.names.specs.declared.scope.Declared.TheVariants.{Constant, Global, Function, External, TypeName}
@@ -35,8 +35,10 @@ use Rattle.package_values.specs.Values.{Item, items_in, settled}
 use Rattle.package_values.specs.ValueFaults.{ItemsFail}
 use Rattle.signatures.specs.Signatures.{declares_name, external_named, is_external, signature_in, with_name, with_types, with_heads, with_constant_name, with_constant_names, with_constants, with_numbered_name, with_variable_name, with_variable_names, with_package_variables, with_item, with_items}
 use Rattle.signatures.specs.Failing.{fault_where}
-use Rattle.types_go.specs.Functions.{Member, number_of, plain_number, functions_in, members_in, are_supported, functions, declarations_in, heads_of, numbered_functions, members, package_scope, main_number, program_functions}
-use Rattle.types_go.specs.FunctionFaults.{DeclarationsFail, FailsInFunctions, FailsIn, first_byte}
+use Rattle.function_heads.specs.Heads.{number_of, plain_number, functions_in, are_supported}
+use Rattle.types_go.specs.Functions.{Member, members_in, functions, declarations_in, heads_of, numbered_functions, members, package_scope, main_number, program_functions}
+use Rattle.function_heads.specs.HeadFaults.{DeclarationsFail, first_byte}
+use Rattle.types_go.specs.FunctionFaults.{FailsInFunctions, FailsIn}
 use Rattle.types_go.specs.Checked.{Types, sites_in, types_in, strings_in, globals_in, program_with}
 use Rattle.types_go.proofs.Package.{settled_kept}
 use Rattle.types_go.proofs.SettledFunctions.{all_decided}

@@ -10,19 +10,19 @@ use Rattle.syntax.specs.Declarations as tree
 use Rattle.syntax.specs.declared.expression.Name.{Name}
 use Rattle.base.specs.declared.pos.Pos.{Pos}
 use Rattle.typed.specs.declared.program.Site.{Site}
-use Rattle.typed.specs.Syntax.{Func, Program, site_type}
-use Rattle.typed.specs.Form.{IsPlain, IsWord, GlobalFits}
-use Rattle.value_trees.specs.Types.{ValueType as TypeTree, ints, bools}
-use Rattle.value_trees.specs.Value.{Value, int, IsOf}
-use Rattle.value_types.specs.declared.constant.Constant.{Constant}
-use Rattle.value_types.specs.declared.constant.Constant.TheVariants.{Number, Truth}
-use Rattle.value_types.specs.declared.constant.Fixed.{Fixed}
+use Rattle.typed_syntax.specs.Syntax.{Func, Program, site_type}
+use Rattle.typed_syntax.specs.Form.{IsPlain, IsWord, GlobalFits}
+use Rattle.typed_syntax.specs.Types.{TypeTree, ints, bools}
+use Rattle.typed_syntax.specs.Value.{Value, int, IsOf}
+use Rattle.constants.specs.declared.constant.Constant.{Constant}
+use Rattle.constants.specs.declared.constant.Constant.TheVariants.{Number, Truth}
+use Rattle.constants.specs.declared.constant.Fixed.{Fixed}
 use Rattle.base.specs.declared.value_type.ValueType.{ValueType}
 use Rattle.base.specs.declared.value_type.ValueType.TheVariants.{Int, Bool as Boolean, Struct, Array}
 use Rattle.typed.specs.Tables.{Table}
 use Rattle.typed.specs.Formed.{IsFormed}
-use Rattle.value_types.specs.Constants.{is_int, is_held, constant_type}
-use Rattle.value_types.proofs.Options.{and_then_some, map_some, none_some, same_some}
+use Rattle.constants.specs.Constants.{is_int, is_held, constant_type}
+use Rattle.type_faults.proofs.Options.{and_then_some, map_some, none_some, same_some}
 use Rattle.names.specs.Universe.{is_blank}
 use Rattle.names.specs.Scope.{Scope, type_number, type_tree, fixed, with_site}
 use Rattle.operators.proofs.Held.{AreHeld}

@@ -8,16 +8,16 @@ use Rattle.syntax.specs.Expressions.{Ex as TreeEx, Exs as TreeExs}
 use Rattle.syntax.specs.Statements.{Simple, ValueSpec, Guard, Targets, no_targets, targets_assigned, targets_defined, Clause, forever, while_true, counting, ranging}
 use Rattle.syntax.specs.Statements as tree
 use Rattle.typed.specs.declared.program.Site.{Site}
-use Rattle.typed.specs.Syntax.{Ex, Left, St, Sts, Program, blank, new, to, declare, assign, update, bump, discard, block, choose, loop, range, break_off, go_on, give_back, print, raise, quit, done}
-use Rattle.value_trees.specs.Types.{ValueType as TypeTree, ints, bools}
-use Rattle.typed.specs.Form.{InScope, AllInScope, LeftsFit, new_sites, births, births_all, scope_behind, scope_after, TestFits, ExFits, StFits, StsFit, named_params as with_sites}
+use Rattle.typed_syntax.specs.Syntax.{Ex, Left, St, Sts, Program, blank, new, to, declare, assign, update, bump, discard, block, if_stmt, for_stmt, range, break_stmt, continue_stmt, return_stmt, print, panic, exit, done}
+use Rattle.typed_syntax.specs.Types.{TypeTree, ints, bools}
+use Rattle.typed_syntax.specs.Form.{InScope, AllInScope, LeftsFit, new_sites, births, births_all, scope_behind, scope_after, TestFits, ExFits, StFits, StsFit, named_params as with_sites}
 use Rattle.base.specs.declared.value_type.ValueType.{ValueType}
 use Rattle.base.specs.declared.value_type.ValueType.TheVariants.{Int}
 use Rattle.base.specs.Types.{same_type}
 use Rattle.base.proofs.Types.{same_is}
 use Rattle.typed.specs.Tables.{Table}
 use Rattle.typed.specs.Formed.{IsFormed}
-use Rattle.value_types.proofs.Options.{and_then_some, map_some, none_some, same_some}
+use Rattle.type_faults.proofs.Options.{and_then_some, map_some, none_some, same_some}
 use Rattle.operators.specs.Operands.{type_of, as_value}
 use Rattle.names.specs.Scope.{Scope, type_tree, type_trees, opened}
 use Rattle.names.specs.Types.{type_in}
@@ -36,7 +36,7 @@ use Rattle.simple_statements.proofs.SettledSimple.{assignment_some}
 use Rattle.simple_statements.proofs.Growth.{grows_simple}
 use Rattle.simple_statements.proofs.InFormSimple.{Formed, StFormed, Still, accepted_long, known_all, lefts_fit, simple_still, simple_formed}
 use Rattle.types_go.specs.Statements.{Choice, Head, repeated, counted, alone, new_in, declared_in, headed, chosen, looped_by, key_of, as_int, number_type, all_accept, target_slots, header, init_statement, post_simple, post_statement, behind_post_simple, behind_post, guard_head, over, all_blank, target_lefts, clause_scope, clause_head}
-use Rattle.types_go.proofs.Growth.{grows_header, keeps_post}
+use Rattle.types_go.proofs.StatementGrowth.{grows_header, keeps_post}
 
 -- ---- init statements
 
@@ -66,18 +66,18 @@ declared_in_scope scope None = tt
 declared_in_scope scope (Some (assign ls es)) = new_in_scope scope ls
 declared_in_scope scope (Some (declare sites)) = tt
 declared_in_scope scope (Some (update at q op e)) = tt
-declared_in_scope scope (Some (bump q op)) = tt
+declared_in_scope scope (Some (bump at q op)) = tt
 declared_in_scope scope (Some (discard es)) = tt
 declared_in_scope scope (Some (block ss)) = tt
-declared_in_scope scope (Some (choose e a b)) = tt
-declared_in_scope scope (Some (loop sites test1 post body)) = tt
+declared_in_scope scope (Some (if_stmt e a b)) = tt
+declared_in_scope scope (Some (for_stmt sites test1 post body)) = tt
 declared_in_scope scope (Some (range o key value body)) = tt
-declared_in_scope scope (Some break_off) = tt
-declared_in_scope scope (Some go_on) = tt
-declared_in_scope scope (Some (give_back es)) = tt
+declared_in_scope scope (Some break_stmt) = tt
+declared_in_scope scope (Some continue_stmt) = tt
+declared_in_scope scope (Some (return_stmt es)) = tt
 declared_in_scope scope (Some (print line ps)) = tt
-declared_in_scope scope (Some (raise at q)) = tt
-declared_in_scope scope (Some (quit at e)) = tt
+declared_in_scope scope (Some (panic at q)) = tt
+declared_in_scope scope (Some (exit at e)) = tt
 
 -- ---- an int that a `range` goes over
 
@@ -110,7 +110,7 @@ module _ (T : Table) (text : List ℕ) (p : Program) (all : List Site) (has : Ha
   abbrev pub StsFormed : (looped : Bool) → Scope → List ℕ → Scope → Sts → Type 0
   StsFormed looped s scope after b = Formed s after (births_all b) (λ m n. StsFit p wanted1 named looped scope m n b)
 
-  -- a header's init statement between the scope outside and that behind it
+  -- a header's init statement between the scope outside and that after it
   pub record InitFits (looped : Bool) (s : Scope) (scope : List ℕ) (h : Scope) (i : Option St) : Type 0 where
     pub visible : Visible h (init_scope scope i)
     pub headed_fits : (after : Scope) (t : St) → ((sc : List ℕ) → scope_after sc t ≡ sc) → Formed1 looped h (init_scope scope i) after t → Formed1 looped s scope after (headed i t)
@@ -160,7 +160,7 @@ module _ (T : Table) (text : List ℕ) (p : Program) (all : List Site) (has : Ha
     pub choice_formed : (looped : Bool) (h inner after : Scope) (c : Choice) (y z : Sts) → ChoiceFits looped h c → StsFormed looped h (init_scope scope c.init) inner y → StsFormed looped inner (init_scope scope c.init) after z
         → Formed1 looped s scope after (chosen c y z)
     choice_formed looped h inner after c y z fits a b =
-        fits.0.headed_fits after (choose c.condition y z) (λ sc. refl)
+        fits.0.headed_fits after (if_stmt c.condition y z) (λ sc. refl)
         (record {
           count = omega (arith, a.count, b.count);
           fit = λ n le. (fits.1, a.fit n (omega (arith, le, b.count)), subst (λ j. StsFit p wanted1 named looped (init_scope scope c.init) j n z) (sym a.count) (b.fit n le));
@@ -186,7 +186,7 @@ module _ (T : Table) (text : List ℕ) (p : Program) (all : List Site) (has : Ha
 
     pub loop_formed : (looped : Bool) (h after : Scope) (k : Head) (y : Sts) → HeadFits looped h k → StsFormed true h (head_scope k) after y → Formed1 looped s scope after (looped_by k y)
     loop_formed looped h after (repeated init test1 post) y fits a =
-        fits.0.headed_fits after (loop (declared_in init) test1 post y) (λ sc. refl)
+        fits.0.headed_fits after (for_stmt (declared_in init) test1 post y) (λ sc. refl)
         (record {
           count = omega (arith, a.count, fits.2);
           fit = λ n le. (declared_in_scope scope init, fits.1, fits.3 (length h.sites) n, subst (λ j. StsFit p wanted1 named true (init_scope scope init) j n y) (moved fits.2) (a.fit n le));
@@ -200,7 +200,7 @@ module _ (T : Table) (text : List ℕ) (p : Program) (all : List Site) (has : Ha
     }
 
     pub loop_keeps : (looped : Bool) (h : Scope) (k : Head) (y : Sts) → HeadFits looped h k → scope_after scope (looped_by k y) ≡ scope
-    loop_keeps looped h (repeated init test1 post) y fits = fits.0.keeps (loop (declared_in init) test1 post y) (λ sc. refl)
+    loop_keeps looped h (repeated init test1 post) y fits = fits.0.keeps (for_stmt (declared_in init) test1 post y) (λ sc. refl)
     loop_keeps looped h (counted e key) y fits = refl
 
     optional_test : (sc : List ℕ) (o : Option Ex) → OptionalFits p sc o → TestFits p sc o
@@ -226,7 +226,7 @@ module _ (T : Table) (text : List ℕ) (p : Program) (all : List Site) (has : Ha
         by (tree.increment e at) t ext1 is1 = simple_still T text p all has wanted1 named false h sc v h_types agrees (tree.increment e at) t tt ext1 is1
         by (tree.decrement e at) t ext1 is1 = simple_still T text p all has wanted1 named false h sc v h_types agrees (tree.decrement e at) t tt ext1 is1
 
-    -- what fits before a post statement fits behind it
+    -- what fits before a post statement fits after it
     post_sites : (h : Scope) (post : Option Simple) → (behind_post text h post).sites ≡ h.sites
     post_sites h None = refl
     post_sites h (Some (tree.express e)) = refl

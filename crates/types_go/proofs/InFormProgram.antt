@@ -10,15 +10,15 @@ use Rattle.syntax.specs.Expressions.{Ex as TreeEx, Exs as TreeExs, some, spelled
 use Rattle.syntax.specs.Expressions as expressions
 use Rattle.syntax.specs.Declarations.{Field, Parameters, unnamed, named, Body, Function as TreeFunction, Declaration, Syntax}
 use Rattle.typed.specs.declared.program.Site.{Site}
-use Rattle.typed.specs.Syntax.{Sts, Func, Program, all_width, argument_words, result_words, site_type}
+use Rattle.typed_syntax.specs.Syntax.{Sts, Func, Program, all_width, argument_words, result_words, site_type}
 use Rattle.typed.specs.Tables.{Table}
 use Rattle.typed.specs.Trees.{trees, tree_named}
 use Rattle.typed.specs.Formed.{IsFormed}
 use Rattle.typed.specs.View.{site_types}
-use Rattle.typed.specs.Form.{ends_all, ParamsFit, NamedFit, named_params as with_sites, params_scope, scope_in, body_first, StsFit, FuncFits, IsInForm}
-use Rattle.value_trees.specs.Types.{ValueType as TypeTree, ints, width}
+use Rattle.typed_syntax.specs.Form.{ends_all, ParamsFit, NamedFit, named_params as with_sites, params_scope, scope_in, body_first, StsFit, FuncFits, IsInForm}
+use Rattle.typed_syntax.specs.Types.{TypeTree, ints, width}
 use Rattle.base.specs.declared.value_type.ValueType.{ValueType}
-use Rattle.value_types.proofs.Options.{and_then_some, map_some, none_some, same_some}
+use Rattle.type_faults.proofs.Options.{and_then_some, map_some, none_some, same_some}
 use Rattle.names.specs.Universe.{is_blank, is_main}
 use Rattle.names.specs.Scope.{Scope, Signature, type_tree, type_trees, basic_table, declaration, is_here, opened, beginning}
 use Rattle.names.proofs.Trees.{solid, formed_beginning}
@@ -35,12 +35,14 @@ use Rattle.signatures.proofs.InFormEntries.{HasSites, Within, within_before, Slo
 use Rattle.simple_statements.proofs.InFormSimple.{ReturnsFit}
 use Rattle.terminating.specs.Terminating.{ends_after}
 use Rattle.types_go.specs.Statements.{behind_all}
-use Rattle.types_go.specs.Functions.{is_plain, number_of, plain_number, number_or_int, slot_tree, Member, of_function, of_variable, functions_of, behind_variable, functions_in, members_in, are_supported, behind_params, body_scope, behind_body, behind_function, behind_members, returns_of, func, function, functions, declarations_in, heads_of, numbered_functions, members, package_scope, main_number}
+use Rattle.function_heads.specs.Heads.{is_plain, number_of, plain_number, number_or_int, slot_tree, functions_in, are_supported}
+use Rattle.types_go.specs.Functions.{Member, of_function, of_variable, functions_of, behind_variable, members_in, behind_params, body_scope, behind_body, behind_function, behind_members, returns_of, func, function, functions, declarations_in, heads_of, numbered_functions, members, package_scope, main_number}
 use Rattle.types_go.specs.Checked.{Types, program_with}
 use Rattle.types_go.proofs.SettledFunctions.{allowed_some, signature_parts, small_signed, function_some, members_functions}
 use Rattle.types_go.proofs.Package.{constant_one, variable_one, declared_one, signatures_are, globals_are, items_kept, settled_kept}
 use Rattle.types_go.proofs.Types.{heads_types, block_types}
-use Rattle.types_go.proofs.Growth.{keeps_function, keeps_variable, keeps_members, grows_body, grows_all}
+use Rattle.types_go.proofs.StatementGrowth.{grows_all}
+use Rattle.types_go.proofs.Growth.{keeps_function, keeps_variable, keeps_members, grows_body}
 use Rattle.types_go.proofs.Visible.{visible_package}
 use Rattle.types_go.proofs.InFormStatements.{AreSigned, AreGlobals, formed_all}
 use Rattle.types_go.proofs.InFormGlobals.{member_numbers, members_numbers, globals_agree, globals_fit}

@@ -5,15 +5,15 @@ use Rattle.std.specs.Option.{option_map}
 use Rattle.syntax.specs.Statements.{ValueSpec, Guard, Stm, Stms, Els}
 use Rattle.syntax.specs.Statements as tree
 use Rattle.typed.specs.declared.program.Site.{Site}
-use Rattle.typed.specs.Syntax.{St, Sts, Func, Program, block, choose, break_off, go_on, done, next, type_in, global_type}
+use Rattle.typed_syntax.specs.Syntax.{St, Sts, Func, Program, block, if_stmt, break_stmt, continue_stmt, done, next, type_in, global_type}
 use Rattle.typed.specs.Tables.{Table}
 use Rattle.typed.specs.Trees.{trees}
 use Rattle.typed.specs.Formed.{IsFormed}
-use Rattle.value_trees.specs.Types.{ValueType as TypeTree, ints}
-use Rattle.typed.specs.Form.{births, births_all, scope_after, StFits, StsFit}
-use Rattle.value_types.specs.declared.constant.Fixed.{Fixed}
-use Rattle.value_types.specs.Given.{allowed}
-use Rattle.value_types.proofs.Options.{and_then_some, map_some, same_some}
+use Rattle.typed_syntax.specs.Types.{TypeTree, ints}
+use Rattle.typed_syntax.specs.Form.{births, births_all, scope_after, StFits, StsFit}
+use Rattle.constants.specs.declared.constant.Fixed.{Fixed}
+use Rattle.type_faults.specs.Given.{allowed}
+use Rattle.type_faults.proofs.Options.{and_then_some, map_some, same_some}
 use Rattle.names.specs.Scope.{Scope, Signature, type_tree, type_trees, opened, closed}
 use Rattle.expression_types.specs.Typing.{known_type, seen}
 use Rattle.expression_types.proofs.InForm.{Agrees}
@@ -26,7 +26,7 @@ use Rattle.simple_statements.proofs.Growth.{grows_specs}
 use Rattle.simple_statements.proofs.InFormSimple.{ReturnsFit, simple_formed, return_formed}
 use Rattle.types_go.specs.Statements.{Choice, chosen, alone, header, guard_head, clause_scope, clause_head, choice_of, loop_of, behind, behind_else, behind_all, statement, alternative, statements}
 use Rattle.types_go.proofs.SettledStatements.{choice_some, loop_some}
-use Rattle.types_go.proofs.Growth.{grows_header, grows_clause, keeps_block, keeps_else, keeps_choice, keeps_loop, grows, grows_all}
+use Rattle.types_go.proofs.StatementGrowth.{grows_header, grows_clause, keeps_block, keeps_else, keeps_choice, keeps_loop, grows, grows_all}
 use Rattle.types_go.proofs.InFormHeads.{Formed1, StsFormed, init_scope, head_scope, head_visible, guard_fits, choice_formed, clause_fits, loop_formed, loop_keeps, spec_formed}
 
 -- the functions of a program have the parameters and results that these signatures say
@@ -38,7 +38,7 @@ AreSigned T sigs fs = (f : ℕ) (sig : Signature) → option_and_then (λ o. o) 
 abbrev pub AreGlobals : Table → Package → Program → Type 0
 AreGlobals T own p = (g k : ℕ) (f : Fixed) → slice_get own.globals g ≡ Some k → option_and_then (λ o. o) (slice_get own.values k) ≡ Some f → (g < length p.globals) × (global_type p g ≡ type_tree T (known_type f))
 
--- the scope behind statements
+-- the scope after statements
 abbrev pub scope_behind_all : List ℕ → Sts → List ℕ
 scope_behind_all scope done = scope
 scope_behind_all scope (next t b) = scope_behind_all (scope_after scope t) b
@@ -79,7 +79,7 @@ module _ (T : Table) (text : List ℕ) (p : Program) (all : List Site) (has : Ha
       types_of r1 same1 = has.types ∙ ap trees (sym (typed r1 same1))
 
   module _ (r : Returns) (wanted1 : List TypeTree) (named : ℕ) (goes : ReturnsFit T r wanted1 named) where
-    -- statements in form, and what is shown behind them
+    -- statements in form, and what is shown after them
     abbrev Whole : (looped : Bool) → Scope → List ℕ → Scope → Sts → Type 0
     Whole looped s scope after b = StsFormed T text p all has wanted1 named looped s scope after b × Visible after (scope_behind_all scope b)
 
@@ -137,12 +137,12 @@ module _ (T : Table) (text : List ℕ) (p : Program) (all : List Site) (has : Ha
         let a = first sc shows ext2 in
         let b1 = second sc (visible_kept h inner sc shows (keeps_block text h body)) ext in
         let whole = choice_formed T text p all has wanted1 named s scope v (typed s g) table_formed (λ r1 same2 e. agreed r1 (same2 ∙ g) e) looped h inner (closed last1) c y z fits (record { count = a.count; fit = a.fit }) (record { count = b1.count; fit = b1.fit }) in
-        let keeps = fits.0.keeps (choose c.condition y z) (λ s1. refl) in
+        let keeps = fits.0.keeps (if_stmt c.condition y z) (λ s1. refl) in
         (subst (λ (x : St). Formed1 T text p all has wanted1 named looped s scope (closed last1) x) same1 whole, ap (scope_after scope) (sym same1) ∙ keeps)
 
     mutual
       formed : (looped : Bool) (s : Scope) (scope : List ℕ) (m : Stm) (b : Sts) → Visible s scope → package_of s ≡ own → Within p all (behind text s m) → statement text r looped s m ≡ Some b → Whole looped s scope (behind text s m) b
-      formed looped s scope (tree.declare at specs) b v g ext is = specs_formed looped s scope specs b v g ext.0 is
+      formed looped s scope (tree.var_stmt at specs) b v g ext is = specs_formed looped s scope specs b v g ext.0 is
       formed looped s scope (tree.simple m) b v g ext is =
           let q = map_some alone (simple_statement text s m) b is in
           let ext0 = (within_before p all s (behind text s (tree.simple m)) (grows text s (tree.simple m)) ext).0 in
@@ -153,7 +153,7 @@ module _ (T : Table) (text : List ℕ) (p : Program) (all : List Site) (has : Ha
           let q = map_some (λ x. alone (block x)) (statements text r looped (opened s) ms) b is in
           let a = formed_all looped (opened s) scope ms q.0 (visible_opened s scope v) g ext q.1 in
           subst (λ (x : Sts). Whole looped s scope inner x) q.2 (kept looped s inner scope (block q.0) v (keeps_block text s ms) (record { count = a.count; fit = a.fit }) refl)
-      formed looped s scope (tree.choice at g1 body rest) b v g ext is =
+      formed looped s scope (tree.if_stmt at g1 body rest) b v g ext is =
           let h = header text s g1.init in
           let inner = closed (behind_all text (opened h) body) in
           let last1 = behind_else text inner rest in
@@ -163,7 +163,7 @@ module _ (T : Table) (text : List ℕ) (p : Program) (all : List Site) (has : Ha
           (λ sc sv se. formed_all looped (opened h) sc body q.1 (visible_opened h sc sv) ((grows_header text s g1.init).kept ∙ g) se q.4)
           (λ sc sv se. formed_else looped inner sc rest q.2 sv ((keeps_block text h body).kept ∙ ((grows_header text s g1.init).kept ∙ g)) se q.5) in
           subst (λ (x : Sts). Whole looped s scope (closed last1) x) u.2 (kept looped s (closed last1) scope u.0 v (keeps_choice text s g1 body rest) f.0 f.1)
-      formed looped s scope (tree.loop at c body) b v g ext is =
+      formed looped s scope (tree.for_stmt at c body) b v g ext is =
           let h = clause_scope text s c in
           let inner = closed (behind_all text (opened h) body) in
           let u = map_some alone (loop_of (clause_head text s c) (statements text r true (opened h) body)) b is in
@@ -177,9 +177,9 @@ module _ (T : Table) (text : List ℕ) (p : Program) (all : List Site) (has : Ha
           let keeps = loop_keeps T text p all has wanted1 named s scope v (typed s g) table_formed (λ r1 same1 e. agreed r1 (same1 ∙ g) e) looped h q.0 q.1 fits in
           subst (λ (x : Sts). Whole looped s scope (closed inner) x) u.2
           (kept looped s (closed inner) scope u.0 v (keeps_loop text s c body) (subst (λ (x : St). Formed1 T text p all has wanted1 named looped s scope (closed inner) x) q.4 whole) (ap (scope_after scope) (sym q.4) ∙ keeps))
-      formed looped s scope (tree.break_at at) b v g ext is = jump looped s scope break_off b refl (λ l m n. l) refl v is
-      formed looped s scope (tree.continue_at at) b v g ext is = jump looped s scope go_on b refl (λ l m n. l) refl v is
-      formed looped s scope (tree.give_back at es) b v g ext is =
+      formed looped s scope (tree.break_stmt at) b v g ext is = jump looped s scope break_stmt b refl (λ l m n. l) refl v is
+      formed looped s scope (tree.continue_stmt at) b v g ext is = jump looped s scope continue_stmt b refl (λ l m n. l) refl v is
+      formed looped s scope (tree.return_stmt at es) b v g ext is =
           let q = map_some alone (returned r (seen text s es)) b is in
           subst (λ (x : Sts). Whole looped s scope s x) q.2 (one looped s s scope q.0 (return_formed T text p all has wanted1 named looped s scope v (typed s g) (agreed s g ext.0) r goes es q.0 q.1))
 

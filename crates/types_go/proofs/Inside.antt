@@ -3,14 +3,14 @@ use Rattle.std.proofs.Common.{◌≡◌, ℕ, zero, suc, ◌≤◌, Bool, true, 
 use Rattle.std.specs.Prelude.{slice_get}
 use Rattle.std.specs.List.{AllByRecursion}
 use Rattle.std.specs.Str.{bytes_eq}
-use Rattle.value_types.proofs.Options.{none_some, same_some}
+use Rattle.type_faults.proofs.Options.{none_some, same_some}
 use Rattle.names.specs.Blocks.{Names, Blocks, entry_of, or_else, lookup}
 use Rattle.names.specs.declared.scope.Declared.{Declared}
 use Rattle.names.specs.declared.scope.Declared.TheVariants.{Variable, Untyped, Panic}
 use Rattle.names.specs.Scope.{Scope, numbered, declaration, outer, opened}
 use Rattle.signatures.proofs.Growth.{IsLocal, Longer, longer_length, longer_twice, EntriesAbove, InnerAbove, Grows}
 
--- a scope inside of another one: it has blocks of its own before the other's, and the names in them have numbers behind those of the other's
+-- a scope inside of another one: it has blocks of its own before the other's, and the names in them have numbers after those of the other's
 -- declarations
 pub record Inside (p r : Scope) : Type 0 where
   pub first : Names

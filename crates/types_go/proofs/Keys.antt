@@ -2,7 +2,7 @@
 use Rattle.std.proofs.Common.{◌≡◌, ◌<◌, List, [], ◌∷◌, map, get_or, Some, None, refl, ap, arith, length}
 use Rattle.typed.specs.declared.stmt.Left.{Left as LeftData}
 use Rattle.typed.specs.declared.stmt.Left.TheVariants.{Blank, New, To}
-use Rattle.typed.specs.Syntax.{blank}
+use Rattle.typed_syntax.specs.Syntax.{blank}
 use Rattle.typed.specs.View.{left_of}
 use Rattle.types_go.specs.Statements.{key_of}
 use Rattle.types_go.specs.StatementFaults.{key_count}

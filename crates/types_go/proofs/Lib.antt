@@ -1,20 +1,23 @@
 mod Answering
 mod Growth
 mod InFormGlobals
-mod InFormHeads
 mod InFormProgram
-mod InFormStatements
-mod Inside
-mod Keys
 mod Lines
 mod MemberLists
 mod Package
-mod Types
-mod Sequences
 mod SettledFunctions
-mod SettledHeads
-mod SettledStatements
 mod Sites
-mod Terminating
+mod Types
 mod Visible
 mod Walk
+pub mod StatementGrowth
+mod InFormHeads
+pub mod InFormStatements
+pub mod Inside
+mod Keys
+mod StatementLines
+mod Sequences
+mod SettledHeads
+pub mod SettledStatements
+mod StatementSites
+pub mod Terminating

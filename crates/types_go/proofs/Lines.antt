@@ -1,19 +1,12 @@
--- The parts of a function, and the least fault of a post statement.
+-- The parts of a function.
 use Rattle.std.proofs.Common.{◌≡◌, ℕ, List, Option, Some, ap, ◌∙◌, length}
-use Rattle.syntax.specs.Statements.{Simple}
-use Rattle.syntax.specs.Statements as tree
 use Rattle.syntax.specs.Declarations.{Body, Function as TreeFunction}
-use Rattle.typed.specs.Syntax.{Sts}
-use Rattle.value_types.specs.declared.fault.Fault.{Fault}
-use Rattle.value_types.specs.Least.{IsLeast}
+use Rattle.typed_syntax.specs.Syntax.{Sts}
 use Rattle.names.specs.Scope.{Scope}
 use Rattle.signatures.specs.declared.slots.Slot.{Slot}
 use Rattle.signatures.specs.Signatures.{slots_of}
-use Rattle.simple_statements.specs.SimpleFaults.{FailsInSimple}
-use Rattle.simple_statements.proofs.InFormSimple.{DeclaresNone}
 use Rattle.types_go.specs.Functions.{param_entries, result_entries, behind_body, body_of, parts}
-use Rattle.types_go.specs.StatementFaults.{PostFails}
-use Rattle.types_go.specs.Passing.{assembled}
+use Rattle.function_heads.specs.Assembled.{assembled}
 
 -- a function of its parts
 pub parts_of : (text : List ℕ) (heads s : Scope) (g : TreeFunction) (b : Body) (params results : List Slot) (first behind : ℕ) (ps rs : Option (List (Option ℕ))) (body : Option Sts)
@@ -26,12 +19,3 @@ parts_of text heads s g b params results first behind ps rs body j i a c d e h =
     ap (λ (l : List Slot). assembled heads.types l results first behind ps rs body) j ∙ ap (λ (l : List Slot). assembled heads.types before1 l first behind ps rs body) i ∙ ap (λ x. assembled heads.types before1 all x behind ps rs body) a
     ∙ ap (λ x. assembled heads.types before1 all (length s.sites) x ps rs body) c ∙ ap (λ x. assembled heads.types before1 all (length s.sites) last1 x rs body) d ∙ ap (λ x. assembled heads.types before1 all (length s.sites) last1 (param_entries text heads s g) x body) e
     ∙ ap (λ x. assembled heads.types before1 all (length s.sites) last1 (param_entries text heads s g) (result_entries text heads s g) x) h
-
--- a post statement that declares nothing
-pub post_least : (text : List ℕ) (s : Scope) (m : Simple) (l : Option Fault) → DeclaresNone m → IsLeast (FailsInSimple text s m) l → IsLeast (PostFails text s m) l
-post_least text s (tree.express e) l none1 least = least
-post_least text s (tree.assign ls at es) l none1 least = least
-post_least text s (tree.update ls at tree_op es) l none1 least = least
-post_least text s (tree.define ns at es) l none1 least = absurd none1
-post_least text s (tree.increment e at) l none1 least = least
-post_least text s (tree.decrement e at) l none1 least = least

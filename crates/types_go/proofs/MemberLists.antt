@@ -8,7 +8,7 @@ use Rattle.signatures.specs.Signatures.{is_external}
 use Rattle.types_go.specs.Functions.{Member, of_function, members_in}
 use Rattle.types_go.specs.Passing.{members_of_decl}
 
--- those behind the ones so far
+-- those after the ones so far
 pub behind_those : {A B : Type 0} (f : A → B) (xs ys : List A) (zs : List B) → map f ys ≡ map f xs ++ zs → map f (drop (length xs) ys) ≡ zs
 behind_those f [] ys zs is = is
 behind_those f (x ∷ xs) [] zs is = cc is

@@ -7,7 +7,7 @@ use Rattle.syntax.specs.Expressions.{Ex as TreeEx, Exs as TreeExs, none, some, s
 use Rattle.syntax.specs.Statements.{ValueSpec}
 use Rattle.syntax.specs.Declarations.{Function as TreeFunction, Declaration, constants, variables, types}
 use Rattle.syntax.specs.Declarations as tree
-use Rattle.value_types.proofs.Options.{map_some, none_some, same_some}
+use Rattle.type_faults.proofs.Options.{map_some, none_some, same_some}
 use Rattle.names.specs.declared.scope.Declared.TheVariants.{Constant, Global, Function, External}
 use Rattle.names.specs.Universe.{is_blank}
 use Rattle.names.specs.Scope.{Scope, Signature, with_declaration, with_signature, with_value, with_global, with_fixed}
@@ -15,7 +15,7 @@ use Rattle.package_values.specs.declared.items.Role.{Role}
 use Rattle.package_values.specs.declared.items.Role.TheVariants as role
 use Rattle.package_values.specs.Values.{Item, unvalued, paired, or_unvalued, items_of, items_in_specs, items_in, given, look, looks, settled}
 use Rattle.signatures.specs.Signatures.{declares_name, external_named, is_external, signature_in, with_constant_name, with_constant_names, with_constants, with_variable_name, with_variable_names, with_package_variables, with_function, with_items}
-use Rattle.types_go.specs.Functions.{functions_in, is_supported, are_supported}
+use Rattle.function_heads.specs.Heads.{functions_in, is_supported, are_supported}
 
 pub both_second : (a b : Bool) → (a && b) ≡ true → b ≡ true
 both_second true b is = is

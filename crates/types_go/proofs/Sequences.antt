@@ -5,21 +5,21 @@ use Rattle.std.specs.Option.{option_map}
 use Rattle.std.specs.Global.{Vec}
 use Rattle.typed.specs.declared.stmt.Stmt.{Stmt}
 use Rattle.typed.specs.View.{sts_of}
-use Rattle.typed.specs.Syntax.{Sts, done}
+use Rattle.typed_syntax.specs.Syntax.{Sts, done}
 use Rattle.std.proofs.Math.Seq.{drop-cons}
 use Rattle.syntax.specs.declared.statement.Stmt.{Stmt as Tree}
 use Rattle.base.specs.declared.pos.Pos.{Pos}
-use Rattle.syntax.specs.Statements.{Guard, Clause, Stm, Stms, Els, choice, loop, nil, cons, stm_of, stms_of}
-use Rattle.value_types.specs.declared.fault.Fault.{Fault}
-use Rattle.value_types.specs.Least.{IsLeast, lesser}
-use Rattle.value_types.proofs.Leasts.{least_join, Covers, covers_left, covers_right, least_covers, Sound, sound_lesser, least_sound, is_least}
+use Rattle.syntax.specs.Statements.{Guard, Clause, Stm, Stms, Els, if_stmt, for_stmt, nil, cons, stm_of, stms_of}
+use Rattle.type_faults.specs.declared.fault.Fault.{Fault}
+use Rattle.type_faults.specs.Least.{IsLeast, lesser}
+use Rattle.type_faults.proofs.Leasts.{least_join, Covers, covers_left, covers_right, least_covers, Sound, sound_lesser, least_sound, is_least}
 use Rattle.names.specs.Scope.{Scope, opened, closed}
 use Rattle.simple_statements.specs.SimpleStatements.{Returns, before}
 use Rattle.simple_statements.proofs.Sequences.{before_done, before_more, joined}
 use Rattle.types_go.specs.Statements.{header, clause_scope, statement, statements, behind, behind_all}
 use Rattle.types_go.specs.StatementFaults.{FailsInGuard, FailsInClause, FailsInStatement, FailsInStatements, FailsInElse}
-use Rattle.types_go.specs.Passing.{with_more}
-use Rattle.types_go.proofs.Growth.{grows}
+use Rattle.types_go.specs.StatementPassing.{with_more}
+use Rattle.types_go.proofs.StatementGrowth.{grows}
 
 -- the statements from one on
 pub split : (ss : List Tree) (i : ℕ) (s : Tree) → i < length ss → s ≡ get_or ss i s → stms_of (drop i ss) ≡ cons (stm_of s) (stms_of (drop (i + 1) ss))
@@ -34,7 +34,7 @@ nothing_left (s ∷ ss) zero h = absurd (h (omega arith))
 nothing_left (s ∷ ss) (suc i) h = nothing_left ss i (λ l. h (omega (arith, l)))
 
 -- What is kept is a fault of the whole; each fault of the whole is covered or still to come. The typed statements so far stand before
--- those to come, and what is behind the whole is behind the rest.
+-- those to come, and what is after the whole is after the rest.
 pub record KeptStatements (text : List ℕ) (r1 : Returns) (looped : Bool) (start : Scope) (all rest : Stms) (s : Scope) (values : Option (List Stmt)) (least : Option Fault) : Type 0 where
   pub sound : Sound (FailsInStatements text r1 looped start all) least
   pub covered : (g : Fault) → FailsInStatements text r1 looped start all g → Covers least g ⊎ FailsInStatements text r1 looped s rest g
@@ -105,14 +105,14 @@ one_more text r1 looped start all m others s values lines least fault k found e 
     sorted g (inr (inr h)) = inr h
 
 module _ (text : List ℕ) (r1 : Returns) (looped : Bool) (s : Scope) (at : Pos) where
-  -- an `if`: its header, its body, and what stands behind them
+  -- an `if`: its header, its body, and what stands after them
   pub choice_least : (g : Guard) (body : Stms) (rest : Els) (a b c : Option Fault) → IsLeast (FailsInGuard text s at g) a → IsLeast (FailsInStatements text r1 looped (opened (header text s g.init)) body) b
-      → IsLeast (FailsInElse text r1 looped (closed (behind_all text (opened (header text s g.init)) body)) rest) c → IsLeast (FailsInStatement text r1 looped s (choice at g body rest)) (lesser (lesser a b) c)
+      → IsLeast (FailsInElse text r1 looped (closed (behind_all text (opened (header text s g.init)) body)) rest) c → IsLeast (FailsInStatement text r1 looped s (if_stmt at g body rest)) (lesser (lesser a b) c)
   choice_least g body rest a b c x y z =
       least_join (λ f. FailsInGuard text s at g f ⊎ FailsInStatements text r1 looped (opened (header text s g.init)) body f) (FailsInElse text r1 looped (closed (behind_all text (opened (header text s g.init)) body)) rest) (lesser a b) c
       (least_join (FailsInGuard text s at g) (FailsInStatements text r1 looped (opened (header text s g.init)) body) a b x y) z
 
   -- a loop: its header and its body
   pub loop_least : (c : Clause) (body : Stms) (a b : Option Fault) → IsLeast (FailsInClause text s at c) a → IsLeast (FailsInStatements text r1 true (opened (clause_scope text s c)) body) b
-      → IsLeast (FailsInStatement text r1 looped s (loop at c body)) (lesser a b)
+      → IsLeast (FailsInStatement text r1 looped s (for_stmt at c body)) (lesser a b)
   loop_least c body a b x y = least_join (FailsInClause text s at c) (FailsInStatements text r1 true (opened (clause_scope text s c)) body) a b x y

@@ -4,23 +4,23 @@ use Rattle.std.specs.Prelude.{⊤, option_and_then, not, ◌||◌, slice_get, na
 use Rattle.std.specs.List.{AllByRecursion}
 use Rattle.std.specs.Option.{option_map}
 use Rattle.base.specs.declared.pos.Pos.{Pos}
-use Rattle.value_types.specs.declared.fault.Fault.{Fault}
-use Rattle.syntax.specs.FirstBytes.{first_place}
+use Rattle.type_faults.specs.declared.fault.Fault.{Fault}
+use Rattle.syntax.specs.FirstBytes.{first_pos}
 use Rattle.syntax.specs.declared.expression.Name.{Name}
 use Rattle.syntax.specs.Expressions.{Ex as TreeEx, name, paren, spelled}
 use Rattle.syntax.specs.Statements.{ValueSpec}
 use Rattle.syntax.specs.Declarations.{Body, Function as TreeFunction, Declaration, constants, variables, types, Syntax}
 use Rattle.syntax.specs.Declarations as tree
-use Rattle.typed.specs.Syntax.{Sts, Func}
+use Rattle.typed_syntax.specs.Syntax.{Sts, Func}
 use Rattle.typed.specs.Tables.{Table}
 use Rattle.typed.specs.Formed.{IsFormed}
-use Rattle.value_types.specs.declared.fault.FaultKind.TheVariants.{Unknown, Redeclared, MissingReturn, BadOperand, OutOfProfile, TooLarge}
+use Rattle.type_faults.specs.declared.fault.FaultKind.TheVariants.{Unknown, Redeclared, MissingReturn, Unfit, OutOfProfile, TooLarge}
 use Rattle.base.specs.declared.value_type.ValueType.{ValueType}
-use Rattle.value_types.specs.declared.constant.Fixed.{Fixed}
-use Rattle.value_types.specs.Given.{allowed}
-use Rattle.value_types.specs.Faults.{fault, IsFault}
-use Rattle.value_types.proofs.Decided.{Decided, Tested, further, same, mapped, after, both_decided, both_tested}
-use Rattle.value_types.proofs.Options.{and_then_some, map_some, same_some}
+use Rattle.constants.specs.declared.constant.Fixed.{Fixed}
+use Rattle.type_faults.specs.Given.{allowed}
+use Rattle.type_faults.specs.Faults.{fault, IsFault}
+use Rattle.type_faults.proofs.Decided.{Decided, Tested, further, same, mapped, after, both_decided, both_tested}
+use Rattle.type_faults.proofs.Options.{and_then_some, map_some, same_some}
 use Rattle.names.specs.Blocks.{lookup}
 use Rattle.names.specs.declared.scope.Declared.{Declared}
 use Rattle.names.specs.declared.scope.Declared.TheVariants.{Untyped, Constant, Global, Function, External, TypeName}
@@ -43,9 +43,11 @@ use Rattle.signatures.specs.Failing.{fault_where}
 use Rattle.signatures.specs.SignatureFaults.{function_name_fault, size_fault, TypesFail}
 use Rattle.signatures.proofs.SettledEntries.{where_not, one_more_declared, settled_opened, settled_closed, AllTyped, settled_entries, entries_decided}
 use Rattle.types_go.specs.Statements.{behind_all}
-use Rattle.types_go.specs.Functions.{Member, of_function, of_variable, numbered, functions_of, type_or_int, behind_variable, functions_in, members_in, is_supported, are_supported, behind_params, body_scope, behind_body, behind_function, returns_of, may_end, func, param_entries, result_entries, body_of, parts, function_head, function_with, function, functions, declarations_in, heads_of, members, package_scope, program_functions}
+use Rattle.function_heads.specs.Heads.{functions_in, is_supported, are_supported, function_head}
+use Rattle.types_go.specs.Functions.{Member, of_function, of_variable, numbered, functions_of, type_or_int, behind_variable, members_in, behind_params, body_scope, behind_body, behind_function, returns_of, may_end, func, param_entries, result_entries, body_of, parts, function_with, function, functions, declarations_in, heads_of, members, package_scope, program_functions}
 use Rattle.types_go.specs.StatementFaults.{FailsInStatements}
-use Rattle.types_go.specs.FunctionFaults.{FailsInHead, FailsInTypes, FailsInParts, external_fault, FailsWith, FailsInFunction, FailsInFunctions, init_fault, external_name_fault, DeclarationFails, DeclarationsFail}
+use Rattle.function_heads.specs.HeadFaults.{FailsInHead, FailsInTypes, external_fault, init_fault, external_name_fault, DeclarationFails, DeclarationsFail}
+use Rattle.types_go.specs.FunctionFaults.{FailsInParts, FailsWith, FailsInFunction, FailsInFunctions}
 use Rattle.types_go.proofs.Package.{both_second, constant_one, variable_one, declared_one, values_long, signatures_are, items_kept}
 use Rattle.types_go.proofs.Types.{items_types}
 use Rattle.types_go.proofs.SettledStatements.{settled_all, statements_decided}
@@ -97,7 +99,7 @@ type_name_decided T None at known = (fault Unknown at, refl)
 type_name_decided T (Some TypeName) at known = absurd (known TypeName refl)
 type_name_decided T (Some (declared.«Type» t)) at known = known_decided t (is_known T t) (known (declared.«Type» t) refl)
 type_name_decided T (Some declared.LeftOutType) at known = (fault OutOfProfile at, refl)
-type_name_decided T (Some other) at known = (fault BadOperand at, refl)
+type_name_decided T (Some other) at known = (fault Unfit at, refl)
 
 -- three tests before what a function's parts are
 three_decided : {A : Type 0} (a b c : Bool) (o : Option A) (P Q R S : Fault → Type 0) → Tested a P → Tested b Q → Tested c S → (b ≡ true → Decided o R) → Decided (allowed a (allowed b (allowed c o))) (λ f. (P f ⊎ Q f) ⊎ (R f ⊎ S f))
@@ -123,7 +125,7 @@ module _ (text : List ℕ) (heads : Scope) where
   type_decided : NoTypes heads → (e : TreeEx) → Decided (type_in text heads e) (FailsAsType text heads e)
   type_decided known (name n) = type_name_decided heads.types (declaration heads (spelled text n)) n.pos (λ x is. of_language heads known (spelled text n) x is)
   type_decided known (paren at e) = type_decided known e
-  type_decided known e = (fault OutOfProfile (first_place e), refl)
+  type_decided known e = (fault OutOfProfile (first_pos e), refl)
 
   types_decided : NoTypes heads → (ps : List Param) → Decided (types_of (map (slot_of text heads) ps)) (TypesFail text heads ps)
   types_decided known [] = λ f h. h
@@ -416,7 +418,7 @@ module _ (text : List ℕ) (heads : Scope) where
         | inr r ↦ decided_none (functions text heads s 0 ms) (FailsInFunctions text heads s 0 ms) r.0 r.1.0 r.1.1
       ]
 
-  -- a declaration of a form that is left out fails, and one of `init`, and one of a function without a body behind another of its name
+  -- a declaration of a form that is left out fails, and one of `init`, and one of a function without a body after another of its name
   init_tested : (b : Bool) (at : Pos) → Tested (not b) (IsFault (init_fault b at))
   init_tested true at = (fault OutOfProfile at, refl)
   init_tested false at = λ f h. h
@@ -430,7 +432,7 @@ module _ (text : List ℕ) (heads : Scope) where
   form_tested s (variables at specs) = λ f h. h
   form_tested s (types at specs) = (fault OutOfProfile at, refl)
   form_tested s (tree.function g) =
-      both_tested _ _ (not (is_init (spelled text g.name))) (not (is_external text heads g) || is_external_at g.name.pos (declaration s (spelled text g.name))) (init_tested (is_init (spelled text g.name)) g.place)
+      both_tested _ _ (not (is_init (spelled text g.name))) (not (is_external text heads g) || is_external_at g.name.pos (declaration s (spelled text g.name))) (init_tested (is_init (spelled text g.name)) g.pos)
       (external_tested (is_external text heads g) (declaration s (spelled text g.name)) g.name.pos)
 
   forms_tested : (s : Scope) (ds : List Declaration) → Tested (are_supported text heads s ds) (DeclarationsFail text heads s ds)

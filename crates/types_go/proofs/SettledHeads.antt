@@ -5,21 +5,21 @@ use Rattle.std.specs.Option.{option_map}
 use Rattle.std.proofs.lemmas.Bool.{leb-true}
 use Rattle.base.specs.declared.pos.Pos.{Pos}
 use Rattle.syntax.specs.declared.expression.Name.{Name}
-use Rattle.syntax.specs.FirstBytes.{first_place}
+use Rattle.syntax.specs.FirstBytes.{first_pos}
 use Rattle.syntax.specs.Expressions.{Ex as TreeEx, Exs as TreeExs, some, spelled}
 use Rattle.syntax.specs.Expressions as expressions
 use Rattle.syntax.specs.Statements.{Simple, Guard, Targets, no_targets, targets_assigned, targets_defined, Clause, forever, while_true, counting, ranging}
 use Rattle.syntax.specs.Statements as tree
-use Rattle.typed.specs.Syntax.{Ex, Left, blank, new, to, St, Sts, done}
-use Rattle.value_types.specs.declared.fault.Fault.{Fault}
-use Rattle.value_types.specs.declared.fault.FaultKind.TheVariants.{NothingNew, Mismatch, ArgCount, BadOperand, OutOfProfile}
+use Rattle.typed_syntax.specs.Syntax.{Ex, Left, blank, new, to, St, Sts, done}
+use Rattle.type_faults.specs.declared.fault.Fault.{Fault}
+use Rattle.type_faults.specs.declared.fault.FaultKind.TheVariants.{NothingNew, Mismatch, WrongCount, Unfit, OutOfProfile}
 use Rattle.base.specs.declared.value_type.ValueType.{ValueType}
 use Rattle.base.specs.declared.value_type.ValueType.TheVariants.{Int}
-use Rattle.value_types.specs.Given.{allowed}
+use Rattle.type_faults.specs.Given.{allowed}
 use Rattle.base.specs.Types.{same_type}
-use Rattle.value_types.specs.Faults.{fault, IsFault}
-use Rattle.value_types.proofs.Decided.{Decided, Tested, further, tested, turned, mapped, after, both_tested}
-use Rattle.value_types.proofs.Options.{and_then_some, map_some, none_some, same_some}
+use Rattle.type_faults.specs.Faults.{fault, IsFault}
+use Rattle.type_faults.proofs.Decided.{Decided, Tested, further, tested, turned, mapped, after, both_tested}
+use Rattle.type_faults.proofs.Options.{and_then_some, map_some, none_some, same_some}
 use Rattle.operators.specs.Operands.{Operand, type_of, as_value}
 use Rattle.names.specs.Universe.{is_blank}
 use Rattle.names.specs.Scope.{Scope, is_here, opened}
@@ -56,12 +56,12 @@ while_decided : (c : Option Ex) (P : Fault → Type 0) → Decided c P → Decid
 while_decided None P p = p
 while_decided (Some x) P p = p
 
-more_keys : (at : Pos) (n : ℕ) → 2 ≤ n → (f : Fault) × IsFault (fault_where (not (nat_le n 1)) (fault ArgCount at)) f
+more_keys : (at : Pos) (n : ℕ) → 2 ≤ n → (f : Fault) × IsFault (fault_where (not (nat_le n 1)) (fault WrongCount at)) f
 more_keys at n two = by (nat_le n 1) refl
   where
-    by : (b : Bool) → nat_le n 1 ≡ b → (f : Fault) × IsFault (fault_where (not b) (fault ArgCount at)) f
+    by : (b : Bool) → nat_le n 1 ≡ b → (f : Fault) × IsFault (fault_where (not b) (fault WrongCount at)) f
     by true is = let le = leb-true n 1 is in absurd (omega (arith, le, two))
-    by false is = (fault ArgCount at, refl)
+    by false is = (fault WrongCount at, refl)
 
 key_decided : (x : Ex) (at : Pos) (l : List Left) → Decided (key_of l) (IsFault (keys_fault at (Some x) (Some (key_count l))))
 key_decided x at [] = λ f h. h
@@ -82,9 +82,9 @@ int_decided : (at place : Pos) (o : Option Operand) (P : Fault → Type 0) → D
 int_decided at place None P d = (d.0, inl d.1)
 int_decided at place (Some x) P d = further P (IsFault (over_fault at place (Some x))) (as_int x) d (by (same_type Int (type_of x)))
   where
-    by : (b : Bool) → Decided (allowed b (as_value x)) (IsFault (cond b (range_fault place (Some x)) (Some (fault BadOperand at))))
+    by : (b : Bool) → Decided (allowed b (as_value x)) (IsFault (cond b (range_fault place (Some x)) (Some (fault Unfit at))))
     by true = as_value_decided place x
-    by false = (fault BadOperand at, refl)
+    by false = (fault Unfit at, refl)
 
 given_tested : (t : ValueType) (p : Option ValueType) (at : Pos) → Tested (accepts p t) (IsFault (given_fault (Some t) p at))
 given_tested t p at = where_not (accepts p t) (fault Mismatch at)
@@ -129,13 +129,13 @@ module _ (text : List ℕ) where
 
   over_decided : (s : Scope) (at : Pos) (e : TreeEx) → IsSettled s → Decided (over text s e) (FailsInOver text s at e)
   over_decided s at e settled =
-      int_decided at (first_place e) (operand_in (gives text s e)) (FailsAsOperand text s e) (operand_decided (gives text s e) (Fails text s e) (gives_decided text s settled e))
+      int_decided at (first_pos e) (operand_in (gives text s e)) (FailsAsOperand text s e) (operand_decided (gives text s e) (Fails text s e) (gives_decided text s settled e))
 
   given_all_tested : (s : Scope) (t : ValueType) (ls : TreeExs) → Tested (all_accept (Some t) (all_wanted text s ls)) (GivenFail text s (Some t) ls)
   given_all_tested s t expressions.none = λ f h. h
   given_all_tested s t (some e es) =
-      both_tested (IsFault (given_fault (Some t) (wanted text s (name_in e)) (first_place e))) (GivenFail text s (Some t) es) (accepts (wanted text s (name_in e)) t) (all_accept (Some t) (all_wanted text s es))
-      (given_tested t (wanted text s (name_in e)) (first_place e)) (given_all_tested s t es)
+      both_tested (IsFault (given_fault (Some t) (wanted text s (name_in e)) (first_pos e))) (GivenFail text s (Some t) es) (accepts (wanted text s (name_in e)) t) (all_accept (Some t) (all_wanted text s es))
+      (given_tested t (wanted text s (name_in e)) (first_pos e)) (given_all_tested s t es)
 
   targets_decided : (s : Scope) (t : ValueType) (targets : Targets) → IsSettled s → Decided (target_lefts text s (Some t) targets) (TargetsFail text s (Some t) targets)
   targets_decided s t no_targets settled = λ f h. h
@@ -148,7 +148,7 @@ module _ (text : List ℕ) where
       (where_tested (all_blank text ns) (fault NothingNew at))
       (mapped (map entry_left) (entries text Parameter s (map (slot_with (Some t)) ns)) (EntriesFail text Parameter s (map (slot_with (Some t)) ns)) (entries_decided text Parameter s (map (slot_with (Some t)) ns))))
 
-  -- a name by itself, and those behind it
+  -- a name by itself, and those after it
   entries_first : (s : Scope) (t : Option ValueType) (n : Name) (ns : List Name) (es : List (Option ℕ)) → entries text Parameter s (map (slot_with t) (n ∷ ns)) ≡ Some es
       → (e : Option ℕ) × (xs : List (Option ℕ)) × (entry_in text Parameter s (Some n) ≡ Some e) × (entries text Parameter (behind_entry text s (slot_with t n)) (map (slot_with t) ns) ≡ Some xs) × (e ∷ xs ≡ es)
   entries_first s t n ns es is =

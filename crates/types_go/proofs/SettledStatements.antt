@@ -4,13 +4,13 @@ use Rattle.std.specs.Prelude.{option_and_then, not}
 use Rattle.std.specs.Option.{option_map}
 use Rattle.syntax.specs.Statements.{Stm, Stms, Els}
 use Rattle.syntax.specs.Statements as tree
-use Rattle.typed.specs.Syntax.{St, Sts, block, break_off, go_on}
-use Rattle.value_types.specs.declared.fault.Fault.{Fault}
-use Rattle.value_types.specs.declared.fault.FaultKind.TheVariants.{BreakOutside}
-use Rattle.value_types.specs.Given.{allowed}
-use Rattle.value_types.specs.Faults.{fault, IsFault}
-use Rattle.value_types.proofs.Decided.{Decided, further, mapped, after}
-use Rattle.value_types.proofs.Options.{and_then_some, map_some}
+use Rattle.typed_syntax.specs.Syntax.{St, Sts, block, break_stmt, continue_stmt}
+use Rattle.type_faults.specs.declared.fault.Fault.{Fault}
+use Rattle.type_faults.specs.declared.fault.FaultKind.TheVariants.{BreakOutside}
+use Rattle.type_faults.specs.Given.{allowed}
+use Rattle.type_faults.specs.Faults.{fault, IsFault}
+use Rattle.type_faults.proofs.Decided.{Decided, further, mapped, after}
+use Rattle.type_faults.proofs.Options.{and_then_some, map_some}
 use Rattle.names.specs.Scope.{Scope, opened, closed}
 use Rattle.names.proofs.Settled.{IsSettled}
 use Rattle.expression_types.specs.Typing.{seen}
@@ -53,28 +53,28 @@ loop_some h b t is =
 
 module _ (text : List ℕ) (r : Returns) where
   mutual
-    -- behind a typed statement every variable has a type
+    -- after a typed statement every variable has a type
     pub settled_behind : (looped : Bool) (s : Scope) (m : Stm) (b : Sts) → IsSettled s → statement text r looped s m ≡ Some b → IsSettled (behind text s m)
-    settled_behind looped s (tree.declare at specs) b settled is = settled_specs text s specs b settled is
+    settled_behind looped s (tree.var_stmt at specs) b settled is = settled_specs text s specs b settled is
     settled_behind looped s (tree.simple m) b settled is = let q = map_some alone (simple_statement text s m) b is in settled_simple text s m q.0 settled q.1
     settled_behind looped s (tree.block ms) b settled is =
         let q = map_some (λ x. alone (block x)) (statements text r looped (opened s) ms) b is in settled_closed (behind_all text (opened s) ms) (settled_all looped (opened s) ms q.0 (settled_opened s settled) q.1)
-    settled_behind looped s (tree.choice at g body rest) b settled is =
+    settled_behind looped s (tree.if_stmt at g body rest) b settled is =
         let h = header text s g.init in
         let inner = closed (behind_all text (opened h) body) in
         let u = map_some alone (choice_of (guard_head text s g) (statements text r looped (opened h) body) (alternative text r looped inner rest)) b is in
         let q = choice_some (guard_head text s g) (statements text r looped (opened h) body) (alternative text r looped inner rest) u.0 u.1 in
         let inside = settled_guard text s g q.0 settled q.3 in
         settled_closed (behind_else text inner rest) (settled_else looped inner rest q.2 (settled_closed (behind_all text (opened h) body) (settled_all looped (opened h) body q.1 (settled_opened h inside) q.4)) q.5)
-    settled_behind looped s (tree.loop at c body) b settled is =
+    settled_behind looped s (tree.for_stmt at c body) b settled is =
         let h = clause_scope text s c in
         let u = map_some alone (loop_of (clause_head text s c) (statements text r true (opened h) body)) b is in
         let q = loop_some (clause_head text s c) (statements text r true (opened h) body) u.0 u.1 in
         let inside = settled_clause text s c q.0 settled q.2 in
         settled_closed (closed (behind_all text (opened h) body)) (settled_closed (behind_all text (opened h) body) (settled_all true (opened h) body q.1 (settled_opened h inside) q.3))
-    settled_behind looped s (tree.break_at at) b settled is = settled
-    settled_behind looped s (tree.continue_at at) b settled is = settled
-    settled_behind looped s (tree.give_back at es) b settled is = settled
+    settled_behind looped s (tree.break_stmt at) b settled is = settled
+    settled_behind looped s (tree.continue_stmt at) b settled is = settled
+    settled_behind looped s (tree.return_stmt at es) b settled is = settled
 
     settled_else : (looped : Bool) (s : Scope) (e : Els) (b : Sts) → IsSettled s → alternative text r looped s e ≡ Some b → IsSettled (behind_else text s e)
     settled_else looped s tree.no_else b settled is = settled
@@ -99,25 +99,25 @@ module _ (text : List ℕ) (r : Returns) where
 
   mutual
     pub statement_decided : (looped : Bool) (s : Scope) (m : Stm) → IsSettled s → Decided (statement text r looped s m) (FailsInStatement text r looped s m)
-    statement_decided looped s (tree.declare at specs) settled = specs_decided text s at specs settled
+    statement_decided looped s (tree.var_stmt at specs) settled = specs_decided text s at specs settled
     statement_decided looped s (tree.simple m) settled = mapped alone (simple_statement text s m) (FailsInSimple text s m) (simple_decided text s m settled)
     statement_decided looped s (tree.block ms) settled =
         mapped (λ x. alone (block x)) (statements text r looped (opened s) ms) (FailsInStatements text r looped (opened s) ms) (statements_decided looped (opened s) ms (settled_opened s settled))
-    statement_decided looped s (tree.choice at g body rest) settled =
+    statement_decided looped s (tree.if_stmt at g body rest) settled =
         let h = header text s g.init in
         let inner = closed (behind_all text (opened h) body) in
         mapped alone (choice_of (guard_head text s g) (statements text r looped (opened h) body) (alternative text r looped inner rest)) _
         (choice_decided (guard_head text s g) (statements text r looped (opened h) body) (alternative text r looped inner rest) (FailsInGuard text s at g) (FailsInStatements text r looped (opened h) body) (FailsInElse text r looped inner rest)
         (guard_decided text s at g settled) (λ c is. statements_decided looped (opened h) body (settled_opened h (settled_guard text s g c settled is)))
         (λ c y is y_is. else_decided looped inner rest (settled_inner looped h body y (settled_guard text s g c settled is) y_is)))
-    statement_decided looped s (tree.loop at c body) settled =
+    statement_decided looped s (tree.for_stmt at c body) settled =
         let h = clause_scope text s c in
         mapped alone (loop_of (clause_head text s c) (statements text r true (opened h) body)) _
         (after (clause_head text s c) (λ k. option_map (looped_by k) (statements text r true (opened h) body)) (FailsInClause text s at c) (FailsInStatements text r true (opened h) body) (clause_decided text s at c settled)
         (λ k is. mapped (looped_by k) (statements text r true (opened h) body) (FailsInStatements text r true (opened h) body) (statements_decided true (opened h) body (settled_opened h (settled_clause text s c k settled is)))))
-    statement_decided looped s (tree.break_at at) settled = jump_decided looped (alone break_off) (fault BreakOutside at)
-    statement_decided looped s (tree.continue_at at) settled = jump_decided looped (alone go_on) (fault BreakOutside at)
-    statement_decided looped s (tree.give_back at es) settled =
+    statement_decided looped s (tree.break_stmt at) settled = jump_decided looped (alone break_stmt) (fault BreakOutside at)
+    statement_decided looped s (tree.continue_stmt at) settled = jump_decided looped (alone continue_stmt) (fault BreakOutside at)
+    statement_decided looped s (tree.return_stmt at es) settled =
         mapped alone (returned r (seen text s es)) (λ f. FailsInEach text s es f ⊎ ReturnFails at r (seen text s es) f) (return_decided at r (seen text s es) (FailsInEach text s es) (seen_decided text s settled es))
 
     else_decided : (looped : Bool) (s : Scope) (e : Els) → IsSettled s → Decided (alternative text r looped s e) (FailsInElse text r looped s e)

@@ -6,17 +6,19 @@ use Rattle.base.specs.declared.pos.Pos.{Pos}
 use Rattle.syntax.specs.declared.expression.Name.{Name}
 use Rattle.syntax.specs.declared.operator.ArithmeticOp.{ArithmeticOp}
 use Rattle.syntax.specs.declared.operator.BinOp.TheVariants.{Arithmetic}
-use Rattle.syntax.specs.FirstBytes.{first_place}
+use Rattle.syntax.specs.FirstBytes.{first_pos}
 use Rattle.syntax.specs.Expressions.{Ex as TreeEx, call, paren, number, string, name, unary, binary, selector, index, slice, array_type, slice_type, literal, elements, spelled}
 use Rattle.syntax.specs.Statements.{Simple, ValueSpec, Guard, Clause, forever, while_true, counting, ranging, Stm, Stms, Els}
 use Rattle.syntax.specs.Statements as tree
-use Rattle.typed.specs.declared.operators.BinOp.{BinOp as TypedOp}
-use Rattle.typed.specs.declared.operators.BinOp.TheVariants as op
-use Rattle.typed.specs.Syntax.{Exs, Left, St, Sts, constant as constant_of, unary as unary_of, binary as binary_of, both as both_of, either as either_of, call as call_of, part_of, literal, read, declare, block, choose, loop, break_off, go_on, give_back, none, done, next}
-use Rattle.typed.specs.Form.{ends, ends_all, breaks, breaks_all}
+use Rattle.typed_syntax.specs.declared.operators.BinOp.{BinOp as TypedOp}
+use Rattle.typed_syntax.specs.declared.operators.BinOp.TheVariants as op
+use Rattle.typed.specs.Positions.{position}
+use Rattle.typed_syntax.specs.Positions.{Position}
+use Rattle.typed_syntax.specs.Syntax.{Exs, Left, St, Sts, constant as constant_of, unary as unary_of, binary as binary_of, logical_and as both_of, logical_or as either_of, call as call_of, part_of, literal, read, declare, block, if_stmt, for_stmt, break_stmt, continue_stmt, return_stmt, none, done, next}
+use Rattle.typed_syntax.specs.Form.{ends, ends_all, breaks, breaks_all}
 use Rattle.base.specs.declared.value_type.ValueType.TheVariants.{Int, Bool as Truth, Struct, Array}
-use Rattle.value_types.specs.Given.{both}
-use Rattle.value_types.proofs.Options.{and_then_some, map_some, none_some, same_some}
+use Rattle.type_faults.specs.Given.{both}
+use Rattle.type_faults.proofs.Options.{and_then_some, map_some, none_some, same_some}
 use Rattle.operators.specs.Operands.{Operand, constant, value}
 use Rattle.operators.specs.Operators.{combined}
 use Rattle.names.specs.declared.scope.Declared.{Declared}
@@ -31,7 +33,7 @@ use Rattle.simple_statements.proofs.SettledValues.{allowed_is}
 use Rattle.simple_statements.proofs.SettledSimple.{where_some, assignment_some}
 use Rattle.terminating.specs.Terminating.{is_endless, leaves, leaves_else, leaves_any, is_panic, names_panic, panics, ends_simple, is_terminating, is_terminating_else, ends_after}
 use Rattle.types_go.specs.Statements.{Choice, Head, repeated, counted, alone, declared_in, headed, looped_by, choice_of, loop_of, header, init_statement, post_statement, guard_head, clause_scope, clause_head, key_of, number_type, over, target_lefts, behind, behind_all, statement, alternative, statements}
-use Rattle.types_go.proofs.Growth.{grows, grows_header, keeps_block}
+use Rattle.types_go.proofs.StatementGrowth.{grows, grows_header, keeps_block}
 use Rattle.types_go.proofs.Inside.{Inside, inside_opened, inside_grows, MayPanic, panic_inside}
 use Rattle.types_go.proofs.SettledStatements.{choice_some, loop_some}
 
@@ -103,20 +105,20 @@ updated_still (value u (call_of f es)) t is = absurd (none_some is)
 updated_still (value u (part_of n i a)) t is = absurd (none_some is)
 updated_still (value u (literal n es)) t is = absurd (none_some is)
 
-stepped_still : (o : TypedOp) (x : Operand) (t : St) → stepped o x ≡ Some t → IsStill t
-stepped_still o (constant c) t is = absurd (none_some is)
-stepped_still o (value Int (read q)) t is = ap breaks (sym (same_some is))
-stepped_still o (value Truth e) t is = absurd (none_some is)
-stepped_still o (value (Struct k) e) t is = absurd (none_some is)
-stepped_still o (value (Array n u) e) t is = absurd (none_some is)
-stepped_still o (value Int (constant_of v)) t is = absurd (none_some is)
-stepped_still o (value Int (unary_of g a)) t is = absurd (none_some is)
-stepped_still o (value Int (binary_of at g a b)) t is = absurd (none_some is)
-stepped_still o (value Int (both_of a b)) t is = absurd (none_some is)
-stepped_still o (value Int (either_of a b)) t is = absurd (none_some is)
-stepped_still o (value Int (call_of f es)) t is = absurd (none_some is)
-stepped_still o (value Int (part_of n i a)) t is = absurd (none_some is)
-stepped_still o (value Int (literal n es)) t is = absurd (none_some is)
+stepped_still : (p : Position) (o : TypedOp) (x : Operand) (t : St) → stepped p o x ≡ Some t → IsStill t
+stepped_still p o (constant c) t is = absurd (none_some is)
+stepped_still p o (value Int (read q)) t is = ap breaks (sym (same_some is))
+stepped_still p o (value Truth e) t is = absurd (none_some is)
+stepped_still p o (value (Struct k) e) t is = absurd (none_some is)
+stepped_still p o (value (Array n u) e) t is = absurd (none_some is)
+stepped_still p o (value Int (constant_of v)) t is = absurd (none_some is)
+stepped_still p o (value Int (unary_of g a)) t is = absurd (none_some is)
+stepped_still p o (value Int (binary_of at g a b)) t is = absurd (none_some is)
+stepped_still p o (value Int (both_of a b)) t is = absurd (none_some is)
+stepped_still p o (value Int (either_of a b)) t is = absurd (none_some is)
+stepped_still p o (value Int (call_of f es)) t is = absurd (none_some is)
+stepped_still p o (value Int (part_of n i a)) t is = absurd (none_some is)
+stepped_still p o (value Int (literal n es)) t is = absurd (none_some is)
 
 expressed_still : (k : ℕ) (g : Gives) (t : St) → expressed k g ≡ Some t → IsStill t
 expressed_still k (one x) t is = absurd (none_some is)
@@ -127,9 +129,9 @@ expressed_still k (printed at line ps) t is = ap breaks (sym (same_some is))
 expressed_still k (panicked at q) t is = ap breaks (sym (same_some is))
 expressed_still k (exited at e) t is = ap breaks (sym (same_some is))
 
-returned_as : (r : Returns) (os : List Seen) (t : St) → returned r os ≡ Some t → (es : Exs) × (t ≡ give_back es)
-returned_as r [] t is = let w = where_some r.may_be_bare (Some (give_back none)) t is in (none, sym (same_some w.1))
-returned_as r (o ∷ os) t is = let q = map_some give_back (taken r.wanted (o ∷ os)) t is in (q.0, sym q.2)
+returned_as : (r : Returns) (os : List Seen) (t : St) → returned r os ≡ Some t → (es : Exs) × (t ≡ return_stmt es)
+returned_as r [] t is = let w = where_some r.may_be_bare (Some (return_stmt none)) t is in (none, sym (same_some w.1))
+returned_as r (o ∷ os) t is = let q = map_some return_stmt (taken r.wanted (o ∷ os)) t is in (q.0, sym q.2)
 
 headed_ends : (i : Option St) (t : St) → ends (headed i t) ≡ ends t
 headed_ends None t = refl
@@ -166,10 +168,10 @@ module _ (text : List ℕ) where
   panic_gives base s inside (paren at e) g panic1 is = panic_gives base s inside e g panic1 is
   panic_gives base s inside (call f es spread) g panic1 is = by (name_in f) panic1 is
     where
-      by : (o : Option Name) → names_panic text base o ≡ true → called_with (first_place f) (spread_over spread (callee text s o (gives text s f))) (seen text s es) ≡ Some g → IsPanicked g
+      by : (o : Option Name) → names_panic text base o ≡ true → called_with (first_pos f) (spread_over spread (callee text s o (gives text s f))) (seen text s es) ≡ Some g → IsPanicked g
       by None o_is is1 = cc o_is
       by (Some n) o_is is1 =
-          panic_called s (declaration s (spelled text n)) (first_place f) spread (seen text s es) g (panic_inside base s inside (spelled text n) (panic_is (declaration base (spelled text n)) o_is)) is1
+          panic_called s (declaration s (spelled text n)) (first_pos f) spread (seen text s es) g (panic_inside base s inside (spelled text n) (panic_is (declaration base (spelled text n)) o_is)) is1
   panic_gives base s inside (number at n) g panic1 is = cc panic1
   panic_gives base s inside (string at behind1) g panic1 is = cc panic1
   panic_gives base s inside (name n) g panic1 is = cc panic1
@@ -194,20 +196,20 @@ module _ (text : List ℕ) where
   simple_ends base s inside (tree.increment e at) t ending is = cc ending
   simple_ends base s inside (tree.decrement e at) t ending is = cc ending
 
-  update_still : (s : Scope) (tree_op : ArithmeticOp) (e v : Option TreeEx) (t : St) → update_statement text s tree_op e v ≡ Some t → IsStill t
-  update_still s tree_op None v t is = absurd (none_some is)
-  update_still s tree_op (Some e) None t is = absurd (none_some is)
-  update_still s tree_op (Some e) (Some v) t is = let q = and_then_some updated (both (combined (first_place e) (Arithmetic tree_op)) (own_value text s (name_in e)) (operand_in (gives text s v))) t is in updated_still q.0 t q.2
+  update_still : (s : Scope) (at : Pos) (tree_op : ArithmeticOp) (e v : Option TreeEx) (t : St) → update_statement text s at tree_op e v ≡ Some t → IsStill t
+  update_still s at tree_op None v t is = absurd (none_some is)
+  update_still s at tree_op (Some e) None t is = absurd (none_some is)
+  update_still s at tree_op (Some e) (Some v) t is = let q = and_then_some updated (both (combined at (Arithmetic tree_op)) (own_value text s (name_in e)) (operand_in (gives text s v))) t is in updated_still q.0 t q.2
 
   simple_still : (s : Scope) (m : Simple) (t : St) → simple_statement text s m ≡ Some t → IsStill t
   simple_still s (tree.express e) t is = let q = and_then_some (expressed (length s.strings)) (gives text s e) t is in expressed_still (length s.strings) q.0 t q.2
   simple_still s (tree.assign ls at es) t is = assigned_still (lefts text s ls) (taken (all_wanted text s ls) (seen text s es)) t is
-  simple_still s (tree.update ls at tree_op es) t is = update_still s tree_op (only ls) (only es) t is
+  simple_still s (tree.update ls at tree_op es) t is = update_still s at tree_op (only ls) (only es) t is
   simple_still s (tree.define ns at es) t is =
       let w = where_some (may_define text s ns) (assignment (new_lefts text s (length s.sites) ns) (taken (all_new_wanted text s ns) (seen text s es))) t is in
       assigned_still (new_lefts text s (length s.sites) ns) (taken (all_new_wanted text s ns) (seen text s es)) t w.1
-  simple_still s (tree.increment e at) t is = let q = and_then_some (stepped op.Add) (own_value text s (name_in e)) t is in stepped_still op.Add q.0 t q.2
-  simple_still s (tree.decrement e at) t is = let q = and_then_some (stepped op.Sub) (own_value text s (name_in e)) t is in stepped_still op.Sub q.0 t q.2
+  simple_still s (tree.increment e at) t is = let q = and_then_some (stepped (position at) op.Add) (own_value text s (name_in e)) t is in stepped_still (position at) op.Add q.0 t q.2
+  simple_still s (tree.decrement e at) t is = let q = and_then_some (stepped (position at) op.Sub) (own_value text s (name_in e)) t is in stepped_still (position at) op.Sub q.0 t q.2
 
   -- an init statement has no `break`
   abbrev StillInit : Option St → Type 0
@@ -238,7 +240,7 @@ module _ (text : List ℕ) where
       let r = and_then_some (λ i. option_and_then (λ x. option_map (repeated i x) (post_statement text h post)) (test text h test1)) (init_statement text s init) k is in
       let q = and_then_some (λ x. option_map (repeated r.0 x) (post_statement text h post)) (test text h test1) k r.2 in
       let o = map_some (repeated r.0 q.0) (post_statement text h post) k q.2 in
-      ap (λ (x : Head). breaks (looped_by x y)) (sym o.2) ∙ headed_breaks r.0 (loop (declared_in r.0) q.0 o.0 y) (init_still s init r.0 r.1)
+      ap (λ (x : Head). breaks (looped_by x y)) (sym o.2) ∙ headed_breaks r.0 (for_stmt (declared_in r.0) q.0 o.0 y) (init_still s init r.0 r.1)
   loop_still s (ranging t at e) k y is =
       let n = number_type (over text s e) in
       let r = and_then_some (λ x. option_map (counted x) (option_and_then key_of (target_lefts text (opened s) n t))) (over text s e) k is in
@@ -255,7 +257,7 @@ module _ (text : List ℕ) where
       let h = header text s init in
       let r = and_then_some (λ i. option_and_then (λ x. option_map (repeated i x) (post_statement text h post)) (Some None)) (init_statement text s init) k is in
       let o = map_some (repeated r.0 None) (post_statement text h post) k r.2 in
-      ap (λ (x : Head). ends (looped_by x y)) (sym o.2) ∙ (headed_ends r.0 (loop (declared_in r.0) None o.0 y) ∙ ap not still)
+      ap (λ (x : Head). ends (looped_by x y)) (sym o.2) ∙ (headed_ends r.0 (for_stmt (declared_in r.0) None o.0 y) ∙ ap not still)
 
   spec_still : (s : Scope) (v : ValueSpec) (t : St) → spec_statement text s v ≡ Some t → IsStill t
   spec_still s v t is =
@@ -276,27 +278,27 @@ module _ (text : List ℕ) where
   module _ (r : Returns) where
     mutual
       leaves_same : (looped : Bool) (s : Scope) (m : Stm) (b : Sts) → statement text r looped s m ≡ Some b → breaks_all b ≡ leaves m
-      leaves_same looped s (tree.declare at specs) b is = specs_still s specs b is
+      leaves_same looped s (tree.var_stmt at specs) b is = specs_still s specs b is
       leaves_same looped s (tree.simple m) b is =
           let q = map_some alone (simple_statement text s m) b is in ap breaks_all (sym q.2) ∙ ap (λ x. x || false) (simple_still s m q.0 q.1)
       leaves_same looped s (tree.block ms) b is =
           let q = map_some (λ x. alone (block x)) (statements text r looped (opened s) ms) b is in
           ap breaks_all (sym q.2) ∙ (or_false (breaks_all q.0) ∙ leaves_all looped (opened s) ms q.0 q.1)
-      leaves_same looped s (tree.choice at g body rest) b is =
+      leaves_same looped s (tree.if_stmt at g body rest) b is =
           let h = header text s g.init in
           let inner = closed (behind_all text (opened h) body) in
           let u = map_some alone (choice_of (guard_head text s g) (statements text r looped (opened h) body) (alternative text r looped inner rest)) b is in
           let q = choice_some (guard_head text s g) (statements text r looped (opened h) body) (alternative text r looped inner rest) u.0 u.1 in
-          ap breaks_all (sym u.2) ∙ (or_false (breaks u.0) ∙ (ap breaks (sym q.6) ∙ (headed_breaks q.0.init (choose q.0.condition q.1 q.2) (guard_still s g q.0 q.3)
+          ap breaks_all (sym u.2) ∙ (or_false (breaks u.0) ∙ (ap breaks (sym q.6) ∙ (headed_breaks q.0.init (if_stmt q.0.condition q.1 q.2) (guard_still s g q.0 q.3)
           ∙ (ap (λ x. x || breaks_all q.2) (leaves_all looped (opened h) body q.1 q.4) ∙ ap (λ x. leaves_any body || x) (leaves_rest looped inner rest q.2 q.5)))))
-      leaves_same looped s (tree.loop at c body) b is =
+      leaves_same looped s (tree.for_stmt at c body) b is =
           let h = clause_scope text s c in
           let u = map_some alone (loop_of (clause_head text s c) (statements text r true (opened h) body)) b is in
           let q = loop_some (clause_head text s c) (statements text r true (opened h) body) u.0 u.1 in
           ap breaks_all (sym u.2) ∙ (or_false (breaks u.0) ∙ (ap breaks (sym q.4) ∙ loop_still s c q.0 q.1 q.2))
-      leaves_same looped s (tree.break_at at) b is = ap breaks_all (sym (same_some (allowed_is looped (Some (alone break_off)) b is).1))
-      leaves_same looped s (tree.continue_at at) b is = ap breaks_all (sym (same_some (allowed_is looped (Some (alone go_on)) b is).1))
-      leaves_same looped s (tree.give_back at es) b is =
+      leaves_same looped s (tree.break_stmt at) b is = ap breaks_all (sym (same_some (allowed_is looped (Some (alone break_stmt)) b is).1))
+      leaves_same looped s (tree.continue_stmt at) b is = ap breaks_all (sym (same_some (allowed_is looped (Some (alone continue_stmt)) b is).1))
+      leaves_same looped s (tree.return_stmt at es) b is =
           let q = map_some alone (returned r (seen text s es)) b is in
           let f = returned_as r (seen text s es) q.0 q.1 in
           ap breaks_all (sym q.2) ∙ ap (λ (t : St). breaks t || false) f.1
@@ -309,7 +311,7 @@ module _ (text : List ℕ) where
           let inner = closed (behind_all text (opened h) body) in
           let u = map_some alone (choice_of (guard_head text s g) (statements text r looped (opened h) body) (alternative text r looped inner rest)) b is in
           let q = choice_some (guard_head text s g) (statements text r looped (opened h) body) (alternative text r looped inner rest) u.0 u.1 in
-          ap breaks_all (sym u.2) ∙ (or_false (breaks u.0) ∙ (ap breaks (sym q.6) ∙ (headed_breaks q.0.init (choose q.0.condition q.1 q.2) (guard_still s g q.0 q.3)
+          ap breaks_all (sym u.2) ∙ (or_false (breaks u.0) ∙ (ap breaks (sym q.6) ∙ (headed_breaks q.0.init (if_stmt q.0.condition q.1 q.2) (guard_still s g q.0 q.3)
           ∙ (ap (λ x. x || breaks_all q.2) (leaves_all looped (opened h) body q.1 q.4) ∙ ap (λ x. leaves_any body || x) (leaves_rest looped inner rest q.2 q.5)))))
 
       leaves_all : (looped : Bool) (s : Scope) (ms : Stms) (b : Sts) → statements text r looped s ms ≡ Some b → breaks_all b ≡ leaves_any ms
@@ -326,29 +328,29 @@ module _ (text : List ℕ) where
   module _ (r : Returns) (base : Scope) where
     mutual
       ends_statement : (looped : Bool) (s : Scope) → Inside base s → (m : Stm) (b : Sts) → statement text r looped s m ≡ Some b → is_terminating text base m ≡ true → (e : Bool) → ends_last e b ≡ true
-      ends_statement looped s inside (tree.declare at specs) b is ending e = cc ending
+      ends_statement looped s inside (tree.var_stmt at specs) b is ending e = cc ending
       ends_statement looped s inside (tree.simple m) b is ending e = let q = map_some alone (simple_statement text s m) b is in ends_alone e q.0 b q.2 (simple_ends base s inside m q.0 ending q.1)
       ends_statement looped s inside (tree.block ms) b is ending e =
           let q = map_some (λ x. alone (block x)) (statements text r looped (opened s) ms) b is in
           ends_alone e (block q.0) b q.2 (sym (ends_same q.0) ∙ ends_list looped (opened s) (inside_opened base s inside) ms q.0 q.1 false ending)
-      ends_statement looped s inside (tree.choice at g body rest) b is ending e =
+      ends_statement looped s inside (tree.if_stmt at g body rest) b is ending e =
           let h = header text s g.init in
           let inner = closed (behind_all text (opened h) body) in
           let at_head : Inside base h = inside_grows base (opened s) h (inside_opened base s inside) (grows_header text s g.init) in
           let u = map_some alone (choice_of (guard_head text s g) (statements text r looped (opened h) body) (alternative text r looped inner rest)) b is in
           let q = choice_some (guard_head text s g) (statements text r looped (opened h) body) (alternative text r looped inner rest) u.0 u.1 in
           let both1 = and_true (ends_after text base false body) (is_terminating_else text base rest) ending in
-          ends_alone e u.0 b u.2 (ap ends (sym q.6) ∙ (headed_ends q.0.init (choose q.0.condition q.1 q.2)
+          ends_alone e u.0 b u.2 (ap ends (sym q.6) ∙ (headed_ends q.0.init (if_stmt q.0.condition q.1 q.2)
           ∙ (ap (λ x. x && ends_all q.2) (sym (ends_same q.1) ∙ ends_list looped (opened h) (inside_opened base h at_head) body q.1 q.4 false both1.0) ∙ ends_else looped inner (inside_grows base h inner at_head (keeps_grows h inner (keeps_block text h body))) rest q.2 q.5 both1.1)))
-      ends_statement looped s inside (tree.loop at c body) b is ending e =
+      ends_statement looped s inside (tree.for_stmt at c body) b is ending e =
           let h = clause_scope text s c in
           let u = map_some alone (loop_of (clause_head text s c) (statements text r true (opened h) body)) b is in
           let q = loop_some (clause_head text s c) (statements text r true (opened h) body) u.0 u.1 in
           let both1 = and_true (is_endless c) (not (leaves_any body)) ending in
           ends_alone e u.0 b u.2 (ap ends (sym q.4) ∙ loop_ends s c q.0 q.1 q.2 both1.0 (leaves_all r true (opened h) body q.1 q.3 ∙ not_true (leaves_any body) both1.1))
-      ends_statement looped s inside (tree.break_at at) b is ending e = cc ending
-      ends_statement looped s inside (tree.continue_at at) b is ending e = cc ending
-      ends_statement looped s inside (tree.give_back at es) b is ending e =
+      ends_statement looped s inside (tree.break_stmt at) b is ending e = cc ending
+      ends_statement looped s inside (tree.continue_stmt at) b is ending e = cc ending
+      ends_statement looped s inside (tree.return_stmt at es) b is ending e =
           let q = map_some alone (returned r (seen text s es)) b is in
           let f = returned_as r (seen text s es) q.0 q.1 in
           ends_alone e q.0 b q.2 (ap ends f.1)
@@ -363,7 +365,7 @@ module _ (text : List ℕ) where
           let u = map_some alone (choice_of (guard_head text s g) (statements text r looped (opened h) body) (alternative text r looped inner rest)) b is in
           let q = choice_some (guard_head text s g) (statements text r looped (opened h) body) (alternative text r looped inner rest) u.0 u.1 in
           let both1 = and_true (ends_after text base false body) (is_terminating_else text base rest) ending in
-          ap ends_all (sym u.2) ∙ (ap ends (sym q.6) ∙ (headed_ends q.0.init (choose q.0.condition q.1 q.2)
+          ap ends_all (sym u.2) ∙ (ap ends (sym q.6) ∙ (headed_ends q.0.init (if_stmt q.0.condition q.1 q.2)
           ∙ (ap (λ x. x && ends_all q.2) (sym (ends_same q.1) ∙ ends_list looped (opened h) (inside_opened base h at_head) body q.1 q.4 false both1.0) ∙ ends_else looped inner (inside_grows base h inner at_head (keeps_grows h inner (keeps_block text h body))) rest q.2 q.5 both1.1)))
 
       pub ends_list : (looped : Bool) (s : Scope) → Inside base s → (ms : Stms) (b : Sts) → statements text r looped s ms ≡ Some b → (e : Bool) → ends_after text base e ms ≡ true → ends_last e b ≡ true

@@ -10,7 +10,7 @@ use Rattle.names.specs.declared.scope.Declared.TheVariants.{Untyped, TypeName}
 use Rattle.names.specs.Scope.{Scope, basic_table, with_declaration, beginning}
 use Rattle.package_values.specs.Values.{items_in, settled}
 use Rattle.signatures.specs.Signatures.{declares_name, with_name, with_names, with_values, with_types, with_heads, with_items}
-use Rattle.types_go.specs.Functions.{are_supported}
+use Rattle.function_heads.specs.Heads.{are_supported}
 use Rattle.types_go.proofs.Package.{constant_one, variable_one, declared_one, items_kept, settled_kept}
 
 module _ (text : List ℕ) where

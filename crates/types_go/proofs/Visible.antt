@@ -2,12 +2,12 @@
 use Rattle.std.proofs.Common.{◌≡◌, ℕ, zero, suc, Bool, true, false, List, [], ◌∷◌, ◌++◌, length, Option, Some, None, refl}
 use Rattle.std.specs.Prelude.{slice_get, slice_set}
 use Rattle.typed.specs.declared.program.Site.{Site}
-use Rattle.value_types.specs.declared.constant.Fixed.{Fixed}
+use Rattle.constants.specs.declared.constant.Fixed.{Fixed}
 use Rattle.syntax.specs.declared.expression.Name.{Name}
 use Rattle.syntax.specs.Expressions.{spelled}
 use Rattle.syntax.specs.Declarations.{Function as TreeFunction, Declaration}
-use Rattle.value_types.specs.Constants.{is_held}
-use Rattle.value_types.proofs.Options.{none_some}
+use Rattle.constants.specs.Constants.{is_held}
+use Rattle.type_faults.proofs.Options.{none_some}
 use Rattle.operators.proofs.Held.{AreHeld}
 use Rattle.names.specs.declared.scope.Declared.TheVariants.{Variable, Constant, Global, Function, External}
 use Rattle.names.specs.declared.scope.Declared.{Declared}
@@ -18,7 +18,7 @@ use Rattle.package_values.proofs.Giving.{given_held}
 use Rattle.signatures.specs.Signatures.{external_named, with_items}
 use Rattle.signatures.proofs.Growth.{extends_none}
 use Rattle.signatures.proofs.Visible.{IsShown, Visible, visible_beginning, visible_more}
-use Rattle.types_go.specs.Functions.{are_supported}
+use Rattle.function_heads.specs.Heads.{are_supported}
 use Rattle.types_go.proofs.Package.{constant_one, numbered_one, variable_one, declared_one, items_kept, settled_kept}
 
 -- a constant whose value isn't known yet

@@ -7,22 +7,23 @@ use Rattle.std.proofs.lemmas.Bool.{eqb-true}
 use Rattle.std.proofs.lemmas.List.{map-append}
 use Rattle.base.specs.declared.pos.Pos.{Pos}
 use Rattle.syntax.specs.Declarations.{Function as TreeFunction}
-use Rattle.typed.specs.Syntax.{Func}
+use Rattle.typed_syntax.specs.Syntax.{Func}
 use Rattle.typed.specs.Trees.{trees}
 use Rattle.typed.specs.View.{func_of, global_of}
-use Rattle.value_trees.specs.Types.{ValueType as TypeTree}
+use Rattle.typed_syntax.specs.Types.{TypeTree}
 use Rattle.typed.specs.declared.program.Func.{Func as FuncData}
 use Rattle.typed.specs.declared.program.PackageVariable.{PackageVariable}
 use Rattle.package_values.specs.Values.{Item}
-use Rattle.value_types.specs.declared.fault.Fault.{Fault}
-use Rattle.value_types.specs.Least.{IsLeast, lesser}
-use Rattle.value_types.proofs.Leasts.{Kept, kept_start, kept_more, kept_end}
+use Rattle.type_faults.specs.declared.fault.Fault.{Fault}
+use Rattle.type_faults.specs.Least.{IsLeast, lesser}
+use Rattle.type_faults.proofs.Leasts.{Kept, kept_start, kept_more, kept_end}
 use Rattle.names.specs.Scope.{Scope}
-use Rattle.value_types.specs.Given.{with_last}
-use Rattle.value_types.proofs.Lists.{joined, joined_start, joined_more, joined_none}
+use Rattle.type_faults.specs.Given.{with_last}
+use Rattle.type_faults.proofs.Lists.{joined, joined_start, joined_more, joined_none}
 use Rattle.types_go.specs.Functions.{Member, of_function, of_variable, functions_of, behind_variable, globals_of, function, functions, behind_function, behind_members, globals}
 use Rattle.types_go.specs.FunctionFaults.{FailsInFunction, FailsInFunctions}
-use Rattle.types_go.specs.Passing.{IsAt, AreAt}
+use Rattle.function_heads.specs.Assembled.{IsAt}
+use Rattle.types_go.specs.Passing.{AreAt}
 use Rattle.types_go.proofs.Growth.{keeps_function, keeps_variable}
 use Rattle.types_go.proofs.Sites.{PlacesKept, places_more, places_all}
 

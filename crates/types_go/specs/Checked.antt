@@ -2,17 +2,17 @@
 use Rattle.std.specs.Prelude.{◌≡◌, ℕ, List, map, Some, Result, Ok, Err}
 use Rattle.base.specs.declared.pos.Pos.{Pos}
 use Rattle.syntax.specs.Declarations.{Syntax}
-use Rattle.typed.specs.Syntax.{Func, Program}
+use Rattle.typed_syntax.specs.Syntax.{Func, Program}
 use Rattle.typed.specs.Trees.{trees}
 use Rattle.typed.specs.View.{site_types, program_of}
-use Rattle.value_trees.specs.Types.{ValueType as TypeTree}
+use Rattle.typed_syntax.specs.Types.{TypeTree}
 use Rattle.typed.specs.declared.program.Site.{Site}
 use Rattle.typed.specs.declared.program.Program.{Program as ProgramData}
-use Rattle.value_trees.specs.Value.{Value}
-use Rattle.value_types.specs.declared.fault.TypeFault.{TypeFault}
-use Rattle.value_types.specs.declared.fault.TypeFault.TheVariants as type_fault
-use Rattle.value_types.specs.declared.fault.Fault.{Fault}
-use Rattle.value_types.specs.Least.{IsLeast}
+use Rattle.typed_syntax.specs.Value.{Value}
+use Rattle.type_faults.specs.declared.fault.TypeFault.{TypeFault}
+use Rattle.type_faults.specs.declared.fault.TypeFault.TheVariants as type_fault
+use Rattle.type_faults.specs.declared.fault.Fault.{Fault}
+use Rattle.type_faults.specs.Least.{IsLeast}
 use Rattle.package_values.specs.ValueFaults.{ItemsFail}
 use Rattle.types_go.specs.Functions.{behind_members, globals, members, declarations_in, heads_of, numbered_functions, package_scope, main_number, program_functions}
 use Rattle.types_go.specs.FunctionFaults.{FailsIn}
@@ -58,6 +58,10 @@ pub record Types (t : Syntax) (p : Program) : Type 0 where
 abbrev pub Reports : Syntax → TypeFault → Type 0
 Reports t type_fault.NoMemory = Unit {0}
 Reports t (type_fault.Fault f) = IsLeast (FailsIn t) (Some f)
+
+-- no rule of the language fails
+abbrev pub NoneFails : Syntax → Type 0
+NoneFails t = (f : Fault) → FailsIn t f → ⊥
 
 -- the program and no other, unless memory ran out
 abbrev pub OnlyProgram : Result ProgramData TypeFault → Program → Type 0

@@ -1,61 +1,31 @@
 -- The functions of a program (Go specification, "Function declarations", "Function types", "Blocks", "Program initialization and
 -- execution").
-use Rattle.std.specs.Prelude.{ℕ, ℤ, pos, length, ◌+◌, ◌-◌, ◌==◌, Bool, true, false, not, ◌&&◌, ◌||◌, List, [], ◌∷◌, ◌++◌, codes, map, slice_get, Option, Some, None, option_and_then, nat_lt, if◌then◌else◌}
+use Rattle.std.specs.Prelude.{ℕ, ℤ, pos, length, ◌+◌, ◌-◌, ◌==◌, Bool, false, ◌||◌, List, [], ◌∷◌, ◌++◌, codes, map, Option, Some, None, option_and_then, if◌then◌else◌}
 use Rattle.std.specs.Option.{option_map}
 use Rattle.syntax.specs.Expressions.{Ex as TreeEx, spelled}
 use Rattle.syntax.specs.Declarations.{named, Body, Function as TreeFunction, Declaration, constants, variables, types, Syntax}
 use Rattle.syntax.specs.Declarations as tree
-use Rattle.typed.specs.Syntax.{Sts, Func}
-use Rattle.typed.specs.Tables.{Table}
-use Rattle.typed.specs.Trees.{tree_named}
-use Rattle.value_trees.specs.Types.{ValueType as TypeTree}
-use Rattle.value_trees.specs.Value.{Value, int, bool}
-use Rattle.value_types.specs.declared.constant.Constant.{Constant}
-use Rattle.value_types.specs.declared.constant.Constant.TheVariants.{Number, Truth}
-use Rattle.value_types.specs.declared.constant.Fixed.{Fixed}
+use Rattle.typed_syntax.specs.Syntax.{Sts, Func}
+use Rattle.typed_syntax.specs.Value.{Value, int, bool}
+use Rattle.constants.specs.declared.constant.Constant.{Constant}
+use Rattle.constants.specs.declared.constant.Constant.TheVariants.{Number, Truth}
+use Rattle.constants.specs.declared.constant.Fixed.{Fixed}
 use Rattle.base.specs.declared.value_type.ValueType.{ValueType}
 use Rattle.base.specs.declared.value_type.ValueType.TheVariants.{Int, Bool as Boolean}
-use Rattle.value_types.specs.Constants.{is_int}
-use Rattle.value_types.specs.Given.{allowed}
-use Rattle.names.specs.declared.scope.Declared.{Declared}
-use Rattle.names.specs.declared.scope.Declared.TheVariants.{Function}
+use Rattle.constants.specs.Constants.{is_int}
+use Rattle.type_faults.specs.Given.{allowed}
 use Rattle.names.specs.Universe.{is_blank, is_main}
-use Rattle.names.specs.Scope.{Scope, type_number, declaration, fixed, with_site, opened, closed, beginning}
+use Rattle.names.specs.Scope.{Scope, declaration, fixed, with_site, opened, closed, beginning}
 use Rattle.expression_types.specs.Typing.{known_type, gives}
 use Rattle.package_values.specs.declared.items.Role.TheVariants as role
 use Rattle.package_values.specs.Values.{Item, items_in_specs, items_in, constant_in, settled}
-use Rattle.signatures.specs.declared.slots.Slot.{Slot}
 use Rattle.signatures.specs.declared.entries.Role.TheVariants.{Parameter as parameter, Result as result}
 use Rattle.signatures.specs.Entries.{sites_of, entries, behind_entries}
-use Rattle.signatures.specs.Signatures.{params_of, is_named, is_small, is_init, may_be_named, is_external_at, with_heads, slots_of, signature_in, is_external, with_items}
+use Rattle.signatures.specs.Signatures.{params_of, is_named, is_small, with_heads, slots_of, signature_in, is_external, with_items}
 use Rattle.simple_statements.specs.SimpleStatements.{Returns}
 use Rattle.terminating.specs.Terminating.{ends_in_terminating}
+use Rattle.function_heads.specs.Heads.{number_of, slot_tree, plain_number, function_head, functions_in, are_supported}
 use Rattle.types_go.specs.Statements.{behind_all, statements}
-
-abbrev pub number_of : Option Declared → Option ℕ
-number_of (Some (Function f)) = Some f.0
-number_of other = None
-
-abbrev pub is_plain : Option TreeFunction → Bool
-is_plain None = false
-is_plain (Some f) = (length (params_of f.params) == 0) && (length (params_of f.results) == 0)
-
--- the number of a type in a table, where the type is known
-abbrev pub number_or_int : Table → Option ValueType → ℕ
-number_or_int T None = 0
-number_or_int T (Some t) = type_number T t
-
-abbrev pub slot_number : Table → Slot → ℕ
-slot_number T p = number_or_int T p.value_type
-
--- the same type as those of values are given
-abbrev pub slot_tree : Table → Slot → TypeTree
-slot_tree T p = tree_named T (slot_number T p)
-
-module _ (text : List ℕ) where
-  -- the name and the number of a function, in the package block
-  abbrev pub function_head : Scope → ℕ → TreeFunction → Bool
-  function_head s i f = may_be_named i (is_blank (spelled text f.name)) (declaration s (spelled text f.name)) && nat_lt i 4096
 
 -- ---- what the package has one after the other: functions, and package variables with their numbers
 
@@ -118,14 +88,6 @@ module _ (text : List ℕ) (heads : Scope) where
 
   -- ---- declarations at the level of the package
 
-  -- the functions among them that are not `readInt` or `exit`; they have numbers in this order
-  abbrev pub functions_in : List Declaration → List TreeFunction
-  functions_in [] = []
-  functions_in (constants at specs ∷ ds) = functions_in ds
-  functions_in (variables at specs ∷ ds) = functions_in ds
-  functions_in (types at specs ∷ ds) = functions_in ds
-  functions_in (tree.function f ∷ ds) = if is_external text heads f then functions_in ds else f ∷ functions_in ds
-
   -- and with the variables between them, from the number of a constant or variable on
   abbrev pub members_in : ℕ → List Declaration → List Member
   members_in k [] = []
@@ -134,21 +96,9 @@ module _ (text : List ℕ) (heads : Scope) where
   members_in k (types at specs ∷ ds) = members_in k ds
   members_in k (tree.function f ∷ ds) = if is_external text heads f then members_in k ds else of_function f ∷ members_in k ds
 
-  -- in the package block: forms that are not left out; no `init`; and a function without a body is the first of its name. Constants and
-  -- variables have rules of their own
-  abbrev pub is_supported : Scope → Declaration → Bool
-  is_supported s (constants at specs) = true
-  is_supported s (variables at specs) = true
-  is_supported s (types at specs) = false
-  is_supported s (tree.function f) = not (is_init (spelled text f.name)) && (not (is_external text heads f) || is_external_at f.name.pos (declaration s (spelled text f.name)))
-
-  abbrev pub are_supported : Scope → List Declaration → Bool
-  are_supported s [] = true
-  are_supported s (d ∷ ds) = is_supported s d && are_supported s ds
-
   -- ---- a function, by its number, in the package block
 
-  -- the scope behind the parameters, and where the body begins
+  -- the scope after the parameters, and where the body begins
   abbrev pub behind_params : Scope → TreeFunction → Scope
   behind_params s f = behind_entries text (opened s) (slots_of text heads f.params)
 
@@ -233,11 +183,6 @@ declared_scope t = with_items t.text (heads_of t) beginning (declarations_in t)
 -- where all is known of the constants and variables that can be
 abbrev pub package_scope : Syntax → Scope
 package_scope t = settled t.text (declared_scope t) (items_in (declarations_in t))
-
--- the number of the function without parameters and results that `main` stands for
-abbrev pub plain_number : List TreeFunction → Option ℕ → Option ℕ
-plain_number fs None = None
-plain_number fs (Some i) = if is_plain (slice_get fs i) then Some i else None
 
 -- in the package `main`
 abbrev pub main_number : Syntax → Option ℕ

@@ -3,18 +3,18 @@ use Rattle.std.specs.Prelude.{ℕ, ◌⊎◌, Bool, true, not, length, List, [],
 use Rattle.std.specs.Option.{option_map}
 use Rattle.base.specs.declared.pos.Pos.{Pos}
 use Rattle.syntax.specs.declared.expression.Name.{Name}
-use Rattle.syntax.specs.FirstBytes.{first_place}
+use Rattle.syntax.specs.FirstBytes.{first_pos}
 use Rattle.syntax.specs.Expressions.{Ex as TreeEx, Exs as TreeExs, some, spelled}
 use Rattle.syntax.specs.Expressions as expressions
 use Rattle.syntax.specs.Statements.{Simple, Targets, no_targets, targets_assigned, targets_defined, Clause, forever, while_true, counting, ranging, Stm, Stms, Els}
 use Rattle.syntax.specs.Statements as tree
-use Rattle.typed.specs.Syntax.{Ex, Left, blank}
-use Rattle.value_types.specs.declared.fault.Fault.{Fault}
-use Rattle.value_types.specs.declared.fault.FaultKind.TheVariants.{NothingNew, Mismatch, ArgCount, BadOperand, BreakOutside}
+use Rattle.typed_syntax.specs.Syntax.{Ex, Left, blank}
+use Rattle.type_faults.specs.declared.fault.Fault.{Fault}
+use Rattle.type_faults.specs.declared.fault.FaultKind.TheVariants.{NothingNew, Mismatch, WrongCount, Unfit, BreakOutside}
 use Rattle.base.specs.declared.value_type.ValueType.{ValueType}
 use Rattle.base.specs.declared.value_type.ValueType.TheVariants.{Int}
 use Rattle.base.specs.Types.{same_type}
-use Rattle.value_types.specs.Faults.{fault, IsFault, FormFails}
+use Rattle.type_faults.specs.Faults.{fault, IsFault, FormFails}
 use Rattle.operators.specs.Operands.{Operand, type_of}
 use Rattle.names.specs.Universe.{is_blank}
 use Rattle.names.specs.Scope.{Scope, opened, closed}
@@ -31,24 +31,24 @@ use Rattle.types_go.specs.Statements.{number_type, header, over, all_blank, clau
 
 -- `range` goes over an int: any other value is reported at the word of the statement
 abbrev pub over_fault : Pos → Pos → Option Operand → Option Fault
-over_fault at place None = None
-over_fault at place (Some x) = if same_type Int (type_of x) then range_fault place (Some x) else Some (fault BadOperand at)
+over_fault pos value_pos None = None
+over_fault pos value_pos (Some x) = if same_type Int (type_of x) then range_fault value_pos (Some x) else Some (fault Unfit pos)
 
 -- a left side of another type than that of the numbers
 abbrev pub given_fault : Option ValueType → Option ValueType → Pos → Option Fault
-given_fault None p at = None
-given_fault (Some t) p at = fault_where (not (accepts p t)) (fault Mismatch at)
+given_fault None p pos = None
+given_fault (Some t) p pos = fault_where (not (accepts p t)) (fault Mismatch pos)
 
--- how many left sides there are; a blank one behind another is as if absent
+-- how many left sides there are; a blank one after another is as if absent
 abbrev pub key_count : List Left → ℕ
 key_count (l ∷ blank ∷ []) = 1
 key_count ls = length ls
 
 -- more than one left side
 abbrev pub keys_fault : Pos → Option Ex → Option ℕ → Option Fault
-keys_fault at None n = None
-keys_fault at (Some x) None = None
-keys_fault at (Some x) (Some n) = fault_where (not (nat_le n 1)) (fault ArgCount at)
+keys_fault pos None n = None
+keys_fault pos (Some x) None = None
+keys_fault pos (Some x) (Some n) = fault_where (not (nat_le n 1)) (fault WrongCount pos)
 
 module _ (text : List ℕ) where
   -- ---- headers of `if` and `for`, whose word stands at a place
@@ -59,7 +59,7 @@ module _ (text : List ℕ) where
 
   -- a post statement declares nothing
   abbrev pub PostFails : Scope → Simple → Fault → Type 0
-  PostFails s (tree.define ns at es) f = FormFails (names_place ns at) f
+  PostFails s (tree.define ns pos es) f = FormFails (names_place ns pos) f
   PostFails s m f = FailsInSimple text s m f
 
   abbrev pub FailsInPost : Scope → Option Simple → Fault → Type 0
@@ -67,16 +67,16 @@ module _ (text : List ℕ) where
   FailsInPost s (Some m) f = PostFails s m f
 
   abbrev pub FailsInOver : Scope → Pos → TreeEx → Fault → Type 0
-  FailsInOver s at e f = FailsAsOperand text s e f ⊎ IsFault (over_fault at (first_place e) (operand_in (gives text s e))) f
+  FailsInOver s pos e f = FailsAsOperand text s e f ⊎ IsFault (over_fault pos (first_pos e) (operand_in (gives text s e))) f
 
   abbrev pub GivenFail : Scope → Option ValueType → TreeExs → Fault → Type 0
   GivenFail s t expressions.none f = ⊥
-  GivenFail s t (some e es) f = IsFault (given_fault t (wanted text s (name_in e)) (first_place e)) f ⊎ GivenFail s t es f
+  GivenFail s t (some e es) f = IsFault (given_fault t (wanted text s (name_in e)) (first_pos e)) f ⊎ GivenFail s t es f
 
   abbrev pub TargetsFail : Scope → Option ValueType → Targets → Fault → Type 0
   TargetsFail s t no_targets f = ⊥
-  TargetsFail s t (targets_assigned ls at) f = LeftsFail text s ls f ⊎ GivenFail s t ls f
-  TargetsFail s t (targets_defined ns at) f = EntriesFail text Parameter s (map (slot_with t) ns) f ⊎ IsFault (fault_where (all_blank text ns) (fault NothingNew at)) f
+  TargetsFail s t (targets_assigned ls pos) f = LeftsFail text s ls f ⊎ GivenFail s t ls f
+  TargetsFail s t (targets_defined ns pos) f = EntriesFail text Parameter s (map (slot_with t) ns) f ⊎ IsFault (fault_where (all_blank text ns) (fault NothingNew pos)) f
 
   abbrev pub name_count : List Name → ℕ
   name_count (n ∷ m ∷ []) = if is_blank (spelled text m) then 1 else 2
@@ -85,41 +85,41 @@ module _ (text : List ℕ) where
   -- how many left sides there are, where each has a type
   abbrev pub target_count : Scope → Targets → Option ℕ
   target_count s no_targets = Some 0
-  target_count s (targets_assigned ls at) = option_map key_count (lefts text s ls)
-  target_count s (targets_defined ns at) = Some (name_count ns)
+  target_count s (targets_assigned ls pos) = option_map key_count (lefts text s ls)
+  target_count s (targets_defined ns pos) = Some (name_count ns)
 
   abbrev pub FailsInRange : Scope → Pos → Targets → TreeEx → Fault → Type 0
-  FailsInRange s at t e f =
-      (FailsInOver s at e f ⊎ TargetsFail (opened s) (number_type (over text s e)) t f) ⊎ IsFault (keys_fault at (over text s e) (target_count (opened s) t)) f
+  FailsInRange s pos t e f =
+      (FailsInOver s pos e f ⊎ TargetsFail (opened s) (number_type (over text s e)) t f) ⊎ IsFault (keys_fault pos (over text s e) (target_count (opened s) t)) f
 
   abbrev pub FailsInClause : Scope → Pos → Clause → Fault → Type 0
-  FailsInClause s at forever f = ⊥
-  FailsInClause s at (while_true e) f = FailsInCondition text (opened s) at e f
-  FailsInClause s at (counting init test1 post) f = (FailsInInit s init f ⊎ FailsInTest text (header text s init) at test1 f) ⊎ FailsInPost (header text s init) post f
-  FailsInClause s at (ranging t place e) f = FailsInRange s at t e f
+  FailsInClause s pos forever f = ⊥
+  FailsInClause s pos (while_true e) f = FailsInCondition text (opened s) pos e f
+  FailsInClause s pos (counting init test1 post) f = (FailsInInit s init f ⊎ FailsInTest text (header text s init) pos test1 f) ⊎ FailsInPost (header text s init) post f
+  FailsInClause s pos (ranging t range_pos e) f = FailsInRange s pos t e f
 
   abbrev pub FailsInGuard : Scope → Pos → tree.Guard → Fault → Type 0
-  FailsInGuard s at g f = FailsInInit s g.init f ⊎ FailsInCondition text (header text s g.init) at g.condition f
+  FailsInGuard s pos g f = FailsInInit s g.init f ⊎ FailsInCondition text (header text s g.init) pos g.condition f
 
-  -- ---- a rule fails in a statement, in the scope before it; in one of some statements, in the scope behind those before it
+  -- ---- a rule fails in a statement, in the scope before it; in one of some statements, in the scope after those before it
   module _ (r : Returns) where
     abbrev mutual
       pub FailsInStatement : (looped : Bool) → Scope → Stm → Fault → Type 0
-      FailsInStatement looped s (tree.declare at specs) f = FailsInSpecs text s at specs f
+      FailsInStatement looped s (tree.var_stmt pos specs) f = FailsInSpecs text s pos specs f
       FailsInStatement looped s (tree.simple m) f = FailsInSimple text s m f
       FailsInStatement looped s (tree.block ms) f = FailsInStatements looped (opened s) ms f
-      FailsInStatement looped s (tree.choice at g body rest) f =
-          (FailsInGuard s at g f ⊎ FailsInStatements looped (opened (header text s g.init)) body f) ⊎ FailsInElse looped (closed (behind_all text (opened (header text s g.init)) body)) rest f
-      FailsInStatement looped s (tree.loop at c body) f = FailsInClause s at c f ⊎ FailsInStatements true (opened (clause_scope text s c)) body f
-      FailsInStatement looped s (tree.break_at at) f = IsFault (fault_where (not looped) (fault BreakOutside at)) f
-      FailsInStatement looped s (tree.continue_at at) f = IsFault (fault_where (not looped) (fault BreakOutside at)) f
-      FailsInStatement looped s (tree.give_back at es) f = FailsInEach text s es f ⊎ ReturnFails at r (seen text s es) f
+      FailsInStatement looped s (tree.if_stmt pos g body rest) f =
+          (FailsInGuard s pos g f ⊎ FailsInStatements looped (opened (header text s g.init)) body f) ⊎ FailsInElse looped (closed (behind_all text (opened (header text s g.init)) body)) rest f
+      FailsInStatement looped s (tree.for_stmt pos c body) f = FailsInClause s pos c f ⊎ FailsInStatements true (opened (clause_scope text s c)) body f
+      FailsInStatement looped s (tree.break_stmt pos) f = IsFault (fault_where (not looped) (fault BreakOutside pos)) f
+      FailsInStatement looped s (tree.continue_stmt pos) f = IsFault (fault_where (not looped) (fault BreakOutside pos)) f
+      FailsInStatement looped s (tree.return_stmt pos es) f = FailsInEach text s es f ⊎ ReturnFails pos r (seen text s es) f
 
       pub FailsInElse : (looped : Bool) → Scope → Els → Fault → Type 0
       FailsInElse looped s tree.no_else f = ⊥
       FailsInElse looped s (tree.else_block ms) f = FailsInStatements looped (opened s) ms f
-      FailsInElse looped s (tree.else_if at g body rest) f =
-          (FailsInGuard s at g f ⊎ FailsInStatements looped (opened (header text s g.init)) body f) ⊎ FailsInElse looped (closed (behind_all text (opened (header text s g.init)) body)) rest f
+      FailsInElse looped s (tree.else_if pos g body rest) f =
+          (FailsInGuard s pos g f ⊎ FailsInStatements looped (opened (header text s g.init)) body f) ⊎ FailsInElse looped (closed (behind_all text (opened (header text s g.init)) body)) rest f
 
       pub FailsInStatements : (looped : Bool) → Scope → Stms → Fault → Type 0
       FailsInStatements looped s tree.nil f = ⊥

@@ -6,10 +6,10 @@ use Rattle.syntax.specs.declared.expression.Name.{Name}
 use Rattle.syntax.specs.Expressions.{Ex as TreeEx, spelled}
 use Rattle.syntax.specs.Statements.{Simple, Guard, Targets, no_targets, targets_assigned, targets_defined, Clause, forever, while_true, counting, ranging, Stm, Stms, Els}
 use Rattle.syntax.specs.Statements as tree
-use Rattle.typed.specs.Syntax.{Ex, Left, St, Sts, blank, new, to, over_int, assign, block, choose, loop, range, break_off, go_on, done, next}
+use Rattle.typed_syntax.specs.Syntax.{Ex, Left, St, Sts, blank, new, to, over_int, assign, block, if_stmt, for_stmt, range, break_stmt, continue_stmt, done, next}
 use Rattle.base.specs.declared.value_type.ValueType.{ValueType}
 use Rattle.base.specs.declared.value_type.ValueType.TheVariants.{Int}
-use Rattle.value_types.specs.Given.{allowed}
+use Rattle.type_faults.specs.Given.{allowed}
 use Rattle.base.specs.Types.{same_type}
 use Rattle.operators.specs.Operands.{Operand, type_of, as_value}
 use Rattle.names.specs.Universe.{is_blank}
@@ -25,7 +25,7 @@ use Rattle.simple_statements.specs.SimpleStatements.{Returns, before, returned, 
 abbrev pub alone : St → Sts
 alone t = next t done
 
--- a statement behind the init statement of its header, in the block around both
+-- a statement after the init statement of its header, in the block around both
 abbrev pub headed : Option St → St → St
 headed None t = t
 headed (Some i) t = block (next i (next t done))
@@ -47,7 +47,7 @@ pub record Choice : Type 0 where
   pub condition : Ex
 
 abbrev pub chosen : Choice → Sts → Sts → St
-chosen h a b = headed h.init (choose h.condition a b)
+chosen h a b = headed h.init (if_stmt h.condition a b)
 
 -- the header of a loop, or of one over an int with what gets the number
 pub data Head : Type 0 where
@@ -55,7 +55,7 @@ pub data Head : Type 0 where
   counted : Ex → Left → Head
 
 abbrev pub looped_by : Head → Sts → St
-looped_by (repeated init test1 post) body = headed init (loop (declared_in init) test1 post body)
+looped_by (repeated init test1 post) body = headed init (for_stmt (declared_in init) test1 post body)
 looped_by (counted e key) body = range (over_int e) key blank body
 
 abbrev pub choice_of : Option Choice → Option Sts → Option Sts → Option St
@@ -70,7 +70,7 @@ choice_head i c = option_and_then (λ h. option_map (λ x. record { init = h; co
 abbrev pub loop_head : Option (Option St) → Option (Option Ex) → Option Sts → Option Head
 loop_head i c post = option_and_then (λ h. option_and_then (λ x. option_map (repeated h x) post) c) i
 
--- what gets the number of a `range`: one left side at most, and a blank one behind it is as if absent
+-- what gets the number of a `range`: one left side at most, and a blank one after it is as if absent
 abbrev pub key_of : List Left → Option Left
 key_of [] = Some blank
 key_of (l ∷ []) = Some l
@@ -100,24 +100,24 @@ abbrev pub init_in : Clause → Option Simple
 init_in forever = None
 init_in (while_true e) = None
 init_in (counting init test1 post) = init
-init_in (ranging t at e) = None
+init_in (ranging t pos e) = None
 
 abbrev pub post_in : Clause → Option Simple
 post_in forever = None
 post_in (while_true e) = None
 post_in (counting init test1 post) = post
-post_in (ranging t at e) = None
+post_in (ranging t pos e) = None
 
 -- the new variables of a `range`
 abbrev pub target_slots : Option ValueType → Targets → List Slot
 target_slots t no_targets = []
-target_slots t (targets_assigned ls at) = []
-target_slots t (targets_defined ns at) = map (slot_with t) ns
+target_slots t (targets_assigned ls pos) = []
+target_slots t (targets_defined ns pos) = map (slot_with t) ns
 
 module _ (text : List ℕ) where
   -- ---- headers of `if` and `for`
 
-  -- the block of a header, behind its init statement
+  -- the block of a header, after its init statement
   abbrev pub header : Scope → Option Simple → Scope
   header s None = opened s
   header s (Some m) = behind_simple text (opened s) m
@@ -128,16 +128,16 @@ module _ (text : List ℕ) where
 
   -- a post statement declares nothing
   abbrev pub post_simple : Scope → Simple → Option St
-  post_simple s (tree.define ns at es) = None
+  post_simple s (tree.define ns pos es) = None
   post_simple s m = simple_statement text s m
 
   abbrev pub post_statement : Scope → Option Simple → Option Sts
   post_statement s None = Some done
   post_statement s (Some m) = option_map alone (post_simple s m)
 
-  -- behind it
+  -- after it
   abbrev pub behind_post_simple : Scope → Simple → Scope
-  behind_post_simple s (tree.define ns at es) = s
+  behind_post_simple s (tree.define ns pos es) = s
   behind_post_simple s m = behind_simple text s m
 
   abbrev pub behind_post : Scope → Option Simple → Scope
@@ -157,39 +157,39 @@ module _ (text : List ℕ) where
 
   abbrev pub target_lefts : Scope → Option ValueType → Targets → Option (List Left)
   target_lefts s t no_targets = Some []
-  target_lefts s t (targets_assigned ls at) = allowed (all_accept t (all_wanted text s ls)) (lefts text s ls)
-  target_lefts s t (targets_defined ns at) = allowed (not (all_blank ns)) (option_map (map entry_left) (entries text Parameter s (map (slot_with t) ns)))
+  target_lefts s t (targets_assigned ls pos) = allowed (all_accept t (all_wanted text s ls)) (lefts text s ls)
+  target_lefts s t (targets_defined ns pos) = allowed (not (all_blank ns)) (option_map (map entry_left) (entries text Parameter s (map (slot_with t) ns)))
 
-  -- the scope of a loop's body, around its block: behind the header
+  -- the scope of a loop's body, around its block: after the header
   abbrev pub clause_scope : Scope → Clause → Scope
   clause_scope s forever = opened s
   clause_scope s (while_true e) = opened s
   clause_scope s (counting init test1 post) = behind_post (header s init) post
-  clause_scope s (ranging t at e) = behind_entries text (opened s) (target_slots (number_type (over s e)) t)
+  clause_scope s (ranging t pos e) = behind_entries text (opened s) (target_slots (number_type (over s e)) t)
 
   abbrev pub clause_head : Scope → Clause → Option Head
   clause_head s forever = Some (repeated None None done)
   clause_head s (while_true e) = loop_head (Some None) (option_map Some (condition text (opened s) e)) (Some done)
   clause_head s (counting init test1 post) = loop_head (init_statement s init) (test text (header s init) test1) (post_statement (header s init) post)
-  clause_head s (ranging t at e) = range_head (over s e) (target_lefts (opened s) (number_type (over s e)) t)
+  clause_head s (ranging t pos e) = range_head (over s e) (target_lefts (opened s) (number_type (over s e)) t)
 
-  -- ---- the scope behind a statement
+  -- ---- the scope after a statement
 
   abbrev mutual
     pub behind : Scope → Stm → Scope
-    behind s (tree.declare at specs) = behind_specs text s specs
+    behind s (tree.var_stmt pos specs) = behind_specs text s specs
     behind s (tree.simple m) = behind_simple text s m
     behind s (tree.block ms) = closed (behind_all (opened s) ms)
-    behind s (tree.choice at g body rest) = closed (behind_else (closed (behind_all (opened (header s g.init)) body)) rest)
-    behind s (tree.loop at c body) = closed (closed (behind_all (opened (clause_scope s c)) body))
-    behind s (tree.break_at at) = s
-    behind s (tree.continue_at at) = s
-    behind s (tree.give_back at es) = s
+    behind s (tree.if_stmt pos g body rest) = closed (behind_else (closed (behind_all (opened (header s g.init)) body)) rest)
+    behind s (tree.for_stmt pos c body) = closed (closed (behind_all (opened (clause_scope s c)) body))
+    behind s (tree.break_stmt pos) = s
+    behind s (tree.continue_stmt pos) = s
+    behind s (tree.return_stmt pos es) = s
 
     pub behind_else : Scope → Els → Scope
     behind_else s tree.no_else = s
     behind_else s (tree.else_block ms) = closed (behind_all (opened s) ms)
-    behind_else s (tree.else_if at g body rest) = closed (behind_else (closed (behind_all (opened (header s g.init)) body)) rest)
+    behind_else s (tree.else_if pos g body rest) = closed (behind_else (closed (behind_all (opened (header s g.init)) body)) rest)
 
     pub behind_all : Scope → Stms → Scope
     behind_all s tree.nil = s
@@ -200,22 +200,22 @@ module _ (text : List ℕ) where
   module _ (r : Returns) where
     abbrev mutual
       pub statement : (looped : Bool) → Scope → Stm → Option Sts
-      statement looped s (tree.declare at specs) = spec_statements text s specs
+      statement looped s (tree.var_stmt pos specs) = spec_statements text s specs
       statement looped s (tree.simple m) = option_map alone (simple_statement text s m)
       statement looped s (tree.block ms) = option_map (λ b. alone (block b)) (statements looped (opened s) ms)
-      statement looped s (tree.choice at g body rest) =
+      statement looped s (tree.if_stmt pos g body rest) =
           option_map alone
           (choice_of (guard_head s g) (statements looped (opened (header s g.init)) body) (alternative looped (closed (behind_all (opened (header s g.init)) body)) rest))
-      statement looped s (tree.loop at c body) = option_map alone (loop_of (clause_head s c) (statements true (opened (clause_scope s c)) body))
-      statement looped s (tree.break_at at) = allowed looped (Some (alone break_off))
-      statement looped s (tree.continue_at at) = allowed looped (Some (alone go_on))
-      statement looped s (tree.give_back at es) = option_map alone (returned r (seen text s es))
+      statement looped s (tree.for_stmt pos c body) = option_map alone (loop_of (clause_head s c) (statements true (opened (clause_scope s c)) body))
+      statement looped s (tree.break_stmt pos) = allowed looped (Some (alone break_stmt))
+      statement looped s (tree.continue_stmt pos) = allowed looped (Some (alone continue_stmt))
+      statement looped s (tree.return_stmt pos es) = option_map alone (returned r (seen text s es))
 
       -- what is done where the condition is false
       pub alternative : (looped : Bool) → Scope → Els → Option Sts
       alternative looped s tree.no_else = Some done
       alternative looped s (tree.else_block ms) = statements looped (opened s) ms
-      alternative looped s (tree.else_if at g body rest) =
+      alternative looped s (tree.else_if pos g body rest) =
           option_map alone
           (choice_of (guard_head s g) (statements looped (opened (header s g.init)) body) (alternative looped (closed (behind_all (opened (header s g.init)) body)) rest))
 

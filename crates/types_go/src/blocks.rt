@@ -3,30 +3,30 @@
 ghost use Rattle.std.specs.Prelude.{◌≡◌, ◌<◌, ◌⊎◌, Option, Some, None, IfOk, OnOk, map, length, not, [], ◌∷◌, ◌++◌};
 ghost use Rattle.std.specs.Option.{option_map};
 ghost use Rattle.syntax.specs.Statements.{guard_of, clause_of, stm_of, stms_of, els_of};
-ghost use Rattle.typed.specs.Syntax.{block, break_off, go_on};
+ghost use Rattle.typed_syntax.specs.Syntax.{block, break_stmt, continue_stmt};
 ghost use Rattle.typed.specs.View.{ex_of, st_of, sts_of, site_numbers, left_of as left_view};
-ghost use Rattle.value_types.specs.Least.{IsLeast, lesser};
-ghost use Rattle.value_types.specs.Given.{allowed};
-ghost use Rattle.value_types.specs.Faults.{fault as fault_at, IsFault};
-ghost use Rattle.value_types.specs.declared.fault.FaultKind.TheVariants.{BreakOutside as Outside};
+ghost use Rattle.type_faults.specs.Least.{IsLeast, lesser};
+ghost use Rattle.type_faults.specs.Given.{allowed};
+ghost use Rattle.type_faults.specs.Faults.{fault as fault_at, IsFault};
+ghost use Rattle.type_faults.specs.declared.fault.FaultKind.TheVariants.{BreakOutside as Outside};
 ghost use Rattle.names.specs.Scope.{scope_of, opened, closed};
 ghost use Rattle.simple_statements.specs.SimpleStatements.{returns_view, before};
 ghost use Rattle.types_go.specs.Statements.{alone, headed, new_in, declared_in, chosen, looped_by, choice_of, loop_of, statement, alternative, statements, behind, behind_else, behind_all};
 ghost use Rattle.signatures.specs.Failing.{fault_where};
 ghost use Rattle.types_go.specs.StatementFaults.{FailsInStatement, FailsInElse, FailsInStatements};
-ghost use Rattle.types_go.specs.Passing.{choice_view, head_view, with_more};
+ghost use Rattle.types_go.specs.StatementPassing.{choice_view, head_view, with_more};
 
 use crate::heads::{Choice, Guarded, Head, Headed, alone, check_clause, check_guard};
 use base::{NoMemory, Pos, SiteId};
-use names::{Scope, close, open};
+use names::Scope;
 use signatures::fault_where;
 use simple_statements::{Line, Lines, Returns, check_return, check_simple, check_var};
 use std::alloc::Global;
 use syntax::{Clause, Else, Guard, Stmt};
+use type_faults::{Fault, FaultKind, lesser};
 use typed::Left;
-use value_types::{Fault, FaultKind, lesser};
 
-/// More statements behind those that have typed forms.
+/// More statements after those that have typed forms.
 fn with_statements(
     statements: Option<Vec<typed::Stmt>>,
     more: Option<Vec<typed::Stmt>>,
@@ -77,7 +77,7 @@ fn declared_in(alloc: Global, init: &Option<typed::Stmt>) -> Result<Vec<SiteId>,
     }
 }
 
-/// A statement behind the init statement of its header, in the block around both.
+/// A statement after the init statement of its header, in the block around both.
 #[tactic(auto, using(typed::proofs::Rows::stmt_rows))]
 fn headed(
     alloc: Global,
@@ -121,7 +121,7 @@ fn looped_by(alloc: Global, head: Head, body: Vec<typed::Stmt>) -> Result<typed:
                 drop(test);
                 return Err(NoMemory);
             };
-            headed(alloc, init, typed::Stmt::Loop(sites, test, post, body))
+            headed(alloc, init, typed::Stmt::For(sites, test, post, body))
         }
         Head::Counted(e, key) => Ok(typed::Stmt::Count(e, key, body)),
     }
@@ -242,7 +242,7 @@ fn check_jump(
     })
 }
 
-/// A statement; `looped` where a loop is around it. The scope becomes the one behind it.
+/// A statement; `looped` where a loop is around it. The scope becomes the one after it.
 #[cycle(statements)]
 #[tactic(auto, using(syntax::proofs::Views::stmt_rows))]
 fn check_stmt(
@@ -271,13 +271,13 @@ fn check_stmt(
             let head = check_guard(alloc, text, scope, *pos, guard)?;
             let body = check_inner(alloc, text, returns, looped, scope, body)?;
             let rest = check_else(alloc, text, returns, looped, scope, rest)?;
-            close(scope);
+            scope.close();
             choice(alloc, head, body, rest)
         }
         Stmt::For(pos, clause, body) => {
             let head = check_clause(alloc, text, scope, *pos, clause)?;
             let body = check_inner(alloc, text, returns, true, scope, body)?;
-            close(scope);
+            scope.close();
             repeated(alloc, head, body)
         }
         Stmt::Return(pos, es) => {
@@ -290,7 +290,7 @@ fn check_stmt(
     }
 }
 
-/// What stands behind the body of an `if`.
+/// What stands after the body of an `if`.
 #[cycle(statements)]
 #[tactic(auto, using(syntax::proofs::Views::stmt_rows))]
 fn check_else(
@@ -317,7 +317,7 @@ fn check_else(
             let head = check_guard(alloc, text, scope, *pos, guard)?;
             let body = check_inner(alloc, text, returns, looped, scope, body)?;
             let rest = check_else(alloc, text, returns, looped, scope, rest)?;
-            close(scope);
+            scope.close();
             choice(alloc, head, body, rest)
         }
     }
@@ -338,9 +338,9 @@ fn check_inner(
     ensures fault { IfOk result (λ c. IsLeast (FailsInStatements text.now (returns_view returns.now) looped (opened (scope_of scope.old)) (stms_of ms.now)) c.fault) }
     ensures scope { OnOk result (scope_of scope.new ≡ closed (behind_all text.now (opened (scope_of scope.old)) (stms_of ms.now))) }
 {
-    open(scope)?;
+    scope.open()?;
     let lines = check_stmts(alloc, text, returns, looped, scope, ms)?;
-    close(scope);
+    scope.close();
     Ok(lines)
 }
 

@@ -1,57 +1,45 @@
 //! Functions: their heads, their parts, and the end of their bodies; and the package variables between them.
 
-ghost use Rattle.std.specs.Prelude.{◌≡◌, ◌<◌, ◌⊎◌, ℕ, Option, Some, None, IfOk, OnOk, List, map, length, is_some, not, ◌-◌, ◌++◌, ◌∷◌, [], ◌&&◌, ◌||◌, ◌==◌, nat_lt, option_and_then, if◌then◌else◌};
+ghost use Rattle.std.specs.Prelude.{◌≡◌, ◌<◌, ◌⊎◌, Option, Some, None, IfOk, OnOk, List, map, length, ◌-◌, ◌++◌, ◌&&◌, ◌||◌, ◌==◌};
 ghost use Rattle.std.specs.Option.{option_map};
-ghost use Rattle.std.specs.Str.{bytes_eq};
 ghost use Rattle.base.specs.declared.pos.Pos.{Pos as Place};
 ghost use Rattle.syntax.specs.Expressions.{ex_of, spelled};
 ghost use Rattle.syntax.specs.Declarations.{parameters_of, body_of, function_of};
-ghost use Rattle.typed.specs.View.{site_in, func_of, sts_of, value_of, global_of};
-ghost use Rattle.typed.specs.Syntax.{type_in};
+ghost use Rattle.typed.specs.View.{func_of, value_of, global_of};
 ghost use Rattle.typed.specs.Trees.{trees};
-ghost use Rattle.value_trees.specs.Types.{ValueType as TypeTree};
-ghost use Rattle.value_types.specs.Least.{IsLeast};
-ghost use Rattle.value_types.specs.Given.{allowed};
-ghost use Rattle.value_types.specs.Faults.{fault as fault_at, IsFault};
-ghost use Rattle.value_types.specs.declared.fault.FaultKind.TheVariants.{TooLarge};
+ghost use Rattle.typed_syntax.specs.Types.{TypeTree};
+ghost use Rattle.type_faults.specs.Least.{IsLeast};
+ghost use Rattle.type_faults.specs.Given.{allowed};
 ghost use Rattle.names.specs.Universe.{is_blank};
-ghost use Rattle.names.specs.Scope.{scope_of, declaration, is_here, fixed, with_site};
-ghost use Rattle.value_types.specs.Given.{with_last};
-ghost use Rattle.types_go.specs.Passing.{assembled, IsAt, AreAt, member_views};
+ghost use Rattle.names.specs.Scope.{scope_of, fixed, with_site};
+ghost use Rattle.type_faults.specs.Given.{with_last};
+ghost use Rattle.function_heads.specs.Assembled.{IsAt};
+ghost use Rattle.types_go.specs.Passing.{AreAt, member_views};
 ghost use Rattle.package_values.specs.Passing.{item_of};
 ghost use Rattle.signatures.specs.Failing.{fault_where};
 ghost use Rattle.simple_statements.specs.SimpleStatements.{returns_view};
-ghost use Rattle.signatures.specs.Signatures.{may_be_named, is_named, is_external, params_of, signature_in, is_small};
-ghost use Rattle.types_go.specs.Functions.{number_or_int, slot_number, slot_tree, returns_of, may_end, function_head, parts, function_with, function, functions_of, type_or_int, int_in, truth_in, first_value, behind_variable, initial, globals_of, functions, globals, behind_body, behind_function, behind_members};
-ghost use Rattle.signatures.specs.SignatureFaults.{function_name_fault};
-ghost use Rattle.types_go.specs.FunctionFaults.{FailsInHead, FailsInTypes, FailsInParts, FailsWith, FailsInFunction, FailsInFunctions, external_fault};
+ghost use Rattle.signatures.specs.Signatures.{is_named};
+ghost use Rattle.types_go.specs.Functions.{returns_of, may_end, parts, function_with, function, functions_of, type_or_int, int_in, truth_in, first_value, behind_variable, initial, globals_of, functions, globals, behind_body, behind_function, behind_members};
+ghost use Rattle.function_heads.specs.HeadFaults.{FailsInHead, external_fault};
+ghost use Rattle.types_go.specs.FunctionFaults.{FailsInParts, FailsWith, FailsInFunction, FailsInFunctions};
 
 use crate::blocks::check_stmts;
 use crate::members::Member;
-use base::{NoMemory, Pos, SiteId, TypeId, ValueType};
+use base::{NoMemory, ValueType};
+use constants::{Constant, Fixed, constant_type, int_constant};
 use expression_types::check_expr;
-use names::{
-    Scope, ValueId, add_site, close, declaration, fixed, is_blank, next_site, open, site_count,
-    spelled, type_id,
-};
+use function_heads::{assemble, check_head, check_types, external_fault};
+use names::{Scope, ValueId, is_blank, spelled};
 use package_values::{Item, constant_in};
 use signatures::{
-    Role, Slot, check_entries, fault_where, function_name_fault, has_some, is_external, is_named,
-    is_small, may_be_named, signature_in, sites_of, size_fault, slot_types, slots_of, types_fault,
+    Role, Slot, check_entries, fault_where, has_some, is_named, slot_types, slots_of,
 };
 use simple_statements::Returns;
 use std::alloc::Global;
-use syntax::{Body, Expr, Func, Name, Params};
+use syntax::{Body, Expr, Func, Params};
 use terminating::ends_in_terminating;
-use typed::{Const, INT, PackageVariable, TypeTable};
-use value_types::{Constant, Fault, FaultKind, Fixed, constant_type, int_constant, lesser};
-
-/// What is known of a part of a function: whether it is as it must be, and the fault.
-#[derive(Clone, Copy, Debug, PartialEq, Eq)]
-pub struct Part {
-    pub is_allowed: bool,
-    pub fault: Option<Fault>,
-}
+use type_faults::{Fault, FaultKind, lesser};
+use typed::{Const, PackageVariable};
 
 /// What is known of a function: its typed form, and the fault that is reported of it.
 #[derive(Drop)]
@@ -86,132 +74,6 @@ fn may_end(text: &[u8], heads: &Scope, scope: &Scope, f: &Func, body: &Body) -> 
     !has_some(&f.results) || ends_in_terminating(text, scope, &body.statements)
 }
 
-/// The fault of the name of a function of a number.
-#[tactic(auto, using(value_types::proofs::Leasts::leaf))]
-fn name_fault(text: &[u8], scope: &Scope, number: usize, name: Name) -> Option<Fault>
-    ensures { IsLeast (IsFault (function_name_fault number (is_blank (spelled text.now name)) (declaration (scope_of scope.now) (spelled text.now name)) name.pos)) result }
-{
-    let bytes = spelled(text, name);
-    function_name_fault(number, is_blank(bytes), declaration(scope, bytes), name.pos)
-}
-
-/// The fault of a function behind too many others.
-#[tactic(auto, using(value_types::proofs::Leasts::leaf))]
-fn number_fault(number: usize, pos: Pos) -> Option<Fault>
-    ensures { IsLeast (IsFault (fault_where (not (nat_lt number 4096)) (fault_at TooLarge pos))) result }
-{
-    let own = Fault {
-        kind: FaultKind::TooLarge,
-        pos,
-    };
-    fault_where(!(number < 4096), own)
-}
-
-fn has_head(text: &[u8], scope: &Scope, number: usize, name: Name) -> bool
-    ensures { result ≡ (may_be_named number (is_blank (spelled text.now name)) (declaration (scope_of scope.now) (spelled text.now name)) && nat_lt number 4096) }
-{
-    let bytes = spelled(text, name);
-    may_be_named(number, is_blank(bytes), declaration(scope, bytes)) && number < 4096
-}
-
-/// The name and the number of a function.
-fn check_head(text: &[u8], scope: &Scope, number: usize, f: &Func) -> Part
-    ensures is_allowed { result.is_allowed ≡ function_head text.now (scope_of scope.now) number (function_of f.now) }
-    ensures fault { IsLeast (FailsInHead text.now (scope_of scope.now) number (function_of f.now)) result.fault }
-{
-    Part {
-        is_allowed: has_head(text, scope, number, f.name),
-        fault: lesser(
-            name_fault(text, scope, number, f.name),
-            number_fault(number, f.name.pos),
-        ),
-    }
-}
-
-/// The types of a function's parameters and results, and their words.
-fn check_types(alloc: Global, text: &[u8], heads: &Scope, f: &Func) -> Result<Part, NoMemory>
-    ensures is_allowed { IfOk result (λ p. p.is_allowed ≡ is_small (scope_of heads.now).types (signature_in text.now (scope_of heads.now) (function_of f.now))) }
-    ensures fault { IfOk result (λ p. IsLeast (FailsInTypes text.now (scope_of heads.now) (function_of f.now)) p.fault) }
-{
-    let params_fault = types_fault(text, heads, &f.params);
-    let results_fault = types_fault(text, heads, &f.results);
-    let signature = signature_in(alloc, text, heads, f)?;
-    let own = size_fault(&heads.types, &signature, f.name.pos);
-    Ok(Part {
-        is_allowed: is_small(&heads.types, &signature),
-        fault: lesser(lesser(params_fault, results_fault), own),
-    })
-}
-
-/// The number of a type, where that is known.
-fn number_or_int(types: &TypeTable, value_type: Option<ValueType>) -> TypeId
-    ensures { result.0 ≡ number_or_int types.now value_type }
-{
-    match value_type {
-        Some(value_type) => type_id(types, value_type),
-        None => INT,
-    }
-}
-
-/// The numbers of the types of parameters or results.
-fn type_numbers(alloc: Global, types: &TypeTable, slots: &[Slot]) -> Result<Vec<TypeId>, NoMemory>
-    ensures numbers { IfOk result (λ v. map (λ t. t.0) v.items ≡ map (slot_number types.now) slots.now) }
-    ensures trees { IfOk result (λ v. map (λ t. type_in (trees types.now) t.0) v.items ≡ map (slot_tree types.now) slots.now) }
-{
-    let mut numbers = Vec::new(alloc);
-    for slot in slots {
-        numbers.push(number_or_int(types, slot.value_type))?;
-    }
-    Ok(numbers)
-}
-
-fn number_of(count: usize) -> Result<u32, NoMemory>
-    ensures { IfOk result (λ n. n ≡ count) }
-{
-    match u32::try_from(count) {
-        Ok(number) => Ok(number),
-        Err(_) => Err(NoMemory),
-    }
-}
-
-/// A function with a name at a place of its parts, with sites from one number on and before another.
-fn assemble(
-    alloc: Global,
-    types: &TypeTable,
-    pos: Pos,
-    param_slots: &[Slot],
-    result_slots: &[Slot],
-    first: usize,
-    behind: usize,
-    params: Option<Vec<Option<SiteId>>>,
-    results: Option<Vec<Option<SiteId>>>,
-    body: Option<Vec<typed::Stmt>>,
-) -> Result<Option<typed::Func>, NoMemory>
-    ensures func { IfOk result (λ r. option_map (func_of (trees types.now)) r ≡ assembled types.now param_slots.now result_slots.now first behind (option_map (λ v. map site_in v.items) params) (option_map (λ v. map site_in v.items) results) (option_map (λ v. sts_of v.items) body)) }
-    ensures pos { IfOk result (λ r. IsAt pos r) }
-{
-    match (params, results, body) {
-        (Some(params), Some(results), Some(body)) => {
-            let first_site = number_of(first)?;
-            let sites = number_of(behind.saturating_sub(first))?;
-            let named = sites_of(alloc, &results)?;
-            let param_types = type_numbers(alloc, types, param_slots)?;
-            let results = type_numbers(alloc, types, result_slots)?;
-            Ok(Some(typed::Func {
-                pos,
-                first_site,
-                sites,
-                params,
-                param_types,
-                results,
-                named,
-                body,
-            }))
-        }
-        _ => Ok(None),
-    }
-}
-
 /// The parameters, results and statements of a function.
 fn check_parts(
     alloc: Global,
@@ -227,15 +89,15 @@ fn check_parts(
     ensures fault { IfOk result (λ r. IsLeast (FailsInParts text.now (scope_of heads.now) (scope_of scope.old) (function_of f.now) (body_of body.now)) r.fault) }
     ensures scope { OnOk result (scope_of scope.new ≡ behind_body text.now (scope_of heads.now) (scope_of scope.old) (function_of f.now) (Some (body_of body.now))) }
 {
-    let first = site_count(scope);
+    let first = scope.site_count();
     let param_slots = slots_of(alloc, text, heads, &f.params)?;
     let result_slots = slots_of(alloc, text, heads, &f.results)?;
     let returns = returns_of(alloc, &f.results, &result_slots)?;
-    open(scope)?;
+    scope.open()?;
     let params = check_entries(alloc, text, scope, Role::Parameter, &param_slots)?;
     let results = check_entries(alloc, text, scope, Role::Result, &result_slots)?;
     let lines = check_stmts(alloc, text, &returns, false, scope, &body.statements)?;
-    close(scope);
+    scope.close();
     let fault = lesser(lesser(params.fault, results.fault), lines.fault);
     let func = assemble(
         alloc,
@@ -244,7 +106,7 @@ fn check_parts(
         &param_slots,
         &result_slots,
         first,
-        site_count(scope),
+        scope.site_count(),
         params.entries,
         results.entries,
         lines.statements,
@@ -289,16 +151,6 @@ fn check_with_body(
         func: func_where(head.is_allowed, types.is_allowed, ends, parts.func),
         fault: lesser(head_fault, body_fault),
     })
-}
-
-/// The fault of a function without a body.
-fn external_fault(f: &Func) -> Fault
-    ensures { result ≡ external_fault (function_of f.now) }
-{
-    Fault {
-        kind: FaultKind::BadExternal,
-        pos: f.name.pos,
-    }
 }
 
 /// A function without a body, by its number.
@@ -423,17 +275,17 @@ fn check_named(
     ensures scope { OnOk result (scope_of scope.new ≡ with_site (scope_of scope.old) (type_or_int (fixed (scope_of scope.old) number.0)) item.now.name.pos) }
     ensures global { IfOk result (λ g. (types : List TypeTree) → global_of types g ≡ (length (scope_of scope.old).sites, first_value (type_or_int (fixed (scope_of scope.old) number.0)) (initial text.now (scope_of scope.old) (item_of item.now).value))) }
 {
-    let value_type = type_or_int(fixed(scope, number));
+    let value_type = type_or_int(scope.fixed(number));
     let initial = initial(alloc, text, scope, item.value)?;
-    let site = next_site(scope)?;
-    add_site(scope, value_type, item.name.pos)?;
+    let site = scope.next_site()?;
+    scope.add_site(value_type, item.name.pos)?;
     Ok(PackageVariable {
         site,
         value: Some(first_value(value_type, initial)),
     })
 }
 
-/// A package variable by its number, behind others.
+/// A package variable by its number, after others.
 fn check_variable(
     alloc: Global,
     text: &[u8],

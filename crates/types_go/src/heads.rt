@@ -3,12 +3,12 @@
 ghost use Rattle.std.specs.Prelude.{◌≡◌, ◌⊎◌, Option, Some, None, IfOk, OnOk, List, map, length, not, ◌&&◌, option_and_then, if◌then◌else◌};
 ghost use Rattle.std.specs.Option.{option_map};
 ghost use Rattle.syntax.specs.Expressions.{ex_of as tree_of, exs_of as trees_of, spelled};
-ghost use Rattle.syntax.specs.FirstBytes.{first_place};
+ghost use Rattle.syntax.specs.FirstBytes.{first_pos};
 ghost use Rattle.syntax.specs.Statements.{simple_of, simple_in, guard_of, targets_of, targets_assigned, targets_defined, while_true, clause_of};
 ghost use Rattle.typed.specs.View.{ex_of, left_of as left_view, test_of, st_of, sts_of};
-ghost use Rattle.value_types.specs.Least.{IsLeast};
-ghost use Rattle.value_types.specs.Given.{allowed};
-ghost use Rattle.value_types.specs.Faults.{fault as fault_at, IsFault};
+ghost use Rattle.type_faults.specs.Least.{IsLeast};
+ghost use Rattle.type_faults.specs.Given.{allowed};
+ghost use Rattle.type_faults.specs.Faults.{fault as fault_at, IsFault};
 ghost use Rattle.operators.specs.Passing.{operand_of};
 ghost use Rattle.names.specs.Universe.{is_blank};
 ghost use Rattle.names.specs.Scope.{scope_of, opened};
@@ -18,18 +18,18 @@ ghost use Rattle.signatures.specs.Entries.{slot_with, behind_entries};
 ghost use Rattle.simple_statements.specs.SimpleStatements.{all_wanted, wanted};
 ghost use Rattle.types_go.specs.Statements.{alone, key_of, range_head, as_int, number_type, over, all_accept, all_blank, target_slots, target_lefts, header, init_statement, post_simple, post_statement, behind_post_simple, behind_post, guard_head, choice_head, loop_head, clause_scope, clause_head};
 ghost use Rattle.types_go.specs.StatementFaults.{over_fault, given_fault, keys_fault, key_count, name_count, target_count, FailsInInit, PostFails, FailsInPost, FailsInOver, GivenFail, TargetsFail, FailsInRange, FailsInClause, FailsInGuard};
-ghost use Rattle.types_go.specs.Passing.{choice_view, head_view};
+ghost use Rattle.types_go.specs.StatementPassing.{choice_view, head_view};
 
 use base::{NoMemory, Pos, ValueType, same_type};
 use expression_types::{Condition, Test, accepts, check_condition, check_single, check_test};
-use names::{Scope, is_blank, name_in, open, spelled};
-use operators::{Operand, as_value, type_of};
+use names::{Scope, is_blank, name_in, spelled};
+use operators::{Operand, as_value, constant_range_fault, type_of};
 use signatures::{Role, check_entries, entry_lefts, fault_where, slots_with};
 use simple_statements::{Line, all_wanted, check_lefts, check_simple, left_out, names_pos, wanted};
 use std::alloc::Global;
 use syntax::{Clause, Expr, Guard, Name, Simple, Targets};
+use type_faults::{Fault, FaultKind, lesser};
 use typed::Left;
-use value_types::{Fault, FaultKind, constant_range_fault, lesser};
 
 /// The header of an `if`: its init statement, where it has one, and its condition.
 #[derive(Drop)]
@@ -101,7 +101,7 @@ fn check_init(
     ensures fault { IfOk result (λ i. IsLeast (FailsInInit text.now (scope_of scope.old) (simple_in init.now)) i.fault) }
     ensures scope { OnOk result (scope_of scope.new ≡ header text.now (scope_of scope.old) (simple_in init.now)) }
 {
-    open(scope)?;
+    scope.open()?;
     match init {
         Some(simple) => {
             let line = check_simple(alloc, text, scope, simple)?;
@@ -130,7 +130,7 @@ fn choice_head(init: Option<Option<typed::Stmt>>, condition: Option<typed::Expr>
     }
 }
 
-/// The header of an `if` whose word stands at a place. Its block is open behind it.
+/// The header of an `if` whose word stands at a place. Its block is open after it.
 pub fn check_guard(
     alloc: Global,
     text: &[u8],
@@ -268,6 +268,7 @@ fn as_int(operand: Operand) -> Option<typed::Expr>
     if same_type(ValueType::Int, type_of(&operand)) {
         as_value(operand)
     } else {
+        drop(operand);
         None
     }
 }
@@ -292,16 +293,16 @@ fn range_fault(operand: &Operand, pos: Pos) -> Option<Fault>
 }
 
 /// The fault of what a `range` whose word stands at a place goes over.
-fn over_fault(pos: Pos, place: Pos, operand: &Option<Operand>) -> Option<Fault>
-    ensures { result ≡ over_fault pos place (option_map operand_of operand.now) }
+fn over_fault(pos: Pos, value_pos: Pos, operand: &Option<Operand>) -> Option<Fault>
+    ensures { result ≡ over_fault pos value_pos (option_map operand_of operand.now) }
 {
     match operand {
         Some(operand) => {
             if same_type(ValueType::Int, type_of(operand)) {
-                range_fault(operand, place)
+                range_fault(operand, value_pos)
             } else {
                 Some(Fault {
-                    kind: FaultKind::BadOperand,
+                    kind: FaultKind::Unfit,
                     pos,
                 })
             }
@@ -396,7 +397,7 @@ fn lefts_where(is_allowed: bool, lefts: Option<Vec<Left>>) -> Option<Vec<Left>>
     if is_allowed { lefts } else { None }
 }
 
-/// How many left sides there are; a blank one behind another is as if absent.
+/// How many left sides there are; a blank one after another is as if absent.
 fn key_count(lefts: &[Left]) -> usize
     ensures { result ≡ key_count (map left_view lefts.now) }
 {
@@ -449,7 +450,7 @@ fn all_blank(text: &[u8], names: &[Name]) -> bool
     all
 }
 
-/// How many names there are; a blank one behind another is as if absent.
+/// How many names there are; a blank one after another is as if absent.
 fn name_count(text: &[u8], names: &[Name]) -> usize
     ensures { result ≡ name_count text.now names.now }
 {
@@ -517,7 +518,7 @@ fn keys_fault(pos: Pos, over: &Option<typed::Expr>, count: Option<usize>) -> Opt
     ensures { result ≡ keys_fault pos (option_map ex_of over.now) count }
 {
     let own = Fault {
-        kind: FaultKind::ArgCount,
+        kind: FaultKind::WrongCount,
         pos,
     };
     match (over, count) {
@@ -526,7 +527,7 @@ fn keys_fault(pos: Pos, over: &Option<typed::Expr>, count: Option<usize>) -> Opt
     }
 }
 
-/// What gets the number: one left side at most, and a blank one behind it is as if absent.
+/// What gets the number: one left side at most, and a blank one after it is as if absent.
 #[tactic(auto, using(crate::proofs::Keys::no_key, crate::proofs::Keys::one_there, crate::proofs::Keys::one_key, crate::proofs::Keys::more_keys))]
 fn key_of(lefts: Vec<Left>) -> Option<Left>
     ensures { option_map left_view result ≡ key_of (map left_view lefts.items) }
@@ -553,7 +554,11 @@ fn range_head(over: Option<typed::Expr>, lefts: Option<Vec<Left>>) -> Option<Hea
 {
     match (over, key_in(lefts)) {
         (Some(over), Some(key)) => Some(Head::Counted(over, key)),
-        _ => None,
+        (over, key) => {
+            drop(over);
+            drop(key);
+            None
+        }
     }
 }
 
@@ -571,7 +576,7 @@ fn check_range(
     ensures scope { OnOk result (scope_of scope.new ≡ behind_entries text.now (opened (scope_of scope.old)) (target_slots (number_type (over text.now (scope_of scope.old) (tree_of e.now))) (targets_of targets.now))) }
 {
     let over = check_over(alloc, text, scope, pos, e)?;
-    open(scope)?;
+    scope.open()?;
     let given = number_type(&over.value);
     let keys = check_targets(alloc, text, scope, given, targets)?;
     let own = keys_fault(pos, &over.value, keys.count);
@@ -593,7 +598,7 @@ fn check_while(
     ensures fault { IfOk result (λ h. IsLeast (FailsInClause text.now (scope_of scope.old) pos (while_true (tree_of e.now))) h.fault) }
     ensures scope { OnOk result (scope_of scope.new ≡ opened (scope_of scope.old)) }
 {
-    open(scope)?;
+    scope.open()?;
     let test = check_condition(alloc, text, scope, pos, e)?;
     Ok(Headed {
         head: loop_head(Some(None), test.value.map(Some), Some(Vec::new(alloc))),
@@ -601,7 +606,7 @@ fn check_while(
     })
 }
 
-/// The header of a `for` whose word stands at a place. Its block is open behind it.
+/// The header of a `for` whose word stands at a place. Its block is open after it.
 pub fn check_clause(
     alloc: Global,
     text: &[u8],
@@ -615,7 +620,7 @@ pub fn check_clause(
 {
     match clause {
         Clause::Forever => {
-            open(scope)?;
+            scope.open()?;
             Ok(Headed {
                 head: Some(Head::Repeated(None, None, Vec::new(alloc))),
                 fault: None,

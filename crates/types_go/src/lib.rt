@@ -2,7 +2,7 @@
 //!
 //! First the names of the package are noted and its block is declared, its constants get their values and its variables their types. Then
 //! its functions and variables are gone through once, in the order of the text; the statements of a function are checked one after the other,
-//! each in the scope behind those before it. All rules are looked at, also behind one that failed, but never one whose operands gave nothing;
+//! each in the scope after those before it. All rules are looked at, also after one that failed, but never one whose operands gave nothing;
 //! of those that fail the one that stands first is reported. A form that is left out of the language fails at its first byte. `readInt` and
 //! `exit`, which have no body, are no functions of the typed program.
 //!
@@ -18,4 +18,4 @@ mod heads;
 mod members;
 
 pub use checking::check;
-pub use value_types::{Fault, FaultKind, TypeFault};
+pub use type_faults::{Fault, FaultKind, TypeFault};

@@ -39,7 +39,7 @@ fn add_variables<'a>(
     Ok(())
 }
 
-/// The variables of a declaration, behind the constants and variables so far.
+/// The variables of a declaration, after the constants and variables so far.
 fn add_declared<'a>(
     members: &mut Vec<Member<'a>>,
     items: &mut Vec<Item<'a>>,
@@ -71,7 +71,7 @@ fn add_function<'a>(
     Ok(())
 }
 
-/// What a declaration has, behind the constants and variables so far.
+/// What a declaration has, after the constants and variables so far.
 fn add_members<'a>(
     alloc: Global,
     text: &[u8],

@@ -31,7 +31,7 @@ impl Model for CleanSink {
 }
 
 impl CleanSink {
-    /// A sink with room for so many bytes.
+    /// A sink with room for `room` bytes.
     pub fn new(alloc: Global, room: u64) -> Result<CleanSink, NoMemory>
         ensures { IfOk result (λ s. s ≡ record { taken = Some []; number = 0; room = room }) }
     {
@@ -43,7 +43,7 @@ impl CleanSink {
         })
     }
 
-    /// The bytes taken, where they fit the room; else those taken before the first that did not.
+    /// The bytes taken, as long as they are told. Once a piece did not fit the room, nothing is said of the answer.
     pub fn bytes(&self) -> &[u8]
         ensures { IfSome self.now.taken (λ bytes. result.now ≡ bytes) }
     {

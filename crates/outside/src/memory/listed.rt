@@ -81,8 +81,8 @@ impl Source for MemSource {
     }
 }
 
-/// A sink in memory. The listed calls fail, counted from 1, and so does one whose growth is refused. A write of an
-/// empty piece is not counted.
+/// A sink in memory. The listed calls fail, counted from 1. Another call may fail too, where the growth of its bytes is
+/// refused; it counts as a fault like a listed one. A write of an empty piece is not counted.
 #[derive(Drop)]
 pub struct MemSink {
     bytes: Vec<u8>,

@@ -12,7 +12,8 @@ use std::alloc::Global;
 use std::marker::Model;
 
 /// Files in memory. The listed calls fail, counted from 1. So does a read of a path that is not held, or whose content
-/// is longer than `MAX_FILE_LEN`.
+/// is longer than `MAX_FILE_LEN`. Any call may fail with `NoMemory`, where memory is refused: it is counted, and is not
+/// among the failed calls that are told.
 #[derive(Drop)]
 pub struct MemFiles {
     held: Vec<(String, Vec<u8>)>,

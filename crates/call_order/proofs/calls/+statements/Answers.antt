@@ -1,7 +1,7 @@
 use Rattle.std.proofs.Common.{◌≡◌, [], ◌∷◌, ◌++◌, arith}
 use Rattle.std.proofs.lemmas.Result.{on_ok_weaker}
 use Rattle.typed.proofs.Rows.{stmt_rows}
-use Rattle.typed.specs.Syntax.{blank}
+use Rattle.typed_syntax.specs.Syntax.{blank}
 use Rattle.typed.specs.View.{ex_of, left_of, test_of, st_of, sts_of}
 use Rattle.call_order.specs.Lists.{called, called_in_lefts, called_in_test, called_by, called_by_all}
 use Rattle.call_order.proofs.Chained.{two_lists, three_lists}
@@ -17,15 +17,15 @@ add_stmt-returns-in_ok-add_stmts-in-If t c =
     let third = rw c.deref-in-If-2.ensures.value at c.add_stmts-in-If-2.ensures in
     on_ok_weaker c.add_stmts-in-If-2.result (λ last. three_lists c.args.calls.now.items c.add_expr.new.calls.items c.add_stmts-in-If.new.calls.items c.add_stmts-in-If-2.new.calls.items e a b (called_by (st_of c.args.s.now)) c.in_ok-add_expr-in-If.ensures second last whole) third
 
-pub add_stmt-returns-in_ok-add_stmts-in-Loop : goal.add_stmt-returns-in_ok-add_stmts-in-Loop
-add_stmt-returns-in_ok-add_stmts-in-Loop t c =
-    let test = called_in_test (test_of c.in-Loop.test) in
-    let post = called_by_all (sts_of c.in-Loop.post.items) in
-    let body = called_by_all (sts_of c.in-Loop.body.items) in
+pub add_stmt-returns-in_ok-add_stmts-in-For : goal.add_stmt-returns-in_ok-add_stmts-in-For
+add_stmt-returns-in_ok-add_stmts-in-For t c =
+    let test = called_in_test (test_of c.in-For.test) in
+    let post = called_by_all (sts_of c.in-For.post.items) in
+    let body = called_by_all (sts_of c.in-For.body.items) in
     let whole : called_by (st_of c.args.s.now) ≡ test ++ (post ++ body) = grind (arith, stmt_rows) in
-    let second = rw c.deref-in-Loop.ensures.value at c.in_ok-add_stmts-in-Loop.ensures in
-    let third = rw c.deref-in-Loop-2.ensures.value at c.add_stmts-in-Loop-2.ensures in
-    on_ok_weaker c.add_stmts-in-Loop-2.result (λ last. three_lists c.args.calls.now.items c.add_test.new.calls.items c.add_stmts-in-Loop.new.calls.items c.add_stmts-in-Loop-2.new.calls.items test post body (called_by (st_of c.args.s.now)) c.in_ok-add_test-in-Loop.ensures second last whole) third
+    let second = rw c.deref-in-For.ensures.value at c.in_ok-add_stmts-in-For.ensures in
+    let third = rw c.deref-in-For-2.ensures.value at c.add_stmts-in-For-2.ensures in
+    on_ok_weaker c.add_stmts-in-For-2.result (λ last. three_lists c.args.calls.now.items c.add_test.new.calls.items c.add_stmts-in-For.new.calls.items c.add_stmts-in-For-2.new.calls.items test post body (called_by (st_of c.args.s.now)) c.in_ok-add_test-in-For.ensures second last whole) third
 
 pub add_stmt-returns-in_ok-add_pair-in-Count : goal.add_stmt-returns-in_ok-add_pair-in-Count
 add_stmt-returns-in_ok-add_pair-in-Count t c =

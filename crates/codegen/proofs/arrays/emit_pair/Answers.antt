@@ -1,6 +1,6 @@
 use Rattle.std.proofs.Common.{◌≡◌, ◌+◌, ◌∷◌, [], ◌∙◌, ap, sym, arith}
 use Rattle.typed.specs.View.{left_of, program_of}
-use Rattle.simulated_code.specs.Code.{lefts_above}
+use Rattle.program_code.specs.Code.{lefts_above}
 use Rattle.expression_code.specs.Frame.{slots_in}
 use Rattle.codegen.proofs.Above.{above_two}
 use Rattle.codegen.proofs.Pairs.{pair_emitted}

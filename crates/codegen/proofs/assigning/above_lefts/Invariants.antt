@@ -1,6 +1,6 @@
 use Rattle.std.proofs.Common.{◌≡◌, drop, map}
 use Rattle.typed.specs.View.{left_of}
-use Rattle.simulated_code.specs.Code.{lefts_above}
+use Rattle.program_code.specs.Code.{lefts_above}
 use Rattle.codegen.proofs.assigning.above_lefts.Given as goal
 
 abbrev pub invariant-loop-left : goal.invariant-loop-left

@@ -1,6 +1,6 @@
 use Rattle.std.proofs.Common.{◌≡◌, ◌+◌, drop, map, ap, subst, sym, arith}
 use Rattle.std.specs.Prelude.{slice_index}
-use Rattle.typed.specs.Syntax.{value_widths}
+use Rattle.typed_syntax.specs.Syntax.{value_widths}
 use Rattle.typed.specs.View.{exs_of_values, left_of, program_of}
 use Rattle.expression_code.specs.Frame.{slots_in}
 use Rattle.codegen.specs.Temps.{LeftsFitIn}

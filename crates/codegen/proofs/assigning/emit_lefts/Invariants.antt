@@ -1,7 +1,7 @@
 use Rattle.std.proofs.Common.{◌≡◌, ◌≤◌, ◌++◌, drop, map}
-use Rattle.typed.specs.Syntax.{value_widths}
+use Rattle.typed_syntax.specs.Syntax.{value_widths}
 use Rattle.typed.specs.View.{exs_of_values, left_of, program_of}
-use Rattle.simulated_code.specs.Code.{lefts_above, lefts_code}
+use Rattle.program_code.specs.Code.{lefts_above, lefts_code}
 use Rattle.expression_code.specs.Frame.{slots_in}
 use Rattle.codegen.specs.Temps.{LeftsFitIn}
 use Rattle.codegen.proofs.assigning.emit_lefts.Given as goal

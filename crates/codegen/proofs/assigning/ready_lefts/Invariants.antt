@@ -2,7 +2,7 @@ use Rattle.std.proofs.Common.{◌≡◌, ◌≤◌, ◌++◌, drop, length, map}
 use Rattle.typed.specs.View.{left_of, program_of}
 use Rattle.expression_code.specs.Frame.{slots_in}
 use Rattle.codegen.specs.Temps.{ReadyFitIn}
-use Rattle.simulated_code.specs.Code.{lefts_above, ready_code}
+use Rattle.program_code.specs.Code.{lefts_above, ready_code}
 use Rattle.codegen.proofs.assigning.ready_lefts.Given as goal
 
 abbrev pub invariant-loop-left : goal.invariant-loop-left

@@ -1,8 +1,8 @@
 use Rattle.std.proofs.Common.{◌≡◌, ◌+◌, ◌++◌, length, ap, ◌∙◌, arith}
 use Rattle.typed.proofs.Rows.{stmt_rows}
-use Rattle.typed.specs.Syntax.{blank, over_copy, over_int, over_length, choose, loop, range, argument_words, result_words}
+use Rattle.typed_syntax.specs.Syntax.{blank, over_copy, over_int, over_length, if_stmt, for_stmt, range, argument_words, result_words}
 use Rattle.typed.specs.View.{ex_of, left_of, program_of, site_numbers, st_of, sts_of, test_of}
-use Rattle.simulated_code.specs.Code.{element_round_size, index_round_size, renew_code, renew_size, sts_code, sts_size, test_size}
+use Rattle.program_code.specs.Code.{element_round_size, index_round_size, renew_code, renew_size, sts_code, sts_size, test_size}
 use Rattle.expression_code.specs.Frame.{func_in, slots_in}
 use Rattle.codegen.proofs.Emitted.{next_emitted, next_fits, if_emitted, loop_emitted, count_emitted, indices_emitted, elements_emitted}
 use Rattle.codegen.proofs.emitting.+emit.Goals as goal
@@ -18,7 +18,7 @@ pub emit_stmt-returns-in_ok-emit_stmts-in-If-2 : goal.emit_stmt-returns-in_ok-em
 emit_stmt-returns-in_ok-emit_stmts-in-If-2 t c =
     let p = program_of c.args.program.now in let f = func_in c.args.program.now c.args.func.now in let slots = slots_in c.args.program.now c.args.frame in let h = c.args.h in let out = c.args.goals.out in let again = c.args.goals.again in
     let v = c.in-If in
-    let shape : st_of c.args.s.now ≡ choose (ex_of v.e) (sts_of v.a.items) (sts_of v.b.items) = grind (arith, stmt_rows) in
+    let shape : st_of c.args.s.now ≡ if_stmt (ex_of v.e) (sts_of v.a.items) (sts_of v.b.items) = grind (arith, stmt_rows) in
     rw shape (if_emitted p (argument_words f) f.named slots c.args.code.now.items _ _ _ _ _ (ex_of v.e) (sts_of v.a.items) (sts_of v.b.items) _ _ h out again
     (c.in_ok-yes-in-If.ensures ∙ ap (λ x. sts_size p (argument_words f) f.named (sts_of x)) c.deref-in-If.ensures.value) (c.in_ok-no-in-If.ensures ∙ ap (λ x. sts_size p (argument_words f) f.named (sts_of x)) c.deref-in-If-2.ensures.value)
     c.in_ok-emit_expr-in-If.ensures c.in_ok-pass_unless-in-If.ensures
@@ -26,21 +26,21 @@ emit_stmt-returns-in_ok-emit_stmts-in-If-2 t c =
     c.in_ok-jump-in-If.ensures
     (c.in_ok-emit_stmts-in-If-2.ensures ∙ ap (λ x. c.jump.new.code.items ++ sts_code p (argument_words f) f.named slots (sts_of x) h out again (length c.jump.new.code.items)) c.deref-in-If-4.ensures.value))
 
-pub emit_stmt-returns-in_ok-put-in-Loop : goal.emit_stmt-returns-in_ok-put-in-Loop
-emit_stmt-returns-in_ok-put-in-Loop t c =
+pub emit_stmt-returns-in_ok-put-in-For : goal.emit_stmt-returns-in_ok-put-in-For
+emit_stmt-returns-in_ok-put-in-For t c =
     let p = program_of c.args.program.now in let f = func_in c.args.program.now c.args.func.now in let slots = slots_in c.args.program.now c.args.frame in let h = c.args.h in
-    let v = c.in-Loop in let g = c.in_ok-inner-in-Loop.inner in
-    let shape : st_of c.args.s.now ≡ loop (site_numbers v.sites.items) (test_of v.test) (sts_of v.post.items) (sts_of v.body.items) = grind (arith, stmt_rows) in
+    let v = c.in-For in let g = c.in_ok-inner-in-For.inner in
+    let shape : st_of c.args.s.now ≡ for_stmt (site_numbers v.sites.items) (test_of v.test) (sts_of v.post.items) (sts_of v.body.items) = grind (arith, stmt_rows) in
     let start : c.in_ok-start.start ≡ length c.args.code.now.items = omega (arith, c.in_ok-start.ensures) in
     rw shape (loop_emitted p (argument_words f) f.named slots c.args.code.now.items _ _ _ _ _ (site_numbers v.sites.items) (test_of v.test) (sts_of v.post.items) (sts_of v.body.items) _ g.again g.out h c.args.goals.out c.args.goals.again start
-    (c.in_ok-inner-in-Loop.ensures.again ∙ ap (λ x. c.in_ok-start.start + test_size p (test_of v.test) + sts_size p (argument_words f) f.named (sts_of x)) c.deref-in-Loop-3.ensures.value)
-    (c.in_ok-inner-in-Loop.ensures.out ∙ ap (λ x. g.again + renew_size (site_numbers x) + sts_size p (argument_words f) f.named (sts_of c.deref-in-Loop-2.result.now) + 1) c.deref-in-Loop.ensures.value
-    ∙ ap (λ x. g.again + renew_size (site_numbers v.sites.items) + sts_size p (argument_words f) f.named (sts_of x) + 1) c.deref-in-Loop-2.ensures.value)
-    c.in_ok-emit_test-in-Loop.ensures
-    (c.in_ok-emit_stmts-in-Loop.ensures ∙ ap (λ x. c.emit_test.new.code.items ++ sts_code p (argument_words f) f.named slots (sts_of x) h g.out g.again (length c.emit_test.new.code.items)) c.deref-in-Loop-4.ensures.value)
-    (c.in_ok-emit_renewal-in-Loop.ensures ∙ ap (λ x. c.emit_stmts-in-Loop.new.code.items ++ renew_code slots (site_numbers x) h) c.deref-in-Loop-5.ensures.value)
-    (c.in_ok-emit_stmts-in-Loop-2.ensures ∙ ap (λ x. c.emit_renewal.new.code.items ++ sts_code p (argument_words f) f.named slots (sts_of x) h g.out g.again (length c.emit_renewal.new.code.items)) c.deref-in-Loop-6.ensures.value)
-    c.in_ok-put-in-Loop.ensures)
+    (c.in_ok-inner-in-For.ensures.again ∙ ap (λ x. c.in_ok-start.start + test_size p (test_of v.test) + sts_size p (argument_words f) f.named (sts_of x)) c.deref-in-For-3.ensures.value)
+    (c.in_ok-inner-in-For.ensures.out ∙ ap (λ x. g.again + renew_size (site_numbers x) + sts_size p (argument_words f) f.named (sts_of c.deref-in-For-2.result.now) + 1) c.deref-in-For.ensures.value
+    ∙ ap (λ x. g.again + renew_size (site_numbers v.sites.items) + sts_size p (argument_words f) f.named (sts_of x) + 1) c.deref-in-For-2.ensures.value)
+    c.in_ok-emit_test-in-For.ensures
+    (c.in_ok-emit_stmts-in-For.ensures ∙ ap (λ x. c.emit_test.new.code.items ++ sts_code p (argument_words f) f.named slots (sts_of x) h g.out g.again (length c.emit_test.new.code.items)) c.deref-in-For-4.ensures.value)
+    (c.in_ok-emit_renewal-in-For.ensures ∙ ap (λ x. c.emit_stmts-in-For.new.code.items ++ renew_code slots (site_numbers x) h) c.deref-in-For-5.ensures.value)
+    (c.in_ok-emit_stmts-in-For-2.ensures ∙ ap (λ x. c.emit_renewal.new.code.items ++ sts_code p (argument_words f) f.named slots (sts_of x) h g.out g.again (length c.emit_renewal.new.code.items)) c.deref-in-For-6.ensures.value)
+    c.in_ok-put-in-For.ensures)
 
 pub emit_stmt-returns-in_ok-emit_count_turn-in-Count : goal.emit_stmt-returns-in_ok-emit_count_turn-in-Count
 emit_stmt-returns-in_ok-emit_count_turn-in-Count t c =

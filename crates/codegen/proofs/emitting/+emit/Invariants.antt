@@ -1,8 +1,8 @@
 use Rattle.std.proofs.Common.{◌≡◌, ◌++◌, length, drop}
-use Rattle.typed.specs.Syntax.{argument_words, result_words}
+use Rattle.typed_syntax.specs.Syntax.{argument_words, result_words}
 use Rattle.typed.specs.View.{program_of, sts_of}
 use Rattle.codegen.specs.Temps.{StsFitIn}
-use Rattle.simulated_code.specs.Code.{sts_code}
+use Rattle.program_code.specs.Code.{sts_code}
 use Rattle.expression_code.specs.Frame.{func_in, slots_in}
 use Rattle.codegen.proofs.emitting.+emit.Given as goal
 

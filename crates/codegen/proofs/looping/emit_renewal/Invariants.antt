@@ -1,6 +1,6 @@
 use Rattle.std.proofs.Common.{◌≡◌, ◌++◌, drop}
 use Rattle.typed.specs.View.{site_numbers}
-use Rattle.simulated_code.specs.Code.{renew_code}
+use Rattle.program_code.specs.Code.{renew_code}
 use Rattle.expression_code.specs.Frame.{slots_in}
 use Rattle.codegen.specs.Temps.{RenewFits, SitesFit}
 use Rattle.codegen.proofs.looping.emit_renewal.Given as goal

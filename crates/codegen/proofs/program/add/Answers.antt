@@ -1,7 +1,7 @@
 use Rattle.std.proofs.Common.{◌≡◌, ◌++◌, ◌-◌, ◌∙◌, ap, length, length-append, replicate, arith}
 use Rattle.typed.specs.View.{program_of}
-use Rattle.simulated_code.specs.Code.{func_code, func_size}
-use Rattle.simulated_code.proofs.Sizes.{length_func}
+use Rattle.program_code.specs.Code.{func_code, func_size}
+use Rattle.program_code.proofs.Sizes.{length_func}
 use Rattle.expression_code.specs.Frame.{func_in}
 use Rattle.codegen.proofs.program.add.Goals as goal
 

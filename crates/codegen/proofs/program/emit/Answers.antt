@@ -2,10 +2,6 @@ use Rattle.std.proofs.Common.{rules, ◌+◌, ◌<◌, ◌∙◌, refl, sym, ap,
 use Rattle.isa.specs.Code.{Tables, IsCode}
 use Rattle.typed.specs.Trees.{trees}
 use Rattle.typed.specs.View.{program_of}
-use Rattle.simulated_code.specs.Code.{code_of}
-use Rattle.simulated_code.specs.Correct.{Simulated}
-use Rattle.simulated_code.proofs.Stands.{compiled}
-use Rattle.simulated_code.proofs.Follows.{simulated}
 use Rattle.codegen.proofs.Whole.{fits, layout_at, longer, code_next, owners_next, entries_next, finished, main_there}
 use Rattle.codegen.proofs.IsCode.{is_code}
 use Rattle.codegen.proofs.program.emit.Goals as goal
@@ -40,7 +36,6 @@ returns c =
     let same = c.made.ensures ∙ finished p c.as_slice-funcs.result.now c.loop-func.func-index c.loop-func.number parts.instrs.items parts.owners.items parts.funcs.items _ c.as_slice-funcs.ensures.value (omega (arith, c.loop-func-test.false)) done.0 done.1 done.2 (c.in_ok-strings.ensures ∙ ap (λ x. map (λ bytes. bytes.items) x) c.deref.ensures.value) in
     record {
       is = same;
-      simulates = subst (λ (t : Tables). Simulated (program_of p) t) (sym same) (simulated (program_of p) (code_of (program_of p)) (compiled (program_of p)) c.requires.form refl);
       main = subst (λ (t : Tables). p.main.0 < length t.funcs) (sym same) (main_there (program_of p) c.requires.form);
       small = search rules;
     }

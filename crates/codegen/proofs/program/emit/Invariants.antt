@@ -1,6 +1,6 @@
 use Rattle.std.proofs.Common.{◌≡◌, ◌++◌, drop, length, map}
 use Rattle.typed.specs.View.{program_of}
-use Rattle.simulated_code.specs.Code.{funcs_code, funcs_owners, funcs_entries}
+use Rattle.program_code.specs.Code.{funcs_code, funcs_owners, funcs_entries}
 use Rattle.expression_code.specs.Frame.{func_in}
 use Rattle.codegen.proofs.program.emit.Given as goal
 

@@ -1,7 +1,7 @@
 use Rattle.std.proofs.Common.{rules, ◌≡◌, ◌++◌, length}
-use Rattle.typed.specs.Syntax.{argument_words, each_width}
+use Rattle.typed_syntax.specs.Syntax.{argument_words, each_width}
 use Rattle.typed.specs.View.{program_of}
-use Rattle.simulated_code.specs.Code.{params_code, zeros_code, sts_code, leave_code}
+use Rattle.program_code.specs.Code.{params_code, zeros_code, sts_code, leave_code}
 use Rattle.expression_code.specs.Frame.{func_in, slots_in}
 use Rattle.codegen.proofs.Whole.{func_emitted}
 use Rattle.codegen.proofs.program.emit_func.Goals as goal

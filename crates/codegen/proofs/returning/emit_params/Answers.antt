@@ -1,6 +1,6 @@
 use Rattle.std.proofs.Common.{None, map, refl, arith}
 use Rattle.typed.specs.Trees.{trees}
-use Rattle.typed.specs.Syntax.{each_width, type_in}
+use Rattle.typed_syntax.specs.Syntax.{each_width, type_in}
 use Rattle.expression_code.specs.Frame.{slots_in}
 use Rattle.expression_code.proofs.ByWidth.{width_behind}
 use Rattle.codegen.proofs.Emitted.{param_emitted, params_split}

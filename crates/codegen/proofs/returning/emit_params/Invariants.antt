@@ -1,8 +1,8 @@
 use Rattle.std.proofs.Common.{◌≡◌, ◌+◌, ◌++◌, drop, map}
 use Rattle.typed.specs.Trees.{trees}
-use Rattle.typed.specs.Syntax.{all_width, each_width, type_in}
+use Rattle.typed_syntax.specs.Syntax.{all_width, each_width, type_in}
 use Rattle.typed.specs.View.{site_in}
-use Rattle.simulated_code.specs.Code.{params_code}
+use Rattle.program_code.specs.Code.{params_code}
 use Rattle.expression_code.specs.Frame.{slots_in}
 use Rattle.codegen.specs.Temps.{ParamsFitIn}
 use Rattle.codegen.proofs.returning.emit_params.Given as goal

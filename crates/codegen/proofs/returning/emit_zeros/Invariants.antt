@@ -1,6 +1,6 @@
 use Rattle.std.proofs.Common.{◌≡◌, ◌++◌, drop}
 use Rattle.typed.specs.View.{site_numbers}
-use Rattle.simulated_code.specs.Code.{zeros_code}
+use Rattle.program_code.specs.Code.{zeros_code}
 use Rattle.expression_code.specs.Frame.{slots_in}
 use Rattle.codegen.specs.Temps.{SitesFit}
 use Rattle.codegen.proofs.returning.emit_zeros.Given as goal

@@ -1,6 +1,6 @@
 use Rattle.std.proofs.Common.{◌≡◌, ◌++◌, drop, map}
 use Rattle.typed.specs.View.{piece_of}
-use Rattle.simulated_code.specs.Code.{show_more}
+use Rattle.program_code.specs.Code.{show_more}
 use Rattle.expression_code.specs.Frame.{slots_in}
 use Rattle.codegen.specs.Frame.{ShownFit}
 use Rattle.codegen.proofs.shown.emit_more.Given as goal

@@ -1,6 +1,6 @@
 use Rattle.std.proofs.Common.{◌≡◌, ◌++◌, drop, length, map}
 use Rattle.typed.specs.View.{piece_of, program_of}
-use Rattle.simulated_code.specs.Code.{pieces_code}
+use Rattle.program_code.specs.Code.{pieces_code}
 use Rattle.expression_code.specs.Frame.{slots_in}
 use Rattle.codegen.specs.Temps.{PiecesFitIn}
 use Rattle.codegen.proofs.shown.emit_operands.Given as goal

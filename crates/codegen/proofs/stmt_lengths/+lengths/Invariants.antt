@@ -1,7 +1,7 @@
 use Rattle.std.proofs.Common.{◌≡◌, ◌+◌, drop}
-use Rattle.typed.specs.Syntax.{argument_words}
+use Rattle.typed_syntax.specs.Syntax.{argument_words}
 use Rattle.typed.specs.View.{program_of, sts_of}
-use Rattle.simulated_code.specs.Code.{sts_size}
+use Rattle.program_code.specs.Code.{sts_size}
 use Rattle.expression_code.specs.Frame.{func_in}
 use Rattle.codegen.proofs.stmt_lengths.+lengths.Given as goal
 

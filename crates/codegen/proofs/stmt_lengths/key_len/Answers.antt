@@ -1,6 +1,6 @@
 use Rattle.std.proofs.Common.{◌≡◌, ◌+◌, ◌∷◌, [], IfOk, subst, arith}
 use Rattle.typed.specs.View.{left_of, program_of}
-use Rattle.simulated_code.specs.Code.{index_round_size, lefts_size, lefts_sized}
+use Rattle.program_code.specs.Code.{index_round_size, lefts_size, lefts_sized}
 use Rattle.codegen.proofs.Sized.{lefts_total}
 use Rattle.codegen.proofs.stmt_lengths.key_len.Goals as goal
 

@@ -1,6 +1,6 @@
 use Rattle.std.proofs.Common.{◌≡◌, ◌+◌, drop, map}
 use Rattle.typed.specs.View.{piece_of, program_of}
-use Rattle.simulated_code.specs.Code.{pieces_size}
+use Rattle.program_code.specs.Code.{pieces_size}
 use Rattle.codegen.proofs.stmt_lengths.pieces_len.Given as goal
 
 abbrev pub invariant-loop-p : goal.invariant-loop-p

@@ -1,6 +1,6 @@
 use Rattle.std.proofs.Common.{◌≡◌, ◌∷◌, [], arith}
 use Rattle.typed.specs.View.{left_of, program_of}
-use Rattle.simulated_code.specs.Code.{lefts_sized}
+use Rattle.program_code.specs.Code.{lefts_sized}
 use Rattle.codegen.proofs.Sized.{sized_next}
 use Rattle.codegen.proofs.stmt_lengths.ready_len.Goals as goal
 

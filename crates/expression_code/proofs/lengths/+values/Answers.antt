@@ -1,8 +1,8 @@
 use Rattle.std.proofs.Common.{◌≡◌, ◌+◌, IfOk, ap, ◌∙◌, subst, arith}
 use Rattle.typed.proofs.Rows.{expr_rows}
-use Rattle.typed.specs.Syntax.{read}
+use Rattle.typed_syntax.specs.Syntax.{read}
 use Rattle.typed.specs.View.{ex_of, place_of, program_of}
-use Rattle.simulated_code.specs.Code.{address_size, place_size, size}
+use Rattle.program_code.specs.Code.{address_size, place_size, size}
 use Rattle.expression_code.proofs.Steps.{place_total}
 use Rattle.expression_code.proofs.lengths.+values.Goals as goal
 

@@ -1,7 +1,7 @@
 use Rattle.std.proofs.Common.{◌≡◌, ◌+◌, drop}
-use Rattle.typed.specs.Syntax.{type_named}
+use Rattle.typed_syntax.specs.Syntax.{type_named}
 use Rattle.typed.specs.View.{elements_of, exs_of, program_of, steps_of}
-use Rattle.simulated_code.specs.Code.{elements_size, exs_size, steps_size}
+use Rattle.program_code.specs.Code.{elements_size, exs_size, steps_size}
 use Rattle.expression_code.proofs.lengths.+values.Given as goal
 
 abbrev pub invariant-row_len-loop-e : goal.invariant-row_len-loop-e

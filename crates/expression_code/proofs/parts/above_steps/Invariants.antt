@@ -1,6 +1,6 @@
 use Rattle.std.proofs.Common.{◌≡◌, drop}
 use Rattle.typed.specs.View.{steps_of}
-use Rattle.simulated_code.specs.Code.{steps_above}
+use Rattle.program_code.specs.Code.{steps_above}
 use Rattle.expression_code.proofs.parts.above_steps.Given as goal
 
 abbrev pub invariant-loop-step : goal.invariant-loop-step

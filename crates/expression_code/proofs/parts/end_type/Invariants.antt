@@ -1,6 +1,6 @@
 use Rattle.std.proofs.Common.{◌≡◌, drop}
-use Rattle.value_trees.specs.Paths.{type_at}
-use Rattle.typed.specs.Syntax.{path_of, type_named}
+use Rattle.typed_syntax.specs.Paths.{type_at}
+use Rattle.typed_syntax.specs.Syntax.{path_of, type_named}
 use Rattle.typed.specs.View.{program_of, steps_of}
 use Rattle.expression_code.proofs.parts.end_type.Given as goal
 

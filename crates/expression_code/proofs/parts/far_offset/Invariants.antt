@@ -1,8 +1,8 @@
 use Rattle.std.proofs.Common.{◌≡◌, ◌≤◌, drop}
-use Rattle.value_trees.specs.Paths.{offset}
-use Rattle.typed.specs.Syntax.{path_of, type_named}
+use Rattle.typed_syntax.specs.Paths.{offset}
+use Rattle.typed_syntax.specs.Syntax.{path_of, type_named}
 use Rattle.typed.specs.View.{program_of, steps_of}
-use Rattle.simulated_code.specs.Code.{far_offset}
+use Rattle.program_code.specs.Code.{far_offset}
 use Rattle.expression_code.proofs.parts.far_offset.Given as goal
 
 abbrev pub invariant-loop-i : goal.invariant-loop-i

@@ -1,9 +1,9 @@
 use Rattle.std.proofs.Common.{◌≡◌, ap, subst, arith}
-use Rattle.value_trees.specs.Paths.{offset}
+use Rattle.typed_syntax.specs.Paths.{offset}
 use Rattle.typed.proofs.Rows.{expr_rows}
-use Rattle.typed.specs.Syntax.{Pl, local, path_of, type_named}
+use Rattle.typed_syntax.specs.Syntax.{Pl, local, path_of, type_named}
 use Rattle.typed.specs.View.{place_of, program_of, steps_of}
-use Rattle.simulated_code.specs.Code.{site_slot}
+use Rattle.program_code.specs.Code.{site_slot}
 use Rattle.expression_code.specs.Frame.{slots_in}
 use Rattle.expression_code.specs.Temps.{PlaceFits}
 use Rattle.expression_code.proofs.Reached.{place_small}

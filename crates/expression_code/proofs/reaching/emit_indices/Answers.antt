@@ -1,9 +1,9 @@
 use Rattle.std.proofs.Common.{◌≡◌, ◌+◌, ◌≤◌, ◌++◌, ◌∙◌, drop, ap, sym, arith}
-use Rattle.value_trees.specs.Types.{ValueType, part_type, width}
+use Rattle.typed_syntax.specs.Types.{TypeTree, part_type, width}
 use Rattle.typed.specs.declared.expr.Step.{Step}
-use Rattle.typed.specs.Syntax.{type_named}
+use Rattle.typed_syntax.specs.Syntax.{type_named}
 use Rattle.typed.specs.View.{program_of, steps_of}
-use Rattle.simulated_code.specs.Code.{index_code}
+use Rattle.program_code.specs.Code.{index_code}
 use Rattle.expression_code.specs.Frame.{slots_in}
 use Rattle.expression_code.specs.Parts.{part_number}
 use Rattle.expression_code.proofs.Reached.{part_most}
@@ -45,7 +45,7 @@ loop-step-preserved c =
           let to : u ≡ part_type t k = leads ∙ ap (λ (y : Step). part_type t (part_number y)) w.in-Inner.is in
           let e = above_inner steps i x l is k w.in-Inner.is first in let most = inv.3 in
           rw (w.code-is, w.next-is) (
-            inv.0 ∙ ap (λ y. c.loop-step.code.items ++ y) (index_inner steps i x l is k w.in-Inner.is slots t first c.args.at ∙ ap (λ (v : ValueType). index_code slots v (steps_of (drop (i + 1) steps)) first c.args.at) (sym to)),
+            inv.0 ∙ ap (λ y. c.loop-step.code.items ++ y) (index_inner steps i x l is k w.in-Inner.is slots t first c.args.at ∙ ap (λ (v : TypeTree). index_code slots v (steps_of (drop (i + 1) steps)) first c.args.at) (sym to)),
             fit,
             small,
             omega (arith, e, most),

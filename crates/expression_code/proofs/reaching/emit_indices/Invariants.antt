@@ -1,10 +1,10 @@
 use Rattle.std.proofs.Common.{◌≡◌, ◌≤◌, ◌++◌, drop}
-use Rattle.value_trees.specs.Types.{width}
-use Rattle.typed.specs.Syntax.{type_named}
+use Rattle.typed_syntax.specs.Types.{width}
+use Rattle.typed_syntax.specs.Syntax.{type_named}
 use Rattle.typed.specs.View.{program_of, steps_of}
 use Rattle.expression_code.specs.Frame.{slots_in}
 use Rattle.expression_code.specs.Temps.{IndicesFit}
-use Rattle.simulated_code.specs.Code.{index_code, steps_above}
+use Rattle.program_code.specs.Code.{index_code, steps_above}
 use Rattle.expression_code.proofs.reaching.emit_indices.Given as goal
 
 abbrev pub invariant-loop-step : goal.invariant-loop-step

@@ -1,9 +1,9 @@
 use Rattle.std.proofs.Common.{◌≡◌, ◌+◌, ◌∙◌, drop, ap, sym, arith}
-use Rattle.value_trees.specs.Types.{ValueType, part_offset, part_type, width}
+use Rattle.typed_syntax.specs.Types.{TypeTree, part_offset, part_type, width}
 use Rattle.typed.specs.declared.expr.Step.{Step}
-use Rattle.typed.specs.Syntax.{type_named}
+use Rattle.typed_syntax.specs.Syntax.{type_named}
 use Rattle.typed.specs.View.{program_of, steps_of}
-use Rattle.simulated_code.specs.Code.{steps_address}
+use Rattle.program_code.specs.Code.{steps_address}
 use Rattle.expression_code.specs.Frame.{slots_in}
 use Rattle.expression_code.specs.Parts.{part_number}
 use Rattle.expression_code.proofs.Reached.{part_most}
@@ -21,7 +21,7 @@ loop-i-preserved c =
     let inv = c.loop-i.invariant in (
       inv.0 ∙ address_inner steps i x l is k c.in-Inner.is slots c.loop-i.slot t c.args.first c.args.at
           ∙ ap (λ n. steps_address slots n (part_type t k) (steps_of (drop (i + 1) steps)) c.args.first c.args.at) sum
-          ∙ ap (λ (v : ValueType). steps_address slots (c.loop-i.slot + c.part_offset.result) v (steps_of (drop (i + 1) steps)) c.args.first c.args.at) (sym leads),
+          ∙ ap (λ (v : TypeTree). steps_address slots (c.loop-i.slot + c.part_offset.result) v (steps_of (drop (i + 1) steps)) c.args.first c.args.at) (sym leads),
       inv.1,
       indices_next steps i x l is t u (leads ∙ ap (λ (y : Step). part_type t (part_number y)) (sym c.in-Inner.is)) inv.2,
       (let most = part_most t k 65535 (omega arith) inv.3 in let w = ap width leads in omega (arith, most, w)),

@@ -1,11 +1,11 @@
 use Rattle.std.proofs.Common.{◌≡◌, ◌+◌, ◌≤◌, drop}
-use Rattle.value_trees.specs.Types.{width}
-use Rattle.value_trees.specs.Paths.{offset}
-use Rattle.typed.specs.Syntax.{path_of, type_named}
+use Rattle.typed_syntax.specs.Types.{width}
+use Rattle.typed_syntax.specs.Paths.{offset}
+use Rattle.typed_syntax.specs.Syntax.{path_of, type_named}
 use Rattle.typed.specs.View.{program_of, steps_of}
 use Rattle.expression_code.specs.Frame.{slots_in}
 use Rattle.expression_code.specs.Temps.{IndicesFit}
-use Rattle.simulated_code.specs.Code.{steps_above, steps_address}
+use Rattle.program_code.specs.Code.{steps_above, steps_address}
 use Rattle.expression_code.proofs.reaching.emit_part_address.Given as goal
 
 abbrev pub invariant-loop-i : goal.invariant-loop-i

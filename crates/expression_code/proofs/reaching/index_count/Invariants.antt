@@ -1,6 +1,6 @@
 use Rattle.std.proofs.Common.{◌≡◌, ◌+◌, drop}
 use Rattle.typed.specs.View.{steps_of}
-use Rattle.simulated_code.specs.Code.{index_count}
+use Rattle.program_code.specs.Code.{index_count}
 use Rattle.expression_code.proofs.reaching.index_count.Given as goal
 
 abbrev pub invariant-loop-step : goal.invariant-loop-step

@@ -1,9 +1,9 @@
 use Rattle.std.proofs.Common.{◌≡◌, ◌∙◌, ap, arith}
-use Rattle.value_trees.specs.Types.{width}
-use Rattle.value_trees.specs.Paths.{offset, type_at}
-use Rattle.typed.specs.Syntax.{path_of, type_named}
+use Rattle.typed_syntax.specs.Types.{width}
+use Rattle.typed_syntax.specs.Paths.{offset, type_at}
+use Rattle.typed_syntax.specs.Syntax.{path_of, type_named}
 use Rattle.typed.specs.View.{program_of, steps_of}
-use Rattle.simulated_code.specs.Code.{site_slot}
+use Rattle.program_code.specs.Code.{site_slot}
 use Rattle.expression_code.specs.Frame.{slots_in}
 use Rattle.expression_code.proofs.Reached.{place_small}
 use Rattle.expression_code.proofs.reaching.land_part.Goals as goal

@@ -1,13 +1,14 @@
 use Rattle.std.proofs.lemmas.List.{take_rest}
 use Rattle.std.proofs.Common.{◌≡◌, ◌+◌, ◌++◌, ◌∷◌, [], ◌∙◌, ◌-◌, rules, drop, take, length, sym, ap, subst, arith, true, false}
 use Rattle.isa.specs.declared.instr.Instr.{Instr}
-use Rattle.value_trees.specs.Types.{part_offset, part_type, width}
+use Rattle.typed_syntax.specs.Types.{part_offset, part_type, width}
 use Rattle.typed.proofs.Rows.{expr_rows}
-use Rattle.typed.specs.Syntax.{ascend, binary, both, either, gap_behind, literal, type_named, wide, words_through}
+use Rattle.typed_syntax.specs.Syntax.{ascend, binary, logical_and, logical_or, gap_behind, literal, type_named, wide, words_through}
+use Rattle.typed.specs.Positions.{position}
 use Rattle.typed.specs.View.{elements_of, ex_of, exs_of, program_of}
 use Rattle.expression_code.specs.Frame.{slots_in}
 use Rattle.expression_code.specs.Temps.{ExsFitIn}
-use Rattle.simulated_code.specs.Code.{elements_code, ex_code, gap_code, moves, temp, zeros}
+use Rattle.program_code.specs.Code.{elements_code, ex_code, gap_code, moves, temp, zeros}
 use Rattle.expression_code.proofs.Elements.{literal_emitted, moved_emitted, moved_rest, number_of, ordered_emitted, ordered_rest, value_of, whole_is}
 use Rattle.expression_code.proofs.Steps.{code_inner, fits_index, fits_inner, step_emitted}
 use Rattle.expression_code.proofs.Expressions.{binary_emitted, both_emitted, either_emitted, value_emitted, values_split}
@@ -16,18 +17,18 @@ use Rattle.expression_code.proofs.values.+values.Goals.{emit_steps-in-Inner, emi
 
 pub emit_expr-returns-in_ok-emit_binary-in-Binary : goal.emit_expr-returns-in_ok-emit_binary-in-Binary
 emit_expr-returns-in_ok-emit_binary-in-Binary t c =
-    let shape : ex_of c.args.e.now ≡ binary c.in-Binary.field-0 c.in-Binary.op (ex_of c.deref-a-in-Binary.result.now) (ex_of c.deref-b.result.now) = grind (arith, expr_rows) in
+    let shape : ex_of c.args.e.now ≡ binary (position c.in-Binary.field-0) c.in-Binary.op (ex_of c.deref-a-in-Binary.result.now) (ex_of c.deref-b.result.now) = grind (arith, expr_rows) in
     rw shape (binary_emitted (program_of c.args.program.now) (slots_in c.args.program.now c.args.frame) c.args.code.now.items _ _ _ _ (ex_of c.deref-a-in-Binary.result.now) (ex_of c.deref-b.result.now) c.args.h _ c.in_ok-n-in-Binary.ensures c.in_ok-emit_expr-in-Binary.ensures c.in_ok-emit_expr-in-Binary-2.ensures c.in_ok-emit_binary-in-Binary.ensures)
 
-pub emit_expr-returns-in_ok-emit_expr-in-Both-2 : goal.emit_expr-returns-in_ok-emit_expr-in-Both-2
-emit_expr-returns-in_ok-emit_expr-in-Both-2 t c =
-    let shape : ex_of c.args.e.now ≡ both (ex_of c.deref-a-in-Both.result.now) (ex_of c.deref-b-in-Both.result.now) = grind (arith, expr_rows) in
-    rw shape (both_emitted (program_of c.args.program.now) (slots_in c.args.program.now c.args.frame) c.args.code.now.items _ _ _ (ex_of c.deref-a-in-Both.result.now) (ex_of c.deref-b-in-Both.result.now) c.args.h c.in_ok-emit_expr-in-Both.ensures c.in_ok-pass_both-in-Both.ensures c.in_ok-emit_expr-in-Both-2.ensures)
+pub emit_expr-returns-in_ok-emit_expr-in-LogicalAnd-2 : goal.emit_expr-returns-in_ok-emit_expr-in-LogicalAnd-2
+emit_expr-returns-in_ok-emit_expr-in-LogicalAnd-2 t c =
+    let shape : ex_of c.args.e.now ≡ logical_and (ex_of c.deref-a-in-LogicalAnd.result.now) (ex_of c.deref-b-in-LogicalAnd.result.now) = grind (arith, expr_rows) in
+    rw shape (both_emitted (program_of c.args.program.now) (slots_in c.args.program.now c.args.frame) c.args.code.now.items _ _ _ (ex_of c.deref-a-in-LogicalAnd.result.now) (ex_of c.deref-b-in-LogicalAnd.result.now) c.args.h c.in_ok-emit_expr-in-LogicalAnd.ensures c.in_ok-pass_both-in-LogicalAnd.ensures c.in_ok-emit_expr-in-LogicalAnd-2.ensures)
 
-pub emit_expr-returns-in_ok-emit_expr-in-Either-2 : goal.emit_expr-returns-in_ok-emit_expr-in-Either-2
-emit_expr-returns-in_ok-emit_expr-in-Either-2 t c =
-    let shape : ex_of c.args.e.now ≡ either (ex_of c.deref-a-in-Either.result.now) (ex_of c.deref-b-in-Either.result.now) = grind (arith, expr_rows) in
-    rw shape (either_emitted (program_of c.args.program.now) (slots_in c.args.program.now c.args.frame) c.args.code.now.items _ _ _ (ex_of c.deref-a-in-Either.result.now) (ex_of c.deref-b-in-Either.result.now) c.args.h c.in_ok-emit_expr-in-Either.ensures c.in_ok-pass_either-in-Either.ensures c.in_ok-emit_expr-in-Either-2.ensures)
+pub emit_expr-returns-in_ok-emit_expr-in-LogicalOr-2 : goal.emit_expr-returns-in_ok-emit_expr-in-LogicalOr-2
+emit_expr-returns-in_ok-emit_expr-in-LogicalOr-2 t c =
+    let shape : ex_of c.args.e.now ≡ logical_or (ex_of c.deref-a-in-LogicalOr.result.now) (ex_of c.deref-b-in-LogicalOr.result.now) = grind (arith, expr_rows) in
+    rw shape (either_emitted (program_of c.args.program.now) (slots_in c.args.program.now c.args.frame) c.args.code.now.items _ _ _ (ex_of c.deref-a-in-LogicalOr.result.now) (ex_of c.deref-b-in-LogicalOr.result.now) c.args.h c.in_ok-emit_expr-in-LogicalOr.ensures c.in_ok-pass_either-in-LogicalOr.ensures c.in_ok-emit_expr-in-LogicalOr-2.ensures)
 
 pub emit_row-loop-e-preserved : goal.emit_row-loop-e-preserved
 emit_row-loop-e-preserved t c =

@@ -1,7 +1,7 @@
 use Rattle.std.proofs.Common.{◌≡◌, ◌++◌, drop, length, true, false}
-use Rattle.typed.specs.Syntax.{type_named}
+use Rattle.typed_syntax.specs.Syntax.{type_named}
 use Rattle.typed.specs.View.{elements_of, exs_of, program_of, steps_of}
-use Rattle.simulated_code.specs.Code.{elements_code, exs_code, steps_code}
+use Rattle.program_code.specs.Code.{elements_code, exs_code, steps_code}
 use Rattle.expression_code.specs.Frame.{slots_in}
 use Rattle.expression_code.specs.Temps.{ElementsFitIn, ExsFitIn, StepsFitIn}
 use Rattle.expression_code.proofs.values.+values.Given as goal

@@ -5,7 +5,7 @@ use Rattle.std.proofs.lemmas.Bool.{ltb-true, ltb-false}
 use Rattle.std.proofs.lemmas.Option.{slice_get-get_or, slice_get-map, slice_get_past}
 use Rattle.base.specs.declared.ids.TypeId.{TypeId}
 use Rattle.typed.specs.Trees.{trees}
-use Rattle.typed.specs.Syntax.{Func, each_width, result_widths, type_in}
+use Rattle.typed_syntax.specs.Syntax.{Func, each_width, result_widths, type_in}
 use Rattle.typed.specs.View.{func_of}
 use Rattle.expression_code.proofs.widths.nth_result_words.Goals as goal
 

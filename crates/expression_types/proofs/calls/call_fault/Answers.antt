@@ -1,8 +1,8 @@
 use Rattle.std.proofs.Common.{List, Option, subst}
-use Rattle.value_types.specs.declared.fault.FaultKind.TheVariants.{ArgCount}
+use Rattle.type_faults.specs.declared.fault.FaultKind.TheVariants.{WrongCount}
 use Rattle.base.specs.declared.value_type.ValueType.{ValueType}
-use Rattle.value_types.specs.Least.{IsLeast}
-use Rattle.value_types.specs.Faults.{fault}
+use Rattle.type_faults.specs.Least.{IsLeast}
+use Rattle.type_faults.specs.Faults.{fault}
 use Rattle.expression_types.specs.Faults.{TakeFails}
 use Rattle.expression_types.specs.Passing.{seens}
 use Rattle.expression_types.proofs.calls.call_fault.Goals as goal
@@ -21,7 +21,7 @@ returns-in-Exiter c = rw (c.in-Exiter.is) c.places_fault-in-Exiter.ensures
 
 pub returns-in-Function : goal.returns-in-Function
 returns-in-Function c =
-    let own = fault ArgCount c.args.pos in
+    let own = fault WrongCount c.args.pos in
     let os = seens c.args.arguments.now in
     rw (c.in-Function.is) (subst (λ (ps : List (Option ValueType)). IsLeast (TakeFails own ps os) c.places_fault-in-Function.result) c.deref.ensures.value c.places_fault-in-Function.ensures)
 

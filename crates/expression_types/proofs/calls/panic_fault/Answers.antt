@@ -1,6 +1,6 @@
-use Rattle.value_types.specs.declared.fault.FaultKind.TheVariants.{ArgCount}
-use Rattle.value_types.specs.Faults.{fault}
-use Rattle.value_types.proofs.Leasts.{least_join, leaf}
+use Rattle.type_faults.specs.declared.fault.FaultKind.TheVariants.{WrongCount}
+use Rattle.type_faults.specs.Faults.{fault}
+use Rattle.type_faults.proofs.Leasts.{least_join, leaf}
 use Rattle.expression_types.specs.Typing.{part_count}
 use Rattle.expression_types.specs.Faults.{count_fault}
 use Rattle.expression_types.specs.Passing.{seens}
@@ -9,4 +9,4 @@ use Rattle.expression_types.proofs.calls.panic_fault.Goals as goal
 pub returns : goal.returns
 returns c =
     let os = seens c.args.arguments.now in
-    rw (c.lesser.ensures, c.count_fault.ensures, c.part_count.ensures) (least_join _ _ c.print_fault.result _ c.print_fault.ensures (leaf (count_fault (part_count os) 1 (fault ArgCount c.args.pos))))
+    rw (c.lesser.ensures, c.count_fault.ensures, c.part_count.ensures) (least_join _ _ c.print_fault.result _ c.print_fault.ensures (leaf (count_fault (part_count os) 1 (fault WrongCount c.args.pos))))

@@ -1,4 +1,4 @@
-use Rattle.value_types.proofs.Leasts.{least_join, leaf}
+use Rattle.type_faults.proofs.Leasts.{least_join, leaf}
 use Rattle.expression_types.specs.Typing.{count}
 use Rattle.expression_types.specs.Faults.{refused_fault}
 use Rattle.expression_types.specs.Passing.{seens}

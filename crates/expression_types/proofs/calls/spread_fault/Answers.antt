@@ -1,6 +1,6 @@
-use Rattle.value_types.specs.declared.fault.FaultKind.TheVariants.{BadOperand}
-use Rattle.value_types.specs.Faults.{fault}
-use Rattle.value_types.proofs.Leasts.{least_join, leaf}
+use Rattle.type_faults.specs.declared.fault.FaultKind.TheVariants.{Unfit}
+use Rattle.type_faults.specs.Faults.{fault}
+use Rattle.type_faults.proofs.Leasts.{least_join, leaf}
 use Rattle.expression_types.specs.Typing.{part_count}
 use Rattle.expression_types.specs.Faults.{refused_fault}
 use Rattle.expression_types.specs.Passing.{seens}
@@ -9,4 +9,4 @@ use Rattle.expression_types.proofs.calls.spread_fault.Goals as goal
 pub returns : goal.returns
 returns c =
     let os = seens c.args.arguments.now in
-    rw (c.lesser.ensures, c.refused_fault.ensures, c.part_count.ensures) (least_join _ _ c.parts_fault.result _ c.parts_fault.ensures (leaf (refused_fault (part_count os) (fault BadOperand c.args.pos))))
+    rw (c.lesser.ensures, c.refused_fault.ensures, c.part_count.ensures) (least_join _ _ c.parts_fault.result _ c.parts_fault.ensures (leaf (refused_fault (part_count os) (fault Unfit c.args.pos))))

@@ -1,7 +1,7 @@
 use Rattle.std.proofs.Common.{◌≡◌, IfOk, Option, Some, rules, sym, subst}
 use Rattle.syntax.specs.Expressions.{Ex, ex_of}
 use Rattle.syntax.specs.Statements.{clause_of}
-use Rattle.value_types.specs.Least.{IsLeast}
+use Rattle.type_faults.specs.Least.{IsLeast}
 use Rattle.names.specs.Scope.{scope_of}
 use Rattle.expression_types.specs.Typing.{condition_in}
 use Rattle.expression_types.specs.Faults.{FailsInTest}

@@ -2,12 +2,12 @@ use Rattle.std.proofs.Common.{◌≡◌, ◌⊎◌, IfOk, [], ◌∷◌, ◌++�
 use Rattle.std.specs.Option.{option_map}
 use Rattle.base.specs.declared.pos.Pos.{Pos}
 use Rattle.syntax.specs.declared.expression.Expr.{Expr}
-use Rattle.syntax.specs.FirstBytes.{first_place}
+use Rattle.syntax.specs.FirstBytes.{first_pos}
 use Rattle.syntax.specs.Expressions.{ex_of, exs_of, binary, call}
 use Rattle.syntax.proofs.Views.{expr_rows}
-use Rattle.value_types.specs.Least.{IsLeast, IsLesserWith, lesser}
-use Rattle.value_types.specs.Faults.{IsFault, FormFails}
-use Rattle.value_types.proofs.Leasts.{Kept, kept_start, kept_more, kept_end, least_join, if_ok, leaf}
+use Rattle.type_faults.specs.Least.{IsLeast, IsLesserWith, lesser}
+use Rattle.type_faults.specs.Faults.{IsFault, FormFails}
+use Rattle.type_faults.proofs.Leasts.{Kept, kept_start, kept_more, kept_end, least_join, if_ok, leaf}
 use Rattle.operators.specs.Operators.{has_rules}
 use Rattle.operators.specs.Faults.{pair_fault}
 use Rattle.operators.specs.Passing.{operand_of}
@@ -19,7 +19,7 @@ use Rattle.expression_types.specs.declared.expressions.Checked.{Checked}
 use Rattle.expression_types.specs.Typing.{operand_in, callee, spread_over, gives, seen}
 use Rattle.expression_types.specs.Faults.{CallFails, Fails, FailsInEach, FailsAsOperand, CalleeFails, single_fault}
 use Rattle.expression_types.specs.Passing.{gives_of, callee_of, seen_of, seens}
-use Rattle.value_types.proofs.Lists.{from_one, nothing_left}
+use Rattle.type_faults.proofs.Lists.{from_one, nothing_left}
 use Rattle.expression_types.proofs.Items.{pushed}
 use Rattle.expression_types.proofs.Nodes.{unary_least, binary_least, call_least}
 use Rattle.expression_types.proofs.expressions.+expressions.Goals as goal
@@ -52,10 +52,10 @@ check_expr-returns-in_ok-right-in-Binary-clause-fault t c =
     let r : IsLeast (FailsAsOperand text s (ex_of b)) right.fault = subst (λ (x : Expr). IsLeast (FailsAsOperand text s (ex_of x)) right.fault) c.deref-in-Binary-2.ensures c.in_ok-right-in-Binary.ensures.fault in
     let o_is : o ≡ operand_in (gives text s (ex_of a)) = subst (λ (x : Expr). o ≡ operand_in (gives text s (ex_of x))) c.deref-in-Binary.ensures c.in_ok-left-in-Binary.ensures.operand in
     let p_is : p ≡ operand_in (gives text s (ex_of b)) = subst (λ (x : Expr). p ≡ operand_in (gives text s (ex_of x))) c.deref-in-Binary-2.ensures c.in_ok-right-in-Binary.ensures.operand in
-    let at : left.pos ≡ first_place (ex_of a) = subst (λ (x : Expr). left.pos ≡ first_place (ex_of x)) c.deref-in-Binary.ensures c.in_ok-left-in-Binary.ensures.pos in
-    let further : right.pos ≡ first_place (ex_of b) = subst (λ (x : Expr). right.pos ≡ first_place (ex_of x)) c.deref-in-Binary-2.ensures c.in_ok-right-in-Binary.ensures.pos in
-    let whole : (x : Checked) → x.fault ≡ lesser (lesser left.fault right.fault) (pair_fault left.pos right.pos op o p) → IsLeast (Fails text s (binary c.in-Binary.field-0 op (ex_of a) (ex_of b))) x.fault =
-    λ x is. rw (is, at, further) (binary_least text s c.in-Binary.field-0 op (ex_of a) (ex_of b) left.fault right.fault o p l r o_is p_is) in
+    let at : left.pos ≡ first_pos (ex_of a) = subst (λ (x : Expr). left.pos ≡ first_pos (ex_of x)) c.deref-in-Binary.ensures c.in_ok-left-in-Binary.ensures.pos in
+    let further : right.pos ≡ first_pos (ex_of b) = subst (λ (x : Expr). right.pos ≡ first_pos (ex_of x)) c.deref-in-Binary-2.ensures c.in_ok-right-in-Binary.ensures.pos in
+    let whole : (x : Checked) → x.fault ≡ lesser (lesser left.fault right.fault) (pair_fault left.pos right.pos op o p) → IsLeast (Fails text s (binary c.in-Binary.pos op (ex_of a) (ex_of b))) x.fault =
+    λ x is. rw (is, at, further) (binary_least text s c.in-Binary.pos op (ex_of a) (ex_of b) left.fault right.fault o p l r o_is p_is) in
     rw (c.in-Binary.is) (if_ok _ _ c.pair.result whole c.pair.ensures.fault)
 
 pub check_expr-returns-in_ok-inner-in-Paren-clause-fault : goal.check_expr-returns-in_ok-inner-in-Paren-clause-fault
@@ -83,8 +83,8 @@ check_expr-returns-in_ok-listed-in-Call-clause-fault t c =
     let a : IsLeast (CalleeFails text s (name_in (ex_of g)) (λ f. Fails text s (ex_of g) f) (gives text s (ex_of g))) called.fault =
     subst (λ (x : Expr). IsLeast (CalleeFails text s (name_in (ex_of x)) (λ f. Fails text s (ex_of x) f) (gives text s (ex_of x))) called.fault) c.deref-in-Call.ensures c.in_ok-called-in-Call.ensures.fault in
     let b : IsLeast (FailsInEach text s (exs_of es)) listed.fault = subst (λ (l : List Expr). IsLeast (FailsInEach text s (exs_of l)) listed.fault) c.deref-in-Call-2.ensures.value c.in_ok-listed-in-Call.ensures.fault in
-    let at : c.pos.result ≡ first_place (ex_of g) = subst (λ (x : Expr). c.pos.result ≡ first_place (ex_of x)) c.deref-in-Call-3.ensures c.pos.ensures in
-    let own : IfOk c.call_of.result (λ r. IsLesserWith (CallFails (first_place (ex_of g)) k os) (lesser called.fault listed.fault) r.fault) =
+    let at : c.pos.result ≡ first_pos (ex_of g) = subst (λ (x : Expr). c.pos.result ≡ first_pos (ex_of x)) c.deref-in-Call-3.ensures c.pos.ensures in
+    let own : IfOk c.call_of.result (λ r. IsLesserWith (CallFails (first_pos (ex_of g)) k os) (lesser called.fault listed.fault) r.fault) =
     subst (λ (p : Pos). IfOk c.call_of.result (λ r. IsLesserWith (CallFails p k os) (lesser called.fault listed.fault) r.fault)) at c.call_of.ensures.fault in
     rw (shape) (if_ok _ _ c.call_of.result (λ r h. call_least text s (ex_of g) (exs_of es) spread k os called.fault listed.fault r.fault k_is os_is a b h) own)
 
@@ -92,25 +92,25 @@ pub check_expr-returns-in-Selector-clause-fault : goal.check_expr-returns-in-Sel
 check_expr-returns-in-Selector-clause-fault t c =
     let text = c.args.text.now in
     let s = scope_of c.args.scope.now in
-    rw (c.in-Selector.is) (subst (λ (x : Expr). IfOk c.check_left_out.result (λ r. IsLeast (λ f. Fails text s (ex_of x) f ⊎ FormFails (first_place (ex_of x)) f) r.fault)) c.deref-in-Selector.ensures c.check_left_out.ensures.fault)
+    rw (c.in-Selector.is) (subst (λ (x : Expr). IfOk c.check_left_out.result (λ r. IsLeast (λ f. Fails text s (ex_of x) f ⊎ FormFails (first_pos (ex_of x)) f) r.fault)) c.deref-in-Selector.ensures c.check_left_out.ensures.fault)
 
 pub check_expr-returns-in-Index-clause-fault : goal.check_expr-returns-in-Index-clause-fault
 check_expr-returns-in-Index-clause-fault t c =
     let text = c.args.text.now in
     let s = scope_of c.args.scope.now in
-    rw (c.in-Index.is) (subst (λ (x : Expr). IfOk c.check_left_out-in-Index.result (λ r. IsLeast (λ f. Fails text s (ex_of x) f ⊎ FormFails (first_place (ex_of x)) f) r.fault)) c.deref-in-Index.ensures c.check_left_out-in-Index.ensures.fault)
+    rw (c.in-Index.is) (subst (λ (x : Expr). IfOk c.check_left_out-in-Index.result (λ r. IsLeast (λ f. Fails text s (ex_of x) f ⊎ FormFails (first_pos (ex_of x)) f) r.fault)) c.deref-in-Index.ensures c.check_left_out-in-Index.ensures.fault)
 
 pub check_expr-returns-in-Slice-clause-fault : goal.check_expr-returns-in-Slice-clause-fault
 check_expr-returns-in-Slice-clause-fault t c =
     let text = c.args.text.now in
     let s = scope_of c.args.scope.now in
-    rw (c.in-Slice.is) (subst (λ (x : Expr). IfOk c.check_left_out-in-Slice.result (λ r. IsLeast (λ f. Fails text s (ex_of x) f ⊎ FormFails (first_place (ex_of x)) f) r.fault)) c.deref-in-Slice.ensures c.check_left_out-in-Slice.ensures.fault)
+    rw (c.in-Slice.is) (subst (λ (x : Expr). IfOk c.check_left_out-in-Slice.result (λ r. IsLeast (λ f. Fails text s (ex_of x) f ⊎ FormFails (first_pos (ex_of x)) f) r.fault)) c.deref-in-Slice.ensures c.check_left_out-in-Slice.ensures.fault)
 
 pub check_expr-returns-in-Literal-clause-fault : goal.check_expr-returns-in-Literal-clause-fault
 check_expr-returns-in-Literal-clause-fault t c =
     let text = c.args.text.now in
     let s = scope_of c.args.scope.now in
-    rw (c.in-Literal.is) (subst (λ (x : Expr). IsLeast (λ f. FailsAsType text s (ex_of x) f ⊎ FormFails (first_place (ex_of x)) f) c.check_literal.result.fault) c.deref-in-Literal.ensures c.check_literal.ensures.fault)
+    rw (c.in-Literal.is) (subst (λ (x : Expr). IsLeast (λ f. FailsAsType text s (ex_of x) f ⊎ FormFails (first_pos (ex_of x)) f) c.check_literal.result.fault) c.deref-in-Literal.ensures c.check_literal.ensures.fault)
 
 pub check_left_out-returns-clause-fault : goal.check_left_out-returns-clause-fault
 check_left_out-returns-clause-fault t c =
@@ -140,13 +140,13 @@ check_list-loop-e-preserved t c =
     let here : drop k c.args.es.now ≡ e ∷ drop (k + 1) c.args.es.now = from_one c.args.es.now k e c.loop-e-test.true c.e-item.is in
     let found = c.in_ok-pos.ensures in
     let item : Item = record { pos = c.in_ok-pos.pos; gives = c.in_ok-pos.gives } in
-    let same : seen_of item ≡ record { at = first_place (ex_of e); gives = gives text s (ex_of e) } = search rules in
+    let same : seen_of item ≡ record { at = first_pos (ex_of e); gives = gives text s (ex_of e) } = search rules in
     let front : seen text s all ≡ seens c.loop-e.items.items ++ seen text s (exs_of (e ∷ drop (k + 1) c.args.es.now)) =
     c.loop-e.invariant.0 ∙ ap (λ (l : List Expr). seens c.loop-e.items.items ++ seen text s (exs_of l)) here in
     let kept = subst (λ (l : List Expr). Kept (FailsInEach text s all) (FailsInEach text s (exs_of l)) c.loop-e.fault) here c.loop-e.invariant.1 in
     let items : c.push.new.self.items ≡ c.loop-e.items.items ++ item ∷ [] = search rules in
     let least : IsLeast (Fails text s (ex_of e)) c.in_ok-pos.field-0.fault = search rules in (
-      rw (items) (pushed c.loop-e.items.items item (gives text s (ex_of e)) (first_place (ex_of e)) (seen text s all) (seen text s others) same front),
+      rw (items) (pushed c.loop-e.items.items item (gives text s (ex_of e)) (first_pos (ex_of e)) (seen text s all) (seen text s others) same front),
       rw (c.lesser-fault.ensures) (kept_more (FailsInEach text s all) (Fails text s (ex_of e)) (FailsInEach text s others) c.loop-e.fault c.in_ok-pos.field-0.fault kept least),
     )
 

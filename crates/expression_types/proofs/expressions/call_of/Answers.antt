@@ -1,5 +1,5 @@
 use Rattle.std.proofs.Common.{subst, List, ap, ◌∙◌}
-use Rattle.value_types.specs.Least.{IsLeast, lesser}
+use Rattle.type_faults.specs.Least.{IsLeast, lesser}
 use Rattle.expression_types.specs.declared.gives.Item.{Item}
 use Rattle.expression_types.specs.Faults.{CallFails}
 use Rattle.expression_types.specs.Passing.{callee_of, seens}

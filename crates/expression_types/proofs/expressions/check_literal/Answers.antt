@@ -1,9 +1,9 @@
 use Rattle.std.proofs.Common.{subst, ◌⊎◌}
 use Rattle.base.specs.declared.pos.Pos.{Pos}
 use Rattle.syntax.specs.Expressions.{ex_of}
-use Rattle.value_types.specs.Least.{IsLeast, lesser}
-use Rattle.value_types.specs.Faults.{FormFails}
-use Rattle.value_types.proofs.Leasts.{least_join}
+use Rattle.type_faults.specs.Least.{IsLeast, lesser}
+use Rattle.type_faults.specs.Faults.{FormFails}
+use Rattle.type_faults.proofs.Leasts.{least_join}
 use Rattle.names.specs.Scope.{scope_of}
 use Rattle.names.specs.Faults.{FailsAsType}
 use Rattle.expression_types.proofs.expressions.check_literal.Goals as goal

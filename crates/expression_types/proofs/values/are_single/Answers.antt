@@ -3,7 +3,7 @@ use Rattle.std.specs.Prelude.{◌&&◌}
 use Rattle.expression_types.specs.declared.gives.Item.{Item}
 use Rattle.expression_types.specs.Typing.{are_single}
 use Rattle.expression_types.specs.Passing.{seens}
-use Rattle.value_types.proofs.Lists.{from_one, nothing_left, and_true}
+use Rattle.type_faults.proofs.Lists.{from_one, nothing_left, and_true}
 use Rattle.expression_types.proofs.values.are_single.Goals as goal
 
 pub loop-item-init : goal.loop-item-init

@@ -4,9 +4,9 @@ use Rattle.std.specs.Vec.Iter.{into_iter_items}
 use Rattle.expression_types.specs.declared.gives.Part.{Part as PartData}
 use Rattle.expression_types.specs.declared.gives.Item.{Item}
 use Rattle.expression_types.specs.Typing.{Part, parts, part_in}
-use Rattle.value_types.specs.Given.{with_last}
+use Rattle.type_faults.specs.Given.{with_last}
 use Rattle.expression_types.specs.Passing.{part_view, gives_of, seens}
-use Rattle.value_types.proofs.Lists.{joined, joined_start, joined_more, joined_none, with_last_map, no_items}
+use Rattle.type_faults.proofs.Lists.{joined, joined_start, joined_more, joined_none, with_last_map, no_items}
 use Rattle.expression_types.proofs.values.parts.Goals as goal
 
 pub loop-item-init : goal.loop-item-init

@@ -3,7 +3,7 @@ use Rattle.std.specs.Option.{option_map}
 use Rattle.std.specs.Vec.Iter.{into_iter_items, into_iter_len}
 use Rattle.expression_types.specs.Typing.{parts}
 use Rattle.expression_types.specs.Passing.{part_view, seens}
-use Rattle.value_types.proofs.Lists.{joined}
+use Rattle.type_faults.proofs.Lists.{joined}
 use Rattle.expression_types.proofs.values.parts.Given as goal
 
 abbrev pub invariant-loop-item : goal.invariant-loop-item

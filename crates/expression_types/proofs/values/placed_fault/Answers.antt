@@ -1,10 +1,10 @@
 use Rattle.std.proofs.Common.{ap, ◌∙◌, subst, List, length}
-use Rattle.value_types.specs.Least.{IsLeast, lesser}
-use Rattle.value_types.proofs.Leasts.{least_join}
+use Rattle.type_faults.specs.Least.{IsLeast, lesser}
+use Rattle.type_faults.proofs.Leasts.{least_join}
 use Rattle.expression_types.specs.Typing.{Seen, many}
 use Rattle.expression_types.specs.Faults.{RangeFails, MismatchFails}
 use Rattle.expression_types.specs.Passing.{seen_of, seens}
-use Rattle.value_types.proofs.Lists.{map_take}
+use Rattle.type_faults.proofs.Lists.{map_take}
 use Rattle.expression_types.proofs.values.placed_fault.Goals as goal
 
 pub returns : goal.returns

@@ -1,12 +1,12 @@
 use Rattle.std.proofs.Common.{◌≡◌, [], ◌∷◌, ◌+◌, List, drop, arith, subst}
 use Rattle.std.specs.Option.{option_map}
-use Rattle.value_types.specs.Faults.{IsFault}
-use Rattle.value_types.proofs.Leasts.{Kept, kept_start, kept_more, kept_end, leaf}
+use Rattle.type_faults.specs.Faults.{IsFault}
+use Rattle.type_faults.proofs.Leasts.{Kept, kept_start, kept_more, kept_end, leaf}
 use Rattle.expression_types.specs.declared.gives.Item.{Item}
 use Rattle.expression_types.specs.Typing.{operand_in}
 use Rattle.expression_types.specs.Faults.{RangeFails, range_fault}
 use Rattle.expression_types.specs.Passing.{gives_of, seens}
-use Rattle.value_types.proofs.Lists.{from_one, nothing_left}
+use Rattle.type_faults.proofs.Lists.{from_one, nothing_left}
 use Rattle.expression_types.proofs.values.range_faults.Goals as goal
 
 pub loop-item-init : goal.loop-item-init

@@ -4,9 +4,9 @@ use Rattle.base.specs.declared.value_type.ValueType.{ValueType}
 use Rattle.operators.specs.Operands.{type_of}
 use Rattle.expression_types.specs.declared.gives.Item.{Item}
 use Rattle.expression_types.specs.Typing.{single_types, operand_in}
-use Rattle.value_types.specs.Given.{with_last}
+use Rattle.type_faults.specs.Given.{with_last}
 use Rattle.expression_types.specs.Passing.{gives_of, seens}
-use Rattle.value_types.proofs.Lists.{from_one, nothing_left, joined, joined_start, joined_more, joined_none}
+use Rattle.type_faults.proofs.Lists.{from_one, nothing_left, joined, joined_start, joined_more, joined_none}
 use Rattle.expression_types.proofs.values.single_types.Goals as goal
 
 pub loop-item-init : goal.loop-item-init

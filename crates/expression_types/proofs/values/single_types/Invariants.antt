@@ -2,7 +2,7 @@ use Rattle.std.proofs.Common.{◌≡◌, drop}
 use Rattle.std.specs.Option.{option_map}
 use Rattle.expression_types.specs.Typing.{single_types}
 use Rattle.expression_types.specs.Passing.{seens}
-use Rattle.value_types.proofs.Lists.{joined}
+use Rattle.type_faults.proofs.Lists.{joined}
 use Rattle.expression_types.proofs.values.single_types.Given as goal
 
 abbrev pub invariant-loop-item : goal.invariant-loop-item

@@ -1,5 +1,5 @@
 use Rattle.std.proofs.Common.{length}
-use Rattle.value_types.proofs.Leasts.{least_join, leaf}
+use Rattle.type_faults.proofs.Leasts.{least_join, leaf}
 use Rattle.expression_types.specs.Typing.{count}
 use Rattle.expression_types.specs.Faults.{count_fault}
 use Rattle.expression_types.specs.Passing.{seens}

@@ -1,7 +1,7 @@
 use Rattle.std.proofs.Common.{◌≡◌, Bool, true, false, cond, Option, List, None, IfOk, sym, ◌∙◌, subst}
 use Rattle.std.specs.Prelude.{is_none, ◌&&◌}
 use Rattle.std.specs.Option.{option_map}
-use Rattle.value_types.specs.declared.fault.Fault.{Fault}
+use Rattle.type_faults.specs.declared.fault.Fault.{Fault}
 use Rattle.base.specs.declared.value_type.ValueType.{ValueType}
 use Rattle.expression_types.specs.Typing.{fits, taken_types, value_types}
 use Rattle.expression_types.specs.Passing.{seens}

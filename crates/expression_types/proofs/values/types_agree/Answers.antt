@@ -1,6 +1,6 @@
 use Rattle.std.proofs.Common.{◌≤◌, min, length, arith, sym, ap, ◌∙◌}
 use Rattle.std.specs.Prelude.{◌&&◌}
-use Rattle.value_types.proofs.Lists.{and_true}
+use Rattle.type_faults.proofs.Lists.{and_true}
 use Rattle.expression_types.proofs.Places.{types_all}
 use Rattle.expression_types.proofs.values.types_agree.Goals as goal
 

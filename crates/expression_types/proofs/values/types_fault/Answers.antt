@@ -1,5 +1,5 @@
 use Rattle.std.proofs.Common.{◌≤◌, ◌<◌, min, length, arith}
-use Rattle.value_types.proofs.Leasts.{kept_end}
+use Rattle.type_faults.proofs.Leasts.{kept_end}
 use Rattle.expression_types.specs.declared.gives.Item.{Item}
 use Rattle.expression_types.specs.Faults.{TypesFail}
 use Rattle.expression_types.specs.Passing.{seens}

@@ -2,13 +2,13 @@ use Rattle.std.proofs.Common.{◌≡◌, [], ◌∷◌, List, Option, rules, sym
 use Rattle.std.specs.Option.{option_map}
 use Rattle.std.specs.Vec.Iter.{into_iter_items}
 use Rattle.typed.specs.declared.expr.Expr.{Expr}
-use Rattle.typed.specs.Syntax.{Ex}
+use Rattle.typed_syntax.specs.Syntax.{Ex}
 use Rattle.typed.specs.View.{ex_of}
 use Rattle.expression_types.specs.declared.gives.Item.{Item}
 use Rattle.expression_types.specs.Typing.{values, value_in}
-use Rattle.value_types.specs.Given.{with_last}
+use Rattle.type_faults.specs.Given.{with_last}
 use Rattle.expression_types.specs.Passing.{gives_of, seens}
-use Rattle.value_types.proofs.Lists.{joined, joined_start, joined_more, joined_none, with_last_map, no_items}
+use Rattle.type_faults.proofs.Lists.{joined, joined_start, joined_more, joined_none, with_last_map, no_items}
 use Rattle.expression_types.proofs.values.values.Goals as goal
 
 pub loop-item-init : goal.loop-item-init

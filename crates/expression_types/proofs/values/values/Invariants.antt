@@ -4,7 +4,7 @@ use Rattle.std.specs.Vec.Iter.{into_iter_items, into_iter_len}
 use Rattle.typed.specs.View.{ex_of}
 use Rattle.expression_types.specs.Typing.{values}
 use Rattle.expression_types.specs.Passing.{seens}
-use Rattle.value_types.proofs.Lists.{joined}
+use Rattle.type_faults.proofs.Lists.{joined}
 use Rattle.expression_types.proofs.values.values.Given as goal
 
 abbrev pub invariant-loop-item : goal.invariant-loop-item

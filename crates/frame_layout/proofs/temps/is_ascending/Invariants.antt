@@ -1,5 +1,5 @@
 use Rattle.std.proofs.Common.{◌≡◌, drop}
-use Rattle.typed.specs.Syntax.{ascend, ascend_from}
+use Rattle.typed_syntax.specs.Syntax.{ascend, ascend_from}
 use Rattle.typed.specs.View.{elements_of}
 use Rattle.frame_layout.proofs.temps.is_ascending.Given as goal
 

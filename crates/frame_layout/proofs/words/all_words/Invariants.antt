@@ -1,6 +1,6 @@
 use Rattle.std.proofs.Common.{◌≡◌, ◌+◌, drop, map}
 use Rattle.typed.specs.Trees.{trees}
-use Rattle.typed.specs.Syntax.{all_width, type_in}
+use Rattle.typed_syntax.specs.Syntax.{all_width, type_in}
 use Rattle.frame_layout.proofs.words.all_words.Given as goal
 
 abbrev pub invariant-loop-type_id : goal.invariant-loop-type_id

@@ -1,5 +1,5 @@
 use Rattle.std.proofs.Common.{◌≡◌, ◌+◌, drop}
-use Rattle.typed.specs.Syntax.{all_wide}
+use Rattle.typed_syntax.specs.Syntax.{all_wide}
 use Rattle.typed.specs.View.{exs_of, program_of}
 use Rattle.frame_layout.proofs.words.row_words.Given as goal
 

@@ -1,5 +1,5 @@
 use Rattle.std.proofs.Common.{◌≡◌, ◌+◌, ◌-◌, ◌*◌, ◌≤◌}
-use Rattle.typed.specs.Frames.{words_between}
+use Rattle.typed_syntax.specs.Frames.{words_between}
 use Rattle.typed.specs.View.{program_of}
 use Rattle.frame_layout.proofs.words.sites_words.Given as goal
 

@@ -6,5 +6,5 @@ use Rattle.gostk.proofs.command.command_line.Goals as goal
 pub returns : goal.returns
 unfolding gostk_app
 returns c =
-    let top = c.wanting_command-top.ensures ∙ ap wanting c.new.ensures.app in
+    let top = c.wanting_command-top.ensures ∙ ap wanting c.new_command.ensures.app in
     c.in_ok-all.ensures ∙ ap₂ with_subcommand top (ap (λ (a : App). a.top) c.in_ok-running_command.ensures.app)

@@ -1,6 +1,6 @@
 use Rattle.std.proofs.Common.{rules, ◌≡◌, [], Some, refl}
 use Rattle.outside.specs.Took.{Took}
-use Rattle.typed.specs.Syntax.{Program}
+use Rattle.typed_syntax.specs.Syntax.{Program}
 use Rattle.compile.specs.Accepted.{Accepted}
 use Rattle.compile.specs.Compiled.{compiled_program}
 use Rattle.gostk.specs.Refusal.{refusal_of}

@@ -1,7 +1,7 @@
 use Rattle.std.proofs.Common.{List, IfOk, subst}
 use Rattle.syntax.specs.declared.statement.ValueSpec.{ValueSpec}
 use Rattle.syntax.specs.Statements.{value_specs_of}
-use Rattle.value_types.specs.Least.{IsLeast}
+use Rattle.type_faults.specs.Least.{IsLeast}
 use Rattle.names.specs.Scope.{scope_of}
 use Rattle.package_values.specs.ValueFaults.{SpecsFail, AllVariablesFail}
 use Rattle.package_values.proofs.faults.declaration_fault.Goals as goal

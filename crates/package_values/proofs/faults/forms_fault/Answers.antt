@@ -1,12 +1,12 @@
 use Rattle.std.proofs.Common.{◌≡◌, Bool, [], ◌∷◌, ◌+◌, List, Option, drop, ap, ◌∙◌, arith, subst}
 use Rattle.base.specs.declared.pos.Pos.{Pos}
 use Rattle.syntax.specs.declared.expression.Expr.{Expr}
-use Rattle.syntax.specs.FirstBytes.{first_place}
+use Rattle.syntax.specs.FirstBytes.{first_pos}
 use Rattle.syntax.specs.Expressions.{ex_of, exs_of}
-use Rattle.value_types.specs.declared.fault.Fault.{Fault}
-use Rattle.value_types.specs.Faults.{IsFault}
-use Rattle.value_types.proofs.Leasts.{Kept, kept_start, kept_more, kept_end, leaf}
-use Rattle.value_types.proofs.Lists.{from_one, nothing_left}
+use Rattle.type_faults.specs.declared.fault.Fault.{Fault}
+use Rattle.type_faults.specs.Faults.{IsFault}
+use Rattle.type_faults.proofs.Leasts.{Kept, kept_start, kept_more, kept_end, leaf}
+use Rattle.type_faults.proofs.Lists.{from_one, nothing_left}
 use Rattle.names.specs.Scope.{scope_of}
 use Rattle.package_values.specs.Needs.{has_form}
 use Rattle.package_values.specs.ValueFaults.{form_fault, FormsFail}
@@ -24,7 +24,7 @@ loop-value-preserved c =
     let x : Expr = c.value-item.result in
     let all = FormsFail text s (exs_of xs) in
     let rest = FormsFail text s (exs_of (drop (k + 1) xs)) in
-    let own : Option Fault = form_fault (has_form text s (ex_of x)) (first_place (ex_of x)) in
+    let own : Option Fault = form_fault (has_form text s (ex_of x)) (first_pos (ex_of x)) in
     let own_is : c.form_fault.result ≡ own = c.form_fault.ensures ∙ ap (λ (b : Bool). form_fault b c.pos.result) c.has_form.ensures ∙ ap (λ (p : Pos). form_fault (has_form text s (ex_of x)) p) c.pos.ensures in
     let here : drop k xs ≡ x ∷ drop (k + 1) xs = from_one xs k x c.loop-value-test.true c.value-item.is in
     let kept = subst (λ (l : List Expr). Kept all (FormsFail text s (exs_of l)) c.loop-value.fault) here c.loop-value.invariant in

@@ -1,6 +1,6 @@
 use Rattle.std.proofs.Common.{drop}
 use Rattle.syntax.specs.Expressions.{exs_of}
-use Rattle.value_types.proofs.Leasts.{Kept}
+use Rattle.type_faults.proofs.Leasts.{Kept}
 use Rattle.names.specs.Scope.{scope_of}
 use Rattle.package_values.specs.ValueFaults.{FormsFail}
 use Rattle.package_values.proofs.faults.forms_fault.Given as goal

@@ -2,11 +2,11 @@ use Rattle.std.proofs.Common.{◌≡◌, ◌⊎◌, Bool, true, false, List, Opt
 use Rattle.syntax.specs.declared.expression.Expr.{Expr}
 use Rattle.syntax.specs.Expressions.{exs_of, ex_in}
 use Rattle.syntax.specs.Statements.{value_spec_of}
-use Rattle.value_types.specs.declared.fault.FaultKind.TheVariants.{ArgCount}
+use Rattle.type_faults.specs.declared.fault.FaultKind.TheVariants.{WrongCount}
 use Rattle.base.specs.declared.value_type.ValueType.{ValueType}
-use Rattle.value_types.specs.Faults.{fault}
-use Rattle.value_types.specs.Least.{IsLeast}
-use Rattle.value_types.proofs.Leasts.{least_join}
+use Rattle.type_faults.specs.Faults.{fault}
+use Rattle.type_faults.specs.Least.{IsLeast}
+use Rattle.type_faults.proofs.Leasts.{least_join}
 use Rattle.names.specs.Scope.{scope_of}
 use Rattle.expression_types.specs.Typing.{Seen, seen}
 use Rattle.expression_types.specs.Faults.{TakeFails}
@@ -19,7 +19,7 @@ returns c =
     let text = c.args.text.now in
     let s = scope_of c.args.scope.now in
     let v = value_spec_of c.args.spec.now in
-    let own = fault ArgCount c.args.pos in
+    let own = fault WrongCount c.args.pos in
     let bare : is_bare v.type_expr v.values ≡ false =
     sym (c.is_bare.ensures ∙ ap (λ (l : List Expr). is_bare v.type_expr (exs_of l)) c.deref.ensures.value) ∙ c.if-is_bare.false in
     let places : c.deref-2.result.now ≡ wanted text s v = c.deref-2.ensures.value ∙ c.in_ok-wanted.ensures in

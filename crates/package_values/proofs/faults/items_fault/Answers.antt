@@ -1,7 +1,7 @@
 use Rattle.std.proofs.Common.{◌≡◌, ◌⊎◌, List, ap, ◌∙◌, subst}
 use Rattle.syntax.specs.Declarations.{declarations_of}
-use Rattle.value_types.specs.Least.{IsLeast}
-use Rattle.value_types.proofs.Leasts.{least_join}
+use Rattle.type_faults.specs.Least.{IsLeast}
+use Rattle.type_faults.proofs.Leasts.{least_join}
 use Rattle.names.specs.Scope.{scope_of}
 use Rattle.package_values.specs.Values.{Item, items_in}
 use Rattle.package_values.specs.ValueFaults.{DeclarationsFail, NamesFail, Recurs}

@@ -2,13 +2,13 @@ use Rattle.std.proofs.Common.{◌≡◌, ℕ, suc, [], ◌∷◌, ◌+◌, List,
 use Rattle.std.specs.Prelude.{codes}
 use Rattle.std.specs.Str.{bytes_eq}
 use Rattle.syntax.specs.Expressions.{spelled}
-use Rattle.value_types.specs.declared.fault.Fault.{Fault}
-use Rattle.value_types.specs.Least.{lesser}
-use Rattle.value_types.specs.Faults.{IsFault}
-use Rattle.value_types.proofs.Leasts.{Kept, kept_start, kept_more, kept_end, leaf}
+use Rattle.type_faults.specs.declared.fault.Fault.{Fault}
+use Rattle.type_faults.specs.Least.{lesser}
+use Rattle.type_faults.specs.Faults.{IsFault}
+use Rattle.type_faults.proofs.Leasts.{Kept, kept_start, kept_more, kept_end, leaf}
 use Rattle.names.specs.Universe.{is_blank}
 use Rattle.names.specs.Scope.{scope_of, declaration}
-use Rattle.value_types.proofs.Lists.{from_one, nothing_left}
+use Rattle.type_faults.proofs.Lists.{from_one, nothing_left}
 use Rattle.package_values.specs.declared.items.Item.{Item as ItemData}
 use Rattle.package_values.specs.ValueFaults.{value_name_fault, NamesFail}
 use Rattle.package_values.specs.Passing.{item_views}

@@ -1,5 +1,5 @@
 use Rattle.std.proofs.Common.{drop}
-use Rattle.value_types.proofs.Leasts.{Kept}
+use Rattle.type_faults.proofs.Leasts.{Kept}
 use Rattle.names.specs.Scope.{scope_of}
 use Rattle.package_values.specs.ValueFaults.{NamesFail}
 use Rattle.package_values.specs.Passing.{item_views}

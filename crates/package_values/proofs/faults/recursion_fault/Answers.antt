@@ -1,8 +1,8 @@
 use Rattle.std.proofs.Common.{◌≡◌, ◌⊎◌, ◌+◌, ◌≤◌, Some, length, map, ap, ◌∙◌, subst, sym, arith}
 use Rattle.std.specs.Prelude.{slice_get}
 use Rattle.base.specs.declared.pos.Pos.{Pos}
-use Rattle.value_types.specs.Least.{IsLeast}
-use Rattle.value_types.proofs.Leasts.{kept_start, kept_more, kept_end}
+use Rattle.type_faults.specs.Least.{IsLeast}
+use Rattle.type_faults.proofs.Leasts.{kept_start, kept_more, kept_end}
 use Rattle.names.specs.Scope.{scope_of}
 use Rattle.package_values.specs.declared.items.Item.{Item as ItemData}
 use Rattle.package_values.specs.Needs.{needed}

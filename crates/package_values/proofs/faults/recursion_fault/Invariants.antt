@@ -1,4 +1,4 @@
-use Rattle.value_types.proofs.Leasts.{Kept}
+use Rattle.type_faults.proofs.Leasts.{Kept}
 use Rattle.names.specs.Scope.{scope_of}
 use Rattle.package_values.specs.ValueFaults.{Recurs}
 use Rattle.package_values.specs.Passing.{item_views}

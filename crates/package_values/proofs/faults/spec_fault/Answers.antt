@@ -2,11 +2,11 @@ use Rattle.std.proofs.Common.{◌≡◌, ◌⊎◌, ℕ, List, Option, length, a
 use Rattle.syntax.specs.declared.expression.Expr.{Expr}
 use Rattle.syntax.specs.Expressions.{exs_of}
 use Rattle.syntax.specs.Statements.{value_spec_of}
-use Rattle.value_types.specs.declared.fault.FaultKind.TheVariants.{ArgCount}
+use Rattle.type_faults.specs.declared.fault.FaultKind.TheVariants.{WrongCount}
 use Rattle.base.specs.declared.value_type.ValueType.{ValueType}
-use Rattle.value_types.specs.Least.{IsLeast}
-use Rattle.value_types.specs.Faults.{fault}
-use Rattle.value_types.proofs.Leasts.{least_join, leaf}
+use Rattle.type_faults.specs.Least.{IsLeast}
+use Rattle.type_faults.specs.Faults.{fault}
+use Rattle.type_faults.proofs.Leasts.{least_join, leaf}
 use Rattle.names.specs.Scope.{scope_of}
 use Rattle.expression_types.specs.Typing.{Seen, seen}
 use Rattle.expression_types.specs.Faults.{SinglesFail, FailsInEach, CountFails, count_fault}
@@ -21,7 +21,7 @@ returns c =
     let v = value_spec_of c.args.spec.now in
     let os = seen text s v.values in
     let t = type_asked text s v.type_expr in
-    let own = fault ArgCount c.args.pos in
+    let own = fault WrongCount c.args.pos in
     let listed = c.in_ok-listed.listed in
     let es : c.deref.result.now ≡ c.args.spec.now.values.items = c.deref.ensures.value in
     let seen_is : seens listed.items.items ≡ os = c.in_ok-listed.ensures.seen ∙ ap (λ (l : List Expr). seen text s (exs_of l)) es in

@@ -1,6 +1,6 @@
 use Rattle.std.proofs.Common.{drop}
 use Rattle.syntax.specs.Statements.{value_specs_of}
-use Rattle.value_types.proofs.Leasts.{Kept}
+use Rattle.type_faults.proofs.Leasts.{Kept}
 use Rattle.names.specs.Scope.{scope_of}
 use Rattle.package_values.specs.ValueFaults.{SpecsFail}
 use Rattle.package_values.proofs.faults.specs_fault.Given as goal

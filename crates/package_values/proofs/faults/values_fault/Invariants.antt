@@ -1,5 +1,5 @@
 use Rattle.std.proofs.Common.{drop}
-use Rattle.value_types.proofs.Leasts.{Kept}
+use Rattle.type_faults.proofs.Leasts.{Kept}
 use Rattle.expression_types.specs.Passing.{seens}
 use Rattle.package_values.specs.ValueFaults.{ValuesFail}
 use Rattle.package_values.proofs.faults.values_fault.Given as goal

@@ -1,7 +1,7 @@
 use Rattle.std.proofs.Common.{List, Option, map, ap, ◌∙◌}
 use Rattle.syntax.specs.declared.expression.Name.{Name}
 use Rattle.base.specs.declared.value_type.ValueType.{ValueType}
-use Rattle.value_types.proofs.Leasts.{if_ok}
+use Rattle.type_faults.proofs.Leasts.{if_ok}
 use Rattle.package_values.proofs.faults.wanted.Goals as goal
 
 pub returns : goal.returns

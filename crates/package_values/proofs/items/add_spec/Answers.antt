@@ -2,7 +2,7 @@ use Rattle.std.proofs.Common.{◌≡◌, ◌++◌, List, length, ap, ◌∙◌, 
 use Rattle.syntax.specs.declared.expression.Name.{Name}
 use Rattle.syntax.specs.declared.expression.Expr.{Expr}
 use Rattle.syntax.specs.Expressions.{exs_of, ex_in}
-use Rattle.value_types.proofs.Leasts.{if_ok}
+use Rattle.type_faults.proofs.Leasts.{if_ok}
 use Rattle.package_values.specs.Values.{Item, unvalued}
 use Rattle.package_values.specs.Passing.{item_views, pairs}
 use Rattle.package_values.proofs.ItemLists.{items_valued, items_unvalued}

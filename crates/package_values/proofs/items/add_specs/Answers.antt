@@ -1,7 +1,7 @@
 use Rattle.std.proofs.Common.{◌≡◌, [], ◌∷◌, ◌+◌, ◌++◌, List, drop, sym, ap, ◌∙◌, append-nil, arith}
 use Rattle.syntax.specs.declared.statement.ValueSpec.{ValueSpec}
 use Rattle.syntax.specs.Statements.{value_spec_of, value_specs_of}
-use Rattle.value_types.proofs.Lists.{from_one, nothing_left}
+use Rattle.type_faults.proofs.Lists.{from_one, nothing_left}
 use Rattle.package_values.specs.Values.{items_of, items_in_specs}
 use Rattle.package_values.specs.Passing.{item_views}
 use Rattle.package_values.proofs.ItemLists.{joined}

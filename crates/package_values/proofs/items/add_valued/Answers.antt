@@ -2,7 +2,7 @@ use Rattle.std.proofs.Common.{◌≡◌, ℕ, ◌<◌, ◌≤◌, ◌∷◌, ◌
 use Rattle.syntax.specs.declared.expression.Name.{Name}
 use Rattle.syntax.specs.declared.expression.Expr.{Expr}
 use Rattle.syntax.specs.Expressions.{exs_of, ex_of, ex_in}
-use Rattle.value_types.proofs.Lists.{from_there, from_one}
+use Rattle.type_faults.proofs.Lists.{from_there, from_one}
 use Rattle.names.proofs.Places.{no_name}
 use Rattle.package_values.specs.Passing.{item_views, pairs}
 use Rattle.package_values.proofs.ItemLists.{pushed, no_pairs}

@@ -4,8 +4,8 @@ use Rattle.syntax.specs.declared.expression.Expr.{Expr}
 use Rattle.syntax.specs.declared.expression.Element.{Element}
 use Rattle.syntax.specs.Expressions.{ex_of, exs_of, elements_of, call, literal}
 use Rattle.syntax.proofs.Views.{expr_rows}
-use Rattle.value_types.proofs.Leasts.{if_ok}
-use Rattle.value_types.proofs.Lists.{from_one, nothing_left}
+use Rattle.type_faults.proofs.Leasts.{if_ok}
+use Rattle.type_faults.proofs.Lists.{from_one, nothing_left}
 use Rattle.package_values.specs.Needs.{names_in, names_in_each, names_in_elements}
 use Rattle.package_values.specs.Passing.{names_in_element}
 use Rattle.package_values.proofs.ItemLists.{names_in_one}

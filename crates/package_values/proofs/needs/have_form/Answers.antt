@@ -3,7 +3,7 @@ use Rattle.std.specs.Prelude.{◌&&◌}
 use Rattle.syntax.specs.declared.expression.Expr.{Expr}
 use Rattle.syntax.specs.Expressions.{exs_of}
 use Rattle.names.specs.Scope.{scope_of}
-use Rattle.value_types.proofs.Lists.{from_one, nothing_left, and_true}
+use Rattle.type_faults.proofs.Lists.{from_one, nothing_left, and_true}
 use Rattle.package_values.specs.Needs.{have_form}
 use Rattle.package_values.proofs.needs.have_form.Goals as goal
 

@@ -2,7 +2,7 @@ use Rattle.std.proofs.Common.{◌≡◌, ℕ, [], ◌∷◌, ◌+◌, ◌++◌, 
 use Rattle.syntax.specs.declared.expression.Name.{Name}
 use Rattle.syntax.specs.Expressions.{spelled}
 use Rattle.names.specs.Scope.{scope_of, declaration}
-use Rattle.value_types.proofs.Lists.{from_there, nothing_left}
+use Rattle.type_faults.proofs.Lists.{from_there, nothing_left}
 use Rattle.names.proofs.Places.{no_name}
 use Rattle.package_values.specs.Needs.{value_number, also, numbers_of}
 use Rattle.package_values.proofs.needs.numbers_of.Goals as goal

@@ -1,6 +1,6 @@
 use Rattle.std.proofs.Common.{rules, ◌≡◌, ℕ, Bool, ◌+◌, ◌<◌, [], ◌∷◌, ◌++◌, List, false, length, replicate, sym, ap, ◌∙◌, subst, arith}
 use Rattle.std.specs.Global.{Vec}
-use Rattle.value_types.proofs.Lists.{no_items}
+use Rattle.type_faults.proofs.Lists.{no_items}
 use Rattle.package_values.proofs.ItemLists.{many_views}
 use Rattle.package_values.specs.Passing.{table_of, row, Search, search_of, mark_each, is_marked}
 use Rattle.package_values.proofs.Walks.{Walked, walk_start, walk_more, walk_end, fewer, fresh, with_rest, unmarked}

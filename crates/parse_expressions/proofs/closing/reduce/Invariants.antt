@@ -7,7 +7,7 @@ use Rattle.parse_expressions.proofs.closing.reduce.Given as goal
 abbrev pub invariant-tighter : goal.invariant-tighter
 invariant-tighter l = record {
   reduced : reduce l.p (frames_in l.reading) (ex_of l.part.expr) ≡ reduce l.fn.p (frames_in l.fn.reading) (ex_of l.fn.part.expr);
-  place : l.reading.place ≡ l.fn.reading.place;
+  context : l.reading.context ≡ l.fn.reading.context;
 }
 
 abbrev pub decreases-tighter : goal.decreases-tighter

@@ -7,7 +7,7 @@ use Rattle.parse_expressions.proofs.closing_type.reduce_type.Given as goal
 abbrev pub invariant-stars : goal.invariant-stars
 invariant-stars l = record {
   reduced : reduce_type (frames_in l.reading) (ex_of l.part.expr) ≡ reduce_type (frames_in l.fn.reading) (ex_of l.fn.part.expr);
-  place : l.reading.place ≡ l.fn.reading.place;
+  context : l.reading.context ≡ l.fn.reading.context;
 }
 
 abbrev pub decreases-stars : goal.decreases-stars

@@ -7,7 +7,7 @@ use Rattle.parse_expressions.proofs.types.type_done.Given as goal
 abbrev pub invariant-prefixes : goal.invariant-prefixes
 invariant-prefixes l = record {
   done : type_done (frames_in l.reading) (ex_of l.part.expr) ≡ type_done (frames_in l.fn.reading) (ex_of l.fn.part.expr);
-  place : l.reading.place ≡ l.fn.reading.place;
+  context : l.reading.context ≡ l.fn.reading.context;
 }
 
 abbrev pub decreases-prefixes : goal.decreases-prefixes

@@ -1,6 +1,6 @@
 use Rattle.std.proofs.Common.{length}
 use Rattle.parse_go.specs.Signatures.{file_in}
-use Rattle.parse_go.proofs.Places.{fault_only, tree_only}
+use Rattle.parse_go.proofs.Positions.{fault_only, tree_only}
 use Rattle.parse_go.proofs.NameSpans.{answer_spans}
 use Rattle.parse_go.proofs.parsing.parse.Goals as goal
 

@@ -6,9 +6,9 @@ use Rattle.scan_go.proofs.lines.with_semicolons.Given as goal
 abbrev pub invariant-loop-lexeme : goal.invariant-loop-lexeme
 invariant-loop-lexeme l = record {
   so_far : l.tokens.items ++ with_semicolons l.text l.rest ≡ with_semicolons l.text l.lexemes;
-  place : l.place ≡ pos_at l.text l.place.offset;
-  fits : PosFits l.place;
-  order : InOrder l.place.offset l.rest (length l.text);
+  pos : l.pos ≡ pos_at l.text l.pos.offset;
+  fits : PosFits l.pos;
+  order : InOrder l.pos.offset l.rest (length l.text);
 }
 
 abbrev pub decreases-loop-lexeme : goal.decreases-loop-lexeme

@@ -1,11 +1,11 @@
 use Rattle.std.proofs.Common.{arith, sym, ap, ◌∙◌}
 use Rattle.std.proofs.lemmas.List.{take_rest}
 use Rattle.scan_go.specs.Strings.{fault_at}
-use Rattle.scan_go.proofs.StringEnd.{fault_here, fault_later, no_fault, behind-zero}
+use Rattle.scan_go.proofs.StringEnd.{fault_here, fault_later, no_fault, after-zero}
 use Rattle.scan_go.proofs.string.fault_within.Goals as goal
 
 pub loop-i-init : goal.loop-i-init
-loop-i-init c = behind-zero _
+loop-i-init c = after-zero _
 
 pub returns-in-Some-clause-value : goal.returns-in-Some-clause-value
 returns-in-Some-clause-value c =

@@ -1,9 +1,9 @@
 use Rattle.std.proofs.Common.{◌≡◌, [], ◌∷◌, ◌+◌, List, drop, map, get_or, sym, ap, ◌∙◌, subst, refl, arith}
 use Rattle.std.specs.Option.{option_map}
 use Rattle.typed.specs.View.{site_in}
-use Rattle.value_types.proofs.Leasts.{Kept, kept_start, kept_more, kept_end}
+use Rattle.type_faults.proofs.Leasts.{Kept, kept_start, kept_more, kept_end}
 use Rattle.names.specs.Scope.{scope_of}
-use Rattle.value_types.proofs.Lists.{from_there, nothing_left, joined, joined_start, joined_more, joined_none}
+use Rattle.type_faults.proofs.Lists.{from_there, nothing_left, joined, joined_start, joined_more, joined_none}
 use Rattle.signatures.proofs.entries.check_entries.Goals as goal
 use Rattle.signatures.specs.declared.slots.Slot.{Slot}
 use Rattle.signatures.specs.Entries.{entry_in, behind_entry, entries, behind_entries}

@@ -1,9 +1,9 @@
 use Rattle.std.proofs.Common.{◌≡◌, drop, map}
 use Rattle.std.specs.Option.{option_map}
 use Rattle.typed.specs.View.{site_in}
-use Rattle.value_types.proofs.Leasts.{Kept}
+use Rattle.type_faults.proofs.Leasts.{Kept}
 use Rattle.names.specs.Scope.{scope_of}
-use Rattle.value_types.proofs.Lists.{joined}
+use Rattle.type_faults.proofs.Lists.{joined}
 use Rattle.signatures.proofs.entries.check_entries.Given as goal
 use Rattle.signatures.specs.Entries.{entries, behind_entries}
 use Rattle.signatures.specs.EntryFaults.{EntriesFail}

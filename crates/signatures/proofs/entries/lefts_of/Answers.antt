@@ -3,7 +3,7 @@ use Rattle.std.proofs.lemmas.List.{map-append}
 use Rattle.base.specs.declared.ids.SiteId.{SiteId}
 use Rattle.typed.specs.declared.stmt.Left.{Left}
 use Rattle.typed.specs.View.{site_in, left_of}
-use Rattle.value_types.proofs.Lists.{from_there, nothing_left}
+use Rattle.type_faults.proofs.Lists.{from_there, nothing_left}
 use Rattle.signatures.proofs.entries.lefts_of.Goals as goal
 use Rattle.signatures.specs.Entries.{entry_left}
 

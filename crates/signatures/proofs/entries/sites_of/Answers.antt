@@ -1,7 +1,7 @@
 use Rattle.std.proofs.Common.{◌≡◌, [], ◌∷◌, ◌++◌, ◌+◌, List, drop, map, get_or, Option, None, sym, ap, ◌∙◌, refl, arith, append-nil}
 use Rattle.base.specs.declared.ids.SiteId.{SiteId}
 use Rattle.typed.specs.View.{site_in}
-use Rattle.value_types.proofs.Lists.{from_there, nothing_left}
+use Rattle.type_faults.proofs.Lists.{from_there, nothing_left}
 use Rattle.signatures.proofs.entries.sites_of.Goals as goal
 use Rattle.signatures.specs.Entries.{sites_of}
 use Rattle.signatures.proofs.Sites.{sites_more}

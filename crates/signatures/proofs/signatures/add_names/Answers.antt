@@ -2,7 +2,7 @@ use Rattle.std.proofs.Common.{◌≡◌, [], ◌∷◌, ◌+◌, List, drop, get
 use Rattle.syntax.specs.declared.expression.Name.{Name}
 use Rattle.names.specs.Scope.{scope_of}
 use Rattle.names.specs.declared.scope.Declared.TheVariants.{Untyped}
-use Rattle.value_types.proofs.Lists.{from_there, nothing_left}
+use Rattle.type_faults.proofs.Lists.{from_there, nothing_left}
 use Rattle.names.proofs.Places.{no_name}
 use Rattle.signatures.proofs.signatures.add_names.Goals as goal
 use Rattle.signatures.specs.Signatures.{with_names}

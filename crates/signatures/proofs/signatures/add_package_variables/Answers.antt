@@ -2,7 +2,7 @@ use Rattle.std.proofs.Common.{◌≡◌, [], ◌∷◌, ◌+◌, List, drop, sym
 use Rattle.syntax.specs.declared.statement.ValueSpec.{ValueSpec}
 use Rattle.syntax.specs.Statements.{value_specs_of}
 use Rattle.names.specs.Scope.{scope_of}
-use Rattle.value_types.proofs.Lists.{from_one, nothing_left}
+use Rattle.type_faults.proofs.Lists.{from_one, nothing_left}
 use Rattle.signatures.proofs.signatures.add_package_variables.Goals as goal
 use Rattle.signatures.specs.Signatures.{with_package_variables}
 

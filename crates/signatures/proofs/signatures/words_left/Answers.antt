@@ -1,15 +1,15 @@
 use Rattle.std.proofs.Common.{◌≡◌, ℕ, ◌+◌, ◌<◌, List, drop, length, get_or, sym, ap, ◌∙◌, arith}
 use Rattle.base.specs.declared.value_type.ValueType.{ValueType}
 use Rattle.base.specs.declared.value_type.ValueType.TheVariants.{Int}
-use Rattle.value_trees.specs.Types.{width}
-use Rattle.typed.specs.Syntax.{all_width}
+use Rattle.typed_syntax.specs.Types.{width}
+use Rattle.typed_syntax.specs.Syntax.{all_width}
 use Rattle.typed.specs.Tables.{Table}
 use Rattle.typed.specs.Trees.{tree_named}
-use Rattle.value_types.proofs.Lists.{from_there}
+use Rattle.type_faults.proofs.Lists.{from_there}
 use Rattle.names.specs.Scope.{type_number, type_trees}
 use Rattle.signatures.proofs.signatures.words_left.Goals as goal
 
--- the words from a type on are its own and those of the types behind it
+-- the words from a type on are its own and those of the types after it
 words_from : (T : Table) (ts : List ValueType) (k id words : ℕ) → k < length ts → id ≡ type_number T (get_or ts k Int) → words ≡ width (tree_named T id)
     → all_width (type_trees T (drop k ts)) ≡ words + all_width (type_trees T (drop (k + 1) ts))
 words_from T ts k id words lt id_is words_are =

@@ -1,6 +1,6 @@
 -- The words that are left and those of the types so far are the room.
 use Rattle.std.proofs.Common.{◌≡◌, ◌+◌, drop}
-use Rattle.typed.specs.Syntax.{all_width}
+use Rattle.typed_syntax.specs.Syntax.{all_width}
 use Rattle.names.specs.Scope.{type_trees}
 use Rattle.signatures.proofs.signatures.words_left.Given as goal
 

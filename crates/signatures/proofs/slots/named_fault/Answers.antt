@@ -2,11 +2,11 @@ use Rattle.std.proofs.Common.{◌≡◌, [], ◌∷◌, ◌+◌, ◌⊎◌, List
 use Rattle.syntax.specs.declared.expression.Name.{Name}
 use Rattle.syntax.specs.declared.declaration.Field.{Field}
 use Rattle.syntax.specs.Expressions.{ex_of}
-use Rattle.value_types.specs.Least.{IsLeast}
+use Rattle.type_faults.specs.Least.{IsLeast}
 use Rattle.syntax.specs.Declarations.{field_of, fields_of}
-use Rattle.value_types.proofs.Leasts.{Kept, kept_start, kept_more, kept_end}
+use Rattle.type_faults.proofs.Leasts.{Kept, kept_start, kept_more, kept_end}
 use Rattle.names.specs.Scope.{scope_of}
-use Rattle.value_types.proofs.Lists.{from_one, nothing_left}
+use Rattle.type_faults.proofs.Lists.{from_one, nothing_left}
 use Rattle.signatures.proofs.slots.named_fault.Goals as goal
 use Rattle.signatures.specs.Signatures.{param_with, field_params, named_params}
 use Rattle.signatures.specs.SignatureFaults.{TypesFail}

@@ -1,6 +1,6 @@
 use Rattle.std.proofs.Common.{drop}
 use Rattle.syntax.specs.Declarations.{fields_of}
-use Rattle.value_types.proofs.Leasts.{Kept}
+use Rattle.type_faults.proofs.Leasts.{Kept}
 use Rattle.names.specs.Scope.{scope_of}
 use Rattle.signatures.proofs.slots.named_fault.Given as goal
 use Rattle.signatures.specs.Signatures.{named_params}

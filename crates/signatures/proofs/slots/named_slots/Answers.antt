@@ -3,7 +3,7 @@ use Rattle.std.proofs.lemmas.List.{map-append}
 use Rattle.syntax.specs.declared.declaration.Field.{Field}
 use Rattle.syntax.specs.Declarations.{field_of, fields_of}
 use Rattle.names.specs.Scope.{scope_of}
-use Rattle.value_types.proofs.Lists.{from_one, nothing_left}
+use Rattle.type_faults.proofs.Lists.{from_one, nothing_left}
 use Rattle.signatures.proofs.slots.named_slots.Goals as goal
 use Rattle.signatures.specs.Signatures.{field_params, named_params, slot_of}
 

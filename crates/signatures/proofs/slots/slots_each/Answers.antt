@@ -3,7 +3,7 @@ use Rattle.std.specs.Prelude.{option_and_then, slice_get}
 use Rattle.std.specs.Option.{option_map}
 use Rattle.syntax.specs.declared.expression.Name.{Name}
 use Rattle.base.specs.declared.value_type.ValueType.{ValueType}
-use Rattle.value_types.proofs.Lists.{from_there, nothing_left}
+use Rattle.type_faults.proofs.Lists.{from_there, nothing_left}
 use Rattle.names.proofs.Places.{no_name}
 use Rattle.signatures.proofs.slots.slots_each.Goals as goal
 use Rattle.signatures.specs.declared.slots.Slot.{Slot}

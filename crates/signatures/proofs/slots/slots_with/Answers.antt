@@ -1,6 +1,6 @@
 use Rattle.std.proofs.Common.{◌≡◌, [], ◌∷◌, ◌+◌, ◌++◌, List, drop, map, get_or, sym, ap, ◌∙◌, append_assoc, append-nil, arith}
 use Rattle.syntax.specs.declared.expression.Name.{Name}
-use Rattle.value_types.proofs.Lists.{from_there, nothing_left}
+use Rattle.type_faults.proofs.Lists.{from_there, nothing_left}
 use Rattle.names.proofs.Places.{no_name}
 use Rattle.signatures.proofs.slots.slots_with.Goals as goal
 use Rattle.signatures.specs.Entries.{slot_with}

@@ -3,7 +3,7 @@ use Rattle.syntax.specs.declared.expression.Expr.{Expr}
 use Rattle.syntax.specs.declared.declaration.Field.{Field}
 use Rattle.syntax.specs.Expressions.{exs_of}
 use Rattle.syntax.specs.Declarations.{fields_of}
-use Rattle.value_types.specs.Least.{IsLeast}
+use Rattle.type_faults.specs.Least.{IsLeast}
 use Rattle.names.specs.Scope.{scope_of}
 use Rattle.signatures.proofs.slots.types_fault.Goals as goal
 use Rattle.signatures.specs.Signatures.{unnamed_params, named_params}

@@ -1,6 +1,6 @@
 use Rattle.std.proofs.Common.{◌≡◌, [], ◌∷◌, ◌+◌, List, drop, get_or, sym, ap, ◌∙◌, arith}
 use Rattle.std.specs.Option.{option_map}
-use Rattle.value_types.proofs.Lists.{from_there, nothing_left, joined, joined_start, joined_more, joined_none}
+use Rattle.type_faults.proofs.Lists.{from_there, nothing_left, joined, joined_start, joined_more, joined_none}
 use Rattle.signatures.proofs.slots.types_of.Goals as goal
 use Rattle.signatures.specs.declared.slots.Slot.{Slot}
 use Rattle.signatures.proofs.Items.{no_slot}

@@ -1,6 +1,6 @@
 use Rattle.std.proofs.Common.{◌≡◌, drop}
 use Rattle.std.specs.Option.{option_map}
-use Rattle.value_types.proofs.Lists.{joined}
+use Rattle.type_faults.proofs.Lists.{joined}
 use Rattle.signatures.proofs.slots.types_of.Given as goal
 use Rattle.signatures.specs.Signatures.{types_of}
 

@@ -3,7 +3,7 @@ use Rattle.syntax.specs.declared.expression.Expr.{Expr}
 use Rattle.syntax.specs.Expressions.{ex_of, exs_of}
 use Rattle.names.specs.Types.{type_in}
 use Rattle.names.specs.Scope.{scope_of}
-use Rattle.value_types.proofs.Lists.{from_one, nothing_left}
+use Rattle.type_faults.proofs.Lists.{from_one, nothing_left}
 use Rattle.signatures.proofs.slots.unnamed_slots.Goals as goal
 use Rattle.signatures.specs.declared.slots.Slot.{Slot}
 use Rattle.signatures.specs.Signatures.{unnamed_params, slot_of}

@@ -1,7 +1,7 @@
 use Rattle.std.proofs.Common.{◌≡◌, [], ◌∷◌, ◌+◌, ◌++◌, List, drop, get_or, sym, ap, ◌∙◌, append_assoc, append-nil, arith}
 use Rattle.syntax.specs.declared.expression.Name.{Name}
 use Rattle.names.specs.Scope.{scope_of}
-use Rattle.value_types.proofs.Lists.{from_there, nothing_left}
+use Rattle.type_faults.proofs.Lists.{from_there, nothing_left}
 use Rattle.names.proofs.Places.{no_name}
 use Rattle.simple_statements.proofs.declaring.all_new_wanted.Goals as goal
 use Rattle.simple_statements.specs.SimpleStatements.{new_wanted, all_new_wanted}

@@ -3,7 +3,7 @@ use Rattle.syntax.specs.declared.expression.Expr.{Expr}
 use Rattle.syntax.specs.Expressions.{ex_of, exs_of}
 use Rattle.names.specs.Scope.{scope_of}
 use Rattle.names.specs.Naming.{name_in}
-use Rattle.value_types.proofs.Lists.{from_one, nothing_left}
+use Rattle.type_faults.proofs.Lists.{from_one, nothing_left}
 use Rattle.simple_statements.proofs.declaring.all_wanted.Goals as goal
 use Rattle.simple_statements.specs.SimpleStatements.{wanted, all_wanted}
 

@@ -3,10 +3,10 @@ use Rattle.std.specs.Option.{option_map}
 use Rattle.syntax.specs.declared.expression.Expr.{Expr}
 use Rattle.syntax.specs.Expressions.{ex_of, exs_of}
 use Rattle.typed.specs.View.{left_of as left_view}
-use Rattle.value_types.proofs.Leasts.{Kept, kept_start, kept_more, kept_end}
+use Rattle.type_faults.proofs.Leasts.{Kept, kept_start, kept_more, kept_end}
 use Rattle.names.specs.Scope.{scope_of}
 use Rattle.names.specs.Naming.{name_in}
-use Rattle.value_types.proofs.Lists.{from_one, nothing_left, joined, joined_start, joined_more, joined_none}
+use Rattle.type_faults.proofs.Lists.{from_one, nothing_left, joined, joined_start, joined_more, joined_none}
 use Rattle.simple_statements.proofs.declaring.check_lefts.Goals as goal
 use Rattle.simple_statements.specs.SimpleStatements.{left, lefts}
 use Rattle.simple_statements.specs.SimpleFaults.{LeftSideFails, LeftsFail}

@@ -1,6 +1,6 @@
 use Rattle.std.proofs.Common.{◌≡◌, [], ◌∷◌, rules}
 use Rattle.std.specs.Prelude.{not, is_some}
-use Rattle.value_types.proofs.Leasts.{least_join, leaf}
+use Rattle.type_faults.proofs.Leasts.{least_join, leaf}
 use Rattle.names.specs.Scope.{scope_of}
 use Rattle.simple_statements.proofs.declaring.check_names.Goals as goal
 use Rattle.simple_statements.specs.SimpleStatements.{are_distinct, has_all}

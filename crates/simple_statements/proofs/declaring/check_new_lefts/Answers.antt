@@ -3,12 +3,12 @@ use Rattle.std.specs.Option.{option_map}
 use Rattle.syntax.specs.declared.expression.Name.{Name}
 use Rattle.syntax.specs.Expressions.{spelled}
 use Rattle.typed.specs.View.{left_of as left_view}
-use Rattle.value_types.specs.Faults.{IsFault}
-use Rattle.value_types.proofs.Leasts.{Kept, kept_start, kept_more, kept_end}
+use Rattle.type_faults.specs.Faults.{IsFault}
+use Rattle.type_faults.proofs.Leasts.{Kept, kept_start, kept_more, kept_end}
 use Rattle.names.specs.Universe.{is_blank}
 use Rattle.names.specs.Scope.{scope_of, declaration, is_here}
-use Rattle.value_types.specs.Given.{with_last}
-use Rattle.value_types.proofs.Lists.{from_there, nothing_left, joined, joined_start, joined_more, joined_none}
+use Rattle.type_faults.specs.Given.{with_last}
+use Rattle.type_faults.proofs.Lists.{from_there, nothing_left, joined, joined_start, joined_more, joined_none}
 use Rattle.names.proofs.Places.{no_name}
 use Rattle.simple_statements.proofs.declaring.check_new_lefts.Goals as goal
 use Rattle.simple_statements.specs.SimpleStatements.{declares, new_left, new_lefts}

@@ -1,6 +1,6 @@
 use Rattle.std.proofs.Common.{◌≡◌, [], ◌∷◌, ◌+◌, List, drop, get_or, sym, ap, ◌∙◌, arith}
 use Rattle.names.specs.Scope.{scope_of}
-use Rattle.value_types.proofs.Lists.{from_there, nothing_left}
+use Rattle.type_faults.proofs.Lists.{from_there, nothing_left}
 use Rattle.simple_statements.proofs.declaring.declare_variables.Goals as goal
 use Rattle.signatures.specs.declared.slots.Slot.{Slot}
 use Rattle.signatures.proofs.Items.{no_slot}

@@ -2,7 +2,7 @@ use Rattle.std.proofs.Common.{◌≡◌, [], ◌∷◌, ◌+◌, List, drop, get
 use Rattle.std.specs.Prelude.{◌&&◌}
 use Rattle.syntax.specs.declared.expression.Name.{Name}
 use Rattle.names.specs.Scope.{scope_of}
-use Rattle.value_types.proofs.Lists.{from_there, nothing_left, and_true}
+use Rattle.type_faults.proofs.Lists.{from_there, nothing_left, and_true}
 use Rattle.names.proofs.Places.{no_name}
 use Rattle.simple_statements.proofs.declaring.has_all.Goals as goal
 use Rattle.simple_statements.specs.SimpleStatements.{has_all}

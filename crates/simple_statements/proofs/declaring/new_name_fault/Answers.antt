@@ -1,4 +1,4 @@
-use Rattle.value_types.proofs.Leasts.{leaf}
+use Rattle.type_faults.proofs.Leasts.{leaf}
 use Rattle.simple_statements.proofs.declaring.new_name_fault.Goals as goal
 
 pub returns : goal.returns

@@ -1,10 +1,10 @@
 use Rattle.std.proofs.Common.{◌≡◌, [], ◌∷◌, ◌+◌, List, drop, get_or, subst, arith}
 use Rattle.syntax.specs.declared.expression.Name.{Name}
 use Rattle.syntax.specs.Expressions.{spelled}
-use Rattle.value_types.specs.declared.fault.FaultKind.TheVariants.{Redeclared}
-use Rattle.value_types.specs.Faults.{fault, IsFault}
-use Rattle.value_types.proofs.Leasts.{Kept, kept_start, kept_more, kept_end, leaf}
-use Rattle.value_types.proofs.Lists.{from_there, nothing_left}
+use Rattle.type_faults.specs.declared.fault.FaultKind.TheVariants.{Redeclared}
+use Rattle.type_faults.specs.Faults.{fault, IsFault}
+use Rattle.type_faults.proofs.Leasts.{Kept, kept_start, kept_more, kept_end, leaf}
+use Rattle.type_faults.proofs.Lists.{from_there, nothing_left}
 use Rattle.names.proofs.Places.{no_name}
 use Rattle.simple_statements.proofs.declaring.twice_fault.Goals as goal
 use Rattle.signatures.specs.Failing.{fault_where}

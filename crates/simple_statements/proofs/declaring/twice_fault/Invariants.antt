@@ -1,5 +1,5 @@
 use Rattle.std.proofs.Common.{drop, [], ◌∷◌}
-use Rattle.value_types.proofs.Leasts.{Kept}
+use Rattle.type_faults.proofs.Leasts.{Kept}
 use Rattle.simple_statements.proofs.declaring.twice_fault.Given as goal
 use Rattle.simple_statements.specs.SimpleFaults.{TwiceFails}
 

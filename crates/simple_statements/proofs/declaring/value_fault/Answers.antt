@@ -1,9 +1,9 @@
 use Rattle.std.proofs.Common.{◌≡◌}
 use Rattle.std.specs.Option.{option_map}
-use Rattle.syntax.specs.FirstBytes.{first_place}
+use Rattle.syntax.specs.FirstBytes.{first_pos}
 use Rattle.syntax.specs.Expressions.{ex_of}
-use Rattle.value_types.specs.Faults.{IsFault}
-use Rattle.value_types.proofs.Leasts.{least_join, leaf}
+use Rattle.type_faults.specs.Faults.{IsFault}
+use Rattle.type_faults.proofs.Leasts.{least_join, leaf}
 use Rattle.names.specs.Scope.{scope_of}
 use Rattle.expression_types.specs.Typing.{gives}
 use Rattle.expression_types.specs.Faults.{Fails}
@@ -18,6 +18,6 @@ returns c =
     let e = ex_of c.args.e.now in
     let checked = c.in_ok-checked.checked in
     let given : option_map gives_of checked.gives ≡ gives text s e = c.in_ok-checked.ensures.gives in
-    let at : checked.pos ≡ first_place e = c.in_ok-checked.ensures.pos in
+    let at : checked.pos ≡ first_pos e = c.in_ok-checked.ensures.pos in
     rw (c.lesser-fault.ensures, c.value_left_fault-own.ensures, given, at)
-    (least_join (Fails text s e) (IsFault (value_left_fault (gives text s e) (first_place e))) checked.fault (value_left_fault (gives text s e) (first_place e)) c.in_ok-checked.ensures.fault (leaf (value_left_fault (gives text s e) (first_place e))))
+    (least_join (Fails text s e) (IsFault (value_left_fault (gives text s e) (first_pos e))) checked.fault (value_left_fault (gives text s e) (first_pos e)) c.in_ok-checked.ensures.fault (leaf (value_left_fault (gives text s e) (first_pos e))))

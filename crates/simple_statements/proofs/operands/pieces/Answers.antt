@@ -1,13 +1,13 @@
 use Rattle.std.proofs.Common.{◌≡◌, ℕ, ◌+◌, [], ◌∷◌, ◌++◌, List, refl, rules, sym, ap, ◌∙◌, map, length, arith, append-nil, length-append}
 use Rattle.std.specs.Vec.Iter.{into_iter_items}
-use Rattle.typed.specs.Syntax.{Piece}
+use Rattle.typed_syntax.specs.Syntax.{Piece}
 use Rattle.typed.specs.View.{piece_of}
 use Rattle.typed.specs.declared.stmt.Piece.{Piece as PieceData}
 use Rattle.names.specs.Scope.{Scope, scope_of, with_strings}
 use Rattle.expression_types.specs.declared.gives.Part.{Part}
 use Rattle.expression_types.specs.Typing.{Part as PartView}
 use Rattle.expression_types.specs.Passing.{part_view}
-use Rattle.value_types.proofs.Lists.{no_items}
+use Rattle.type_faults.proofs.Lists.{no_items}
 use Rattle.simple_statements.proofs.operands.pieces.Goals as goal
 use Rattle.simple_statements.specs.SimpleStatements.{strings_of, piece_from, pieces_from}
 use Rattle.simple_statements.proofs.Strings.{no_strings, strings_twice, strings_first, pieces_first, piece_more}

@@ -4,7 +4,7 @@ use Rattle.std.specs.Option.{option_map}
 use Rattle.syntax.specs.Expressions.{exs_of}
 use Rattle.typed.specs.View.{left_of}
 use Rattle.base.specs.declared.value_type.ValueType.{ValueType}
-use Rattle.value_types.specs.Least.{IsLeast}
+use Rattle.type_faults.specs.Least.{IsLeast}
 use Rattle.names.specs.Scope.{scope_of}
 use Rattle.expression_types.specs.declared.gives.Item.{Item}
 use Rattle.expression_types.specs.Typing.{count}

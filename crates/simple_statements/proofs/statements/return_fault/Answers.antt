@@ -1,9 +1,9 @@
 use Rattle.std.proofs.Common.{◌≡◌, false, List, Option, sym, ◌∙◌, subst, length}
 use Rattle.std.specs.Prelude.{◌==◌}
-use Rattle.value_types.specs.declared.fault.FaultKind.TheVariants.{ResultCount}
+use Rattle.type_faults.specs.declared.fault.FaultKind.TheVariants.{ResultCount}
 use Rattle.base.specs.declared.value_type.ValueType.{ValueType}
-use Rattle.value_types.specs.Least.{IsLeast}
-use Rattle.value_types.specs.Faults.{fault}
+use Rattle.type_faults.specs.Least.{IsLeast}
+use Rattle.type_faults.specs.Faults.{fault}
 use Rattle.expression_types.specs.Faults.{TakeFails}
 use Rattle.expression_types.specs.Passing.{seens}
 use Rattle.simple_statements.proofs.statements.return_fault.Goals as goal

@@ -2,10 +2,10 @@ use Rattle.std.proofs.Common.{◌≡◌, [], ◌∷◌, ◌+◌, List, drop, sym
 use Rattle.std.specs.Prelude.{◌&&◌, is_some}
 use Rattle.syntax.specs.declared.expression.Expr.{Expr}
 use Rattle.syntax.specs.Expressions.{ex_of, exs_of}
-use Rattle.value_types.proofs.Leasts.{Kept, kept_start, kept_more, kept_end}
+use Rattle.type_faults.proofs.Leasts.{Kept, kept_start, kept_more, kept_end}
 use Rattle.names.specs.Scope.{scope_of}
 use Rattle.names.specs.Naming.{name_in}
-use Rattle.value_types.proofs.Lists.{from_one, nothing_left, and_true, and_all}
+use Rattle.type_faults.proofs.Lists.{from_one, nothing_left, and_true, and_all}
 use Rattle.simple_statements.proofs.updating.check_sides.Goals as goal
 use Rattle.simple_statements.specs.SimpleStatements.{own_value}
 use Rattle.simple_statements.specs.SimpleFaults.{have_values, OwnSideFails, OwnSidesFail}

@@ -1,7 +1,7 @@
 use Rattle.std.proofs.Common.{◌≡◌, drop}
 use Rattle.std.specs.Prelude.{◌&&◌}
 use Rattle.syntax.specs.Expressions.{exs_of}
-use Rattle.value_types.proofs.Leasts.{Kept}
+use Rattle.type_faults.proofs.Leasts.{Kept}
 use Rattle.names.specs.Scope.{scope_of}
 use Rattle.simple_statements.proofs.updating.check_sides.Given as goal
 use Rattle.simple_statements.specs.SimpleFaults.{have_values, OwnSidesFail}

@@ -1,7 +1,7 @@
 use Rattle.std.proofs.Common.{◌≡◌, Option, Some, None, IfOk, sym, ap, ◌∙◌, subst}
 use Rattle.std.specs.Option.{option_map}
 use Rattle.syntax.specs.Expressions.{Ex, ex_of, exs_of}
-use Rattle.value_types.specs.Least.{IsLeast}
+use Rattle.type_faults.specs.Least.{IsLeast}
 use Rattle.names.specs.Scope.{scope_of}
 use Rattle.simple_statements.proofs.updating.check_update.Goals as goal
 use Rattle.simple_statements.specs.SimpleStatements.{only}

@@ -1,8 +1,8 @@
 use Rattle.std.proofs.Common.{◌≡◌, Some, None, sym, ◌∙◌, subst}
 use Rattle.base.specs.declared.pos.Pos.{Pos}
 use Rattle.syntax.specs.Expressions.{ex_of, spelled}
-use Rattle.value_types.specs.Least.{IsLeast}
-use Rattle.value_types.specs.Faults.{IsFault}
+use Rattle.type_faults.specs.Least.{IsLeast}
+use Rattle.type_faults.specs.Faults.{IsFault}
 use Rattle.names.specs.Universe.{is_blank}
 use Rattle.names.specs.Scope.{scope_of, declaration}
 use Rattle.names.specs.Naming.{name_in}

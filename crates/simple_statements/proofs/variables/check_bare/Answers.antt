@@ -1,7 +1,7 @@
 use Rattle.std.proofs.Common.{◌≡◌, List, None, ◌∙◌, subst}
 use Rattle.syntax.specs.Expressions.{exs_of, ex_in}
 use Rattle.syntax.specs.Statements.{value_spec_of}
-use Rattle.value_types.specs.Least.{IsLeast}
+use Rattle.type_faults.specs.Least.{IsLeast}
 use Rattle.names.specs.Scope.{scope_of}
 use Rattle.expression_types.specs.Typing.{seen}
 use Rattle.simple_statements.proofs.variables.check_bare.Goals as goal

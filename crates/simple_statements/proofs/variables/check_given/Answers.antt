@@ -2,8 +2,8 @@ use Rattle.std.proofs.Common.{◌≡◌, List, Option, ap, ◌∙◌, subst}
 use Rattle.syntax.specs.Expressions.{ex_in}
 use Rattle.syntax.specs.Statements.{value_spec_of}
 use Rattle.base.specs.declared.value_type.ValueType.{ValueType}
-use Rattle.value_types.specs.Least.{IsLeast}
-use Rattle.value_types.proofs.Leasts.{least_join}
+use Rattle.type_faults.specs.Least.{IsLeast}
+use Rattle.type_faults.proofs.Leasts.{least_join}
 use Rattle.names.specs.Scope.{scope_of}
 use Rattle.simple_statements.proofs.variables.check_given.Goals as goal
 use Rattle.signatures.specs.declared.slots.Slot.{Slot}

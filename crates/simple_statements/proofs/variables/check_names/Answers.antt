@@ -1,5 +1,5 @@
 use Rattle.std.proofs.Common.{None, sym}
-use Rattle.value_types.proofs.Leasts.{least_join, if_ok}
+use Rattle.type_faults.proofs.Leasts.{least_join, if_ok}
 use Rattle.simple_statements.proofs.variables.check_names.Goals as goal
 
 pub returns-then-is_bare-clause-fault : goal.returns-then-is_bare-clause-fault

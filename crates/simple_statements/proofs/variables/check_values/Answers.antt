@@ -1,11 +1,11 @@
 use Rattle.std.proofs.Common.{◌≡◌, List, Option, ap, ◌∙◌, subst}
 use Rattle.syntax.specs.Expressions.{exs_of}
 use Rattle.syntax.specs.Statements.{value_spec_of}
-use Rattle.value_types.specs.declared.fault.FaultKind.TheVariants.{ArgCount}
+use Rattle.type_faults.specs.declared.fault.FaultKind.TheVariants.{WrongCount}
 use Rattle.base.specs.declared.value_type.ValueType.{ValueType}
-use Rattle.value_types.specs.Least.{IsLeast}
-use Rattle.value_types.specs.Faults.{fault}
-use Rattle.value_types.proofs.Leasts.{least_join}
+use Rattle.type_faults.specs.Least.{IsLeast}
+use Rattle.type_faults.specs.Faults.{fault}
+use Rattle.type_faults.proofs.Leasts.{least_join}
 use Rattle.names.specs.Scope.{scope_of}
 use Rattle.expression_types.specs.Typing.{Seen, seen}
 use Rattle.expression_types.specs.Faults.{TakeFails, FailsInEach}
@@ -20,7 +20,7 @@ returns-clause-fault c =
     let s = scope_of c.args.scope.now in
     let v = value_spec_of c.args.spec.now in
     let listed = c.in_ok-listed.listed in
-    let own = fault ArgCount c.args.pos in
+    let own = fault WrongCount c.args.pos in
     let es : c.deref.result.now ≡ c.args.spec.now.values.items = c.deref.ensures.value in
     let each : IsLeast (FailsInEach text s v.values) listed.fault = subst (λ (l : List Expr). IsLeast (FailsInEach text s (exs_of l)) listed.fault) es c.in_ok-listed.ensures.fault in
     let ps : c.deref-2.result.now ≡ spec_wanted text s v = c.deref-2.ensures.value ∙ c.in_ok-wanted.ensures in

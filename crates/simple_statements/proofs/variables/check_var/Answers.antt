@@ -2,9 +2,9 @@ use Rattle.std.proofs.Common.{◌≡◌, [], ◌∷◌, ◌+◌, List, drop, sym
 use Rattle.std.specs.Option.{option_map}
 use Rattle.syntax.specs.declared.statement.ValueSpec.{ValueSpec}
 use Rattle.syntax.specs.Statements.{value_spec_of, value_specs_of}
-use Rattle.value_types.proofs.Leasts.{Kept, kept_start, kept_more, kept_end}
+use Rattle.type_faults.proofs.Leasts.{Kept, kept_start, kept_more, kept_end}
 use Rattle.names.specs.Scope.{scope_of}
-use Rattle.value_types.proofs.Lists.{from_one, nothing_left}
+use Rattle.type_faults.proofs.Lists.{from_one, nothing_left}
 use Rattle.simple_statements.proofs.variables.check_var.Goals as goal
 use Rattle.simple_statements.specs.SimpleStatements.{spec_statement, spec_statements, behind_spec, behind_specs}
 use Rattle.simple_statements.specs.SimpleFaults.{FailsInSpec, FailsInSpecs}

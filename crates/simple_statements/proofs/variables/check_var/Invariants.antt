@@ -1,7 +1,7 @@
 use Rattle.std.proofs.Common.{◌≡◌, drop}
 use Rattle.std.specs.Option.{option_map}
 use Rattle.syntax.specs.Statements.{value_specs_of}
-use Rattle.value_types.proofs.Leasts.{Kept}
+use Rattle.type_faults.proofs.Leasts.{Kept}
 use Rattle.names.specs.Scope.{scope_of}
 use Rattle.simple_statements.proofs.variables.check_var.Given as goal
 use Rattle.simple_statements.specs.SimpleStatements.{spec_statements, behind_specs}

@@ -1,6 +1,6 @@
 use Rattle.std.proofs.Common.{refl}
-use Rattle.simulated_code.specs.Code.{code_of}
-use Rattle.simulated_code.proofs.Stands.{compiled}
+use Rattle.program_code.specs.Code.{code_of}
+use Rattle.program_code.proofs.Stands.{compiled}
 use Rattle.simulated_code.proofs.Follows.{simulated}
 use Rattle.simulated_code.proofs.laws.code_simulates.Goals as goal
 

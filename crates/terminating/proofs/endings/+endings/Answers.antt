@@ -2,7 +2,7 @@ use Rattle.std.proofs.Common.{◌≡◌, [], ◌∷◌, ◌+◌, List, drop, sym
 use Rattle.syntax.specs.declared.statement.Stmt.{Stmt}
 use Rattle.syntax.specs.Statements.{stms_of}
 use Rattle.names.specs.Scope.{scope_of}
-use Rattle.value_types.proofs.Lists.{from_one, nothing_left}
+use Rattle.type_faults.proofs.Lists.{from_one, nothing_left}
 use Rattle.terminating.proofs.endings.+endings.Goals as goal
 use Rattle.terminating.specs.Terminating.{ends_after}
 

@@ -2,7 +2,7 @@ use Rattle.std.proofs.Common.{◌≡◌, Bool, true, false, [], ◌∷◌, ◌+�
 use Rattle.std.specs.Prelude.{◌||◌}
 use Rattle.syntax.specs.declared.statement.Stmt.{Stmt}
 use Rattle.syntax.specs.Statements.{stm_of, stms_of}
-use Rattle.value_types.proofs.Lists.{from_one, nothing_left}
+use Rattle.type_faults.proofs.Lists.{from_one, nothing_left}
 use Rattle.terminating.proofs.endings.+leaving.Goals as goal
 use Rattle.terminating.specs.Terminating.{leaves, leaves_any}
 

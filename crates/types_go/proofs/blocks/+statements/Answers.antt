@@ -3,21 +3,21 @@ use Rattle.std.specs.Option.{option_map}
 use Rattle.syntax.specs.declared.statement.Stmt.{Stmt}
 use Rattle.syntax.specs.declared.statement.Else.{Else}
 use Rattle.syntax.specs.declared.statement.ValueSpec.{ValueSpec}
-use Rattle.syntax.specs.Statements.{Stm, Stms, Els, stm_of, stms_of, els_of, guard_of, clause_of, simple_of, value_specs_of, declare, simple, choice, loop, block, give_back, else_block, else_if}
+use Rattle.syntax.specs.Statements.{Stm, Stms, Els, stm_of, stms_of, els_of, guard_of, clause_of, simple_of, value_specs_of, var_stmt, simple, if_stmt, for_stmt, block, return_stmt, else_block, else_if}
 use Rattle.syntax.specs.Expressions.{exs_of}
 use Rattle.syntax.proofs.Views.{stmt_rows}
-use Rattle.value_types.specs.Least.{IsLeast, lesser}
-use Rattle.value_types.proofs.Leasts.{if_ok}
+use Rattle.type_faults.specs.Least.{IsLeast, lesser}
+use Rattle.type_faults.proofs.Leasts.{if_ok}
 use Rattle.names.specs.Scope.{Scope, scope_of, opened, closed}
 use Rattle.types_go.proofs.blocks.+statements.Goals as goal
 use Rattle.simple_statements.specs.SimpleStatements.{returns_view}
 use Rattle.simple_statements.specs.SimpleFaults.{FailsInSpecs}
 use Rattle.types_go.specs.Statements.{header, clause_scope, behind_all}
 use Rattle.types_go.specs.StatementFaults.{FailsInStatement, FailsInStatements, FailsInElse}
-use Rattle.types_go.proofs.Growth.{grows_header, grows_clause, grows_all, keeps_block, keeps_else}
+use Rattle.types_go.proofs.StatementGrowth.{grows_header, grows_clause, grows_all, keeps_block, keeps_else}
 use Rattle.types_go.proofs.Sequences.{choice_least, loop_least, KeptStatements, split, nothing_left, one_more, given_all, at_end}
 
--- as many blocks are open behind a header as in it, and behind a body as before it
+-- as many blocks are open after a header as in it, and after a body as before it
 pub check_else-check_inner-requires-in-If : goal.check_else-check_inner-requires-in-If
 check_else-check_inner-requires-in-If t c =
     let inside : 0 < length c.check_guard.new.scope.names =
@@ -111,7 +111,7 @@ check_stmt-close-requires-in-For t c =
 
 pub check_inner-close-requires : goal.check_inner-close-requires
 check_inner-close-requires t c =
-    omega (arith, c.requires, (grows_all c.args.text.now (scope_of c.open.new.scope) (stms_of c.args.ms.now)).depth, ap (λ (v : Scope). length v.blocks) c.in_ok-open.ensures, ap (λ (v : Scope). length v.blocks) c.in_ok-lines.ensures.scope)
+    omega (arith, c.requires, (grows_all c.args.text.now (scope_of c.open.new.self) (stms_of c.args.ms.now)).depth, ap (λ (v : Scope). length v.blocks) c.in_ok-open.ensures, ap (λ (v : Scope). length v.blocks) c.in_ok-lines.ensures.scope)
 
 pub check_else-returns-in_ok-rest-in-If-clause-fault : goal.check_else-returns-in_ok-rest-in-If-clause-fault
 check_else-returns-in_ok-rest-in-If-clause-fault t c =
@@ -160,7 +160,7 @@ check_stmt-returns-in_ok-rest-in-If-clause-fault t c =
     let head = c.in_ok-head-in-If.head in
     let body = c.in_ok-body-in-If.body in
     let rest = c.in_ok-rest-in-If.rest in
-    let shape : stm_of c.args.s.now ≡ choice at g ms later = grind (arith, stmt_rows) in
+    let shape : stm_of c.args.s.now ≡ if_stmt at g ms later = grind (arith, stmt_rows) in
     let h_is : scope_of c.check_guard.new.scope ≡ h = c.in_ok-head-in-If.ensures.scope in
     let b : IsLeast (FailsInStatements text rets looped (opened h) ms) body.fault =
     subst (λ (v : Scope). IsLeast (FailsInStatements text rets looped (opened v) ms) body.fault) h_is
@@ -186,7 +186,7 @@ check_stmt-returns-in_ok-body-in-For-clause-fault t c =
     let ms = stms_of c.in-For.body.items in
     let head = c.in_ok-head-in-For.head in
     let body = c.in_ok-body-in-For.body in
-    let shape : stm_of c.args.s.now ≡ loop at clause ms = grind (arith, stmt_rows) in
+    let shape : stm_of c.args.s.now ≡ for_stmt at clause ms = grind (arith, stmt_rows) in
     let h_is : scope_of c.check_clause.new.scope ≡ h = c.in_ok-head-in-For.ensures.scope in
     let b : IsLeast (FailsInStatements text rets true (opened h) ms) body.fault =
     subst (λ (v : Scope). IsLeast (FailsInStatements text rets true (opened v) ms) body.fault) h_is
@@ -237,7 +237,7 @@ check_stmt-returns-in_ok-given-in-Return-clause-fault t c =
     let looped = c.args.looped in
     let s = scope_of c.args.scope.now in
     let own = c.in_ok-given-in-Return.given.fault in
-    let shape : stm_of c.args.s.now ≡ give_back c.in-Return.pos (exs_of c.in-Return.es.items) = grind (arith, stmt_rows) in
+    let shape : stm_of c.args.s.now ≡ return_stmt c.in-Return.pos (exs_of c.in-Return.es.items) = grind (arith, stmt_rows) in
     let whole : IsLeast (FailsInStatement text rets looped s (stm_of c.args.s.now)) own = rw (shape, sym c.deref-in-Return.ensures.value) c.in_ok-given-in-Return.ensures.fault in
     if_ok _ (λ l. IsLeast (FailsInStatement text rets looped s (stm_of c.args.s.now)) l.fault) c.line-in-Return.result (λ l e. subst (λ f. IsLeast (FailsInStatement text rets looped s (stm_of c.args.s.now)) f) (sym e) whole) c.line-in-Return.ensures.fault
 
@@ -245,7 +245,7 @@ pub check_stmt-returns-in-Var-clause-fault : goal.check_stmt-returns-in-Var-clau
 check_stmt-returns-in-Var-clause-fault t c =
     let text = c.args.text.now in
     let s = scope_of c.args.scope.now in
-    let shape : stm_of c.args.s.now ≡ declare c.in-Var.pos (value_specs_of c.in-Var.specs.items) = grind (arith, stmt_rows) in
+    let shape : stm_of c.args.s.now ≡ var_stmt c.in-Var.pos (value_specs_of c.in-Var.specs.items) = grind (arith, stmt_rows) in
     rw (shape) (subst (λ (l : List ValueSpec). IfOk c.check_var.result (λ k. IsLeast (FailsInSpecs text s c.in-Var.pos (value_specs_of l)) k.fault)) c.deref-in-Var.ensures.value c.check_var.ensures.fault)
 
 pub check_stmts-loop-s-preserved : goal.check_stmts-loop-s-preserved

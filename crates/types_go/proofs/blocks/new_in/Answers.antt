@@ -1,10 +1,10 @@
 use Rattle.std.proofs.Common.{◌≡◌, [], ◌∷◌, ◌++◌, ◌+◌, List, drop, map, sym, ap, ◌∙◌, refl, arith, append-nil}
 use Rattle.typed.specs.declared.stmt.Left.{Left}
 use Rattle.typed.specs.View.{left_of, site_numbers}
-use Rattle.value_types.proofs.Lists.{from_one, nothing_left}
+use Rattle.type_faults.proofs.Lists.{from_one, nothing_left}
 use Rattle.types_go.proofs.blocks.new_in.Goals as goal
 use Rattle.types_go.specs.Statements.{new_in}
-use Rattle.types_go.proofs.Sites.{new_more}
+use Rattle.types_go.proofs.StatementSites.{new_more}
 
 pub loop-left-init : goal.loop-left-init
 loop-left-init c = rw (c.new-sites.ensures.items) refl

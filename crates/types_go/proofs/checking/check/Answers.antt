@@ -4,8 +4,8 @@ use Rattle.base.specs.declared.ids.FuncId.{FuncId}
 use Rattle.syntax.specs.Declarations.{syntax_of}
 use Rattle.typed.specs.View.{func_of, program_of}
 use Rattle.typed.specs.declared.program.Program.{Program as ProgramData}
-use Rattle.value_types.specs.declared.fault.Fault.{Fault}
-use Rattle.value_types.specs.Least.{IsLeast}
+use Rattle.type_faults.specs.declared.fault.Fault.{Fault}
+use Rattle.type_faults.specs.Least.{IsLeast}
 use Rattle.types_go.proofs.checking.check.Goals as goal
 use Rattle.types_go.specs.Functions.{main_number, program_functions}
 use Rattle.types_go.specs.FunctionFaults.{FailsIn}
@@ -71,3 +71,6 @@ returns-in-Some-funcs-clause-only c =
     let main_some : main_number t ≡ Some c.in-Some-main.main.0 = sym c.in_ok-main.ensures.main ∙ ap (option_map (λ (f : FuncId). f.0)) c.in-Some-main.is in
     let whole : Types t (program_of p) = typed t p c.in_ok-main.ensures.types (sound t least) found main_some c.in_ok-main.ensures.sites c.in_ok-main.ensures.strings c.in_ok-main.ensures.globals in
     λ q a. one_program t (program_of p) q whole a
+
+pub returns-in-Some-funcs-clause-none_fails : goal.returns-in-Some-funcs-clause-none_fails
+returns-in-Some-funcs-clause-none_fails c = subst (λ (f : Option Fault). IsLeast (FailsIn (syntax_of c.args.tree.now)) f) c.in-None.is c.in_ok-main.ensures.fault

@@ -1,4 +1,4 @@
-use Rattle.value_types.proofs.Leasts.{least_join}
+use Rattle.type_faults.proofs.Leasts.{least_join}
 use Rattle.types_go.proofs.checking.package_fault.Goals as goal
 
 pub returns : goal.returns

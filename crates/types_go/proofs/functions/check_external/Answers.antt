@@ -1,9 +1,9 @@
 use Rattle.std.proofs.Common.{◌≡◌, Some}
 use Rattle.syntax.specs.Declarations.{function_of}
-use Rattle.value_types.proofs.Leasts.{least_join, just}
+use Rattle.type_faults.proofs.Leasts.{least_join, just}
 use Rattle.names.specs.Scope.{scope_of}
 use Rattle.types_go.proofs.functions.check_external.Goals as goal
-use Rattle.types_go.specs.FunctionFaults.{FailsInHead, external_fault}
+use Rattle.function_heads.specs.HeadFaults.{FailsInHead, external_fault}
 
 pub returns-clause-fault : goal.returns-clause-fault
 returns-clause-fault c =

@@ -2,7 +2,7 @@ use Rattle.std.proofs.Common.{◌≡◌, [], ◌∷◌, ◌+◌, List, drop, ref
 use Rattle.std.specs.Option.{option_map}
 use Rattle.syntax.specs.Declarations.{function_of}
 use Rattle.names.specs.Scope.{scope_of}
-use Rattle.value_types.proofs.Lists.{from_one, nothing_left}
+use Rattle.type_faults.proofs.Lists.{from_one, nothing_left}
 use Rattle.package_values.specs.Passing.{item_of}
 use Rattle.types_go.specs.declared.members.Member.{Member as MemberData}
 use Rattle.types_go.specs.Functions.{behind_members}

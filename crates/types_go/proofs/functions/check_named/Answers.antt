@@ -1,7 +1,7 @@
 use Rattle.std.proofs.Common.{◌≡◌, ℕ, length, Option, ap, ◌∙◌}
 use Rattle.typed.specs.View.{value_of}
-use Rattle.value_trees.specs.Value.{Value}
-use Rattle.value_types.specs.declared.constant.Fixed.{Fixed}
+use Rattle.typed_syntax.specs.Value.{Value}
+use Rattle.constants.specs.declared.constant.Fixed.{Fixed}
 use Rattle.base.specs.declared.value_type.ValueType.{ValueType}
 use Rattle.names.specs.Scope.{scope_of, fixed}
 use Rattle.types_go.specs.Functions.{type_or_int, first_value}

@@ -6,8 +6,8 @@ use Rattle.syntax.specs.Statements.{stms_of}
 use Rattle.syntax.specs.Declarations.{body_of as body_view, Function as TreeFunction, function_of}
 use Rattle.syntax.specs.declared.statement.Stmt.{Stmt}
 use Rattle.typed.specs.View.{site_in, sts_of}
-use Rattle.value_types.specs.Least.{IsLeast, lesser}
-use Rattle.value_types.proofs.Leasts.{least_join}
+use Rattle.type_faults.specs.Least.{IsLeast, lesser}
+use Rattle.type_faults.proofs.Leasts.{least_join}
 use Rattle.names.specs.Scope.{Scope, scope_of, opened, closed}
 use Rattle.types_go.proofs.functions.check_parts.Goals as goal
 use Rattle.signatures.specs.declared.slots.Slot.{Slot}
@@ -20,7 +20,7 @@ use Rattle.simple_statements.specs.SimpleStatements.{Returns, returns_view}
 use Rattle.types_go.specs.Statements.{statements, behind_all}
 use Rattle.types_go.specs.StatementFaults.{FailsInStatements}
 use Rattle.types_go.specs.Functions.{param_entries, result_entries, behind_params, body_scope, behind_body, returns_of, body_of}
-use Rattle.types_go.proofs.Growth.{grows_all}
+use Rattle.types_go.proofs.StatementGrowth.{grows_all}
 use Rattle.types_go.proofs.Lines.{parts_of}
 
 -- results that were looked at
@@ -37,7 +37,7 @@ check_stmts-requires c =
       arith,
       c.requires,
       ap (λ (v : Scope). length v.blocks) c.in_ok-open.ensures,
-      (grows_entries text (scope_of c.open.new.scope) c.deref-2.result.now).depth,
+      (grows_entries text (scope_of c.open.new.self) c.deref-2.result.now).depth,
       ap (λ (v : Scope). length v.blocks) c.in_ok-params.ensures.scope,
       (grows_entries text (scope_of c.check_entries.new.scope) c.deref-3.result.now).depth,
       ap (λ (v : Scope). length v.blocks) c.in_ok-results.ensures.scope,
@@ -51,7 +51,7 @@ close-requires c =
       arith,
       c.requires,
       ap (λ (v : Scope). length v.blocks) c.in_ok-open.ensures,
-      (grows_entries text (scope_of c.open.new.scope) c.deref-2.result.now).depth,
+      (grows_entries text (scope_of c.open.new.self) c.deref-2.result.now).depth,
       ap (λ (v : Scope). length v.blocks) c.in_ok-params.ensures.scope,
       (grows_entries text (scope_of c.check_entries.new.scope) c.deref-3.result.now).depth,
       ap (λ (v : Scope). length v.blocks) c.in_ok-results.ensures.scope,
@@ -71,7 +71,7 @@ returns-clause-func c =
     let body = option_map (λ v. sts_of v.items) c.in_ok-lines.lines.statements in
     let ps_are : c.deref-2.result.now ≡ slots_of text heads g.params = c.deref-2.ensures.value ∙ c.in_ok-param_slots.ensures in
     let rs_are : c.deref-3.result.now ≡ slots_of text heads g.results = c.deref-3.ensures.value ∙ c.in_ok-result_slots.ensures in
-    let open1 : scope_of c.open.new.scope ≡ opened s = c.in_ok-open.ensures in
+    let open1 : scope_of c.open.new.self ≡ opened s = c.in_ok-open.ensures in
     let behind1 : scope_of c.check_entries.new.scope ≡ behind_params text heads s g =
     c.in_ok-params.ensures.scope ∙ ap (λ v. behind_entries text v c.deref-2.result.now) open1 ∙ ap (λ (l : List Slot). behind_entries text (opened s) l) ps_are in
     let behind2 : scope_of c.check_entries-2.new.scope ≡ body_scope text heads s g =
@@ -86,10 +86,10 @@ returns-clause-func c =
     let typed : body ≡ body_of text heads s g b =
     c.in_ok-lines.ensures.statements ∙ ap (λ x. statements text x false (scope_of c.check_entries-2.new.scope) (stms_of c.deref-4.result.now)) returns
     ∙ ap (λ v. statements text (returns_of text heads g) false v (stms_of c.deref-4.result.now)) behind2 ∙ ap (λ (l : List Stmt). statements text (returns_of text heads g) false (body_scope text heads s g) (stms_of l)) c.deref-4.ensures.value in
-    let whole : scope_of c.close.new.scope ≡ behind_body text heads s g (Some b) =
+    let whole : scope_of c.close.new.self ≡ behind_body text heads s g (Some b) =
     c.close.ensures ∙ ap closed (c.in_ok-lines.ensures.scope ∙ ap (λ v. behind_all text v (stms_of c.deref-4.result.now)) behind2 ∙ ap (λ (l : List Stmt). behind_all text (body_scope text heads s g) (stms_of l)) c.deref-4.ensures.value) in
     let first : c.site_count-first.result ≡ length s.sites = c.site_count-first.ensures in
-    let last0 : c.site_count.result ≡ length (scope_of c.close.new.scope).sites = c.site_count.ensures in
+    let last0 : c.site_count.result ≡ length (scope_of c.close.new.self).sites = c.site_count.ensures in
     let last : c.site_count.result ≡ length (behind_body text heads s g (Some b)).sites = last0 ∙ ap (λ (v : Scope). length v.sites) whole in
     let param_slots : c.deref-5.result.now ≡ slots_of text heads g.params = c.deref-5.ensures.value ∙ c.in_ok-param_slots.ensures in
     let slots : c.deref-6.result.now ≡ slots_of text heads g.results = c.deref-6.ensures.value ∙ c.in_ok-result_slots.ensures in
@@ -107,7 +107,7 @@ returns-clause-fault c =
     let lines = c.in_ok-lines.lines.fault in
     let ps_are : c.deref-2.result.now ≡ slots_of text heads g.params = c.deref-2.ensures.value ∙ c.in_ok-param_slots.ensures in
     let rs_are : c.deref-3.result.now ≡ slots_of text heads g.results = c.deref-3.ensures.value ∙ c.in_ok-result_slots.ensures in
-    let open1 : scope_of c.open.new.scope ≡ opened s = c.in_ok-open.ensures in
+    let open1 : scope_of c.open.new.self ≡ opened s = c.in_ok-open.ensures in
     let behind1 : scope_of c.check_entries.new.scope ≡ behind_params text heads s g =
     c.in_ok-params.ensures.scope ∙ ap (λ v. behind_entries text v c.deref-2.result.now) open1 ∙ ap (λ (l : List Slot). behind_entries text (opened s) l) ps_are in
     let behind2 : scope_of c.check_entries-2.new.scope ≡ body_scope text heads s g =
@@ -116,7 +116,7 @@ returns-clause-fault c =
     let given = returns_view c.in_ok-returns.returns in
     let returns : given ≡ returns_of text heads g = returns_is text heads g given c.deref.result.now c.in_ok-returns.ensures counted in
     let x : IsLeast (EntriesFail text Parameter (opened s) (slots_of text heads g.params)) params =
-    subst (λ v. IsLeast (EntriesFail text Parameter v (slots_of text heads g.params)) params) open1 (subst (λ (l : List Slot). IsLeast (EntriesFail text Parameter (scope_of c.open.new.scope) l) params) ps_are c.in_ok-params.ensures.fault) in
+    subst (λ v. IsLeast (EntriesFail text Parameter v (slots_of text heads g.params)) params) open1 (subst (λ (l : List Slot). IsLeast (EntriesFail text Parameter (scope_of c.open.new.self) l) params) ps_are c.in_ok-params.ensures.fault) in
     let y : IsLeast (EntriesFail text Result (behind_params text heads s g) (slots_of text heads g.results)) results =
     subst (λ v. IsLeast (EntriesFail text Result v (slots_of text heads g.results)) results) behind1 (subst (λ (l : List Slot). IsLeast (EntriesFail text Result (scope_of c.check_entries.new.scope) l) results) rs_are c.in_ok-results.ensures.fault) in
     let z : IsLeast (FailsInStatements text (returns_of text heads g) false (body_scope text heads s g) b.statements) lines =

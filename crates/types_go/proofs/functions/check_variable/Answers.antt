@@ -2,7 +2,7 @@ use Rattle.std.proofs.Common.{◌≡◌, ℕ, Bool, true, false, cond, [], ◌�
 use Rattle.std.proofs.lemmas.List.{map-append}
 use Rattle.syntax.specs.Expressions.{spelled}
 use Rattle.typed.specs.View.{global_of}
-use Rattle.value_trees.specs.Value.{Value}
+use Rattle.typed_syntax.specs.Value.{Value}
 use Rattle.names.specs.Universe.{is_blank}
 use Rattle.names.specs.Scope.{scope_of, fixed}
 use Rattle.package_values.specs.Passing.{item_of}

@@ -1,4 +1,4 @@
-use Rattle.value_types.proofs.Leasts.{least_join, leaf}
+use Rattle.type_faults.proofs.Leasts.{least_join, leaf}
 use Rattle.types_go.proofs.functions.check_with_body.Goals as goal
 
 pub returns-clause-fault : goal.returns-clause-fault

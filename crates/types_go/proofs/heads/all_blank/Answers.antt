@@ -1,7 +1,7 @@
 use Rattle.std.proofs.Common.{◌≡◌, [], ◌∷◌, ◌+◌, List, drop, get_or, sym, ap, ◌∙◌, refl, arith}
 use Rattle.std.specs.Prelude.{◌&&◌}
 use Rattle.syntax.specs.declared.expression.Name.{Name}
-use Rattle.value_types.proofs.Lists.{from_there, nothing_left, and_true}
+use Rattle.type_faults.proofs.Lists.{from_there, nothing_left, and_true}
 use Rattle.names.proofs.Places.{no_name}
 use Rattle.types_go.proofs.heads.all_blank.Goals as goal
 use Rattle.types_go.specs.Statements.{all_blank}

@@ -1,7 +1,7 @@
 use Rattle.std.proofs.Common.{◌≡◌, [], ◌∷◌, ◌+◌, List, Option, Some, None, drop, get_or, sym, ap, ◌∙◌, refl, arith}
 use Rattle.std.specs.Prelude.{◌&&◌}
 use Rattle.base.specs.declared.value_type.ValueType.{ValueType}
-use Rattle.value_types.proofs.Lists.{from_there, nothing_left, and_true}
+use Rattle.type_faults.proofs.Lists.{from_there, nothing_left, and_true}
 use Rattle.types_go.proofs.heads.all_take.Goals as goal
 use Rattle.types_go.specs.Statements.{all_accept}
 

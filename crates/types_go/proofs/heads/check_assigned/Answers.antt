@@ -1,4 +1,4 @@
-use Rattle.value_types.proofs.Leasts.{least_join}
+use Rattle.type_faults.proofs.Leasts.{least_join}
 use Rattle.types_go.proofs.heads.check_assigned.Goals as goal
 
 pub returns-clause-fault : goal.returns-clause-fault

@@ -1,7 +1,7 @@
 use Rattle.std.proofs.Common.{◌⊎◌, IfOk, subst}
 use Rattle.syntax.specs.declared.statement.Clause.{Clause}
 use Rattle.syntax.specs.Statements.{simple_in, clause_of}
-use Rattle.value_types.specs.Least.{IsLeast}
+use Rattle.type_faults.specs.Least.{IsLeast}
 use Rattle.names.specs.Scope.{scope_of}
 use Rattle.expression_types.specs.Typing.{condition_in}
 use Rattle.expression_types.specs.Faults.{FailsInTest}

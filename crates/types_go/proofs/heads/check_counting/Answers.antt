@@ -1,7 +1,7 @@
 use Rattle.std.proofs.Common.{◌≡◌, subst}
 use Rattle.syntax.specs.Statements.{simple_in, clause_of}
-use Rattle.value_types.specs.Least.{IsLeast}
-use Rattle.value_types.proofs.Leasts.{least_join}
+use Rattle.type_faults.specs.Least.{IsLeast}
+use Rattle.type_faults.proofs.Leasts.{least_join}
 use Rattle.names.specs.Scope.{Scope, scope_of}
 use Rattle.expression_types.specs.Typing.{condition_in}
 use Rattle.expression_types.specs.Faults.{FailsInTest}

@@ -1,6 +1,6 @@
 use Rattle.std.proofs.Common.{◌≡◌, List, map, ◌∙◌, subst}
-use Rattle.value_types.specs.Least.{IsLeast}
-use Rattle.value_types.proofs.Leasts.{least_join, leaf}
+use Rattle.type_faults.specs.Least.{IsLeast}
+use Rattle.type_faults.proofs.Leasts.{least_join, leaf}
 use Rattle.names.specs.Scope.{scope_of}
 use Rattle.types_go.proofs.heads.check_defined.Goals as goal
 use Rattle.signatures.specs.declared.slots.Slot.{Slot}

@@ -1,7 +1,7 @@
 use Rattle.std.proofs.Common.{subst}
 use Rattle.syntax.specs.Expressions.{ex_of}
-use Rattle.value_types.specs.Least.{IsLeast}
-use Rattle.value_types.proofs.Leasts.{least_join}
+use Rattle.type_faults.specs.Least.{IsLeast}
+use Rattle.type_faults.proofs.Leasts.{least_join}
 use Rattle.names.specs.Scope.{Scope}
 use Rattle.expression_types.specs.Faults.{FailsInCondition}
 use Rattle.types_go.proofs.heads.check_guard.Goals as goal

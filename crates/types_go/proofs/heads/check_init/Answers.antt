@@ -1,6 +1,6 @@
 use Rattle.std.proofs.Common.{subst}
 use Rattle.syntax.specs.Statements.{simple_of}
-use Rattle.value_types.specs.Least.{IsLeast}
+use Rattle.type_faults.specs.Least.{IsLeast}
 use Rattle.names.specs.Scope.{Scope}
 use Rattle.types_go.proofs.heads.check_init.Goals as goal
 use Rattle.simple_statements.specs.SimpleFaults.{FailsInSimple}

@@ -1,11 +1,11 @@
 use Rattle.std.proofs.Common.{sym, subst}
 use Rattle.syntax.specs.declared.statement.Simple.{Simple}
 use Rattle.syntax.specs.Statements.{simple_of}
-use Rattle.value_types.proofs.Leasts.{if_ok}
+use Rattle.type_faults.proofs.Leasts.{if_ok}
 use Rattle.names.specs.Scope.{scope_of}
 use Rattle.types_go.proofs.heads.check_post_simple.Goals as goal
 use Rattle.simple_statements.proofs.InFormSimple.{DeclaresNone}
-use Rattle.types_go.proofs.Lines.{post_least}
+use Rattle.types_go.proofs.StatementLines.{post_least}
 
 pub returns-in-Express-clause-fault : goal.returns-in-Express-clause-fault
 returns-in-Express-clause-fault c =

@@ -1,6 +1,6 @@
 use Rattle.std.proofs.Common.{subst}
 use Rattle.syntax.specs.Expressions.{ex_of}
-use Rattle.value_types.specs.Least.{IsLeast}
+use Rattle.type_faults.specs.Least.{IsLeast}
 use Rattle.expression_types.specs.Faults.{FailsInCondition}
 use Rattle.types_go.proofs.heads.check_while.Goals as goal
 

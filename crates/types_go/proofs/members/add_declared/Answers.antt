@@ -1,6 +1,6 @@
 use Rattle.std.proofs.Common.{◌≡◌, ℕ, ◌++◌, List, length, drop, sym, ap, ◌∙◌, arith}
 use Rattle.syntax.specs.Declarations.{declaration_of}
-use Rattle.value_types.proofs.Leasts.{if_ok}
+use Rattle.type_faults.proofs.Leasts.{if_ok}
 use Rattle.package_values.specs.declared.items.Item.{Item as ItemData}
 use Rattle.package_values.specs.Values.{Item}
 use Rattle.package_values.specs.Passing.{item_of, item_views, items_of_decl}

@@ -1,7 +1,7 @@
 use Rattle.std.proofs.Common.{◌≡◌, [], ◌++◌, length, refl, sym, ap, ◌∙◌, subst, append-nil}
 use Rattle.syntax.specs.declared.declaration.Decl.{Decl}
 use Rattle.syntax.specs.Declarations.{declaration_of}
-use Rattle.value_types.proofs.Leasts.{if_ok}
+use Rattle.type_faults.proofs.Leasts.{if_ok}
 use Rattle.names.specs.Scope.{scope_of}
 use Rattle.package_values.specs.Passing.{item_views, items_of_decl}
 use Rattle.types_go.specs.Functions.{numbered}

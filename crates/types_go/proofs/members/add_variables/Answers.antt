@@ -1,5 +1,5 @@
 use Rattle.std.proofs.Common.{rules, ◌≡◌, ℕ, [], ◌∷◌, ◌+◌, ◌++◌, List, drop, sym, ap, ◌∙◌, append-nil, arith}
-use Rattle.value_types.proofs.Lists.{from_one, nothing_left}
+use Rattle.type_faults.proofs.Lists.{from_one, nothing_left}
 use Rattle.package_values.specs.declared.items.Item.{Item as ItemData}
 use Rattle.package_values.specs.Passing.{item_of, item_views}
 use Rattle.package_values.proofs.ItemLists.{pushed_map}

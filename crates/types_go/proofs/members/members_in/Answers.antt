@@ -2,7 +2,7 @@ use Rattle.std.proofs.Common.{◌≡◌, [], ◌∷◌, ◌+◌, ◌++◌, List,
 use Rattle.syntax.specs.declared.declaration.Decl.{Decl}
 use Rattle.syntax.specs.Declarations.{declaration_of, declarations_of}
 use Rattle.names.specs.Scope.{scope_of}
-use Rattle.value_types.proofs.Lists.{from_one, nothing_left}
+use Rattle.type_faults.proofs.Lists.{from_one, nothing_left}
 use Rattle.package_values.specs.Passing.{item_views, items_of_decl}
 use Rattle.types_go.specs.Functions.{members_in}
 use Rattle.types_go.specs.Passing.{member_views}

@@ -1,0 +1,88 @@
+-- How a run answered, against what the source shows.
+use Rattle.std.specs.Prelude.{◌≡◌, ◌≢◌, ℕ, zero, suc, ◌≤◌, List, [], ◌++◌, length, Option, Some, None, Result, Ok, Err}
+use Rattle.outside.specs.Causes.{Rose}
+use Rattle.outside.specs.Took.{Took, TookPrefix}
+use Rattle.typed_syntax.specs.Positions.{Position}
+use Rattle.typed.specs.declared.expr.Const.{Const}
+use Rattle.typed.specs.View.{value_of}
+use Rattle.meaning.specs.Trace.{Ending, Exit, Panic, StackLimit, HeapLimit, Fault}
+use Rattle.meaning.specs.Meaning.{Item}
+use Rattle.meaning.specs.Output.{Sight, printing, asking, output}
+use Rattle.simulation.specs.Outcome.{Outcome, Gives, Ends, Unfinished, ending_in}
+use Rattle.machine.specs.Answers.{AllNumbers, ReadInOrder, HasFrom}
+use Rattle.machine.specs.declared.run_state.Ending.{Ending as Stop}
+use Rattle.machine.specs.declared.run_state.Ending.TheVariants as Machine
+use Rattle.program_code.specs.Code.{word_of}
+use Rattle.simulated_code.specs.Correct.{AreNumbers, same_fault}
+use Rattle.code_runs.specs.declared.running.RunFault.{RunFault}
+use Rattle.code_runs.specs.declared.running.RunFault.TheVariants as fault
+
+-- what was taken begins with the one text and is the beginning of the other
+pub record Between (few many : List ℕ) (old new : Option (List ℕ)) : Type 0 where
+  pub bytes : List ℕ
+  pub took : Took old new bytes
+  pub begins : (rest : List ℕ) × (few ++ rest ≡ bytes)
+  pub within : (rest : List ℕ) × (bytes ++ rest ≡ many)
+
+-- how often a bounded run asks for an item
+abbrev pub asks_of : Outcome Sight Ending → ℕ
+asks_of (Gives (printing bytes) o) = asks_of o
+asks_of (Gives asking o) = suc (asks_of o)
+asks_of (Ends e) = 0
+asks_of Unfinished = 0
+
+-- a bounded run asks for the item of this number after this output
+abbrev pub AsksFor : ℕ → List ℕ → Outcome Sight Ending → Type 0
+AsksFor k before (Gives (printing bytes) o) = (rest : List ℕ) × (before ≡ bytes ++ rest) × AsksFor k rest o
+AsksFor zero before (Gives asking o) = before ≡ []
+AsksFor (suc k) before (Gives asking o) = AsksFor k before o
+AsksFor k before (Ends e) = ⊥
+AsksFor k before Unfinished = ⊥
+
+-- How a run answered, for which `answered` items were read, against what the source shows in few turns and in
+-- many: the ending of the many, with all its output and all the items that it asks for; no ending in the few, and an output
+-- and items between both; a fault of the sink or of memory; or one of the input, at an item that the source asks for after
+-- just what was taken.
+abbrev pub Ran : (strings : List (List ℕ)) → (few many : Outcome Sight Ending) → Result ℕ RunFault → (answered : ℕ) → (old new : Option (List ℕ)) → (before now : ℕ) → Type 0
+Ran strings few many (Ok status) answered old new before now = (ending_in many ≡ Some (Exit status)) × Took old new (output many) × (asks_of many ≡ answered)
+Ran strings few many (Err (fault.Panic x)) answered old new before now =
+    (at : Position) × (f : Fault) × (ending_in many ≡ Some (Panic at f)) × same_fault strings f x × Took old new (output many) × (asks_of many ≡ answered)
+Ran strings few many (Err (fault.StackLimit used asked limit)) answered old new before now =
+    (ending_in many ≡ Some (StackLimit used asked limit)) × Took old new (output many) × (asks_of many ≡ answered)
+Ran strings few many (Err (fault.HeapLimit used asked limit)) answered old new before now =
+    (ending_in many ≡ Some (HeapLimit used asked limit)) × Took old new (output many) × (asks_of many ≡ answered)
+Ran strings few many (Err fault.Steps) answered old new before now =
+    (ending_in few ≡ None) × Between (output few) (output many) old new × (asks_of few ≤ answered) × (answered ≤ asks_of many)
+Ran strings few many (Err fault.ReadFault) answered old new before now = (text : List ℕ) × AsksFor answered text many × Took old new text
+Ran strings few many (Err fault.WriteFault) answered old new before now = TookPrefix old new (output many) × Rose before now × (answered ≤ asks_of many)
+Ran strings few many (Err fault.NoMemory) answered old new before now = TookPrefix old new (output many) × (answered ≤ asks_of many)
+
+-- What a run read of an input with these bytes left, and what it did. All that is known of the items of the input are the
+-- answers that came in order: so for whatever items, numbers of 64 bits, begin with them, a claim holds that is also told how
+-- many answers there are. Where there are none, and no read failed, the input is as before.
+pub record ReadBy (result : Result ℕ RunFault) (left : Option (List ℕ)) (untouched : Type 0) (claim : (ℕ → Item) → ℕ → Type 0) : Type 0 where
+  pub answers : List Item
+  pub numbers : AllNumbers answers
+  pub rest : Option (List ℕ)
+  pub read : ReadInOrder left rest answers
+  pub unread : result ≢ Err fault.ReadFault → answers ≡ [] → untouched
+  pub does : (items : ℕ → Item) → AreNumbers items → HasFrom items 0 answers → claim items (length answers)
+
+-- what a run answers where the machine ended so; the code of a program meets no wild word
+abbrev pub answer_to : Option Stop → Option (Result ℕ RunFault)
+answer_to None = Some (Err fault.Steps)
+answer_to (Some (Machine.Exit status)) = Some (Ok status)
+answer_to (Some (Machine.Panic x)) = Some (Err (fault.Panic x))
+answer_to (Some Machine.ReadFault) = Some (Err fault.ReadFault)
+answer_to (Some Machine.WriteFault) = Some (Err fault.WriteFault)
+answer_to (Some Machine.NoMemory) = Some (Err fault.NoMemory)
+answer_to (Some (Machine.StackLimit used asked limit)) = Some (Err (fault.StackLimit used asked limit))
+answer_to (Some (Machine.HeapLimit used asked limit)) = Some (Err (fault.HeapLimit used asked limit))
+answer_to (Some (Machine.WildReturn place)) = None
+answer_to (Some (Machine.WildLink place)) = None
+answer_to (Some (Machine.WildAddress address)) = None
+
+-- the word that a package variable begins with: the zero value of each type stands as 0
+abbrev pub begun_word : Option Const → ℕ
+begun_word None = 0
+begun_word (Some c) = word_of (value_of c)

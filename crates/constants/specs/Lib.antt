@@ -1,0 +1,2 @@
+-- Constants are the contract: what a type holds, and the least and greatest int.
+pub mod Constants

@@ -1,0 +1,56 @@
+-- Which rules fail in the head of a function and in a declaration at the level of the package, and where each is reported.
+use Rattle.std.specs.Prelude.{ℕ, ◌⊎◌, Bool, true, false, not, List, [], ◌∷◌, Option, None, nat_lt}
+use Rattle.base.specs.declared.pos.Pos.{Pos}
+use Rattle.syntax.specs.Expressions.{spelled}
+use Rattle.syntax.specs.Declarations.{Function as TreeFunction, Declaration, constants, variables, types}
+use Rattle.syntax.specs.Declarations as tree
+use Rattle.type_faults.specs.declared.fault.Fault.{Fault}
+use Rattle.type_faults.specs.declared.fault.FaultKind.TheVariants.{Redeclared, BadExternal, OutOfProfile, TooLarge}
+use Rattle.type_faults.specs.Faults.{fault, IsFault, FormFails}
+use Rattle.names.specs.declared.scope.Declared.{Declared}
+use Rattle.names.specs.Universe.{is_blank}
+use Rattle.names.specs.Scope.{Scope, declaration}
+use Rattle.signatures.specs.Signatures.{params_of, is_external, is_external_at, is_init, signature_in}
+use Rattle.signatures.specs.Failing.{fault_where}
+use Rattle.signatures.specs.SignatureFaults.{function_name_fault, size_fault, TypesFail}
+use Rattle.function_heads.specs.Heads.{most_functions}
+
+-- no other function than `readInt` and `exit` has no body
+abbrev pub external_fault : TreeFunction → Fault
+external_fault g = fault BadExternal g.name.pos
+
+-- the name of a function that may be one of the two without a body: the first declaration of a name stays
+abbrev pub external_name_fault : Bool → Option Declared → Pos → Option Fault
+external_name_fault false d pos = None
+external_name_fault true d pos = fault_where (not (is_external_at pos d)) (fault Redeclared pos)
+
+-- a function of the name `init`, at its word
+abbrev pub init_fault : Bool → Pos → Option Fault
+init_fault b pos = fault_where b (fault OutOfProfile pos)
+
+-- the first byte of a text
+abbrev pub first_byte : Pos
+first_byte = record { offset = 0; line = 1; col = 1 }
+
+module _ (text : List ℕ) where
+  -- a rule fails in the head of the function of a number, in the package block
+  abbrev pub FailsInHead : Scope → ℕ → TreeFunction → Fault → Type 0
+  FailsInHead s i g f =
+      IsFault (function_name_fault i (is_blank (spelled text g.name)) (declaration s (spelled text g.name)) g.name.pos) f
+      ⊎ IsFault (fault_where (not (nat_lt i most_functions)) (fault TooLarge g.name.pos)) f
+
+module _ (text : List ℕ) (heads : Scope) where
+  abbrev pub FailsInTypes : TreeFunction → Fault → Type 0
+  FailsInTypes g f = (TypesFail text heads (params_of g.params) f ⊎ TypesFail text heads (params_of g.results) f) ⊎ IsFault (size_fault heads.types (signature_in text heads g) g.name.pos) f
+
+  -- a declaration of a form that is left out, or of a function without a body after another of its name
+  abbrev pub DeclarationFails : Scope → Declaration → Fault → Type 0
+  DeclarationFails s (constants pos specs) f = ⊥
+  DeclarationFails s (variables pos specs) f = ⊥
+  DeclarationFails s (types pos specs) f = FormFails pos f
+  DeclarationFails s (tree.function g) f =
+      IsFault (init_fault (is_init (spelled text g.name)) g.pos) f ⊎ IsFault (external_name_fault (is_external text heads g) (declaration s (spelled text g.name)) g.name.pos) f
+
+  abbrev pub DeclarationsFail : Scope → List Declaration → Fault → Type 0
+  DeclarationsFail s [] f = ⊥
+  DeclarationsFail s (d ∷ ds) f = DeclarationFails s d f ⊎ DeclarationsFail s ds f

@@ -1,0 +1,64 @@
+//! A run of steps.
+ghost use Rattle.outside.specs.Causes.{Rose};
+ghost use Rattle.outside.specs.Pending.{to_come};
+ghost use Rattle.std.specs.Prelude.{◌≡◌, ◌+◌, ◌<◌, ◌≤◌, ◌^◌, length, Some, None};
+ghost use Rattle.simulation.specs.Steps.{many};
+ghost use Rattle.machine.specs.Machine.{act};
+ghost use Rattle.machine.specs.Inside.{Inside};
+ghost use Rattle.machine.specs.Answers.{Answers, Refused, StatusFits, Unwritten, WithAnswers, state_of};
+ghost use Rattle.machine.specs.declared.run_state.Ending.{Ending};
+
+use crate::steps::step;
+use crate::{Next, RunState};
+use heap_bump::Heap;
+use isa::Code;
+use outside::{IntReader, Sink, Source};
+use std::alloc::Global;
+
+/// Runs `steps` steps, or fewer where it ends before, with a stack of at most `stack_max` words and a heap. The items of the
+/// input come from it through the reader. The answer says where the run then stands. The block of words grows at its low
+/// end as calls need it.
+pub fn run<I: Source, O: Sink>(
+    alloc: Global,
+    code: &Code,
+    words: &mut Vec<u64>,
+    stack_max: u64,
+    heap: &mut Heap,
+    at: RunState,
+    reader: &mut IntReader,
+    input: &mut I,
+    out: &mut O,
+    steps: u64,
+) -> Next
+    requires words { (length words.old.items ≤ stack_max) × (stack_max ≤ 2 ^ 32) }
+    requires inside { Inside code.now (length words.old.items) at.pc at.base }
+    requires code { length code.now.instrs < 2 ^ 40 }
+    ensures runs { WithAnswers result.ending (to_come reader.old (I.left input.old)) (to_come reader.new (I.left input.new)) ((reader.new ≡ reader.old) × (input.new ≡ input.old))
+        (λ items reads answered. Answers (many (act code.now stack_max items) steps (state_of words.old.items at reads heap.old)) (state_of words.new.items result.at (reads + answered) heap.new) answered result.ending
+        (O.taken out.old) (O.taken out.new) (O.faults out.old) (O.faults out.new)
+        × (result.ending ≡ Some Ending.NoMemory → Refused code.now stack_max items steps (state_of words.old.items at reads heap.old) answered (O.taken out.old) (O.taken out.new))
+        × (result.ending ≡ Some Ending.WriteFault → Unwritten code.now stack_max items steps (state_of words.old.items at reads heap.old) answered (O.taken out.old) (O.taken out.new))) }
+    ensures source_later { I.faults input.old ≤ I.faults input.new }
+    ensures read_fault { result.ending ≡ Some Ending.ReadFault → Rose (I.faults input.old) (I.faults input.new) }
+    ensures stays { result.ending ≡ None → Inside code.now (length words.new.items) result.at.pc result.at.base }
+    ensures length { length words.new.items ≤ stack_max }
+    ensures status { StatusFits result.ending }
+{
+    let instrs = code.instrs();
+    let owners = code.owners();
+    let funcs = code.funcs();
+    let strings = code.strings();
+    let mut at = at;
+    let mut left = steps;
+    'steps: while left > 0 {
+        let next = step(
+            alloc, instrs, owners, funcs, strings, words, stack_max, heap, at, reader, input, out,
+        );
+        match next.ending {
+            None => at = next.at,
+            Some(_) => return next,
+        }
+        left -= 1;
+    }
+    Next { at, ending: None }
+}

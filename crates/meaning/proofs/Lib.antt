@@ -1,4 +1,0 @@
-pub mod Later
-pub mod Family
-pub mod Holding
-pub mod Runs

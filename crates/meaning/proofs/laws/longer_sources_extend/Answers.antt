@@ -1,5 +1,0 @@
-use Rattle.meaning.proofs.Runs.{longer_sources_extend}
-use Rattle.meaning.proofs.laws.longer_sources_extend.Goals as goal
-
-pub returns : goal.returns
-returns c = longer_sources_extend

@@ -1,5 +1,0 @@
-use Rattle.meaning.proofs.Runs.{source_shows_journal}
-use Rattle.meaning.proofs.laws.source_shows_journal.Goals as goal
-
-pub returns : goal.returns
-returns c = source_shows_journal

@@ -1,0 +1,281 @@
+-- Each run of a program keeps each family: a line for each form of syntax.
+use Rattle.std.proofs.Common.{◌≡◌, refl, ℕ, zero, suc, ◌+◌, ◌-◌, ◌≤◌, List, [], ◌∷◌, ◌++◌, Option, Some, None, Result, Ok, Err, Bool, true, false, ℤ, pos, negsuc, subst, arith}
+use Rattle.std.specs.Prelude.{length, slice_get, nat_lt}
+use Rattle.typed_syntax.specs.Positions.{Position}
+use Rattle.typed_syntax.specs.Value.{Value, int}
+use Rattle.typed_syntax.specs.Syntax.{Ex, Exs, Pl, Steps, Left, Piece, Over, St, Sts, Func, Program, constant, read, unary, binary, logical_and, logical_or, call, part_of, literal, Elements, no_elements, element, none, more, results, read_int, local, global, here, inner, at_index, blank, new, to, text, shown, over_int, over_length, over_copy, declare, assign, update, bump, discard, block, if_stmt, for_stmt, range, break_stmt, continue_stmt, return_stmt, print, panic, exit, done, next}
+use Rattle.meaning.specs.Trace.{Return, Fault, Exit, Panic, World, Mark, entered, ended, copied, Trace, Turn, Seen, Cut}
+use Rattle.meaning.specs.Store.{written, born, read_at}
+use Rattle.meaning.specs.Operators.{binary_of}
+use Rattle.meaning.specs.Meaning
+use Rattle.meaning.specs.Meaning.{Go, Then, Env, Ways, Calls, Item, Setting, Step, fixed, worked, Aim, Spot, Landing, nowhere, birth, on}
+use Rattle.meaning_laws.specs.Laws.{IsOther}
+use Rattle.meaning_laws.proofs.Later.{later_same, written_later, born_later}
+use Rattle.meaning_laws.proofs.Family.{Family, WaysHold, Pair, CallsHold, turning, noting, seeing, keeping, keeping_all, lower, looping, ways_fewer}
+
+module _ (F : Family) where
+  give_all_holds : {b : ℕ} (ws us : Ways) (k j : Then (List Value)) → ((vs : List Value) (w : World) → F.Holds b w (k vs w) (j vs w)) → (vs : List Value) (w : World) → F.Holds b w (Meaning.give_all ws k vs w) (Meaning.give_all us j vs w)
+  give_all_holds ws us k j h vs w = seeing F (h vs w)
+
+  marking : {b : ℕ} (m : Mark) → IsOther m → {w : World} {s t : Trace} → F.Holds b w s t → F.Holds b w (Seen m s) (Seen m t)
+  marking {b} m is {w} {s} {t} h = F.marks b w m is s t h
+
+  outside_holds : {b : ℕ} (k j : Env → Go) → ((e : Env) (w : World) → F.Holds b w (k e w) (j e w)) → (n : ℕ) (e : Env) (w : World) → F.Holds b w (Meaning.outside k n e w) (Meaning.outside j n e w)
+  outside_holds k j h n e w = marking (ended n) tt (h e w)
+
+  write_holds : {b : ℕ} (v : ℕ) (path : List ℕ) (x : Value) (g h : Go) → ((w : World) → F.Holds b w (g w) (h w)) → (w : World) → F.Holds b w (Meaning.write_part v path x g w) (Meaning.write_part v path x h w)
+  write_holds v path x g h all w = noting F (F.later _ w _ _ _ (written_later w v path x) (all (written w v path x)))
+
+  bear_holds : {b : ℕ} (around : Setting) (entry site : ℕ) (x : Value) (k j : Then ℕ) → ((v : ℕ) (w : World) → F.Holds b w (k v w) (j v w)) → (w : World) → F.Holds b w (Meaning.bear around entry site x k w) (Meaning.bear around entry site x j w)
+  bear_holds around entry site x k j all w = noting F (F.later _ w _ _ _ (born_later w (Meaning.new_cell around entry site x)) (all (length w.store) (born w (Meaning.new_cell around entry site x))))
+
+  ask_holds : {b : ℕ} (around : Setting) (k j : Then (List Value)) → ((vs : List Value) (w : World) → F.Holds b w (k vs w) (j vs w)) → (w : World) → F.Holds b w (Meaning.ask around k w) (Meaning.ask around j w)
+  ask_holds around k j all w = noting F (F.later _ w _ _ _ (later_same w) (all (Meaning.item_values (around.items w.reads)) (record { store = w.store; reads = suc w.reads })))
+
+  when_holds : {b : ℕ} (c : Bool) (g h g1 h1 : Go) (w : World) → F.Holds b w (g w) (g1 w) → F.Holds b w (h w) (h1 w) → F.Holds b w (Meaning.when c g h w) (Meaning.when c g1 h1 w)
+  when_holds true g h g1 h1 w a c = a
+  when_holds false g h g1 h1 w a c = c
+
+  or_panic_holds : {A : Type 0} {limit b : ℕ} (p : Pair F limit b) (env : Env) (at : Position) (r : Result A Fault) (k j : Then A) → ((a : A) (w : World) → F.Holds b w (k a w) (j a w)) → (w : World) → F.Holds b w (Meaning.or_panic p.left env at r k w) (Meaning.or_panic p.right env at r j w)
+  or_panic_holds p env at (Ok a) k j all w = all a w
+  or_panic_holds p env at (Err f) k j all w = p.hold.panicked at f env w
+
+  steps_hold : {limit b : ℕ} (steps : List Step) (v : ℕ) (path : List ℕ) (p : Pair F limit b) (env : Env) (k j : Then Spot) → ((q : Spot) (w : World) → F.Holds b w (k q w) (j q w)) → (w : World) → F.Holds b w (Meaning.settle_steps p.left env steps v path k w) (Meaning.settle_steps p.right env steps v path j w)
+  steps_hold [] v path p env k j all w = all (record { variable = v; path = path }) w
+  steps_hold (fixed i ∷ steps) v path p env k j all w = steps_hold steps v (path ++ i ∷ []) p env k j all w
+  steps_hold (worked at x n ∷ steps) v path p env k j all w = turning F (or_panic_holds p env at (Meaning.element_of (Meaning.int_of x) n) _ _ (λ i. steps_hold steps v (path ++ i ∷ []) p env k j all) w)
+
+  settle_holds : {limit b : ℕ} (a : Aim) (p : Pair F limit b) (env : Env) (k j : Then Spot) → ((q : Spot) (w : World) → F.Holds b w (k q w) (j q w)) → (w : World) → F.Holds b w (Meaning.settle p.left env a k w) (Meaning.settle p.right env a j w)
+  settle_holds a p env k j all w = turning F (steps_hold a.steps _ _ p env k j all w)
+
+  module _ (around : Setting) (calls dalls : Calls) (n m : ℕ) (le : n ≤ m) (hc : CallsHold F n calls dalls) where
+    call_holds : {b : ℕ} (p : Pair F (suc n) b) (f : ℕ) (vs : List Value) (env : Env) (k j : Then (List Value)) → ((rs : List Value) (w : World) → F.Holds b w (k rs w) (j rs w)) → (w : World) → F.Holds b w (Turn (calls f vs p.left env k w)) (Turn (dalls f vs p.right env j w))
+    call_holds {b} p f vs env k j all w =
+        let l = p.within in
+        F.turns b w _ _ (hc.by f vs p.left p.right env (b - 1) (omega arith) (ways_fewer F b (b - 1) p.left p.right (omega arith) p.hold) k j (λ rs u. F.fewer (b - 1) b u _ _ (omega arith) (all rs u)) w)
+
+    mutual
+      walk_holds : (steps : Steps) {b : ℕ} (p : Pair F (suc n) b) (env : Env) (k j : Then (List Step)) → ((r : List Step) (w : World) → F.Holds b w (k r w) (j r w)) → (w : World) → F.Holds b w (Meaning.walk around calls steps p.left env k w) (Meaning.walk around dalls steps p.right env j w)
+      walk_holds here p env k j h w = h [] w
+      walk_holds (inner i steps) p env k j h w = walk_holds steps p env _ _ (λ r. h (fixed i ∷ r)) w
+      walk_holds (at_index at e x steps) p env k j h w = ev_holds e p env _ _ (λ v. walk_holds steps (keeping F v p) env _ _ (λ r. h (worked at v x ∷ r))) w
+
+      aim_holds : (q : Pl) {b : ℕ} (p : Pair F (suc n) b) (env : Env) (k j : Then Aim) → ((a : Aim) (w : World) → F.Holds b w (k a w) (j a w)) → (w : World) → F.Holds b w (Meaning.aim around calls q p.left env k w) (Meaning.aim around dalls q p.right env j w)
+      aim_holds (local site steps) p env k j h w = walk_holds steps p env _ _ (λ r. h _) w
+      aim_holds (global g steps) p env k j h w = walk_holds steps p env _ _ (λ r. h _) w
+
+      ev_holds : (e : Ex) {b : ℕ} (p : Pair F (suc n) b) (env : Env) (k j : Then Value) → ((v : Value) (w : World) → F.Holds b w (k v w) (j v w)) → (w : World) → F.Holds b w (Meaning.ev around calls e p.left env k w) (Meaning.ev around dalls e p.right env j w)
+      ev_holds (constant v) p env k j h w = turning F (seeing F (h v w))
+      ev_holds (read q) p env k j h w = aim_holds q p env _ _ (λ a. settle_holds a p env _ _ (λ s u. noting F (seeing F (h _ u)))) w
+      ev_holds (unary op e) p env k j h w = ev_holds e p env _ _ (λ v u. turning F (seeing F (h _ u))) w
+      ev_holds (binary at op a c) p env k j h w = ev_holds a p env _ _ (λ v. ev_holds c (keeping F v p) env _ _ (λ x u. turning F (or_panic_holds p env at (binary_of op v x) _ _ (λ y z. seeing F (h y z)) u))) w
+      ev_holds (logical_and a c) p env k j h w = ev_holds a p env _ _ (λ v u. turning F (when_holds (Meaning.is_true v) _ _ _ _ u (ev_holds c p env k j h u) (seeing F (h _ u)))) w
+      ev_holds (logical_or a c) p env k j h w = ev_holds a p env _ _ (λ v u. turning F (when_holds (Meaning.is_true v) _ _ _ _ u (seeing F (h _ u)) (ev_holds c p env k j h u))) w
+      ev_holds (call f es) p env k j h w = evs_hold es p env _ _ (λ vs. call_holds p f vs env _ _ (λ rs u. seeing F (h _ u))) w
+      ev_holds (part_of number i e) p env k j h w = ev_holds e p env _ _ (λ v u. turning F (seeing F (h _ u))) w
+      ev_holds (literal number es) p env k j h w = turning F (fill_holds es _ p env _ _ (λ v u. seeing F (h v u)) w)
+
+      fill_holds : (es : Elements) (x : Value) {b : ℕ} (p : Pair F (suc n) b) (env : Env) (k j : Then Value) → ((v : Value) (w : World) → F.Holds b w (k v w) (j v w)) → (w : World) → F.Holds b w (Meaning.fill around calls es x p.left env k w) (Meaning.fill around dalls es x p.right env j w)
+      fill_holds no_elements x p env k j h w = h x w
+      fill_holds (element i e es) x p env k j h w = ev_holds e p env _ _ (λ v. fill_holds es _ (keeping F v p) env _ _ h) w
+
+      evs_hold : (es : Exs) {b : ℕ} (p : Pair F (suc n) b) (env : Env) (k j : Then (List Value)) → ((vs : List Value) (w : World) → F.Holds b w (k vs w) (j vs w)) → (w : World) → F.Holds b w (Meaning.evs around calls es p.left env k w) (Meaning.evs around dalls es p.right env j w)
+      evs_hold none p env k j h w = h [] w
+      evs_hold (more e es) p env k j h w = ev_holds e p env _ _ (λ v. evs_hold es (keeping F v p) env _ _ (λ vs. h (v ∷ vs))) w
+      evs_hold (results f es) p env k j h w = evs_hold es p env _ _ (λ vs. call_holds p f vs env _ _ (λ rs u. seeing F (h rs u))) w
+      evs_hold read_int p env k j h w = turning F (ask_holds around (Meaning.give_all p.left k) (Meaning.give_all p.right j) (give_all_holds p.left p.right k j h) w)
+
+    ready_holds : (l : Left) {b : ℕ} (p : Pair F (suc n) b) (env : Env) (k j : Then Landing) → ((x : Landing) (w : World) → F.Holds b w (k x w) (j x w)) → (w : World) → F.Holds b w (Meaning.ready around calls l p.left env k w) (Meaning.ready around dalls l p.right env j w)
+    ready_holds blank p env k j h w = h nowhere w
+    ready_holds (new site) p env k j h w = h (birth site) w
+    ready_holds (to q) p env k j h w = aim_holds q p env _ _ (λ a. h (on a)) w
+
+    ready_all_hold : (ls : List Left) {b : ℕ} (p : Pair F (suc n) b) (env : Env) (k j : List Landing → Ways → Go) → ((xs : List Landing) (q : Pair F (suc n) b) (w : World) → F.Holds b w (k xs q.left w) (j xs q.right w)) → (w : World) → F.Holds b w (Meaning.ready_all around calls ls p.left env k w) (Meaning.ready_all around dalls ls p.right env j w)
+    ready_all_hold [] p env k j h w = h [] p w
+    ready_all_hold (l ∷ ls) p env k j h w = ready_holds l p env _ _ (λ x. ready_all_hold ls (keeping_all F (Meaning.landing_values x) p) env _ _ (λ xs. h (x ∷ xs))) w
+
+    land_holds : (l : Landing) (v : Value) {b : ℕ} (p : Pair F (suc n) b) (env : Env) (k j : Env → Go) → ((e : Env) (w : World) → F.Holds b w (k e w) (j e w)) → (w : World) → F.Holds b w (Meaning.land around l v p.left env k w) (Meaning.land around l v p.right env j w)
+    land_holds nowhere v p env k j h w = h env w
+    land_holds (birth site) v {b} p env k j h w =
+        turning F (subst (λ c. F.Holds b w (Meaning.bear around p.left.call site v (λ x. k (Meaning.with_home env site x)) w) (Meaning.bear around c site v (λ x. j (Meaning.with_home env site x)) w)) p.same
+        (bear_holds around p.left.call site v (λ x. k (Meaning.with_home env site x)) (λ x. j (Meaning.with_home env site x)) (λ x. h (Meaning.with_home env site x)) w))
+    land_holds (on a) v p env k j h w = settle_holds a p env _ _ (λ s. write_holds s.variable s.path v _ _ (h env)) w
+
+    land_all_hold : (ls : List Landing) (vs : List Value) {b : ℕ} (p : Pair F (suc n) b) (env : Env) (k j : Env → Go) → ((e : Env) (w : World) → F.Holds b w (k e w) (j e w)) → (w : World) → F.Holds b w (Meaning.land_all around ls vs p.left env k w) (Meaning.land_all around ls vs p.right env j w)
+    land_all_hold [] vs p env k j h w = h env w
+    land_all_hold (l ∷ ls) [] p env k j h w = h env w
+    land_all_hold (l ∷ ls) (v ∷ vs) p env k j h w = land_holds l v p env _ _ (λ e. land_all_hold ls vs p e k j h) w
+
+    pieces_hold : (ps : List Piece) {b : ℕ} (p : Pair F (suc n) b) (env : Env) (k j : Then (List (List ℕ))) → ((r : List (List ℕ)) (w : World) → F.Holds b w (k r w) (j r w)) → (w : World) → F.Holds b w (Meaning.pieces around calls ps p.left env k w) (Meaning.pieces around dalls ps p.right env j w)
+    pieces_hold [] p env k j h w = h [] w
+    pieces_hold (text number ∷ ps) p env k j h w = pieces_hold ps p env _ _ (λ r. h _) w
+    pieces_hold (shown t e ∷ ps) p env k j h w = ev_holds e p env _ _ (λ v. pieces_hold ps (keeping F v p) env _ _ (λ r. h _)) w
+
+    more_hold : (bs : List (List ℕ)) {b : ℕ} (g h : Go) → ((w : World) → F.Holds b w (g w) (h w)) → (w : World) → F.Holds b w (Meaning.emit_more bs g w) (Meaning.emit_more bs h w)
+    more_hold [] g h all w = turning F (noting F (all w))
+    more_hold (x ∷ bs) g h all w = turning F (noting F (noting F (more_hold bs g h all w)))
+
+    line_holds : (bs : List (List ℕ)) {b : ℕ} (g h : Go) → ((w : World) → F.Holds b w (g w) (h w)) → (w : World) → F.Holds b w (Meaning.emit_line bs g w) (Meaning.emit_line bs h w)
+    line_holds [] g h all w = turning F (noting F (all w))
+    line_holds (x ∷ bs) g h all w = turning F (noting F (more_hold bs g h all w))
+
+    plain_holds : (bs : List (List ℕ)) {b : ℕ} (g h : Go) → ((w : World) → F.Holds b w (g w) (h w)) → (w : World) → F.Holds b w (Meaning.emit_plain bs g w) (Meaning.emit_plain bs h w)
+    plain_holds [] g h all w = all w
+    plain_holds (x ∷ bs) g h all w = turning F (noting F (plain_holds bs g h all w))
+
+    emit_holds : (ln : Bool) (bs : List (List ℕ)) {b : ℕ} (g h : Go) → ((w : World) → F.Holds b w (g w) (h w)) → (w : World) → F.Holds b w (Meaning.emit ln bs g w) (Meaning.emit ln bs h w)
+    emit_holds true bs g h all w = line_holds bs g h all w
+    emit_holds false bs g h all w = plain_holds bs g h all w
+
+    renew_holds : (sites : List ℕ) {b : ℕ} (entry : ℕ) (env : Env) (k j : Env → Go) → ((e : Env) (w : World) → F.Holds b w (k e w) (j e w)) → (w : World) → F.Holds b w (Meaning.renew around entry sites env k w) (Meaning.renew around entry sites env j w)
+    renew_holds [] entry env k j h w = h env w
+    renew_holds (site ∷ sites) entry env k j h w = turning F (marking (copied (Meaning.home env site)) tt (noting F (bear_holds around entry site _ _ _ (λ x. renew_holds sites entry (Meaning.with_home env site x) k j h) w)))
+
+    -- loops: of parts that keep the family under each lower bound
+    rounds_hold : {b : ℕ} → (test nest : Env → Then Value → Go) → ((c : ℕ) → c ≤ b → (env : Env) (k j : Then Value) → ((v : Value) (w : World) → F.Holds c w (k v w) (j v w)) → (w : World) → F.Holds c w (test env k w) (nest env j w)) →
+        (body nody : ℕ → Env → (ℕ → Env → Go) → Go) → ((c : ℕ) → c ≤ b → (v : ℕ) (env : Env) (k j : ℕ → Env → Go) → ((u : ℕ) (e : Env) (w : World) → F.Holds c w (k u e w) (j u e w)) → (w : World) → F.Holds c w (body v env k w) (nody v env j w)) →
+        (k j : ℕ → Env → Go) → ((v : ℕ) (e : Env) (w : World) → F.Holds b w (k v e w) (j v e w)) → (x y : ℕ) → x ≤ y → (c : ℕ) → c ≤ b → c ≤ x → (v : ℕ) (env : Env) (w : World) → F.Holds c w (Meaning.rounds x test body k v env w) (Meaning.rounds y nest nody j v env w)
+    rounds_hold test nest ht body nody hb k j h zero y xy c cb cx v env w = let q : 0 ≡ c = omega arith in subst (λ a. F.Holds a w Cut (Meaning.rounds y nest nody j v env w)) q (F.cuts w _)
+    rounds_hold test nest ht body nody hb k j h (suc x) zero xy c cb cx v env w = absurd (omega arith)
+    rounds_hold {b} test nest ht body nody hb k j h (suc x) (suc y) xy c cb cx v env w =
+        ht c cb env _ _ (λ t u. when_holds (Meaning.is_true t) _ _ _ _ u
+        (hb c cb v env _ _ (λ v1 e z. F.turns c z _ _ (rounds_hold test nest ht body nody hb k j h x y (omega arith) (c - 1) (omega arith) (omega arith) v1 e z)) u)
+        (F.fewer c b u _ _ cb (h v env u))) w
+
+    counted_holds : {b : ℕ} → (body nody : ℕ → ℕ → Env → (ℕ → Env → Go) → Go) → ((c : ℕ) → c ≤ b → (i v : ℕ) (env : Env) (k j : ℕ → Env → Go) → ((u : ℕ) (e : Env) (w : World) → F.Holds c w (k u e w) (j u e w)) → (w : World) → F.Holds c w (body i v env k w) (nody i v env j w)) →
+        (k j : ℕ → Env → Go) → ((v : ℕ) (e : Env) (w : World) → F.Holds b w (k v e w) (j v e w)) → (x y : ℕ) → x ≤ y → (c : ℕ) → c ≤ b → c ≤ x → (i left v : ℕ) (env : Env) (w : World) → F.Holds c w (Meaning.counted x i left body k v env w) (Meaning.counted y i left nody j v env w)
+    counted_holds body nody hb k j h zero y xy c cb cx i left v env w = let q : 0 ≡ c = omega arith in subst (λ a. F.Holds a w Cut (Meaning.counted y i left nody j v env w)) q (F.cuts w _)
+    counted_holds body nody hb k j h (suc x) zero xy c cb cx i left v env w = absurd (omega arith)
+    counted_holds {b} body nody hb k j h (suc x) (suc y) xy c cb cx i zero v env w = turning F (F.fewer c b w _ _ cb (h v env w))
+    counted_holds body nody hb k j h (suc x) (suc y) xy c cb cx i (suc left) v env w =
+        turning F (hb c cb i v env _ _ (λ v1 e z. F.turns c z _ _ (counted_holds body nody hb k j h x y (omega arith) (c - 1) (omega arith) (omega arith) (suc i) left v1 e z)) w)
+
+    abbrev Part : Type 0
+    Part = Ways → Env → (Env → Go) → Go
+
+    record PartHolds (b : ℕ) (body nody : Part) : Type 0 where
+      by : (p : Pair F (suc n) b) (env : Env) (k j : Env → Go) → ((e : Env) (w : World) → F.Holds b w (k e w) (j e w)) → (w : World) → F.Holds b w (body p.left env k w) (nody p.right env j w)
+
+    test_holds : (t : Option Ex) {b : ℕ} (p : Pair F (suc n) b) (env : Env) (k j : Then Value) → ((v : Value) (w : World) → F.Holds b w (k v w) (j v w)) → (w : World) → F.Holds b w (Meaning.test_of around calls t p.left env k w) (Meaning.test_of around dalls t p.right env j w)
+    test_holds None p env k j h w = h _ w
+    test_holds (Some e) p env k j h w = ev_holds e p env _ _ (λ v u. turning F (h v u)) w
+
+    begin_holds : (o : Over) {b : ℕ} (p : Pair F (suc n) b) (env : Env) (k j : ℕ → Ways → Env → Go) → ((x : ℕ) (q : Pair F (suc n) b) (e : Env) (w : World) → F.Holds b w (k x q.left e w) (j x q.right e w)) → (w : World) → F.Holds b w (Meaning.begin_range around calls (suc n) o p.left env k w) (Meaning.begin_range around dalls (suc m) o p.right env j w)
+    begin_holds (over_int e) p env k j h w = ev_holds e p env _ _ (λ v u. turning F (h _ (keeping F v p) env u)) w
+    begin_holds (over_length x) p env k j h w = turning F (h x p env w)
+    begin_holds (over_copy site e x) {b} p env k j h w = ev_holds e p env _ _ (λ v u.
+        turning F (subst (λ c. F.Holds b u (Meaning.bear around p.left.call site v (λ y. Meaning.turn (k x p.left (Meaning.with_home env site y))) u) (Meaning.bear around c site v (λ y. Meaning.turn (j x p.right (Meaning.with_home env site y))) u)) p.same
+        (bear_holds around p.left.call site v _ _ (λ y z. turning F (h x p (Meaning.with_home env site y) z)) u))) w
+
+    quit_holds : (z : ℤ) {b : ℕ} (p : Pair F (suc n) b) (env : Env) (at : Position) (w : World) → F.Holds b w (Meaning.quit_with p.left env at z w) (Meaning.quit_with p.right env at z w)
+    quit_holds (pos x) p env at w = when_holds (nat_lt x 126) _ _ _ _ w (F.ends _ w (Exit x)) (p.hold.panicked at _ env w)
+    quit_holds (negsuc x) p env at w = p.hold.panicked at _ env w
+
+    -- rounds, of a body and a post statement that keep the family
+    around_hold : (body nody post nost : Part) (sites : List ℕ) {b : ℕ} → PartHolds b body nody → PartHolds b post nost → (p : Pair F (suc n) b) (out nout : Env → Go) → ((e : Env) (w : World) → F.Holds b w (out e w) (nout e w)) → (v : ℕ) (env : Env) (k j : ℕ → Env → Go) → ((u : ℕ) (e : Env) (w : World) → F.Holds b w (k u e w) (j u e w)) → (w : World) →
+        F.Holds b w (Meaning.in_loop body p.left out (Meaning.to_next around v sites post p.left k) env w) (Meaning.in_loop nody p.right nout (Meaning.to_next around v sites nost p.right j) env w)
+    around_hold body nody post nost sites {b} hb hp p out nout ho v env k j h w =
+        let again : (e : Env) (u : World) → F.Holds b u (Meaning.to_next around v sites post p.left k e u) (Meaning.to_next around v sites nost p.right j e u) = λ e u. marking (ended v) tt
+        (subst (λ c. F.Holds b u (Meaning.renew around p.left.call sites e (λ e1. post p.left e1 (k (length u.store))) u) (Meaning.renew around c sites e (λ e1. nost p.right e1 (j (length u.store))) u)) p.same
+        (renew_holds sites p.left.call e (λ e1. post p.left e1 (k (length u.store))) (λ e1. nost p.right e1 (j (length u.store))) (λ e1. hp.by p e1 _ _ (h (length u.store))) u)) in
+        hb.by (looping F p out nout _ _ ho again) env _ _ again w
+
+    index_round_holds : (key : Left) (body nody : Part) (i : ℕ) {b : ℕ} → PartHolds b body nody → (p : Pair F (suc n) b) (out nout : ℕ → Env → Go) → ((u : ℕ) (e : Env) (w : World) → F.Holds b w (out u e w) (nout u e w)) → (v : ℕ) (env : Env) (k j : ℕ → Env → Go) → ((u : ℕ) (e : Env) (w : World) → F.Holds b w (k u e w) (j u e w)) → (w : World) →
+        F.Holds b w (Meaning.index_round around calls (suc n) key body p.left out i v env k w) (Meaning.index_round around dalls (suc m) key nody p.right nout i v env j w)
+    index_round_holds key body nody i {b} hb p out nout ho v env k j h w =
+        let again : (e : Env) (u : World) → F.Holds b u (Meaning.to_next_count v k e u) (Meaning.to_next_count v j e u) = λ e u. marking (ended v) tt (h (length u.store) e u) in
+        ready_holds key p env _ _ (λ a. land_holds a (int (pos i)) p env _ _ (λ e1. hb.by (looping F p (out v) (nout v) _ _ (ho v) again) e1 _ _ again)) w
+
+    element_round_holds : (site : ℕ) (key value : Left) (body nody : Part) (i : ℕ) {b : ℕ} → PartHolds b body nody → (p : Pair F (suc n) b) (out nout : ℕ → Env → Go) → ((u : ℕ) (e : Env) (w : World) → F.Holds b w (out u e w) (nout u e w)) → (v : ℕ) (env : Env) (k j : ℕ → Env → Go) → ((u : ℕ) (e : Env) (w : World) → F.Holds b w (k u e w) (j u e w)) → (w : World) →
+        F.Holds b w (Meaning.element_round around calls (suc n) site key value body p.left out i v env k w) (Meaning.element_round around dalls (suc m) site key value nody p.right nout i v env j w)
+    element_round_holds site key value body nody i {b} hb p out nout ho v env k j h w =
+        let again : (e : Env) (u : World) → F.Holds b u (Meaning.to_next_count v k e u) (Meaning.to_next_count v j e u) = λ e u. marking (ended v) tt (h (length u.store) e u) in
+        ready_all_hold (key ∷ value ∷ []) p env
+        (λ those ws1. Meaning.read_part (Meaning.home env site) (i ∷ []) (λ y. Meaning.land_all around those (int (pos i) ∷ y ∷ []) p.left env (λ env1. Meaning.in_loop body p.left (out v) (Meaning.to_next_count v k) env1)))
+        (λ those ws1. Meaning.read_part (Meaning.home env site) (i ∷ []) (λ y. Meaning.land_all around those (int (pos i) ∷ y ∷ []) p.right env (λ env1. Meaning.in_loop nody p.right (nout v) (Meaning.to_next_count v j) env1)))
+        (λ those q u. noting F (land_all_hold those (int (pos i) ∷ read_at u (Meaning.home env site) (i ∷ []) ∷ []) p env _ _ (λ e1. hb.by (looping F p (out v) (nout v) _ _ (ho v) again) e1 _ _ again) u)) w
+
+    round_holds : (over : Over) (key value : Left) (body nody : Part) (i : ℕ) {b : ℕ} → PartHolds b body nody → (p : Pair F (suc n) b) (out nout : ℕ → Env → Go) → ((u : ℕ) (e : Env) (w : World) → F.Holds b w (out u e w) (nout u e w)) → (v : ℕ) (env : Env) (k j : ℕ → Env → Go) → ((u : ℕ) (e : Env) (w : World) → F.Holds b w (k u e w) (j u e w)) → (w : World) →
+        F.Holds b w (Meaning.range_round around calls (suc n) over key value body p.left out i v env k w) (Meaning.range_round around dalls (suc m) over key value nody p.right nout i v env j w)
+    round_holds (over_int e) key value body nody i hb p out nout ho v env k j h w = index_round_holds key body nody i hb p out nout ho v env k j h w
+    round_holds (over_length x) key value body nody i hb p out nout ho v env k j h w = index_round_holds key body nody i hb p out nout ho v env k j h w
+    round_holds (over_copy site e x) key value body nody i hb p out nout ho v env k j h w = element_round_holds site key value body nody i hb p out nout ho v env k j h w
+
+    zeros_hold : (sites : List ℕ) {b : ℕ} (entry : ℕ) (env : Env) (k j : Env → Go) → ((e : Env) (w : World) → F.Holds b w (k e w) (j e w)) → (w : World) → F.Holds b w (Meaning.bear_zeros around entry sites env k w) (Meaning.bear_zeros around entry sites env j w)
+    zeros_hold [] entry env k j h w = h env w
+    zeros_hold (site ∷ sites) entry env k j h w = turning F (bear_holds around entry site _ _ _ (λ x. zeros_hold sites entry (Meaning.with_home env site x) k j h) w)
+
+    mutual
+      exec_holds : (s : St) {b : ℕ} (p : Pair F (suc n) b) (env : Env) (k j : Env → Go) → ((e : Env) (w : World) → F.Holds b w (k e w) (j e w)) → (w : World) → F.Holds b w (Meaning.exec around calls (suc n) s p.left env k w) (Meaning.exec around dalls (suc m) s p.right env j w)
+      exec_holds (declare sites) {b} p env k j h w =
+          subst (λ c. F.Holds b w (Meaning.bear_zeros around p.left.call sites env k w) (Meaning.bear_zeros around c sites env j w)) p.same (zeros_hold sites p.left.call env k j h w)
+      exec_holds (assign ls es) p env k j h w = ready_all_hold ls p env _ _ (λ those q. evs_hold es q env _ _ (λ vs. land_all_hold those vs p env k j h)) w
+      exec_holds (update at q op e) p env k j h w =
+          aim_holds q p env _ _ (λ a. settle_holds a p env _ _ (λ s u. noting F (ev_holds e (keeping F (read_at u s.variable s.path) p) env _ _ (λ x. or_panic_holds p env at (binary_of op (read_at u s.variable s.path) x) _ _ (λ y. write_holds s.variable s.path y _ _ (h env))) u))) w
+      exec_holds (bump at q op) p env k j h w =
+          aim_holds q p env _ _ (λ a. settle_holds a p env _ _ (λ s u. noting F (or_panic_holds p env _ (binary_of op (read_at u s.variable s.path) (int (pos 1))) _ _ (λ y. write_holds s.variable s.path y _ _ (h env)) u))) w
+      exec_holds (discard es) p env k j h w = evs_hold es p env _ _ (λ vs. h env) w
+      exec_holds (block ss) p env k j h w = all_hold ss p env k j h w
+      exec_holds (if_stmt e a c) p env k j h w = ev_holds e p env _ _ (λ v u. turning F (when_holds (Meaning.is_true v) _ _ _ _ u (all_hold a p env k j h u) (all_hold c p env k j h u))) w
+      exec_holds (for_stmt sites test post body) p env k j h w =
+          rounds_hold _ _ (λ c cb e k1 j1 h1. test_holds test (lower F p c cb) e k1 j1 h1) _ _
+          (λ c cb v e k1 j1 h1. around_hold _ _ _ _ sites (record { by = all_hold body }) (record { by = all_hold post }) (lower F p c cb) _ _ (λ e1 u. F.fewer c _ u _ _ cb (outside_holds k j h v e1 u)) v e k1 j1 h1)
+          _ _ (outside_holds k j h) (suc n) (suc m) (omega arith) _ (omega arith) p.within (length w.store - length sites) env w
+      exec_holds (range over key value body) p env k j h w =
+          begin_holds over p env _ _ (λ x q env1 u. counted_holds _ _
+          (λ c cb i v e k1 j1 h1. round_holds over key value _ _ i (record { by = all_hold body }) (lower F q c cb) _ _ (λ y e1 z. F.fewer c _ z _ _ cb (outside_holds k j h y e1 z)) v e k1 j1 h1)
+          _ _ (outside_holds k j h) (suc n) (suc m) (omega arith) _ (omega arith) p.within 0 x (length u.store) env1 u) w
+      exec_holds break_stmt p env k j h w = turning F (p.hold.broken env w)
+      exec_holds continue_stmt p env k j h w = turning F (p.hold.continued env w)
+      exec_holds (return_stmt es) p env k j h w = evs_hold es p env _ _ (λ vs. p.hold.returned vs env) w
+      exec_holds (print ln ps) p env k j h w = pieces_hold ps p env _ _ (λ bs. emit_holds ln bs _ _ (h env)) w
+      exec_holds (panic at (text number)) p env k j h w = turning F (p.hold.panicked at _ env w)
+      exec_holds (panic at (shown t e)) p env k j h w = ev_holds e p env _ _ (λ v u. turning F (p.hold.panicked at _ env u)) w
+      exec_holds (exit at e) p env k j h w = ev_holds e p env _ _ (λ v u. turning F (quit_holds (Meaning.int_of v) p env at u)) w
+
+      all_hold : (ss : Sts) {b : ℕ} (p : Pair F (suc n) b) (env : Env) (k j : Env → Go) → ((e : Env) (w : World) → F.Holds b w (k e w) (j e w)) → (w : World) → F.Holds b w (Meaning.exec_all around calls (suc n) ss p.left env k w) (Meaning.exec_all around dalls (suc m) ss p.right env j w)
+      all_hold done p env k j h w = seeing F (h env w)
+      all_hold (next s ss) p env k j h w = seeing F (exec_holds s p env _ _ (λ e. all_hold ss p e k j h) w)
+
+    params_hold : (ps : List (Option ℕ)) (vs : List Value) {b : ℕ} (entry : ℕ) (env : Env) (k j : Env → Go) → ((e : Env) (w : World) → F.Holds b w (k e w) (j e w)) → (w : World) → F.Holds b w (Meaning.bear_params around entry ps vs env k w) (Meaning.bear_params around entry ps vs env j w)
+    params_hold [] vs entry env k j h w = h env w
+    params_hold (p ∷ ps) [] entry env k j h w = h env w
+    params_hold (None ∷ ps) (v ∷ vs) entry env k j h w = params_hold ps vs entry env k j h w
+    params_hold (Some site ∷ ps) (v ∷ vs) entry env k j h w = turning F (bear_holds around entry site v _ _ (λ x. params_hold ps vs entry (Meaning.with_home env site x) k j h) w)
+
+  writes_hold : (sites : List ℕ) (vs : List Value) {b : ℕ} (env : Env) (g h : Go) → ((w : World) → F.Holds b w (g w) (h w)) → (w : World) → F.Holds b w (Meaning.write_results sites vs env g w) (Meaning.write_results sites vs env h w)
+  writes_hold [] vs env g h all w = all w
+  writes_hold (site ∷ sites) [] env g h all w = all w
+  writes_hold (site ∷ sites) (v ∷ vs) env g h all w = turning F (write_holds _ [] v _ _ (writes_hold sites vs env g h all) w)
+
+  reads_hold : (sites : List ℕ) {b : ℕ} (env : Env) (k j : Then (List Value)) → ((vs : List Value) (w : World) → F.Holds b w (k vs w) (j vs w)) → (w : World) → F.Holds b w (Meaning.read_results sites env k w) (Meaning.read_results sites env j w)
+  reads_hold [] env k j h w = h [] w
+  reads_hold (site ∷ sites) env k j h w = turning F (noting F (reads_hold sites env _ _ (λ vs. h _) w))
+
+  leave_holds : (named : List ℕ) (v : ℕ) {b : ℕ} (k j : Then (List Value)) → ((rs : List Value) (w : World) → F.Holds b w (k rs w) (j rs w)) → (vs : List Value) (env : Env) (w : World) → F.Holds b w (Meaning.leave named v k vs env w) (Meaning.leave named v j vs env w)
+  leave_holds [] v k j h vs env w = turning F (marking (ended v) tt (noting F {e = Return} (h vs w)))
+  leave_holds (site ∷ sites) v k j h vs env w = writes_hold (site ∷ sites) vs env _ _ (reads_hold (site ∷ sites) env _ _ (λ rs u. turning F (marking (ended v) tt (noting F {e = Return} (h rs u))))) w
+
+  module _ (around : Setting) (funcs : List Func) where
+    body_holds : (calls dalls : Calls) (n m : ℕ) → n ≤ m → CallsHold F n calls dalls → (f : ℕ) (o : Option Func) (vs : List Value) (ws us : Ways) (env : Env) (b : ℕ) → b ≤ suc n → WaysHold F b ws us → (k j : Then (List Value)) → ((rs : List Value) (w : World) → F.Holds b w (k rs w) (j rs w)) → (w : World) → F.Holds b w (Meaning.run_body around funcs calls (suc n) f o vs ws env k w) (Meaning.run_body around funcs dalls (suc m) f o vs us env j w)
+    body_holds calls dalls n m le hc f None vs ws us env b within hw k j h w = h [] w
+    body_holds calls dalls n m le hc f (Some func) vs ws us env b within hw k j h w =
+        let v = length w.store in
+        let back : (rs : List Value) (e : Env) (u : World) → F.Holds b u (Meaning.leave func.named v k rs e u) (Meaning.leave func.named v j rs e u) = leave_holds func.named v k j h in
+        let inner : Pair F (suc n) b = record { left = Meaning.ways_in func.named v ws env k; right = Meaning.ways_in func.named v us env j; same = refl; within = within; hold = record { broken = back []; continued = back []; returned = back; panicked = λ at x e u. hw.panicked at x env u } } in
+        marking (entered w vs) tt (noting F (params_hold around calls dalls n m le hc func.params vs v _ _ _ (λ e1. zeros_hold around calls dalls n m le hc func.named v e1 _ _ (λ e2. all_hold around calls dalls n m le hc func.body inner e2 _ _ (back []))) w))
+
+    calls_hold : (n m : ℕ) → n ≤ m → CallsHold F n (Meaning.call_at around funcs n) (Meaning.call_at around funcs m)
+    calls_hold zero m le = record { by = λ f vs ws us env b within hw k j h w. let q : 0 ≡ b = omega arith in subst (λ a. F.Holds a w Cut (Meaning.call_at around funcs m f vs us env j w)) q (F.cuts w _) }
+    calls_hold (suc n) zero le = absurd (omega arith)
+    calls_hold (suc n) (suc m) le = record { by = λ f vs ws us env b within hw k j h w. body_holds (Meaning.call_at around funcs n) (Meaning.call_at around funcs m) n m (omega arith) (calls_hold n m (omega arith)) f (slice_get funcs f) vs ws us env b within hw k j h w }
+
+  globals_hold : (around : Setting) (gs : List (ℕ × Value)) {b : ℕ} (g h : Go) → ((w : World) → F.Holds b w (g w) (h w)) → (w : World) → F.Holds b w (Meaning.bear_globals around gs g w) (Meaning.bear_globals around gs h w)
+  globals_hold around [] g h all w = all w
+  globals_hold around ((site, v) ∷ gs) g h all w = bear_holds around 0 site v _ _ (λ x. globals_hold around gs g h all) w
+
+  pub whole_holds : (items : ℕ → Item) (p : Program) (n m : ℕ) → n ≤ m → (w : World) → F.Holds n w (Meaning.whole items p n w) (Meaning.whole items p m w)
+  whole_holds items p n m le w =
+      globals_hold (Meaning.setting_of items p) p.globals _ _ ((calls_hold (Meaning.setting_of items p) p.funcs n m le).by p.main [] Meaning.at_top Meaning.at_top (λ x. 0) n (omega arith)
+      (record { broken = λ e u. F.ends n u (Exit 0); continued = λ e u. F.ends n u (Exit 0); returned = λ vs e u. F.ends n u (Exit 0); panicked = λ at f e u. F.ends n u (Panic at f) })
+      _ _ (λ rs u. F.ends n u (Exit 0))) w

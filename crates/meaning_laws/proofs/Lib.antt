@@ -1,0 +1,5 @@
+pub mod Later
+pub mod Family
+pub mod Holding
+pub mod Runs
+pub mod Cuts

@@ -1,0 +1,2 @@
+-- What holds of every run: each law is the clause of a function of `laws`.
+pub mod Laws

@@ -1,0 +1,39 @@
+//! Laws of the meaning. Each function carries one as its clause, and does nothing.
+
+ghost use Rattle.meaning_laws.specs.Laws.{FuelIsEnough, LimitsCut, LongerCappedExtend, LongerRunsExtend, LongerSourcesExtend, SourceShowsJournal, VariablesStay};
+
+/// A longer budget only extends the journal, and an ending other than by turns is kept.
+pub fn longer_runs_extend()
+    ensures { LongerRunsExtend }
+{}
+
+/// The same under limits.
+pub fn longer_capped_extend()
+    ensures { LongerCappedExtend }
+{}
+
+/// What a source shows in fewer turns is what it shows in more, or it stops earlier.
+pub fn longer_sources_extend()
+    ensures { LongerSourcesExtend }
+{}
+
+/// Only turns end a run early: more fuel changes nothing.
+pub fn fuel_is_enough()
+    ensures { FuelIsEnough }
+{}
+
+/// What those outside see is what the journal prints, under the same limits and with the same ending.
+pub fn source_shows_journal()
+    ensures { SourceShowsJournal }
+{}
+
+/// Under limits a run is the one without them, cut before the first call or birth that would pass one, with that limit as its
+/// ending.
+pub fn limits_cut()
+    ensures { LimitsCut }
+{}
+
+/// No variable dies or moves.
+pub fn variables_stay()
+    ensures { VariablesStay }
+{}

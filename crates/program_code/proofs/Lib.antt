@@ -1,0 +1,6 @@
+pub mod Compiled
+pub mod Sizes
+pub mod Stands
+pub mod Sites
+pub mod Wide
+pub mod Rooms

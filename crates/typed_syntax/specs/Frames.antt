@@ -1,0 +1,251 @@
+-- The words of a frame, from its lowest address: the outgoing area, in which the arguments of a call stand and then its
+-- results; the temps that values are worked out in; the words of each site; the link and the return place.
+use Rattle.std.specs.Prelude.{ℕ, zero, suc, ◌+◌, Bool, true, false, List, [], ◌∷◌, Option, Some, None, max, get_or, slice_get}
+use Rattle.typed_syntax.specs.Types.{TypeTree, ints, width, part_type, part_offset}
+use Rattle.typed_syntax.specs.Value.{words}
+use Rattle.typed_syntax.specs.Syntax.{Ex, Exs, Pl, Steps, here, inner, at_index, Left, Piece, Over, St, Sts, Func, Program, constant, read, unary, binary, logical_and, logical_or, call, part_of, literal, Elements, no_elements, element, local, global, none, more, results, read_int, blank, new, to, text, shown, over_int, over_length, over_copy, declare, assign, update, bump, discard, block, if_stmt, for_stmt, range, break_stmt, continue_stmt, return_stmt, print, panic, exit, done, next, arguments_of, results_of, type_named, site_type, site_width, place_width, wide, all_wide, ascend}
+
+-- the words of the address of a place, where it is reached by one: of a package variable, and of a part by an index that is
+-- worked out
+abbrev pub steps_far : Steps → ℕ
+steps_far here = 0
+steps_far (inner i steps) = steps_far steps
+steps_far (at_index at e n steps) = 1
+
+abbrev pub far : Pl → ℕ
+far (local site steps) = steps_far steps
+far (global g steps) = 1
+
+abbrev pub left_far : Left → ℕ
+left_far blank = 0
+left_far (new site) = 0
+left_far (to q) = far q
+
+-- the most of these among left sides
+abbrev pub lefts_far : List Left → ℕ
+lefts_far [] = 0
+lefts_far (l ∷ ls) = max (left_far l) (lefts_far ls)
+
+-- the words of `count` sites from one on
+abbrev pub words_between : List TypeTree → (from count : ℕ) → ℕ
+words_between sites from zero = 0
+words_between sites from (suc n) = width (get_or sites from ints) + words_between sites (suc from) n
+
+-- words of values, and after them an address, if there is one
+abbrev pub behind_values : (values address : ℕ) → ℕ
+behind_values values zero = 0
+behind_values values (suc address) = values + suc address
+
+module _ (p : Program) where
+  -- temps from the one on in which the value lands, and those of values side by side
+  abbrev mutual
+    pub need : Ex → ℕ
+    need (constant v) = words v
+    need (read q) = max (place_need q (far q)) (place_width p q)
+    need (unary op e) = need e
+    need (binary at op a b) = max (need a) (wide p a + need b)
+    need (logical_and a b) = max (need a) (need b)
+    need (logical_or a b) = max (need a) (need b)
+    need (call f es) = max (need_all es) (results_of p f)
+    need (part_of n i e) = need e
+    need (literal n es) = max (width (type_named p n)) (elements_need (type_named p n) (ascend es) es)
+
+    -- the operands of a place, one after the other, and a number of words after them
+    pub place_need : Pl → (behind : ℕ) → ℕ
+    place_need (local site steps) behind = steps_need steps behind
+    place_need (global g steps) behind = steps_need steps behind
+
+    pub steps_need : Steps → (behind : ℕ) → ℕ
+    steps_need here behind = behind
+    steps_need (inner i steps) behind = steps_need steps behind
+    steps_need (at_index at e n steps) behind = max (need e) (1 + steps_need steps behind)
+
+    -- elements of a literal: each stands in its place at once where they come in order, and else after the literal first
+    pub elements_need : TypeTree → (in_order : Bool) → Elements → ℕ
+    elements_need t in_order no_elements = 0
+    elements_need t true (element i e es) = max (part_offset t i + need e) (elements_need t true es)
+    elements_need t false (element i e es) = max (width t + need e) (elements_need t false es)
+
+    pub need_all : Exs → ℕ
+    need_all none = 0
+    need_all (more e es) = max (need e) (wide p e + need_all es)
+    need_all (results f es) = max (need_all es) (results_of p f)
+    need_all read_int = 2
+
+  -- a string is no value
+  abbrev pub piece_need : Piece → ℕ
+  piece_need (text number) = 0
+  piece_need (shown t e) = need e
+
+  abbrev pub need_pieces : List Piece → ℕ
+  need_pieces [] = 0
+  need_pieces (text number ∷ ps) = need_pieces ps
+  need_pieces (shown t e ∷ ps) = max (need e) (1 + need_pieces ps)
+
+  abbrev pub test_need : Option Ex → ℕ
+  test_need None = 0
+  test_need (Some e) = need e
+
+  -- the words of the calls inside: of arguments and results together, the most
+  abbrev mutual
+    pub reach : Ex → ℕ
+    reach (constant v) = 0
+    reach (read q) = place_reach q 0
+    reach (unary op e) = reach e
+    reach (binary at op a b) = max (reach a) (reach b)
+    reach (logical_and a b) = max (reach a) (reach b)
+    reach (logical_or a b) = max (reach a) (reach b)
+    reach (call f es) = max (reach_all es) (arguments_of p f + results_of p f)
+    reach (part_of n i e) = reach e
+    reach (literal n es) = elements_reach es
+
+    -- of the operands of a place, and of what comes with them
+    pub place_reach : Pl → (others : ℕ) → ℕ
+    place_reach (local site steps) others = steps_reach steps others
+    place_reach (global g steps) others = steps_reach steps others
+
+    pub steps_reach : Steps → (others : ℕ) → ℕ
+    steps_reach here others = others
+    steps_reach (inner i steps) others = steps_reach steps others
+    steps_reach (at_index at e n steps) others = max (reach e) (steps_reach steps others)
+
+    pub elements_reach : Elements → ℕ
+    elements_reach no_elements = 0
+    elements_reach (element i e es) = max (reach e) (elements_reach es)
+
+    pub reach_all : Exs → ℕ
+    reach_all none = 0
+    reach_all (more e es) = max (reach e) (reach_all es)
+    reach_all (results f es) = max (reach_all es) (arguments_of p f + results_of p f)
+    reach_all read_int = 0
+
+  abbrev pub piece_reach : Piece → ℕ
+  piece_reach (text number) = 0
+  piece_reach (shown t e) = reach e
+
+  abbrev pub reach_pieces : List Piece → ℕ
+  reach_pieces [] = 0
+  reach_pieces (text number ∷ ps) = reach_pieces ps
+  reach_pieces (shown t e ∷ ps) = max (reach e) (reach_pieces ps)
+
+  abbrev pub test_reach : Option Ex → ℕ
+  test_reach None = 0
+  test_reach (Some e) = reach e
+
+  abbrev pub over_reach : Over → ℕ
+  over_reach (over_int e) = reach e
+  over_reach (over_length x) = 0
+  over_reach (over_copy site e x) = reach e
+
+  -- the operands of left sides, and a number of words after them
+  abbrev pub lefts_need : List Left → (behind : ℕ) → ℕ
+  lefts_need [] behind = behind
+  lefts_need (blank ∷ ls) behind = lefts_need ls behind
+  lefts_need (new site ∷ ls) behind = lefts_need ls behind
+  lefts_need (to q ∷ ls) behind = place_need q (lefts_need ls behind)
+
+  abbrev pub lefts_reach : List Left → (others : ℕ) → ℕ
+  lefts_reach [] others = others
+  lefts_reach (blank ∷ ls) others = lefts_reach ls others
+  lefts_reach (new site ∷ ls) others = lefts_reach ls others
+  lefts_reach (to q ∷ ls) others = place_reach q (lefts_reach ls others)
+
+  -- the words of the widest of some sites: a new round's variables are moved through temps, and so are a function's results
+  -- with names
+  abbrev pub widest : List ℕ → ℕ
+  widest [] = 0
+  widest (site ∷ sites) = max (site_width p site) (widest sites)
+
+  -- `range`: the words that it keeps, and what it works with above them
+  abbrev pub over_need : Over → ℕ
+  over_need (over_int e) = need e
+  over_need (over_length x) = 0
+  over_need (over_copy site e x) = need e
+
+  abbrev pub hidden : Over → ℕ
+  hidden (over_int e) = 2
+  hidden (over_length x) = 1
+  hidden (over_copy site e x) = 1
+
+  -- the index that a left side gets, after its operands
+  abbrev pub key_need : Left → ℕ
+  key_need blank = 0
+  key_need (new site) = 1
+  key_need (to q) = place_need q (1 + far q)
+
+  -- the words of an element of a site's array
+  abbrev pub element_words : ℕ → ℕ
+  element_words site = width (part_type (site_type p site) 0)
+
+  -- the words of values that left sides get, after their operands
+  abbrev pub pair_need : List Left → (values : ℕ) → ℕ
+  pair_need ls values = lefts_need ls (max values (behind_values values (lefts_far ls)))
+
+  -- what a round gives to left sides: the index, and the element
+  abbrev pub round_need : Over → (key value : Left) → ℕ
+  round_need (over_int e) key value = key_need key
+  round_need (over_length x) key value = key_need key
+  round_need (over_copy site e x) key value = pair_need (key ∷ value ∷ []) (1 + element_words site)
+
+  abbrev mutual
+    pub st_need : (named : List ℕ) → St → ℕ
+    st_need named (declare sites) = 0
+    st_need named (assign ls es) = lefts_need ls (max (need_all es) (behind_values (all_wide p es) (lefts_far ls)))
+    st_need named (update at q op e) = place_need q (far q + 1 + need e)
+    st_need named (bump at q op) = place_need q (far q + 2)
+    st_need named (discard es) = need_all es
+    st_need named (block ss) = sts_need named ss
+    st_need named (if_stmt e a b) = max (need e) (max (sts_need named a) (sts_need named b))
+    st_need named (for_stmt sites test post body) = max (max (test_need test) (widest sites)) (max (sts_need named post) (sts_need named body))
+    st_need named (range over key value body) = max (over_need over) (max (hidden over + 2) (max (hidden over + round_need over key value) (hidden over + sts_need named body)))
+    st_need named break_stmt = 0
+    st_need named continue_stmt = 0
+    st_need named (return_stmt es) = max (need_all es) (widest named)
+    st_need named (print ln ps) = need_pieces ps
+    st_need named (panic at q) = piece_need q
+    st_need named (exit at e) = need e
+
+    pub sts_need : (named : List ℕ) → Sts → ℕ
+    sts_need named done = 0
+    sts_need named (next s ss) = max (st_need named s) (sts_need named ss)
+
+  abbrev mutual
+    pub st_reach : St → ℕ
+    st_reach (declare sites) = 0
+    st_reach (assign ls es) = lefts_reach ls (reach_all es)
+    st_reach (update at q op e) = place_reach q (reach e)
+    st_reach (bump at q op) = place_reach q 0
+    st_reach (discard es) = reach_all es
+    st_reach (block ss) = sts_reach ss
+    st_reach (if_stmt e a b) = max (reach e) (max (sts_reach a) (sts_reach b))
+    st_reach (for_stmt sites test post body) = max (test_reach test) (max (sts_reach post) (sts_reach body))
+    st_reach (range over key value body) = max (over_reach over) (lefts_reach (key ∷ value ∷ []) (sts_reach body))
+    st_reach break_stmt = 0
+    st_reach continue_stmt = 0
+    st_reach (return_stmt es) = reach_all es
+    st_reach (print ln ps) = reach_pieces ps
+    st_reach (panic at q) = piece_reach q
+    st_reach (exit at e) = reach e
+
+    pub sts_reach : Sts → ℕ
+    sts_reach done = 0
+    sts_reach (next s ss) = max (st_reach s) (sts_reach ss)
+
+  -- the outgoing area and the temps of a function
+  abbrev pub outgoing_of : Func → ℕ
+  outgoing_of f = sts_reach f.body
+
+  abbrev pub temps_of : Func → ℕ
+  temps_of f = sts_need f.named f.body
+
+  -- the words of its frame
+  abbrev pub frame_of : Func → ℕ
+  frame_of f = 2 + words_between p.sites f.first f.count + temps_of f + outgoing_of f
+
+  abbrev pub frame_in : Option Func → ℕ
+  frame_in None = 0
+  frame_in (Some f) = frame_of f
+
+-- the words of the frame of a program's function, by its number
+abbrev pub frame_words : Program → ℕ → ℕ
+frame_words p f = frame_in p (slice_get p.funcs f)

@@ -1,0 +1,87 @@
+-- What a statement keeps of a scope.
+use Rattle.std.proofs.Common.{ℕ, List, Option, Some, None}
+use Rattle.syntax.specs.Statements.{Simple, Guard, Clause, forever, while_true, counting, ranging, Stm, Stms, Els}
+use Rattle.syntax.specs.Statements as tree
+use Rattle.names.specs.Scope.{Scope, opened, closed}
+use Rattle.expression_types.specs.Typing.{gives}
+use Rattle.signatures.proofs.Growth.{Grows, Keeps, grows_none, grows_twice, keeps_twice, keeps_none, keeps_grows, keeps_strings, keeps_inner, grows_entries}
+use Rattle.simple_statements.specs.SimpleStatements.{strings_in}
+use Rattle.simple_statements.proofs.Growth.{grows_simple, grows_specs}
+use Rattle.types_go.specs.Statements.{number_type, over, target_slots, header, behind_post_simple, behind_post, clause_scope, behind, behind_else, behind_all}
+
+module _ (text : List ℕ) where
+  pub grows_header : (s : Scope) (init : Option Simple) → Grows (opened s) (header text s init)
+  grows_header s None = grows_none (opened s)
+  grows_header s (Some m) = grows_simple text (opened s) m
+
+  -- a post statement declares nothing
+  keeps_post_simple : (s : Scope) (m : Simple) → Keeps s (behind_post_simple text s m)
+  keeps_post_simple s (tree.express e) = keeps_strings s (strings_in (gives text s e))
+  keeps_post_simple s (tree.assign ls at es) = keeps_none s
+  keeps_post_simple s (tree.update ls at op es) = keeps_none s
+  keeps_post_simple s (tree.define ns at es) = keeps_none s
+  keeps_post_simple s (tree.increment e at) = keeps_none s
+  keeps_post_simple s (tree.decrement e at) = keeps_none s
+
+  pub keeps_post : (s : Scope) (post : Option Simple) → Keeps s (behind_post text s post)
+  keeps_post s None = keeps_none s
+  keeps_post s (Some m) = keeps_post_simple s m
+
+  pub grows_clause : (s : Scope) (c : Clause) → Grows (opened s) (clause_scope text s c)
+  grows_clause s forever = grows_none (opened s)
+  grows_clause s (while_true e) = grows_none (opened s)
+  grows_clause s (counting init test post) =
+      let h = header text s init in
+      grows_twice (opened s) h (behind_post text h post) (grows_header s init) (keeps_grows h (behind_post text h post) (keeps_post h post))
+  grows_clause s (ranging t at e) = grows_entries text (opened s) (target_slots (number_type (over text s e)) t)
+
+  -- what is after the header keeps the header's block
+  keeps_headed : (s h r : Scope) → Grows (opened s) h → Keeps h r → Keeps s (closed r)
+  keeps_headed s h r g k = keeps_inner s r (grows_twice (opened s) h r g (keeps_grows h r k))
+
+  mutual
+    pub grows : (s : Scope) (m : Stm) → Grows s (behind text s m)
+    grows s (tree.var_stmt at specs) = grows_specs text s specs
+    grows s (tree.simple m) = grows_simple text s m
+    grows s (tree.block ms) = keeps_grows s (closed (behind_all text (opened s) ms)) (keeps_inner s (behind_all text (opened s) ms) (grows_all (opened s) ms))
+    grows s (tree.if_stmt at g body rest) =
+        let h = header text s g.init in
+        let inner = closed (behind_all text (opened h) body) in
+        let last1 = behind_else text inner rest in
+        keeps_grows s (closed last1) (keeps_headed s h last1 (grows_header s g.init) (keeps_twice h inner last1 (keeps_inner h (behind_all text (opened h) body) (grows_all (opened h) body)) (keeps_else inner rest)))
+    grows s (tree.for_stmt at c body) =
+        let h = clause_scope text s c in
+        let inner = closed (behind_all text (opened h) body) in
+        keeps_grows s (closed inner) (keeps_headed s h inner (grows_clause s c) (keeps_inner h (behind_all text (opened h) body) (grows_all (opened h) body)))
+    grows s (tree.break_stmt at) = grows_none s
+    grows s (tree.continue_stmt at) = grows_none s
+    grows s (tree.return_stmt at es) = grows_none s
+
+    pub keeps_else : (s : Scope) (r : Els) → Keeps s (behind_else text s r)
+    keeps_else s tree.no_else = keeps_none s
+    keeps_else s (tree.else_block ms) = keeps_inner s (behind_all text (opened s) ms) (grows_all (opened s) ms)
+    keeps_else s (tree.else_if at g body rest) =
+        let h = header text s g.init in
+        let inner = closed (behind_all text (opened h) body) in
+        let last1 = behind_else text inner rest in
+        keeps_headed s h last1 (grows_header s g.init) (keeps_twice h inner last1 (keeps_inner h (behind_all text (opened h) body) (grows_all (opened h) body)) (keeps_else inner rest))
+
+    pub grows_all : (s : Scope) (ms : Stms) → Grows s (behind_all text s ms)
+    grows_all s tree.nil = grows_none s
+    grows_all s (tree.cons m ms) = grows_twice s (behind text s m) (behind_all text (behind text s m) ms) (grows s m) (grows_all (behind text s m) ms)
+
+  pub keeps_block : (s : Scope) (ms : Stms) → Keeps s (closed (behind_all text (opened s) ms))
+  keeps_block s ms = keeps_inner s (behind_all text (opened s) ms) (grows_all (opened s) ms)
+
+  -- after an `if` without its last branch, and after it all
+  pub keeps_choice : (s : Scope) (g : Guard) (body : Stms) (rest : Els) → Keeps s (closed (behind_else text (closed (behind_all text (opened (header text s g.init)) body)) rest))
+  keeps_choice s g body rest =
+      let h = header text s g.init in
+      let inner = closed (behind_all text (opened h) body) in
+      let last1 = behind_else text inner rest in
+      keeps_headed s h last1 (grows_header s g.init) (keeps_twice h inner last1 (keeps_block h body) (keeps_else inner rest))
+
+  pub keeps_loop : (s : Scope) (c : Clause) (body : Stms) → Keeps s (closed (closed (behind_all text (opened (clause_scope text s c)) body)))
+  keeps_loop s c body =
+      let h = clause_scope text s c in
+      keeps_headed s h (closed (behind_all text (opened h) body)) (grows_clause s c) (keeps_block h body)

@@ -1,4 +1,0 @@
-use Rattle.types_go.proofs.checking.declaration_fault.Goals as goal
-
-pub returns-in-Func : goal.returns-in-Func
-returns-in-Func c = rw (c.in-Func.is) c.function_fault.ensures

@@ -1,9 +1,0 @@
-use Rattle.std.proofs.Common.{drop}
-use Rattle.syntax.specs.Declarations.{declarations_of}
-use Rattle.value_types.proofs.Leasts.{Kept}
-use Rattle.names.specs.Scope.{scope_of}
-use Rattle.types_go.proofs.checking.declaration_faults.Given as goal
-use Rattle.types_go.specs.FunctionFaults.{DeclarationsFail}
-
-abbrev pub invariant-loop-decl : goal.invariant-loop-decl
-invariant-loop-decl l = Kept (DeclarationsFail l.text (scope_of l.heads) (scope_of l.scope) (declarations_of l.decls)) (DeclarationsFail l.text (scope_of l.heads) (scope_of l.scope) (declarations_of (drop l.decl-index l.decls))) l.fault

@@ -1,5 +1,0 @@
-use Rattle.value_types.proofs.Leasts.{least_join}
-use Rattle.types_go.proofs.checking.function_fault.Goals as goal
-
-pub returns : goal.returns
-returns c = rw (c.lesser.ensures) (least_join _ _ c.init_fault.result c.in_ok-external.external c.init_fault.ensures c.in_ok-external.ensures)

@@ -1,6 +1,0 @@
-use Rattle.std.specs.Prelude.{IsTrue}
-use Rattle.value_trees.proofs.Equal.{compared}
-use Rattle.value_trees.proofs.laws.compared_by_words.Goals as goal
-
-pub returns : goal.returns
-returns c = λ holds equal t v u xs ys each. compared (λ c w. IsTrue (holds c w)) equal each t v u xs ys

@@ -1,5 +1,0 @@
-use Rattle.value_trees.proofs.Equal.{equal_words}
-use Rattle.value_trees.proofs.laws.equal_words_are_equal.Goals as goal
-
-pub returns : goal.returns
-returns c = equal_words

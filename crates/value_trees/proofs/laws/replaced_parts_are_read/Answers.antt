@@ -1,5 +1,0 @@
-use Rattle.value_trees.proofs.Parts.{read_back}
-use Rattle.value_trees.proofs.laws.replaced_parts_are_read.Goals as goal
-
-pub returns : goal.returns
-returns c = read_back

@@ -1,5 +1,0 @@
-use Rattle.value_trees.proofs.Parts.{joined_types}
-use Rattle.value_trees.proofs.laws.typed_paths_join.Goals as goal
-
-pub returns : goal.returns
-returns c = joined_types

@@ -1,5 +1,0 @@
-use Rattle.value_trees.proofs.Parts.{part_words}
-use Rattle.value_trees.proofs.laws.words_of_parts.Goals as goal
-
-pub returns : goal.returns
-returns c = part_words

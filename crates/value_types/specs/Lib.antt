@@ -1,4 +1,0 @@
-pub mod Least
-pub mod Given
-pub mod Constants
-pub mod Faults
