@@ -15,6 +15,8 @@ mod folding;
 #[cfg(test)]
 mod frames;
 #[cfg(test)]
+mod graphs;
+#[cfg(test)]
 mod heap;
 #[cfg(test)]
 mod run_limits;

@@ -1,0 +1,10 @@
+pub mod Lists
+pub mod Settings
+pub mod Entering
+pub mod Joining
+pub mod Closing
+pub mod Weights
+pub mod Whole
+pub mod Steps
+pub mod Loops
+pub mod Read
