@@ -36,7 +36,7 @@ pub fn compile(alloc: Global, text: &[u8]) -> Result<Compiled, CompileFault>
     ensures only { (p : ProgramOf) → Accepted text.now p → OnlyCompiled result p }
 {
     let tokens = scan(alloc, text)?;
-    let tree = parse(alloc, &tokens)?;
+    let tree = parse(alloc, tokens)?;
     let program = check(alloc, &tree)?;
     let layouts = layout_of(alloc, &program)?;
     let code = emit(alloc, &program, &layouts)?;

@@ -46,6 +46,11 @@ forbidden l (calling f es ∷ fs) is le = absurd (omega arith)
 forbidden l (enclosed_type pos ∷ fs) is le = absurd (omega arith)
 forbidden l (f ∷ fs) is le = forbidden l fs is le
 
+-- for `using`
+pub ruleset one_more_open = (deeper, more_parentheses, few_parentheses)
+
+pub ruleset literals_allowed = (in_parentheses, allowed_outside, forbidden)
+
 -- the innermost of the first frames
 pub last_frame : (fs : List CodeFrame) (i : ℕ) (d : CodeFrame) → i < length fs → frames_of (take (i + 1) fs) ≡ frame_of (get_or fs i d) ∷ frames_of (take i fs)
 last_frame fs i d lt = ap frames_of (take_more fs i d lt) ∙ ap reverse (map-append frame_of (take i fs) (get_or fs i d ∷ [])) ∙ reverse-append (map frame_of (take i fs)) (frame_of (get_or fs i d) ∷ [])

@@ -3,7 +3,8 @@
 ghost use Rattle.std.specs.Prelude.{◌≡◌, max, suc, ◌∷◌};
 ghost use Rattle.syntax.specs.Expressions.{none, call, ex_of, exs_of};
 ghost use Rattle.syntax.specs.Heights.{height};
-ghost use Rattle.parse_expressions.specs.Machine.{goes, at_argument, at_operator, closes, closes_type, nesting_at_closes, step, nesting};
+ghost use Rattle.parse_expressions.specs.Machine.{goes, at_argument, at_operator, closes, closes_type, step};
+ghost use Rattle.parse_expressions.specs.Machine.{nesting_at_closes, nesting};
 ghost use Rattle.parse_expressions.specs.Stacks.{frame_of};
 ghost use Rattle.parse_expressions.specs.States.{open_of, context_of, frames_in, depth_in, Steps};
 
@@ -42,6 +43,19 @@ fn end(alloc: Global, reading: Reading, pending: Call, spread: bool) -> Result<P
     limited(reading.depth, Open::Operator(reading, whole))
 }
 
+/// A comma after an argument.
+fn comma(reading: Reading, call: Call) -> Result<Progress, StepFault>
+    ensures { let es = exs_of call.arguments.items in
+        Steps result (context_of reading.context)
+        (goes (at_argument (frames_in reading) (ex_of call.function) es)) (suc (depth_in reading)) }
+{
+    if reading.depth >= NESTING_LIMIT {
+        drop(call);
+        return Err(StepFault::TooDeep);
+    }
+    Ok(Progress::Goes(Open::Argument(Opened { outside: reading }, call)))
+}
+
 /// A token after the whole of an argument, which is a value or a type.
 pub fn behind_argument(
     alloc: Global,
@@ -58,23 +72,10 @@ pub fn behind_argument(
         (nesting_at_closes reading.context.depth fs token) }
 {
     match token {
-        Terminal::Comma => {
-            if reading.depth >= NESTING_LIMIT {
-                drop(pending);
-                drop(part);
-                return Err(StepFault::TooDeep);
-            }
-            let call = with_argument(pending, part)?;
-            Ok(Progress::Goes(Open::Argument(Opened { outside: reading }, call)))
-        }
+        Terminal::Comma => comma(reading, with_argument(pending, part)?),
         Terminal::Ellipsis => {
-            if reading.depth >= NESTING_LIMIT {
-                drop(pending);
-                drop(part);
-                return Err(StepFault::TooDeep);
-            }
             let call = with_argument(pending, part)?;
-            Ok(Progress::Goes(Open::Spread(reading, call)))
+            limited(reading.depth + 1, Open::Spread(reading, call))
         }
         Terminal::RightParen => end(alloc, reading, with_argument(pending, part)?, false),
         _ => {
@@ -115,13 +116,7 @@ pub fn behind_spread(
         Steps result b (step b s token) (nesting b s token) }
 {
     match token {
-        Terminal::Comma => {
-            if reading.depth >= NESTING_LIMIT {
-                drop(call);
-                return Err(StepFault::TooDeep);
-            }
-            Ok(Progress::Goes(Open::CallEnd(reading, call)))
-        }
+        Terminal::Comma => limited(reading.depth + 1, Open::CallEnd(reading, call)),
         Terminal::RightParen => end(alloc, reading, call, true),
         _ => {
             drop(call);

@@ -17,7 +17,7 @@ use crate::operand::{deeper_type, limited};
 use crate::part::Part;
 use crate::parts::{in_parens, joined, prefixed};
 use crate::reading::Reading;
-use crate::stack::{pop, push};
+use crate::stack::{pop, put_back};
 use crate::terminal::Terminal;
 use base::Pos;
 use std::alloc::{AllocError, Global};
@@ -55,11 +55,11 @@ pub fn reduce(
             Some(Frame::Prefix(pos, op)) => part = prefixed(alloc, pos, op, part)?,
             Some(Frame::Right(left, pos, op)) => {
                 if p > precedence(op) {
-                    return Ok((push(rest, Frame::Right(left, pos, op))?, part));
+                    return put_back(rest, Frame::Right(left, pos, op), part);
                 }
                 part = joined(alloc, left, pos, op, part)?;
             }
-            Some(frame) => return Ok((push(rest, frame)?, part)),
+            Some(frame) => return put_back(rest, frame, part),
             None => return Ok((rest, part)),
         }
         reading = rest;

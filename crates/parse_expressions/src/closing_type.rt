@@ -2,7 +2,8 @@
 
 ghost use Rattle.std.specs.Prelude.{◌≡◌, ◌∷◌, [], IsTrue, IfOk};
 ghost use Rattle.syntax.specs.Expressions.{ex_of};
-ghost use Rattle.parse_expressions.specs.Machine.{is_bracket_type, reduce_type, allows_type, closes_type, behind_inner_type, behind_type, nesting_at_closes, nesting_behind_type};
+ghost use Rattle.parse_expressions.specs.Machine.{is_bracket_type, reduce_type, allows_type, closes_type};
+ghost use Rattle.parse_expressions.specs.Machine.{behind_inner_type, behind_type, nesting_at_closes, nesting_behind_type};
 ghost use Rattle.parse_expressions.specs.Stacks.{frame_of, frames_of};
 ghost use Rattle.parse_expressions.specs.States.{context_of, frames_in, depth_in, Steps};
 
@@ -15,7 +16,7 @@ use crate::operand::limited;
 use crate::part::Part;
 use crate::parts::{in_parens, prefixed};
 use crate::reading::Reading;
-use crate::stack::{pop, push};
+use crate::stack::{pop, push, put_back};
 use crate::terminal::Terminal;
 use base::Pos;
 use std::alloc::{AllocError, Global};
@@ -45,7 +46,7 @@ fn reduce_type(
         let (rest, frame) = pop(reading);
         match frame {
             Some(Frame::Prefix(pos, UnOp::Star)) => part = prefixed(alloc, pos, UnOp::Star, part)?,
-            Some(frame) => return Ok((push(rest, frame)?, part)),
+            Some(frame) => return put_back(rest, frame, part),
             None => return Ok((rest, part)),
         }
         reading = rest;

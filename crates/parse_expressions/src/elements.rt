@@ -6,7 +6,8 @@ ghost use Rattle.parse_expressions.specs.Frames.{of_type, of_element, open_depth
 ghost use Rattle.parse_expressions.specs.Containers.{container_of, is_typed};
 ghost use Rattle.parse_expressions.specs.Machine.{goes, at_element, at_value, closes, filled, nesting_at_closes, step, nesting};
 ghost use Rattle.parse_expressions.specs.Stacks.{frame_of};
-ghost use Rattle.parse_expressions.specs.States.{open_of, stored_context, context_of, frames_in, depth_in, element_operand, Steps};
+ghost use Rattle.parse_expressions.specs.States.{open_of, stored_context, context_of, frames_in, depth_in};
+ghost use Rattle.parse_expressions.specs.States.{element_operand, Steps};
 
 use crate::container::Container;
 use crate::fault::StepFault;

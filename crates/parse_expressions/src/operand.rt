@@ -5,7 +5,8 @@ ghost use Rattle.syntax.specs.Expressions.{ex_of};
 ghost use Rattle.syntax.specs.Heights.{height};
 ghost use Rattle.parse_expressions.specs.Terminals.{prefix, prefix_in, prefix_of};
 ghost use Rattle.parse_expressions.specs.Frames.{open_depth};
-ghost use Rattle.parse_expressions.specs.Machine.{goes, at_operand, at_bracket, at_type_operand, at_operator, operand, step, nesting};
+ghost use Rattle.parse_expressions.specs.Machine.{goes, at_operand, at_bracket, at_type_operand, at_operator};
+ghost use Rattle.parse_expressions.specs.Machine.{operand, step, nesting};
 ghost use Rattle.parse_expressions.specs.Stacks.{frame_of, levels};
 ghost use Rattle.parse_expressions.specs.States.{open_of, context_in, context_of, frames_in, depth_in, Steps};
 

@@ -5,7 +5,8 @@ ghost use Rattle.syntax.specs.declared.expression.Name.{Name};
 ghost use Rattle.syntax.specs.Expressions.{name, ex_of};
 ghost use Rattle.syntax.specs.Heights.{height};
 ghost use Rattle.parse_expressions.specs.Frames.{awaiting};
-ghost use Rattle.parse_expressions.specs.Machine.{goes, at_operand, closes_reduced, brace_behind_name, behind_operand, nesting_behind};
+ghost use Rattle.parse_expressions.specs.Machine.{goes, at_operand, reduce, closes_reduced, brace_behind_name, behind_operand};
+ghost use Rattle.parse_expressions.specs.Machine.{nesting_at_closes, nesting_behind};
 ghost use Rattle.parse_expressions.specs.States.{context_of, frames_in, depth_in, Steps};
 
 use crate::call::begin as begin_call;
@@ -72,6 +73,16 @@ fn ends_at_brace(
     }
 }
 
+/// The operand that a name is.
+fn named(x: Name) -> Part
+    ensures { ex_of result.expr ≡ name x }
+{
+    Part {
+        expr: Expr::Name(x),
+        height: 0,
+    }
+}
+
 /// A brace after a name.
 fn brace_behind_name(
     alloc: Global,
@@ -82,14 +93,10 @@ fn brace_behind_name(
     ensures { let b = context_of reading.context in
         Steps result b (brace_behind_name b (frames_in reading) x pos) (depth_in reading) }
 {
-    let part = Part {
-        expr: Expr::Name(x),
-        height: 0,
-    };
     if allows_literal(&reading) {
-        begin_literal(alloc, reading, part)
+        begin_literal(alloc, reading, named(x))
     } else {
-        ends_at_brace(alloc, reading, part, pos)
+        ends_at_brace(alloc, reading, named(x), pos)
     }
 }
 
@@ -106,28 +113,34 @@ fn brace(alloc: Global, reading: Reading, part: Part, pos: Pos) -> Result<Progre
     }
 }
 
+/// A colon after a name that is no key.
+fn colon_behind_operand(alloc: Global, reading: Reading, x: Name) -> Result<Progress, StepFault>
+    ensures { let r = reduce 0 (frames_in reading) (name x) in
+        Steps result (context_of reading.context)
+        (closes_reduced (frames_in reading) (name x) Terminal.Colon)
+        (nesting_at_closes reading.context.depth r.0 Terminal.Colon) }
+{
+    closes_reduced(alloc, reading, named(x), Terminal::Colon)
+}
+
 /// A colon after a name.
 fn colon_behind_name(alloc: Global, reading: Reading, x: Name) -> Result<Progress, StepFault>
     ensures { let b = context_of reading.context in
         Steps result b (behind_operand b (frames_in reading) (name x) Terminal.Colon)
         (nesting_behind b.depth (frames_in reading) (name x) Terminal.Colon) }
 {
-    let part = Part {
-        expr: Expr::Name(x),
-        height: 0,
-    };
     let (rest, frame) = pop(reading);
     match frame {
-        None => closes_reduced(alloc, rest, part, Terminal::Colon),
+        None => colon_behind_operand(alloc, rest, x),
         Some(frame) => match frame {
             Frame::Element(braces, key) => match key {
                 None => key_colon(rest, braces, x),
                 Some(_) => {
                     let reading = push(rest, Frame::Element(braces, key))?;
-                    closes_reduced(alloc, reading, part, Terminal::Colon)
+                    colon_behind_operand(alloc, reading, x)
                 }
             },
-            _ => closes_reduced(alloc, push(rest, frame)?, part, Terminal::Colon),
+            _ => colon_behind_operand(alloc, push(rest, frame)?, x),
         },
     }
 }

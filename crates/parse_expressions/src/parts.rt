@@ -1,7 +1,8 @@
 //! Expressions and types from their parts, with their heights.
 
 ghost use Rattle.std.specs.Prelude.{◌≡◌, ◌+◌, [], min, IfOk, Bool};
-ghost use Rattle.syntax.specs.Expressions.{unary, binary, paren, call, selector, index, slice, array_type, slice_type, no_bound, bound_at, ex_of, exs_of, bound_of, elements_of};
+ghost use Rattle.syntax.specs.Expressions.{unary, binary, paren, call, selector, index, slice, array_type, slice_type};
+ghost use Rattle.syntax.specs.Expressions.{no_bound, bound_at, ex_of, exs_of, bound_of, elements_of};
 ghost use Rattle.syntax.specs.Lists.{with_ex, with_element};
 ghost use Rattle.parse_expressions.specs.Frames.{of_type, of_element};
 ghost use Rattle.parse_expressions.specs.Containers.{container_of, in_braces};

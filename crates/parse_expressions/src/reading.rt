@@ -9,7 +9,7 @@ use crate::frame::Frame;
 
 /// Where an expression or type stands: how many brackets are open around it, whether a literal in it may begin with a
 /// name, and whether a type is wanted.
-#[derive(Clone, Copy, Debug, PartialEq, Eq)]
+#[derive(Clone, Copy, PartialEq, Eq)]
 pub struct Context {
     pub depth: usize,
     pub literals: bool,

@@ -6,6 +6,7 @@ ghost use Rattle.parse_expressions.specs.Stacks.{frame_of, levels, parentheses_o
 ghost use Rattle.parse_expressions.specs.States.{frames_in};
 
 use crate::frame::Frame;
+use crate::part::Part;
 use crate::reading::Reading;
 use std::alloc::AllocError;
 use syntax::NESTING_LIMIT;
@@ -31,7 +32,7 @@ fn parentheses_of(frame: &Frame) -> usize
 }
 
 /// One construct more is open.
-#[tactic(auto, using(crate::proofs::Levels::deeper, crate::proofs::Levels::more_parentheses, crate::proofs::Levels::few_parentheses))]
+#[tactic(auto, using(crate::proofs::Levels::one_more_open))]
 pub fn push(reading: Reading, frame: Frame) -> Result<Reading, AllocError>
     requires { reading.depth + levels (frame_of frame) ≤ NESTING_LIMIT + 2 }
     ensures frames { IfOk result (λ r. frames_in r ≡ frame_of frame ∷ frames_in reading) }
@@ -53,6 +54,22 @@ pub fn push(reading: Reading, frame: Frame) -> Result<Reading, AllocError>
         depth,
         parentheses,
     })
+}
+
+/// A construct that was looked at stays open around a part.
+pub fn put_back(reading: Reading, frame: Frame, part: Part) -> Result<(Reading, Part), AllocError>
+    requires { reading.depth + levels (frame_of frame) ≤ NESTING_LIMIT + 2 }
+    ensures frames { IfOk result (λ r. frames_in r.0 ≡ frame_of frame ∷ frames_in reading) }
+    ensures context { IfOk result (λ r. r.0.context ≡ reading.context) }
+    ensures part { IfOk result (λ r. r.1 ≡ part) }
+{
+    match push(reading, frame) {
+        Ok(reading) => Ok((reading, part)),
+        Err(error) => {
+            drop(part);
+            Err(error)
+        }
+    }
 }
 
 /// The innermost construct, and what is open outside of it.
@@ -96,7 +113,7 @@ pub fn pop(reading: Reading) -> (Reading, Option<Frame>)
 }
 
 /// Whether a literal may begin with a name.
-#[tactic(auto, using(crate::proofs::Levels::in_parentheses, crate::proofs::Levels::allowed_outside, crate::proofs::Levels::forbidden))]
+#[tactic(auto, using(crate::proofs::Levels::literals_allowed))]
 pub fn allows_literal(reading: &Reading) -> bool
     ensures { result ≡ allows reading.now.context.literals (frames_in reading.now) }
 {

@@ -8,7 +8,7 @@ use scan_go::{Keyword, Kind, Op, Token};
 use syntax::{ArithmeticOp, BinOp, CompareOp, Name};
 
 /// A terminal symbol of the grammar, with what the tree keeps of its token.
-#[derive(Clone, Copy, Debug)]
+#[derive(Clone, Copy)]
 pub enum Terminal {
     Identifier(Name),
     Number(Pos, u128),

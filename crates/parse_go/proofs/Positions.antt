@@ -84,9 +84,9 @@ fault_only text list tokens end e (Err x) is_tokens is f tree h =
     subst (λ (r : ParseFault). GivesTree (Err r) tree) (sym is) (fault_none text list end e tree f (subst (λ (x : List Token). IsText text x tree) (sym is_tokens) h))
 
 -- the tokens have one tree, so it is one with the same text
-pub tree_only : (own text : List ℕ) (list tokens : List Token) (answer tree : Syntax) → own ≡ text → list ≡ tokens → answer.text ≡ own → HasOneFile (terminals_of list) answer.file → IsText text tokens tree → answer ≡ tree
-tree_only own text list tokens answer tree is_text is_tokens is one h =
+pub tree_only : (text : List ℕ) (list tokens : List Token) (answer tree : Syntax) → list ≡ tokens → answer.text ≡ text → HasOneFile (terminals_of list) answer.file → IsText text tokens tree → answer ≡ tree
+tree_only text list tokens answer tree is_tokens is one h =
     let program : IsProgram (terminals_of list) tree.file = subst (λ (x : List Token). IsProgram (terminals_of x) tree.file) (sym is_tokens) h.1 in
     let same : answer.file ≡ tree.file = one tree.file program in
-    let same_text : answer.text ≡ tree.text = is ∙ is_text ∙ sym h.0 in
+    let same_text : answer.text ≡ tree.text = is ∙ sym h.0 in
     ap (λ (x : List ℕ). record { text = x; file = answer.file }) same_text ∙ ap (λ (f : File). record { text = tree.text; file = f }) same

@@ -6,7 +6,8 @@ ghost use Rattle.syntax.specs.Declarations.{declaration_of};
 ghost use Rattle.parse_simple_statements.specs.ValueSpecs.{at_first};
 ghost use Rattle.parse_simple_statements.specs.Spots.{declares_of};
 ghost use Rattle.parse_go.specs.TypeStates.{types_of};
-ghost use Rattle.parse_go.specs.Machine.{at_package, at_package_name, at_package_end, at_declaration, in_values, in_types, ends_declaration, values_declared, with_declaration, step, nesting};
+ghost use Rattle.parse_go.specs.Machine.{at_package, at_package_name, at_package_end, at_declaration, in_values, in_types};
+ghost use Rattle.parse_go.specs.Machine.{ends_declaration, values_declared, with_declaration, step, nesting};
 ghost use Rattle.parse_go.specs.Signatures.{file_in};
 ghost use Rattle.parse_go.specs.States.{state_of, Steps};
 

@@ -11,8 +11,8 @@ use thiserror::Error;
 ///
 /// A token is unexpected where no text of the grammar begins with it and those before it; an inserted semicolon stands at its
 /// line's end, and where the tokens end too early, the position is after the last byte of the text. A token is too deep where
-/// its nesting passes `NESTING_LIMIT`: the number of brackets, prefixes and else-ifs that are open around it; at a binary operator, a `.`,
-/// a `[` or a `(` after an expression at least one more than the height of the tree to its left.
+/// its nesting passes `NESTING_LIMIT`: the number of brackets, prefixes and else-ifs that are open around it; at a binary
+/// operator, a `.`, a `[` or a `(` after an expression at least one more than the height of the tree to its left.
 #[derive(Clone, Copy, Debug, PartialEq, Eq, Error)]
 pub enum ParseFault {
     #[error("no memory")]

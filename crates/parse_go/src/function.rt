@@ -4,7 +4,8 @@ ghost use Rattle.std.specs.Prelude.{◌≡◌, IfOk};
 ghost use Rattle.syntax.specs.Declarations.{body_in, parameters_of};
 ghost use Rattle.parse_statements.specs.BodyStates as bodies;
 ghost use Rattle.parse_go.specs.ParameterStates.{params_of};
-ghost use Rattle.parse_go.specs.Machine.{at_function, at_opening, in_params, at_results, in_results, at_body, in_body, behind_results, with_function, step, nesting};
+ghost use Rattle.parse_go.specs.Machine.{at_function, at_opening, in_params, at_results, in_results, at_body};
+ghost use Rattle.parse_go.specs.Machine.{in_body, behind_results, with_function, step, nesting};
 ghost use Rattle.parse_go.specs.Signatures.{file_in, named_of, signature_of};
 ghost use Rattle.parse_go.specs.States.{state_of, Steps};
 

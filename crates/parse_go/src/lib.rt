@@ -1,12 +1,12 @@
 //! The tree of a Go text, from its tokens.
 //!
-//! The parser is a machine that takes one token at a time, in four crates: expressions and types, simple
-//! statements, bodies, and whole texts, which are this one. Each machine runs inside the state of the one above it: a state
-//! holds what was read (here the declarations before, and of the one that is open its part so far), and the machine of the
-//! part that is open. A machine answers each token in one of three ways: the part goes on, nothing that begins with the token may follow, or the
-//! part ended before it; then the machine above looks at the token. What may be a type or a name, as the parameters of
-//! `func f(a, b`, waits until a token tells which it is. Nothing is ever taken back, nothing is read ahead, and no step
-//! calls itself, so the work is linear in the number of tokens and the depth of the text needs no stack of the program's own.
+//! The parser is a machine that takes one token at a time, in four crates: expressions and types, simple statements, bodies,
+//! and whole texts, which are this one. Each machine runs inside the state of the one above it: a state holds what was read
+//! (here the declarations before, and of the one that is open its part so far), and the machine of the part that is open. A
+//! machine answers each token in one of three ways: the part goes on, nothing that begins with the token may follow, or the
+//! part ended before it; then the machine above looks at the token. What may be a type or a name, as the parameters of `func
+//! f(a, b`, waits until a token tells which it is. Nothing is ever taken back, nothing is read ahead, and no step calls
+//! itself, so the work is linear in the number of tokens and the depth of the text needs no stack of the program's own.
 //!
 //! That the answer is right rests on one relation: for each state, which tokens may still follow, and to which tree
 //! they lead (`Rest`). At the start these are the texts of the grammar. Reading a token divides them by it from the

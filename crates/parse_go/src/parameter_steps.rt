@@ -5,7 +5,9 @@ ghost use Rattle.syntax.specs.declared.expression.Expr.TheVariants as expr;
 ghost use Rattle.syntax.specs.Expressions.{ex_of, exs_of};
 ghost use Rattle.syntax.specs.Lists.{with_ex};
 ghost use Rattle.syntax.specs.Declarations.{unnamed, fields_of};
-ghost use Rattle.parse_go.specs.Parameters.{at_name_or_type, at_names, at_next_type, at_field, at_next_name, at_field_names, ends, after_type, after_field, behind_type, behind_field, field_named, nesting_in_parens, type_begins, types_named, step, nesting};
+ghost use Rattle.parse_go.specs.Parameters.{at_name_or_type, at_names, at_next_type, at_field, at_next_name, at_field_names};
+ghost use Rattle.parse_go.specs.Parameters.{ends, after_type, after_field, behind_type, behind_field, field_named};
+ghost use Rattle.parse_go.specs.Parameters.{nesting_in_parens, type_begins, types_named, step, nesting};
 ghost use Rattle.parse_go.specs.ParameterStates.{params_of, Steps};
 
 use crate::parameters::{InNamedType, InType, Parameters, ParametersProgress};
@@ -110,7 +112,8 @@ fn first_of_named_type(
     names: Vec<Name>,
     token: Terminal,
 ) -> Result<ParametersProgress, StepFault>
-    ensures { Steps result (after_field (fields_of before.items) names.items token (type_begins token)) (nesting_in_parens token) }
+    ensures { let next = after_field (fields_of before.items) names.items token (type_begins token) in
+        Steps result next (nesting_in_parens token) }
 {
     let reading = type_wanted(alloc, 1);
     let state = InNamedType {

@@ -62,27 +62,26 @@ fn file_of(alloc: Global, tokens: &[Token], end: Pos) -> Result<File, ParseFault
 }
 
 /// The tree of the tokens of a text [Go specification, Source file organization, Declarations and scope, Function
-/// declarations, Types, Statements, Expressions].
-pub fn parse(alloc: Global, tokens: &Tokens) -> Result<Tree, ParseFault>
+/// declarations, Types, Statements, Expressions]. It takes over the tokens' text.
+pub fn parse(alloc: Global, tokens: Tokens) -> Result<Tree, ParseFault>
     // What is answered is the tree of these tokens, with their text.
-    ensures found { IfOk result (λ tree. IsText tokens.now.text tokens.now.list (syntax_of tree)) }
+    ensures found { IfOk result (λ tree. IsText tokens.text tokens.list (syntax_of tree)) }
 
     // Where they have a tree it is answered, unless memory runs out; so they have no other.
-    ensures only { (tree : Syntax) → IsText tokens.now.text tokens.now.list tree
+    ensures only { (tree : Syntax) → IsText tokens.text tokens.list tree
         → GivesTree result tree }
 
     // The span of each name lies in the text.
     ensures spans { IfOk result
-        (λ tree. FileSpans (length tokens.now.text) (syntax_of tree).file) }
+        (λ tree. FileSpans (length tokens.text) (syntax_of tree).file) }
 
     // The first token with which no text begins, or the first whose nesting passes the limit.
-    ensures fault { let end = pos_at tokens.now.text (length tokens.now.text) in
-        IfErr result (IsFirstFault tokens.now.list end) }
+    ensures fault { let end = pos_at tokens.text (length tokens.text) in
+        IfErr result (IsFirstFault tokens.list end) }
 {
     let file = file_of(alloc, tokens.list(), tokens.end())?;
-    let text = Vec::from_slice(alloc, tokens.text())?;
     Ok(Tree {
-        text,
+        text: tokens.into_text(),
         package: file.package_name,
         decls: file.decls,
     })

@@ -3,7 +3,9 @@
 ghost use Rattle.std.specs.Prelude.{◌≡◌, ◌≤◌, suc, IfOk, Ok, ◌++◌, ◌∷◌, []};
 ghost use Rattle.syntax.specs.Expressions.{ex_of};
 ghost use Rattle.syntax.specs.Declarations.{type_spec_of, type_specs_of};
-ghost use Rattle.parse_go.specs.TypeSpecs.{at_first, at_spec, at_struct, at_brace, at_field, at_next_name, at_names, at_end, at_group_end, behind_type, spec_of, goes, spot_depth, with_field, step, nesting, nesting_in_braces, nesting_at_end};
+ghost use Rattle.parse_go.specs.TypeSpecs.{at_first, at_spec, at_struct, at_brace, at_field, at_next_name, at_names};
+ghost use Rattle.parse_go.specs.TypeSpecs.{at_end, at_group_end, behind_type, spec_of, goes, spot_depth, with_field};
+ghost use Rattle.parse_go.specs.TypeSpecs.{step, nesting, nesting_in_braces, nesting_at_end};
 ghost use Rattle.parse_go.specs.TypeSpots.{spot_of, struct_of};
 ghost use Rattle.parse_go.specs.TypeStates.{types_of, Steps};
 

@@ -2,10 +2,11 @@
 use Rattle.std.specs.Prelude.{◌≡◌, ℕ, ◌<◌, ◌≤◌, Result, Ok, Err}
 use Rattle.syntax.specs.declared.limit.TheConstants.{NESTING_LIMIT}
 use Rattle.syntax.specs.Expressions.{exs_of, ex_in}
-use Rattle.syntax.specs.Statements.{value_specs_of}
+use Rattle.syntax.specs.Statements.{ValueSpec, value_specs_of}
 use Rattle.parse_expressions.specs.declared.fault.StepFault.{StepFault}
 use Rattle.parse_expressions.specs.declared.fault.StepFault.TheVariants as fault
 use Rattle.parse_expressions.specs.States.{open_of}
+use Rattle.parse_simple_statements.specs.declared.value_specs.Valued.{Valued}
 use Rattle.parse_simple_statements.specs.declared.value_specs.ValueSpecs.{ValueSpecs as CodeSpecs}
 use Rattle.parse_simple_statements.specs.declared.value_specs.ValueSpecs.TheVariants as state
 use Rattle.parse_simple_statements.specs.declared.value_specs.SpecsProgress.{SpecsProgress}
@@ -21,6 +22,10 @@ specs_of (state.Names n) = at_names (spot_of n.spot) n.names.items
 specs_of (state.Type t) = in_type (spot_of t.named.spot) t.named.names.items (open_of t.reading)
 specs_of (state.Value v) = in_value (spot_of v.before.named.spot) v.before.named.names.items (ex_in v.before.type_expr) (exs_of v.before.values.items) (open_of v.reading)
 specs_of (state.GroupEnd d specs) = at_group_end (value_specs_of specs.items)
+
+-- a whole one of them
+abbrev pub whole_spec : Valued → ValueSpec
+whole_spec v = record { names = v.named.names.items; type_expr = ex_in v.type_expr; values = exs_of v.values.items }
 
 -- how many brackets are open around the declaration
 abbrev pub depth_of : CodeSpecs → ℕ

@@ -8,7 +8,7 @@ use syntax::{ArithmeticOp, Expr, Name};
 
 /// How many brackets are open around a simple statement, whether a literal in it may begin with a name, whether it may be a
 /// `:=`, and whether a `range` may follow its operator.
-#[derive(Clone, Copy, Debug, PartialEq, Eq)]
+#[derive(Clone, Copy, PartialEq, Eq)]
 pub struct Context {
     pub depth: usize,
     pub literals: bool,

@@ -2,14 +2,17 @@
 
 ghost use Rattle.std.specs.Prelude.{◌+◌, ◌≡◌, ℕ, ◌≤◌, ◌∷◌, ◌++◌, [], Some, None, IfOk};
 ghost use Rattle.syntax.specs.Expressions.{none, ex_of, exs_of, ex_in};
-ghost use Rattle.syntax.specs.Statements.{ValueSpec as AnySpec, value_spec_of, value_specs_of};
+ghost use Rattle.syntax.specs.Statements.{value_spec_of, value_specs_of};
 ghost use Rattle.syntax.specs.Lists.{with_ex};
 ghost use Rattle.parse_expressions.specs.Machine as expression;
 ghost use Rattle.parse_expressions.specs.States.{open_of, context_in};
 ghost use Rattle.parse_simple_statements.specs.Grammar.{Declares as AnyDeclares};
-ghost use Rattle.parse_simple_statements.specs.ValueSpecs.{in_group, at_first, at_spec, at_next_name, at_names, goes, spot_depth, type_context, value_context, spec_ends, value_wanted, behind_type, after_type, behind_value, after_value, step, nesting, nesting_at_end, nesting_after};
+ghost use Rattle.parse_simple_statements.specs.ValueSpecs.{in_group, at_first, at_spec, at_next_name, at_names, goes};
+ghost use Rattle.parse_simple_statements.specs.ValueSpecs.{spot_depth, type_context, value_context, spec_ends, value_wanted};
+ghost use Rattle.parse_simple_statements.specs.ValueSpecs.{behind_type, after_type, behind_value, after_value, step, nesting};
+ghost use Rattle.parse_simple_statements.specs.ValueSpecs.{nesting_at_end, nesting_after};
 ghost use Rattle.parse_simple_statements.specs.Spots.{declares_of, spot_of};
-ghost use Rattle.parse_simple_statements.specs.SpecStates.{specs_of, depth_of, Steps};
+ghost use Rattle.parse_simple_statements.specs.SpecStates.{specs_of, depth_of, whole_spec, Steps};
 
 use crate::depth::Depth;
 use crate::nodes::{with_spec, with_value};
@@ -263,8 +266,7 @@ fn behind_value(alloc: Global, before: Valued, token: Terminal) -> Result<SpecsP
 fn spec_ends(alloc: Global, valued: Valued, token: Terminal) -> Result<SpecsProgress, StepFault>
     ensures { let d = valued.named.depth.brackets in
         let s = spot_of valued.named.spot in
-        let whole : AnySpec = record { names = valued.named.names.items; type_expr = ex_in valued.type_expr; values = exs_of valued.values.items } in
-        Steps result d (spec_ends s whole token) (nesting_at_end d s token) }
+        Steps result d (spec_ends s (whole_spec valued) token) (nesting_at_end d s token) }
 {
     let Valued {
         named: Named { depth, spot, names },

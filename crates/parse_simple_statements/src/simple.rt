@@ -5,7 +5,9 @@ ghost use Rattle.syntax.specs.Expressions.{ex_of, exs_of};
 ghost use Rattle.syntax.specs.Statements.{simple_of};
 ghost use Rattle.parse_expressions.specs.Machine as expression;
 ghost use Rattle.parse_expressions.specs.States.{open_of};
-ghost use Rattle.parse_simple_statements.specs.Simples.{expression_context, beginning, at_value, in_left, in_value, fails, goes, names_in, defines_names, behind_one, behind_list, behind_left, behind_value, ranges_over, step, nesting};
+ghost use Rattle.parse_simple_statements.specs.Simples.{expression_context, beginning, at_value, in_left, in_value, fails};
+ghost use Rattle.parse_simple_statements.specs.Simples.{goes, names_in, defines_names, behind_one, behind_list, behind_left};
+ghost use Rattle.parse_simple_statements.specs.Simples.{behind_value, ranges_over, step, nesting};
 ghost use Rattle.parse_simple_statements.specs.Contexts.{context_of, listed_of, names_of};
 ghost use Rattle.parse_simple_statements.specs.SimpleStates.{simples_of, context_at, Steps};
 

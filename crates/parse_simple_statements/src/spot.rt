@@ -3,7 +3,7 @@
 use syntax::ValueSpec;
 
 /// What a declaration declares.
-#[derive(Clone, Copy, Debug, PartialEq, Eq)]
+#[derive(Clone, Copy, PartialEq, Eq)]
 pub enum Declares {
     /// Constants have values, and may have a type.
     Constants,

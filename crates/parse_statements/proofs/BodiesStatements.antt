@@ -11,7 +11,7 @@ use Rattle.parse_expressions.specs.Machine as expression
 use Rattle.parse_expressions.specs.Machine.{at_operand, operand}
 use Rattle.parse_expressions.proofs.Following.{Iff}
 use Rattle.parse_simple_statements.specs.Grammar.{of_variables, ReadsSimple}
-use Rattle.parse_statements.specs.Grammar.{ReadsGuard, ReadsClause, IsStm, declares, is_simple, breaks, continues, returns, returns_values, chooses, repeats, blocks, IsBody, close, empty, last, next}
+use Rattle.parse_statements.specs.Grammar.{ReadsGuard, ReadsClause, IsStm, is_var, is_simple, is_break, is_continue, is_return, is_return_of, is_if, is_for, is_block, IsBody, close, empty, last, next}
 use Rattle.parse_simple_statements.specs.Simples.{beginning}
 use Rattle.parse_statements.specs.Outer.{in_block, brace_depth, Blocks, statement_depth, with_statement, within}
 use Rattle.parse_statements.specs.Bodies.{in_body, at_statement, at_return, context_of, step, nesting_at_stop}
@@ -87,46 +87,46 @@ module _ (K : Stms → Pos → List Mark → Type 0) (b : Blocks) where
     where
       to : (x : Terminal) (i : ℕ) (v : List Mark) (s : Stm) (m : List Mark) → NoWord x → IsStm (statement_depth b) s (inside x i ∷ v) m → BehindStm K (with_statement b s) m → InSimple K b in_body beginning (inside x i ∷ v)
       to x i v _ m none_begins (is_simple {s = s} r) f = simple_in s (inside x i ∷ v) m r f
-      to _ _ _ _ m none_begins (declares r) f = absurd none_begins
-      to _ _ _ _ _ none_begins breaks f = absurd none_begins
-      to _ _ _ _ _ none_begins continues f = absurd none_begins
-      to _ _ _ _ _ none_begins returns f = absurd none_begins
-      to _ _ _ _ m none_begins (returns_values r) f = absurd none_begins
-      to _ _ _ _ m none_begins (chooses q r body e) f = absurd none_begins
-      to _ _ _ _ m none_begins (repeats q r body) f = absurd none_begins
-      to _ _ _ _ m none_begins (blocks body) f = absurd none_begins
+      to _ _ _ _ m none_begins (is_var r) f = absurd none_begins
+      to _ _ _ _ _ none_begins is_break f = absurd none_begins
+      to _ _ _ _ _ none_begins is_continue f = absurd none_begins
+      to _ _ _ _ _ none_begins is_return f = absurd none_begins
+      to _ _ _ _ m none_begins (is_return_of r) f = absurd none_begins
+      to _ _ _ _ m none_begins (is_if q r body e) f = absurd none_begins
+      to _ _ _ _ m none_begins (is_for q r body) f = absurd none_begins
+      to _ _ _ _ m none_begins (is_block body) f = absurd none_begins
 
   -- ---- words
 
   var_begins : (q : Pos) (j : ℕ) (w : List Mark) → Iff (OneStm K b (inside (Var q) j ∷ w)) ((j ≡ statement_depth b) × value_specs.Declared of_variables (statement_depth b) (Declared K b q) w)
   var_begins q j w = (
     λ h. to j w h.whole h.rest h.reads h.follows,
-    λ h. let v = h.1 in subst (λ (i : ℕ). OneStm K b (inside (Var q) i ∷ w)) (sym h.0) (record { whole = var_stmt q v.whole; rest = v.rest; reads = declares v.reads; follows = v.follows }),
+    λ h. let v = h.1 in subst (λ (i : ℕ). OneStm K b (inside (Var q) i ∷ w)) (sym h.0) (record { whole = var_stmt q v.whole; rest = v.rest; reads = is_var v.reads; follows = v.follows }),
   )
     where
       to : (i : ℕ) (v : List Mark) (s : Stm) (m : List Mark) → IsStm (statement_depth b) s (inside (Var q) i ∷ v) m → BehindStm K (with_statement b s) m → (i ≡ statement_depth b) × value_specs.Declared of_variables (statement_depth b) (Declared K b q) v
       to i v _ m (is_simple {s = s} r) f = absurd (no_simple (Var q) i v s m refl r f)
-      to _ _ _ m (declares {specs = specs} r) f = (refl, record { whole = specs; rest = m; reads = r; follows = f })
+      to _ _ _ m (is_var {specs = specs} r) f = (refl, record { whole = specs; rest = m; reads = r; follows = f })
 
   break_begins : (q : Pos) (j : ℕ) (w : List Mark) → Iff (OneStm K b (inside (Break q) j ∷ w)) ((j ≡ statement_depth b) × BehindStm K (with_statement b (break_stmt q)) w)
   break_begins q j w = (
     λ h. to j w h.whole h.rest h.reads h.follows,
-    λ h. subst (λ (i : ℕ). OneStm K b (inside (Break q) i ∷ w)) (sym h.0) (record { whole = break_stmt q; rest = w; reads = breaks; follows = h.1 }),
+    λ h. subst (λ (i : ℕ). OneStm K b (inside (Break q) i ∷ w)) (sym h.0) (record { whole = break_stmt q; rest = w; reads = is_break; follows = h.1 }),
   )
     where
       to : (i : ℕ) (v : List Mark) (s : Stm) (m : List Mark) → IsStm (statement_depth b) s (inside (Break q) i ∷ v) m → BehindStm K (with_statement b s) m → (i ≡ statement_depth b) × BehindStm K (with_statement b (break_stmt q)) v
       to i v _ m (is_simple {s = s} r) f = absurd (no_simple (Break q) i v s m refl r f)
-      to _ _ _ _ breaks f = (refl, f)
+      to _ _ _ _ is_break f = (refl, f)
 
   continue_begins : (q : Pos) (j : ℕ) (w : List Mark) → Iff (OneStm K b (inside (Continue q) j ∷ w)) ((j ≡ statement_depth b) × BehindStm K (with_statement b (continue_stmt q)) w)
   continue_begins q j w = (
     λ h. to j w h.whole h.rest h.reads h.follows,
-    λ h. subst (λ (i : ℕ). OneStm K b (inside (Continue q) i ∷ w)) (sym h.0) (record { whole = continue_stmt q; rest = w; reads = continues; follows = h.1 }),
+    λ h. subst (λ (i : ℕ). OneStm K b (inside (Continue q) i ∷ w)) (sym h.0) (record { whole = continue_stmt q; rest = w; reads = is_continue; follows = h.1 }),
   )
     where
       to : (i : ℕ) (v : List Mark) (s : Stm) (m : List Mark) → IsStm (statement_depth b) s (inside (Continue q) i ∷ v) m → BehindStm K (with_statement b s) m → (i ≡ statement_depth b) × BehindStm K (with_statement b (continue_stmt q)) v
       to i v _ m (is_simple {s = s} r) f = absurd (no_simple (Continue q) i v s m refl r f)
-      to _ _ _ _ continues f = (refl, f)
+      to _ _ _ _ is_continue f = (refl, f)
 
   return_begins : (q : Pos) (j : ℕ) (w : List Mark) → Iff (OneStm K b (inside (Return q) j ∷ w)) ((j ≡ statement_depth b) × Rest K (at_return b q) w)
   return_begins q j w = (
@@ -136,13 +136,13 @@ module _ (K : Stms → Pos → List Mark → Type 0) (b : Blocks) where
     where
       to : (i : ℕ) (v : List Mark) (s : Stm) (m : List Mark) → IsStm (statement_depth b) s (inside (Return q) i ∷ v) m → BehindStm K (with_statement b s) m → (i ≡ statement_depth b) × Rest K (at_return b q) v
       to i v _ m (is_simple {s = s} r) f = absurd (no_simple (Return q) i v s m refl r f)
-      to _ _ _ _ returns f = (refl, inl f)
-      to _ _ _ m (returns_values {es = es} r) f = (refl, inr (record { whole = es; rest = m; reads = r; follows = f }))
+      to _ _ _ _ is_return f = (refl, inl f)
+      to _ _ _ m (is_return_of {es = es} r) f = (refl, inr (record { whole = es; rest = m; reads = r; follows = f }))
 
       back : Rest K (at_return b q) w → OneStm K b (inside (Return q) (statement_depth b) ∷ w)
       back h = elim h [
-        | inl f ↦ record { whole = return_stmt q none; rest = w; reads = returns; follows = f }
-        | inr v ↦ record { whole = return_stmt q v.whole; rest = v.rest; reads = returns_values v.reads; follows = v.follows }
+        | inl f ↦ record { whole = return_stmt q none; rest = w; reads = is_return; follows = f }
+        | inr v ↦ record { whole = return_stmt q v.whole; rest = v.rest; reads = is_return_of v.reads; follows = v.follows }
       ]
 
   if_begins : (pos : Pos) (j : ℕ) (w : List Mark) → Iff (OneStm K b (inside (If pos) j ∷ w)) ((j ≡ statement_depth b) × BehindIf K b [] pos w)
@@ -154,12 +154,12 @@ module _ (K : Stms → Pos → List Mark → Type 0) (b : Blocks) where
         let body = o.follows in
         let e = body.follows in
         subst (λ (n : ℕ). OneStm K b (inside (If pos) n ∷ w)) (sym h.0)
-        (record { whole = if_stmt pos i.guard body.others e.whole; rest = e.rest; reads = chooses o.pos (subst (λ (ts : List Mark). ReadsGuard (statement_depth b) i.guard w ts) o.mark i.reads) body.reads e.reads; follows = e.follows }),
+        (record { whole = if_stmt pos i.guard body.others e.whole; rest = e.rest; reads = is_if o.pos (subst (λ (ts : List Mark). ReadsGuard (statement_depth b) i.guard w ts) o.mark i.reads) body.reads e.reads; follows = e.follows }),
   )
     where
       to : (i : ℕ) (v : List Mark) (s : Stm) (m : List Mark) → IsStm (statement_depth b) s (inside (If pos) i ∷ v) m → BehindStm K (with_statement b s) m → (i ≡ statement_depth b) × BehindIf K b [] pos v
       to i v _ m (is_simple {s = s} r) f = absurd (no_simple (If pos) i v s m refl r f)
-      to _ _ _ m (chooses {g = g} {ss = ss} {end = end} {e = e} {k = k} {n = n} q guard body els) f =
+      to _ _ _ m (is_if {g = g} {ss = ss} {end = end} {e = e} {k = k} {n = n} q guard body els) f =
           (refl, record { guard = g; rest = inside (LeftBrace q) (statement_depth b) ∷ k; reads = guard; follows = record { pos = q; rest = k; mark = refl; follows = record { others = ss; end = end; rest = n; reads = body; follows = record { whole = e; rest = m; reads = els; follows = f } } } })
 
   for_begins : (pos : Pos) (j : ℕ) (w : List Mark) → Iff (OneStm K b (inside (For pos) j ∷ w)) ((j ≡ statement_depth b) × BehindFor K b pos w)
@@ -170,23 +170,23 @@ module _ (K : Stms → Pos → List Mark → Type 0) (b : Blocks) where
         let o = i.follows in
         let body = o.follows in
         subst (λ (n : ℕ). OneStm K b (inside (For pos) n ∷ w)) (sym h.0)
-        (record { whole = for_stmt pos i.clause body.others; rest = body.rest; reads = repeats o.pos (subst (λ (ts : List Mark). ReadsClause (statement_depth b) i.clause w ts) o.mark i.reads) body.reads; follows = body.follows }),
+        (record { whole = for_stmt pos i.clause body.others; rest = body.rest; reads = is_for o.pos (subst (λ (ts : List Mark). ReadsClause (statement_depth b) i.clause w ts) o.mark i.reads) body.reads; follows = body.follows }),
   )
     where
       to : (i : ℕ) (v : List Mark) (s : Stm) (m : List Mark) → IsStm (statement_depth b) s (inside (For pos) i ∷ v) m → BehindStm K (with_statement b s) m → (i ≡ statement_depth b) × BehindFor K b pos v
       to i v _ m (is_simple {s = s} r) f = absurd (no_simple (For pos) i v s m refl r f)
-      to _ _ _ m (repeats {c = c} {ss = ss} {end = end} {k = k} q clause body) f =
+      to _ _ _ m (is_for {c = c} {ss = ss} {end = end} {k = k} q clause body) f =
           (refl, record { clause = c; rest = inside (LeftBrace q) (statement_depth b) ∷ k; reads = clause; follows = record { pos = q; rest = k; mark = refl; follows = record { others = ss; end = end; rest = m; reads = body; follows = f } } })
 
   block_begins : (q : Pos) (j : ℕ) (w : List Mark) → Iff (OneStm K b (inside (LeftBrace q) j ∷ w)) ((j ≡ statement_depth b) × InBody K (within b (in_block b.done)) w)
   block_begins q j w = (
     λ h. to j w h.whole h.rest h.reads h.follows,
-    λ h. let body = h.1 in subst (λ (i : ℕ). OneStm K b (inside (LeftBrace q) i ∷ w)) (sym h.0) (record { whole = block body.others; rest = body.rest; reads = blocks body.reads; follows = body.follows }),
+    λ h. let body = h.1 in subst (λ (i : ℕ). OneStm K b (inside (LeftBrace q) i ∷ w)) (sym h.0) (record { whole = block body.others; rest = body.rest; reads = is_block body.reads; follows = body.follows }),
   )
     where
       to : (i : ℕ) (v : List Mark) (s : Stm) (m : List Mark) → IsStm (statement_depth b) s (inside (LeftBrace q) i ∷ v) m → BehindStm K (with_statement b s) m → (i ≡ statement_depth b) × InBody K (within b (in_block b.done)) v
       to i v _ m (is_simple {s = s} r) f = absurd (no_simple (LeftBrace q) i v s m refl r f)
-      to _ _ _ m (blocks {ss = ss} {end = end} body) f = (refl, record { others = ss; end = end; rest = m; reads = body; follows = f })
+      to _ _ _ m (is_block {ss = ss} {end = end} body) f = (refl, record { others = ss; end = end; rest = m; reads = body; follows = f })
 
   -- ---- a semicolon or a closing brace
 

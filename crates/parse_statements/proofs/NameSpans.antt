@@ -8,7 +8,7 @@ use Rattle.parse_expressions.specs.declared.terminal.Terminal.TheVariants.{Assig
 use Rattle.parse_expressions.specs.Grammar.{Mark, inside}
 use Rattle.parse_expressions.proofs.NameSpans.{HaveSpans, values_spans}
 use Rattle.parse_simple_statements.specs.Grammar.{of_variables}
-use Rattle.parse_statements.specs.Grammar.{ReadsOptionalSimple, ReadsOptionalValue, ReadsPost, ReadsInit, ReadsGuard, ReadsTargets, ReadsClause, IsStm, declares, is_simple, breaks, continues, returns, returns_values, chooses, repeats, blocks, IsElse, absent, otherwise, otherwise_if, IsBody, close, empty, last, next}
+use Rattle.parse_statements.specs.Grammar.{ReadsOptionalSimple, ReadsOptionalValue, ReadsPost, ReadsInit, ReadsGuard, ReadsTargets, ReadsClause, IsStm, is_var, is_simple, is_break, is_continue, is_return, is_return_of, is_if, is_for, is_block, IsElse, absent, otherwise, otherwise_if, IsBody, close, empty, last, next}
 use Rattle.parse_simple_statements.proofs.NameSpans.{names_spans, value_specs_spans, value_spans, simple_spans}
 
 module _ (n : ℕ) where
@@ -58,22 +58,22 @@ module _ (n : ℕ) where
 
   mutual
     stm_spans : {d : ℕ} {s : Stm} {ts rest : List Mark} → IsStm d s ts rest → HaveSpans n ts → StmSpans n s × HaveSpans n rest
-    stm_spans (declares g) a = value_specs_spans n of_variables g a.1
+    stm_spans (is_var g) a = value_specs_spans n of_variables g a.1
     stm_spans (is_simple {d = d} {s = s} {ts = ts} {rest = rest} r) a = simple_spans n true d s ts rest r a
-    stm_spans breaks a = (tt, a.1)
-    stm_spans continues a = (tt, a.1)
-    stm_spans returns a = (tt, a.1)
-    stm_spans (returns_values {d = d} {es = es} {m = m} {rest = rest} r) a = values_spans n true d es m rest r a.1
-    stm_spans (chooses {d = d} {g = g} {m = m} {k = k} q r b l) a =
+    stm_spans is_break a = (tt, a.1)
+    stm_spans is_continue a = (tt, a.1)
+    stm_spans is_return a = (tt, a.1)
+    stm_spans (is_return_of {d = d} {es = es} {m = m} {rest = rest} r) a = values_spans n true d es m rest r a.1
+    stm_spans (is_if {d = d} {g = g} {m = m} {k = k} q r b l) a =
         let i = guard_spans d g m (inside (LeftBrace q) d ∷ k) r a.1 in
         let j = body_spans b i.1.1 in
         let o = else_spans l j.1 in
         ((i.0, j.0, o.0), o.1)
-    stm_spans (repeats {d = d} {c = c} {m = m} {k = k} q r b) a =
+    stm_spans (is_for {d = d} {c = c} {m = m} {k = k} q r b) a =
         let i = clause_spans d c m (inside (LeftBrace q) d ∷ k) r a.1 in
         let j = body_spans b i.1.1 in
         ((i.0, j.0), j.1)
-    stm_spans (blocks b) a = body_spans b a.1
+    stm_spans (is_block b) a = body_spans b a.1
 
     else_spans : {d : ℕ} {e : Els} {ts rest : List Mark} → IsElse d e ts rest → HaveSpans n ts → ElsSpans n e × HaveSpans n rest
     else_spans absent a = (tt, a)

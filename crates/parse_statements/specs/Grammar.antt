@@ -47,15 +47,15 @@ ReadsClause d (ranging t pos e) ts rest = (m : List Mark) × ReadsTargets d t ts
 -- An else-if counts as a bracket, which its `else` opens.
 mutual
   pub data IsStm : ℕ → Stm → List Mark → List Mark → Type 0 where
-    declares : {d : ℕ} {pos : Pos} {specs : List ValueSpec} {m rest : List Mark} → IsGroup (ReadsValueSpec of_variables) d specs m rest → IsStm d (var_stmt pos specs) (inside (Var pos) d ∷ m) rest
+    is_var : {d : ℕ} {pos : Pos} {specs : List ValueSpec} {m rest : List Mark} → IsGroup (ReadsValueSpec of_variables) d specs m rest → IsStm d (var_stmt pos specs) (inside (Var pos) d ∷ m) rest
     is_simple : {d : ℕ} {s : Simple} {ts rest : List Mark} → ReadsSimple true d s ts rest → IsStm d (simple s) ts rest
-    breaks : {d : ℕ} {pos : Pos} {rest : List Mark} → IsStm d (break_stmt pos) (inside (Break pos) d ∷ rest) rest
-    continues : {d : ℕ} {pos : Pos} {rest : List Mark} → IsStm d (continue_stmt pos) (inside (Continue pos) d ∷ rest) rest
-    returns : {d : ℕ} {pos : Pos} {rest : List Mark} → IsStm d (return_stmt pos none) (inside (Return pos) d ∷ rest) rest
-    returns_values : {d : ℕ} {pos : Pos} {es : Exs} {m rest : List Mark} → ReadsExs true d es m rest → IsStm d (return_stmt pos es) (inside (Return pos) d ∷ m) rest
-    chooses : {d : ℕ} {pos : Pos} {g : Guard} {ss : Stms} {end : Pos} {e : Els} {m k n rest : List Mark} (q : Pos) → ReadsGuard d g m (inside (LeftBrace q) d ∷ k) → IsBody d ss end k n → IsElse d e n rest → IsStm d (if_stmt pos g ss e) (inside (If pos) d ∷ m) rest
-    repeats : {d : ℕ} {pos : Pos} {c : Clause} {ss : Stms} {end : Pos} {m k rest : List Mark} (q : Pos) → ReadsClause d c m (inside (LeftBrace q) d ∷ k) → IsBody d ss end k rest → IsStm d (for_stmt pos c ss) (inside (For pos) d ∷ m) rest
-    blocks : {d : ℕ} {q : Pos} {ss : Stms} {end : Pos} {m rest : List Mark} → IsBody d ss end m rest → IsStm d (block ss) (inside (LeftBrace q) d ∷ m) rest
+    is_break : {d : ℕ} {pos : Pos} {rest : List Mark} → IsStm d (break_stmt pos) (inside (Break pos) d ∷ rest) rest
+    is_continue : {d : ℕ} {pos : Pos} {rest : List Mark} → IsStm d (continue_stmt pos) (inside (Continue pos) d ∷ rest) rest
+    is_return : {d : ℕ} {pos : Pos} {rest : List Mark} → IsStm d (return_stmt pos none) (inside (Return pos) d ∷ rest) rest
+    is_return_of : {d : ℕ} {pos : Pos} {es : Exs} {m rest : List Mark} → ReadsExs true d es m rest → IsStm d (return_stmt pos es) (inside (Return pos) d ∷ m) rest
+    is_if : {d : ℕ} {pos : Pos} {g : Guard} {ss : Stms} {end : Pos} {e : Els} {m k n rest : List Mark} (q : Pos) → ReadsGuard d g m (inside (LeftBrace q) d ∷ k) → IsBody d ss end k n → IsElse d e n rest → IsStm d (if_stmt pos g ss e) (inside (If pos) d ∷ m) rest
+    is_for : {d : ℕ} {pos : Pos} {c : Clause} {ss : Stms} {end : Pos} {m k rest : List Mark} (q : Pos) → ReadsClause d c m (inside (LeftBrace q) d ∷ k) → IsBody d ss end k rest → IsStm d (for_stmt pos c ss) (inside (For pos) d ∷ m) rest
+    is_block : {d : ℕ} {q : Pos} {ss : Stms} {end : Pos} {m rest : List Mark} → IsBody d ss end m rest → IsStm d (block ss) (inside (LeftBrace q) d ∷ m) rest
 
   pub data IsElse : ℕ → Els → List Mark → List Mark → Type 0 where
     absent : {d : ℕ} {rest : List Mark} → IsElse d no_else rest rest

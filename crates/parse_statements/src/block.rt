@@ -2,7 +2,8 @@
 
 ghost use Rattle.std.specs.Prelude.{◌+◌, ◌≡◌, ◌≤◌, ◌∷◌, suc, IfOk};
 ghost use Rattle.syntax.specs.Statements.{nil, guard_of, clause_of, stm_of, stms_of};
-ghost use Rattle.parse_statements.specs.Outer.{brace_depth, chain_depth, statement_depth, with_statement, around, opened_if, opened_for};
+ghost use Rattle.parse_statements.specs.Outer.{brace_depth, chain_depth, statement_depth};
+ghost use Rattle.parse_statements.specs.Outer.{with_statement, around, opened_if, opened_for};
 ghost use Rattle.parse_statements.specs.Outers.{branches_of, outer_of, outers_of};
 ghost use Rattle.parse_statements.specs.Bodies.{at_statement, goes, behind_block, up, stop, nesting_at_stop};
 ghost use Rattle.parse_statements.specs.BlocksInMemory.{blocks_of};
@@ -15,7 +16,7 @@ use crate::state::{BodyProgress, BodyState};
 use base::Pos;
 use parse_expressions::{StepFault, Terminal};
 use std::alloc::{AllocError, Global};
-use syntax::{Body, Clause, Guard, NESTING_LIMIT, Stmt, block, else_block, repetition};
+use syntax::{Body, Clause, Guard, NESTING_LIMIT, Stmt, block, else_block, for_stmt};
 
 /// The next state, where the token's nesting keeps the limit.
 pub fn limited(nesting: usize, next: BodyState) -> Result<BodyProgress, StepFault>
@@ -91,7 +92,7 @@ fn behind_block(
         }
         Outer::For(done, pos, clause) => {
             let blocks = around(outer, done, depth - 1);
-            Ok(BodyState::Stop(with_statement(blocks, repetition(pos, clause, body))?))
+            Ok(BodyState::Stop(with_statement(blocks, for_stmt(pos, clause, body))?))
         }
         Outer::Then(done, branches, pos, guard) => {
             let before = depth - 1 - branches.len();

@@ -7,7 +7,9 @@ ghost use Rattle.parse_expressions.specs.Machine as expression;
 ghost use Rattle.parse_expressions.specs.States.{open_of, context_in};
 ghost use Rattle.parse_statements.specs.Outer.{chain_depth, statement_depth};
 ghost use Rattle.parse_statements.specs.Outers.{branch_of, branches_of};
-ghost use Rattle.parse_statements.specs.Bodies.{in_if, in_for, at_if, in_condition, at_for, at_second, in_second, at_post, in_range, at_then, at_else, goes, header_context, behind_simple, ranges_at, step, nesting, nesting_behind};
+ghost use Rattle.parse_statements.specs.Bodies.{in_if, in_for, at_if, in_condition, at_for, at_second, in_second};
+ghost use Rattle.parse_statements.specs.Bodies.{at_post, in_range, at_then, at_else, goes, header_context};
+ghost use Rattle.parse_statements.specs.Bodies.{behind_simple, ranges_at, step, nesting, nesting_behind};
 ghost use Rattle.parse_statements.specs.BlocksInMemory.{blocks_of, blocks_at, spot_at};
 ghost use Rattle.parse_statements.specs.BodyStates.{state_of, Steps};
 

@@ -8,7 +8,7 @@ ghost use Rattle.parse_statements.specs.Outers.{branch_of, branches_of};
 
 use crate::outer::Branch;
 use std::alloc::{AllocError, Global};
-use syntax::{Else, Stmt, choice, else_if};
+use syntax::{Else, Stmt, else_if, if_stmt};
 
 /// The statements of a block, and one more.
 #[tactic(auto, using(syntax::proofs::Rows::stms_push))]
@@ -33,5 +33,5 @@ pub fn whole_if(
         otherwise = else_if(alloc, last.pos, last.guard, last.body, otherwise)?;
         last = before;
     }
-    Ok(choice(last.pos, last.guard, last.body, otherwise))
+    Ok(if_stmt(last.pos, last.guard, last.body, otherwise))
 }

@@ -155,7 +155,7 @@ fn write_parsed(
 /// The tree of the tokens of a text, or of its first body alone, or the fault.
 fn write_outcome(
     alloc: Global,
-    tokens: &Tokens,
+    tokens: Tokens,
     text: &str,
     is_body: bool,
     out: &mut String,
@@ -167,7 +167,7 @@ fn write_outcome(
 fn outcome(alloc: Global, text: &str, is_body: bool) -> Result<String, Fail> {
     let tokens = scan(alloc, text.as_bytes())?;
     let mut out = String::new(alloc);
-    write_outcome(alloc, &tokens, text, is_body, &mut out)?;
+    write_outcome(alloc, tokens, text, is_body, &mut out)?;
     Ok(out)
 }
 

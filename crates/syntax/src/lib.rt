@@ -17,6 +17,6 @@ mod statement;
 pub use declaration::{Body, Decl, Field, Func, Params, Tree, TypeSpec};
 pub use expression::{Bound, Element, Expr, Name};
 pub use limit::NESTING_LIMIT;
-pub use nodes::{block, call, choice, elements, else_block, else_if, literal, repetition};
+pub use nodes::{block, call, elements, else_block, else_if, for_stmt, if_stmt, literal};
 pub use operator::{ArithmeticOp, BinOp, CompareOp, UnOp};
 pub use statement::{Clause, Else, Guard, Simple, Stmt, Targets, ValueSpec};

@@ -43,14 +43,14 @@ pub fn block(body: Vec<Stmt>) -> Stmt
 }
 
 /// A `for`, with the position of its word.
-pub fn repetition(pos: Pos, clause: Clause, body: Vec<Stmt>) -> Stmt
+pub fn for_stmt(pos: Pos, clause: Clause, body: Vec<Stmt>) -> Stmt
     ensures { stm_of result ≡ for_stmt pos (clause_of clause) (stms_of body.items) }
 {
     Stmt::For(pos, clause, body)
 }
 
 /// An `if`, with the position of its word, and what stands after its body.
-pub fn choice(pos: Pos, guard: Guard, body: Vec<Stmt>, otherwise: Else) -> Stmt
+pub fn if_stmt(pos: Pos, guard: Guard, body: Vec<Stmt>, otherwise: Else) -> Stmt
     ensures { stm_of result ≡ if_stmt pos (guard_of guard) (stms_of body.items) (els_of otherwise) }
 {
     Stmt::If(pos, guard, body, otherwise)
