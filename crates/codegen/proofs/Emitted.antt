@@ -14,7 +14,7 @@ use Rattle.typed.specs.declared.stmt.Stmt.{Stmt}
 use Rattle.typed_syntax.specs.Frames.{far}
 use Rattle.typed_syntax.specs.Syntax.{Ex, Exs, Pl, Left, Piece, Sts, Program, blank, new, to, text, shown, over_int, over_length, over_copy, if_stmt, for_stmt, range, next, wide, all_wide, value_widths}
 use Rattle.typed.specs.View.{left_of, piece_of, site_in, st_of, sts_of}
-use Rattle.codegen.specs.Frame.{assign_code, bump_code, key_code, left_code, param_code, temp_behind, update_code}
+use Rattle.codegen.specs.Frame.{assign_code, bump_code, key_code, left_code, param_code, temp_behind, turn_code, update_code}
 use Rattle.codegen.specs.Temps.{LeftFits, LeftsFitIn, ParamFits, ParamsFitIn, PiecesFitIn, ReadyFitIn, StsFitIn}
 use Rattle.program_code.specs.Code.{Slots, above_address, address_code, address_size, array_code, element_round_code, element_round_size, ex_code, exs_code, fetch_code, first_width, index_round_code, index_round_size, land_code, lefts_above, lefts_code, lefts_end, lefts_size, lefts_sized, moves, operation, other_widths, params_code, piece_size, pieces_code, place_above, place_code, place_end, place_size, ready_code, renew_code, renew_size, site_slot, site_words, size, st_code, st_size, sts_code, sts_size, temp, test_code, test_size}
 use Rattle.program_code.proofs.Sizes.{length_address, length_code, length_element_round, length_index_round, length_last, length_lefts, length_pieces, length_place, length_ready, length_renew, length_st, length_sts, length_test, lefts_ends, lefts_sum, place_ends}
@@ -294,7 +294,7 @@ module _ (p : Program) (arguments : ℕ) (named : List ℕ) (s : Slots) where
   pub count_emitted : (old c1 c2 c3 c4 c5 : List Instr) (e : Ex) (key value : Left) (body : Sts) (start test turn behind h out again : ℕ) → start ≡ length old → test ≡ start + size p e + 1
       → turn ≡ test + 2 + index_round_size p key + long body → behind ≡ turn + 3 → c1 ≡ old ++ (ex_code p s e h (length old) ++ Const (temp s (h + 1)) 0 ∷ [])
       → c2 ≡ c1 ++ Bin Word.Less (temp s (h + 2)) (temp s (h + 1)) (temp s h) ∷ JumpZero (temp s (h + 2)) behind ∷ [] → c3 ≡ c2 ++ key_code p s key (h + 2) (h + 1) (length c2) → c4 ≡ c3 ++ code_at body (h + 2) behind turn (length c3)
-      → c5 ≡ c4 ++ Const (temp s (h + 2)) 1 ∷ Bin Word.Add (temp s (h + 1)) (temp s (h + 1)) (temp s (h + 2)) ∷ Jump test ∷ []
+      → c5 ≡ c4 ++ turn_code s (h + 1) test
       → c5 ≡ old ++ st_code p arguments named s (range (over_int e) key value body) h out again (length old)
   count_emitted old c1 c2 c3 c4 c5 e key value body start test turn behind h out again es et eu eb e1 e2 e3 e4 e5 =
       let pc = length old in
@@ -314,7 +314,9 @@ module _ (p : Program) (arguments : ℕ) (named : List ℕ) (s : Slots) where
       let f3 : c3 ≡ c2 ++ round = e3 ∙ ap (λ place. c2 ++ key_code p s key (h + 2) (h + 1) place) n2 in
       let n3 : length c3 ≡ pi = ap length f3 ∙ omega (arith, n2, length-append c2 round, length_key key (h + 2) (h + 1) (pt + 2)) in
       let f4 : c4 ≡ c3 ++ code_at body (h + 2) pb pu pi = e4 ∙ ap (λ place. c3 ++ code_at body (h + 2) behind turn place) n3 ∙ ap (λ place. c3 ++ code_at body (h + 2) place turn pi) b ∙ ap (λ place. c3 ++ code_at body (h + 2) pb place pi) u in
-      let f5 : c5 ≡ c4 ++ one ∷ sum ∷ Jump pt ∷ [] = e5 ∙ ap (λ place. c4 ++ one ∷ sum ∷ Jump place ∷ []) t in
+      let above : h + 1 + 1 ≡ h + 2 = omega arith in
+      let f5 : c5 ≡ c4 ++ one ∷ sum ∷ Jump pt ∷ [] =
+      e5 ∙ ap (λ k. c4 ++ Const (temp s k) 1 ∷ Bin Word.Add (temp s (h + 1)) (temp s (h + 1)) (temp s k) ∷ Jump test ∷ []) above ∙ ap (λ place. c4 ++ one ∷ sum ∷ Jump place ∷ []) t in
       let all : c5 ≡ ((((old ++ (ex_code p s e h pc ++ zero ∷ [])) ++ less ∷ JumpZero (temp s (h + 2)) pb ∷ []) ++ round) ++ code_at body (h + 2) pb pu pi) ++ one ∷ sum ∷ Jump pt ∷ [] = cc in
       let flat : c5 ≡ old ++ (ex_code p s e h pc ++ (zero ∷ less ∷ JumpZero (temp s (h + 2)) pb ∷ (round ++ (code_at body (h + 2) pb pu pi ++ one ∷ sum ∷ Jump pt ∷ [])))) = all ∙ simp append_assoc in
       flat ∙ ap (λ l. old ++ (ex_code p s e h pc ++ (zero ∷ less ∷ JumpZero (temp s (h + 2)) pb ∷ (l ++ (code_at body (h + 2) pb pu pi ++ one ∷ sum ∷ Jump pt ∷ []))))) (key_is key (h + 2) (h + 1) (pt + 2))
@@ -323,7 +325,7 @@ module _ (p : Program) (arguments : ℕ) (named : List ℕ) (s : Slots) where
   rounds_emitted : (old c1 c2 c3 c4 round : List Instr) (body : Sts) (x wide begin test turn behind h : ℕ) → begin ≡ length old → test ≡ begin + 1 → turn ≡ begin + 4 + wide + long body → behind ≡ turn + 3
       → c1 ≡ old ++ Const (temp s h) 0 ∷ Const (temp s (h + 1)) x ∷ Bin Word.Less (temp s (h + 1)) (temp s h) (temp s (h + 1)) ∷ JumpZero (temp s (h + 1)) behind ∷ []
       → length round ≡ wide → c2 ≡ c1 ++ round → c3 ≡ c2 ++ code_at body (h + 1) behind turn (length c2)
-      → c4 ≡ c3 ++ Const (temp s (h + 1)) 1 ∷ Bin Word.Add (temp s h) (temp s h) (temp s (h + 1)) ∷ Jump test ∷ []
+      → c4 ≡ c3 ++ turn_code s h test
       → c4 ≡ old ++ (let inside = length old + 4 + wide in let pu = inside + long body in array_code s x h (length old + 1) (pu + 3) round (code_at body (h + 1) (pu + 3) pu inside))
   rounds_emitted old c1 c2 c3 c4 round body x wide begin test turn behind h eb et eu ebe e1 er e2 e3 e4 =
       let pc = length old in let pi = pc + 4 + wide in let pu = pi + long body in let pb = pu + 3 in
@@ -343,7 +345,7 @@ module _ (p : Program) (arguments : ℕ) (named : List ℕ) (s : Slots) where
   pub indices_emitted : (old c1 c2 c3 c4 : List Instr) (key value : Left) (body : Sts) (x begin test turn behind h out again : ℕ) → begin ≡ length old → test ≡ begin + 1 → turn ≡ begin + 4 + index_round_size p key + long body → behind ≡ turn + 3
       → c1 ≡ old ++ Const (temp s h) 0 ∷ Const (temp s (h + 1)) x ∷ Bin Word.Less (temp s (h + 1)) (temp s h) (temp s (h + 1)) ∷ JumpZero (temp s (h + 1)) behind ∷ []
       → c2 ≡ c1 ++ key_code p s key (h + 1) h (length c1) → c3 ≡ c2 ++ code_at body (h + 1) behind turn (length c2)
-      → c4 ≡ c3 ++ Const (temp s (h + 1)) 1 ∷ Bin Word.Add (temp s h) (temp s h) (temp s (h + 1)) ∷ Jump test ∷ []
+      → c4 ≡ c3 ++ turn_code s h test
       → c4 ≡ old ++ st_code p arguments named s (range (over_length x) key value body) h out again (length old)
   indices_emitted old c1 c2 c3 c4 key value body x begin test turn behind h out again eb et eu ebe e1 e2 e3 e4 =
       let pc = length old in
@@ -359,7 +361,7 @@ module _ (p : Program) (arguments : ℕ) (named : List ℕ) (s : Slots) where
       → c0 ≡ old ++ (ex_code p s e h (length old) ++ moves (site_words s site) (site_slot s site) (temp s h) ∷ [])
       → c1 ≡ c0 ++ Const (temp s h) 0 ∷ Const (temp s (h + 1)) x ∷ Bin Word.Less (temp s (h + 1)) (temp s h) (temp s (h + 1)) ∷ JumpZero (temp s (h + 1)) behind ∷ []
       → c2 ≡ c1 ++ element_round_code p s site x key value h (length c1) → c3 ≡ c2 ++ code_at body (h + 1) behind turn (length c2)
-      → c4 ≡ c3 ++ Const (temp s (h + 1)) 1 ∷ Bin Word.Add (temp s h) (temp s h) (temp s (h + 1)) ∷ Jump test ∷ []
+      → c4 ≡ c3 ++ turn_code s h test
       → c4 ≡ old ++ st_code p arguments named s (range (over_copy site e x) key value body) h out again (length old)
   elements_emitted old c0 c1 c2 c3 c4 site e key value body x start begin test turn behind h out again es eb et eu ebe e0 e1 e2 e3 e4 =
       let pc = length old in let copy = ex_code p s e h pc in let move = moves (site_words s site) (site_slot s site) (temp s h) in let pb = pc + size p e + 1 in

@@ -1,7 +1,8 @@
 -- Functions in frames, and the code of statements by their parts.
 use Rattle.std.specs.Prelude.{ℕ, ◌+◌, ◌<◌, ◌≤◌, List, [], ◌∷◌, ◌++◌, Option, Some, None}
 use Rattle.isa.specs.declared.instr.Instr.{Instr}
-use Rattle.isa.specs.declared.instr.Instr.TheVariants.{ArgumentWords, Bin, Const, PrintText}
+use Rattle.isa.specs.declared.instr.Instr.TheVariants.{ArgumentWords, Bin, Const, Jump, PrintText}
+use Rattle.isa.specs.declared.instr.BinOp.TheVariants.{Add}
 use Rattle.typed_syntax.specs.declared.operators.BinOp.{BinOp}
 use Rattle.typed_syntax.specs.Syntax.{Ex, Exs, Pl, Func, Program as AnyProgram, Left, Piece, all_wide, value_widths, blank, new, to, text, shown, argument_words, result_words}
 use Rattle.typed_syntax.specs.Frames.{far}
@@ -24,6 +25,10 @@ left_code s (to p) first at h = write_code s p first at h
 -- the left side that gets the index in a temp, after its operands
 abbrev pub key_code : AnyProgram → Slots → Left → (first index pc : ℕ) → List Instr
 key_code p s key first index pc = ready_code p s (key ∷ []) first pc ++ left_code s key first (lefts_above (key ∷ []) first) index
+
+-- the end of a round whose index is in a temp: with the temp above it the index grows by 1, and the test comes again
+abbrev pub turn_code : Slots → (index test : ℕ) → List Instr
+turn_code s index test = Const (temp s (index + 1)) 1 ∷ Bin Add (temp s index) (temp s index) (temp s (index + 1)) ∷ Jump test ∷ []
 
 -- The code of an assignment, of one with an operator and of `++` and `--`, from a place in the code on: what stands for
 -- these statements in the code of a program.

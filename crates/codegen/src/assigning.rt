@@ -4,7 +4,7 @@ ghost use Rattle.isa.specs.declared.instr.Instr.{Instr};
 ghost use Rattle.typed.specs.View.{ex_of, exs_of_values, left_of, place_of, program_of};
 ghost use Rattle.typed_syntax.specs.Syntax.{all_wide, value_widths};
 ghost use Rattle.typed_syntax.specs.Frames.{far};
-ghost use Rattle.expression_code.specs.Frame.{slots_in, IsSmall};
+ghost use Rattle.expression_code.specs.Frame.{slots_in, IsLaid};
 ghost use Rattle.codegen.specs.Frame.{assign_code, bump_code, left_code, update_code};
 ghost use Rattle.expression_code.specs.Temps.{ExsFitIn, Fits, OperandsFit, PlaceFits, reached};
 ghost use Rattle.codegen.specs.Temps.{LeftFits, LeftsFitIn, ReadyFitIn};
@@ -46,13 +46,13 @@ fn above_lefts(ls: &[Left], h: u16) -> u16
 pub fn ready_left(
     code: &mut Vec<Instr>,
     program: &Program,
-    frame: Frame,
+    frame: &Frame,
     left: &Left,
     h: u16,
 ) -> Result<(), NoMemory>
-    requires fits { ReadyFitIn (program_of program.now) (slots_in program.now frame) frame.sites h (left_of left.now ∷ []) }
-    requires frame { IsSmall program.now frame }
-    ensures { OnOk result (code.new.items ≡ code.old.items ++ ready_code (program_of program.now) (slots_in program.now frame) (left_of left.now ∷ []) h (length code.old.items)) }
+    requires fits { ReadyFitIn (program_of program.now) (slots_in program.now frame.now) frame.now.sites h (left_of left.now ∷ []) }
+    requires frame { IsLaid program.now frame.now }
+    ensures { OnOk result (code.new.items ≡ code.old.items ++ ready_code (program_of program.now) (slots_in program.now frame.now) (left_of left.now ∷ []) h (length code.old.items)) }
 {
     match left {
         Left::To(place) => emit_place(code, program, frame, place, h),
@@ -64,14 +64,14 @@ pub fn ready_left(
 fn ready_lefts(
     code: &mut Vec<Instr>,
     program: &Program,
-    frame: Frame,
+    frame: &Frame,
     ls: &[Left],
     h: u16,
 ) -> Result<(), NoMemory>
-    requires fits { ReadyFitIn (program_of program.now) (slots_in program.now frame) frame.sites h (map left_of ls.now) }
+    requires fits { ReadyFitIn (program_of program.now) (slots_in program.now frame.now) frame.now.sites h (map left_of ls.now) }
     requires room { above_all (map left_of ls.now) h ≤ 65535 }
-    requires frame { IsSmall program.now frame }
-    ensures { OnOk result (code.new.items ≡ code.old.items ++ ready_code (program_of program.now) (slots_in program.now frame) (map left_of ls.now) h (length code.old.items)) }
+    requires frame { IsLaid program.now frame.now }
+    ensures { OnOk result (code.new.items ≡ code.old.items ++ ready_code (program_of program.now) (slots_in program.now frame.now) (map left_of ls.now) h (length code.old.items)) }
 {
     let mut next = h;
     for left in ls {
@@ -86,17 +86,17 @@ fn ready_lefts(
 pub fn emit_left(
     code: &mut Vec<Instr>,
     program: &Program,
-    frame: Frame,
+    frame: &Frame,
     left: &Left,
     first: u16,
     at: u16,
     h: u16,
 ) -> Result<(), NoMemory>
-    requires temp { h ≤ frame.temps }
-    requires operands { above_all (left_of left.now ∷ []) first ≤ frame.temps }
-    requires fits { LeftFits (slots_in program.now frame) frame.sites at (left_of left.now) }
-    requires frame { IsSmall program.now frame }
-    ensures { OnOk result (code.new.items ≡ code.old.items ++ left_code (slots_in program.now frame) (left_of left.now) first at h) }
+    requires temp { h ≤ frame.now.temps }
+    requires operands { above_all (left_of left.now ∷ []) first ≤ frame.now.temps }
+    requires fits { LeftFits (slots_in program.now frame.now) frame.now.sites at (left_of left.now) }
+    requires frame { IsLaid program.now frame.now }
+    ensures { OnOk result (code.new.items ≡ code.old.items ++ left_code (slots_in program.now frame.now) (left_of left.now) first at h) }
 {
     match left {
         Left::Blank => {}
@@ -113,18 +113,18 @@ pub fn emit_left(
 fn emit_lefts(
     code: &mut Vec<Instr>,
     program: &Program,
-    frame: Frame,
+    frame: &Frame,
     ls: &[Left],
     values: &Values,
     first: u16,
     at: u16,
     h: u16,
 ) -> Result<(), NoMemory>
-    requires operands { above_all (map left_of ls.now) first ≤ frame.temps }
-    requires fits { LeftsFitIn (slots_in program.now frame) frame.sites at h (value_widths (program_of program.now) (exs_of_values values.now)) (map left_of ls.now) }
-    requires frame { IsSmall program.now frame }
+    requires operands { above_all (map left_of ls.now) first ≤ frame.now.temps }
+    requires fits { LeftsFitIn (slots_in program.now frame.now) frame.now.sites at h (value_widths (program_of program.now) (exs_of_values values.now)) (map left_of ls.now) }
+    requires frame { IsLaid program.now frame.now }
     ensures { OnOk result (code.new.items ≡ code.old.items
-        ++ lefts_code (slots_in program.now frame) (value_widths (program_of program.now) (exs_of_values values.now)) (map left_of ls.now) first at h) }
+        ++ lefts_code (slots_in program.now frame.now) (value_widths (program_of program.now) (exs_of_values values.now)) (map left_of ls.now) first at h) }
 {
     let (mut operands, mut next) = (first, h);
     for (i, left) in ls.iter().enumerate() {
@@ -141,19 +141,19 @@ fn emit_lefts(
 pub fn emit_assign(
     code: &mut Vec<Instr>,
     program: &Program,
-    frame: Frame,
+    frame: &Frame,
     ls: &[Left],
     values: &Values,
     h: u16,
 ) -> Result<(), NoMemory>
-    requires room { above_all (map left_of ls.now) h + all_wide (program_of program.now) (exs_of_values values.now) ≤ frame.temps }
-    requires values { ExsFitIn (program_of program.now) (slots_in program.now frame) frame.sites (above_all (map left_of ls.now) h) (exs_of_values values.now) }
-    requires ready { ReadyFitIn (program_of program.now) (slots_in program.now frame) frame.sites h (map left_of ls.now) }
-    requires lefts { LeftsFitIn (slots_in program.now frame) frame.sites (above_all (map left_of ls.now) h + all_wide (program_of program.now) (exs_of_values values.now))
+    requires room { above_all (map left_of ls.now) h + all_wide (program_of program.now) (exs_of_values values.now) ≤ frame.now.temps }
+    requires values { ExsFitIn (program_of program.now) (slots_in program.now frame.now) frame.now.sites (above_all (map left_of ls.now) h) (exs_of_values values.now) }
+    requires ready { ReadyFitIn (program_of program.now) (slots_in program.now frame.now) frame.now.sites h (map left_of ls.now) }
+    requires lefts { LeftsFitIn (slots_in program.now frame.now) frame.now.sites (above_all (map left_of ls.now) h + all_wide (program_of program.now) (exs_of_values values.now))
         (above_all (map left_of ls.now) h) (value_widths (program_of program.now) (exs_of_values values.now)) (map left_of ls.now) }
-    requires frame { IsSmall program.now frame }
+    requires frame { IsLaid program.now frame.now }
     ensures { OnOk result (code.new.items ≡ code.old.items
-        ++ assign_code (program_of program.now) (slots_in program.now frame) (map left_of ls.now) (exs_of_values values.now) h (length code.old.items)) }
+        ++ assign_code (program_of program.now) (slots_in program.now frame.now) (map left_of ls.now) (exs_of_values values.now) h (length code.old.items)) }
 {
     ready_lefts(code, program, frame, ls, h)?;
     let first = above_lefts(ls, h);
@@ -168,19 +168,19 @@ pub fn emit_assign(
 pub fn emit_update(
     code: &mut Vec<Instr>,
     program: &Program,
-    frame: Frame,
+    frame: &Frame,
     place: &Place,
     op: BinOp,
     e: &Expr,
     h: u16,
 ) -> Result<(), NoMemory>
-    requires room { above_address_of (far (place_of place.now)) (place_above (place_of place.now) h) + 1 < frame.temps }
-    requires place { PlaceFits (slots_in program.now frame) frame.sites (place_of place.now) × (reached (slots_in program.now frame) (place_of place.now) ≤ 1) }
-    requires operands { OperandsFit (program_of program.now) (slots_in program.now frame) frame.sites h (place_of place.now) }
-    requires operand { Fits (program_of program.now) (slots_in program.now frame) frame.sites (above_address_of (far (place_of place.now)) (place_above (place_of place.now) h) + 1) (ex_of e.now) }
-    requires frame { IsSmall program.now frame }
+    requires room { above_address_of (far (place_of place.now)) (place_above (place_of place.now) h) + 1 < frame.now.temps }
+    requires place { PlaceFits (slots_in program.now frame.now) frame.now.sites (place_of place.now) × (reached (slots_in program.now frame.now) (place_of place.now) ≤ 1) }
+    requires operands { OperandsFit (program_of program.now) (slots_in program.now frame.now) frame.now.sites h (place_of place.now) }
+    requires operand { Fits (program_of program.now) (slots_in program.now frame.now) frame.now.sites (above_address_of (far (place_of place.now)) (place_above (place_of place.now) h) + 1) (ex_of e.now) }
+    requires frame { IsLaid program.now frame.now }
     ensures { OnOk result (code.new.items ≡ code.old.items
-        ++ update_code (program_of program.now) (slots_in program.now frame) (place_of place.now) op (ex_of e.now) h (length code.old.items)) }
+        ++ update_code (program_of program.now) (slots_in program.now frame.now) (place_of place.now) op (ex_of e.now) h (length code.old.items)) }
 {
     emit_place(code, program, frame, place, h)?;
     let at = above_operands(place, h);
@@ -198,17 +198,17 @@ pub fn emit_update(
 pub fn emit_bump(
     code: &mut Vec<Instr>,
     program: &Program,
-    frame: Frame,
+    frame: &Frame,
     place: &Place,
     op: BinOp,
     h: u16,
 ) -> Result<(), NoMemory>
-    requires room { above_address_of (far (place_of place.now)) (place_above (place_of place.now) h) + 1 < frame.temps }
-    requires place { PlaceFits (slots_in program.now frame) frame.sites (place_of place.now) × (reached (slots_in program.now frame) (place_of place.now) ≤ 1) }
-    requires operands { OperandsFit (program_of program.now) (slots_in program.now frame) frame.sites h (place_of place.now) }
-    requires frame { IsSmall program.now frame }
+    requires room { above_address_of (far (place_of place.now)) (place_above (place_of place.now) h) + 1 < frame.now.temps }
+    requires place { PlaceFits (slots_in program.now frame.now) frame.now.sites (place_of place.now) × (reached (slots_in program.now frame.now) (place_of place.now) ≤ 1) }
+    requires operands { OperandsFit (program_of program.now) (slots_in program.now frame.now) frame.now.sites h (place_of place.now) }
+    requires frame { IsLaid program.now frame.now }
     ensures { OnOk result (code.new.items ≡ code.old.items
-        ++ bump_code (program_of program.now) (slots_in program.now frame) (place_of place.now) op h (length code.old.items)) }
+        ++ bump_code (program_of program.now) (slots_in program.now frame.now) (place_of place.now) op h (length code.old.items)) }
 {
     emit_place(code, program, frame, place, h)?;
     let at = above_operands(place, h);

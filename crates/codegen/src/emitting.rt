@@ -1,19 +1,17 @@
 //! The code of statements.
 ghost use Rattle.std.specs.Prelude.{◌≡◌, ◌++◌, OnOk, length};
-ghost use Rattle.typed_syntax.specs.Syntax.{argument_words, result_words};
-ghost use Rattle.typed.specs.View.{program_of, st_of, sts_of};
-ghost use Rattle.expression_code.specs.Frame.{func_in, slots_in, IsSmall};
+ghost use Rattle.typed_syntax.specs.Syntax.{argument_words, blank, over_int, over_length, range, result_words};
+ghost use Rattle.typed.specs.View.{ex_of, left_of, program_of, st_of, sts_of};
+ghost use Rattle.expression_code.specs.Frame.{func_in, slots_in, IsLaid};
 ghost use Rattle.codegen.specs.Frame.{Returns};
 ghost use Rattle.codegen.specs.Temps.{StFitsIn, StsFitIn};
 ghost use Rattle.program_code.specs.Code.{st_code, sts_code};
 
-use crate::arrays::{
-    array_goals, copy_end, emit_array_start, emit_array_turn, emit_copy, emit_pair,
-};
+use crate::arrays::{array_goals, emit_array_start, emit_copy, emit_pair};
 use crate::assigning::{emit_assign, emit_bump, emit_update};
 use crate::looping::{
-    count_goals, count_test, emit_count_start, emit_count_test, emit_count_turn, emit_key,
-    emit_renewal, emit_test, loop_goals,
+    behind_value, count_goals, emit_count_start, emit_count_test, emit_key, emit_renewal,
+    emit_test, emit_turn, loop_goals,
 };
 use crate::returning::{emit_return, emit_zeros};
 use crate::shown::{emit_exit, emit_print, emit_raised};
@@ -21,7 +19,7 @@ use crate::stmt_lengths::{key_len, pair_len, stmts_len};
 use base::NoMemory;
 use expression_code::{Frame, Goals, emit_expr, emit_values, here, jump, pass_unless, plus, put};
 use isa::Instr;
-use typed::{Func, Piece, Program, Stmt};
+use typed::{Expr, Func, Left, Piece, Program, Stmt};
 
 // With temps from h on.
 #[cycle(emit)]
@@ -29,17 +27,17 @@ use typed::{Func, Piece, Program, Stmt};
 fn emit_stmt(
     code: &mut Vec<Instr>,
     program: &Program,
-    frame: Frame,
+    frame: &Frame,
     func: &Func,
     s: &Stmt,
     h: u16,
     goals: Goals,
 ) -> Result<(), NoMemory>
-    requires fits { StFitsIn (program_of program.now) (slots_in program.now frame) frame.sites (result_words (func_in program.now func.now)) (func_in program.now func.now).named h (st_of s.now) }
-    requires returns { Returns program.now frame (func_in program.now func.now) }
-    requires frame { IsSmall program.now frame }
+    requires fits { StFitsIn (program_of program.now) (slots_in program.now frame.now) frame.now.sites (result_words (func_in program.now func.now)) (func_in program.now func.now).named h (st_of s.now) }
+    requires returns { Returns program.now frame.now (func_in program.now func.now) }
+    requires frame { IsLaid program.now frame.now }
     ensures { OnOk result (code.new.items ≡ code.old.items
-        ++ st_code (program_of program.now) (argument_words (func_in program.now func.now)) (func_in program.now func.now).named (slots_in program.now frame) (st_of s.now) h goals.out goals.again (length code.old.items)) }
+        ++ st_code (program_of program.now) (argument_words (func_in program.now func.now)) (func_in program.now func.now).named (slots_in program.now frame.now) (st_of s.now) h goals.out goals.again (length code.old.items)) }
 {
     let start = here(code)?;
     match s {
@@ -65,30 +63,18 @@ fn emit_stmt(
             emit_stmts(code, program, frame, func, post, h, inner)?;
             put(code, Instr::Jump { to: start })?;
         }
-        Stmt::Count(e, key, body) => {
-            let test = count_test(program, start, e)?;
-            let inner = count_goals(program, func, test, key, body)?;
-            emit_count_start(code, program, frame, e, h)?;
-            emit_count_test(code, program, frame, h, inner.out)?;
-            emit_key(code, program, frame, key, h + 2, h + 1)?;
-            emit_stmts(code, program, frame, func, body, h + 2, inner)?;
-            emit_count_turn(code, program, frame, h, test)?;
-        }
+        Stmt::Count(e, key, body) => emit_count(code, program, frame, func, body, e, key, h)?,
         Stmt::Indices(count, key, body) => {
-            let inner = array_goals(program, func, start, key_len(program, key)?, body)?;
-            emit_array_start(code, program, frame, *count, h, inner.out)?;
-            emit_key(code, program, frame, key, h + 1, h)?;
-            emit_stmts(code, program, frame, func, body, h + 1, inner)?;
-            emit_array_turn(code, program, frame, h, plus(start, 1)?)?;
+            emit_indices(code, program, frame, func, body, *count, key, h)?;
         }
         Stmt::Elements(site, e, count, key, value, body) => {
-            let begin = copy_end(program, start, e)?;
+            let begin = behind_value(program, start, e)?;
             let inner = array_goals(program, func, begin, pair_len(program, key, value)?, body)?;
             emit_copy(code, program, frame, *site, e, h)?;
             emit_array_start(code, program, frame, *count, h, inner.out)?;
             emit_pair(code, program, frame, *site, *count, key, value, h)?;
             emit_stmts(code, program, frame, func, body, h + 1, inner)?;
-            emit_array_turn(code, program, frame, h, plus(begin, 1)?)?;
+            emit_turn(code, program, frame, h, plus(begin, 1)?)?;
         }
         Stmt::Break => put(code, Instr::Jump { to: goals.out })?,
         Stmt::Continue => put(code, Instr::Jump { to: goals.again })?,
@@ -101,22 +87,82 @@ fn emit_stmt(
     Ok(())
 }
 
+// A `range` over the numbers below a value.
+#[cycle(emit)]
+fn emit_count(
+    code: &mut Vec<Instr>,
+    program: &Program,
+    frame: &Frame,
+    func: &Func,
+    body: &[Stmt],
+    e: &Expr,
+    key: &Left,
+    h: u16,
+) -> Result<(), NoMemory>
+    requires fits { StFitsIn (program_of program.now) (slots_in program.now frame.now) frame.now.sites (result_words (func_in program.now func.now)) (func_in program.now func.now).named h
+        (range (over_int (ex_of e.now)) (left_of key.now) blank (sts_of body.now)) }
+    requires returns { Returns program.now frame.now (func_in program.now func.now) }
+    requires frame { IsLaid program.now frame.now }
+    ensures { OnOk result (code.new.items ≡ code.old.items
+        ++ st_code (program_of program.now) (argument_words (func_in program.now func.now)) (func_in program.now func.now).named (slots_in program.now frame.now)
+        (range (over_int (ex_of e.now)) (left_of key.now) blank (sts_of body.now)) h 0 0 (length code.old.items)) }
+{
+    let start = here(code)?;
+    let test = behind_value(program, start, e)?;
+    let inner = count_goals(program, func, test, key, body)?;
+    emit_count_start(code, program, frame, e, h)?;
+    emit_count_test(code, program, frame, h, inner.out)?;
+    emit_key(code, program, frame, key, h + 2, h + 1)?;
+    emit_stmts(code, program, frame, func, body, h + 2, inner)?;
+    emit_turn(code, program, frame, h + 1, test)?;
+    Ok(())
+}
+
+// A `range` over the indices of an array of this length.
+#[cycle(emit)]
+fn emit_indices(
+    code: &mut Vec<Instr>,
+    program: &Program,
+    frame: &Frame,
+    func: &Func,
+    body: &[Stmt],
+    count: u64,
+    key: &Left,
+    h: u16,
+) -> Result<(), NoMemory>
+    requires fits { StFitsIn (program_of program.now) (slots_in program.now frame.now) frame.now.sites (result_words (func_in program.now func.now)) (func_in program.now func.now).named h
+        (range (over_length count) (left_of key.now) blank (sts_of body.now)) }
+    requires returns { Returns program.now frame.now (func_in program.now func.now) }
+    requires frame { IsLaid program.now frame.now }
+    ensures { OnOk result (code.new.items ≡ code.old.items
+        ++ st_code (program_of program.now) (argument_words (func_in program.now func.now)) (func_in program.now func.now).named (slots_in program.now frame.now)
+        (range (over_length count) (left_of key.now) blank (sts_of body.now)) h 0 0 (length code.old.items)) }
+{
+    let start = here(code)?;
+    let inner = array_goals(program, func, start, key_len(program, key)?, body)?;
+    emit_array_start(code, program, frame, count, h, inner.out)?;
+    emit_key(code, program, frame, key, h + 1, h)?;
+    emit_stmts(code, program, frame, func, body, h + 1, inner)?;
+    emit_turn(code, program, frame, h, plus(start, 1)?)?;
+    Ok(())
+}
+
 /// The code of statements, with temps from h on.
 #[cycle(emit)]
 pub fn emit_stmts(
     code: &mut Vec<Instr>,
     program: &Program,
-    frame: Frame,
+    frame: &Frame,
     func: &Func,
     ss: &[Stmt],
     h: u16,
     goals: Goals,
 ) -> Result<(), NoMemory>
-    requires fits { StsFitIn (program_of program.now) (slots_in program.now frame) frame.sites (result_words (func_in program.now func.now)) (func_in program.now func.now).named h (sts_of ss.now) }
-    requires returns { Returns program.now frame (func_in program.now func.now) }
-    requires frame { IsSmall program.now frame }
+    requires fits { StsFitIn (program_of program.now) (slots_in program.now frame.now) frame.now.sites (result_words (func_in program.now func.now)) (func_in program.now func.now).named h (sts_of ss.now) }
+    requires returns { Returns program.now frame.now (func_in program.now func.now) }
+    requires frame { IsLaid program.now frame.now }
     ensures { OnOk result (code.new.items ≡ code.old.items
-        ++ sts_code (program_of program.now) (argument_words (func_in program.now func.now)) (func_in program.now func.now).named (slots_in program.now frame) (sts_of ss.now) h goals.out goals.again (length code.old.items)) }
+        ++ sts_code (program_of program.now) (argument_words (func_in program.now func.now)) (func_in program.now func.now).named (slots_in program.now frame.now) (sts_of ss.now) h goals.out goals.again (length code.old.items)) }
 {
     for s in ss {
         emit_stmt(code, program, frame, func, s, h, goals)?;

@@ -1,9 +1,9 @@
 //! The code of a program: its tables, function by function.
-ghost use Rattle.std.specs.Prelude.{◌≡◌, ◌+◌, ◌<◌, ◌≤◌, ◌^◌, ◌++◌, ◌∷◌, [], IfOk, OnOk, length, map, replicate};
+ghost use Rattle.std.specs.Prelude.{◌≡◌, ◌+◌, ◌<◌, ◌^◌, ◌++◌, ◌∷◌, [], IfOk, OnOk, length, map, replicate};
 ghost use Rattle.typed.specs.View.{program_of};
 ghost use Rattle.typed_syntax.specs.Form.{IsInForm};
 ghost use Rattle.frame_layout.specs.Layout.{layout_in, layouts as layouts_of};
-ghost use Rattle.expression_code.specs.Frame.{func_in, slots_in, IsSmall};
+ghost use Rattle.expression_code.specs.Frame.{func_in, slots_in, IsLaid};
 ghost use Rattle.codegen.specs.Temps.{FuncFitsIn};
 ghost use Rattle.program_code.specs.Code.{code_of, entry_of, func_code, func_size, slots_of};
 
@@ -28,13 +28,13 @@ struct Parts {
 fn emit_func(
     code: &mut Vec<Instr>,
     program: &Program,
-    frame: Frame,
+    frame: &Frame,
     func: &Func,
 ) -> Result<(), NoMemory>
-    requires slots { slots_in program.now frame ≡ slots_of (program_of program.now) (func_in program.now func.now) }
-    requires sites { frame.sites ≡ func.now.sites }
+    requires slots { slots_in program.now frame.now ≡ slots_of (program_of program.now) (func_in program.now func.now) }
+    requires sites { frame.now.sites ≡ func.now.sites }
     requires fits { FuncFitsIn (program_of program.now) (func_in program.now func.now) }
-    requires frame { IsSmall program.now frame }
+    requires frame { IsLaid program.now frame.now }
     ensures { OnOk result (code.new.items ≡ code.old.items ++ func_code (program_of program.now) (func_in program.now func.now) (length code.old.items)) }
 {
     emit_params(code, program, frame, &func.params, &func.param_types)?;
@@ -88,6 +88,7 @@ fn copied(alloc: Global, strings: &[Vec<u8>]) -> Result<Vec<Vec<u8>>, NoMemory>
 
 // A function comes after the others, with this number.
 fn add(
+    alloc: Global,
     parts: &mut Parts,
     program: &Program,
     func: &Func,
@@ -101,13 +102,8 @@ fn add(
     ensures funcs { OnOk result (parts.new.funcs.items ≡ parts.old.funcs.items ++ entry_of (program_of program.now) (func_in program.now func.now) (length parts.old.instrs.items) ∷ []) }
 {
     let start = here(&parts.instrs)?;
-    let frame = Frame {
-        outgoing: layout.outgoing,
-        temps: layout.temps,
-        first: func.first_site,
-        sites: func.sites,
-    };
-    emit_func(&mut parts.instrs, program, frame, func)?;
+    let frame = Frame::new(alloc, program, func, layout)?;
+    emit_func(&mut parts.instrs, program, &frame, func)?;
     let places = parts.instrs.len() - start as usize;
     own(&mut parts.owners, number, places)?;
     let arguments = all_words(program, &func.param_types)? as u16;
@@ -140,7 +136,8 @@ pub fn emit(alloc: Global, program: &Program, layouts: &Layouts) -> Result<Code,
     };
     let mut number: u16 = 0;
     for func in funcs {
-        add(&mut parts, program, func, frames[number as usize], number)?;
+        let layout = frames[number as usize];
+        add(alloc, &mut parts, program, func, layout, number)?;
         number += 1;
     }
     here(&parts.instrs)?;

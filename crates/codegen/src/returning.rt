@@ -1,9 +1,9 @@
 //! The code at both ends of a function: what it takes, and what it gives back.
-ghost use Rattle.std.specs.Prelude.{◌≡◌, ◌+◌, ◌≤◌, ◌++◌, ◌∷◌, [], length, map, OnOk};
+ghost use Rattle.std.specs.Prelude.{◌≡◌, ◌+◌, ◌≤◌, ◌++◌, length, map, OnOk};
 ghost use Rattle.typed.specs.Trees.{trees};
 ghost use Rattle.typed_syntax.specs.Syntax.{all_wide, all_width, argument_words, each_width, result_words, type_in};
 ghost use Rattle.typed.specs.View.{exs_of_values, program_of, site_in, site_numbers};
-ghost use Rattle.expression_code.specs.Frame.{func_in, slots_in, IsSmall};
+ghost use Rattle.expression_code.specs.Frame.{func_in, slots_in, IsLaid};
 ghost use Rattle.codegen.specs.Frame.{param_code, Returns};
 ghost use Rattle.expression_code.specs.Temps.{ExsFitIn};
 ghost use Rattle.codegen.specs.Temps.{ParamFits, ParamsFitIn, SitesFit, ValuesFit, sites_words};
@@ -19,14 +19,14 @@ use typed::{Func, Program, Values};
 fn emit_param(
     code: &mut Vec<Instr>,
     program: &Program,
-    frame: Frame,
+    frame: &Frame,
     param: Option<SiteId>,
     n: u16,
     word: u16,
 ) -> Result<(), NoMemory>
-    requires fits { ParamFits (slots_in program.now frame) frame.sites (site_in param) }
-    requires frame { IsSmall program.now frame }
-    ensures { OnOk result (code.new.items ≡ code.old.items ++ param_code (slots_in program.now frame) (site_in param) n word) }
+    requires fits { ParamFits (slots_in program.now frame.now) frame.now.sites (site_in param) }
+    requires frame { IsLaid program.now frame.now }
+    ensures { OnOk result (code.new.items ≡ code.old.items ++ param_code (slots_in program.now frame.now) (site_in param) n word) }
 {
     if let Some(site) = param {
         let a = frame.of_site(program, site);
@@ -39,14 +39,14 @@ fn emit_param(
 pub fn emit_params(
     code: &mut Vec<Instr>,
     program: &Program,
-    frame: Frame,
+    frame: &Frame,
     params: &[Option<SiteId>],
     types: &[TypeId],
 ) -> Result<(), NoMemory>
-    requires fits { ParamsFitIn (slots_in program.now frame) frame.sites (each_width (map (λ t. type_in (trees program.now.types) t.0) types.now)) (map site_in params.now) }
+    requires fits { ParamsFitIn (slots_in program.now frame.now) frame.now.sites (each_width (map (λ t. type_in (trees program.now.types) t.0) types.now)) (map site_in params.now) }
     requires small { all_width (map (λ t. type_in (trees program.now.types) t.0) types.now) ≤ 65535 }
-    requires frame { IsSmall program.now frame }
-    ensures { OnOk result (code.new.items ≡ code.old.items ++ params_code (slots_in program.now frame) (each_width (map (λ t. type_in (trees program.now.types) t.0) types.now)) (map site_in params.now) 0) }
+    requires frame { IsLaid program.now frame.now }
+    ensures { OnOk result (code.new.items ≡ code.old.items ++ params_code (slots_in program.now frame.now) (each_width (map (λ t. type_in (trees program.now.types) t.0) types.now)) (map site_in params.now) 0) }
 {
     let mut word: u16 = 0;
     for (i, param) in params.iter().enumerate() {
@@ -61,12 +61,12 @@ pub fn emit_params(
 pub fn emit_zeros(
     code: &mut Vec<Instr>,
     program: &Program,
-    frame: Frame,
+    frame: &Frame,
     sites: &[SiteId],
 ) -> Result<(), NoMemory>
-    requires fits { SitesFit (slots_in program.now frame) frame.sites (site_numbers sites.now) }
-    requires frame { IsSmall program.now frame }
-    ensures { OnOk result (code.new.items ≡ code.old.items ++ zeros_code (slots_in program.now frame) (site_numbers sites.now)) }
+    requires fits { SitesFit (slots_in program.now frame.now) frame.now.sites (site_numbers sites.now) }
+    requires frame { IsLaid program.now frame.now }
+    ensures { OnOk result (code.new.items ≡ code.old.items ++ zeros_code (slots_in program.now frame.now) (site_numbers sites.now)) }
 {
     for site in sites {
         let (a, n) = (
@@ -82,14 +82,14 @@ pub fn emit_zeros(
 fn emit_named_writes(
     code: &mut Vec<Instr>,
     program: &Program,
-    frame: Frame,
+    frame: &Frame,
     sites: &[SiteId],
     h: u16,
 ) -> Result<(), NoMemory>
-    requires fits { SitesFit (slots_in program.now frame) frame.sites (site_numbers sites.now) }
-    requires temps { h + sites_words (slots_in program.now frame) (site_numbers sites.now) ≤ frame.temps }
-    requires frame { IsSmall program.now frame }
-    ensures { OnOk result (code.new.items ≡ code.old.items ++ named_write_code (slots_in program.now frame) (site_numbers sites.now) h) }
+    requires fits { SitesFit (slots_in program.now frame.now) frame.now.sites (site_numbers sites.now) }
+    requires temps { h + sites_words (slots_in program.now frame.now) (site_numbers sites.now) ≤ frame.now.temps }
+    requires frame { IsLaid program.now frame.now }
+    ensures { OnOk result (code.new.items ≡ code.old.items ++ named_write_code (slots_in program.now frame.now) (site_numbers sites.now) h) }
 {
     let mut next = h;
     for site in sites {
@@ -117,14 +117,14 @@ fn emit_results(code: &mut Vec<Instr>, n: u16, a: u16, word: u16) -> Result<(), 
 fn emit_named_reads(
     code: &mut Vec<Instr>,
     program: &Program,
-    frame: Frame,
+    frame: &Frame,
     sites: &[SiteId],
     first: u16,
 ) -> Result<(), NoMemory>
-    requires fits { SitesFit (slots_in program.now frame) frame.sites (site_numbers sites.now) }
-    requires small { first + sites_words (slots_in program.now frame) (site_numbers sites.now) ≤ 65535 }
-    requires frame { IsSmall program.now frame }
-    ensures { OnOk result (code.new.items ≡ code.old.items ++ named_read_code (slots_in program.now frame) (site_numbers sites.now) first) }
+    requires fits { SitesFit (slots_in program.now frame.now) frame.now.sites (site_numbers sites.now) }
+    requires small { first + sites_words (slots_in program.now frame.now) (site_numbers sites.now) ≤ 65535 }
+    requires frame { IsLaid program.now frame.now }
+    ensures { OnOk result (code.new.items ≡ code.old.items ++ named_read_code (slots_in program.now frame.now) (site_numbers sites.now) first) }
 {
     let temp = frame.temp(0);
     let mut word = first;
@@ -145,12 +145,12 @@ fn emit_named_reads(
 pub fn emit_leave(
     code: &mut Vec<Instr>,
     program: &Program,
-    frame: Frame,
+    frame: &Frame,
     func: &Func,
 ) -> Result<(), NoMemory>
-    requires returns { Returns program.now frame (func_in program.now func.now) }
-    requires frame { IsSmall program.now frame }
-    ensures { OnOk result (code.new.items ≡ code.old.items ++ leave_code (slots_in program.now frame) (argument_words (func_in program.now func.now)) (func_in program.now func.now).named) }
+    requires returns { Returns program.now frame.now (func_in program.now func.now) }
+    requires frame { IsLaid program.now frame.now }
+    ensures { OnOk result (code.new.items ≡ code.old.items ++ leave_code (slots_in program.now frame.now) (argument_words (func_in program.now func.now)) (func_in program.now func.now).named) }
 {
     let arguments = all_words(program, &func.param_types)? as u16;
     emit_named_reads(code, program, frame, &func.named, arguments)?;
@@ -162,15 +162,15 @@ pub fn emit_leave(
 fn emit_given(
     code: &mut Vec<Instr>,
     program: &Program,
-    frame: Frame,
+    frame: &Frame,
     func: &Func,
     words: u64,
     h: u16,
 ) -> Result<(), NoMemory>
-    requires fits { ValuesFit (slots_in program.now frame) (result_words (func_in program.now func.now)) h words (func_in program.now func.now).named }
-    requires returns { Returns program.now frame (func_in program.now func.now) }
-    requires frame { IsSmall program.now frame }
-    ensures { OnOk result (code.new.items ≡ code.old.items ++ values_code (slots_in program.now frame) (argument_words (func_in program.now func.now)) words (func_in program.now func.now).named h) }
+    requires fits { ValuesFit (slots_in program.now frame.now) (result_words (func_in program.now func.now)) h words (func_in program.now func.now).named }
+    requires returns { Returns program.now frame.now (func_in program.now func.now) }
+    requires frame { IsLaid program.now frame.now }
+    ensures { OnOk result (code.new.items ≡ code.old.items ++ values_code (slots_in program.now frame.now) (argument_words (func_in program.now func.now)) words (func_in program.now func.now).named h) }
 {
     if func.named.is_empty() {
         let arguments = all_words(program, &func.param_types)? as u16;
@@ -185,18 +185,18 @@ fn emit_given(
 pub fn emit_return(
     code: &mut Vec<Instr>,
     program: &Program,
-    frame: Frame,
+    frame: &Frame,
     func: &Func,
     values: &Values,
     h: u16,
 ) -> Result<(), NoMemory>
-    requires fits { ExsFitIn (program_of program.now) (slots_in program.now frame) frame.sites h (exs_of_values values.now)
-        × ValuesFit (slots_in program.now frame) (result_words (func_in program.now func.now)) h (all_wide (program_of program.now) (exs_of_values values.now)) (func_in program.now func.now).named }
-    requires returns { Returns program.now frame (func_in program.now func.now) }
-    requires frame { IsSmall program.now frame }
-    ensures { OnOk result (code.new.items ≡ code.old.items ++ (exs_code (program_of program.now) (slots_in program.now frame) (exs_of_values values.now) h (length code.old.items)
-        ++ (values_code (slots_in program.now frame) (argument_words (func_in program.now func.now)) (all_wide (program_of program.now) (exs_of_values values.now)) (func_in program.now func.now).named h
-        ++ leave_code (slots_in program.now frame) (argument_words (func_in program.now func.now)) (func_in program.now func.now).named))) }
+    requires fits { ExsFitIn (program_of program.now) (slots_in program.now frame.now) frame.now.sites h (exs_of_values values.now)
+        × ValuesFit (slots_in program.now frame.now) (result_words (func_in program.now func.now)) h (all_wide (program_of program.now) (exs_of_values values.now)) (func_in program.now func.now).named }
+    requires returns { Returns program.now frame.now (func_in program.now func.now) }
+    requires frame { IsLaid program.now frame.now }
+    ensures { OnOk result (code.new.items ≡ code.old.items ++ (exs_code (program_of program.now) (slots_in program.now frame.now) (exs_of_values values.now) h (length code.old.items)
+        ++ (values_code (slots_in program.now frame.now) (argument_words (func_in program.now func.now)) (all_wide (program_of program.now) (exs_of_values values.now)) (func_in program.now func.now).named h
+        ++ leave_code (slots_in program.now frame.now) (argument_words (func_in program.now func.now)) (func_in program.now func.now).named))) }
 {
     emit_values(code, program, frame, values, h)?;
     emit_given(

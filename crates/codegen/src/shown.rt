@@ -1,8 +1,8 @@
 //! The code of `print`, `println`, `panic` and `exit`.
-ghost use Rattle.std.specs.Prelude.{◌≡◌, ◌+◌, ◌<◌, ◌≤◌, ◌++◌, ◌∷◌, [], IfOk, OnOk, length, map};
+ghost use Rattle.std.specs.Prelude.{◌≡◌, ◌+◌, ◌<◌, ◌++◌, ◌∷◌, [], IfOk, OnOk, length, map};
 ghost use Rattle.isa.specs.declared.instr.Instr.{Instr};
 ghost use Rattle.typed.specs.View.{ex_of, piece_of, program_of, type_of};
-ghost use Rattle.expression_code.specs.Frame.{slots_in, IsSmall};
+ghost use Rattle.expression_code.specs.Frame.{slots_in, IsLaid};
 ghost use Rattle.codegen.specs.Frame.{show_piece, temp_behind, ShownFit};
 ghost use Rattle.expression_code.specs.Temps.{Fits};
 ghost use Rattle.codegen.specs.Temps.{PiecesFitIn};
@@ -41,13 +41,13 @@ fn raised(type_id: TypeId, a: u16) -> Instr
 fn emit_operand(
     code: &mut Vec<Instr>,
     program: &Program,
-    frame: Frame,
+    frame: &Frame,
     p: &Piece,
     h: u16,
 ) -> Result<u16, NoMemory>
-    requires fits { PiecesFitIn (program_of program.now) (slots_in program.now frame) frame.sites h (piece_of p.now ∷ []) }
-    requires frame { IsSmall program.now frame }
-    ensures code { OnOk result (code.new.items ≡ code.old.items ++ pieces_code (program_of program.now) (slots_in program.now frame) (piece_of p.now ∷ []) h (length code.old.items)) }
+    requires fits { PiecesFitIn (program_of program.now) (slots_in program.now frame.now) frame.now.sites h (piece_of p.now ∷ []) }
+    requires frame { IsLaid program.now frame.now }
+    ensures code { OnOk result (code.new.items ≡ code.old.items ++ pieces_code (program_of program.now) (slots_in program.now frame.now) (piece_of p.now ∷ []) h (length code.old.items)) }
     ensures next { IfOk result (λ n. n ≡ temp_behind (piece_of p.now) h) }
 {
     match p {
@@ -63,13 +63,13 @@ fn emit_operand(
 fn emit_operands(
     code: &mut Vec<Instr>,
     program: &Program,
-    frame: Frame,
+    frame: &Frame,
     ps: &[Piece],
     h: u16,
 ) -> Result<(), NoMemory>
-    requires fits { PiecesFitIn (program_of program.now) (slots_in program.now frame) frame.sites h (map piece_of ps.now) }
-    requires frame { IsSmall program.now frame }
-    ensures { OnOk result (code.new.items ≡ code.old.items ++ pieces_code (program_of program.now) (slots_in program.now frame) (map piece_of ps.now) h (length code.old.items)) }
+    requires fits { PiecesFitIn (program_of program.now) (slots_in program.now frame.now) frame.now.sites h (map piece_of ps.now) }
+    requires frame { IsLaid program.now frame.now }
+    ensures { OnOk result (code.new.items ≡ code.old.items ++ pieces_code (program_of program.now) (slots_in program.now frame.now) (map piece_of ps.now) h (length code.old.items)) }
 {
     let mut next = h;
     for p in ps {
@@ -82,13 +82,13 @@ fn emit_operands(
 fn emit_piece(
     code: &mut Vec<Instr>,
     program: &Program,
-    frame: Frame,
+    frame: &Frame,
     p: &Piece,
     h: u16,
 ) -> Result<u16, NoMemory>
-    requires temp { ShownFit (slots_in program.now frame) h (piece_of p.now ∷ []) }
-    requires frame { IsSmall program.now frame }
-    ensures shows { OnOk result (code.new.items ≡ code.old.items ++ show_piece (slots_in program.now frame) (piece_of p.now) h ∷ []) }
+    requires temp { ShownFit (slots_in program.now frame.now) h (piece_of p.now ∷ []) }
+    requires frame { IsLaid program.now frame.now }
+    ensures shows { OnOk result (code.new.items ≡ code.old.items ++ show_piece (slots_in program.now frame.now) (piece_of p.now) h ∷ []) }
     ensures next { IfOk result (λ n. n ≡ temp_behind (piece_of p.now) h) }
 {
     match p {
@@ -108,13 +108,13 @@ fn emit_piece(
 fn emit_more(
     code: &mut Vec<Instr>,
     program: &Program,
-    frame: Frame,
+    frame: &Frame,
     ps: &[Piece],
     h: u16,
 ) -> Result<(), NoMemory>
-    requires temps { ShownFit (slots_in program.now frame) h (map piece_of ps.now) }
-    requires frame { IsSmall program.now frame }
-    ensures { OnOk result (code.new.items ≡ code.old.items ++ show_more (slots_in program.now frame) (map piece_of ps.now) h) }
+    requires temps { ShownFit (slots_in program.now frame.now) h (map piece_of ps.now) }
+    requires frame { IsLaid program.now frame.now }
+    ensures { OnOk result (code.new.items ≡ code.old.items ++ show_more (slots_in program.now frame.now) (map piece_of ps.now) h) }
 {
     let mut next = h;
     for p in ps {
@@ -130,13 +130,13 @@ fn emit_more(
 fn emit_line(
     code: &mut Vec<Instr>,
     program: &Program,
-    frame: Frame,
+    frame: &Frame,
     ps: &[Piece],
     h: u16,
 ) -> Result<(), NoMemory>
-    requires temps { ShownFit (slots_in program.now frame) h (map piece_of ps.now) }
-    requires frame { IsSmall program.now frame }
-    ensures { OnOk result (code.new.items ≡ code.old.items ++ show_line (slots_in program.now frame) (map piece_of ps.now) h) }
+    requires temps { ShownFit (slots_in program.now frame.now) h (map piece_of ps.now) }
+    requires frame { IsLaid program.now frame.now }
+    ensures { OnOk result (code.new.items ≡ code.old.items ++ show_line (slots_in program.now frame.now) (map piece_of ps.now) h) }
 {
     match ps {
         [] => put(code, Instr::PrintLine)?,
@@ -153,13 +153,13 @@ fn emit_line(
 fn emit_plain(
     code: &mut Vec<Instr>,
     program: &Program,
-    frame: Frame,
+    frame: &Frame,
     ps: &[Piece],
     h: u16,
 ) -> Result<(), NoMemory>
-    requires temps { ShownFit (slots_in program.now frame) h (map piece_of ps.now) }
-    requires frame { IsSmall program.now frame }
-    ensures { OnOk result (code.new.items ≡ code.old.items ++ show_plain (slots_in program.now frame) (map piece_of ps.now) h) }
+    requires temps { ShownFit (slots_in program.now frame.now) h (map piece_of ps.now) }
+    requires frame { IsLaid program.now frame.now }
+    ensures { OnOk result (code.new.items ≡ code.old.items ++ show_plain (slots_in program.now frame.now) (map piece_of ps.now) h) }
 {
     let mut next = h;
     for p in ps {
@@ -172,14 +172,14 @@ fn emit_plain(
 fn emit_shown(
     code: &mut Vec<Instr>,
     program: &Program,
-    frame: Frame,
+    frame: &Frame,
     line: bool,
     ps: &[Piece],
     h: u16,
 ) -> Result<(), NoMemory>
-    requires temps { ShownFit (slots_in program.now frame) h (map piece_of ps.now) }
-    requires frame { IsSmall program.now frame }
-    ensures { OnOk result (code.new.items ≡ code.old.items ++ show_code (slots_in program.now frame) line (map piece_of ps.now) h) }
+    requires temps { ShownFit (slots_in program.now frame.now) h (map piece_of ps.now) }
+    requires frame { IsLaid program.now frame.now }
+    ensures { OnOk result (code.new.items ≡ code.old.items ++ show_code (slots_in program.now frame.now) line (map piece_of ps.now) h) }
 {
     if line {
         emit_line(code, program, frame, ps, h)
@@ -193,15 +193,15 @@ fn emit_shown(
 pub fn emit_print(
     code: &mut Vec<Instr>,
     program: &Program,
-    frame: Frame,
+    frame: &Frame,
     line: bool,
     ps: &[Piece],
     h: u16,
 ) -> Result<(), NoMemory>
-    requires fits { PiecesFitIn (program_of program.now) (slots_in program.now frame) frame.sites h (map piece_of ps.now) }
-    requires frame { IsSmall program.now frame }
+    requires fits { PiecesFitIn (program_of program.now) (slots_in program.now frame.now) frame.now.sites h (map piece_of ps.now) }
+    requires frame { IsLaid program.now frame.now }
     ensures { OnOk result (code.new.items ≡ code.old.items
-        ++ (pieces_code (program_of program.now) (slots_in program.now frame) (map piece_of ps.now) h (length code.old.items) ++ show_code (slots_in program.now frame) line (map piece_of ps.now) h)) }
+        ++ (pieces_code (program_of program.now) (slots_in program.now frame.now) (map piece_of ps.now) h (length code.old.items) ++ show_code (slots_in program.now frame.now) line (map piece_of ps.now) h)) }
 {
     emit_operands(code, program, frame, ps, h)?;
     emit_shown(code, program, frame, line, ps, h)?;
@@ -212,15 +212,15 @@ pub fn emit_print(
 pub fn emit_raised(
     code: &mut Vec<Instr>,
     program: &Program,
-    frame: Frame,
+    frame: &Frame,
     type_id: TypeId,
     e: &Expr,
     h: u16,
 ) -> Result<(), NoMemory>
-    requires fits { (h < frame.temps) × Fits (program_of program.now) (slots_in program.now frame) frame.sites h (ex_of e.now) }
-    requires frame { IsSmall program.now frame }
+    requires fits { (h < frame.now.temps) × Fits (program_of program.now) (slots_in program.now frame.now) frame.now.sites h (ex_of e.now) }
+    requires frame { IsLaid program.now frame.now }
     ensures { OnOk result (code.new.items ≡ code.old.items
-        ++ (ex_code (program_of program.now) (slots_in program.now frame) (ex_of e.now) h (length code.old.items) ++ raised_code (type_of type_id.0) (temp (slots_in program.now frame) h) ∷ [])) }
+        ++ (ex_code (program_of program.now) (slots_in program.now frame.now) (ex_of e.now) h (length code.old.items) ++ raised_code (type_of type_id.0) (temp (slots_in program.now frame.now) h) ∷ [])) }
 {
     emit_expr(code, program, frame, e, h)?;
     put(code, raised(type_id, frame.temp(h)))?;
@@ -231,14 +231,14 @@ pub fn emit_raised(
 pub fn emit_exit(
     code: &mut Vec<Instr>,
     program: &Program,
-    frame: Frame,
+    frame: &Frame,
     e: &Expr,
     h: u16,
 ) -> Result<(), NoMemory>
-    requires fits { (h < frame.temps) × Fits (program_of program.now) (slots_in program.now frame) frame.sites h (ex_of e.now) }
-    requires frame { IsSmall program.now frame }
+    requires fits { (h < frame.now.temps) × Fits (program_of program.now) (slots_in program.now frame.now) frame.now.sites h (ex_of e.now) }
+    requires frame { IsLaid program.now frame.now }
     ensures { OnOk result (code.new.items ≡ code.old.items
-        ++ (ex_code (program_of program.now) (slots_in program.now frame) (ex_of e.now) h (length code.old.items) ++ Instr.Exit (temp (slots_in program.now frame) h) ∷ [])) }
+        ++ (ex_code (program_of program.now) (slots_in program.now frame.now) (ex_of e.now) h (length code.old.items) ++ Instr.Exit (temp (slots_in program.now frame.now) h) ∷ [])) }
 {
     emit_expr(code, program, frame, e, h)?;
     let a = frame.temp(h);

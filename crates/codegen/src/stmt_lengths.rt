@@ -1,5 +1,5 @@
 //! The numbers of instructions of statements.
-ghost use Rattle.std.specs.Prelude.{◌≡◌, ◌+◌, ◌≤◌, IfOk, ◌∷◌, [], map};
+ghost use Rattle.std.specs.Prelude.{◌≡◌, ◌+◌, IfOk, ◌∷◌, [], map};
 ghost use Rattle.typed_syntax.specs.Syntax.{all_wide, argument_words};
 ghost use Rattle.typed.specs.View.{ex_of, exs_of_values, left_of, piece_of, place_of, program_of, site_numbers, st_of, sts_of, test_of};
 ghost use Rattle.expression_code.specs.Frame.{func_in};
@@ -19,10 +19,10 @@ const BUMP: u32 = 4;
 const COUNT_HEAD: u32 = 3;
 
 /// The instructions at a round's end: a constant, the sum and a jump.
-const COUNT_TURN: u32 = 3;
+pub const TURN: u32 = 3;
 
 /// `range` over an array: the first index, and the test with its jump.
-const ARRAY_HEAD: u32 = 4;
+pub const ARRAY_HEAD: u32 = 4;
 
 /// The index and the element of a round: a move, the address of the copy, that of the element, and a load.
 const ELEMENT: u32 = 4;
@@ -270,7 +270,7 @@ fn count_len(program: &Program, e: &Expr, key: &Left, body: u32) -> Result<u32, 
     let head = plus(COUNT_HEAD, written)?;
     let round = plus(operand, head)?;
     let inside = plus(round, body)?;
-    plus(inside, COUNT_TURN)
+    plus(inside, TURN)
 }
 
 // A `range` over an array whose rounds begin with `round` and whose body has `body`.
@@ -279,7 +279,7 @@ fn array_len(round: u32, body: u32) -> Result<u32, NoMemory>
 {
     let head = plus(ARRAY_HEAD, round)?;
     let inside = plus(head, body)?;
-    plus(inside, COUNT_TURN)
+    plus(inside, TURN)
 }
 
 // One over its indices.

@@ -8,7 +8,7 @@ use Rattle.typed.specs.View.{program_of}
 use Rattle.typed.specs.declared.program.Program.{Program}
 use Rattle.program_code.specs.Code.{site_slot}
 use Rattle.expression_code.specs.declared.slots.Frame.{Frame}
-use Rattle.expression_code.specs.Frame.{slots_in, IsSmall}
+use Rattle.expression_code.specs.Frame.{slots_in, IsLaid}
 use Rattle.expression_code.specs.Temps.{PlaceFits}
 use Rattle.expression_code.proofs.InSlots.{site_within}
 
@@ -25,7 +25,7 @@ part_most (struct_of ts) i m one l = nth_most ts i m one l
 part_most (array_of n t) i m one l = nth_most (repeated n t) i m one (let e = width_repeated n t in omega (arith, e, l))
 
 -- a place's words, and those before it, are told by 16 bits
-pub place_small : (p : Program) (frame : Frame) (site : ℕ) (steps : Steps) (t : TypeTree) → IsSmall p frame → PlaceFits (slots_in p frame) frame.sites (local site steps) → t ≡ site_type (program_of p) site
+pub place_small : (p : Program) (frame : Frame) (site : ℕ) (steps : Steps) (t : TypeTree) → IsLaid p frame → PlaceFits (slots_in p frame) frame.sites (local site steps) → t ≡ site_type (program_of p) site
     → (width t ≤ 65535) × (offset t (path_of steps) ≤ 65535) × (width (type_at t (path_of steps)) ≤ 65535) × (site_slot (slots_in p frame) site + offset t (path_of steps) ≤ 65535)
 place_small p frame site steps t small f same =
     let s = slots_in p frame in let own = site_within s frame.sites site f.0 in let part = f.2 in

@@ -2,7 +2,7 @@
 ghost use Rattle.std.specs.Prelude.{◌≡◌, ◌+◌, ◌≤◌, ◌++◌, ◌∷◌, [], length, IfOk, OnOk};
 ghost use Rattle.isa.specs.declared.instr.Instr.{Instr};
 ghost use Rattle.program_code.specs.Code.{temp};
-ghost use Rattle.expression_code.specs.Frame.{slots_in, IsSmall};
+ghost use Rattle.expression_code.specs.Frame.{slots_in, IsLaid};
 
 use crate::lengths::{number, plus};
 use crate::slots::Frame;
@@ -62,13 +62,13 @@ pub fn jump(code: &mut Vec<Instr>, some: u32, more: u32) -> Result<(), NoMemory>
 pub fn pass_unless(
     code: &mut Vec<Instr>,
     program: &Program,
-    frame: Frame,
+    frame: &Frame,
     h: u16,
     len: u32,
 ) -> Result<(), NoMemory>
-    requires temp { h ≤ frame.temps }
-    requires frame { IsSmall program.now frame }
-    ensures { OnOk result (code.new.items ≡ code.old.items ++ Instr.JumpZero (temp (slots_in program.now frame) h) (length code.old.items + len + 2) ∷ []) }
+    requires temp { h ≤ frame.now.temps }
+    requires frame { IsLaid program.now frame.now }
+    ensures { OnOk result (code.new.items ≡ code.old.items ++ Instr.JumpZero (temp (slots_in program.now frame.now) h) (length code.old.items + len + 2) ∷ []) }
 {
     jump_if_zero(code, frame.temp(h), len, 2)?;
     Ok(())

@@ -4,7 +4,7 @@ ghost use Rattle.std.specs.Prelude.{◌≡◌, ◌+◌, ◌≤◌, ◌<◌, ◌+
 ghost use Rattle.typed_syntax.specs.Types.{width, part_offset, part_type};
 ghost use Rattle.typed_syntax.specs.Syntax.{ascend, gap_behind as gap_in, type_named, words_through as through_part};
 ghost use Rattle.typed.specs.View.{elements_of, program_of};
-ghost use Rattle.expression_code.specs.Frame.{slots_in, IsSmall};
+ghost use Rattle.expression_code.specs.Frame.{slots_in, IsLaid};
 ghost use Rattle.program_code.specs.Code.{gap_code, gap_size, moves as moves_of, temp};
 
 use crate::jumps::put;
@@ -65,16 +65,16 @@ pub fn behind_len(
 pub fn emit_gap(
     code: &mut Vec<Instr>,
     program: &Program,
-    frame: Frame,
+    frame: &Frame,
     id: TypeId,
     number: u32,
     behind: &[Element],
     h: u16,
 ) -> Result<(), NoMemory>
-    requires room { h + through_part (type_named (program_of program.now) id.0) number + gap_in (type_named (program_of program.now) id.0) number (elements_of behind.now) ≤ frame.temps }
-    requires frame { IsSmall program.now frame }
+    requires room { h + through_part (type_named (program_of program.now) id.0) number + gap_in (type_named (program_of program.now) id.0) number (elements_of behind.now) ≤ frame.now.temps }
+    requires frame { IsLaid program.now frame.now }
     ensures { OnOk result (code.new.items ≡ code.old.items
-        ++ gap_code (gap_in (type_named (program_of program.now) id.0) number (elements_of behind.now)) (temp (slots_in program.now frame) (h + through_part (type_named (program_of program.now) id.0) number))) }
+        ++ gap_code (gap_in (type_named (program_of program.now) id.0) number (elements_of behind.now)) (temp (slots_in program.now frame.now) (h + through_part (type_named (program_of program.now) id.0) number))) }
 {
     let gap = gap_behind(program, id, number, behind) as u16;
     if gap > 0 {
@@ -86,11 +86,11 @@ pub fn emit_gap(
 }
 
 /// A part of a value of a type goes from temps from `from` on to its place in a literal in temps from h on.
-pub fn moved(program: &Program, frame: Frame, id: TypeId, number: u32, from: u16, h: u16) -> Instr
-    requires place { h + part_offset (type_named (program_of program.now) id.0) number + width (part_type (type_named (program_of program.now) id.0) number) ≤ frame.temps }
-    requires from { from ≤ frame.temps }
-    requires frame { IsSmall program.now frame }
-    ensures { result ≡ moves_of (width (part_type (type_named (program_of program.now) id.0) number)) (temp (slots_in program.now frame) (h + part_offset (type_named (program_of program.now) id.0) number)) (temp (slots_in program.now frame) from) }
+pub fn moved(program: &Program, frame: &Frame, id: TypeId, number: u32, from: u16, h: u16) -> Instr
+    requires place { h + part_offset (type_named (program_of program.now) id.0) number + width (part_type (type_named (program_of program.now) id.0) number) ≤ frame.now.temps }
+    requires from { from ≤ frame.now.temps }
+    requires frame { IsLaid program.now frame.now }
+    ensures { result ≡ moves_of (width (part_type (type_named (program_of program.now) id.0) number)) (temp (slots_in program.now frame.now) (h + part_offset (type_named (program_of program.now) id.0) number)) (temp (slots_in program.now frame.now) from) }
 {
     let n = program.types.width(program.types.part(id, number)) as u16;
     let to = h + program.types.part_offset(id, number) as u16;
@@ -98,10 +98,10 @@ pub fn moved(program: &Program, frame: Frame, id: TypeId, number: u32, from: u16
 }
 
 /// A part of a value of a type in temps from h on goes to these temps.
-pub fn taken(program: &Program, frame: Frame, id: TypeId, number: u32, h: u16) -> Instr
-    requires place { h + part_offset (type_named (program_of program.now) id.0) number + width (part_type (type_named (program_of program.now) id.0) number) ≤ frame.temps }
-    requires frame { IsSmall program.now frame }
-    ensures { result ≡ moves_of (width (part_type (type_named (program_of program.now) id.0) number)) (temp (slots_in program.now frame) h) (temp (slots_in program.now frame) (h + part_offset (type_named (program_of program.now) id.0) number)) }
+pub fn taken(program: &Program, frame: &Frame, id: TypeId, number: u32, h: u16) -> Instr
+    requires place { h + part_offset (type_named (program_of program.now) id.0) number + width (part_type (type_named (program_of program.now) id.0) number) ≤ frame.now.temps }
+    requires frame { IsLaid program.now frame.now }
+    ensures { result ≡ moves_of (width (part_type (type_named (program_of program.now) id.0) number)) (temp (slots_in program.now frame.now) h) (temp (slots_in program.now frame.now) (h + part_offset (type_named (program_of program.now) id.0) number)) }
 {
     let n = program.types.width(program.types.part(id, number)) as u16;
     let from = h + program.types.part_offset(id, number) as u16;

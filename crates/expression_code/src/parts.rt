@@ -2,13 +2,15 @@
 ghost use Rattle.std.specs.Prelude.{◌≡◌, ◌≤◌, if◌then◌else◌};
 ghost use Rattle.typed_syntax.specs.Types.{width};
 ghost use Rattle.typed_syntax.specs.Paths.{offset as offset_at, type_at};
-ghost use Rattle.typed_syntax.specs.Syntax.{path_of, site_type as type_of_site, type_named};
+ghost use Rattle.typed_syntax.specs.Syntax.{local, path_of, site_type as type_of_site, type_named};
 ghost use Rattle.typed_syntax.specs.Frames.{steps_far};
 ghost use Rattle.typed.specs.View.{place_of, program_of, steps_of as these_steps};
+ghost use Rattle.expression_code.specs.Frame.{slots_in, IsLaid};
 ghost use Rattle.expression_code.specs.Parts.{part_number as number_of};
-ghost use Rattle.expression_code.specs.Temps.{steps_in};
-ghost use Rattle.program_code.specs.Code.{far_offset as offset_behind, steps_above};
+ghost use Rattle.expression_code.specs.Temps.{steps_in, PlaceFits};
+ghost use Rattle.program_code.specs.Code.{far_offset as offset_behind, part_slot as slot_of_part, part_words as words_of_part, site_type as type_in_slots, steps_above};
 
+use crate::slots::Frame;
 use base::{SiteId, TypeId};
 use typed::{Place, Program, Step};
 
@@ -70,7 +72,7 @@ pub fn site_type(program: &Program, site: SiteId) -> TypeId
 }
 
 /// The type of the part that steps lead to from values of a type.
-pub fn end_type(program: &Program, id: TypeId, steps: &[Step]) -> TypeId
+fn end_type(program: &Program, id: TypeId, steps: &[Step]) -> TypeId
     ensures { type_named (program_of program.now) result.0 ≡ type_at (type_named (program_of program.now) id.0) (path_of (these_steps steps.now)) }
 {
     let mut part = id;
@@ -81,7 +83,7 @@ pub fn end_type(program: &Program, id: TypeId, steps: &[Step]) -> TypeId
 }
 
 /// The words before that part, but for those before elements by indices that are worked out.
-pub fn near_offset(program: &Program, id: TypeId, steps: &[Step]) -> u16
+fn near_offset(program: &Program, id: TypeId, steps: &[Step]) -> u16
     requires { offset_at (type_named (program_of program.now) id.0) (path_of (these_steps steps.now)) ≤ 65535 }
     ensures { result ≡ offset_at (type_named (program_of program.now) id.0) (path_of (these_steps steps.now)) }
 {
@@ -95,7 +97,7 @@ pub fn near_offset(program: &Program, id: TypeId, steps: &[Step]) -> u16
 }
 
 /// Those of them that lie after the first index.
-pub fn far_offset(program: &Program, id: TypeId, steps: &[Step]) -> u16
+fn far_offset(program: &Program, id: TypeId, steps: &[Step]) -> u16
     requires { offset_at (type_named (program_of program.now) id.0) (path_of (these_steps steps.now)) ≤ 65535 }
     ensures { result ≡ offset_behind (type_named (program_of program.now) id.0) (these_steps steps.now) }
 {
@@ -107,4 +109,33 @@ pub fn far_offset(program: &Program, id: TypeId, steps: &[Step]) -> u16
         }
     }
     0
+}
+
+/// The words of a part of a site's variables.
+pub fn part_words(program: &Program, frame: &Frame, site: SiteId, steps: &[Step]) -> u16
+    requires place { PlaceFits (slots_in program.now frame.now) frame.now.sites (local site.0 (these_steps steps.now)) }
+    requires frame { IsLaid program.now frame.now }
+    ensures { result ≡ words_of_part (slots_in program.now frame.now) site.0 (path_of (these_steps steps.now)) }
+{
+    let id = site_type(program, site);
+    program.types.width(end_type(program, id, steps)) as u16
+}
+
+/// The first slot of a part that is reached by no address.
+pub fn part_slot(program: &Program, frame: &Frame, site: SiteId, steps: &[Step]) -> u16
+    requires place { PlaceFits (slots_in program.now frame.now) frame.now.sites (local site.0 (these_steps steps.now)) }
+    requires frame { IsLaid program.now frame.now }
+    ensures { result ≡ slot_of_part (slots_in program.now frame.now) site.0 (path_of (these_steps steps.now)) }
+{
+    let id = site_type(program, site);
+    frame.of_site(program, site) + near_offset(program, id, steps)
+}
+
+/// The words before a part that is reached by an address, from there on.
+pub fn behind_address(program: &Program, frame: &Frame, site: SiteId, steps: &[Step]) -> u16
+    requires place { PlaceFits (slots_in program.now frame.now) frame.now.sites (local site.0 (these_steps steps.now)) }
+    requires frame { IsLaid program.now frame.now }
+    ensures { result ≡ offset_behind (type_in_slots (slots_in program.now frame.now) site.0) (these_steps steps.now) }
+{
+    far_offset(program, site_type(program, site), steps)
 }

@@ -6,7 +6,7 @@ ghost use Rattle.typed_syntax.specs.Paths.{offset};
 ghost use Rattle.typed_syntax.specs.Syntax.{local, path_of, type_named};
 ghost use Rattle.typed.specs.View.{place_of, program_of, steps_of as these_steps};
 ghost use Rattle.typed_syntax.specs.Frames.{far, steps_far};
-ghost use Rattle.expression_code.specs.Frame.{slots_in, IsSmall};
+ghost use Rattle.expression_code.specs.Frame.{slots_in, IsLaid};
 ghost use Rattle.expression_code.specs.Temps.{AddressFits, IndicesFit, PlaceFits, reached};
 ghost use Rattle.program_code.specs.Code.{above_address as above_address_of, address_code, address_size, fetch_code, fetch_part as part_fetched, index_code, index_count as count_of, land_code, land_part as part_landed, place_above as above_operands, read_code, steps_above, steps_address, write_code, global_address as address_of_global};
 
@@ -14,7 +14,7 @@ use crate::jumps::put;
 use crate::lengths::plus;
 use crate::moving::moves;
 use crate::parts::{
-    above_steps, end_type, far_offset, is_far, near_offset, part_number, site_type, steps_of,
+    above_steps, behind_address, is_far, part_number, part_slot, part_words, site_type, steps_of,
 };
 use crate::slots::Frame;
 use base::{NoMemory, SiteId, TypeId};
@@ -89,18 +89,18 @@ fn global_address(number: u32) -> u64
 fn emit_indices(
     code: &mut Vec<Instr>,
     program: &Program,
-    frame: Frame,
+    frame: &Frame,
     id: TypeId,
     steps: &[Step],
     first: u16,
     at: u16,
 ) -> Result<(), NoMemory>
-    requires address { at ≤ frame.temps }
-    requires operands { steps_above (these_steps steps.now) first ≤ frame.temps }
+    requires address { at ≤ frame.now.temps }
+    requires operands { steps_above (these_steps steps.now) first ≤ frame.now.temps }
     requires indices { IndicesFit (type_named (program_of program.now) id.0) (these_steps steps.now) }
     requires words { width (type_named (program_of program.now) id.0) ≤ 65535 }
-    requires frame { IsSmall program.now frame }
-    ensures { OnOk result (code.new.items ≡ code.old.items ++ index_code (slots_in program.now frame) (type_named (program_of program.now) id.0) (these_steps steps.now) first at) }
+    requires frame { IsLaid program.now frame.now }
+    ensures { OnOk result (code.new.items ≡ code.old.items ++ index_code (slots_in program.now frame.now) (type_named (program_of program.now) id.0) (these_steps steps.now) first at) }
 {
     let a = frame.temp(at);
     let (mut part, mut next) = (id, first);
@@ -126,20 +126,20 @@ fn emit_indices(
 fn emit_part_address(
     code: &mut Vec<Instr>,
     program: &Program,
-    frame: Frame,
+    frame: &Frame,
     whole: u16,
     id: TypeId,
     steps: &[Step],
     first: u16,
     at: u16,
 ) -> Result<(), NoMemory>
-    requires address { at ≤ frame.temps }
-    requires operands { steps_above (these_steps steps.now) first ≤ frame.temps }
+    requires address { at ≤ frame.now.temps }
+    requires operands { steps_above (these_steps steps.now) first ≤ frame.now.temps }
     requires indices { IndicesFit (type_named (program_of program.now) id.0) (these_steps steps.now) }
     requires words { width (type_named (program_of program.now) id.0) ≤ 65535 }
     requires slot { whole + offset (type_named (program_of program.now) id.0) (path_of (these_steps steps.now)) ≤ 65535 }
-    requires frame { IsSmall program.now frame }
-    ensures { OnOk result (code.new.items ≡ code.old.items ++ steps_address (slots_in program.now frame) whole (type_named (program_of program.now) id.0) (these_steps steps.now) first at) }
+    requires frame { IsLaid program.now frame.now }
+    ensures { OnOk result (code.new.items ≡ code.old.items ++ steps_address (slots_in program.now frame.now) whole (type_named (program_of program.now) id.0) (these_steps steps.now) first at) }
 {
     let (mut part, mut slot) = (id, whole);
     for (i, step) in steps.iter().enumerate() {
@@ -163,16 +163,16 @@ fn emit_part_address(
 pub fn emit_address(
     code: &mut Vec<Instr>,
     program: &Program,
-    frame: Frame,
+    frame: &Frame,
     place: &Place,
     first: u16,
     at: u16,
 ) -> Result<(), NoMemory>
-    requires temp { AddressFits frame.temps at (place_of place.now) }
-    requires operands { above_operands (place_of place.now) first ≤ frame.temps }
-    requires place { PlaceFits (slots_in program.now frame) frame.sites (place_of place.now) }
-    requires frame { IsSmall program.now frame }
-    ensures { OnOk result (code.new.items ≡ code.old.items ++ address_code (slots_in program.now frame) (place_of place.now) first at) }
+    requires temp { AddressFits frame.now.temps at (place_of place.now) }
+    requires operands { above_operands (place_of place.now) first ≤ frame.now.temps }
+    requires place { PlaceFits (slots_in program.now frame.now) frame.now.sites (place_of place.now) }
+    requires frame { IsLaid program.now frame.now }
+    ensures { OnOk result (code.new.items ≡ code.old.items ++ address_code (slots_in program.now frame.now) (place_of place.now) first at) }
 {
     match place {
         Place::Local(site, steps) => {
@@ -189,53 +189,49 @@ pub fn emit_address(
 // The words of a part of a variable go to temps from h on; its address, if there is one, is in temp `at`.
 fn fetch_part(
     program: &Program,
-    frame: Frame,
+    frame: &Frame,
     site: SiteId,
     steps: &[Step],
     at: u16,
     h: u16,
 ) -> Instr
-    requires temp { h ≤ frame.temps }
-    requires address { at + steps_far (these_steps steps.now) ≤ frame.temps }
-    requires place { PlaceFits (slots_in program.now frame) frame.sites (local site.0 (these_steps steps.now)) }
-    requires frame { IsSmall program.now frame }
-    ensures { result ≡ part_fetched (slots_in program.now frame) site.0 (these_steps steps.now) (steps_far (these_steps steps.now)) at h }
+    requires temp { h ≤ frame.now.temps }
+    requires address { at + steps_far (these_steps steps.now) ≤ frame.now.temps }
+    requires place { PlaceFits (slots_in program.now frame.now) frame.now.sites (local site.0 (these_steps steps.now)) }
+    requires frame { IsLaid program.now frame.now }
+    ensures { result ≡ part_fetched (slots_in program.now frame.now) site.0 (these_steps steps.now) (steps_far (these_steps steps.now)) at h }
 {
-    let id = site_type(program, site);
-    let n = program.types.width(end_type(program, id, steps)) as u16;
-    let a = frame.temp(h);
+    let (n, a) = (part_words(program, frame, site, steps), frame.temp(h));
     if is_far(steps) {
-        let (b, off) = (frame.temp(at), far_offset(program, id, steps));
+        let off = behind_address(program, frame, site, steps);
+        let b = frame.temp(at);
         return Instr::Load { a, b, off, n };
     }
-    let b = frame.of_site(program, site) + near_offset(program, id, steps);
-    moves(n, a, b)
+    moves(n, a, part_slot(program, frame, site, steps))
 }
 
 // A part of a variable gets the words of temps from h on.
 fn land_part(
     program: &Program,
-    frame: Frame,
+    frame: &Frame,
     site: SiteId,
     steps: &[Step],
     at: u16,
     h: u16,
 ) -> Instr
-    requires temp { h ≤ frame.temps }
-    requires address { at + steps_far (these_steps steps.now) ≤ frame.temps }
-    requires place { PlaceFits (slots_in program.now frame) frame.sites (local site.0 (these_steps steps.now)) }
-    requires frame { IsSmall program.now frame }
-    ensures { result ≡ part_landed (slots_in program.now frame) site.0 (these_steps steps.now) (steps_far (these_steps steps.now)) at h }
+    requires temp { h ≤ frame.now.temps }
+    requires address { at + steps_far (these_steps steps.now) ≤ frame.now.temps }
+    requires place { PlaceFits (slots_in program.now frame.now) frame.now.sites (local site.0 (these_steps steps.now)) }
+    requires frame { IsLaid program.now frame.now }
+    ensures { result ≡ part_landed (slots_in program.now frame.now) site.0 (these_steps steps.now) (steps_far (these_steps steps.now)) at h }
 {
-    let id = site_type(program, site);
-    let n = program.types.width(end_type(program, id, steps)) as u16;
-    let c = frame.temp(h);
+    let (n, c) = (part_words(program, frame, site, steps), frame.temp(h));
     if is_far(steps) {
-        let (a, off) = (frame.temp(at), far_offset(program, id, steps));
+        let off = behind_address(program, frame, site, steps);
+        let a = frame.temp(at);
         return Instr::Store { a, off, c, n };
     }
-    let a = frame.of_site(program, site) + near_offset(program, id, steps);
-    moves(n, a, c)
+    moves(n, part_slot(program, frame, site, steps), c)
 }
 
 /// The words of a place go to temps from h on; its address, if there is one, is in temp `at`.
@@ -243,16 +239,16 @@ fn land_part(
 pub fn emit_fetch(
     code: &mut Vec<Instr>,
     program: &Program,
-    frame: Frame,
+    frame: &Frame,
     place: &Place,
     at: u16,
     h: u16,
 ) -> Result<(), NoMemory>
-    requires temp { h ≤ frame.temps }
-    requires address { AddressFits frame.temps at (place_of place.now) }
-    requires place { PlaceFits (slots_in program.now frame) frame.sites (place_of place.now) }
-    requires frame { IsSmall program.now frame }
-    ensures { OnOk result (code.new.items ≡ code.old.items ++ fetch_code (slots_in program.now frame) (place_of place.now) at h ∷ []) }
+    requires temp { h ≤ frame.now.temps }
+    requires address { AddressFits frame.now.temps at (place_of place.now) }
+    requires place { PlaceFits (slots_in program.now frame.now) frame.now.sites (place_of place.now) }
+    requires frame { IsLaid program.now frame.now }
+    ensures { OnOk result (code.new.items ≡ code.old.items ++ fetch_code (slots_in program.now frame.now) (place_of place.now) at h ∷ []) }
 {
     match place {
         Place::Local(site, steps) => put(code, fetch_part(program, frame, *site, steps, at, h)),
@@ -268,16 +264,16 @@ pub fn emit_fetch(
 pub fn emit_land(
     code: &mut Vec<Instr>,
     program: &Program,
-    frame: Frame,
+    frame: &Frame,
     place: &Place,
     at: u16,
     h: u16,
 ) -> Result<(), NoMemory>
-    requires temp { h ≤ frame.temps }
-    requires address { AddressFits frame.temps at (place_of place.now) }
-    requires place { PlaceFits (slots_in program.now frame) frame.sites (place_of place.now) }
-    requires frame { IsSmall program.now frame }
-    ensures { OnOk result (code.new.items ≡ code.old.items ++ land_code (slots_in program.now frame) (place_of place.now) at h ∷ []) }
+    requires temp { h ≤ frame.now.temps }
+    requires address { AddressFits frame.now.temps at (place_of place.now) }
+    requires place { PlaceFits (slots_in program.now frame.now) frame.now.sites (place_of place.now) }
+    requires frame { IsLaid program.now frame.now }
+    ensures { OnOk result (code.new.items ≡ code.old.items ++ land_code (slots_in program.now frame.now) (place_of place.now) at h ∷ []) }
 {
     match place {
         Place::Local(site, steps) => put(code, land_part(program, frame, *site, steps, at, h)),
@@ -292,17 +288,17 @@ pub fn emit_land(
 pub fn emit_read(
     code: &mut Vec<Instr>,
     program: &Program,
-    frame: Frame,
+    frame: &Frame,
     place: &Place,
     at: u16,
     h: u16,
 ) -> Result<(), NoMemory>
-    requires temp { h + reached (slots_in program.now frame) (place_of place.now) ≤ frame.temps }
-    requires address { AddressFits frame.temps at (place_of place.now) }
-    requires operands { above_operands (place_of place.now) h ≤ frame.temps }
-    requires place { PlaceFits (slots_in program.now frame) frame.sites (place_of place.now) }
-    requires frame { IsSmall program.now frame }
-    ensures { OnOk result (code.new.items ≡ code.old.items ++ read_code (slots_in program.now frame) (place_of place.now) at h) }
+    requires temp { h + reached (slots_in program.now frame.now) (place_of place.now) ≤ frame.now.temps }
+    requires address { AddressFits frame.now.temps at (place_of place.now) }
+    requires operands { above_operands (place_of place.now) h ≤ frame.now.temps }
+    requires place { PlaceFits (slots_in program.now frame.now) frame.now.sites (place_of place.now) }
+    requires frame { IsLaid program.now frame.now }
+    ensures { OnOk result (code.new.items ≡ code.old.items ++ read_code (slots_in program.now frame.now) (place_of place.now) at h) }
 {
     emit_address(code, program, frame, place, h, at)?;
     emit_fetch(code, program, frame, place, at, h)?;
@@ -314,18 +310,18 @@ pub fn emit_read(
 pub fn emit_write(
     code: &mut Vec<Instr>,
     program: &Program,
-    frame: Frame,
+    frame: &Frame,
     place: &Place,
     first: u16,
     at: u16,
     h: u16,
 ) -> Result<(), NoMemory>
-    requires temp { h ≤ frame.temps }
-    requires address { AddressFits frame.temps at (place_of place.now) }
-    requires operands { above_operands (place_of place.now) first ≤ frame.temps }
-    requires place { PlaceFits (slots_in program.now frame) frame.sites (place_of place.now) }
-    requires frame { IsSmall program.now frame }
-    ensures { OnOk result (code.new.items ≡ code.old.items ++ write_code (slots_in program.now frame) (place_of place.now) first at h) }
+    requires temp { h ≤ frame.now.temps }
+    requires address { AddressFits frame.now.temps at (place_of place.now) }
+    requires operands { above_operands (place_of place.now) first ≤ frame.now.temps }
+    requires place { PlaceFits (slots_in program.now frame.now) frame.now.sites (place_of place.now) }
+    requires frame { IsLaid program.now frame.now }
+    ensures { OnOk result (code.new.items ≡ code.old.items ++ write_code (slots_in program.now frame.now) (place_of place.now) first at h) }
 {
     emit_address(code, program, frame, place, first, at)?;
     emit_land(code, program, frame, place, at, h)?;

@@ -4,7 +4,7 @@ ghost use Rattle.isa.specs.declared.instr.Instr.{Instr};
 ghost use Rattle.typed_syntax.specs.Types.{width};
 ghost use Rattle.typed_syntax.specs.Syntax.{type_named};
 ghost use Rattle.typed.specs.View.{elements_of, ex_of, exs_of, exs_of_values, place_of, program_of, steps_of as these_steps, value_of};
-ghost use Rattle.expression_code.specs.Frame.{slots_in, IsSmall};
+ghost use Rattle.expression_code.specs.Frame.{slots_in, IsLaid};
 ghost use Rattle.expression_code.specs.Temps.{CallFits, ElementsFitIn, Fits, ExsFitIn, OperandsFit, StepsFitIn};
 ghost use Rattle.program_code.specs.Code.{binary_code as code_of_binary, call_code, elements_code, ex_code, exs_code, place_code, steps_code, operation as operation_of, size, temp, unary_code, word_of};
 
@@ -82,13 +82,13 @@ fn unary(op: UnOp, a: u16) -> Instr
 fn emit_call(
     code: &mut Vec<Instr>,
     program: &Program,
-    frame: Frame,
+    frame: &Frame,
     f: FuncId,
     h: u16,
 ) -> Result<(), NoMemory>
-    requires fits { CallFits (program_of program.now) (slots_in program.now frame) frame.sites h f.0 }
-    requires frame { IsSmall program.now frame }
-    ensures { OnOk result (code.new.items ≡ code.old.items ++ call_code (program_of program.now) (slots_in program.now frame) f.0 h) }
+    requires fits { CallFits (program_of program.now) (slots_in program.now frame.now) frame.now.sites h f.0 }
+    requires frame { IsLaid program.now frame.now }
+    ensures { OnOk result (code.new.items ≡ code.old.items ++ call_code (program_of program.now) (slots_in program.now frame.now) f.0 h) }
 {
     let arguments = arguments_of(program, f)? as u16;
     let results = results_of(program, f)? as u16;
@@ -103,14 +103,14 @@ fn emit_call(
 fn pass_both(
     code: &mut Vec<Instr>,
     program: &Program,
-    frame: Frame,
+    frame: &Frame,
     second: &Expr,
     h: u16,
 ) -> Result<(), NoMemory>
-    requires temp { h ≤ frame.temps }
-    requires frame { IsSmall program.now frame }
+    requires temp { h ≤ frame.now.temps }
+    requires frame { IsLaid program.now frame.now }
     ensures { OnOk result (code.new.items ≡ code.old.items
-        ++ Instr.JumpZero (temp (slots_in program.now frame) h) (length code.old.items + 1 + size (program_of program.now) (ex_of second.now)) ∷ []) }
+        ++ Instr.JumpZero (temp (slots_in program.now frame.now) h) (length code.old.items + 1 + size (program_of program.now) (ex_of second.now)) ∷ []) }
 {
     let len = expr_len(program, second)?;
     jump_if_zero(code, frame.temp(h), 1, len)?;
@@ -121,14 +121,14 @@ fn pass_both(
 fn pass_either(
     code: &mut Vec<Instr>,
     program: &Program,
-    frame: Frame,
+    frame: &Frame,
     second: &Expr,
     h: u16,
 ) -> Result<(), NoMemory>
-    requires temp { h ≤ frame.temps }
-    requires frame { IsSmall program.now frame }
+    requires temp { h ≤ frame.now.temps }
+    requires frame { IsLaid program.now frame.now }
     ensures { OnOk result (code.new.items ≡ code.old.items
-        ++ Instr.JumpZero (temp (slots_in program.now frame) h) (length code.old.items + 2)
+        ++ Instr.JumpZero (temp (slots_in program.now frame.now) h) (length code.old.items + 2)
         ∷ Instr.Jump (length code.old.items + 2 + size (program_of program.now) (ex_of second.now)) ∷ []) }
 {
     let len = expr_len(program, second)?;
@@ -164,15 +164,15 @@ fn binary(op: BinOp, n: u16, a: u16, c: u16) -> Instr
 fn emit_binary(
     code: &mut Vec<Instr>,
     program: &Program,
-    frame: Frame,
+    frame: &Frame,
     op: BinOp,
     n: u16,
     h: u16,
 ) -> Result<(), NoMemory>
-    requires temp { h + n ≤ frame.temps }
-    requires frame { IsSmall program.now frame }
+    requires temp { h + n ≤ frame.now.temps }
+    requires frame { IsLaid program.now frame.now }
     ensures { OnOk result (code.new.items ≡ code.old.items
-        ++ code_of_binary op n (temp (slots_in program.now frame) h) (temp (slots_in program.now frame) (h + n)) ∷ []) }
+        ++ code_of_binary op n (temp (slots_in program.now frame.now) h) (temp (slots_in program.now frame.now) (h + n)) ∷ []) }
 {
     let (a, c) = (frame.temp(h), frame.temp(h + n));
     put(code, binary(op, n, a, c))?;
@@ -180,21 +180,20 @@ fn emit_binary(
 }
 
 /// The operation on temps h and h + 1, to temp h.
+#[tactic(auto, using(crate::proofs::Operators::binary_one))]
 pub fn emit_operation(
     code: &mut Vec<Instr>,
     program: &Program,
-    frame: Frame,
+    frame: &Frame,
     op: BinOp,
     h: u16,
 ) -> Result<(), NoMemory>
-    requires temp { h + 1 ≤ frame.temps }
-    requires frame { IsSmall program.now frame }
+    requires temp { h + 1 ≤ frame.now.temps }
+    requires frame { IsLaid program.now frame.now }
     ensures { OnOk result (code.new.items ≡ code.old.items
-        ++ Instr.Bin (operation_of op) (temp (slots_in program.now frame) h) (temp (slots_in program.now frame) h) (temp (slots_in program.now frame) (h + 1)) ∷ []) }
+        ++ Instr.Bin (operation_of op) (temp (slots_in program.now frame.now) h) (temp (slots_in program.now frame.now) h) (temp (slots_in program.now frame.now) (h + 1)) ∷ []) }
 {
-    let (op, a, c) = (operation(op), frame.temp(h), frame.temp(h + 1));
-    put(code, Instr::Bin { op, a, b: a, c })?;
-    Ok(())
+    emit_binary(code, program, frame, op, 1, h)
 }
 
 /// The value lands in temps from h on.
@@ -203,13 +202,13 @@ pub fn emit_operation(
 pub fn emit_expr(
     code: &mut Vec<Instr>,
     program: &Program,
-    frame: Frame,
+    frame: &Frame,
     e: &Expr,
     h: u16,
 ) -> Result<(), NoMemory>
-    requires fits { Fits (program_of program.now) (slots_in program.now frame) frame.sites h (ex_of e.now) }
-    requires frame { IsSmall program.now frame }
-    ensures { OnOk result (code.new.items ≡ code.old.items ++ ex_code (program_of program.now) (slots_in program.now frame) (ex_of e.now) h (length code.old.items)) }
+    requires fits { Fits (program_of program.now) (slots_in program.now frame.now) frame.now.sites h (ex_of e.now) }
+    requires frame { IsLaid program.now frame.now }
+    ensures { OnOk result (code.new.items ≡ code.old.items ++ ex_code (program_of program.now) (slots_in program.now frame.now) (ex_of e.now) h (length code.old.items)) }
 {
     match e {
         Expr::Constant(c) => {
@@ -275,13 +274,13 @@ pub fn emit_expr(
 pub fn emit_place(
     code: &mut Vec<Instr>,
     program: &Program,
-    frame: Frame,
+    frame: &Frame,
     place: &Place,
     h: u16,
 ) -> Result<(), NoMemory>
-    requires fits { OperandsFit (program_of program.now) (slots_in program.now frame) frame.sites h (place_of place.now) }
-    requires frame { IsSmall program.now frame }
-    ensures { OnOk result (code.new.items ≡ code.old.items ++ place_code (program_of program.now) (slots_in program.now frame) (place_of place.now) h (length code.old.items)) }
+    requires fits { OperandsFit (program_of program.now) (slots_in program.now frame.now) frame.now.sites h (place_of place.now) }
+    requires frame { IsLaid program.now frame.now }
+    ensures { OnOk result (code.new.items ≡ code.old.items ++ place_code (program_of program.now) (slots_in program.now frame.now) (place_of place.now) h (length code.old.items)) }
 {
     match place {
         Place::Local(_, steps) => emit_steps(code, program, frame, steps, h)?,
@@ -295,13 +294,13 @@ pub fn emit_place(
 fn emit_steps(
     code: &mut Vec<Instr>,
     program: &Program,
-    frame: Frame,
+    frame: &Frame,
     steps: &[Step],
     h: u16,
 ) -> Result<(), NoMemory>
-    requires fits { StepsFitIn (program_of program.now) (slots_in program.now frame) frame.sites h (these_steps steps.now) }
-    requires frame { IsSmall program.now frame }
-    ensures { OnOk result (code.new.items ≡ code.old.items ++ steps_code (program_of program.now) (slots_in program.now frame) (these_steps steps.now) h (length code.old.items)) }
+    requires fits { StepsFitIn (program_of program.now) (slots_in program.now frame.now) frame.now.sites h (these_steps steps.now) }
+    requires frame { IsLaid program.now frame.now }
+    ensures { OnOk result (code.new.items ≡ code.old.items ++ steps_code (program_of program.now) (slots_in program.now frame.now) (these_steps steps.now) h (length code.old.items)) }
 {
     let mut next = h;
     for step in steps {
@@ -321,15 +320,15 @@ fn emit_steps(
 fn emit_ordered(
     code: &mut Vec<Instr>,
     program: &Program,
-    frame: Frame,
+    frame: &Frame,
     id: TypeId,
     es: &[Element],
     h: u16,
 ) -> Result<(), NoMemory>
-    requires fits { ElementsFitIn (program_of program.now) (slots_in program.now frame) frame.sites h (type_named (program_of program.now) id.0) true (elements_of es.now) }
-    requires frame { IsSmall program.now frame }
+    requires fits { ElementsFitIn (program_of program.now) (slots_in program.now frame.now) frame.now.sites h (type_named (program_of program.now) id.0) true (elements_of es.now) }
+    requires frame { IsLaid program.now frame.now }
     ensures { OnOk result (code.new.items ≡ code.old.items
-        ++ elements_code (program_of program.now) (slots_in program.now frame) (type_named (program_of program.now) id.0) true (elements_of es.now) h (length code.old.items)) }
+        ++ elements_code (program_of program.now) (slots_in program.now frame.now) (type_named (program_of program.now) id.0) true (elements_of es.now) h (length code.old.items)) }
 {
     for (i, element) in es.iter().enumerate() {
         match element {
@@ -348,16 +347,16 @@ fn emit_ordered(
 fn emit_moved(
     code: &mut Vec<Instr>,
     program: &Program,
-    frame: Frame,
+    frame: &Frame,
     id: TypeId,
     es: &[Element],
     h: u16,
 ) -> Result<(), NoMemory>
-    requires room { h + width (type_named (program_of program.now) id.0) ≤ frame.temps }
-    requires fits { ElementsFitIn (program_of program.now) (slots_in program.now frame) frame.sites h (type_named (program_of program.now) id.0) false (elements_of es.now) }
-    requires frame { IsSmall program.now frame }
+    requires room { h + width (type_named (program_of program.now) id.0) ≤ frame.now.temps }
+    requires fits { ElementsFitIn (program_of program.now) (slots_in program.now frame.now) frame.now.sites h (type_named (program_of program.now) id.0) false (elements_of es.now) }
+    requires frame { IsLaid program.now frame.now }
     ensures { OnOk result (code.new.items ≡ code.old.items
-        ++ elements_code (program_of program.now) (slots_in program.now frame) (type_named (program_of program.now) id.0) false (elements_of es.now) h (length code.old.items)) }
+        ++ elements_code (program_of program.now) (slots_in program.now frame.now) (type_named (program_of program.now) id.0) false (elements_of es.now) h (length code.old.items)) }
 {
     let behind = h + program.types.width(id) as u16;
     for element in es {
@@ -377,13 +376,13 @@ fn emit_moved(
 pub fn emit_values(
     code: &mut Vec<Instr>,
     program: &Program,
-    frame: Frame,
+    frame: &Frame,
     values: &Values,
     h: u16,
 ) -> Result<(), NoMemory>
-    requires fits { ExsFitIn (program_of program.now) (slots_in program.now frame) frame.sites h (exs_of_values values.now) }
-    requires frame { IsSmall program.now frame }
-    ensures { OnOk result (code.new.items ≡ code.old.items ++ exs_code (program_of program.now) (slots_in program.now frame) (exs_of_values values.now) h (length code.old.items)) }
+    requires fits { ExsFitIn (program_of program.now) (slots_in program.now frame.now) frame.now.sites h (exs_of_values values.now) }
+    requires frame { IsLaid program.now frame.now }
+    ensures { OnOk result (code.new.items ≡ code.old.items ++ exs_code (program_of program.now) (slots_in program.now frame.now) (exs_of_values values.now) h (length code.old.items)) }
 {
     match values {
         Values::Each(es) => emit_row(code, program, frame, es, h)?,
@@ -405,13 +404,13 @@ pub fn emit_values(
 fn emit_row(
     code: &mut Vec<Instr>,
     program: &Program,
-    frame: Frame,
+    frame: &Frame,
     es: &[Expr],
     h: u16,
 ) -> Result<(), NoMemory>
-    requires fits { ExsFitIn (program_of program.now) (slots_in program.now frame) frame.sites h (exs_of es.now) }
-    requires frame { IsSmall program.now frame }
-    ensures { OnOk result (code.new.items ≡ code.old.items ++ exs_code (program_of program.now) (slots_in program.now frame) (exs_of es.now) h (length code.old.items)) }
+    requires fits { ExsFitIn (program_of program.now) (slots_in program.now frame.now) frame.now.sites h (exs_of es.now) }
+    requires frame { IsLaid program.now frame.now }
+    ensures { OnOk result (code.new.items ≡ code.old.items ++ exs_code (program_of program.now) (slots_in program.now frame.now) (exs_of es.now) h (length code.old.items)) }
 {
     let mut next = h;
     for e in es {

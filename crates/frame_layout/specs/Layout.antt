@@ -1,8 +1,8 @@
 -- The words of each frame, and what a layout is refused for.
-use Rattle.std.specs.Prelude.{◌≡◌, ℕ, nat_lt, if◌then◌else◌, List, [], ◌∷◌, Option, Some, None, map}
+use Rattle.std.specs.Prelude.{◌≡◌, ℕ, zero, suc, ◌+◌, nat_lt, if◌then◌else◌, List, [], ◌∷◌, get_or, Option, Some, None, map}
 use Rattle.base.specs.declared.pos.Pos.{Pos}
 use Rattle.base.specs.declared.ids.TypeId.{TypeId}
-use Rattle.typed_syntax.specs.Types.{TypeTree, ints}
+use Rattle.typed_syntax.specs.Types.{TypeTree, ints, width}
 use Rattle.typed_syntax.specs.Syntax.{Func, Program, type_named}
 use Rattle.typed.specs.View.{func_of}
 use Rattle.typed_syntax.specs.Frames.{outgoing_of, temps_of, frame_of}
@@ -15,6 +15,11 @@ use Rattle.frame_layout.specs.declared.fault.LayoutFault.TheVariants as fault
 abbrev pub type_or_ints : Program → Option TypeId → TypeTree
 type_or_ints p None = ints
 type_or_ints p (Some id) = type_named p id.0
+
+-- the words before each of `count` sites from one on, where `before` words stand before the first
+abbrev pub starts : List TypeTree → (from before count : ℕ) → List ℕ
+starts sites from before zero = []
+starts sites from before (suc n) = before ∷ starts sites (suc from) (before + width (get_or sites from ints)) n
 
 abbrev pub layout_in : Program → Func → FrameLayout
 layout_in p f = record { outgoing = outgoing_of p f; temps = temps_of p f; frame = frame_of p f }

@@ -7,9 +7,10 @@ ghost use Rattle.typed_syntax.specs.Frames.{element_words as words_of_elements, 
 ghost use Rattle.typed_syntax.specs.Syntax.{all_width, all_wide, arguments_of as arguments, global_site, path_of, place_type, place_width, results_of as results, site_type, site_width, type_in, type_named, wide};
 ghost use Rattle.typed.specs.View.{ex_of, exs_of, exs_of_values, place_of, program_of, site_numbers, steps_of};
 ghost use Rattle.typed.specs.Trees.{trees};
-ghost use Rattle.frame_layout.specs.Layout.{type_or_ints};
+ghost use Rattle.frame_layout.specs.Layout.{type_or_ints, starts as starts_of};
 
 use base::{FuncId, NoMemory, SiteId, TypeId};
+use std::alloc::Global;
 use typed::{Expr, Place, Program, Step, Values};
 
 /// The words of a value of a type.
@@ -201,12 +202,23 @@ pub fn sites_words(program: &Program, first: u32, count: u32) -> u64
     words
 }
 
-/// The words of the sites from one on that stand before another.
-pub fn words_before(program: &Program, first: u32, site: SiteId) -> u64
-    requires { first ≤ site.0 }
-    ensures { result ≡ words_between (program_of program.now).sites first (site.0 - first) }
+/// The words before each of `count` sites from `first` on.
+pub fn site_starts(
+    alloc: Global,
+    program: &Program,
+    first: u32,
+    count: u32,
+) -> Result<Vec<u16>, NoMemory>
+    requires { words_between (program_of program.now).sites first count ≤ 65535 }
+    ensures { IfOk result (λ starts. starts.items ≡ starts_of (program_of program.now).sites first 0 count) }
 {
-    sites_words(program, first, site.0 - first)
+    let mut starts = Vec::new(alloc);
+    let mut words: u16 = 0;
+    for i in 0..count {
+        starts.push(words)?;
+        words += words_at(program, first as usize + i as usize) as u16;
+    }
+    Ok(starts)
 }
 
 /// The words of the widest of some sites.

@@ -30,5 +30,5 @@ emit_left-requires-clause-operands c =
 
 pub returns : goal.returns
 returns c =
-    pair_emitted (program_of c.args.program.now) (slots_in c.args.program.now c.args.frame) c.args.code.now.items _ _ _ _ _ c.args.site.0 c.args.count (left_of c.args.key.now) (left_of c.args.value.now) c.args.h _ _ _
+    pair_emitted (program_of c.args.program.now) (slots_in c.args.program.now c.args.frame.now) c.args.code.now.items _ _ _ _ _ c.args.site.0 c.args.count (left_of c.args.key.now) (left_of c.args.value.now) c.args.h _ _ _
     c.above_left-second.ensures c.above_left-v.ensures (ap (λ n. c.above_left-v.result + 1 + n) c.element_words.ensures) c.in_ok-ready_left.ensures c.in_ok-ready_left-2.ensures c.in_ok-emit_element.ensures c.in_ok-emit_left.ensures c.in_ok-emit_left-2.ensures

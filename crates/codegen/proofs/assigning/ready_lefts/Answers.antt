@@ -11,9 +11,9 @@ above_left-next-requires c =
 
 pub loop-left-preserved : goal.loop-left-preserved
 loop-left-preserved c =
-    let p = program_of c.args.program.now in let slots = slots_in c.args.program.now c.args.frame in let ls = c.args.ls.now in let i = c.loop-left.left-index in let x = c.left-item.result in
+    let p = program_of c.args.program.now in let slots = slots_in c.args.program.now c.args.frame.now in let ls = c.args.ls.now in let i = c.loop-left.left-index in let x = c.left-item.result in
     let l = c.loop-left-test.true in let is = c.left-item.is in let h = c.loop-left.next in let above = c.above_left-next.ensures in let inv = c.loop-left.invariant in (
       left_ready p slots _ _ _ ls i x h _ l is above inv.0 c.in_ok-ready_left.ensures,
-      (ready_split p slots c.args.frame.sites ls i x h _ l is above inv.1).1,
+      (ready_split p slots c.args.frame.now.sites ls i x h _ l is above inv.1).1,
       (let e = above_next ls i x h _ l is above in let room = inv.2 in omega (arith, e, room)),
     )

@@ -2,21 +2,21 @@ use Rattle.std.proofs.Common.{◌≡◌, ◌+◌, ◌++◌, length, ap, ◌∙�
 use Rattle.typed.proofs.Rows.{stmt_rows}
 use Rattle.typed_syntax.specs.Syntax.{blank, over_copy, over_int, over_length, if_stmt, for_stmt, range, argument_words, result_words}
 use Rattle.typed.specs.View.{ex_of, left_of, program_of, site_numbers, st_of, sts_of, test_of}
-use Rattle.program_code.specs.Code.{element_round_size, index_round_size, renew_code, renew_size, sts_code, sts_size, test_size}
+use Rattle.program_code.specs.Code.{element_round_size, renew_code, renew_size, st_code, sts_code, sts_size, test_size}
 use Rattle.expression_code.specs.Frame.{func_in, slots_in}
 use Rattle.codegen.proofs.Emitted.{next_emitted, next_fits, if_emitted, loop_emitted, count_emitted, indices_emitted, elements_emitted}
 use Rattle.codegen.proofs.emitting.+emit.Goals as goal
 
 pub emit_stmts-loop-s-preserved : goal.emit_stmts-loop-s-preserved
 emit_stmts-loop-s-preserved t c =
-    let p = program_of c.args.program.now in let f = func_in c.args.program.now c.args.func.now in let slots = slots_in c.args.program.now c.args.frame in let g = c.args.goals in (
+    let p = program_of c.args.program.now in let f = func_in c.args.program.now c.args.func.now in let slots = slots_in c.args.program.now c.args.frame.now in let g = c.args.goals in (
       next_emitted p (argument_words f) f.named slots _ _ _ c.args.ss.now c.loop-s.s-index c.s-item.result c.args.h g.out g.again c.loop-s-test.true c.s-item.is c.loop-s.invariant.0 c.in_ok-emit_stmt.ensures,
-      next_fits p (argument_words f) f.named slots c.args.frame.sites (result_words f) c.args.h c.args.ss.now c.loop-s.s-index c.s-item.result c.loop-s-test.true c.s-item.is c.loop-s.invariant.1,
+      next_fits p (argument_words f) f.named slots c.args.frame.now.sites (result_words f) c.args.h c.args.ss.now c.loop-s.s-index c.s-item.result c.loop-s-test.true c.s-item.is c.loop-s.invariant.1,
     )
 
 pub emit_stmt-returns-in_ok-emit_stmts-in-If-2 : goal.emit_stmt-returns-in_ok-emit_stmts-in-If-2
 emit_stmt-returns-in_ok-emit_stmts-in-If-2 t c =
-    let p = program_of c.args.program.now in let f = func_in c.args.program.now c.args.func.now in let slots = slots_in c.args.program.now c.args.frame in let h = c.args.h in let out = c.args.goals.out in let again = c.args.goals.again in
+    let p = program_of c.args.program.now in let f = func_in c.args.program.now c.args.func.now in let slots = slots_in c.args.program.now c.args.frame.now in let h = c.args.h in let out = c.args.goals.out in let again = c.args.goals.again in
     let v = c.in-If in
     let shape : st_of c.args.s.now ≡ if_stmt (ex_of v.e) (sts_of v.a.items) (sts_of v.b.items) = grind (arith, stmt_rows) in
     rw shape (if_emitted p (argument_words f) f.named slots c.args.code.now.items _ _ _ _ _ (ex_of v.e) (sts_of v.a.items) (sts_of v.b.items) _ _ h out again
@@ -28,7 +28,7 @@ emit_stmt-returns-in_ok-emit_stmts-in-If-2 t c =
 
 pub emit_stmt-returns-in_ok-put-in-For : goal.emit_stmt-returns-in_ok-put-in-For
 emit_stmt-returns-in_ok-put-in-For t c =
-    let p = program_of c.args.program.now in let f = func_in c.args.program.now c.args.func.now in let slots = slots_in c.args.program.now c.args.frame in let h = c.args.h in
+    let p = program_of c.args.program.now in let f = func_in c.args.program.now c.args.func.now in let slots = slots_in c.args.program.now c.args.frame.now in let h = c.args.h in
     let v = c.in-For in let g = c.in_ok-inner-in-For.inner in
     let shape : st_of c.args.s.now ≡ for_stmt (site_numbers v.sites.items) (test_of v.test) (sts_of v.post.items) (sts_of v.body.items) = grind (arith, stmt_rows) in
     let start : c.in_ok-start.start ≡ length c.args.code.now.items = omega (arith, c.in_ok-start.ensures) in
@@ -42,40 +42,41 @@ emit_stmt-returns-in_ok-put-in-For t c =
     (c.in_ok-emit_stmts-in-For-2.ensures ∙ ap (λ x. c.emit_renewal.new.code.items ++ sts_code p (argument_words f) f.named slots (sts_of x) h g.out g.again (length c.emit_renewal.new.code.items)) c.deref-in-For-6.ensures.value)
     c.in_ok-put-in-For.ensures)
 
-pub emit_stmt-returns-in_ok-emit_count_turn-in-Count : goal.emit_stmt-returns-in_ok-emit_count_turn-in-Count
-emit_stmt-returns-in_ok-emit_count_turn-in-Count t c =
-    let p = program_of c.args.program.now in let f = func_in c.args.program.now c.args.func.now in let slots = slots_in c.args.program.now c.args.frame in let h = c.args.h in
-    let v = c.in-Count in let g = c.in_ok-inner-in-Count.inner in
+pub emit_count-returns : goal.emit_count-returns
+emit_count-returns t c =
+    let p = program_of c.args.program.now in let f = func_in c.args.program.now c.args.func.now in let slots = slots_in c.args.program.now c.args.frame.now in let g = c.in_ok-inner.inner in
+    let start : c.in_ok-start.start ≡ length c.args.code.now.items = omega (arith, c.in_ok-start.ensures) in
+    count_emitted p (argument_words f) f.named slots c.args.code.now.items _ _ _ _ _ (ex_of c.args.e.now) (left_of c.args.key.now) blank (sts_of c.args.body.now) _ _ g.again g.out c.args.h 0 0 start
+    c.in_ok-test.ensures c.in_ok-inner.ensures.again c.in_ok-inner.ensures.out
+    c.in_ok-emit_count_start.ensures c.in_ok-emit_count_test.ensures c.in_ok-emit_key.ensures c.in_ok-emit_stmts.ensures c.in_ok-emit_turn.ensures
+
+pub emit_indices-returns : goal.emit_indices-returns
+emit_indices-returns t c =
+    let p = program_of c.args.program.now in let f = func_in c.args.program.now c.args.func.now in let slots = slots_in c.args.program.now c.args.frame.now in let g = c.in_ok-inner.inner in
+    let start : c.in_ok-start.start ≡ length c.args.code.now.items = omega (arith, c.in_ok-start.ensures) in
+    indices_emitted p (argument_words f) f.named slots c.args.code.now.items _ _ _ _ (left_of c.args.key.now) blank (sts_of c.args.body.now) c.args.count c.in_ok-start.start _ g.again g.out c.args.h 0 0 start
+    c.in_ok-plus.ensures
+    (c.in_ok-inner.ensures.again ∙ ap (λ n. c.in_ok-start.start + 4 + n + sts_size p (argument_words f) f.named (sts_of c.args.body.now)) c.in_ok-key_len.ensures)
+    c.in_ok-inner.ensures.out
+    c.in_ok-emit_array_start.ensures c.in_ok-emit_key.ensures c.in_ok-emit_stmts.ensures c.in_ok-emit_turn.ensures
+
+pub emit_stmt-returns-in_ok-emit_count-in-Count : goal.emit_stmt-returns-in_ok-emit_count-in-Count
+emit_stmt-returns-in_ok-emit_count-in-Count t c =
+    let p = program_of c.args.program.now in let f = func_in c.args.program.now c.args.func.now in let slots = slots_in c.args.program.now c.args.frame.now in let v = c.in-Count in
     let shape : st_of c.args.s.now ≡ range (over_int (ex_of v.e)) (left_of v.key) blank (sts_of v.body.items) = grind (arith, stmt_rows) in
-    let start : c.in_ok-start.start ≡ length c.args.code.now.items = omega (arith, c.in_ok-start.ensures) in
-    rw shape (count_emitted p (argument_words f) f.named slots c.args.code.now.items _ _ _ _ _ (ex_of v.e) (left_of v.key) blank (sts_of v.body.items) _ _ g.again g.out h c.args.goals.out c.args.goals.again start
-    c.in_ok-test-in-Count.ensures
-    (c.in_ok-inner-in-Count.ensures.again ∙ ap (λ x. c.in_ok-test-in-Count.test + 2 + index_round_size p (left_of v.key) + sts_size p (argument_words f) f.named (sts_of x)) c.deref-in-Count.ensures.value)
-    c.in_ok-inner-in-Count.ensures.out
-    c.in_ok-emit_count_start-in-Count.ensures c.in_ok-emit_count_test-in-Count.ensures c.in_ok-emit_key-in-Count.ensures
-    (c.in_ok-emit_stmts-in-Count.ensures ∙ ap (λ x. c.emit_key.new.code.items ++ sts_code p (argument_words f) f.named slots (sts_of x) (h + 2) g.out g.again (length c.emit_key.new.code.items)) c.deref-in-Count-2.ensures.value)
-    c.in_ok-emit_count_turn-in-Count.ensures)
+    rw shape (c.in_ok-emit_count-in-Count.ensures
+    ∙ ap (λ x. c.args.code.now.items ++ st_code p (argument_words f) f.named slots (range (over_int (ex_of v.e)) (left_of v.key) blank (sts_of x)) c.args.h 0 0 (length c.args.code.now.items)) c.deref-in-Count.ensures.value)
 
-pub emit_stmt-returns-in_ok-emit_array_turn-in-Indices : goal.emit_stmt-returns-in_ok-emit_array_turn-in-Indices
-emit_stmt-returns-in_ok-emit_array_turn-in-Indices t c =
-    let p = program_of c.args.program.now in let f = func_in c.args.program.now c.args.func.now in let slots = slots_in c.args.program.now c.args.frame in let h = c.args.h in
-    let v = c.in-Indices in let g = c.in_ok-inner-in-Indices.inner in
+pub emit_stmt-returns-in_ok-emit_indices-in-Indices : goal.emit_stmt-returns-in_ok-emit_indices-in-Indices
+emit_stmt-returns-in_ok-emit_indices-in-Indices t c =
+    let p = program_of c.args.program.now in let f = func_in c.args.program.now c.args.func.now in let slots = slots_in c.args.program.now c.args.frame.now in let v = c.in-Indices in
     let shape : st_of c.args.s.now ≡ range (over_length v.count) (left_of v.key) blank (sts_of v.body.items) = grind (arith, stmt_rows) in
-    let start : c.in_ok-start.start ≡ length c.args.code.now.items = omega (arith, c.in_ok-start.ensures) in
-    rw shape (indices_emitted p (argument_words f) f.named slots c.args.code.now.items _ _ _ _ (left_of v.key) blank (sts_of v.body.items) v.count c.in_ok-start.start _ g.again g.out h c.args.goals.out c.args.goals.again start
-    c.in_ok-plus-in-Indices.ensures
-    (c.in_ok-inner-in-Indices.ensures.again
-    ∙ ap (λ n. c.in_ok-start.start + 4 + n + sts_size p (argument_words f) f.named (sts_of c.deref-in-Indices.result.now)) c.in_ok-key_len-in-Indices.ensures
-    ∙ ap (λ x. c.in_ok-start.start + 4 + index_round_size p (left_of v.key) + sts_size p (argument_words f) f.named (sts_of x)) c.deref-in-Indices.ensures.value)
-    c.in_ok-inner-in-Indices.ensures.out
-    c.in_ok-emit_array_start-in-Indices.ensures c.in_ok-emit_key-in-Indices.ensures
-    (c.in_ok-emit_stmts-in-Indices.ensures
-    ∙ ap (λ x. c.emit_key-in-Indices.new.code.items ++ sts_code p (argument_words f) f.named slots (sts_of x) (h + 1) g.out g.again (length c.emit_key-in-Indices.new.code.items)) c.deref-in-Indices-2.ensures.value)
-    c.in_ok-emit_array_turn-in-Indices.ensures)
+    rw shape (c.in_ok-emit_indices-in-Indices.ensures
+    ∙ ap (λ x. c.args.code.now.items ++ st_code p (argument_words f) f.named slots (range (over_length v.count) (left_of v.key) blank (sts_of x)) c.args.h 0 0 (length c.args.code.now.items)) c.deref-in-Indices.ensures.value)
 
-pub emit_stmt-returns-in_ok-emit_array_turn-in-Elements : goal.emit_stmt-returns-in_ok-emit_array_turn-in-Elements
-emit_stmt-returns-in_ok-emit_array_turn-in-Elements t c =
-    let p = program_of c.args.program.now in let f = func_in c.args.program.now c.args.func.now in let slots = slots_in c.args.program.now c.args.frame in let h = c.args.h in
+pub emit_stmt-returns-in_ok-emit_turn-in-Elements : goal.emit_stmt-returns-in_ok-emit_turn-in-Elements
+emit_stmt-returns-in_ok-emit_turn-in-Elements t c =
+    let p = program_of c.args.program.now in let f = func_in c.args.program.now c.args.func.now in let slots = slots_in c.args.program.now c.args.frame.now in let h = c.args.h in
     let v = c.in-Elements in let g = c.in_ok-inner-in-Elements.inner in
     let shape : st_of c.args.s.now ≡ range (over_copy v.site.0 (ex_of v.e) v.count) (left_of v.key) (left_of v.value) (sts_of v.body.items) = grind (arith, stmt_rows) in
     let start : c.in_ok-start.start ≡ length c.args.code.now.items = omega (arith, c.in_ok-start.ensures) in
@@ -89,4 +90,4 @@ emit_stmt-returns-in_ok-emit_array_turn-in-Elements t c =
     c.in_ok-emit_copy-in-Elements.ensures c.in_ok-emit_array_start-in-Elements.ensures c.in_ok-emit_pair-in-Elements.ensures
     (c.in_ok-emit_stmts-in-Elements.ensures
     ∙ ap (λ x. c.emit_pair.new.code.items ++ sts_code p (argument_words f) f.named slots (sts_of x) (h + 1) g.out g.again (length c.emit_pair.new.code.items)) c.deref-in-Elements-2.ensures.value)
-    c.in_ok-emit_array_turn-in-Elements.ensures)
+    c.in_ok-emit_turn-in-Elements.ensures)

@@ -8,7 +8,7 @@ use Rattle.codegen.proofs.program.emit_func.Goals as goal
 
 pub returns : goal.returns
 returns c =
-    let p = program_of c.args.program.now in let f = func_in c.args.program.now c.args.func.now in let slots = slots_in c.args.program.now c.args.frame in
+    let p = program_of c.args.program.now in let f = func_in c.args.program.now c.args.func.now in let slots = slots_in c.args.program.now c.args.frame.now in
     let e1 : c.emit_params.new.code.items ≡ c.args.code.now.items ++ params_code slots (each_width f.param_types) f.params 0 = search rules in
     let e2 : c.emit_zeros.new.code.items ≡ c.emit_params.new.code.items ++ zeros_code slots f.named = search rules in
     let e3 : c.emit_stmts.new.code.items ≡ c.emit_zeros.new.code.items ++ sts_code p (argument_words f) f.named slots f.body 0 0 0 (length c.emit_zeros.new.code.items) = search rules in

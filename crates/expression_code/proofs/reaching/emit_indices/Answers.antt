@@ -33,7 +33,7 @@ overflow_add-next c =
 
 pub loop-step-preserved : goal.loop-step-preserved
 loop-step-preserved c =
-    let p = program_of c.args.program.now in let slots = slots_in c.args.program.now c.args.frame in let steps = c.args.steps.now in let i = c.loop-step.step-index in let x = c.step-item.result in
+    let p = program_of c.args.program.now in let slots = slots_in c.args.program.now c.args.frame.now in let steps = c.args.steps.now in let i = c.loop-step.step-index in let x = c.step-item.result in
     let t = type_named p c.loop-step.part.0 in let u = type_named p c.part-part.result.0 in let first = c.loop-step.next in
     let l = c.loop-step-test.true in let is = c.step-item.is in let inv = c.loop-step.invariant in
     let leads : u ≡ part_type t (part_number x) = c.part-part.ensures ∙ ap (part_type t) c.part_number.ensures in

@@ -12,7 +12,7 @@ use Rattle.expression_code.proofs.reaching.emit_part_address.Goals as goal
 
 pub loop-i-preserved : goal.loop-i-preserved
 loop-i-preserved c =
-    let p = program_of c.args.program.now in let slots = slots_in c.args.program.now c.args.frame in let steps = c.args.steps.now in let i = c.loop-i.i in let x = c.index-steps-i.result in
+    let p = program_of c.args.program.now in let slots = slots_in c.args.program.now c.args.frame.now in let steps = c.args.steps.now in let i = c.loop-i.i in let x = c.index-steps-i.result in
     let t = type_named p c.loop-i.part.0 in let u = type_named p c.part-part.result.0 in let k = c.in-Inner.number in
     let l = c.loop-i-test.true in let is = c.index-steps-i.is in
     let leads = c.part-part.ensures in

@@ -1,12 +1,21 @@
-use Rattle.std.proofs.Common.{arith}
-use Rattle.expression_code.specs.Frame.{slots_in}
-use Rattle.expression_code.proofs.InSlots.{site_within}
+use Rattle.std.proofs.Common.{◌+◌, ◌-◌, ◌∙◌, ap, length, arith}
+use Rattle.expression_code.specs.Frame.{sites_in, slots_in}
+use Rattle.expression_code.proofs.InSlots.{site_within, start_is, starts_length}
 use Rattle.expression_code.proofs.slots.Frame.of_site.Goals as goal
 
-pub overflow_cast-result : goal.overflow_cast-result
-overflow_cast-result c =
-    let l = site_within (slots_in c.args.program.now c.args.self) c.args.self.sites c.args.site.0 c.requires.site in omega (arith, l, c.words_before.ensures)
+pub index-before-requires : goal.index-before-requires
+index-before-requires c =
+    let f = c.args.self.now in let fit = c.requires.site in
+    let count = ap length c.requires.frame.1 ∙ starts_length (sites_in c.args.program.now) f.first 0 f.sites in omega (arith, count, fit)
 
 pub overflow_add-result-2 : goal.overflow_add-result-2
 overflow_add-result-2 c =
-    let l = site_within (slots_in c.args.program.now c.args.self) c.args.self.sites c.args.site.0 c.requires.site in omega (arith, l, c.words_before.ensures)
+    let f = c.args.self.now in let fit = c.requires.site in
+    let found = start_is (sites_in c.args.program.now) f.first f.sites (c.args.site.0 - f.first) _ _ c.requires.frame.1 (omega (arith, fit)) c.index-before.ensures in
+    let own = site_within (slots_in c.args.program.now f) f.sites c.args.site.0 fit in omega (arith, found, own, c.requires.frame.0)
+
+pub returns : goal.returns
+returns c =
+    let f = c.args.self.now in let fit = c.requires.site in
+    let found = start_is (sites_in c.args.program.now) f.first f.sites (c.args.site.0 - f.first) _ _ c.requires.frame.1 (omega (arith, fit)) c.index-before.ensures in
+    ap (λ n. f.outgoing + f.temps + n) found
