@@ -1,5 +1,5 @@
 -- What a run of the machine and the theorem give together.
-use Rattle.std.proofs.Common.{◌≡◌, inl, inr, ℕ, zero, suc, ◌/◌, ◌^◌, ◌≤◌, length, List, [], ◌∷◌, ◌++◌, Option, Some, None, Bool, true, false, sym, refl, ap, ◌∙◌, subst, arith, append_assoc}
+use Rattle.std.proofs.Common.{◌≡◌, inl, inr, ℕ, zero, suc, ◌/◌, ◌^◌, ◌<◌, ◌≤◌, length, List, [], ◌∷◌, ◌++◌, Option, Some, None, Bool, true, false, sym, refl, ap, ◌∙◌, subst, arith, append_assoc}
 use Rattle.std.specs.Prelude.{◌≢◌, replicate, nat_le, if◌then◌else◌, slice_get, Result, Err}
 use Rattle.outside.specs.Pending.{Pending, to_come}
 use Rattle.outside.specs.Took.{Took, TookPrefix}
@@ -25,7 +25,7 @@ use Rattle.program_code.specs.Code.{code_of}
 use Rattle.program_code.proofs.Stands.{compiled}
 use Rattle.simulated_code.proofs.Follows.{simulated}
 use Rattle.simulated_code.specs.Correct.{same_event, same_fault, same_end, limits, first_words, target, entered, first_state, Simulated, AreNumbers}
-use Rattle.code_runs.specs.Runs.{asks_of, AsksFor, Ran, ReadBy, answer_to}
+use Rattle.code_runs.specs.Runs.{asks_of, AsksFor, PrintsInPart, Ran, ReadBy, answer_to}
 use Rattle.code_runs.specs.declared.running.RunFault.{RunFault}
 use Rattle.code_runs.specs.declared.running.RunFault.TheVariants as fault
 use Rattle.code_runs.proofs.Items.{reading_of, are_numbers, has_answers}
@@ -51,6 +51,9 @@ no_item e = cc
 printed_asked : (x : List ℕ) → Printed x ≡ Asked → ⊥
 printed_asked x e = cc
 
+piece_same : (x y : List ℕ) → Printed x ≡ Printed y → x ≡ y
+piece_same x y e = cc
+
 first_same : (x y : Event) (xs ys : List Event) → x ∷ xs ≡ y ∷ ys → x ≡ y
 first_same x y xs ys e = cc
 
@@ -64,6 +67,24 @@ asks_behind zero before (Gives asking o) a = inl a
 asks_behind (suc k) before (Gives asking o) a = inr (asks_behind k before o a)
 asks_behind k before (Ends e) a = a
 asks_behind k before Unfinished a = a
+
+-- what was taken of a piece and before it is a front of all output
+pub part_of_output : (k : ℕ) (text : List ℕ) (o : Outcome Sight Ending) → PrintsInPart k text o → (rest : List ℕ) × (text ++ rest ≡ output o)
+part_of_output k text (Gives (printing bytes) o) (inl cut) = (cut.1.0 ++ output o, sym (append_assoc text cut.1.0 (output o)) ∙ ap (λ l. l ++ output o) cut.1.1)
+part_of_output k text (Gives (printing bytes) o) (inr (front, e, later)) =
+    let r = part_of_output k front o later in (r.0, ap (λ l. l ++ r.0) e ∙ append_assoc bytes front r.0 ∙ ap (λ l. bytes ++ l) r.1)
+part_of_output zero text (Gives asking o) a = absurd a
+part_of_output (suc k) text (Gives asking o) a = part_of_output k text o a
+part_of_output k text (Ends e) a = absurd a
+part_of_output k text Unfinished a = absurd a
+
+pub asked_before : (k : ℕ) (text : List ℕ) (o : Outcome Sight Ending) → PrintsInPart k text o → k ≤ asks_of o
+asked_before k text (Gives (printing bytes) o) (inl cut) = let none = cut.0 in omega (arith, none)
+asked_before k text (Gives (printing bytes) o) (inr (front, e, later)) = asked_before k front o later
+asked_before zero text (Gives asking o) a = absurd a
+asked_before (suc k) text (Gives asking o) a = let r = asked_before k text o a in omega (arith, r)
+asked_before k text (Ends e) a = absurd a
+asked_before k text Unfinished a = absurd a
 
 module _ (strings : List (List ℕ)) where
   abbrev Within : Outcome Event Stop → Outcome Sight Ending → Type 0
@@ -115,6 +136,31 @@ module _ (strings : List (List ℕ)) where
       (asked_for before after p o b (rest_same y v (events_in p) (before ++ (Asked ∷ after)) h))
   asked_for before after (Gives y p) (Ends f) b h = absurd b
   asked_for before after (Gives y p) Unfinished b h = absurd b
+
+  -- a piece that a run prints is one that the source prints, after the same output and as many items
+  printed_in_part : (before after : List Event) (front rest : List ℕ) (p : Outcome Event Stop) (o : Outcome Sight Ending) → Within p o → events_in p ≡ before ++ (Printed (front ++ rest) ∷ after) → 0 < length rest
+      → PrintsInPart (asks_in before) (bytes_of before ++ front) o
+  printed_in_part [] after front rest Unfinished o b h short = absurd (no_item h)
+  printed_in_part (v ∷ before) after front rest Unfinished o b h short = absurd (no_item h)
+  printed_in_part [] after front rest (Ends e) o b h short = absurd (no_item h)
+  printed_in_part (v ∷ before) after front rest (Ends e) o b h short = absurd (no_item h)
+  printed_in_part [] after front rest (Gives y p) (Gives (printing x) o) (e, b) h short =
+      let same : x ≡ front ++ rest = piece_same x (front ++ rest) (sym e ∙ first_same y (Printed (front ++ rest)) (events_in p) after h) in
+      inl (refl, (rest, sym same, short))
+  printed_in_part (v ∷ before) after front rest (Gives y p) (Gives (printing x) o) (e, b) h short =
+      let later = before ++ (Printed (front ++ rest) ∷ after) in
+      let same : Printed x ≡ v = sym e ∙ first_same y v (events_in p) later h in
+      subst (λ (u : Event). PrintsInPart (asks_in (u ∷ before)) (bytes_of (u ∷ before) ++ front) (Gives (printing x) o)) same
+      (inr (bytes_of before ++ front, append_assoc x (bytes_of before) front, printed_in_part before after front rest p o b (rest_same y v (events_in p) later h) short))
+  printed_in_part [] after front rest (Gives y p) (Gives asking o) (e, b) h short =
+      absurd (printed_asked (front ++ rest) (sym (first_same y (Printed (front ++ rest)) (events_in p) after h) ∙ e))
+  printed_in_part (v ∷ before) after front rest (Gives y p) (Gives asking o) (e, b) h short =
+      let later = before ++ (Printed (front ++ rest) ∷ after) in
+      let same : Asked ≡ v = sym e ∙ first_same y v (events_in p) later h in
+      subst (λ (u : Event). PrintsInPart (asks_in (u ∷ before)) (bytes_of (u ∷ before) ++ front) (Gives asking o)) same
+      (printed_in_part before after front rest p o b (rest_same y v (events_in p) later h) short)
+  printed_in_part before after front rest (Gives y p) (Ends f) b h short = absurd b
+  printed_in_part before after front rest (Gives y p) Unfinished b h short = absurd b
 
   -- what has ended is all that the source shows
   record Met (y : Stop) (p : Outcome Event Stop) (o : Outcome Sight Ending) : Type 0 where
@@ -239,7 +285,13 @@ module _ (strings : List (List ℕ)) where
         (o.0, record { bytes = printed_by d; took = took; begins = (o.1.0, o.1.1 ∙ told); within = front }, omega (arith, least, told_asked, asked), within_asks (omega (arith, asked)))
     ran (Some ReadFault) a =
         (bytes_of a.before, subst (λ k. AsksFor k (bytes_of a.before) many_turns) a.asked (asked_for a.before a.after (shown_by d) many_turns high (events_shown d ∙ sym a.splits)), a.took)
-    ran (Some WriteFault) (t, rose, asked) = (widened t, rose, within_asks asked)
+    ran (Some WriteFault) (a, rose) = (
+      bytes_of a.before ++ a.front,
+      subst (λ k. PrintsInPart k (bytes_of a.before ++ a.front) many_turns) a.asked
+          (printed_in_part a.before a.after a.front a.rest (shown_by d) many_turns high (events_shown d ∙ sym a.splits) a.short),
+      a.took,
+      rose,
+    )
     ran (Some NoMemory) (t, asked) = (widened t, within_asks asked)
     ran (Some (Stopped n)) (stops, took, asked) =
         let m = ends (Stopped n) stops in (m.ended ∙ ap (λ x. Some x) (exit_is m.ending n m.alike), whole (Stopped n) m took, whole_asked (Stopped n) m asked)

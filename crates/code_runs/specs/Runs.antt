@@ -1,19 +1,20 @@
 -- How a run answered, against what the source shows.
-use Rattle.std.specs.Prelude.{◌≡◌, ◌≢◌, ℕ, zero, suc, ◌≤◌, List, [], ◌++◌, length, Option, Some, None, Result, Ok, Err}
+use Rattle.std.specs.Prelude.{◌≡◌, ◌≢◌, ◌⊎◌, ℕ, zero, suc, ◌/◌, ◌<◌, ◌≤◌, List, [], ◌++◌, length, Option, Some, None, Result, Ok, Err}
 use Rattle.outside.specs.Causes.{Rose}
 use Rattle.outside.specs.Took.{Took, TookPrefix}
 use Rattle.typed_syntax.specs.Positions.{Position}
+use Rattle.typed_syntax.specs.Syntax.{Program}
 use Rattle.typed.specs.declared.expr.Const.{Const}
 use Rattle.typed.specs.View.{value_of}
 use Rattle.meaning.specs.Trace.{Ending, Exit, Panic, StackLimit, HeapLimit, Fault}
 use Rattle.meaning.specs.Meaning.{Item}
-use Rattle.meaning.specs.Output.{Sight, printing, asking, output}
+use Rattle.meaning.specs.Output.{Sight, printing, asking, source, output}
 use Rattle.simulation.specs.Outcome.{Outcome, Gives, Ends, Unfinished, ending_in}
 use Rattle.machine.specs.Answers.{AllNumbers, ReadInOrder, HasFrom}
 use Rattle.machine.specs.declared.run_state.Ending.{Ending as Stop}
 use Rattle.machine.specs.declared.run_state.Ending.TheVariants as Machine
 use Rattle.program_code.specs.Code.{word_of}
-use Rattle.simulated_code.specs.Correct.{AreNumbers, same_fault}
+use Rattle.simulated_code.specs.Correct.{AreNumbers, limits, same_fault}
 use Rattle.code_runs.specs.declared.running.RunFault.{RunFault}
 use Rattle.code_runs.specs.declared.running.RunFault.TheVariants as fault
 
@@ -39,10 +40,24 @@ AsksFor (suc k) before (Gives asking o) = AsksFor k before o
 AsksFor k before (Ends e) = ⊥
 AsksFor k before Unfinished = ⊥
 
+-- a text is a front of a piece, but not all of it
+abbrev pub IsShortOf : (text piece : List ℕ) → Type 0
+IsShortOf text piece = (rest : List ℕ) × (text ++ rest ≡ piece) × (0 < length rest)
+
+-- after it asked for k items, a bounded run prints a piece, and this text is what it prints before and a front of the piece, but
+-- not all of it
+abbrev pub PrintsInPart : ℕ → List ℕ → Outcome Sight Ending → Type 0
+PrintsInPart k text (Gives (printing bytes) o) = ((k ≡ 0) × IsShortOf text bytes) ⊎ ((rest : List ℕ) × (text ≡ bytes ++ rest) × PrintsInPart k rest o)
+PrintsInPart zero text (Gives asking o) = ⊥
+PrintsInPart (suc k) text (Gives asking o) = PrintsInPart k text o
+PrintsInPart k text (Ends e) = ⊥
+PrintsInPart k text Unfinished = ⊥
+
 -- How a run answered, for which `answered` items were read, against what the source shows in few turns and in
 -- many: the ending of the many, with all its output and all the items that it asks for; no ending in the few, and an output
--- and items between both; a fault of the sink or of memory; or one of the input, at an item that the source asks for after
--- just what was taken.
+-- and items between both; a fault of the input, at an item that the source asks for after just what was taken; one of the sink,
+-- at a piece that the source prints after the items that were read, of which a part was taken and all that is printed before;
+-- or one of memory.
 abbrev pub Ran : (strings : List (List ℕ)) → (few many : Outcome Sight Ending) → Result ℕ RunFault → (answered : ℕ) → (old new : Option (List ℕ)) → (before now : ℕ) → Type 0
 Ran strings few many (Ok status) answered old new before now = (ending_in many ≡ Some (Exit status)) × Took old new (output many) × (asks_of many ≡ answered)
 Ran strings few many (Err (fault.Panic x)) answered old new before now =
@@ -54,8 +69,13 @@ Ran strings few many (Err (fault.HeapLimit used asked limit)) answered old new b
 Ran strings few many (Err fault.Steps) answered old new before now =
     (ending_in few ≡ None) × Between (output few) (output many) old new × (asks_of few ≤ answered) × (answered ≤ asks_of many)
 Ran strings few many (Err fault.ReadFault) answered old new before now = (text : List ℕ) × AsksFor answered text many × Took old new text
-Ran strings few many (Err fault.WriteFault) answered old new before now = TookPrefix old new (output many) × Rose before now × (answered ≤ asks_of many)
+Ran strings few many (Err fault.WriteFault) answered old new before now = (text : List ℕ) × PrintsInPart answered text many × Took old new text × Rose before now
 Ran strings few many (Err fault.NoMemory) answered old new before now = TookPrefix old new (output many) × (answered ≤ asks_of many)
+
+-- the same of a program's source under these limits, in a sixteenth of `steps` turns and in as many
+abbrev pub RanUnder : Program → (stack_max heap_max steps : ℕ) → Result ℕ RunFault → (old new : Option (List ℕ)) → (before now : ℕ) → (ℕ → Item) → (answered : ℕ) → Type 0
+RanUnder p stack_max heap_max steps result old new before now items answered =
+    Ran p.strings (source items p (limits p stack_max heap_max) (steps / 16)) (source items p (limits p stack_max heap_max) steps) result answered old new before now
 
 -- What a run read of an input with these bytes left, and what it did. All that is known of the items of the input are the
 -- answers that came in order: so for whatever items, numbers of 64 bits, begin with them, a claim holds that is also told how
@@ -81,6 +101,10 @@ answer_to (Some (Machine.HeapLimit used asked limit)) = Some (Err (fault.HeapLim
 answer_to (Some (Machine.WildReturn place)) = None
 answer_to (Some (Machine.WildLink place)) = None
 answer_to (Some (Machine.WildAddress address)) = None
+
+-- why a word more has no room in a heap: memory was refused, or it is full, and the limit is reported
+abbrev pub IsHeapFault : (is_full : Type 0) → (used max : ℕ) → RunFault → Type 0
+IsHeapFault is_full used max e = (e ≡ fault.NoMemory) ⊎ (is_full × (e ≡ fault.HeapLimit used 1 max))
 
 -- the word that a package variable begins with: the zero value of each type stands as 0
 abbrev pub begun_word : Option Const → ℕ

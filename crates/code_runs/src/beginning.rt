@@ -1,6 +1,6 @@
 //! The heap with which a run begins: a word for each package variable, in their order.
-ghost use Rattle.std.specs.Prelude.{◌≡◌, ◌⊎◌, ℕ, ◌+◌, ◌<◌, ◌≤◌, ◌^◌, ◌++◌, ◌∷◌, [], length, map, Err, IfOk, IfErr, OnOk};
-ghost use Rattle.code_runs.specs.Runs.{begun_word};
+ghost use Rattle.std.specs.Prelude.{◌≡◌, ℕ, ◌+◌, ◌<◌, ◌≤◌, ◌^◌, ◌++◌, ◌∷◌, [], length, map, Err, IfOk, IfErr, OnOk};
+ghost use Rattle.code_runs.specs.Runs.{IsHeapFault, begun_word};
 ghost use Rattle.code_runs.specs.declared.running.RunFault.{RunFault};
 
 use crate::RunFault;
@@ -38,7 +38,7 @@ fn fault_of(fault: HeapFault) -> RunFault
 fn add(heap: &mut Heap, word: u64) -> Result<(), RunFault>
     ensures words { OnOk result (heap.new ≡ record heap.old { words = heap.old.words ++ word ∷ [] }) }
     ensures room { OnOk result (length heap.old.words + 1 ≤ heap.old.max) }
-    ensures fault { IfErr result (λ e. (e ≡ RunFault.NoMemory) ⊎ ((heap.old.max < length heap.old.words + 1) × (e ≡ RunFault.HeapLimit (length heap.old.words) 1 heap.old.max))) }
+    ensures fault { IfErr result (IsHeapFault (heap.old.max < length heap.old.words + 1) (length heap.old.words) heap.old.max) }
 {
     match heap.take(1) {
         Ok(at) => {
@@ -59,7 +59,7 @@ pub fn first_heap(
     requires { heap_max ≤ 2 ^ 32 }
     ensures words { IfOk result (λ h. h ≡ record { words = map (λ g. begun_word g.value) globals.now; max = heap_max }) }
     ensures room { IfOk result (λ h. length globals.now ≤ heap_max) }
-    ensures fault { IfErr result (λ e. (e ≡ RunFault.NoMemory) ⊎ ((heap_max < length globals.now) × (e ≡ RunFault.HeapLimit heap_max 1 heap_max))) }
+    ensures fault { IfErr result (IsHeapFault (heap_max < length globals.now) heap_max heap_max) }
 {
     let mut heap = Heap::new(alloc, heap_max);
     for global in globals {

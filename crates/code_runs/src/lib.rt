@@ -7,7 +7,9 @@
 //! them as turns, and the output lies between what it shows in that number of turns and in as many turns as there were
 //! steps. The items of the input aren't known before they are read, so the contract names the answers that came, in
 //! order, and is told of all items that begin with them: the program asks for just this number of items, and where a
-//! read failed, the program asks for the next one after just the output that was written.
+//! read failed, the program asks for the next one after just the output that was written. Where a write failed, the
+//! program prints a piece after it asked for just these items, and the sink took all that is printed before and a part of
+//! the piece.
 //!
 //! The code of a program meets no wild word: that follows from the theorem, so `run` has no answer for one.
 #![tactic(auto)]

@@ -1,14 +1,12 @@
 //! Runs of a code to its end.
-ghost use Rattle.std.specs.Prelude.{◌≡◌, ◌≢◌, ◌/◌, ◌<◌, ◌≤◌, ◌^◌, length, slice_get, Some, None, Err};
+ghost use Rattle.std.specs.Prelude.{◌≡◌, ◌≢◌, ◌<◌, ◌≤◌, ◌^◌, length, slice_get, Some, None, Err};
 ghost use Rattle.machine.specs.Inside.{Inside};
 ghost use Rattle.machine.specs.Answers.{StatusFits};
 ghost use Rattle.typed.specs.View.{program_of};
 ghost use Rattle.typed_syntax.specs.Form.{IsInForm};
-ghost use Rattle.meaning.specs.Output.{source};
 ghost use Rattle.outside.specs.Causes.{Rose};
 ghost use Rattle.program_code.specs.Code.{code_of};
-ghost use Rattle.simulated_code.specs.Correct.{limits};
-ghost use Rattle.code_runs.specs.Runs.{Ran, ReadBy, answer_to};
+ghost use Rattle.code_runs.specs.Runs.{RanUnder, ReadBy, answer_to};
 ghost use Rattle.code_runs.specs.declared.running.RunFault.{RunFault};
 
 use crate::beginning::first_heap;
@@ -29,7 +27,7 @@ pub enum RunFault {
     /// The input failed where the program asked for an item. The sink took all that the program prints before.
     #[error("a read failed")]
     ReadFault,
-    /// The sink failed, and took a part of the output.
+    /// The sink failed at a piece, took a part of it, and had taken all that the program prints before.
     #[error("a write failed")]
     WriteFault,
     /// The program panicked.
@@ -96,8 +94,8 @@ fn entry(code: &Code, main: FuncId) -> isa::Func
 }
 
 /// Runs the code of a program from the entry of its function `main`, for at most `steps` steps, with a stack of at most
-/// `stack_max` and a heap of at most `heap_max` words. The package variables are put into the heap before. The program reads its input through a
-/// buffer of its own. The answer is the status that the program ended with.
+/// `stack_max` and a heap of at most `heap_max` words. The package variables are put into the heap before. The program reads
+/// its input through a buffer of its own. The answer is the status that the program ended with.
 pub fn run<I: Source, O: Sink>(
     alloc: Global,
     program: &Program,
@@ -114,9 +112,8 @@ pub fn run<I: Source, O: Sink>(
     requires stack { stack_max ≤ 2 ^ 32 }
     requires heap { heap_max ≤ 2 ^ 32 }
     requires small { length code.now.instrs < 2 ^ 40 }
-    ensures runs { let p = program_of program.now in ReadBy result (I.left input.old) (input.new ≡ input.old) (λ items answered.
-        Ran p.strings (source items p (limits p stack_max heap_max) (steps / 16)) (source items p (limits p stack_max heap_max) steps) result answered
-        (O.taken out.old) (O.taken out.new) (O.faults out.old) (O.faults out.new)) }
+    ensures runs { ReadBy result (I.left input.old) (input.new ≡ input.old)
+        (RanUnder (program_of program.now) stack_max heap_max steps result (O.taken out.old) (O.taken out.new) (O.faults out.old) (O.faults out.new)) }
     ensures source_later { I.faults input.old ≤ I.faults input.new }
     ensures read_fault { result ≡ Err RunFault.ReadFault → Rose (I.faults input.old) (I.faults input.new) }
 {

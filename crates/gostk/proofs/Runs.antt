@@ -23,6 +23,7 @@ use Rattle.gostk.specs.declared.answer.Answer.{Answer}
 use Rattle.gostk.specs.Words.{bounds_of}
 use Rattle.gostk.specs.Rows.{Allowed, Asking, IsRunOf, IsTextOf, Ran, RanBy, RanText, Reads, Seen, Streams, Tells}
 use Rattle.gostk.specs.declared.answer.Answer.TheVariants as answer
+use Rattle.code_runs.proofs.Composed.{asked_before}
 use Rattle.gostk.proofs.Early.{joined}
 use Rattle.gostk.proofs.Endings.{exit_status}
 use Rattle.code_runs.proofs.Items.{reading_of}
@@ -135,7 +136,7 @@ module _ (p : Program) (b : Bounds) (untouched : Type 0) (old new : Streams) whe
   pub failed : Told p b (Err fault.WriteFault) untouched old new → RanBy p b answer.WriteFault old new
   failed h =
       let some = h.does (reading_of h.answers) (begins old.left h.answers h.came) in
-      record { answers = h.answers; came = h.came; leaves = record { took = λ r starts. (h.does r starts).0; asks = λ r starts. (h.does r starts).2; rose = some.1 } }
+      record { answers = h.answers; came = h.came; leaves = record { prints = λ r starts. (let did = h.does r starts in (did.0, did.1, did.2)); rose = some.3 } }
 
   pub refused : Told p b (Err fault.NoMemory) untouched old new → RanBy p b answer.NoMemory old new
   refused h = record { answers = h.answers; came = h.came; leaves = record { took = λ r starts. (h.does r starts).0; asks = λ r starts. (h.does r starts).1 } }
@@ -151,7 +152,7 @@ module _ (p : Program) (b : Bounds) (untouched : Type 0) (old new : Streams) whe
       let did = h.does r starts in
       let more = asks_beyond (length h.answers) did.0 (all_turns p b r) did.1 in
       omega (arith, more)
-  asks_as_many (Err fault.WriteFault) h r starts = (h.does r starts).2
+  asks_as_many (Err fault.WriteFault) h r starts = let did = h.does r starts in asked_before (length h.answers) did.0 (all_turns p b r) did.1
   asks_as_many (Err fault.NoMemory) h r starts = (h.does r starts).1
 
   -- one that came is one that the source asks for

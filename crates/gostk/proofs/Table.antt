@@ -1,5 +1,7 @@
 -- The table of answers, read by the status.
-use Rattle.std.proofs.Common.{◌≡◌, ◌∙◌, sym, ap, subst, ◌⊎◌, inl, inr, arith, ℕ, ◌≤◌, ◌++◌, true, false, List, [], ◌∷◌, length, Option, Some, None, length-append}
+use Rattle.std.proofs.Common.{◌≡◌, ◌∙◌, refl, sym, ap, subst, ◌⊎◌, inl, inr, arith, ℕ, ◌≤◌, ◌++◌, Bool, true, false, List, [], ◌∷◌, length, Option, Some, None, length-append}
+use Rattle.std.specs.Prelude.{nat_le, ◌==◌}
+use Rattle.std.proofs.lemmas.Bool.{le-leb}
 use Rattle.limits.specs.Limits.{Bounds, AreLimits, IsFirstFault}
 use Rattle.limits.specs.declared.limits.LimitFault.{LimitFault}
 use Rattle.limits.specs.declared.limits.LimitFault.TheVariants.{StartTooSmall, StartOverMax, OverTop}
@@ -16,7 +18,7 @@ use Rattle.typed_syntax.specs.Positions.{Position}
 use Rattle.gostk.specs.Answer.{IsStatus, of_run, words_refused as for_words, text_refused as for_text, read_failed as for_reading, write_failed as for_writing, steps_passed as for_steps, heap_passed as for_heap, stack_passed as for_stack, memory_refused as for_memory, status_of, line_of, reason_text, fault_text, panic_line, steps_line, stack_line, heap_line}
 use Rattle.gostk.specs.Programs.{EndsBy, PanicsWith, PanicsBy, GoesOn, Begins, CameInOrder, Reading, few_turns, all_turns}
 use Rattle.gostk.specs.Words.{bounds_of, is_source, path_of, Asks, IsOffLimits, IsNoSource}
-use Rattle.gostk.specs.Rows.{Seen, Reads, IsNoText, IsRunOf, GainedRead, Allowed, Reported, FinishedOrPanicked, WriteFailed, StepsPassed, TextRefused, MemoryRefused, IsWrong, IsMissing, IsUnaccepted, Comes, IsCalm, Completes, Does}
+use Rattle.gostk.specs.Rows.{Seen, Reads, IsNoText, IsRunOf, GainedRead, Allowed, Reported, FinishedOrPanicked, WordsRefused, TextRefused, ReadFailed, WriteFailed, StepsPassed, HeapPassed, StackPassed, MemoryRefused, IsWrong, IsMissing, IsUnaccepted, Comes, IsCalm, Completes, Does}
 use Rattle.gostk.proofs.Items.{none_came}
 use Rattle.gostk.specs.declared.answer.Answer.{Answer}
 use Rattle.gostk.specs.declared.answer.Answer.TheVariants.{Ended, Panicked, Usage, Limits, SourceOnly, Refused, ReadFault, WriteFault, Steps, StackLimit, HeapLimit, NoMemory}
@@ -70,127 +72,51 @@ early_panic p b answers text y old new r ends starts e =
     let is : ending_in (all_turns p b r) ≡ Some y = ap ending_in (sym same) ∙ e in
     (subst (λ (o : Option source.Ending). PanicsWith text o) is (ends.ends r starts), subst (λ (o : Outcome Sight source.Ending). Took old new (output o)) (sym same) (ends.took r starts))
 
-no_panic : (text : List ℕ) (x : source.Ending) → PanicsWith text (Some x) → ((at : Position) (f : source.Fault) → x ≡ source.Panic at f → ⊥) → ⊥
-no_panic text x h other = other h.0 h.1 cc
+some_none : (x : source.Ending) → Some x ≡ None → ⊥
+some_none x e = cc
 
--- the reason of a panic is told by its text
-same_panic : (text : List ℕ) (at : Position) (f : source.Fault) → PanicsWith text (Some (source.Panic at f)) → text ≡ fault_text f
-same_panic text at f h =
-    let is : h.1 ≡ f = cc in
-    sym h.3 ∙ ap fault_text is
+same_some : (x y : source.Ending) → Some x ≡ Some y → x ≡ y
+same_some x y e = cc
 
 module _ (p : Program) (b : Bounds) (answers : List Item) (old new : Seen) (came : CameInOrder old.io.left answers) (status : ℕ) (err err' : Option (List ℕ)) where
   does_nothing : status ≡ 209 → Does p b old new status err err'
   does_nothing h = record { answers = answers; came = came; ends = λ r starts n e. inr h; panics = λ r starts at f e. inr h; meets = λ r starts u a l e. inr h; fills = λ r starts u a l e. inr h; stops = λ r starts e. inr h }
 
-  does_end : (n : ℕ) → EndsBy p b answers (source.Exit n) old.io.taken new.io.taken → status ≡ n → Took err err' [] → Does p b old new status err err'
-  does_end n ends is line = record {
+  -- the status and the line of an ending
+  abbrev Told : source.Ending → Type 0
+  Told (source.Exit n) = (status ≡ n) × Took err err' []
+  Told (source.Panic at f) = (status ≡ 2) × Took err err' (panic_line (fault_text f))
+  Told (source.StackLimit used asked limit) = (status ≡ 207) × Took err err' (stack_line used asked limit)
+  Told (source.HeapLimit used asked limit) = (status ≡ 206) × Took err err' (heap_line used asked limit)
+  Told source.Turns = ⊥
+
+  -- what ends in all of the turns, and is told and printed as what it ends by in the sixteenth of them
+  does_end : ((r : Reading) → Begins answers r → (y : source.Ending) → ending_in (few_turns p b r) ≡ Some y → Told y × Took old.io.taken new.io.taken (output (few_turns p b r)))
+      → ((r : Reading) → Begins answers r → ending_in (all_turns p b r) ≡ None → ⊥) → Does p b old new status err err'
+  does_end early ended = record {
     answers = answers;
     came = came;
-    ends = λ r starts m e. let h = early_end p b answers (source.Exit n) (source.Exit m) old.io.taken new.io.taken r ends starts e in inl (is ∙ same n m h.0, h.1, line);
-    panics = λ r starts at f e. absurd (no_fault n at f (early_end p b answers (source.Exit n) (source.Panic at f) old.io.taken new.io.taken r ends starts e).0);
-    meets = λ r starts u a l e. absurd (other n u a l (early_end p b answers (source.Exit n) (source.StackLimit u a l) old.io.taken new.io.taken r ends starts e).0);
-    fills = λ r starts u a l e. absurd (no_heap n u a l (early_end p b answers (source.Exit n) (source.HeapLimit u a l) old.io.taken new.io.taken r ends starts e).0);
-    stops = λ r starts e. absurd (none n (sym (ends.ends r starts) ∙ e));
+    ends = λ r starts n e. let h = early r starts (source.Exit n) e in inl (h.0.0, h.1, h.0.1);
+    panics = λ r starts at f e. let h = early r starts (source.Panic at f) e in inl (h.0.0, h.1, h.0.1);
+    meets = λ r starts u a l e. let h = early r starts (source.StackLimit u a l) e in inl (h.0.0, h.1, h.0.1);
+    fills = λ r starts u a l e. let h = early r starts (source.HeapLimit u a l) e in inl (h.0.0, h.1, h.0.1);
+    stops = λ r starts e. absurd (ended r starts e);
   }
-    where
-      same : (n m : ℕ) → source.Exit n ≡ source.Exit m → n ≡ m
-      same n m e = cc
 
-      other : (n u a l : ℕ) → source.Exit n ≡ source.StackLimit u a l → ⊥
-      other n u a l e = cc
+  does_end_by : (x : source.Ending) → EndsBy p b answers x old.io.taken new.io.taken → Told x → Does p b old new status err err'
+  does_end_by x ends told =
+      does_end (λ r starts y e. let h = early_end p b answers x y old.io.taken new.io.taken r ends starts e in (subst Told h.0 told, h.1))
+      (λ r starts e. some_none x (sym (ends.ends r starts) ∙ e))
 
-      no_heap : (n u a l : ℕ) → source.Exit n ≡ source.HeapLimit u a l → ⊥
-      no_heap n u a l e = cc
-
-      no_fault : (n : ℕ) (at : Position) (f : source.Fault) → source.Exit n ≡ source.Panic at f → ⊥
-      no_fault n at f e = cc
-
-      none : (n : ℕ) → Some (source.Exit n) ≡ None → ⊥
-      none n e = cc
+  -- the reason of a panic is told by its text
+  told_by : (text : List ℕ) (y : source.Ending) → PanicsWith text (Some y) → status ≡ 2 → Took err err' (panic_line text) → Told y
+  told_by text y h is line =
+      subst Told (sym (same_some y (source.Panic h.0 h.1) h.2)) (is, subst (λ (t : List ℕ). Took err err' (panic_line t)) (sym h.3) line)
 
   does_panic : (text : List ℕ) → PanicsBy p b answers text old.io.taken new.io.taken → status ≡ 2 → Took err err' (panic_line text) → Does p b old new status err err'
-  does_panic text ends is line = record {
-    answers = answers;
-    came = came;
-    ends = λ r starts m e. absurd (no_panic text (source.Exit m) (early_panic p b answers text (source.Exit m) old.io.taken new.io.taken r ends starts e).0 (λ at f same. no_exit m at f same));
-    panics = λ r starts at f e.
-        let h = early_panic p b answers text (source.Panic at f) old.io.taken new.io.taken r ends starts e in
-        inl (is, h.1, subst (λ (t : List ℕ). Took err err' (panic_line t)) (same_panic text at f h.0) line);
-    meets = λ r starts u a l e. absurd (no_panic text (source.StackLimit u a l) (early_panic p b answers text (source.StackLimit u a l) old.io.taken new.io.taken r ends starts e).0 (λ at f same. no_limit u a l at f same));
-    fills = λ r starts u a l e. absurd (no_panic text (source.HeapLimit u a l) (early_panic p b answers text (source.HeapLimit u a l) old.io.taken new.io.taken r ends starts e).0 (λ at f same. no_heap u a l at f same));
-    stops = λ r starts e. absurd (let h = ends.ends r starts in none h.0 h.1 (sym h.2 ∙ e));
-  }
-    where
-      no_exit : (m : ℕ) (at : Position) (f : source.Fault) → source.Exit m ≡ source.Panic at f → ⊥
-      no_exit m at f e = cc
-
-      no_limit : (u a l : ℕ) (at : Position) (f : source.Fault) → source.StackLimit u a l ≡ source.Panic at f → ⊥
-      no_limit u a l at f e = cc
-
-      no_heap : (u a l : ℕ) (at : Position) (f : source.Fault) → source.HeapLimit u a l ≡ source.Panic at f → ⊥
-      no_heap u a l at f e = cc
-
-      none : (at : Position) (f : source.Fault) → Some (source.Panic at f) ≡ None → ⊥
-      none at f e = cc
-
-  does_meet : (used asked limit : ℕ) → EndsBy p b answers (source.StackLimit used asked limit) old.io.taken new.io.taken → status ≡ 207 → Took err err' (stack_line used asked limit)
-      → Does p b old new status err err'
-  does_meet used asked limit ends is line = record {
-    answers = answers;
-    came = came;
-    ends = λ r starts m e. absurd (other m (early_end p b answers (source.StackLimit used asked limit) (source.Exit m) old.io.taken new.io.taken r ends starts e).0);
-    panics = λ r starts at f e. absurd (no_fault at f (early_end p b answers (source.StackLimit used asked limit) (source.Panic at f) old.io.taken new.io.taken r ends starts e).0);
-    meets = λ r starts u a l e.
-        let h = early_end p b answers (source.StackLimit used asked limit) (source.StackLimit u a l) old.io.taken new.io.taken r ends starts e in
-        inl (is, h.1, subst (λ (t : List ℕ). Took err err' t) (same u a l h.0) line);
-    fills = λ r starts u a l e. absurd (no_heap u a l (early_end p b answers (source.StackLimit used asked limit) (source.HeapLimit u a l) old.io.taken new.io.taken r ends starts e).0);
-    stops = λ r starts e. absurd (none (sym (ends.ends r starts) ∙ e));
-  }
-    where
-      same : (u a l : ℕ) → source.StackLimit used asked limit ≡ source.StackLimit u a l → stack_line used asked limit ≡ stack_line u a l
-      same u a l e = cc
-
-      other : (m : ℕ) → source.StackLimit used asked limit ≡ source.Exit m → ⊥
-      other m e = cc
-
-      no_fault : (at : Position) (f : source.Fault) → source.StackLimit used asked limit ≡ source.Panic at f → ⊥
-      no_fault at f e = cc
-
-      no_heap : (u a l : ℕ) → source.StackLimit used asked limit ≡ source.HeapLimit u a l → ⊥
-      no_heap u a l e = cc
-
-      none : Some (source.StackLimit used asked limit) ≡ None → ⊥
-      none e = cc
-
-  does_fill : (used asked limit : ℕ) → EndsBy p b answers (source.HeapLimit used asked limit) old.io.taken new.io.taken → status ≡ 206 → Took err err' (heap_line used asked limit)
-      → Does p b old new status err err'
-  does_fill used asked limit ends is line = record {
-    answers = answers;
-    came = came;
-    ends = λ r starts m e. absurd (other m (early_end p b answers (source.HeapLimit used asked limit) (source.Exit m) old.io.taken new.io.taken r ends starts e).0);
-    panics = λ r starts at f e. absurd (no_fault at f (early_end p b answers (source.HeapLimit used asked limit) (source.Panic at f) old.io.taken new.io.taken r ends starts e).0);
-    meets = λ r starts u a l e. absurd (no_stack u a l (early_end p b answers (source.HeapLimit used asked limit) (source.StackLimit u a l) old.io.taken new.io.taken r ends starts e).0);
-    fills = λ r starts u a l e.
-        let h = early_end p b answers (source.HeapLimit used asked limit) (source.HeapLimit u a l) old.io.taken new.io.taken r ends starts e in
-        inl (is, h.1, subst (λ (t : List ℕ). Took err err' t) (same u a l h.0) line);
-    stops = λ r starts e. absurd (none (sym (ends.ends r starts) ∙ e));
-  }
-    where
-      same : (u a l : ℕ) → source.HeapLimit used asked limit ≡ source.HeapLimit u a l → heap_line used asked limit ≡ heap_line u a l
-      same u a l e = cc
-
-      other : (m : ℕ) → source.HeapLimit used asked limit ≡ source.Exit m → ⊥
-      other m e = cc
-
-      no_fault : (at : Position) (f : source.Fault) → source.HeapLimit used asked limit ≡ source.Panic at f → ⊥
-      no_fault at f e = cc
-
-      no_stack : (u a l : ℕ) → source.HeapLimit used asked limit ≡ source.StackLimit u a l → ⊥
-      no_stack u a l e = cc
-
-      none : Some (source.HeapLimit used asked limit) ≡ None → ⊥
-      none e = cc
+  does_panic text ends is line =
+      does_end (λ r starts y e. let h = early_panic p b answers text y old.io.taken new.io.taken r ends starts e in (told_by text y h.0 is line, h.1))
+      (λ r starts e. let h = ends.ends r starts in some_none (source.Panic h.0 h.1) (sym h.2 ∙ e))
 
   does_stop : (n : ℕ) → GoesOn p b answers old.io.taken new.io.taken → n ≡ b.steps → status ≡ 205 → Took err err' (steps_line n) → Does p b old new status err err'
   does_stop n on steps is line = record {
@@ -217,7 +143,7 @@ module _ (old new : Seen) (words : List (List ℕ)) (status : ℕ) (err err' : O
   of_program p answers run does = subst (λ (q : Program). Does q (bounds_of words) old new status err err') (the_program p answers run) does
 
   by_answer : (a : Answer) → Allowed old new words a → status ≡ status_of a → Took err err' (line_of a) → Does program (bounds_of words) old new status err err'
-  by_answer (Ended n) h is line = of_program h.0 h.1 h.2 (does_end h.0 (bounds_of words) h.1 old new h.2.came status err err' n h.3 is line)
+  by_answer (Ended n) h is line = of_program h.0 h.1 h.2 (does_end_by h.0 (bounds_of words) h.1 old new h.2.came status err err' (source.Exit n) h.3 (is, line))
   by_answer (Panicked reason) h is line = of_program h.0 h.1 h.2 (does_panic h.0 (bounds_of words) h.1 old new h.2.came status err err' (reason_text reason) h.3 is line)
   by_answer (Usage t) h is line = absurd (h.0 asks.taken)
   by_answer (Limits f) h is line = absurd (off_limits words path f asks h.0)
@@ -229,8 +155,8 @@ module _ (old new : Seen) (words : List (List ℕ)) (status : ℕ) (err err' : O
   by_answer ReadFault (inr input) is line = absurd (calm.input input.out.rose)
   by_answer WriteFault h is line = absurd (calm.out h.3.rose)
   by_answer (Steps n) h is line = of_program h.0 h.1 h.2 (does_stop h.0 (bounds_of words) h.1 old new h.2.came status err err' n h.3 h.4 is line)
-  by_answer (StackLimit u a l) h is line = of_program h.0 h.1 h.2 (does_meet h.0 (bounds_of words) h.1 old new h.2.came status err err' u a l h.3 is line)
-  by_answer (HeapLimit u a l) h is line = of_program h.0 h.1 h.2 (does_fill h.0 (bounds_of words) h.1 old new h.2.came status err err' u a l h.3 is line)
+  by_answer (StackLimit u a l) h is line = of_program h.0 h.1 h.2 (does_end_by h.0 (bounds_of words) h.1 old new h.2.came status err err' (source.StackLimit u a l) h.3 (is, line))
+  by_answer (HeapLimit u a l) h is line = of_program h.0 h.1 h.2 (does_end_by h.0 (bounds_of words) h.1 old new h.2.came status err err' (source.HeapLimit u a l) h.3 (is, line))
   by_answer NoMemory h is line = does_nothing program (bounds_of words) [] old new (none_came old.io.left) status err err' is
 
 -- what comes where a text is accepted and nothing fails
@@ -323,92 +249,59 @@ pub wrong_text : (old new : Seen) (words : List (List ℕ)) (a : Answer) (status
     → Comes 201 status before now ⊎ ((status ≡ 209) ⊎ GainedRead old.failed new.failed words)
 wrong_text old new words a status err err' before now allowed reported u = unaccepted_by old new words status before now a allowed u (how a status err err' before now reported)
 
--- by the status
-pub finished : (old new : Seen) (words : List (List ℕ)) (a : Answer) (status : ℕ) (err err' : Option (List ℕ)) (before now : ℕ)
-    → Allowed old new words a → Reported a status err err' before now → status ≤ 125 → FinishedOrPanicked status old new words err err'
-finished old new words a status err err' before now al (inr h) le = absurd (omega (arith, h.0, le))
-finished old new words (Ended n) status err err' before now al (inl h) le =
-    let out : EndsBy al.0 (bounds_of words) al.1 (source.Exit status) old.io.taken new.io.taken =
-    subst (λ (k : ℕ). EndsBy al.0 (bounds_of words) al.1 (source.Exit k) old.io.taken new.io.taken) (sym h.0) al.3 in
-    inl (record { program = al.0; answers = al.1; run = al.2; out = out; line = h.1 })
-finished old new words (Panicked reason) status err err' before now al (inl h) le =
-    inr (h.0, record { program = al.0; answers = al.1; text = reason_text reason; run = al.2; out = al.3; line = h.1 })
-finished old new words (Usage t) status err err' before now al (inl h) le = absurd (omega (arith, h.0, le))
-finished old new words (Limits f) status err err' before now al (inl h) le = absurd (omega (arith, h.0, le))
-finished old new words SourceOnly status err err' before now al (inl h) le = absurd (omega (arith, h.0, le))
-finished old new words (Refused file refusal) status err err' before now al (inl h) le = absurd (omega (arith, h.0, le))
-finished old new words ReadFault status err err' before now al (inl h) le = absurd (omega (arith, h.0, le))
-finished old new words WriteFault status err err' before now al (inl h) le = absurd (omega (arith, h.0, le))
-finished old new words (Steps n) status err err' before now al (inl h) le = absurd (omega (arith, h.0, le))
-finished old new words (StackLimit u x l) status err err' before now al (inl h) le = absurd (omega (arith, h.0, le))
-finished old new words (HeapLimit u x l) status err err' before now al (inl h) le = absurd (omega (arith, h.0, le))
-finished old new words NoMemory status err err' before now al (inl h) le = absurd (omega (arith, h.0, le))
+-- the one or the other, by a test
+abbrev pub either : Bool → Type 0 → Type 0 → Type 0
+either true p q = p
+either false p q = q
 
-pub write_failed : (old new : Seen) (words : List (List ℕ)) (a : Answer) (status : ℕ) (err err' : Option (List ℕ)) (before now : ℕ)
-    → Allowed old new words a → Reported a status err err' before now → status ≡ 204 → WriteFailed old new words err err' before now
-write_failed old new words a status err err' before now al (inr h) is = inr (record { answer = a; allowed = al; rose = h.1; line = h.2 })
-write_failed old new words (Ended n) status err err' before now al (inl h) is = absurd (omega (arith, h.0, is, al.4))
-write_failed old new words (Panicked reason) status err err' before now al (inl h) is = absurd (omega (arith, h.0, is))
-write_failed old new words (Usage t) status err err' before now al (inl h) is = absurd (omega (arith, h.0, is))
-write_failed old new words (Limits f) status err err' before now al (inl h) is = absurd (omega (arith, h.0, is))
-write_failed old new words SourceOnly status err err' before now al (inl h) is = absurd (omega (arith, h.0, is))
-write_failed old new words (Refused file refusal) status err err' before now al (inl h) is = absurd (omega (arith, h.0, is))
-write_failed old new words ReadFault status err err' before now al (inl h) is = absurd (omega (arith, h.0, is))
-write_failed old new words WriteFault status err err' before now al (inl h) is = inl (record { program = al.0; answers = al.1; run = al.2; out = al.3; line = h.1 })
-write_failed old new words (Steps n) status err err' before now al (inl h) is = absurd (omega (arith, h.0, is))
-write_failed old new words (StackLimit u x l) status err err' before now al (inl h) is = absurd (omega (arith, h.0, is))
-write_failed old new words (HeapLimit u x l) status err err' before now al (inl h) is = absurd (omega (arith, h.0, is))
-write_failed old new words NoMemory status err err' before now al (inl h) is = absurd (omega (arith, h.0, is))
+passes : (b : Bool) (p q : Type 0) → b ≡ true → p → either b p q
+passes true p q is h = h
+passes false p q is h = absurd (let e : false ≡ true = is in cc)
 
-pub steps_passed : (old new : Seen) (words : List (List ℕ)) (a : Answer) (status : ℕ) (err err' : Option (List ℕ)) (before now : ℕ)
-    → Allowed old new words a → Reported a status err err' before now → status ≡ 205 → StepsPassed old new words err err'
-steps_passed old new words a status err err' before now al (inr h) is = absurd (omega (arith, h.0, is))
-steps_passed old new words (Ended n) status err err' before now al (inl h) is = absurd (omega (arith, h.0, is, al.4))
-steps_passed old new words (Panicked reason) status err err' before now al (inl h) is = absurd (omega (arith, h.0, is))
-steps_passed old new words (Usage t) status err err' before now al (inl h) is = absurd (omega (arith, h.0, is))
-steps_passed old new words (Limits f) status err err' before now al (inl h) is = absurd (omega (arith, h.0, is))
-steps_passed old new words SourceOnly status err err' before now al (inl h) is = absurd (omega (arith, h.0, is))
-steps_passed old new words (Refused file refusal) status err err' before now al (inl h) is = absurd (omega (arith, h.0, is))
-steps_passed old new words ReadFault status err err' before now al (inl h) is = absurd (omega (arith, h.0, is))
-steps_passed old new words WriteFault status err err' before now al (inl h) is = absurd (omega (arith, h.0, is))
-steps_passed old new words (Steps n) status err err' before now al (inl h) is =
-    record { program = al.0; answers = al.1; run = al.2; out = al.3; line = subst (λ (k : ℕ). Took err err' (steps_line k)) al.4 h.1 }
-steps_passed old new words (StackLimit u x l) status err err' before now al (inl h) is = absurd (omega (arith, h.0, is))
-steps_passed old new words (HeapLimit u x l) status err err' before now al (inl h) is = absurd (omega (arith, h.0, is))
-steps_passed old new words NoMemory status err err' before now al (inl h) is = absurd (omega (arith, h.0, is))
+passed : (b : Bool) (p q : Type 0) → b ≡ true → either b p q → p
+passed true p q is h = h
+passed false p q is h = absurd (let e : false ≡ true = is in cc)
 
-pub text_refused : (old new : Seen) (words : List (List ℕ)) (a : Answer) (status : ℕ) (err err' : Option (List ℕ)) (before now : ℕ)
-    → Allowed old new words a → Reported a status err err' before now → status ≡ 201 → TextRefused old new words err err'
-text_refused old new words a status err err' before now al (inr h) is = absurd (omega (arith, h.0, is))
-text_refused old new words (Ended n) status err err' before now al (inl h) is = absurd (omega (arith, h.0, is, al.4))
-text_refused old new words (Panicked reason) status err err' before now al (inl h) is = absurd (omega (arith, h.0, is))
-text_refused old new words (Usage t) status err err' before now al (inl h) is = absurd (omega (arith, h.0, is))
-text_refused old new words (Limits f) status err err' before now al (inl h) is = absurd (omega (arith, h.0, is))
-text_refused old new words SourceOnly status err err' before now al (inl h) is = absurd (omega (arith, h.0, is))
-text_refused old new words (Refused file refusal) status err err' before now al (inl h) is =
-    record { path = file.now; text = al.0; refusal = refusal; reads = al.1; refused = al.2; unaccepted = al.3; untouched = al.4; line = h.1 }
-text_refused old new words ReadFault status err err' before now al (inl h) is = absurd (omega (arith, h.0, is))
-text_refused old new words WriteFault status err err' before now al (inl h) is = absurd (omega (arith, h.0, is))
-text_refused old new words (Steps n) status err err' before now al (inl h) is = absurd (omega (arith, h.0, is))
-text_refused old new words (StackLimit u x l) status err err' before now al (inl h) is = absurd (omega (arith, h.0, is))
-text_refused old new words (HeapLimit u x l) status err err' before now al (inl h) is = absurd (omega (arith, h.0, is))
-text_refused old new words NoMemory status err err' before now al (inl h) is = absurd (omega (arith, h.0, is))
+-- what the table says of a call by its status
+module _ (old new : Seen) (words : List (List ℕ)) (err err' : Option (List ℕ)) (before now : ℕ) where
+  abbrev pub Row : ℕ → Type 0
+  Row status =
+      either (nat_le status 125) (FinishedOrPanicked status old new words err err')
+      (either (status == 200) (WordsRefused old new words err err')
+      (either (status == 201) (TextRefused old new words err err')
+      (either (status == 203) (ReadFailed old new words err err')
+      (either (status == 204) (WriteFailed old new words err err' before now)
+      (either (status == 205) (StepsPassed old new words err err')
+      (either (status == 206) (HeapPassed old new words err err')
+      (either (status == 207) (StackPassed old new words err err') (MemoryRefused old new words err err'))))))))
 
-pub memory_refused : (old new : Seen) (words : List (List ℕ)) (a : Answer) (status : ℕ) (err err' : Option (List ℕ)) (before now : ℕ)
-    → Allowed old new words a → Reported a status err err' before now → status ≡ 209 → MemoryRefused old new words err err'
-memory_refused old new words a status err err' before now al (inr h) is = absurd (omega (arith, h.0, is))
-memory_refused old new words (Ended n) status err err' before now al (inl h) is = absurd (omega (arith, h.0, is, al.4))
-memory_refused old new words (Panicked reason) status err err' before now al (inl h) is = absurd (omega (arith, h.0, is))
-memory_refused old new words (Usage t) status err err' before now al (inl h) is = absurd (omega (arith, h.0, is))
-memory_refused old new words (Limits f) status err err' before now al (inl h) is = absurd (omega (arith, h.0, is))
-memory_refused old new words SourceOnly status err err' before now al (inl h) is = absurd (omega (arith, h.0, is))
-memory_refused old new words (Refused file refusal) status err err' before now al (inl h) is = absurd (omega (arith, h.0, is))
-memory_refused old new words ReadFault status err err' before now al (inl h) is = absurd (omega (arith, h.0, is))
-memory_refused old new words WriteFault status err err' before now al (inl h) is = absurd (omega (arith, h.0, is))
-memory_refused old new words (Steps n) status err err' before now al (inl h) is = absurd (omega (arith, h.0, is))
-memory_refused old new words (StackLimit u x l) status err err' before now al (inl h) is = absurd (omega (arith, h.0, is))
-memory_refused old new words (HeapLimit u x l) status err err' before now al (inl h) is = absurd (omega (arith, h.0, is))
-memory_refused old new words NoMemory status err err' before now al (inl h) is = record { when = al; line = h.1 }
+  row_of : (a : Answer) → Allowed old new words a → Took err err' (line_of a) → Row (status_of a)
+  row_of (Ended n) al line =
+      passes (nat_le n 125) _ _ (le-leb n 125 al.4) (inl (record { program = al.0; answers = al.1; run = al.2; out = al.3; line = line }))
+  row_of (Panicked reason) al line = inr (refl, record { program = al.0; answers = al.1; text = reason_text reason; run = al.2; out = al.3; line = line })
+  row_of (Usage t) al line = record { reason = inl (al.0, (_, line)); untouched = al.1 }
+  row_of (Limits f) al line = record { reason = inr (inl (f, al.0, line)); untouched = al.1 }
+  row_of SourceOnly al line = record { reason = inr (inr (al.0, line)); untouched = al.1 }
+  row_of (Refused file refusal) al line =
+      record { path = file.now; text = al.0; refusal = refusal; reads = al.1; refused = al.2; unaccepted = al.3; untouched = al.4; line = line }
+  row_of ReadFault al line = record { cause = al; line = line }
+  row_of WriteFault al line = inl (record { program = al.0; answers = al.1; run = al.2; out = al.3; line = line })
+  row_of (Steps n) al line =
+      record { program = al.0; answers = al.1; run = al.2; out = al.3; line = subst (λ (k : ℕ). Took err err' (steps_line k)) al.4 line }
+  row_of (StackLimit u x l) al line = record { program = al.0; answers = al.1; used = u; asked = x; limit = l; run = al.2; out = al.3; line = line }
+  row_of (HeapLimit u x l) al line = record { program = al.0; answers = al.1; used = u; asked = x; limit = l; run = al.2; out = al.3; line = line }
+  row_of NoMemory al line = record { when = al; line = line }
+
+  pub row : (a : Answer) (status : ℕ) → Allowed old new words a → Reported a status err err' before now → Row status
+  row a status al (inl h) = subst Row (sym h.0) (row_of a al h.1)
+  row a status al (inr h) = subst Row (sym h.0) (inr (record { answer = a; allowed = al; rose = h.1; line = h.2 }))
+
+  -- a row of its own, by its number
+  pub numbered : (status n : ℕ) → Row status → status ≡ n → Row n
+  numbered status n r is = subst Row is r
+
+  pub finished : (status : ℕ) → Row status → status ≤ 125 → FinishedOrPanicked status old new words err err'
+  finished status r le = passed (nat_le status 125) _ _ (le-leb status 125 le) r
 
 -- every answer has a status of the table
 answer_status : (old new : Seen) (words : List (List ℕ)) (a : Answer) → Allowed old new words a → IsStatus (status_of a)

@@ -11,7 +11,7 @@ use Rattle.meaning.specs.Meaning.{Item}
 use Rattle.meaning.specs.Output.{Sight, source, output}
 use Rattle.machine.specs.Answers.{AllNumbers, ReadInOrder, HasFrom}
 use Rattle.simulated_code.specs.Correct.{AreNumbers, limits}
-use Rattle.code_runs.specs.Runs.{AsksFor, Between, asks_of}
+use Rattle.code_runs.specs.Runs.{AsksFor, Between, PrintsInPart, asks_of}
 use Rattle.compile.specs.Accepted.{Refuses as HasFault}
 use Rattle.compile.specs.declared.fault.CompileFault.{CompileFault}
 use Rattle.gostk.specs.Answer.{fault_text}
@@ -81,10 +81,10 @@ pub record PrintedFront (p : Program) (b : Bounds) (answers : List Item) (old ne
   pub took : (r : Reading) → Begins answers r → TookPrefix old new (output (all_turns p b r))
   pub asks : (r : Reading) → Begins answers r → length answers ≤ asks_of (all_turns p b r)
 
--- out failed, and took a front part of what the source prints within the turns; the source asks for the items that came
+-- out failed: within the turns the source prints a piece after it asked for just the items that came, and out took exactly what it
+-- prints before that and a front of the piece, but not all of it
 pub record PrintedPart (p : Program) (b : Bounds) (answers : List Item) (old new : Option (List ℕ)) (before now : ℕ) : Type 0 where
-  pub took : (r : Reading) → Begins answers r → TookPrefix old new (output (all_turns p b r))
-  pub asks : (r : Reading) → Begins answers r → length answers ≤ asks_of (all_turns p b r)
+  pub prints : (r : Reading) → Begins answers r → (text : List ℕ) × PrintsInPart (length answers) text (all_turns p b r) × Took old new text
   pub rose : Rose before now
 
 -- the input failed: within the turns the source asks for the item after those that came, and out took exactly what it prints

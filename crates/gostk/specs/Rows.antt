@@ -178,7 +178,8 @@ pub record ReadFailed (old new : Seen) (words : List (List ℕ)) (err err' : Opt
   pub cause : FileFailed old new words ⊎ InputFailed old new words
   pub line : Took err err' (codes "gostk: read fault\n")
 
--- out failed: its count rose, and it took a front part of what the program of an accepted text prints
+-- out failed: its count rose, and it took all that the program of an accepted text prints before a piece, and a front of the
+-- piece, but not all of it
 pub record OutFailed (old new : Seen) (words : List (List ℕ)) (err err' : Option (List ℕ)) : Type 0 where
   pub program : Program
   pub answers : List Item

@@ -8,11 +8,10 @@ use Rattle.simulation.specs.Steps.{Goes, Stops, events_of, behind, go_on, many}
 use Rattle.simulation.proofs.Whole.{many_none, many_more}
 use Rattle.heap_bump.specs.Words.{Words}
 use Rattle.isa.specs.Code.{Tables, IsCode}
-use Rattle.isa.specs.declared.instr.Instr.{Instr}
 use Rattle.isa.specs.declared.func.Func.{Func}
 use Rattle.machine.specs.Machine.{State, Does, Event, Printed, Asked, Item, bytes_of, asks_in, act, act_on, calls, entered, address_of, zeroed, frame_of, owner_of}
 use Rattle.machine.specs.Inside.{Inside}
-use Rattle.machine.specs.Answers.{Answers, AskedBehind, CallFits, Refused, Unwritten, WithAnswers, printed_by, state_of}
+use Rattle.machine.specs.Answers.{Answers, AskedBehind, CallFits, PrintedInPart, Refused, RunAnswers, Unwritten, WithAnswers, printed_by, state_of}
 use Rattle.machine.specs.declared.run_state.RunState.{RunState}
 use Rattle.machine.proofs.Reading.{joined, follows, nothing_read, goes_on_is_no_fault}
 use Rattle.machine.specs.declared.run_state.Ending.{Ending}
@@ -143,10 +142,28 @@ module _ (t : Tables) (max : ℕ) (items : ℕ → Item) (steps : ℕ) (first : 
         took = rw (bytes_append g.done f.before) (Took-trans old now late _ _ g.took f.took);
       }
 
+  printed_in_step : PrintedInPart (act t max items s) more now late → PrintedInPart (many (act t max items) steps first) (answered + more) old late
+  printed_in_step f =
+      let later = told_in_order.0 in
+      let piece : Event = Printed (f.front ++ f.rest) in
+      record {
+        before = g.done ++ f.before;
+        front = f.front;
+        rest = f.rest;
+        after = f.after ++ later;
+        splits = append_assoc g.done f.before (piece ∷ (f.after ++ later))
+            ∙ ap (λ l. g.done ++ l) (sym (append_assoc f.before (piece ∷ f.after) later) ∙ ap (λ l. l ++ later) f.splits)
+            ∙ sym told_in_order.1;
+        short = f.short;
+        asked = omega (arith, asks_append g.done f.before, g.asked, f.asked);
+        took = subst (λ l. Took old late l) (sym (append_assoc (bytes_of g.done) (bytes_of f.before) f.front) ∙ ap (λ l. l ++ f.front) (sym (bytes_append g.done f.before)))
+            (Took-trans old now late _ _ g.took f.took);
+      }
+
   module _ (before later last : ℕ) (grown : before ≤ later) where
     pub ends : (e : Ending) → Answers (act t max items s) new more (Some e) now late later last → Answers (many (act t max items) steps first) new (answered + more) (Some e) old late before last
     ends ReadFault a = asked_in_step a
-    ends WriteFault a = (part_taken a.0, let rose = a.1 in omega (arith, grown), part_asked a.2)
+    ends WriteFault a = (printed_in_step a.0, let rose = a.1 in omega (arith, grown))
     ends NoMemory a = (part_taken a.0, part_asked a.1)
     ends (Exit n) a = stopped (Exit n) a
     ends (Panic x) a = stopped (Panic x) a
@@ -163,11 +180,6 @@ runs_out t max items steps first left s answered old now before later g none =
     let whole : many (act t max items) steps first ≡ Goes (g.done ++ []) s = g.whole 0 steps (omega arith) ∙ ap (behind g.done) (many_none State Event Ending (act t max items) s) in
     let told : events_of (many (act t max items) steps first) ≡ g.done = ap (λ (d : Does). events_of d) whole ∙ append-nil g.done in
     (whole ∙ ap (λ (l : List Event). let d : Does = Goes l s in d) (append-nil g.done ∙ sym told), rw told g.took, rw told g.asked)
-
--- the tables that four slices show
-pub shown : (t : Tables) (instrs : List Instr) (owners : List ℕ) (funcs : List Func) (strings : List (List ℕ)) → instrs ≡ t.instrs → owners ≡ t.owners → funcs ≡ t.funcs → strings ≡ t.strings
-    → (let r : Tables = record { instrs = instrs; owners = owners; funcs = funcs; strings = strings } in r) ≡ t
-shown t instrs owners funcs strings a b c d = rw (a, b, c, d) refl
 
 pub below : (t : Tables) (long pc base : ℕ) → IsCode t → Inside t long pc base → pc < length t.instrs
 below t long pc base code inside = subst (λ n. pc < n) code.same (slice_get_within t.owners pc inside.f inside.owner)
@@ -190,11 +202,23 @@ refused t max items steps first left s answered old now late g some call nothing
       took = rw (bytes_append g.done []) (Took-trans old now late _ _ g.took nothing);
     }
 
+module _ {d : Does} {answered : ℕ} {old new : Option (List ℕ)} (part : PrintedInPart d answered old new) where
+  -- all that is printed, cut where the sink stopped
+  printed_whole : (bytes_of part.before ++ part.front) ++ (part.rest ++ bytes_of part.after) ≡ printed_by d
+  printed_whole =
+      let after = bytes_of part.after in
+      append_assoc (bytes_of part.before) part.front (part.rest ++ after)
+      ∙ ap (λ l. bytes_of part.before ++ l) (sym (append_assoc part.front part.rest after))
+      ∙ sym (bytes_append part.before (Printed (part.front ++ part.rest) ∷ part.after))
+      ∙ ap bytes_of part.splits
+
+  asked_whole : answered ≤ asks_in (events_of d)
+  asked_whole = rw (sym part.splits) (omega (arith, part.asked, asks_append part.before (Printed (part.front ++ part.rest) ∷ part.after)))
+
 -- the sink failed in the step after those that were done
 pub unwritten : (t : Tables) (max : ℕ) (items : ℕ → Item) (steps : ℕ) (first : State) (left : ℕ) (s : State) (answered more : ℕ) (old now late : Option (List ℕ))
-    → Going t max items steps first left s answered old now → 0 < left → TookPrefix now late (printed_by (act t max items s)) → more ≤ asks_in (events_of (act t max items s))
-    → Unwritten t max items steps first (answered + more) old late
-unwritten t max items steps first left s answered more old now late g some part few =
+    → Going t max items steps first left s answered old now → 0 < left → PrintedInPart (act t max items s) more now late → Unwritten t max items steps first (answered + more) old late
+unwritten t max items steps first left s answered more old now late g some part =
     let within = g.within in
     let so_far : many (act t max items) (steps - left) first ≡ Goes (g.done ++ []) s =
     g.whole 0 (steps - left) (omega arith) ∙ ap (behind g.done) (many_none State Event Ending (act t max items) s) in
@@ -205,12 +229,12 @@ unwritten t max items steps first left s answered more old now late g some part 
       told = g.done;
       state = s;
       whole = so_far ∙ ap (λ (es : List Event). let d : Does = Goes es s in d) same;
-      front = part.1.done;
-      rest = part.0;
-      prints = part.1.splits;
-      took = Took-trans old now late _ _ g.took part.1.took;
+      front = bytes_of part.before ++ part.front;
+      rest = part.rest ++ bytes_of part.after;
+      prints = printed_whole part;
+      took = Took-trans old now late _ _ g.took part.took;
       at_least = omega (arith, g.asked);
-      at_most = omega (arith, g.asked, few);
+      at_most = omega (arith, g.asked, asked_whole part);
     }
 
 -- a call tells nothing
@@ -234,13 +258,6 @@ call_asks t max items s call =
 -- how far a run is that began and goes on at these places of a block
 abbrev pub SoFar : Tables → ℕ → ℕ → List ℕ → Words → RunState → ℕ → List ℕ → Words → RunState → Option (List ℕ) → Option (List ℕ) → (ℕ → Item) → ℕ → ℕ → Type 0
 SoFar t max steps block0 heap0 at0 left block heap at old now items reads answered = Going t max items steps (state_of block0 at0 reads heap0) left (state_of block at (reads + answered) heap) answered old now
-
--- how it answers
-abbrev pub RunAnswers : Tables → ℕ → ℕ → List ℕ → Words → RunState → List ℕ → Words → RunState → Option Ending → Option (List ℕ) → Option (List ℕ) → ℕ → ℕ → (ℕ → Item) → ℕ → ℕ → Type 0
-RunAnswers t max steps block0 heap0 at0 block heap at e old new before now items reads answered =
-    Answers (many (act t max items) steps (state_of block0 at0 reads heap0)) (state_of block at (reads + answered) heap) answered e old new before now
-    × (e ≡ Some NoMemory → Refused t max items steps (state_of block0 at0 reads heap0) answered old new)
-    × (e ≡ Some WriteFault → Unwritten t max items steps (state_of block0 at0 reads heap0) answered old new)
 
 -- how one step answers
 abbrev pub StepAnswers : Tables → ℕ → List ℕ → Words → RunState → List ℕ → Words → RunState → Option Ending → Option (List ℕ) → Option (List ℕ) → ℕ → ℕ → (ℕ → Item) → ℕ → ℕ → Type 0
@@ -278,7 +295,7 @@ module _ (t r : Tables) (max steps : ℕ) (block0 : List ℕ) (heap0 : Words) (a
             rw none (refused t max items steps first left s a old now late g some call fits.1),
         λ failure.
             let by_write = subst (λ x. Answers (act t max items s) new b x now late later last) failure d in
-            unwritten t max items steps first left s a b old now late g some by_write.0 by_write.2,
+            unwritten t max items steps first left s a b old now late g some by_write.0,
       ))
 
 pub ran_out : (t : Tables) (max steps : ℕ) (block0 : List ℕ) (heap0 : Words) (at0 : RunState) (left : ℕ) (block : List ℕ) (heap : Words) (at : RunState) (old now : Option (List ℕ)) (before later : ℕ) (come0 come : Option (List ℕ)) (U : Type 0)

@@ -1,7 +1,8 @@
 -- What a call read from the input, by what its parts read.
-use Rattle.std.proofs.Common.{◌≡◌, ◌≢◌, ℕ, suc, Result, Ok, Err, append-nil, ◌+◌, List, [], ◌∷◌, ◌++◌, Option, Some, None, length, arith, refl, ap, sym, ◌∙◌, subst, length-append}
-use Rattle.std.specs.Prelude.{IfSome, FitsSigned, OnOk, OnErr}
+use Rattle.std.proofs.Common.{◌≡◌, ◌≢◌, ℕ, suc, Result, Ok, Err, append-nil, ◌+◌, List, [], ◌∷◌, ◌++◌, Option, Some, None, length, take, drop, arith, refl, ap, sym, ◌∙◌, subst, length-append}
+use Rattle.std.specs.Prelude.{IfSome, FitsSigned, OnOk, OnErr, Bool, true, false, not, ◌==◌, if◌then◌else◌, codes}
 use Rattle.std.specs.Int.{w64}
+use Rattle.std.proofs.lemmas.List.{take-append-drop, length-drop}
 use Rattle.outside.specs.Causes.{HasCause}
 use Rattle.outside.specs.Items.{Reads, Loses}
 use Rattle.outside.specs.Puts.{Puts}
@@ -10,7 +11,7 @@ use Rattle.outside.proofs.Took.{Took-nothing}
 use Rattle.outside.specs.Took.{Took}
 use Rattle.simulation.specs.Steps.{Goes, Stops, events_of}
 use Rattle.heap_bump.specs.Words.{Words}
-use Rattle.machine.specs.Machine.{State, Does, Event, Asked, Item, asks_in, prints, reads_item, item_words, put_words}
+use Rattle.machine.specs.Machine.{State, Does, Event, Printed, Asked, Item, asks_in, prints, truth_bytes, reads_item, item_words, put_words}
 use Rattle.machine.specs.Answers.{AllNumbers, Answers, Comes, HasFrom, ReadInOrder, ReadsUpTo, WithAnswers, printed_by, state_of}
 use Rattle.machine.specs.declared.run_state.Next.{Next}
 use Rattle.machine.specs.declared.run_state.RunState.{RunState}
@@ -138,4 +139,25 @@ pub piece_printed : {T : Type 0} (words : List ℕ) (at : RunState) (next : Next
     → OnOk written (next ≡ record { at = record { pc = at.pc + 1; base = at.base }; ending = None }) → OnErr written (next ≡ record { at = at; ending = Some WriteFault })
     → Puts old new few many written piece → HasCause before now written → Answers (prints (state_of words at reads heap) bytes) (state_of words next.at reads heap) 0 next.ending old new before now
 piece_printed words at next (Ok x) bytes piece same reads heap old new few many before now ok err puts cause = rw ok (refl, rw (append-nil, same) puts.whole, refl)
-piece_printed words at next (Err f) bytes piece same reads heap old new few many before now ok err puts cause = rw err (rw (append-nil, same) puts.prefix, cause.failed, omega arith)
+piece_printed words at next (Err f) bytes piece same reads heap old new few many before now ok err puts cause =
+    rw err (
+      record {
+        before = [];
+        front = take f.gone piece;
+        rest = drop f.gone piece;
+        after = [];
+        splits = ap (λ l. Printed l ∷ []) (take-append-drop f.gone piece ∙ sym same);
+        short = omega (arith, puts.within, length-drop f.gone piece);
+        asked = refl;
+        took = puts.part;
+      },
+      cause.failed,
+    )
+
+-- a truth value in words
+pub truth_is : (word : ℕ) → truth_bytes word ≡ (if not (word == 0) then codes "true" else codes "false")
+truth_is word = by (word == 0)
+  where
+    by : (b : Bool) → (if b then 102 ∷ (97 ∷ (108 ∷ (115 ∷ (101 ∷ [])))) else 116 ∷ (114 ∷ (117 ∷ (101 ∷ [])))) ≡ (if not b then codes "true" else codes "false")
+    by true = refl
+    by false = refl

@@ -8,7 +8,8 @@ use Rattle.simulation.specs.Steps.{Goes, Stops, events_of, many}
 use Rattle.heap_bump.specs.Words.{Words}
 use Rattle.isa.specs.Code.{Tables}
 use Rattle.isa.specs.declared.instr.Instr.TheVariants.{Call}
-use Rattle.machine.specs.Machine.{State, Event, Asked, Item, Does, act, bytes_of, asks_in, frame_of}
+use Rattle.machine.specs.Machine.{State, Event, Printed, Asked, Item, Does, act, prints, bytes_of, asks_in, frame_of}
+use Rattle.machine.specs.declared.run_state.Next.{Next}
 use Rattle.machine.specs.declared.run_state.RunState.{RunState}
 use Rattle.machine.specs.declared.run_state.Ending.{Ending}
 use Rattle.machine.specs.declared.run_state.Ending.TheVariants.{Exit, ReadFault, WriteFault, NoMemory, WildAddress}
@@ -28,11 +29,23 @@ pub record AskedBehind (d : Does) (answered : ℕ) (old new : Option (List ℕ))
   pub asked : asks_in before ≡ answered
   pub took : Took old new (bytes_of before)
 
+-- after `answered` items were asked for a piece is printed, and out took what is printed up to there and a front of the piece, but
+-- not all of it
+pub record PrintedInPart (d : Does) (answered : ℕ) (old new : Option (List ℕ)) : Type 0 where
+  pub before : List Event
+  pub front : List ℕ
+  pub rest : List ℕ
+  pub after : List Event
+  pub splits : before ++ (Printed (front ++ rest) ∷ after) ≡ events_of d
+  pub short : 0 < length rest
+  pub asked : asks_in before ≡ answered
+  pub took : Took old new (bytes_of before ++ front)
+
 -- what steps come to, for which `answered` items were read, against an answer and the state in it, the bytes that a sink has
 -- taken, and its counts of faults
 abbrev pub Answers : Does → State → (answered : ℕ) → Option Ending → Option (List ℕ) → Option (List ℕ) → ℕ → ℕ → Type 0
 Answers d s answered (Some ReadFault) old new before now = AskedBehind d answered old new
-Answers d s answered (Some WriteFault) old new before now = TookPrefix old new (printed_by d) × Rose before now × (answered ≤ asks_in (events_of d))
+Answers d s answered (Some WriteFault) old new before now = PrintedInPart d answered old new × Rose before now
 Answers d s answered (Some NoMemory) old new before now = TookPrefix old new (printed_by d) × (answered ≤ asks_in (events_of d))
 Answers d s answered None old new before now = (d ≡ Goes (events_of d) s) × Took old new (printed_by d) × (asks_in (events_of d) ≡ answered)
 Answers d s answered (Some e) old new before now = (d ≡ Stops (events_of d) e) × Took old new (printed_by d) × (asks_in (events_of d) ≡ answered)
@@ -45,10 +58,28 @@ Comes d s (Some NoMemory) = ⊤
 Comes d s None = d ≡ Goes [] s
 Comes d s (Some e) = d ≡ Stops [] e
 
+-- the same of a step from a place in a block to the one in the answer, whatever was read and is in the heap
+abbrev pub ComesTo : (State → Does) → (old : List ℕ) → RunState → (new : List ℕ) → Next → Type 0
+ComesTo does old at new next = (reads : ℕ) (heap : Words) → Comes (does (state_of old at reads heap)) (state_of new next.at reads heap) next.ending
+
+-- the same of a step that reaches the heap
+abbrev pub ComesWith : (State → Does) → (old : List ℕ) → (heap : Words) → RunState → (new : List ℕ) → (heap' : Words) → Next → Type 0
+ComesWith does old heap at new heap' next = (reads : ℕ) → Comes (does (state_of old at reads heap)) (state_of new next.at reads heap') next.ending
+
 -- what comes of a touch of words from an address on, which lie somewhere or not
 abbrev pub touched : Bool → State → ℕ → Does
 touched true s at = Goes [] s
 touched false s at = Stops [] (WildAddress at)
+
+-- the same of a touch in a frame at an index of a block
+abbrev pub TouchComes : (State → Does) → (base at : ℕ) → (old : List ℕ) → (heap : Words) → (new : List ℕ) → (heap' : Words) → Bool → Type 0
+TouchComes does base at old heap new heap' found =
+    (pc reads : ℕ) → does (state_of old (record { pc = pc; base = base }) reads heap) ≡ touched found (state_of new (record { pc = pc + 1; base = base }) reads heap') at
+
+-- how a step answers that prints a piece
+abbrev pub PrintsAt : List ℕ → RunState → (piece : List ℕ) → Next → (old new : Option (List ℕ)) → (before now : ℕ) → Type 0
+PrintsAt words at piece next old new before now =
+    (reads : ℕ) (heap : Words) → Answers (prints (state_of words at reads heap) piece) (state_of words next.at reads heap) 0 next.ending old new before now
 
 -- these answers came in order from a reader, in front of which stood the old bytes, and after them the new ones
 abbrev pub ReadInOrder : Option (List ℕ) → Option (List ℕ) → List Item → Type 0
@@ -119,3 +150,10 @@ pub record Refused (t : Tables) (max : ℕ) (items : ℕ → Item) (steps : ℕ)
   pub call : CallFits t max state.pc state.words
   pub asked : asks_in told ≡ answered
   pub took : Took old new (bytes_of told)
+
+-- how a run of steps answers that begins and goes on at these places of a block
+abbrev pub RunAnswers : Tables → (max steps : ℕ) → List ℕ → Words → RunState → List ℕ → Words → RunState → Option Ending → (old new : Option (List ℕ)) → (before now : ℕ) → (ℕ → Item) → (reads answered : ℕ) → Type 0
+RunAnswers t max steps block0 heap0 at0 block heap at e old new before now items reads answered =
+    Answers (many (act t max items) steps (state_of block0 at0 reads heap0)) (state_of block at (reads + answered) heap) answered e old new before now
+    × (e ≡ Some NoMemory → Refused t max items steps (state_of block0 at0 reads heap0) answered old new)
+    × (e ≡ Some WriteFault → Unwritten t max items steps (state_of block0 at0 reads heap0) answered old new)

@@ -30,7 +30,7 @@
 #![tactic(auto)]
 
 mod block;
-mod functions;
+mod code_tables;
 mod links;
 mod memory;
 mod run_state;
@@ -38,6 +38,7 @@ mod running;
 mod slots;
 mod steps;
 
+pub use code_tables::Tables;
 pub use memory::Spot;
 pub use run_state::{Ending, Next, Panic, RunState};
 pub use running::run;

@@ -1,17 +1,15 @@
 //! Calls and returns.
-ghost use Rattle.std.specs.Prelude.{◌≡◌, ◌≢◌, ◌↔◌, ℕ, ◌+◌, ◌-◌, ◌<◌, ◌≤◌, ◌^◌, length, drop, map, slice_get, IsTrue, Some, None, []};
+ghost use Rattle.std.specs.Prelude.{◌≡◌, ◌≢◌, ◌↔◌, ◌+◌, ◌-◌, ◌<◌, ◌≤◌, ◌^◌, length, drop, IsTrue, Some, None, []};
 ghost use Rattle.simulation.specs.Steps.{Stops};
-ghost use Rattle.heap_bump.specs.Words.{Words};
-ghost use Rattle.isa.specs.Code.{Tables, IsCode};
-ghost use Rattle.machine.specs.Machine.{address_of, entered, calls, exits, returns, follows_call, owner_of};
+ghost use Rattle.machine.specs.Machine.{address_of, entered, calls, exits, returns, owner_of};
 ghost use Rattle.machine.specs.Inside.{Inside};
-ghost use Rattle.machine.specs.Answers.{Comes, StatusFits, state_of};
+ghost use Rattle.machine.specs.Answers.{ComesTo, StatusFits};
 
 use crate::block::make_room;
-use crate::functions::{frame_at, own_frame};
+use crate::code_tables::Tables;
 use crate::run_state::{Ending, Next, RunState};
 use crate::slots::{set_slot, slot, zero_slots};
-use isa::{Func, Instr};
+use isa::Func;
 use std::alloc::Global;
 
 const STACK_START: u64 = 1 << 40;
@@ -54,12 +52,14 @@ pub fn call(
     requires frame { at.base + frame ≤ length words.old.items }
     requires callee { (2 ≤ callee.frame) × (at.base + (callee.arguments + callee.results) ≤ length words.old.items) }
     requires place { at.pc < 2 ^ 40 }
-    ensures calls { (reads : ℕ) (heap : Words) → Comes (calls stack_max frame (Some callee) (state_of words.old.items at reads heap)) (state_of words.new.items result.at reads heap) result.ending }
-    ensures entered { result.ending ≡ None → (result.at.pc ≡ callee.start) × (result.at.base + callee.frame ≤ length words.new.items) }
+    ensures calls { ComesTo (calls stack_max frame (Some callee)) words.old.items at words.new.items result }
+    ensures entered { result.ending ≡ None
+        → (result.at.pc ≡ callee.start) × (result.at.base + callee.frame ≤ length words.new.items) }
     ensures length { length words.new.items ≤ stack_max }
     ensures status { StatusFits result.ending }
     ensures read { result.ending ≢ Some Ending.ReadFault }
-    ensures refused { result.ending ≡ Some Ending.NoMemory → (at.base < callee.frame) × (length (drop at.base words.old.items) + callee.frame ≤ stack_max) × (words.new ≡ words.old) }
+    ensures refused { result.ending ≡ Some Ending.NoMemory → (at.base < callee.frame)
+        × (length (drop at.base words.old.items) + callee.frame ≤ stack_max) × (words.new ≡ words.old) }
 {
     let asked = callee.frame as usize;
     let used = words.len() - at.base;
@@ -86,29 +86,6 @@ pub fn call(
             Next::to(callee.start as usize, low)
         }
         Err(_) => Next::ended(at, Ending::NoMemory),
-    }
-}
-
-// Whether a place stands after a call of a function.
-#[inline(always)]
-fn follows(
-    instrs: &[Instr],
-    _owners: &[u16],
-    _funcs: &[Func],
-    _strings: &[Vec<u8>],
-    f: u16,
-    ret: u64,
-) -> bool
-    ensures is { result ≡ follows_call (record { instrs = instrs.now; owners = _owners.now; funcs = _funcs.now; strings = map (λ bytes. bytes.items) _strings.now }) f ret }
-    ensures inside { IsTrue result → (0 < ret) × (ret ≤ length instrs.now) }
-    ensures named { IsTrue result → slice_get instrs.now (ret - 1) ≡ Some (Instr.Call f) }
-{
-    if ret == 0 || ret > instrs.len() as u64 {
-        return false;
-    }
-    match instrs[(ret - 1) as usize] {
-        Instr::Call { func } => func == f,
-        _ => false,
     }
 }
 
@@ -141,36 +118,28 @@ fn links(words: &Vec<u64>, stack_max: u64, outer: usize, link: u64) -> bool
 
 /// Returns from the function of a place.
 #[inline(always)]
-pub fn leave(
-    instrs: &[Instr],
-    owners: &[u16],
-    funcs: &[Func],
-    strings: &[Vec<u8>],
-    words: &Vec<u64>,
-    stack_max: u64,
-    at: RunState,
-) -> Next
-    requires code { IsCode (record { instrs = instrs.now; owners = owners.now; funcs = funcs.now; strings = map (λ bytes. bytes.items) strings.now }) }
+pub fn leave(tables: &Tables<'_>, words: &Vec<u64>, stack_max: u64, at: RunState) -> Next
     requires words { (length words.now.items ≤ stack_max) × (stack_max ≤ 2 ^ 32) }
-    requires inside { Inside (record { instrs = instrs.now; owners = owners.now; funcs = funcs.now; strings = map (λ bytes. bytes.items) strings.now }) (length words.now.items) at.pc at.base }
-    requires place { at.pc < length instrs.now }
-    ensures returns { let t : Tables = record { instrs = instrs.now; owners = owners.now; funcs = funcs.now; strings = map (λ bytes. bytes.items) strings.now } in (reads : ℕ) (heap : Words) → Comes (returns t stack_max (owner_of t at.pc) (state_of words.now.items at reads heap)) (state_of words.now.items result.at reads heap) result.ending }
-    ensures stays { result.ending ≡ None → Inside (record { instrs = instrs.now; owners = owners.now; funcs = funcs.now; strings = map (λ bytes. bytes.items) strings.now }) (length words.now.items) result.at.pc result.at.base }
+    requires inside { Inside tables.now (length words.now.items) at.pc at.base }
+    requires place { at.pc < length tables.now.instrs }
+    ensures returns { ComesTo (returns tables.now stack_max (owner_of tables.now at.pc))
+        words.now.items at words.now.items result }
+    ensures stays { result.ending ≡ None → Inside tables.now (length words.now.items) result.at.pc result.at.base }
     ensures status { StatusFits result.ending }
     ensures memory { result.ending ≢ Some Ending.NoMemory }
     ensures read { result.ending ≢ Some Ending.ReadFault }
 {
-    let frame = own_frame(instrs, owners, funcs, strings, words, at);
+    let frame = tables.own_frame(words, at);
     let ret = slot(words, at.base, frame - 1);
     let link = slot(words, at.base, frame - 2);
     let end = at.base + frame;
     if end == words.len() {
         return Next::ended(at, exit(ret, link));
     }
-    if !follows(instrs, owners, funcs, strings, owners[at.pc], ret) {
+    if !tables.follows_call(tables.owner(at.pc), ret) {
         return Next::ended(at, Ending::WildReturn(ret));
     }
-    let above = frame_at(instrs, owners, funcs, strings, (ret - 1) as usize);
+    let above = tables.frame_at((ret - 1) as usize);
     if !links(words, stack_max, end + above, link) {
         return Next::ended(at, Ending::WildLink(link));
     }

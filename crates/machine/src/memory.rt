@@ -1,9 +1,8 @@
 //! Memory that is reached by addresses: the heap's words that are taken, and the stack from the running frame on.
-ghost use Rattle.std.specs.Prelude.{◌≡◌, ◌≢◌, ℕ, ◌+◌, ◌-◌, ◌<◌, ◌≤◌, ◌^◌, ◌&&◌, nat_le, length, drop, slice_index, Some, None};
-ghost use Rattle.heap_bump.specs.Words.{Words};
+ghost use Rattle.std.specs.Prelude.{◌≡◌, ◌≢◌, ◌+◌, ◌-◌, ◌<◌, ◌≤◌, ◌^◌, length, drop, slice_index, IsFalse, IsTrue, Some, None};
 ghost use Rattle.machine.specs.Machine.{words_at, lie_within, address_of, address_behind, spot_of, loads_from, loads, stores_at, stores, offsets, element_address, indexes};
 ghost use Rattle.machine.specs.Inside.{Reached};
-ghost use Rattle.machine.specs.Answers.{Comes, StatusFits, state_of, touched};
+ghost use Rattle.machine.specs.Answers.{ComesTo, ComesWith, StatusFits, TouchComes};
 
 use crate::links::address;
 use crate::slots::{copy_slots, set_slot, set_slots, slot, slots};
@@ -72,8 +71,8 @@ fn load_words(
 ) -> bool
     requires words { (length words.old.items ≤ stack_max) × (stack_max ≤ 2 ^ 32) }
     requires slots { base + (a + n) ≤ length words.old.items }
-    ensures loads { (pc reads : ℕ) → loads_from (spot_of stack_max heap.now.words (drop base words.old.items) at n) (state_of words.old.items (record { pc = pc; base = base }) reads heap.now) a n at
-        ≡ touched result (state_of words.new.items (record { pc = pc + 1; base = base }) reads heap.now) at }
+    ensures loads { TouchComes (λ s. loads_from (spot_of stack_max s.heap.words s.words at n) s a n at) base at
+        words.old.items heap.now words.new.items heap.now result }
     ensures length { length words.new.items ≡ length words.old.items }
 {
     match find(heap, words, stack_max, base, at, n) {
@@ -102,8 +101,8 @@ fn store_words(
 ) -> bool
     requires words { (length words.old.items ≤ stack_max) × (stack_max ≤ 2 ^ 32) }
     requires slots { base + (c + n) ≤ length words.old.items }
-    ensures stores { (pc reads : ℕ) → stores_at (spot_of stack_max heap.old.words (drop base words.old.items) at n) (state_of words.old.items (record { pc = pc; base = base }) reads heap.old) (words_at (drop base words.old.items) c n) at
-        ≡ touched result (state_of words.new.items (record { pc = pc + 1; base = base }) reads heap.new) at }
+    ensures stores { TouchComes (λ s. stores_at (spot_of stack_max s.heap.words s.words at n) s (words_at s.words c n) at) base at
+        words.old.items heap.old words.new.items heap.new result }
     ensures length { length words.new.items ≡ length words.old.items }
 {
     match find(heap, words, stack_max, base, at, n) {
@@ -134,7 +133,7 @@ pub fn slot_address(words: &Vec<u64>, stack_max: u64, base: usize, a: u16) -> u6
 pub fn offset(words: &mut Vec<u64>, at: RunState, a: u16, b: u16, off: u16) -> Next
     requires slots { (at.base + a < length words.old.items) × (at.base + b < length words.old.items) }
     requires place { at.pc < 2 ^ 40 }
-    ensures offsets { (reads : ℕ) (heap : Words) → Comes (offsets (state_of words.old.items at reads heap) a b off) (state_of words.new.items result.at reads heap) result.ending }
+    ensures offsets { ComesTo (λ s. offsets s a b off) words.old.items at words.new.items result }
     ensures on { result.ending ≡ None → result.at ≡ record { pc = at.pc + 1; base = at.base } }
     ensures length { length words.new.items ≡ length words.old.items }
     ensures status { StatusFits result.ending }
@@ -142,7 +141,7 @@ pub fn offset(words: &mut Vec<u64>, at: RunState, a: u16, b: u16, off: u16) -> N
     ensures read { result.ending ≢ Some Ending.ReadFault }
 {
     match address_behind(words, at.base, b, off) {
-        None => Next::ended(at, Ending::Panic(Panic::NilPointer)),
+        None => Next::panicked(at, Panic::NilPointer),
         Some(address) => {
             set_slot(words, at.base, a as usize, address);
             Next::on(at)
@@ -165,9 +164,10 @@ fn element_address(first: u64, index: i64, len: u16, w: u16) -> Option<u64>
 /// begins at the word of slot b. It stands out of line, so that the other instructions keep their registers.
 #[inline(never)]
 pub fn index(words: &mut Vec<u64>, at: RunState, a: u16, b: u16, c: u16, len: u16, w: u16) -> Next
-    requires slots { (at.base + a < length words.old.items) × (at.base + b < length words.old.items) × (at.base + c < length words.old.items) }
+    requires slots { (at.base + a < length words.old.items) × (at.base + b < length words.old.items)
+        × (at.base + c < length words.old.items) }
     requires place { at.pc < 2 ^ 40 }
-    ensures indexes { (reads : ℕ) (heap : Words) → Comes (indexes (state_of words.old.items at reads heap) a b c len w) (state_of words.new.items result.at reads heap) result.ending }
+    ensures indexes { ComesTo (λ s. indexes s a b c len w) words.old.items at words.new.items result }
     ensures on { result.ending ≡ None → result.at ≡ record { pc = at.pc + 1; base = at.base } }
     ensures length { length words.new.items ≡ length words.old.items }
     ensures status { StatusFits result.ending }
@@ -175,13 +175,13 @@ pub fn index(words: &mut Vec<u64>, at: RunState, a: u16, b: u16, c: u16, len: u1
     ensures read { result.ending ≢ Some Ending.ReadFault }
 {
     match address_behind(words, at.base, b, 0) {
-        None => Next::ended(at, Ending::Panic(Panic::NilPointer)),
+        None => Next::panicked(at, Panic::NilPointer),
         Some(first) => {
             let index = slot(words, at.base, c as usize).cast_signed();
             match element_address(first, index, len, w) {
                 None => {
                     let length = len as i64;
-                    Next::ended(at, Ending::Panic(Panic::IndexOutOfRange { index, length }))
+                    Next::panicked(at, Panic::IndexOutOfRange { index, length })
                 }
                 Some(address) => {
                     set_slot(words, at.base, a as usize, address);
@@ -190,6 +190,19 @@ pub fn index(words: &mut Vec<u64>, at: RunState, a: u16, b: u16, c: u16, len: u1
             }
         }
     }
+}
+
+// The run goes on after a touch of words from an address on, if they lie somewhere.
+#[inline(always)]
+fn reached(at: RunState, address: u64, lie: bool) -> Next
+    requires { at.pc < 2 ^ 40 }
+    ensures on { IsTrue lie → result ≡ record { at = record { pc = at.pc + 1; base = at.base }; ending = None } }
+    ensures wild { IsFalse lie → result ≡ record { at = at; ending = Some (Ending.WildAddress address) } }
+{
+    if lie {
+        return Next::on(at);
+    }
+    Next::ended(at, Ending::WildAddress(address))
 }
 
 /// The slots from `a` on get the `n` words that lie `off` above the word of slot `b`.
@@ -207,7 +220,7 @@ pub fn load(
     requires words { (length words.old.items ≤ stack_max) × (stack_max ≤ 2 ^ 32) }
     requires slots { (at.base + (a + n) ≤ length words.old.items) × (at.base + b < length words.old.items) }
     requires place { at.pc < 2 ^ 40 }
-    ensures loads { (reads : ℕ) → Comes (loads stack_max (state_of words.old.items at reads heap.now) a b off n) (state_of words.new.items result.at reads heap.now) result.ending }
+    ensures loads { ComesWith (λ s. loads stack_max s a b off n) words.old.items heap.now at words.new.items heap.now result }
     ensures on { result.ending ≡ None → result.at ≡ record { pc = at.pc + 1; base = at.base } }
     ensures length { length words.new.items ≡ length words.old.items }
     ensures status { StatusFits result.ending }
@@ -215,13 +228,10 @@ pub fn load(
     ensures read { result.ending ≢ Some Ending.ReadFault }
 {
     match address_behind(words, at.base, b, off) {
-        None => Next::ended(at, Ending::Panic(Panic::NilPointer)),
+        None => Next::panicked(at, Panic::NilPointer),
         Some(address) => {
-            if load_words(words, stack_max, heap, at.base, a, address, n) {
-                Next::on(at)
-            } else {
-                Next::ended(at, Ending::WildAddress(address))
-            }
+            let lie = load_words(words, stack_max, heap, at.base, a, address, n);
+            reached(at, address, lie)
         }
     }
 }
@@ -241,7 +251,7 @@ pub fn store(
     requires words { (length words.old.items ≤ stack_max) × (stack_max ≤ 2 ^ 32) }
     requires slots { (at.base + a < length words.old.items) × (at.base + (c + n) ≤ length words.old.items) }
     requires place { at.pc < 2 ^ 40 }
-    ensures stores { (reads : ℕ) → Comes (stores stack_max (state_of words.old.items at reads heap.old) a off c n) (state_of words.new.items result.at reads heap.new) result.ending }
+    ensures stores { ComesWith (λ s. stores stack_max s a off c n) words.old.items heap.old at words.new.items heap.new result }
     ensures on { result.ending ≡ None → result.at ≡ record { pc = at.pc + 1; base = at.base } }
     ensures length { length words.new.items ≡ length words.old.items }
     ensures status { StatusFits result.ending }
@@ -249,13 +259,10 @@ pub fn store(
     ensures read { result.ending ≢ Some Ending.ReadFault }
 {
     match address_behind(words, at.base, a, off) {
-        None => Next::ended(at, Ending::Panic(Panic::NilPointer)),
+        None => Next::panicked(at, Panic::NilPointer),
         Some(address) => {
-            if store_words(words, stack_max, heap, at.base, address, c, n) {
-                Next::on(at)
-            } else {
-                Next::ended(at, Ending::WildAddress(address))
-            }
+            let lie = store_words(words, stack_max, heap, at.base, address, c, n);
+            reached(at, address, lie)
         }
     }
 }

@@ -88,6 +88,14 @@ impl Next {
         }
     }
 
+    // The program panics at a place.
+    #[inline(always)]
+    pub(crate) fn panicked(at: RunState, panic: Panic) -> Next
+        ensures { result ≡ record { at = at; ending = Some (Ending.Panic panic) } }
+    {
+        Next::ended(at, Ending::Panic(panic))
+    }
+
     // The run ends at a place.
     #[inline(always)]
     pub(crate) fn ended(at: RunState, ending: Ending) -> Next

@@ -1,13 +1,12 @@
 //! A run of steps.
 ghost use Rattle.outside.specs.Causes.{Rose};
 ghost use Rattle.outside.specs.Pending.{to_come};
-ghost use Rattle.std.specs.Prelude.{◌≡◌, ◌+◌, ◌<◌, ◌≤◌, ◌^◌, length, Some, None};
-ghost use Rattle.simulation.specs.Steps.{many};
-ghost use Rattle.machine.specs.Machine.{act};
+ghost use Rattle.std.specs.Prelude.{◌≡◌, ◌<◌, ◌≤◌, ◌^◌, length, Some, None};
 ghost use Rattle.machine.specs.Inside.{Inside};
-ghost use Rattle.machine.specs.Answers.{Answers, Refused, StatusFits, Unwritten, WithAnswers, state_of};
+ghost use Rattle.machine.specs.Answers.{RunAnswers, StatusFits, WithAnswers};
 ghost use Rattle.machine.specs.declared.run_state.Ending.{Ending};
 
+use crate::code_tables::Tables;
 use crate::steps::step;
 use crate::{Next, RunState};
 use heap_bump::Heap;
@@ -33,26 +32,22 @@ pub fn run<I: Source, O: Sink>(
     requires words { (length words.old.items ≤ stack_max) × (stack_max ≤ 2 ^ 32) }
     requires inside { Inside code.now (length words.old.items) at.pc at.base }
     requires code { length code.now.instrs < 2 ^ 40 }
-    ensures runs { WithAnswers result.ending (to_come reader.old (I.left input.old)) (to_come reader.new (I.left input.new)) ((reader.new ≡ reader.old) × (input.new ≡ input.old))
-        (λ items reads answered. Answers (many (act code.now stack_max items) steps (state_of words.old.items at reads heap.old)) (state_of words.new.items result.at (reads + answered) heap.new) answered result.ending
-        (O.taken out.old) (O.taken out.new) (O.faults out.old) (O.faults out.new)
-        × (result.ending ≡ Some Ending.NoMemory → Refused code.now stack_max items steps (state_of words.old.items at reads heap.old) answered (O.taken out.old) (O.taken out.new))
-        × (result.ending ≡ Some Ending.WriteFault → Unwritten code.now stack_max items steps (state_of words.old.items at reads heap.old) answered (O.taken out.old) (O.taken out.new))) }
+    ensures runs { WithAnswers result.ending (to_come reader.old (I.left input.old)) (to_come reader.new (I.left input.new))
+        ((reader.new ≡ reader.old) × (input.new ≡ input.old))
+        (RunAnswers code.now stack_max steps words.old.items heap.old at words.new.items heap.new result.at result.ending
+        (O.taken out.old) (O.taken out.new) (O.faults out.old) (O.faults out.new)) }
     ensures source_later { I.faults input.old ≤ I.faults input.new }
     ensures read_fault { result.ending ≡ Some Ending.ReadFault → Rose (I.faults input.old) (I.faults input.new) }
     ensures stays { result.ending ≡ None → Inside code.now (length words.new.items) result.at.pc result.at.base }
     ensures length { length words.new.items ≤ stack_max }
     ensures status { StatusFits result.ending }
 {
-    let instrs = code.instrs();
-    let owners = code.owners();
-    let funcs = code.funcs();
-    let strings = code.strings();
+    let tables = Tables::of(code);
     let mut at = at;
     let mut left = steps;
     'steps: while left > 0 {
         let next = step(
-            alloc, instrs, owners, funcs, strings, words, stack_max, heap, at, reader, input, out,
+            alloc, &tables, words, stack_max, heap, at, reader, input, out,
         );
         match next.ending {
             None => at = next.at,

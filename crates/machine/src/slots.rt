@@ -99,7 +99,8 @@ fn copy_block(words: &mut Vec<u64>, from: usize, to: usize, count: usize)
 #[inline(always)]
 pub fn copy_slots(words: &mut Vec<u64>, base: usize, from: usize, to: usize, count: usize)
     requires { (base + (from + count) ≤ length words.old.items) × (base + (to + count) ≤ length words.old.items) }
-    ensures words { drop base words.new.items ≡ put_words (drop base words.old.items) to (words_at (drop base words.old.items) from count) }
+    ensures words { drop base words.new.items
+        ≡ put_words (drop base words.old.items) to (words_at (drop base words.old.items) from count) }
     ensures length { length words.new.items ≡ length words.old.items }
 {
     copy_block(words, base + from, base + to, count);

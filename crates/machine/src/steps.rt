@@ -8,18 +8,17 @@ ghost use Rattle.std.specs.Int.{w64, cast_signed};
 ghost use Rattle.std.specs.Prelude.{◌≡◌, ◌⊎◌, ◌≢◌, ℕ, List, Option, [], OnOk, OnErr, IfOk, IfErr, ◌+◌, ◌-◌, ◌<◌, ◌≤◌, ◌^◌, ◌==◌, length, drop, map, if◌then◌else◌, slice_get, slice_index, slice_set, Some, None, IfSome, FitsSigned};
 ghost use Rattle.simulation.specs.Steps.{Stops};
 ghost use Rattle.heap_bump.specs.Words.{Words};
-ghost use Rattle.isa.specs.Code.{Tables, IsCode};
 ghost use Rattle.machine.specs.Machine.{Item, act, reads_item, item_words, put_words, exits_with, prints, truth_bytes, panic_of, address_of, frame_of, owner_of};
-ghost use Rattle.machine.specs.Inside.{Inside, Callable, Touches, Leads};
-ghost use Rattle.machine.specs.Answers.{Answers, Comes, StatusFits, CallFits, NoRoom, WithAnswers, state_of};
+ghost use Rattle.machine.specs.Inside.{Inside};
+ghost use Rattle.machine.specs.Answers.{Answers, StatusFits, CallFits, NoRoom, PrintsAt, WithAnswers, state_of};
 
-use crate::functions::{callee, own_frame, string};
+use crate::code_tables::Tables;
 use crate::links::{address, call, leave};
 use crate::memory::{index, load, offset, slot_address, store};
 use crate::slots::{copy_slots, same_slots, set_slot, slot, zero_slots};
 use crate::{Ending, Next, Panic, RunState};
 use heap_bump::Heap;
-use isa::{BinFault, Func, Instr, bin, bit, un};
+use isa::{BinFault, Instr, bin, bit, un};
 use outside::{IntReader, ReadFault, Sink, Source, WriteFault, put_bool, put_bytes, put_int};
 use std::alloc::Global;
 
@@ -42,7 +41,8 @@ fn printed(at: RunState, written: Result<(), WriteFault>) -> Next
 #[inline(always)]
 fn print<O: Sink>(_words: &Vec<u64>, at: RunState, piece: &[u8], out: &mut O) -> Next
     requires { at.pc < 2 ^ 40 }
-    ensures step { (reads : ℕ) (heap : Words) → Answers (prints (state_of _words.now.items at reads heap) piece.now) (state_of _words.now.items result.at reads heap) 0 result.ending (O.taken out.old) (O.taken out.new) (O.faults out.old) (O.faults out.new) }
+    ensures step { PrintsAt _words.now.items at piece.now result
+        (O.taken out.old) (O.taken out.new) (O.faults out.old) (O.faults out.new) }
     ensures later { O.faults out.old ≤ O.faults out.new }
     ensures on { result.ending ≡ None → result.at ≡ record { pc = at.pc + 1; base = at.base } }
     ensures status { StatusFits result.ending }
@@ -57,7 +57,9 @@ fn print<O: Sink>(_words: &Vec<u64>, at: RunState, piece: &[u8], out: &mut O) ->
 fn print_int<O: Sink>(words: &Vec<u64>, at: RunState, a: u16, out: &mut O) -> Next
     requires slot { at.base + a < length words.now.items }
     requires place { at.pc < 2 ^ 40 }
-    ensures step { (reads : ℕ) (heap : Words) → Answers (prints (state_of words.now.items at reads heap) (signed_decimal (cast_signed w64 (slice_index (drop at.base words.now.items) a)))) (state_of words.now.items result.at reads heap) 0 result.ending (O.taken out.old) (O.taken out.new) (O.faults out.old) (O.faults out.new) }
+    ensures step { PrintsAt words.now.items at
+        (signed_decimal (cast_signed w64 (slice_index (drop at.base words.now.items) a))) result
+        (O.taken out.old) (O.taken out.new) (O.faults out.old) (O.faults out.new) }
     ensures later { O.faults out.old ≤ O.faults out.new }
     ensures on { result.ending ≡ None → result.at ≡ record { pc = at.pc + 1; base = at.base } }
     ensures status { StatusFits result.ending }
@@ -72,7 +74,8 @@ fn print_int<O: Sink>(words: &Vec<u64>, at: RunState, a: u16, out: &mut O) -> Ne
 fn print_bool<O: Sink>(words: &Vec<u64>, at: RunState, a: u16, out: &mut O) -> Next
     requires slot { at.base + a < length words.now.items }
     requires place { at.pc < 2 ^ 40 }
-    ensures step { (reads : ℕ) (heap : Words) → Answers (prints (state_of words.now.items at reads heap) (truth_bytes (slice_index (drop at.base words.now.items) a))) (state_of words.now.items result.at reads heap) 0 result.ending (O.taken out.old) (O.taken out.new) (O.faults out.old) (O.faults out.new) }
+    ensures step { PrintsAt words.now.items at (truth_bytes (slice_index (drop at.base words.now.items) a)) result
+        (O.taken out.old) (O.taken out.new) (O.faults out.old) (O.faults out.new) }
     ensures later { O.faults out.old ≤ O.faults out.new }
     ensures on { result.ending ≡ None → result.at ≡ record { pc = at.pc + 1; base = at.base } }
     ensures status { StatusFits result.ending }
@@ -95,7 +98,9 @@ fn incoming(
     requires words { (length words.now.items ≤ stack_max) × (stack_max ≤ 2 ^ 32) }
     requires frame { (frame < 2 ^ 16) × (base + frame ≤ length words.now.items) }
     ensures ok { IfOk result (λ i. (i ≡ frame + b) × (base + (i + n) ≤ length words.now.items)) }
-    ensures wild { IfErr result (λ e. (e ≡ Ending.WildAddress (address_of stack_max (length words.now.items - base) + (frame + b))) × (length words.now.items < base + (frame + b + n))) }
+    ensures wild { IfErr result (λ e.
+        (e ≡ Ending.WildAddress (address_of stack_max (length words.now.items - base) + (frame + b)))
+        × (length words.now.items < base + (frame + b + n))) }
 {
     let index = frame + b as usize;
     if base + index + n as usize <= words.len() {
@@ -114,14 +119,6 @@ fn panic_of(fault: BinFault) -> Panic
     }
 }
 
-// The program panics at a place.
-#[inline(always)]
-fn panicked(at: RunState, panic: Panic) -> Next
-    ensures { result ≡ record { at = at; ending = Some (Ending.Panic panic) } }
-{
-    Next::ended(at, Ending::Panic(panic))
-}
-
 // How an exit with a status ends.
 fn exit(status: i64) -> Ending
     ensures exits { exits_with status ≡ Stops [] result }
@@ -134,26 +131,6 @@ fn exit(status: i64) -> Ending
         return Ending::Exit(status as u32);
     }
     Ending::Panic(Panic::ExitCode(status))
-}
-
-// The instruction at a place.
-#[inline(always)]
-fn fetch(
-    instrs: &[Instr],
-    _owners: &[u16],
-    _funcs: &[Func],
-    _strings: &[Vec<u8>],
-    _words: &Vec<u64>,
-    at: RunState,
-) -> Instr
-    requires code { IsCode (record { instrs = instrs.now; owners = _owners.now; funcs = _funcs.now; strings = map (λ bytes. bytes.items) _strings.now }) }
-    requires inside { Inside (record { instrs = instrs.now; owners = _owners.now; funcs = _funcs.now; strings = map (λ bytes. bytes.items) _strings.now }) (length _words.now.items) at.pc at.base }
-    requires place { at.pc < length instrs.now }
-    ensures is { slice_get instrs.now at.pc ≡ Some result }
-    ensures touches { Touches (record { instrs = instrs.now; owners = _owners.now; funcs = _funcs.now; strings = map (λ bytes. bytes.items) _strings.now }) (length _words.now.items) at.base result }
-    ensures leads { Leads (record { instrs = instrs.now; owners = _owners.now; funcs = _funcs.now; strings = map (λ bytes. bytes.items) _strings.now }) (length _words.now.items) at.pc at.base result }
-{
-    instrs[at.pc]
 }
 
 // What an item gives goes to the slots a and a + 1.
@@ -183,8 +160,10 @@ fn read_item<I: Source>(
     input: &mut I,
 ) -> Result<(), ReadFault>
     requires { base + (a + 2) ≤ length words.old.items }
-    ensures item { OnOk result ((item : Item) × Reads (to_come reader.old (I.left input.old)) (to_come reader.new (I.left input.new)) item
-        × (drop base words.new.items ≡ put_words (drop base words.old.items) a (item_words item)) × IfSome item (FitsSigned w64)) }
+    ensures item { OnOk result ((item : Item)
+        × Reads (to_come reader.old (I.left input.old)) (to_come reader.new (I.left input.new)) item
+        × (drop base words.new.items ≡ put_words (drop base words.old.items) a (item_words item))
+        × IfSome item (FitsSigned w64)) }
     ensures lost { OnErr result (Loses (to_come reader.old (I.left input.old)) (to_come reader.new (I.left input.new))) }
     ensures cause { HasCause (I.faults input.old) (I.faults input.new) result }
     ensures length { length words.new.items ≡ length words.old.items }
@@ -205,8 +184,11 @@ fn read_int<I: Source>(
 ) -> Next
     requires slots { at.base + (a + 2) ≤ length words.old.items }
     requires place { at.pc < 2 ^ 40 }
-    ensures step { WithAnswers result.ending (to_come reader.old (I.left input.old)) (to_come reader.new (I.left input.new)) ((reader.new ≡ reader.old) × (input.new ≡ input.old))
-        (λ items reads answered. (heap : Words) (taken : Option (List ℕ)) (faults : ℕ) → Answers (reads_item (state_of words.old.items at reads heap) a (items reads)) (state_of words.new.items result.at (reads + answered) heap) answered result.ending taken taken faults faults) }
+    ensures step { WithAnswers result.ending (to_come reader.old (I.left input.old)) (to_come reader.new (I.left input.new))
+        ((reader.new ≡ reader.old) × (input.new ≡ input.old))
+        (λ items reads answered. (heap : Words) (taken : Option (List ℕ)) (faults : ℕ)
+        → Answers (reads_item (state_of words.old.items at reads heap) a (items reads))
+        (state_of words.new.items result.at (reads + answered) heap) answered result.ending taken taken faults faults) }
     ensures later { I.faults input.old ≤ I.faults input.new }
     ensures fault { result.ending ≡ Some Ending.ReadFault → Rose (I.faults input.old) (I.faults input.new) }
     ensures on { result.ending ≡ None → result.at ≡ record { pc = at.pc + 1; base = at.base } }
@@ -225,10 +207,7 @@ fn read_int<I: Source>(
 #[inline(always)]
 pub fn step<I: Source, O: Sink>(
     alloc: Global,
-    instrs: &[Instr],
-    owners: &[u16],
-    funcs: &[Func],
-    strings: &[Vec<u8>],
+    tables: &Tables<'_>,
     words: &mut Vec<u64>,
     stack_max: u64,
     heap: &mut Heap,
@@ -237,24 +216,26 @@ pub fn step<I: Source, O: Sink>(
     input: &mut I,
     out: &mut O,
 ) -> Next
-    requires code { IsCode (record { instrs = instrs.now; owners = owners.now; funcs = funcs.now; strings = map (λ bytes. bytes.items) strings.now }) }
     requires words { (length words.old.items ≤ stack_max) × (stack_max ≤ 2 ^ 32) }
-    requires inside { Inside (record { instrs = instrs.now; owners = owners.now; funcs = funcs.now; strings = map (λ bytes. bytes.items) strings.now }) (length words.old.items) at.pc at.base }
-    requires place { (at.pc < length instrs.now) × (length instrs.now < 2 ^ 40) }
-    ensures step { WithAnswers result.ending (to_come reader.old (I.left input.old)) (to_come reader.new (I.left input.new)) ((reader.new ≡ reader.old) × (input.new ≡ input.old))
-        (λ items reads answered. Answers (act (record { instrs = instrs.now; owners = owners.now; funcs = funcs.now; strings = map (λ bytes. bytes.items) strings.now }) stack_max items (state_of words.old.items at reads heap.old)) (state_of words.new.items result.at (reads + answered) heap.new) answered result.ending
+    requires inside { Inside tables.now (length words.old.items) at.pc at.base }
+    requires place { (at.pc < length tables.now.instrs) × (length tables.now.instrs < 2 ^ 40) }
+    ensures step { WithAnswers result.ending (to_come reader.old (I.left input.old)) (to_come reader.new (I.left input.new))
+        ((reader.new ≡ reader.old) × (input.new ≡ input.old))
+        (λ items reads answered. Answers (act tables.now stack_max items (state_of words.old.items at reads heap.old))
+        (state_of words.new.items result.at (reads + answered) heap.new) answered result.ending
         (O.taken out.old) (O.taken out.new) (O.faults out.old) (O.faults out.new)) }
     ensures later { O.faults out.old ≤ O.faults out.new }
     ensures source_later { I.faults input.old ≤ I.faults input.new }
     ensures read_fault { result.ending ≡ Some Ending.ReadFault → Rose (I.faults input.old) (I.faults input.new) }
-    ensures stays { result.ending ≡ None → Inside (record { instrs = instrs.now; owners = owners.now; funcs = funcs.now; strings = map (λ bytes. bytes.items) strings.now }) (length words.new.items) result.at.pc result.at.base }
+    ensures stays { result.ending ≡ None → Inside tables.now (length words.new.items) result.at.pc result.at.base }
     ensures length { length words.new.items ≤ stack_max }
     ensures status { StatusFits result.ending }
-    ensures memory { result.ending ≡ Some Ending.NoMemory → CallFits (record { instrs = instrs.now; owners = owners.now; funcs = funcs.now; strings = map (λ bytes. bytes.items) strings.now }) stack_max at.pc (drop at.base words.old.items) × Took (O.taken out.old) (O.taken out.new) [] × (words.new ≡ words.old) }
-    ensures room { result.ending ≡ Some Ending.NoMemory → NoRoom (record { instrs = instrs.now; owners = owners.now; funcs = funcs.now; strings = map (λ bytes. bytes.items) strings.now }) at }
+    ensures memory { result.ending ≡ Some Ending.NoMemory → CallFits tables.now stack_max at.pc (drop at.base words.old.items)
+        × Took (O.taken out.old) (O.taken out.new) [] × (words.new ≡ words.old) }
+    ensures room { result.ending ≡ Some Ending.NoMemory → NoRoom tables.now at }
 {
     let base = at.base;
-    match fetch(instrs, owners, funcs, strings, words, at) {
+    match tables.fetch(words, at) {
         Instr::Const { a, word } => {
             set_slot(words, base, a as usize, word);
             Next::on(at)
@@ -293,7 +274,7 @@ pub fn step<I: Source, O: Sink>(
                     set_slot(words, base, a as usize, word);
                     Next::on(at)
                 }
-                Err(fault) => panicked(at, panic_of(fault)),
+                Err(fault) => Next::panicked(at, panic_of(fault)),
             }
         }
         Instr::Un { op, a, b } => {
@@ -310,12 +291,12 @@ pub fn step<I: Source, O: Sink>(
             }
         }
         Instr::Call { func } => {
-            let frame = own_frame(instrs, owners, funcs, strings, words, at);
-            let callee = callee(instrs, owners, funcs, strings, words, base, func);
+            let frame = tables.own_frame(words, at);
+            let callee = tables.callee(words, base, func);
             call(alloc, words, stack_max, at, frame, callee)
         }
         Instr::Argument { a, b } => {
-            let frame = own_frame(instrs, owners, funcs, strings, words, at);
+            let frame = tables.own_frame(words, at);
             match incoming(words, stack_max, base, frame, b, 1) {
                 Ok(index) => {
                     let word = slot(words, base, index);
@@ -326,7 +307,7 @@ pub fn step<I: Source, O: Sink>(
             }
         }
         Instr::ArgumentWords { a, b, n } => {
-            let frame = own_frame(instrs, owners, funcs, strings, words, at);
+            let frame = tables.own_frame(words, at);
             match incoming(words, stack_max, base, frame, b, n) {
                 Ok(index) => {
                     copy_slots(words, base, index, a as usize, n as usize);
@@ -336,7 +317,7 @@ pub fn step<I: Source, O: Sink>(
             }
         }
         Instr::SetResults { a, b, n } => {
-            let frame = own_frame(instrs, owners, funcs, strings, words, at);
+            let frame = tables.own_frame(words, at);
             match incoming(words, stack_max, base, frame, b, n) {
                 Ok(index) => {
                     copy_slots(words, base, a as usize, index, n as usize);
@@ -356,17 +337,20 @@ pub fn step<I: Source, O: Sink>(
         Instr::Index { a, b, c, len, w } => index(words, at, a, b, c, len, w),
         Instr::PrintInt { a } => print_int(words, at, a, out),
         Instr::PrintBool { a } => print_bool(words, at, a, out),
-        Instr::PrintText { text } => print(words, at, string(strings, text), out),
+        Instr::PrintText { text } => print(words, at, tables.string(text), out),
         Instr::PrintSpace => print(words, at, b" ", out),
         Instr::PrintLine => print(words, at, b"\n", out),
         Instr::ReadInt { a } => read_int(words, at, a, reader, input),
-        Instr::Return => leave(instrs, owners, funcs, strings, words, stack_max, at),
+        Instr::Return => leave(tables, words, stack_max, at),
         Instr::Exit { a } => { Next::ended(at, exit(slot(words, base, a as usize).cast_signed())) }
-        Instr::PanicText { text } => panicked(at, Panic::Text(text)),
-        Instr::PanicInt { a } => panicked(
+        Instr::PanicText { text } => Next::panicked(at, Panic::Text(text)),
+        Instr::PanicInt { a } => Next::panicked(
             at,
             Panic::Int(slot(words, base, a as usize).cast_signed()),
         ),
-        Instr::PanicBool { a } => panicked(at, Panic::Bool(slot(words, base, a as usize) != 0)),
+        Instr::PanicBool { a } => Next::panicked(
+            at,
+            Panic::Bool(slot(words, base, a as usize) != 0),
+        ),
     }
 }

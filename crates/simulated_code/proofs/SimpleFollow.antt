@@ -4,12 +4,11 @@ use Rattle.std.specs.Prelude.{slice_get, slice_index, slice_set, max, replicate,
 use Rattle.std.specs.Int.{w64, cast_signed}
 use Rattle.typed_syntax.specs.Positions.{Position}
 use Rattle.typed_syntax.specs.declared.operators.BinOp.{BinOp}
-use Rattle.typed_syntax.specs.declared.operators.BinOp.TheVariants.{Add, Sub, Mul, Div, Rem, And, Or, Xor, AndNot, ShiftLeft, ShiftRight, Equal, NotEqual, Less, LessEqual, Greater, GreaterEqual}
 use Rattle.typed_syntax.specs.Value.{Value, int, bool, IsOf}
 use Rattle.typed_syntax.specs.Syntax.{Ex, Exs, Pl, Left, Piece, none, more, results, read_int, text, shown, declare, assign, update, bump, discard, break_stmt, continue_stmt, return_stmt, print, panic, exit, argument_words, site_type, all_wide, value_widths}
 use Rattle.typed_syntax.specs.Types.{TypeTree, ints, bools, width, struct_of, array_of}
-use Rattle.simulated_code.proofs.Numbers.{no_struct, no_array}
-use Rattle.typed_syntax.specs.Form.{IsPlain, AreOf, IsArithmetic, IsStep, Takes, PlFits, new_sites, scope_behind, ExsFit, ReturnFits}
+use Rattle.simulated_code.proofs.Numbers.{arithmetic_takes, no_struct, no_array, step_takes}
+use Rattle.typed_syntax.specs.Form.{IsPlain, AreOf, Takes, PlFits, new_sites, scope_behind, ExsFit, ReturnFits}
 use Rattle.typed_syntax.specs.Frames.{far, lefts_far, behind_values, need, need_all, reach, reach_all, temps_of}
 use Rattle.meaning.specs.Trace.{World, Trace, Exit, Panic, raised, raised_text, exit_code}
 use Rattle.meaning.specs.Store.{value_of, written}
@@ -40,29 +39,6 @@ use Rattle.simulated_code.proofs.Leading.{After, Followed}
 use Rattle.program_code.proofs.Wide.{AllPlain, all_wide_is, plain_value, widths_are}
 use Rattle.typed_syntax.specs.Paths.{at_path}
 use Rattle.typed_syntax.specs.Words.{contents}
-
-arithmetic_takes : (o : BinOp) → IsArithmetic o → Takes o ints ints
-arithmetic_takes Add is = (refl, refl)
-arithmetic_takes Sub is = (refl, refl)
-arithmetic_takes Mul is = (refl, refl)
-arithmetic_takes Div is = (refl, refl)
-arithmetic_takes Rem is = (refl, refl)
-arithmetic_takes And is = (refl, refl)
-arithmetic_takes Or is = (refl, refl)
-arithmetic_takes Xor is = (refl, refl)
-arithmetic_takes AndNot is = (refl, refl)
-arithmetic_takes ShiftLeft is = (refl, refl)
-arithmetic_takes ShiftRight is = (refl, refl)
-arithmetic_takes Equal is = absurd is
-arithmetic_takes NotEqual is = absurd is
-arithmetic_takes Less is = absurd is
-arithmetic_takes LessEqual is = absurd is
-arithmetic_takes Greater is = absurd is
-arithmetic_takes GreaterEqual is = absurd is
-
-step_takes : (o : BinOp) → IsStep o → Takes o ints ints
-step_takes o (inl e) = subst (λ x. Takes x ints ints) (sym e) (refl, refl)
-step_takes o (inr e) = subst (λ x. Takes x ints ints) (sym e) (refl, refl)
 
 -- an address takes its temp
 address_high : (f at : ℕ) → above_address f at ≤ at + f

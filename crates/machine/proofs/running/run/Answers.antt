@@ -1,16 +1,12 @@
 use Rattle.std.proofs.Common.{◌≡◌, refl, arith, ◌∙◌}
 use Rattle.outside.specs.Pending.{to_come}
-use Rattle.machine.proofs.Going.{at_start, on_by, ends_by, ran_out, shown, below}
+use Rattle.machine.proofs.Going.{at_start, on_by, ends_by, ran_out, below}
 use Rattle.machine.proofs.running.run.Goals as goal
-
-pub step-next-requires-clause-code : goal.step-next-requires-clause-code
-step-next-requires-clause-code g c =
-    let same = shown c.args.code.now _ _ _ _ c.instrs-instrs.ensures.value c.owners-owners.ensures c.funcs-funcs.ensures c.strings-strings.ensures in
-    rw same c.instrs-instrs.ensures.is_code
 
 pub step-next-requires-clause-place : goal.step-next-requires-clause-place
 step-next-requires-clause-place g c =
-    rw c.instrs-instrs.ensures.value (below _ _ _ _ c.instrs-instrs.ensures.is_code c.steps.invariant.stands, c.requires.code)
+    let tables = c.of-tables.ensures in
+    rw tables.value (below _ _ _ _ (rw tables.value at tables.is_code) c.steps.invariant.stands, c.requires.code)
 
 pub steps-init : goal.steps-init
 steps-init g c = record {
@@ -23,7 +19,7 @@ steps-init g c = record {
 
 pub steps-preserved : goal.steps-preserved
 steps-preserved g c =
-    let same = shown c.args.code.now _ _ _ _ c.instrs-instrs.ensures.value c.owners-owners.ensures c.funcs-funcs.ensures c.strings-strings.ensures in
+    let same = c.of-tables.ensures.value in
     record {
       reading = on_by c.args.code.now _ c.args.stack_max c.args.steps c.args.words.now.items c.args.heap.now c.args.at c.steps.left c.steps.words.items c.steps.heap c.steps.at c.step-next.new.words.items c.step-next.new.heap c.step-next.result.at
           (g.O.Sink.taken c.args.out.now) (g.O.Sink.taken c.steps.out) (g.O.Sink.taken c.step-next.new.out) (g.O.Sink.faults c.args.out.now) (g.O.Sink.faults c.steps.out) (g.O.Sink.faults c.step-next.new.out)
@@ -37,7 +33,7 @@ steps-preserved g c =
 
 pub returns-in-Some-clause-runs : goal.returns-in-Some-clause-runs
 returns-in-Some-clause-runs g c =
-    let same = shown c.args.code.now _ _ _ _ c.instrs-instrs.ensures.value c.owners-owners.ensures c.funcs-funcs.ensures c.strings-strings.ensures in
+    let same = c.of-tables.ensures.value in
     ends_by c.args.code.now _ c.args.stack_max c.args.steps c.args.words.now.items c.args.heap.now c.args.at c.steps.left c.steps.words.items c.steps.heap c.steps.at c.step-next.new.words.items c.step-next.new.heap c.step-next.result.at
     (g.O.Sink.taken c.args.out.now) (g.O.Sink.taken c.steps.out) (g.O.Sink.taken c.step-next.new.out) (g.O.Sink.faults c.args.out.now) (g.O.Sink.faults c.steps.out) (g.O.Sink.faults c.step-next.new.out)
     (to_come c.args.reader.now (g.I.Source.left c.args.input.now)) (to_come c.steps.reader (g.I.Source.left c.steps.input)) (to_come c.step-next.new.reader (g.I.Source.left c.step-next.new.input))
