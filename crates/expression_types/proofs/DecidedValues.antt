@@ -20,8 +20,8 @@ use Rattle.type_faults.specs.Faults.{fault, IsFault}
 use Rattle.operators.specs.ConstantFaults.{constant_range_fault}
 use Rattle.type_faults.proofs.Decided.{Decided, Tested, further, mapped, after, both_tested, same, turned}
 use Rattle.type_faults.proofs.Options.{and_then_some, map_some, none_some, same_some}
-use Rattle.operators.specs.Operands.{Operand, constant, value, type_of, constant_value, as_value}
-use Rattle.expression_types.specs.Typing.{Part, valued, Gives, one, called, asking, quoted, printed, panicked, exited, Seen, Many, single, operand_in, value_in, type_in_one, shown_type, as_part, part_in, is_part, listed, values, parts, are_single, are_parts, is_shown, are_shown, part_count, many_in, many, count_of, count, each, types_agree, values_agree, fits_with, fits, all_values, taken, types_with, value_types, single_types, taken_types, panicked_with, exit_places, exited_with}
+use Rattle.operators.specs.Operands.{Operand, constant, value, nil, type_of, constant_value, as_value}
+use Rattle.expression_types.specs.Typing.{Part, valued, Gives, one, called, asking, quoted, printed, panicked, exited, Seen, Many, single, operand_in, value_in, type_in_one, shown_type, shown_of, as_part, part_in, is_part, listed, values, parts, are_single, are_parts, is_shown, are_shown, part_count, many_in, many, count_of, count, each, types_agree, values_agree, fits_with, fits, all_values, taken, types_with, value_types, single_types, taken_types, panicked_with, exit_places, exited_with}
 use Rattle.expression_types.specs.Faults.{single_fault, part_fault, SinglesFail, PartsFail, ValuesFail, range_fault, RangeFails, TypesFail, results_fault, MismatchFails, CountFails, TakeFails, refused_fault, shown_fault, PrintFails}
 use Rattle.type_faults.proofs.Lists.{and_true}
 use Rattle.expression_types.proofs.Places.{agree_tested}
@@ -52,6 +52,7 @@ constant_value_decided at (Number z) = by (is_int z)
 
 pub as_value_decided : (at : Pos) (x : Operand) → Decided (as_value x) (IsFault (range_fault at (Some x)))
 as_value_decided at (value t x) = λ f h. h
+as_value_decided at nil = (_, refl)
 as_value_decided at (constant c) = constant_value_decided at c.value
 
 abbrev pub IsGiven : Option Gives → Type 0
@@ -181,7 +182,7 @@ abbrev are_printed : List Seen → Bool
 are_printed os = are_parts os && are_shown os
 
 abbrev is_printed : Option Gives → Bool
-is_printed o = is_part o && is_shown (type_in_one o)
+is_printed o = is_part o && is_shown (operand_in o)
 
 -- four tests, two by two
 crossed : (a b c d : Bool) → ((a && c) && (b && d)) ≡ ((a && b) && (c && d))
@@ -190,8 +191,8 @@ crossed true b true d = refl
 crossed true false false d = refl
 crossed true true false d = refl
 
-as_part_decided : (at : Pos) (x : Operand) → is_shown (Some (type_of x)) ≡ true → Decided (as_part x) (IsFault (range_fault at (Some x)))
-as_part_decided at x is = by (shown_type (type_of x)) is
+as_part_decided : (at : Pos) (x : Operand) → is_shown (Some x) ≡ true → Decided (as_part x) (IsFault (range_fault at (Some x)))
+as_part_decided at x is = by (shown_of x) is
   where
     by : (o : Option TypeTree) → is_some o ≡ true → Decided (option_and_then (λ t. option_map (valued t) (as_value x)) o) (IsFault (range_fault at (Some x)))
     by None is1 = cc is1
@@ -209,8 +210,8 @@ part_decided at (Some (printed place line ps)) is = cc is
 part_decided at (Some (panicked place p)) is = cc is
 part_decided at (Some (exited place e)) is = cc is
 
-not_shown : (x : Operand) → is_shown (Some (type_of x)) ≡ false → as_part x ≡ None
-not_shown x is = by (shown_type (type_of x)) is
+not_shown : (x : Operand) → is_shown (Some x) ≡ false → as_part x ≡ None
+not_shown x is = by (shown_of x) is
   where
     by : (o : Option TypeTree) → is_some o ≡ false → option_and_then (λ t. option_map (valued t) (as_value x)) o ≡ None
     by None is1 = refl
@@ -232,7 +233,7 @@ part_form : Form part_in are_printed
 part_form = record {
   may = is_printed;
   none = refl;
-  more = λ o os. crossed (is_part o.gives) (is_shown (type_in_one o.gives)) (are_parts os) (are_shown os);
+  more = λ o os. crossed (is_part o.gives) (is_shown (operand_in o.gives)) (are_parts os) (are_shown os);
   decided = part_decided;
   missing = no_part;
 }
@@ -606,9 +607,13 @@ no_types : (os : List Seen) → are_single os ≡ false → single_types os ≡ 
 no_types [] are = let bad : true ≡ false = are in cc
 no_types (o ∷ os) are = by (operand_in o.gives) are (λ rest. no_types os rest)
   where
-    by : (x : Option Operand) → (is_some x && are_single os) ≡ false → (are_single os ≡ false → single_types os ≡ None) → option_and_then (λ t. option_map (λ ts. t ∷ ts) (single_types os)) (option_map type_of x) ≡ None
+    by : (x : Option Operand) → (is_some x && are_single os) ≡ false → (are_single os ≡ false → single_types os ≡ None) → option_and_then (λ t. option_map (λ ts. t ∷ ts) (single_types os)) (option_and_then type_of x) ≡ None
     by None is rest = refl
-    by (Some x) is rest = ap (option_map (λ ts. type_of x ∷ ts)) (rest is)
+    by (Some x) is rest = typed (type_of x) (rest is)
+      where
+        typed : (t : Option ValueType) → single_types os ≡ None → option_and_then (λ u. option_map (λ ts. u ∷ ts) (single_types os)) t ≡ None
+        typed None none1 = refl
+        typed (Some u) none1 = ap (option_map (λ ts. u ∷ ts)) none1
 
 and_false : (b : Bool) → (b && false) ≡ false
 and_false true = refl

@@ -43,8 +43,8 @@ use Rattle.type_faults.proofs.Options.{and_then_some, map_some, none_some, same_
 use Rattle.operators.specs.declared.folding.Const.{Const}
 use Rattle.operators.specs.declared.folding.ConstFault.{ConstFault}
 use Rattle.operators.specs.Folding.{folded_one}
-use Rattle.operators.specs.Operands.{Operand, constant, value, type_of, constant_value, const_of, as_value, constant_of}
-use Rattle.operators.specs.Operators.{joint_type, converts, worked_out, has_rules, takes_one, prefix_of, prefixed, takes, result_type, right_allowed, arithmetic_of, compare_of, typed_pair, both_values, value_pair, combined}
+use Rattle.operators.specs.Operands.{Operand, constant, value, nil, type_of, is_assignable, constant_value, const_of, as_value, constant_of}
+use Rattle.operators.specs.Operators.{joint_type, converts, worked_out, has_rules, takes_one, prefix_of, prefixed, takes, takes_both, result_type, right_allowed, arithmetic_of, compare_of, typed_pair, both_values, value_pair, combined}
 use Rattle.operators.proofs.Held.{AreHeld, held_type, constant_is}
 use Rattle.names.specs.declared.scope.Declared.{Declared}
 use Rattle.names.specs.declared.scope.ValueId.{ValueId}
@@ -54,7 +54,7 @@ use Rattle.names.specs.declared.scope.External.TheVariants.{ReadInt, Exit}
 use Rattle.names.specs.Scope.{Scope, Signature, type_number, type_tree, type_trees, declaration, signature, fixed}
 use Rattle.names.specs.Naming.{name_in}
 use Rattle.names.proofs.Trees.{int_tree, bool_tree, solid}
-use Rattle.expression_types.specs.Typing.{Part, said, valued, Gives, one, called, asking, quoted, printed, panicked, exited, known_type, global_read, name_operand, prefix_gives, pair_gives, single, operand_in, value_in, shown_type, as_part, part_in, Seen, values, parts, type_in_one, single_types, Many, many_in, many, types_with, value_types, accepts, types_agree, operand_agrees, values_agree, each, fits_with, fits, all_values, taken, asked, Callee, printer, panicker, reader, exiter, function, conversion, no_function, no_spread, no_text_spread, nothing, function_with, callee_declared, callee_value, spread_over, panicked_with, exit_places, exited_with, called_with, as_condition, callee, gives, seen, condition, test}
+use Rattle.expression_types.specs.Typing.{Part, said, valued, Gives, one, called, asking, quoted, printed, panicked, exited, known_type, global_read, name_operand, prefix_gives, pair_gives, single, operand_in, value_in, shown_type, shown_of, as_part, part_in, Seen, values, parts, type_in_one, single_types, Many, many_in, many, types_with, value_types, accepts, types_agree, accepts_operand, operand_agrees, values_agree, each, fits_with, fits, all_values, taken, asked, Callee, printer, panicker, reader, exiter, function, conversion, no_function, no_spread, no_text_spread, nothing, function_with, callee_declared, callee_value, spread_over, panicked_with, exit_places, exited_with, called_with, as_condition, callee, gives, seen, condition, test}
 use Rattle.expression_types.proofs.DecidedValues.{many_single}
 
 is_word : (z : ℤ) → is_int z ≡ true → IsWord (int z)
@@ -109,9 +109,21 @@ accepted_one : (q : Option ValueType) (t : ValueType) (ps : List (Option ValueTy
 accepted_one None t ps ts is all = all
 accepted_one (Some s) t ps ts is all = (same_is s t is, all)
 
-agrees_some : (q : Option ValueType) (o : Option Operand) (x : Operand) → o ≡ Some x → operand_agrees q o ≡ true → accepts q (type_of x) ≡ true
-agrees_some q None x found is = absurd (none_some found)
-agrees_some q (Some y) x found is = ap (λ (z : Operand). accepts q (type_of z)) (sym (same_some found)) ∙ is
+-- what is a value has a type
+pub typed_value : (x : Operand) (e : Ex) → as_value x ≡ Some e → (t : ValueType) × (type_of x ≡ Some t)
+typed_value (constant f) e is = (constant_type f.value_type f.value, refl)
+typed_value (value t y) e is = (t, refl)
+typed_value nil e is = absurd (none_some is)
+
+taken_accepted : (q : Option ValueType) (x : Operand) (t : ValueType) → type_of x ≡ Some t → accepts_operand q x ≡ true → accepts q t ≡ true
+taken_accepted None x t typed is = refl
+taken_accepted (Some s) (constant f) t typed is = ap (same_type s) (sym (same_some typed)) ∙ is
+taken_accepted (Some s) (value u y) t typed is = ap (same_type s) (sym (same_some typed)) ∙ is
+taken_accepted (Some s) nil t typed is = absurd (none_some typed)
+
+agrees_some : (q : Option ValueType) (o : Option Operand) (x : Operand) (t : ValueType) → o ≡ Some x → type_of x ≡ Some t → operand_agrees q o ≡ true → accepts q t ≡ true
+agrees_some q None x t found typed is = absurd (none_some found)
+agrees_some q (Some y) x t found typed is = taken_accepted q x t typed (ap (accepts_operand q) (sym (same_some found)) ∙ is)
 
 -- where places ask for types the values have these
 pub asked_types : (ts us : List ValueType) → AreAccepted (asked ts) us → ts ≡ us
@@ -126,9 +138,21 @@ takes_numbers : (op : ArithmeticOp) (s t : ValueType) → takes (Arithmetic op) 
 takes_numbers op Int Int is = (refl, refl)
 takes_numbers op s t is = absurd cc is
 
-takes_both : (s t : ValueType) → takes LogicalAnd s t ≡ true → (s ≡ Boolean) × (t ≡ Boolean)
-takes_both Boolean Boolean is = (refl, refl)
-takes_both s t is = absurd cc is
+-- an operator takes operands that have types
+both_typed : (op : BinOp) (s t : Option ValueType) → takes_both op s t ≡ true → (u : ValueType) × (v : ValueType) × (s ≡ Some u) × (t ≡ Some v) × (takes op u v ≡ true)
+both_typed op (Some u) (Some v) is = (u, v, refl, refl, is)
+both_typed op None t is = cc is
+both_typed op (Some u) None is = cc is
+
+-- what can be given to a place of a type is of that type
+pub assigned_type : (t : ValueType) (x : Operand) → is_assignable t x ≡ true → type_of x ≡ Some t
+assigned_type t (constant f) is = ap Some (sym (same_is t (constant_type f.value_type f.value) is))
+assigned_type t (value u y) is = ap Some (sym (same_is t u is))
+assigned_type t nil is = cc is
+
+takes_truths : (s t : ValueType) → takes LogicalAnd s t ≡ true → (s ≡ Boolean) × (t ≡ Boolean)
+takes_truths Boolean Boolean is = (refl, refl)
+takes_truths s t is = absurd cc is
 
 takes_either : (s t : ValueType) → takes LogicalOr s t ≡ true → (s ≡ Boolean) × (t ≡ Boolean)
 takes_either Boolean Boolean is = (refl, refl)
@@ -154,6 +178,7 @@ module _ (T : Table) (p : Program) (scope : List ℕ) where
   abbrev pub OperandFits : Operand → Type 0
   OperandFits (constant f) = is_held f.value_type f.value ≡ true
   OperandFits (value t x) = ExFits p scope (type_tree T t) x
+  OperandFits nil = Unit {0}
 
   -- a call of a function with these results
   abbrev pub CallFits : List ValueType → ℕ → Exs → Type 0
@@ -268,7 +293,7 @@ module _ (T : Table) (p : Program) (scope : List ℕ) where
         subst (λ (u : TypeTree). ExFits p scope u (typed.binary (position at) (arithmetic_of op) x y)) (sym (int_tree T formed)) (arithmetic_fits op at x y (as_number s x k.0 f) (as_number t y k.1 g))
     takes_fits (Compare op) s t is at x y f g =
         subst (λ (u : TypeTree). ExFits p scope u (typed.binary (position at) (compare_of op) x y)) (sym (bool_tree T formed)) (order_fits op s t at x y is f g)
-    takes_fits LogicalAnd s t is at x y f g = let k = takes_both s t is in (bool_tree T formed, as_truth s x k.0 f, as_truth t y k.1 g)
+    takes_fits LogicalAnd s t is at x y f g = let k = takes_truths s t is in (bool_tree T formed, as_truth s x k.0 f, as_truth t y k.1 g)
     takes_fits LogicalOr s t is at x y f g = let k = takes_either s t is in (bool_tree T formed, as_truth s x k.0 f, as_truth t y k.1 g)
 
     takes_prefix : (op : UnOp) (t : ValueType) (g : TypedPrefix) → takes_one op t ≡ true → prefix_of op ≡ Some g → TakesOne g (type_tree T t)
@@ -294,9 +319,14 @@ module _ (T : Table) (p : Program) (scope : List ℕ) where
         by false h is1 = absurd (none_some is1)
 
     -- an operand as a value of its type
-    pub value_fits : (x : Operand) (e : Ex) → OperandFits x → as_value x ≡ Some e → ExFits p scope (type_tree T (type_of x)) e
-    value_fits (value t x) e fits is = subst (ExFits p scope (type_tree T t)) (same_some is) fits
-    value_fits (constant f) e fits is = subst (λ (t : ValueType). ExFits p scope (type_tree T t) e) (sym (held_type f.value_type f.value fits)) (constant_fits f.value e is)
+    own_fits : (x : Operand) (e : Ex) → OperandFits x → as_value x ≡ Some e → (t : ValueType) × (type_of x ≡ Some t) × ExFits p scope (type_tree T t) e
+    own_fits (value t x) e fits is = (t, refl, subst (ExFits p scope (type_tree T t)) (same_some is) fits)
+    own_fits (constant f) e fits is =
+        (constant_type f.value_type f.value, refl, subst (λ (t : ValueType). ExFits p scope (type_tree T t) e) (sym (held_type f.value_type f.value fits)) (constant_fits f.value e is))
+    own_fits nil e fits is = absurd (none_some is)
+
+    pub value_fits : (x : Operand) (t : ValueType) (e : Ex) → type_of x ≡ Some t → OperandFits x → as_value x ≡ Some e → ExFits p scope (type_tree T t) e
+    value_fits x t e typed fits is = let k = own_fits x e fits is in subst (λ (u : ValueType). ExFits p scope (type_tree T u) e) (same_some (sym k.1 ∙ typed)) k.2
 
     -- ---- values at places
 
@@ -310,21 +340,23 @@ module _ (T : Table) (p : Program) (scope : List ℕ) where
         let m = and_then_some as_value (operand_in o.gives) r.0 r.1 in
         let both1 = both_true (operand_agrees q (operand_in o.gives)) (values_agree ps os) agree in
         let rest = values_fit ps os k.0 all.1 (omega (arith, long)) both1.1 k.1 in
-        let t = type_of m.0 in
-        let first1 : type_in_one o.gives ≡ Some t = ap (option_map type_of) m.1 in
+        let typed = typed_value m.0 r.0 m.2 in
+        let t = typed.0 in
+        let first1 : type_in_one o.gives ≡ Some t = ap (option_and_then type_of) m.1 ∙ typed.1 in
         subst (λ (l : List Ex). Valued (q ∷ ps) (o ∷ os) l) k.2 (record {
           types = t ∷ rest.types;
           found = ap (λ (y : Option ValueType). option_and_then (λ x. option_map (λ ts. x ∷ ts) (single_types os)) y) first1 ∙ ap (option_map (λ ts. t ∷ ts)) rest.found;
-          accepted = accepted_one q t ps rest.types (agrees_some q (operand_in o.gives) m.0 m.1 both1.0) rest.accepted;
-          fit = (value_fits m.0 r.0 (operand_fits o.gives m.0 all.0 m.1) m.2, rest.fit);
+          accepted = accepted_one q t ps rest.types (agrees_some q (operand_in o.gives) m.0 t m.1 typed.1 both1.0) rest.accepted;
+          fit = (value_fits m.0 t r.0 typed.1 (operand_fits o.gives m.0 all.0 m.1) m.2, rest.fit);
         })
 
     as_part_fits : (x : Operand) (q : Part) → OperandFits x → as_part x ≡ Some q → PartFits p scope q
     as_part_fits x q fits is =
-        let r = and_then_some (λ t. option_map (valued t) (as_value x)) (shown_type (type_of x)) q is in
+        let r = and_then_some (λ t. option_map (valued t) (as_value x)) (shown_of x) q is in
         let v = map_some (valued r.0) (as_value x) q r.2 in
-        let k = shown_is (type_of x) r.0 r.1 in
-        subst (PartFits p scope) v.2 (k.1, subst (λ (t : TypeTree). ExFits p scope t v.0) k.0 (value_fits x v.0 fits v.1))
+        let u = and_then_some shown_type (type_of x) r.0 r.1 in
+        let k = shown_is u.0 r.0 u.2 in
+        subst (PartFits p scope) v.2 (k.1, subst (λ (t : TypeTree). ExFits p scope t v.0) k.0 (value_fits x u.0 v.0 u.1 fits v.1))
 
     part_fits : (o : Option Gives) (q : Part) → MaybeFits o → part_in o ≡ Some q → PartFits p scope q
     part_fits None q fits is = absurd (none_some is)
@@ -409,9 +441,10 @@ module _ (T : Table) (p : Program) (scope : List ℕ) where
 
     value_pair_fits : (at : Pos) (op : BinOp) (x y z : Operand) → OperandFits x → OperandFits y → value_pair at op x y ≡ Some z → OperandFits z
     value_pair_fits at op x y z f g is =
-        let a = allowed_some (takes op (type_of x) (type_of y) && right_allowed op y) (both_values at op (as_value x) (as_value y)) z is in
-        let k = both_true (takes op (type_of x) (type_of y)) (right_allowed op y) a.0 in
-        both_fit at op (type_of x) (type_of y) (as_value x) (as_value y) z k.0 (λ e h. value_fits x e f h) (λ e h. value_fits y e g h) a.1
+        let a = allowed_some (takes_both op (type_of x) (type_of y) && right_allowed op y) (both_values at op (as_value x) (as_value y)) z is in
+        let k = both_true (takes_both op (type_of x) (type_of y)) (right_allowed op y) a.0 in
+        let t = both_typed op (type_of x) (type_of y) k.0 in
+        both_fit at op t.0 t.1 (as_value x) (as_value y) z t.4 (λ e h. value_fits x t.0 e t.2 f h) (λ e h. value_fits y t.1 e t.3 g h) a.1
 
     -- what constants are folded to is held by its type
     folded_fits : (b : Bool) (t : Option ValueType) (r : Result Const ConstFault) (x : Operand) → allowed b (constant_of t r) ≡ Some x → OperandFits x
@@ -421,8 +454,9 @@ module _ (T : Table) (p : Program) (scope : List ℕ) where
     pair_fits at op (constant a) (constant b) z f g is =
         folded_fits (takes op (constant_type a.value_type a.value) (constant_type b.value_type b.value) && converts op a b) (joint_type op a.value_type b.value_type) (worked_out op a b) z is
     pair_fits at op (constant a) (value t y) z f g is = value_pair_fits at op (constant a) (value t y) z f g is
-    pair_fits at op (value s x) (constant b) z f g is = value_pair_fits at op (value s x) (constant b) z f g is
-    pair_fits at op (value s x) (value t y) z f g is = value_pair_fits at op (value s x) (value t y) z f g is
+    pair_fits at op (constant a) nil z f g is = value_pair_fits at op (constant a) nil z f g is
+    pair_fits at op (value s x) y z f g is = value_pair_fits at op (value s x) y z f g is
+    pair_fits at op nil y z f g is = value_pair_fits at op nil y z f g is
 
     prefix_fits : (op : UnOp) (x y : Operand) → OperandFits x → prefixed op x ≡ Some y → OperandFits y
     prefix_fits op (constant f) y fits is = folded_fits (takes_one op (constant_type f.value_type f.value)) f.value_type (folded_one op (const_of f.value)) y is
@@ -430,11 +464,12 @@ module _ (T : Table) (p : Program) (scope : List ℕ) where
         let a = allowed_some (takes_one op t) (option_map (λ g. value t (typed.unary g x)) (prefix_of op)) y is in
         let r = map_some (λ g. value t (typed.unary g x)) (prefix_of op) y a.1 in
         subst OperandFits r.2 (takes_prefix op t r.0 a.0 r.1, fits)
+    prefix_fits op nil y fits is = absurd (none_some is)
 
     condition_value_fits : (x : Operand) (e : Ex) → OperandFits x → as_condition x ≡ Some e → ExFits p scope bools e
     condition_value_fits x e fits is =
-        let a = allowed_some (same_type Boolean (type_of x)) (as_value x) e is in
-        as_truth (type_of x) e (sym (same_is Boolean (type_of x) a.0)) (value_fits x e fits a.1)
+        let a = allowed_some (is_assignable Boolean x) (as_value x) e is in
+        as_truth Boolean e refl (value_fits x Boolean e (assigned_type Boolean x a.0) fits a.1)
 
     panicked_fits : (at : Pos) (qs : List Part) (g : Gives) → PartsFit p scope qs → panicked_with at qs ≡ Some g → GivesFit g
     panicked_fits at [] g all is = absurd (none_some is)
@@ -513,6 +548,7 @@ module _ (p : Program) (scope : List ℕ) (text : List ℕ) (s : Scope) (are_sho
   name_fits (Some declared.TypeName) g has at is = absurd (none_some is)
   name_fits (Some (declared.«Type» t)) g has at is = absurd (none_some is)
   name_fits (Some (declared.Truth b)) g has at is = subst Fits (same_some is) refl
+  name_fits (Some declared.Nil) g has at is = subst Fits (same_some is) tt
   name_fits (Some (declared.Print line)) g has at is = absurd (none_some is)
   name_fits (Some declared.Panic) g has at is = absurd (none_some is)
   name_fits (Some declared.LeftOutType) g has at is = absurd (none_some is)
@@ -538,6 +574,7 @@ module _ (p : Program) (scope : List ℕ) (text : List ℕ) (s : Scope) (are_sho
   declared_fits (Some declared.TypeName) = tt
   declared_fits (Some (declared.«Type» t)) = tt
   declared_fits (Some (declared.Truth b)) = tt
+  declared_fits (Some declared.Nil) = tt
   declared_fits (Some (declared.Print line)) = tt
   declared_fits (Some declared.Panic) = tt
   declared_fits (Some declared.LeftOutType) = tt

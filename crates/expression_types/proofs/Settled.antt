@@ -21,7 +21,7 @@ use Rattle.type_faults.specs.Given.{allowed, both}
 use Rattle.type_faults.specs.Faults.{fault, IsFault, FormFails}
 use Rattle.type_faults.proofs.Decided.{Decided, further, same, mapped, after}
 use Rattle.type_faults.proofs.Options.{none_some, same_some}
-use Rattle.operators.specs.Operands.{Operand, constant, value, constant_value}
+use Rattle.operators.specs.Operands.{Operand, constant, value, nil, constant_value}
 use Rattle.operators.specs.Operators.{has_rules, prefixed, combined}
 use Rattle.operators.specs.Faults.{prefix_fault}
 use Rattle.operators.proofs.Held.{IsHeld, held_type}
@@ -52,6 +52,7 @@ condition_value_decided at (value Int x) held = (_, refl)
 condition_value_decided at (value Boolean x) held = λ f h. h
 condition_value_decided at (value (Struct k) x) held = (_, refl)
 condition_value_decided at (value (Array n e) x) held = (_, refl)
+condition_value_decided at nil held = (_, refl)
 condition_value_decided at (constant a) held = by (constant_type a.value_type a.value) a.value (held_type a.value_type a.value held)
   where
     by : (t : ValueType) (c : Constant) → t ≡ constant_type None c → Decided (allowed (same_type Boolean t) (constant_value c)) (IsFault (cond (same_type Boolean t) None (Some (fault Unfit at))))
@@ -82,6 +83,7 @@ name_decided s (Some (declared.External e place)) at typed = (_, refl)
 name_decided s (Some declared.TypeName) at typed = (_, refl)
 name_decided s (Some (declared.«Type» t)) at typed = (_, refl)
 name_decided s (Some (declared.Truth b)) at typed = λ f h. h
+name_decided s (Some declared.Nil) at typed = λ f h. h
 name_decided s (Some (declared.Print line)) at typed = (_, refl)
 name_decided s (Some declared.Panic) at typed = (_, refl)
 name_decided s (Some declared.LeftOutType) at typed = (_, refl)
@@ -107,6 +109,7 @@ name_held s (Some (declared.External e place)) x typed is = absurd (none_some is
 name_held s (Some declared.TypeName) x typed is = absurd (none_some is)
 name_held s (Some (declared.«Type» t)) x typed is = absurd (none_some is)
 name_held s (Some (declared.Truth b)) x typed is = subst IsHeld (same_some is) refl
+name_held s (Some declared.Nil) x typed is = subst IsHeld (same_some is) tt
 name_held s (Some (declared.Print line)) x typed is = absurd (none_some is)
 name_held s (Some declared.Panic) x typed is = absurd (none_some is)
 name_held s (Some declared.LeftOutType) x typed is = absurd (none_some is)
@@ -155,6 +158,7 @@ callee_declared_is s (Some (declared.External Exit place)) at typed = λ f h. h
 callee_declared_is s (Some declared.TypeName) at typed = tt
 callee_declared_is s (Some (declared.«Type» t)) at typed = tt
 callee_declared_is s (Some (declared.Truth b)) at typed = λ f h. h
+callee_declared_is s (Some declared.Nil) at typed = λ f h. h
 callee_declared_is s (Some (declared.Print line)) at typed = λ f h. h
 callee_declared_is s (Some declared.Panic) at typed = λ f h. h
 callee_declared_is s (Some declared.LeftOutType) at typed = tt

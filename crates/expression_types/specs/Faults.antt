@@ -17,7 +17,7 @@ use Rattle.base.specs.declared.value_type.ValueType.TheVariants.{Bool as Boolean
 use Rattle.base.specs.Types.{same_type}
 use Rattle.type_faults.specs.Faults.{fault, IsFault, FormFails}
 use Rattle.operators.specs.ConstantFaults.{constant_range_fault}
-use Rattle.operators.specs.Operands.{Operand, constant, value, type_of}
+use Rattle.operators.specs.Operands.{Operand, constant, value, nil, is_assignable}
 use Rattle.operators.specs.Operators.{has_rules}
 use Rattle.operators.specs.Faults.{prefix_fault, pair_fault}
 use Rattle.names.specs.declared.scope.Declared.{Declared}
@@ -46,6 +46,7 @@ name_fault (Some (declared.External e declared_pos)) pos = Some (fault OutOfProf
 name_fault (Some declared.TypeName) pos = Some (fault Unfit pos)
 name_fault (Some (declared.«Type» t)) pos = Some (fault Unfit pos)
 name_fault (Some (declared.Truth b)) pos = None
+name_fault (Some declared.Nil) pos = None
 name_fault (Some (declared.Print line)) pos = Some (fault Unfit pos)
 name_fault (Some declared.Panic) pos = Some (fault Unfit pos)
 name_fault (Some declared.LeftOutType) pos = Some (fault OutOfProfile pos)
@@ -81,10 +82,12 @@ abbrev pub part_fault : Option Gives → Option Fault
 part_fault (Some (quoted pos bytes)) = None
 part_fault o = single_fault o
 
+-- what is no value by itself: a constant that no int can hold, or nil
 abbrev pub range_fault : Pos → Option Operand → Option Fault
 range_fault pos None = None
 range_fault pos (Some (constant f)) = constant_range_fault pos f.value
 range_fault pos (Some (value t x)) = None
+range_fault pos (Some nil) = Some (fault Unfit pos)
 
 -- a literal that leaves 128 bits
 abbrev pub literal_fault : Pos → ℕ → Option Fault
@@ -93,7 +96,7 @@ literal_fault pos n = if nat_lt n (2 ^ 127) then None else Some (fault ConstRang
 -- a condition is a truth value
 abbrev pub condition_fault : Pos → Option Operand → Option Fault
 condition_fault pos None = None
-condition_fault pos (Some x) = if same_type Boolean (type_of x) then None else Some (fault Unfit pos)
+condition_fault pos (Some x) = if is_assignable Boolean x then None else Some (fault Unfit pos)
 
 -- ---- expressions side by side
 

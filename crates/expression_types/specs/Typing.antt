@@ -20,7 +20,7 @@ use Rattle.base.specs.declared.value_type.ValueType.TheVariants.{Int, Bool as Bo
 use Rattle.type_faults.specs.Given.{allowed, both}
 use Rattle.base.specs.Types.{same_type}
 use Rattle.constants.specs.Constants.{constant_type, untyped}
-use Rattle.operators.specs.Operands.{Operand, constant, value, type_of, as_value}
+use Rattle.operators.specs.Operands.{Operand, constant, value, nil, type_of, is_assignable, as_value}
 use Rattle.operators.specs.Operators.{has_rules, prefixed, combined}
 use Rattle.names.specs.declared.scope.Declared.{Declared}
 use Rattle.names.specs.declared.scope.Declared.TheVariants as declared
@@ -71,6 +71,7 @@ name_operand s (Some (declared.External e at)) = None
 name_operand s (Some declared.TypeName) = None
 name_operand s (Some (declared.«Type» t)) = None
 name_operand s (Some (declared.Truth b)) = Some (constant (untyped (Truth b)))
+name_operand s (Some declared.Nil) = Some nil
 name_operand s (Some (declared.Print line)) = None
 name_operand s (Some declared.Panic) = None
 name_operand s (Some declared.LeftOutType) = None
@@ -108,7 +109,11 @@ abbrev pub value_in : Option Gives → Option Ex
 value_in o = option_and_then as_value (operand_in o)
 
 abbrev pub type_in_one : Option Gives → Option ValueType
-type_in_one o = option_map type_of (operand_in o)
+type_in_one o = option_and_then type_of (operand_in o)
+
+-- the type of what is a value by itself: no constant beyond int, and not nil
+abbrev pub own_type : Option Gives → Option ValueType
+own_type o = option_and_then (λ x. option_and_then (λ e. type_of x) (as_value x)) (operand_in o)
 
 -- the types whose values `print`, `println` and `panic` show
 abbrev pub shown_type : ValueType → Option TypeTree
@@ -116,9 +121,13 @@ shown_type Int = Some ints
 shown_type Boolean = Some bools
 shown_type other = None
 
+-- the type of an operand that they show
+abbrev pub shown_of : Operand → Option TypeTree
+shown_of x = option_and_then shown_type (type_of x)
+
 -- an operand of `print`, `println` or `panic`
 abbrev pub as_part : Operand → Option Part
-as_part x = option_and_then (λ t. option_map (valued t) (as_value x)) (shown_type (type_of x))
+as_part x = option_and_then (λ t. option_map (valued t) (as_value x)) (shown_of x)
 
 abbrev pub part_of : Gives → Option Part
 part_of (quoted at bytes) = Some (said bytes)
@@ -168,13 +177,13 @@ abbrev pub part_count : List Seen → Option ℕ
 part_count os = if are_parts os then Some (length os) else None
 
 -- whether each that has one value is of a type whose values are shown
-abbrev pub is_shown : Option ValueType → Bool
+abbrev pub is_shown : Option Operand → Bool
 is_shown None = true
-is_shown (Some t) = is_some (shown_type t)
+is_shown (Some x) = is_some (shown_of x)
 
 abbrev pub are_shown : List Seen → Bool
 are_shown [] = true
-are_shown (o ∷ os) = is_shown (type_in_one o.gives) && are_shown os
+are_shown (o ∷ os) = is_shown (operand_in o.gives) && are_shown os
 
 -- a call that stands alone may give more than one value: its place, their types, and the values
 pub record Many : Type 0 where
@@ -227,9 +236,14 @@ abbrev pub types_agree : List (Option ValueType) → List ValueType → Bool
 types_agree (p ∷ ps) (t ∷ ts) = accepts p t && types_agree ps ts
 types_agree ps ts = true
 
+-- whether a place takes an operand: one that asks for a type what can be given to that
+abbrev pub accepts_operand : Option ValueType → Operand → Bool
+accepts_operand (Some t) x = is_assignable t x
+accepts_operand None x = true
+
 abbrev pub operand_agrees : Option ValueType → Option Operand → Bool
 operand_agrees p None = true
-operand_agrees p (Some x) = accepts p (type_of x)
+operand_agrees p (Some x) = accepts_operand p x
 
 abbrev pub values_agree : List (Option ValueType) → List Seen → Bool
 values_agree (p ∷ ps) (o ∷ os) = operand_agrees p (operand_in o.gives) && values_agree ps os
@@ -303,6 +317,7 @@ callee_declared s (Some (declared.External e at)) = callee_external e
 callee_declared s (Some declared.TypeName) = conversion
 callee_declared s (Some (declared.«Type» t)) = conversion
 callee_declared s (Some (declared.Truth b)) = no_function
+callee_declared s (Some declared.Nil) = no_function
 callee_declared s (Some (declared.Print line)) = printer line
 callee_declared s (Some declared.Panic) = panicker
 callee_declared s (Some declared.LeftOutType) = conversion
@@ -349,7 +364,7 @@ called_with at nothing os = None
 
 -- a truth value
 abbrev pub as_condition : Operand → Option Ex
-as_condition x = allowed (same_type Boolean (type_of x)) (as_value x)
+as_condition x = allowed (is_assignable Boolean x) (as_value x)
 
 -- the condition of a loop, where it has one
 abbrev pub condition_in : Clause → Option TreeEx

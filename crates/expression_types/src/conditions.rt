@@ -12,9 +12,9 @@ ghost use Rattle.expression_types.specs.Typing.{as_condition, condition_in, cond
 ghost use Rattle.expression_types.specs.Faults.{condition_fault, FailsInCondition, FailsInTest};
 
 use crate::expressions::check_single;
-use base::{NoMemory, Pos, ValueType, same_type};
+use base::{NoMemory, Pos, ValueType};
 use names::Scope;
-use operators::{Operand, as_value, type_of};
+use operators::{Operand, as_value, is_assignable};
 use std::alloc::Global;
 use syntax::{Clause, Expr as TreeExpr};
 use type_faults::{Fault, FaultKind, lesser};
@@ -31,7 +31,7 @@ pub struct Condition {
 fn as_condition(operand: Operand) -> Option<Expr>
     ensures { option_map ex_of result ≡ as_condition (operand_of operand) }
 {
-    if same_type(ValueType::Bool, type_of(&operand)) {
+    if is_assignable(ValueType::Bool, &operand) {
         as_value(operand)
     } else {
         None
@@ -52,7 +52,7 @@ fn condition_fault(pos: Pos, operand: &Option<Operand>) -> Option<Fault>
     ensures { result ≡ condition_fault pos (option_map operand_of operand.now) }
 {
     match operand {
-        Some(operand) if !same_type(ValueType::Bool, type_of(operand)) => Some(Fault {
+        Some(operand) if !is_assignable(ValueType::Bool, operand) => Some(Fault {
             kind: FaultKind::Unfit,
             pos,
         }),

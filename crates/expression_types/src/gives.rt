@@ -2,10 +2,9 @@
 
 ghost use Rattle.std.specs.Prelude.{◌≡◌, is_some};
 ghost use Rattle.std.specs.Option.{option_map};
-ghost use Rattle.operators.specs.Operands.{type_of};
 ghost use Rattle.operators.specs.Passing.{operand_of};
 ghost use Rattle.typed.specs.View.{type_of as tree_of};
-ghost use Rattle.expression_types.specs.Typing.{shown_type, as_part, operand_in, type_in_one, part_in, is_part, is_shown};
+ghost use Rattle.expression_types.specs.Typing.{shown_type, shown_of, as_part, operand_in, type_in_one, own_type, part_in, is_part, is_shown};
 ghost use Rattle.expression_types.specs.Faults.{range_fault, single_fault, part_fault};
 ghost use Rattle.expression_types.specs.Passing.{part_view, gives_of};
 
@@ -84,11 +83,18 @@ fn shown_type(value_type: ValueType) -> Option<TypeId>
     }
 }
 
+/// The type of an operand that they show.
+fn shown_of(operand: &Operand) -> Option<TypeId>
+    ensures { option_map (λ t. tree_of t.0) result ≡ shown_of (operand_of operand.now) }
+{
+    shown_type(type_of(operand)?)
+}
+
 /// An operand as one of `print`, `println` or `panic`.
 fn as_part(operand: Operand) -> Option<Part>
     ensures { option_map part_view result ≡ as_part (operand_of operand) }
 {
-    let operand_type = shown_type(type_of(&operand));
+    let operand_type = shown_of(&operand);
     match (operand_type, as_value(operand)) {
         (Some(operand_type), Some(value)) => Some(Part::Valued(operand_type, value)),
         _ => None,
@@ -109,12 +115,12 @@ pub fn one_operand(gives: Option<Gives>) -> Option<Operand>
     }
 }
 
-/// The type of the one value of an expression.
+/// The type of the one value of an expression; `nil` has none.
 pub fn one_type(gives: &Option<Gives>) -> Option<ValueType>
-    ensures { result ≡ option_map type_of (operand_in (option_map gives_of gives.now)) }
+    ensures { result ≡ type_in_one (option_map gives_of gives.now) }
 {
     match gives {
-        Some(Gives::One(operand)) => Some(type_of(operand)),
+        Some(Gives::One(operand)) => type_of(operand),
         Some(Gives::Called(_, types, _, _)) => match types.as_slice() {
             [value_type] => Some(*value_type),
             _ => None,
@@ -123,11 +129,30 @@ pub fn one_type(gives: &Option<Gives>) -> Option<ValueType>
     }
 }
 
+/// The type of what is a value by itself: no constant beyond `int`, and not `nil`.
+pub fn own_type(gives: Option<Gives>) -> Option<ValueType>
+    ensures { result ≡ own_type (option_map gives_of gives) }
+{
+    let operand = one_operand(gives)?;
+    let value_type = type_of(&operand);
+    match as_value(operand) {
+        Some(value) => {
+            drop(value);
+            value_type
+        }
+        None => None,
+    }
+}
+
 /// Whether an expression has one value.
 pub fn is_single(gives: &Option<Gives>) -> bool
     ensures { result ≡ is_some (operand_in (option_map gives_of gives.now)) }
 {
-    one_type(gives).is_some()
+    match gives {
+        Some(Gives::One(_)) => true,
+        Some(Gives::Called(_, types, _, _)) => types.len() == 1,
+        _ => false,
+    }
 }
 
 /// What an expression is as an operand of `print`, `println` or `panic`: a string, or its one value.
@@ -155,11 +180,11 @@ pub fn is_part(gives: &Option<Gives>) -> bool
 
 /// Whether the one value of an expression, where it has one, is of a type whose values are shown.
 pub fn is_shown(gives: &Option<Gives>) -> bool
-    ensures { result ≡ is_shown (type_in_one (option_map gives_of gives.now)) }
+    ensures { result ≡ is_shown (operand_in (option_map gives_of gives.now)) }
 {
     match one_type(gives) {
         Some(value_type) => shown_type(value_type).is_some(),
-        None => true,
+        None => !is_single(gives),
     }
 }
 
@@ -192,12 +217,16 @@ pub fn part_fault(gives: &Option<Gives>) -> Option<Fault>
     }
 }
 
-/// The fault of an expression as a value: a constant that no int can hold.
+/// The fault of an expression that is no value by itself: a constant that no int can hold, or `nil`.
 pub fn range_fault(pos: Pos, gives: &Option<Gives>) -> Option<Fault>
     ensures { result ≡ range_fault pos (operand_in (option_map gives_of gives.now)) }
 {
     match gives {
         Some(Gives::One(Operand::Constant(fixed))) => constant_range_fault(pos, fixed.value),
+        Some(Gives::One(Operand::Nil)) => Some(Fault {
+            kind: FaultKind::Unfit,
+            pos,
+        }),
         _ => None,
     }
 }

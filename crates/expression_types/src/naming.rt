@@ -45,6 +45,7 @@ fn value_of(alloc: Global, scope: &Scope, declared: Option<Declared>) -> Option<
             global_read(alloc, global, scope.fixed(number)?)
         }
         Some(Declared::Truth(truth)) => Operand::Constant(untyped(Constant::Truth(truth))),
+        Some(Declared::Nil) => Operand::Nil,
         _ => return None,
     };
     Some(Gives::One(operand))
@@ -67,7 +68,8 @@ fn declared_fault(declared: Option<Declared>, pos: Pos) -> Option<Fault>
             | Declared::Untyped
             | Declared::Constant(_)
             | Declared::Global(_, _)
-            | Declared::Truth(_),
+            | Declared::Truth(_)
+            | Declared::Nil,
         ) => return None,
         Some(Declared::TypeName | Declared::Type(_) | Declared::Print(_) | Declared::Panic) =>
             FaultKind::Unfit,

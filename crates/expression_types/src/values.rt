@@ -5,7 +5,7 @@ ghost use Rattle.std.specs.Option.{option_map};
 ghost use Rattle.typed.specs.View.{ex_of, exs_of_values};
 ghost use Rattle.type_faults.specs.Least.{IsLeast};
 ghost use Rattle.type_faults.specs.Faults.{fault as fault_at};
-ghost use Rattle.expression_types.specs.Typing.{values, parts, are_single, are_parts, are_shown, part_count, single_types, many_in, many, count, value_types, accepts, types_agree, operand_agrees, each, asked, fits, all_values, taken, taken_types};
+ghost use Rattle.expression_types.specs.Typing.{values, parts, are_single, are_parts, are_shown, part_count, single_types, many_in, many, count, value_types, accepts, types_agree, operand_in, operand_agrees, each, asked, fits, all_values, taken, taken_types};
 ghost use Rattle.expression_types.specs.Faults.{type_fault, SinglesFail, PartsFail, ValuesFail, RangeFails, TypesFail, MismatchFails, PlacedFail, TakeFails, count_fault, shown_fault};
 ghost use Rattle.type_faults.specs.Given.{with_last};
 ghost use Rattle.expression_types.specs.Passing.{part_view, gives_of, seens, results_of};
@@ -42,7 +42,7 @@ pub fn parts_fault(items: &[Item]) -> Option<Fault>
     fault
 }
 
-/// The fault of expressions as values: a constant that no int can hold.
+/// The fault of expressions that are no values by themselves.
 pub fn range_faults(items: &[Item]) -> Option<Fault>
     ensures { IsLeast (RangeFails (seens items.now)) result }
 {
@@ -57,7 +57,7 @@ pub fn range_faults(items: &[Item]) -> Option<Fault>
 const READ_TYPES: [ValueType; 2] = [ValueType::Int, ValueType::Bool];
 
 /// The place of a call that stands alone and has more than one value, and the types of these.
-fn many_types(items: &[Item]) -> Option<(Pos, &[ValueType])>
+pub fn many_types(items: &[Item]) -> Option<(Pos, &[ValueType])>
     ensures place { option_map (λ r. r.0) result ≡ option_map (λ m. m.at) (many (seens items.now)) }
     ensures types { option_map (λ r. r.1.now) result ≡ option_map (λ m. m.types) (many (seens items.now)) }
 {
@@ -222,16 +222,27 @@ fn types_agree(places: &[Option<ValueType>], types: &[ValueType]) -> bool
     agree
 }
 
-/// The fault of a value of another type than its place asks for.
-fn type_fault(place: Option<ValueType>, item: &Item) -> Option<Fault>
-    ensures { result ≡ type_fault place item.now.pos (Rattle.expression_types.specs.Typing.operand_in (option_map gives_of item.now.gives)) }
+/// Whether a place takes the one value of an expression, where it has one.
+pub fn agrees(place: Option<ValueType>, gives: &Option<Gives>) -> bool
+    ensures { result ≡ operand_agrees place (operand_in (option_map gives_of gives.now)) }
 {
-    match one_type(&item.gives) {
-        Some(value_type) if !accepts(place, value_type) => Some(Fault {
+    match one_type(gives) {
+        Some(value_type) => accepts(place, value_type),
+        None => place.is_none() || !is_single(gives),
+    }
+}
+
+/// The fault of a value that its place doesn't take.
+fn type_fault(place: Option<ValueType>, item: &Item) -> Option<Fault>
+    ensures { result ≡ type_fault place item.now.pos (operand_in (option_map gives_of item.now.gives)) }
+{
+    if agrees(place, &item.gives) {
+        None
+    } else {
+        Some(Fault {
             kind: FaultKind::Mismatch,
             pos: item.pos,
-        }),
-        _ => None,
+        })
     }
 }
 

@@ -1,5 +1,5 @@
 -- Which rules fail in the head of a function and in a declaration at the level of the package, and where each is reported.
-use Rattle.std.specs.Prelude.{ℕ, ◌⊎◌, Bool, true, false, not, List, [], ◌∷◌, Option, None, nat_lt}
+use Rattle.std.specs.Prelude.{ℕ, ◌⊎◌, Bool, true, false, not, List, [], ◌∷◌, Option, Some, None, nat_lt}
 use Rattle.base.specs.declared.pos.Pos.{Pos}
 use Rattle.syntax.specs.Expressions.{spelled}
 use Rattle.syntax.specs.Declarations.{Function as TreeFunction, Declaration, constants, variables, types}
@@ -9,7 +9,7 @@ use Rattle.type_faults.specs.declared.fault.FaultKind.TheVariants.{Redeclared, B
 use Rattle.type_faults.specs.Faults.{fault, IsFault, FormFails}
 use Rattle.names.specs.declared.scope.Declared.{Declared}
 use Rattle.names.specs.Universe.{is_blank}
-use Rattle.names.specs.Scope.{Scope, declaration}
+use Rattle.names.specs.Scope.{Scope, Signature, declaration}
 use Rattle.signatures.specs.Signatures.{params_of, is_external, is_external_at, is_init, signature_in}
 use Rattle.signatures.specs.Failing.{fault_where}
 use Rattle.signatures.specs.SignatureFaults.{function_name_fault, size_fault, TypesFail}
@@ -18,6 +18,11 @@ use Rattle.function_heads.specs.Heads.{most_functions}
 -- no other function than `readInt` and `exit` has no body
 abbrev pub external_fault : TreeFunction → Fault
 external_fault g = fault BadExternal g.name.pos
+
+-- which is looked at where the types of its head are known
+abbrev pub missing_body_fault : Option Signature → Fault → Option Fault
+missing_body_fault None own = None
+missing_body_fault (Some sig) own = Some own
 
 -- the name of a function that may be one of the two without a body: the first declaration of a name stays
 abbrev pub external_name_fault : Bool → Option Declared → Pos → Option Fault

@@ -17,7 +17,7 @@ ghost use Rattle.signatures.specs.Failing.{fault_where};
 ghost use Rattle.signatures.specs.Signatures.{may_be_named, signature_in, is_small};
 ghost use Rattle.function_heads.specs.Heads.{most_functions, number_or_int, slot_number, slot_tree, function_head};
 ghost use Rattle.signatures.specs.SignatureFaults.{function_name_fault};
-ghost use Rattle.function_heads.specs.HeadFaults.{FailsInHead, FailsInTypes, external_fault};
+ghost use Rattle.function_heads.specs.HeadFaults.{FailsInHead, FailsInTypes, external_fault, missing_body_fault};
 
 use base::{NoMemory, Pos, SiteId, TypeId, ValueType};
 use names::{Scope, is_blank, spelled, type_id};
@@ -167,11 +167,27 @@ pub fn assemble(
 }
 
 /// The fault of a function without a body.
-pub fn external_fault(f: &Func) -> Fault
+fn external_fault(f: &Func) -> Fault
     ensures { result ≡ external_fault (function_of f.now) }
 {
     Fault {
         kind: FaultKind::BadExternal,
         pos: f.name.pos,
     }
+}
+
+/// The fault of a function without a body, where the types of its head are known.
+pub fn missing_body_fault(
+    alloc: Global,
+    text: &[u8],
+    heads: &Scope,
+    f: &Func,
+) -> Result<Option<Fault>, NoMemory>
+    ensures { IfOk result (λ r. r ≡ missing_body_fault (signature_in text.now (scope_of heads.now) (function_of f.now)) (external_fault (function_of f.now))) }
+{
+    let signature = signature_in(alloc, text, heads, f)?;
+    Ok(match signature {
+        Some(_) => Some(external_fault(f)),
+        None => None,
+    })
 }

@@ -9,4 +9,4 @@ mod declarations;
 mod heads;
 
 pub use declarations::{declaration_faults, main_number, no_main_fault};
-pub use heads::{Check, assemble, check_head, check_types, external_fault};
+pub use heads::{Check, assemble, check_head, check_types, missing_body_fault};

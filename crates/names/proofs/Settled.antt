@@ -47,6 +47,7 @@ IsTyped T sigs values (declared.External e at) = ⊤
 IsTyped T sigs values declared.TypeName = ⊥
 IsTyped T sigs values (declared.«Type» t) = is_known T t ≡ true
 IsTyped T sigs values (declared.Truth b) = ⊤
+IsTyped T sigs values declared.Nil = ⊤
 IsTyped T sigs values (declared.Print line) = ⊤
 IsTyped T sigs values declared.Panic = ⊤
 IsTyped T sigs values declared.LeftOutType = ⊤
@@ -68,7 +69,7 @@ by_test : (P : Declared → Type 0) (b : Bool) (e : Declared) (o : Option Declar
 by_test P true e o here further1 d is = subst P (same_some is) here
 by_test P false e o here further1 d is = further1 d is
 
-module _ (P : Declared → Type 0) (int_is : P (declared.«Type» Int)) (bool_is : P (declared.«Type» Boolean)) (truth_is : (b : Bool) → P (declared.Truth b)) (print_is : (line : Bool) → P (declared.Print line)) (panic_is : P declared.Panic) (left_type_is : P declared.LeftOutType) (left_value_is : P declared.LeftOutValue) where
+module _ (P : Declared → Type 0) (int_is : P (declared.«Type» Int)) (bool_is : P (declared.«Type» Boolean)) (truth_is : (b : Bool) → P (declared.Truth b)) (nil_is : P declared.Nil) (print_is : (line : Bool) → P (declared.Print line)) (panic_is : P declared.Panic) (left_type_is : P declared.LeftOutType) (left_value_is : P declared.LeftOutValue) where
   left_out_is : (n : List ℕ) (d : Declared) → left_out n ≡ Some d → P d
   left_out_is n = by_test P (is_type_name n) declared.LeftOutType _ left_type_is (by_test P (is_value_name n) declared.LeftOutValue None left_value_is (λ d is. absurd (none_some is)))
 
@@ -77,16 +78,17 @@ module _ (P : Declared → Type 0) (int_is : P (declared.«Type» Int)) (bool_is
       by_test P (bytes_eq n (codes "println")) (declared.Print true) _ (print_is true)
       (by_test P (bytes_eq n (codes "print")) (declared.Print false) _ (print_is false) (by_test P (bytes_eq n (codes "panic")) declared.Panic _ panic_is (left_out_is n)))
 
-  -- what the language declares is a type, a truth value, `print`, `println`, `panic`, or left out
+  -- what the language declares is a type, a truth value, `nil`, `print`, `println`, `panic`, or left out
   pub predeclared_is : (n : List ℕ) (d : Declared) → predeclared n ≡ Some d → P d
   unfolding predeclared
   predeclared_is n =
       by_test P (bytes_eq n (codes "int")) (declared.«Type» Int) _ int_is
       (by_test P (bytes_eq n (codes "bool")) (declared.«Type» Boolean) _ bool_is
-      (by_test P (bytes_eq n (codes "true")) (declared.Truth true) _ (truth_is true) (by_test P (bytes_eq n (codes "false")) (declared.Truth false) _ (truth_is false) (function_is n))))
+      (by_test P (bytes_eq n (codes "true")) (declared.Truth true) _ (truth_is true)
+      (by_test P (bytes_eq n (codes "false")) (declared.Truth false) _ (truth_is false) (by_test P (bytes_eq n (codes "nil")) declared.Nil _ nil_is (function_is n)))))
 
 predeclared_typed : (T : Table) → IsFormed T → (sigs : List (Option Signature)) (values : List (Option Fixed)) (n : List ℕ) (d : Declared) → predeclared n ≡ Some d → IsTyped T sigs values d
-predeclared_typed T formed sigs values n d is = predeclared_is (IsTyped T sigs values) (int_known T formed) (bool_known T formed) (λ b. tt) (λ line. tt) tt tt tt n d is
+predeclared_typed T formed sigs values n d is = predeclared_is (IsTyped T sigs values) (int_known T formed) (bool_known T formed) (λ b. tt) tt (λ line. tt) tt tt tt n d is
 
 numbered_typed : (s : Scope) → IsSettled s → (n : List ℕ) (o : Option ℕ) (d : Declared) → numbered s n o ≡ Some d → IsTyped s.types s.signatures s.values d
 numbered_typed s settled n None d is = predeclared_typed s.types settled.formed s.signatures s.values n d is
@@ -110,6 +112,7 @@ type_name_decided s (Some (declared.External e place)) at typed = (_, refl)
 type_name_decided s (Some declared.TypeName) at typed = absurd (typed declared.TypeName refl)
 type_name_decided s (Some (declared.«Type» t)) at typed = known_decided t (is_known s.types t) (typed (declared.«Type» t) refl)
 type_name_decided s (Some (declared.Truth b)) at typed = (_, refl)
+type_name_decided s (Some declared.Nil) at typed = (_, refl)
 type_name_decided s (Some (declared.Print line)) at typed = (_, refl)
 type_name_decided s (Some declared.Panic) at typed = (_, refl)
 type_name_decided s (Some declared.LeftOutType) at typed = (_, refl)

@@ -5,7 +5,7 @@ use Rattle.std.specs.List.{list_any}
 use Rattle.std.specs.Str.{bytes_eq}
 use Rattle.base.specs.declared.value_type.ValueType.TheVariants as value_type
 use Rattle.names.specs.declared.scope.Declared.{Declared}
-use Rattle.names.specs.declared.scope.Declared.TheVariants.{«Type», Truth, Print, Panic, LeftOutType, LeftOutValue}
+use Rattle.names.specs.declared.scope.Declared.TheVariants.{«Type», Truth, Nil, Print, Panic, LeftOutType, LeftOutValue}
 
 -- the predeclared types of Go 1.22
 abbrev pub type_names : List (List ℕ)
@@ -48,4 +48,5 @@ unfoldable pub predeclared : List ℕ → Option Declared
 predeclared name =
     if bytes_eq name (codes "int") then Some («Type» value_type.Int)
     else (if bytes_eq name (codes "bool") then Some («Type» value_type.Bool)
-    else (if bytes_eq name (codes "true") then Some (Truth true) else (if bytes_eq name (codes "false") then Some (Truth false) else predeclared_function name)))
+    else (if bytes_eq name (codes "true") then Some (Truth true)
+    else (if bytes_eq name (codes "false") then Some (Truth false) else (if bytes_eq name (codes "nil") then Some Nil else predeclared_function name))))

@@ -61,6 +61,8 @@ pub enum Declared {
     Type(ValueType),
     /// `true` or `false`.
     Truth(bool),
+    /// `nil`.
+    Nil,
     /// `print`, or `println` where true is said.
     Print(bool),
     /// `panic`.

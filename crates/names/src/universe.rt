@@ -109,6 +109,8 @@ pub fn predeclared(name: &[u8]) -> Option<Declared>
         Some(Declared::Truth(true))
     } else if name == "false".as_bytes() {
         Some(Declared::Truth(false))
+    } else if name == "nil".as_bytes() {
+        Some(Declared::Nil)
     } else {
         predeclared_function(name)
     }

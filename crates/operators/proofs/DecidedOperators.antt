@@ -30,7 +30,7 @@ use Rattle.operators.specs.declared.folding.Const.TheVariants as const
 use Rattle.operators.specs.declared.folding.ConstFault.{ConstFault}
 use Rattle.operators.specs.declared.folding.ConstFault.TheVariants.{Overflow, ZeroDivisor, NegativeShift, NotConstant}
 use Rattle.operators.specs.Folding.{exact, in_range_or_fault, kept, as_constant, compared_bools, folded, folded_one}
-use Rattle.operators.specs.Operands.{Operand, constant, value, constant_value, const_of, of_type, constant_of}
+use Rattle.operators.specs.Operands.{Operand, constant, value, nil, constant_value, const_of, of_type, constant_of}
 use Rattle.operators.specs.Operators.{joint_type, converts, worked_out, takes_one, prefix_of, prefixed, takes, is_division, is_shift, stands_right, both_values, combined}
 use Rattle.operators.specs.Faults.{constant_fault, prefix_fault, unfit_kind, right_fault, two_fault, pair_fault}
 
@@ -139,6 +139,7 @@ prefix_decided at op (value t x) = value_prefix_decided (fault Unfit at) (takes_
 prefix_decided at op (constant f) =
     prefix_taken (fault Unfit at) (takes_one op (constant_type f.value_type f.value)) (constant_of f.value_type (folded_one op (const_of f.value))) (constant_fault f.value_type at at (folded_one op (const_of f.value)))
     (constant_decided f.value_type at at (folded_one op (const_of f.value)) (prefix_is op f.value))
+prefix_decided at op nil = (fault Unfit at, refl)
 
 -- two values, where an operator takes them
 left_decided : (own at : Pos) (op : BinOp) (c : Constant) (x : Ex) → Decided (both_values own op (constant_value c) (Some x)) (IsFault (constant_range_fault at c))
@@ -172,21 +173,24 @@ where_taken own false c o r d = (own, refl)
 two_decided : (own at right : Pos) (op : BinOp) (x y : Operand) → Decided (combined own op x y) (IsFault (two_fault at right op x y))
 two_decided own at right op (constant a) (constant b) =
     let j = joint_type op a.value_type b.value_type in
-    pair_taken (fault (unfit_kind op (constant_type a.value_type a.value) (constant_type b.value_type b.value)) at) (fault ConstRange at) (fault ConstRange right)
+    pair_taken (fault (unfit_kind op (Some (constant_type a.value_type a.value)) (Some (constant_type b.value_type b.value))) at) (fault ConstRange at) (fault ConstRange right)
     (takes op (constant_type a.value_type a.value) (constant_type b.value_type b.value)) (converts op a b) (is_held b.value_type a.value) (constant_of j (worked_out op a b)) (constant_fault j at right (worked_out op a b))
     (constant_decided j at right (worked_out op a b) (folded_is op a.value b.value))
 two_decided own at right op (constant a) (value t x) =
     let c = a.value in
     let u = constant_type a.value_type c in
-    where_taken (fault (unfit_kind op u t) at) (takes op u t) true (both_values own op (constant_value c) (Some x)) (constant_range_fault at c) (left_decided own at op c x)
+    where_taken (fault (unfit_kind op (Some u) (Some t)) at) (takes op u t) true (both_values own op (constant_value c) (Some x)) (constant_range_fault at c) (left_decided own at op c x)
 two_decided own at right op (value t x) (constant b) =
     let d = b.value in
     let u = constant_type b.value_type d in
-    where_taken (fault (unfit_kind op t u) at) (takes op t u) (stands_right op d) (both_values own op (Some x) (constant_value d)) (right_fault at right op d)
+    where_taken (fault (unfit_kind op (Some t) (Some u)) at) (takes op t u) (stands_right op d) (both_values own op (Some x) (constant_value d)) (right_fault at right op d)
     (right_decided (fault ConstZeroDivisor right) (fault Unfit at) (is_division op && is_zero d) (is_shift op && is_negative d) (both_values own op (Some x) (constant_value d)) (constant_range_fault right d)
     (right_value_decided own right op x d))
 two_decided own at right op (value s x) (value t y) =
-    where_taken (fault (unfit_kind op s t) at) (takes op s t) true (both_values own op (Some x) (Some y)) None (λ f h. h)
+    where_taken (fault (unfit_kind op (Some s) (Some t)) at) (takes op s t) true (both_values own op (Some x) (Some y)) None (λ f h. h)
+two_decided own at right op (constant a) nil = (_, refl)
+two_decided own at right op (value s x) nil = (_, refl)
+two_decided own at right op nil y = (_, refl)
 
 pub one_decided : {A : Type 0} (k : Operand → Option A) (R : Option Operand → Option Fault) (o : Option Operand) (P : Fault → Type 0) → Decided o P → ((x : Operand) → Decided (k x) (IsFault (R (Some x))))
     → Decided (option_and_then k o) (λ f. P f ⊎ IsFault (R o) f)

@@ -20,12 +20,13 @@ use Rattle.operators.specs.declared.folding.Const.{Const}
 use Rattle.operators.specs.declared.folding.Const.TheVariants as const
 use Rattle.operators.specs.declared.folding.ConstFault.{ConstFault}
 use Rattle.operators.specs.Folding.{folded_one}
-use Rattle.operators.specs.Operands.{Operand, constant, value, const_of, of_type, constant_of, type_of, as_value}
-use Rattle.operators.specs.Operators.{takes_one, prefix_of, prefixed, takes, both_values, value_pair, right_allowed, joint_type, converts, worked_out, combined}
+use Rattle.operators.specs.Operands.{Operand, constant, value, nil, const_of, of_type, constant_of, type_of, as_value}
+use Rattle.operators.specs.Operators.{takes_one, prefix_of, prefixed, takes, takes_both, both_values, value_pair, right_allowed, joint_type, converts, worked_out, combined}
 
 abbrev pub IsHeld : Operand → Type 0
 IsHeld (constant f) = is_held f.value_type f.value ≡ true
 IsHeld (value t x) = Unit {0}
+IsHeld nil = Unit {0}
 
 -- the constants of a scope whose values are known
 abbrev pub AreHeld : List (Option Fixed) → Type 0
@@ -71,6 +72,7 @@ prefixed_held op (value t x) y is = allowed_held (takes_one op t) (option_map (�
     by : (o : Option TypedPrefix) (z : Operand) → option_map (λ g. value t (typed.unary g x)) o ≡ Some z → IsHeld z
     by None z e = absurd (none_some e)
     by (Some g) z e = subst IsHeld (same_some e) tt
+prefixed_held op nil y is = absurd (none_some is)
 
 both_held : (at : Pos) (op : BinOp) (a b : Option Ex) (z : Operand) → both_values at op a b ≡ Some z → IsHeld z
 both_held at op None b z is = absurd (none_some is)
@@ -79,12 +81,13 @@ both_held at op (Some x) (Some y) z is = subst IsHeld (same_some is) tt
 
 value_pair_held : (at : Pos) (op : BinOp) (x y z : Operand) → value_pair at op x y ≡ Some z → IsHeld z
 value_pair_held at op x y z is =
-    allowed_held (takes op (type_of x) (type_of y) && right_allowed op y) (both_values at op (as_value x) (as_value y)) z (λ w e. both_held at op (as_value x) (as_value y) w e) is
+    allowed_held (takes_both op (type_of x) (type_of y) && right_allowed op y) (both_values at op (as_value x) (as_value y)) z (λ w e. both_held at op (as_value x) (as_value y) w e) is
 
 pub pair_held : (at : Pos) (op : BinOp) (x y z : Operand) → combined at op x y ≡ Some z → IsHeld z
 pair_held at op (constant a) (constant b) z is =
     let j = joint_type op a.value_type b.value_type in
     allowed_held (takes op (constant_type a.value_type a.value) (constant_type b.value_type b.value) && converts op a b) (constant_of j (worked_out op a b)) z (λ w e. constant_held j (worked_out op a b) w e) is
 pair_held at op (constant a) (value t y) z is = value_pair_held at op (constant a) (value t y) z is
-pair_held at op (value s x) (constant b) z is = value_pair_held at op (value s x) (constant b) z is
-pair_held at op (value s x) (value t y) z is = value_pair_held at op (value s x) (value t y) z is
+pair_held at op (constant a) nil z is = value_pair_held at op (constant a) nil z is
+pair_held at op (value s x) y z is = value_pair_held at op (value s x) y z is
+pair_held at op nil y z is = value_pair_held at op nil y z is

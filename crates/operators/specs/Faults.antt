@@ -1,5 +1,5 @@
 -- Which rules of an operator fail on its operands, and where each is reported. A rule is looked at only where all operands give something.
-use Rattle.std.specs.Prelude.{◌&&◌, ◌||◌, Option, Some, None, Result, Ok, Err, if◌then◌else◌}
+use Rattle.std.specs.Prelude.{Bool, true, false, ◌&&◌, ◌||◌, Option, Some, None, Result, Ok, Err, if◌then◌else◌}
 use Rattle.base.specs.declared.pos.Pos.{Pos}
 use Rattle.syntax.specs.declared.operator.BinOp.{BinOp}
 use Rattle.syntax.specs.declared.operator.UnOp.{UnOp}
@@ -19,8 +19,8 @@ use Rattle.operators.specs.declared.folding.Const.TheVariants as const
 use Rattle.operators.specs.declared.folding.ConstFault.{ConstFault}
 use Rattle.operators.specs.declared.folding.ConstFault.TheVariants.{Overflow, ZeroDivisor, NegativeShift, NotConstant}
 use Rattle.operators.specs.Folding.{folded_one}
-use Rattle.operators.specs.Operands.{Operand, constant, value, type_of, const_of}
-use Rattle.operators.specs.Operators.{joint_type, converts, worked_out, takes_one, takes, is_division, is_shift}
+use Rattle.operators.specs.Operands.{Operand, constant, value, nil, type_of, const_of}
+use Rattle.operators.specs.Operators.{joint_type, converts, worked_out, takes_operand, takes_both, is_division, is_shift}
 
 -- a constant expression has no value, or none of its type: the divisor is the operand on the right
 abbrev pub constant_fault : Option ValueType → Pos → Pos → Result Const ConstFault → Option Fault
@@ -36,14 +36,21 @@ constant_fault t pos right (Err NotConstant) = Some (fault Unfit pos)
 abbrev pub fitting_prefix_fault : Pos → UnOp → Operand → Option Fault
 fitting_prefix_fault pos op (constant f) = constant_fault f.value_type pos pos (folded_one op (const_of f.value))
 fitting_prefix_fault pos op (value t x) = None
+fitting_prefix_fault pos op nil = None
 
 abbrev pub prefix_fault : Pos → UnOp → Option Operand → Option Fault
 prefix_fault pos op None = None
-prefix_fault pos op (Some x) = if takes_one op (type_of x) then fitting_prefix_fault pos op x else Some (fault Unfit pos)
+prefix_fault pos op (Some x) = if takes_operand op (type_of x) then fitting_prefix_fault pos op x else Some (fault Unfit pos)
+
+-- whether two operands are of one type, or neither has one
+abbrev pub are_alike : Option ValueType → Option ValueType → Bool
+are_alike (Some s) (Some t) = same_type s t
+are_alike None None = true
+are_alike s t = false
 
 -- operands that an operator doesn't take: of two types, where the operator is no shift; or of a type on which it isn't defined
-abbrev pub unfit_kind : BinOp → ValueType → ValueType → FaultKind
-unfit_kind op s t = if is_shift op || same_type s t then Unfit else Mismatch
+abbrev pub unfit_kind : BinOp → Option ValueType → Option ValueType → FaultKind
+unfit_kind op s t = if is_shift op || are_alike s t then Unfit else Mismatch
 
 -- a constant on the right of what is none: a divisor 0, a negative count, or what no int can hold
 abbrev pub right_fault : Pos → Pos → BinOp → Constant → Option Fault
@@ -64,10 +71,10 @@ abbrev pub fitting_fault : Pos → Pos → BinOp → Operand → Operand → Opt
 fitting_fault pos right op (constant a) (constant b) = constants_fault pos right op a b
 fitting_fault pos right op (constant a) (value t x) = constant_range_fault pos a.value
 fitting_fault pos right op (value t x) (constant b) = right_fault pos right op b.value
-fitting_fault pos right op (value s x) (value t y) = None
+fitting_fault pos right op x y = None
 
 abbrev pub two_fault : Pos → Pos → BinOp → Operand → Operand → Option Fault
-two_fault pos right op x y = if takes op (type_of x) (type_of y) then fitting_fault pos right op x y else Some (fault (unfit_kind op (type_of x) (type_of y)) pos)
+two_fault pos right op x y = if takes_both op (type_of x) (type_of y) then fitting_fault pos right op x y else Some (fault (unfit_kind op (type_of x) (type_of y)) pos)
 
 -- a rule of an operator on two operands that give something
 abbrev pub PairFails : Pos → Pos → BinOp → Operand → Operand → Fault → Type 0

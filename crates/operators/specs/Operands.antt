@@ -1,5 +1,5 @@
 -- What an expression gives as one value, and constants as operands (Go specification, "Constant expressions").
-use Rattle.std.specs.Prelude.{Option, Some, None, Result, Ok, Err, if◌then◌else◌}
+use Rattle.std.specs.Prelude.{Bool, false, Option, Some, None, Result, Ok, Err, if◌then◌else◌}
 use Rattle.typed_syntax.specs.Value.{int, bool}
 use Rattle.typed_syntax.specs.Syntax.{Ex}
 use Rattle.typed_syntax.specs.Syntax as typed
@@ -7,20 +7,30 @@ use Rattle.constants.specs.declared.constant.Constant.{Constant}
 use Rattle.constants.specs.declared.constant.Constant.TheVariants.{Number, Truth}
 use Rattle.constants.specs.declared.constant.Fixed.{Fixed}
 use Rattle.base.specs.declared.value_type.ValueType.{ValueType}
+use Rattle.base.specs.Types.{same_type}
 use Rattle.type_faults.specs.Given.{allowed}
 use Rattle.constants.specs.Constants.{constant_type, is_int, is_held}
 use Rattle.operators.specs.declared.folding.Const.{Const}
 use Rattle.operators.specs.declared.folding.Const.TheVariants as const
 use Rattle.operators.specs.declared.folding.ConstFault.{ConstFault}
 
--- what an expression gives as one value: a constant with its exact value, or a value of a type that is worked out when the program runs
+-- what an expression gives as one value: a constant with its exact value, a value of a type that is worked out when the program runs, or nil
 pub data Operand : Type 0 where
   constant : Fixed → Operand
   value : ValueType → Ex → Operand
+  nil : Operand
 
-abbrev pub type_of : Operand → ValueType
-type_of (constant f) = constant_type f.value_type f.value
-type_of (value t x) = t
+-- the type of an operand; nil has none
+abbrev pub type_of : Operand → Option ValueType
+type_of (constant f) = Some (constant_type f.value_type f.value)
+type_of (value t x) = Some t
+type_of nil = None
+
+-- whether a place of a type can be given an operand (Go specification, "Assignability"); nil stands for no value of the types that there are
+abbrev pub is_assignable : ValueType → Operand → Bool
+is_assignable t (constant f) = same_type t (constant_type f.value_type f.value)
+is_assignable t (value u x) = same_type t u
+is_assignable t nil = false
 
 -- a constant as a value of its type, where the type has one
 abbrev pub constant_value : Constant → Option Ex
@@ -30,6 +40,7 @@ constant_value (Truth b) = Some (typed.constant (bool b))
 abbrev pub as_value : Operand → Option Ex
 as_value (constant f) = constant_value f.value
 as_value (value t x) = Some x
+as_value nil = None
 
 abbrev pub const_of : Constant → Const
 const_of (Number z) = const.Int z

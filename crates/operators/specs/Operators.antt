@@ -27,7 +27,7 @@ use Rattle.constants.specs.Constants.{constant_type, is_held, is_zero, is_negati
 use Rattle.operators.specs.declared.folding.Const.{Const}
 use Rattle.operators.specs.declared.folding.ConstFault.{ConstFault}
 use Rattle.operators.specs.Folding.{folded, folded_one}
-use Rattle.operators.specs.Operands.{Operand, constant, value, type_of, as_value, const_of, constant_of}
+use Rattle.operators.specs.Operands.{Operand, constant, value, nil, type_of, as_value, const_of, constant_of}
 
 -- the prefixes that have rules; a use of any other is left out of the profile
 abbrev pub has_rules : UnOp → Bool
@@ -45,6 +45,11 @@ takes_one Complement Int = true
 takes_one Not Boolean = true
 takes_one op t = false
 
+-- and whether it takes one of a type or of none
+abbrev pub takes_operand : UnOp → Option ValueType → Bool
+takes_operand op (Some t) = takes_one op t
+takes_operand op None = false
+
 abbrev pub prefix_of : UnOp → Option TypedPrefix
 prefix_of Plus = Some prefix.Plus
 prefix_of Negate = Some prefix.Negate
@@ -61,6 +66,11 @@ takes (Compare op) Int Int = true
 takes LogicalAnd Boolean Boolean = true
 takes LogicalOr Boolean Boolean = true
 takes op s t = false
+
+-- and whether it takes two of these types; nil has none
+abbrev pub takes_both : BinOp → Option ValueType → Option ValueType → Bool
+takes_both op (Some s) (Some t) = takes op s t
+takes_both op s t = false
 
 -- the type of what it gives
 abbrev pub result_type : BinOp → ValueType
@@ -84,6 +94,7 @@ stands_right op c = not (is_division op && is_zero c) && not (is_shift op && is_
 abbrev pub right_allowed : BinOp → Operand → Bool
 right_allowed op (constant f) = stands_right op f.value
 right_allowed op (value t x) = true
+right_allowed op nil = true
 
 abbrev pub arithmetic_of : ArithmeticOp → TypedOp
 arithmetic_of arithmetic.Add = op.Add
@@ -117,6 +128,7 @@ typed_pair pos LogicalOr x y = typed.logical_or x y
 abbrev pub prefixed : UnOp → Operand → Option Operand
 prefixed op (constant f) = allowed (takes_one op (constant_type f.value_type f.value)) (constant_of f.value_type (folded_one op (const_of f.value)))
 prefixed op (value t x) = allowed (takes_one op t) (option_map (λ typed_op. value t (typed.unary typed_op x)) (prefix_of op))
+prefixed op nil = None
 
 abbrev pub both_values : Pos → BinOp → Option Ex → Option Ex → Option Operand
 both_values pos op (Some x) (Some y) = Some (value (result_type op) (typed_pair pos op x y))
@@ -124,7 +136,7 @@ both_values pos op x y = None
 
 -- two operands, one of which at least is no constant
 abbrev pub value_pair : Pos → BinOp → Operand → Operand → Option Operand
-value_pair pos op a b = allowed (takes op (type_of a) (type_of b) && right_allowed op b) (both_values pos op (as_value a) (as_value b))
+value_pair pos op a b = allowed (takes_both op (type_of a) (type_of b) && right_allowed op b) (both_values pos op (as_value a) (as_value b))
 
 -- the type of what two constants give: a comparison gives an untyped truth value, a shift has the type of its left operand, and all else the
 -- type of an operand that has one

@@ -3,31 +3,43 @@
 ghost use Rattle.std.specs.Prelude.{◌≡◌, option_and_then};
 ghost use Rattle.std.specs.Option.{option_map};
 ghost use Rattle.typed.specs.View.{ex_of};
-ghost use Rattle.operators.specs.Operands.{type_of, as_value, constant_value, const_of, of_type, constant_of};
+ghost use Rattle.operators.specs.Operands.{type_of, is_assignable, as_value, constant_value, const_of, of_type, constant_of};
 ghost use Rattle.operators.specs.Passing.{operand_of};
 ghost use Rattle.operators.specs.Faults.{constant_fault};
 
 use crate::constant_faults::held_fault;
 use crate::folding::{Const, ConstFault};
-use base::{Pos, ValueType};
+use base::{Pos, ValueType, same_type};
 use constants::{Constant, Fixed, constant_type, int_constant, is_held};
 use type_faults::{Fault, FaultKind};
 use typed::{Const as TypedConst, Expr};
 
-/// What an expression gives as one value: a constant, or a value of a type that is worked out when the program runs.
+/// What an expression gives as one value: a constant, a value of a type that is worked out when the program runs, or `nil`.
 #[derive(Drop)]
 pub enum Operand {
     Constant(Fixed),
     Value(ValueType, Expr),
+    Nil,
 }
 
-/// The type of an operand.
-pub fn type_of(operand: &Operand) -> ValueType
+/// The type of an operand; `nil` has none.
+pub fn type_of(operand: &Operand) -> Option<ValueType>
     ensures { result ≡ type_of (operand_of operand.now) }
 {
     match operand {
-        Operand::Constant(fixed) => constant_type(*fixed),
-        Operand::Value(value_type, _) => *value_type,
+        Operand::Constant(fixed) => Some(constant_type(*fixed)),
+        Operand::Value(value_type, _) => Some(*value_type),
+        Operand::Nil => None,
+    }
+}
+
+/// Whether a place of a type can be given an operand (Go specification, "Assignability").
+pub fn is_assignable(value_type: ValueType, operand: &Operand) -> bool
+    ensures { result ≡ is_assignable value_type (operand_of operand.now) }
+{
+    match type_of(operand) {
+        Some(own_type) => same_type(value_type, own_type),
+        None => false,
     }
 }
 
@@ -51,6 +63,7 @@ pub fn as_value(operand: Operand) -> Option<Expr>
     match operand {
         Operand::Constant(fixed) => constant_value(fixed.value),
         Operand::Value(_, e) => Some(e),
+        Operand::Nil => None,
     }
 }
 

@@ -7,8 +7,8 @@ ghost use Rattle.std.specs.Option.{option_map};
 ghost use Rattle.typed.specs.View.{ex_of};
 ghost use Rattle.type_faults.specs.Given.{both};
 ghost use Rattle.operators.specs.Operands.{as_value};
-ghost use Rattle.operators.specs.Operators.{takes, result_type, is_division, is_shift, stands_right, right_allowed, arithmetic_of, compare_of, typed_pair, both_values, value_pair, either_type, joint_type, converts, worked_out, constant_pair, combined};
-ghost use Rattle.operators.specs.Faults.{unfit_kind, right_fault, conversion_fault, constants_fault, fitting_fault, two_fault, pair_fault};
+ghost use Rattle.operators.specs.Operators.{takes, takes_both, result_type, is_division, is_shift, stands_right, right_allowed, arithmetic_of, compare_of, typed_pair, both_values, value_pair, either_type, joint_type, converts, worked_out, constant_pair, combined};
+ghost use Rattle.operators.specs.Faults.{are_alike, unfit_kind, right_fault, conversion_fault, constants_fault, fitting_fault, two_fault, pair_fault};
 ghost use Rattle.operators.specs.Passing.{operand_of};
 
 use crate::constant_faults::constant_range_fault;
@@ -31,6 +31,16 @@ fn takes(op: BinOp, left: ValueType, right: ValueType) -> bool
         }
         (BinOp::Arithmetic(_) | BinOp::Compare(_), ValueType::Int, ValueType::Int) => true,
         (BinOp::LogicalAnd | BinOp::LogicalOr, ValueType::Bool, ValueType::Bool) => true,
+        _ => false,
+    }
+}
+
+/// Whether an operator takes two operands of these types; `nil` has none.
+fn takes_both(op: BinOp, left: Option<ValueType>, right: Option<ValueType>) -> bool
+    ensures { result ≡ takes_both op left right }
+{
+    match (left, right) {
+        (Some(left), Some(right)) => takes(op, left, right),
         _ => false,
     }
 }
@@ -75,7 +85,7 @@ fn right_allowed(op: BinOp, operand: &Operand) -> bool
 {
     match operand {
         Operand::Constant(fixed) => stands_right(op, fixed.value),
-        Operand::Value(_, _) => true,
+        Operand::Value(_, _) | Operand::Nil => true,
     }
 }
 
@@ -157,7 +167,7 @@ fn value_pair(
 ) -> Result<Option<Operand>, NoMemory>
     ensures { IfOk result (λ o. option_map operand_of o ≡ value_pair pos op (operand_of left) (operand_of right)) }
 {
-    if takes(op, type_of(&left), type_of(&right)) && right_allowed(op, &right) {
+    if takes_both(op, type_of(&left), type_of(&right)) && right_allowed(op, &right) {
         both_values(alloc, pos, op, left, right)
     } else {
         drop(left);
@@ -166,11 +176,22 @@ fn value_pair(
     }
 }
 
+/// Whether two operands are of one type, or neither has one.
+fn are_alike(left: Option<ValueType>, right: Option<ValueType>) -> bool
+    ensures { result ≡ are_alike left right }
+{
+    match (left, right) {
+        (Some(left), Some(right)) => same_type(left, right),
+        (None, None) => true,
+        _ => false,
+    }
+}
+
 /// The kind of the fault of operands that an operator doesn't take.
-fn unfit_kind(op: BinOp, left: ValueType, right: ValueType) -> FaultKind
+fn unfit_kind(op: BinOp, left: Option<ValueType>, right: Option<ValueType>) -> FaultKind
     ensures { result ≡ unfit_kind op left right }
 {
-    if is_shift(op) || same_type(left, right) {
+    if is_shift(op) || are_alike(left, right) {
         FaultKind::Unfit
     } else {
         FaultKind::Mismatch
@@ -292,7 +313,7 @@ fn fitting_fault(
         }
         (Operand::Constant(y), Operand::Value(_, _)) => constant_range_fault(pos, y.value),
         (Operand::Value(_, _), Operand::Constant(z)) => right_fault(pos, right_pos, op, z.value),
-        (Operand::Value(_, _), Operand::Value(_, _)) => None,
+        _ => None,
     }
 }
 
@@ -302,7 +323,7 @@ fn two_fault(op: BinOp, pos: Pos, right_pos: Pos, left: &Operand, right: &Operan
 {
     let left_type = type_of(left);
     let right_type = type_of(right);
-    if takes(op, left_type, right_type) {
+    if takes_both(op, left_type, right_type) {
         fitting_fault(op, pos, right_pos, left, right)
     } else {
         Some(Fault {

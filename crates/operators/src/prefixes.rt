@@ -6,7 +6,7 @@ ghost use Rattle.std.specs.Prelude.{◌≡◌, option_and_then, IfOk};
 ghost use Rattle.std.specs.Option.{option_map};
 ghost use Rattle.typed.specs.View.{ex_of};
 ghost use Rattle.operators.specs.Operands.{value};
-ghost use Rattle.operators.specs.Operators.{has_rules, takes_one, prefix_of, prefixed};
+ghost use Rattle.operators.specs.Operators.{has_rules, takes_one, takes_operand, prefix_of, prefixed};
 ghost use Rattle.operators.specs.Faults.{fitting_prefix_fault, prefix_fault};
 ghost use Rattle.operators.specs.Passing.{operand_of};
 
@@ -37,6 +37,16 @@ fn takes_one(op: UnOp, operand: ValueType) -> bool
         (UnOp::Plus | UnOp::Negate | UnOp::Complement, ValueType::Int) => true,
         (UnOp::Not, ValueType::Bool) => true,
         _ => false,
+    }
+}
+
+/// Whether a prefix takes an operand of a type or of none.
+fn takes_operand(op: UnOp, operand: Option<ValueType>) -> bool
+    ensures { result ≡ takes_operand op operand }
+{
+    match operand {
+        Some(value_type) => takes_one(op, value_type),
+        None => false,
     }
 }
 
@@ -100,6 +110,7 @@ pub fn prefixed(
         None => Ok(None),
         Some(Operand::Constant(fixed)) => Ok(prefixed_constant(op, fixed)),
         Some(Operand::Value(value_type, e)) => prefixed_value(alloc, op, value_type, e),
+        Some(Operand::Nil) => Ok(None),
     }
 }
 
@@ -114,7 +125,7 @@ fn fitting_prefix_fault(op: UnOp, pos: Pos, operand: &Operand) -> Option<Fault>
             pos,
             fold_one(op, const_of(fixed.value)),
         ),
-        Operand::Value(_, _) => None,
+        Operand::Value(_, _) | Operand::Nil => None,
     }
 }
 
@@ -125,7 +136,7 @@ pub fn prefix_fault(op: UnOp, pos: Pos, operand: &Option<Operand>) -> Option<Fau
     match operand {
         None => None,
         Some(operand) => {
-            if takes_one(op, type_of(operand)) {
+            if takes_operand(op, type_of(operand)) {
                 fitting_prefix_fault(op, pos, operand)
             } else {
                 Some(Fault {

@@ -10,6 +10,7 @@ use Rattle.syntax.specs.declared.expression.Name.{Name}
 use Rattle.syntax.specs.FirstBytes.{first_pos}
 use Rattle.syntax.specs.Expressions as tree
 use Rattle.syntax.specs.Expressions.{Ex as TreeEx, Exs as TreeExs, none, some, spelled}
+use Rattle.typed_syntax.specs.Syntax.{Ex}
 use Rattle.syntax.specs.Statements.{ValueSpec}
 use Rattle.syntax.specs.Declarations.{Declaration, constants, variables, types, function}
 use Rattle.constants.specs.declared.constant.Constant.TheVariants.{Number, Truth}
@@ -26,7 +27,7 @@ use Rattle.type_faults.specs.Given.{allowed, both}
 use Rattle.type_faults.specs.Faults.{fault, IsFault}
 use Rattle.type_faults.proofs.Decided.{Decided}
 use Rattle.type_faults.proofs.Options.{map_some, none_some, same_some}
-use Rattle.operators.specs.Operands.{Operand, constant, value, type_of}
+use Rattle.operators.specs.Operands.{Operand, constant, value, nil, type_of, as_value}
 use Rattle.operators.specs.Operators.{has_rules, prefixed, combined}
 use Rattle.names.specs.Blocks.{lookup}
 use Rattle.names.specs.declared.scope.Declared.{Declared}
@@ -35,20 +36,23 @@ use Rattle.names.specs.Scope.{Scope, Signature, numbered, declaration, fixed}
 use Rattle.names.specs.Types.{type_in}
 use Rattle.names.specs.Faults.{FailsAsType}
 use Rattle.names.proofs.Settled.{HasValue, IsTyped, IsSettled, predeclared_is, type_decided}
-use Rattle.expression_types.specs.Typing.{are_single, Gives, one, name_operand, prefix_gives, accepts, single, operand_in, type_in_one, Seen, Many, many_in, many as many_of, count_of, gives, seen}
-use Rattle.expression_types.specs.Faults.{single_fault, CountFails, SinglesFail, ValuesFail as ManyFail, Fails, FailsInEach}
-use Rattle.expression_types.proofs.DecidedValues.{single_decided}
+use Rattle.expression_types.specs.Typing.{are_single, Gives, one, name_operand, prefix_gives, accepts_operand, single, operand_in, type_in_one, own_type, Seen, Many, many_in, many as many_of, count_of, gives, seen}
+use Rattle.expression_types.specs.Faults.{single_fault, range_fault, RangeFails, CountFails, SinglesFail, ValuesFail as ManyFail, Fails, FailsInEach}
+use Rattle.expression_types.proofs.DecidedValues.{single_decided, as_value_decided}
+use Rattle.expression_types.proofs.InForm.{typed_value}
+use Rattle.type_faults.proofs.Lists.{take_all}
 use Rattle.expression_types.proofs.Settled.{gives_decided}
 use Rattle.package_values.specs.Values.{Item, as_constant, unvalued, paired, or_unvalued, items_of, items_in_specs, items_in, with_type, zero_of, accepted, given_by, variable_type, given_as, given, settled}
 use Rattle.package_values.specs.declared.items.Role.{Role}
 use Rattle.package_values.specs.declared.items.Role.TheVariants as role
-use Rattle.package_values.specs.Needs.{names_in, names_in_each, names_in_some, names_waited, value_number, also, Among, has_form, have_form, waited_form, numbers_of, needed_as, needed, needed_in, Needs, Reaches, at_once, through}
+use Rattle.package_values.specs.Needs.{names_in, names_in_each, names_in_some, names_waited, value_number, also, has_form, have_form, waited_form, numbers_of, needed_for, needed_as, needed, needed_in, Needs, Reaches, at_once, through}
 use Rattle.package_values.specs.ValueFaults.{single_count, value_fault, ValuesFail, type_asked, TypeFails, SpecFails, SpecsFail, form_fault, FormsFail, left_out_fault, ValuesLeftOut, wanted, InitialsFail, VariablesFail, AllVariablesFail, cycle_place, DeclarationsFail, ItemsFail}
+use Rattle.components.specs.Graph.{Among}
 use Rattle.package_values.specs.Passing.{has_mark, is_marked}
 use Rattle.package_values.proofs.Growth.{known, Consistent, IsEnd, rounds, rounds_good, rounds_settle, all_seen, rounds_hold}
 use Rattle.package_values.proofs.Giving.{holding, give, monotone, type_same, given_held, looks_are}
 use Rattle.package_values.proofs.Same.{NameSame, AllSame, all_left, all_right, gives_same, fails_back, type_fails_back}
-use Rattle.package_values.proofs.Walks.{unmarked, set_count, set_only, set_length}
+use Rattle.package_values.proofs.Marks.{unmarked, set_count, set_only, set_length}
 
 element : {A : Type 0} (P : A → Type 0) (xs : List A) (k : ℕ) (x : A) → AllByRecursion P xs → slice_get xs k ≡ Some x → P x
 element P [] k x all is = absurd (none_some is)
@@ -133,7 +137,7 @@ module _ (text : List ℕ) (s : Scope) (n : ℕ) (formed : IsFormed s.types) (ty
 
   value_below : (name : List ℕ) (o : Option ℕ) (d : Declared) → numbered s name o ≡ Some d → (j : ℕ) → value_number (Some d) ≡ Some j → j < n
   value_below name None d is j e =
-      absurd (predeclared_is HasNoNumber (λ k h. none_some h) (λ k h. none_some h) (λ b k h. none_some h) (λ line k h. none_some h) (λ k h. none_some h) (λ k h. none_some h) (λ k h. none_some h) name d is j e)
+      absurd (predeclared_is HasNoNumber (λ k h. none_some h) (λ k h. none_some h) (λ b k h. none_some h) (λ k h. none_some h) (λ line k h. none_some h) (λ k h. none_some h) (λ k h. none_some h) (λ k h. none_some h) name d is j e)
   value_below name (Some i) d is j e = number_below s.types s.signatures n d (element (IsTypedOnceKnown s.types s.signatures n) s.declared i d typed is) j e
 
   name_below : (x : Name) (o : Option Declared) → declaration s (spelled text x) ≡ o → (j : ℕ) → value_number o ≡ Some j → j < n
@@ -213,14 +217,14 @@ module _ (text : List ℕ) (s : Scope) (n : ℕ) (formed : IsFormed s.types) (ty
   typed_given : (t : ValueType) (c : Fixed) → same_type t (constant_type c.value_type c.value) ≡ true → holds t c.value ≡ true → (f : Fixed) × (with_type t c ≡ Some f)
   typed_given t c same holds1 = (_, ap (λ (b : Bool). allowed (b && holds t c.value) (Some (record { value_type = Some t; value = c.value }))) same ∙ ap (λ (b : Bool). allowed (true && b) (Some (record { value_type = Some t; value = c.value }))) holds1)
 
-  accepted_here : (t : Option TreeEx) (c : Fixed) → Never (TypeFails text (holding s cs) t) → accepts (type_asked text (holding s cs) t) (constant_type c.value_type c.value) ≡ true → is_held (type_asked text (holding s cs) t) c.value ≡ true
+  accepted_here : (t : Option TreeEx) (c : Fixed) → Never (TypeFails text (holding s cs) t) → accepts_operand (type_asked text (holding s cs) t) (constant c) ≡ true → is_held (type_asked text (holding s cs) t) c.value ≡ true
       → (f : Fixed) × (accepted text (holding s cs) t c ≡ Some f)
   accepted_here None c never a h = (c, refl)
   accepted_here (Some e) c never a h = let t = type_here e never in by t.0 t.1
     where
       by : (t : ValueType) → type_in text (holding s cs) e ≡ Some t → (f : Fixed) × (accepted text (holding s cs) (Some e) c ≡ Some f)
       by t is =
-          let same = subst (λ (o : Option ValueType). accepts o (constant_type c.value_type c.value) ≡ true) is a in
+          let same = subst (λ (o : Option ValueType). accepts_operand o (constant c) ≡ true) is a in
           let held1 = subst (λ (o : Option ValueType). is_held o c.value ≡ true) is h in
           let f = typed_given t c same held1 in (f.0, ap (option_and_then (λ u. with_type u c)) is ∙ f.1)
 
@@ -232,9 +236,10 @@ module _ (text : List ℕ) (s : Scope) (n : ℕ) (formed : IsFormed s.types) (ty
       by x.0 x.1 (λ f h. value_never f (subst (λ (o : Option Operand). IsFault (value_fault (type_asked text (holding s cs) t) at o) f) (sym x.1) h))
     where
       by : (x : Operand) → operand_in (gives text (holding s cs) e) ≡ Some x → Never (IsFault (value_fault (type_asked text (holding s cs) t) at (Some x))) → (f : Fixed) × (given_by text (holding s cs) t (Some e) ≡ Some f)
-      by (value u y) is free = absurd (no_value (accepts (type_asked text (holding s cs) t) u) at free)
+      by (value u y) is free = absurd (no_value (accepts_operand (type_asked text (holding s cs) t) (value u y)) at free)
+      by nil is free = absurd (no_value (accepts_operand (type_asked text (holding s cs) t) nil) at free)
       by (constant c) is free =
-          let fits = fitting (accepts (type_asked text (holding s cs) t) (constant_type c.value_type c.value)) (is_held (type_asked text (holding s cs) t) c.value) at free in
+          let fits = fitting (accepts_operand (type_asked text (holding s cs) t) (constant c)) (is_held (type_asked text (holding s cs) t) c.value) at free in
           let f = accepted_here t c type_never fits.0 fits.1 in
           (f.0, ap (λ (o : Option Operand). option_and_then (accepted text (holding s cs) t) (option_and_then as_constant o)) is ∙ f.1)
 
@@ -253,7 +258,7 @@ module _ (text : List ℕ) (s : Scope) (n : ℕ) (formed : IsFormed s.types) (ty
   HoldsInitial None None es = (have_form text (holding s cs) es ≡ true) × (AllSame text s cs (filled cs) (names_in_each es) → ⊥)
   HoldsInitial None (Some e) es =
       (has_form text (holding s cs) e ≡ true) × Never (Fails text (holding s cs) e) × Never (IsFault (single_fault (gives text (holding s cs) e)))
-      × Never (IsFault (left_out_fault (type_in_one (gives text (holding s cs) e)) (first_pos e)))
+      × Never (IsFault (range_fault (first_pos e) (operand_in (gives text (holding s cs) e)))) × Never (IsFault (left_out_fault (type_in_one (gives text (holding s cs) e)) (first_pos e)))
 
   abbrev HoldsAs : Role → Option TreeEx → Option TreeEx → TreeExs → Type 0
   HoldsAs role.Constant t v es = Holds t v es
@@ -308,6 +313,14 @@ module _ (text : List ℕ) (s : Scope) (n : ℕ) (formed : IsFormed s.types) (ty
   not_paired r names t all k (x ∷ ns) none e l = omega (arith, l)
   not_paired r names t all k (x ∷ ns) (some v es) e l =
       not_paired r names t all (1 + k) ns es (no_map (λ is. record { role = r; name = x; names = names; place = k; type_expr = t; value = Some v; values = all } ∷ is) (paired r names t all (1 + k) ns es) e) (omega (arith, l))
+
+  paired_long : (r : Role) (names : List Name) (t : Option TreeEx) (all : TreeExs) (k : ℕ) (ns : List Name) (es : TreeExs) (is : List Item) → paired r names t all k ns es ≡ Some is → length (seen text (holding s cs) es) ≡ length ns
+  paired_long r names t all k [] none is e = refl
+  paired_long r names t all k [] (some x es) is e = absurd (none_some e)
+  paired_long r names t all k (x ∷ ns) none is e = absurd (none_some e)
+  paired_long r names t all k (x ∷ ns) (some v es) is e =
+      let p = map_some (λ l. record { role = r; name = x; names = names; place = k; type_expr = t; value = Some v; values = all } ∷ l) (paired r names t all (1 + k) ns es) is e in
+      ap suc (paired_long r names t all (1 + k) ns es p.0 p.1)
 
   counted : (m k : ℕ) (own : Fault) → Never (CountFails (Some m) k own) → m ≡ k
   counted m k own never = by (cases_Bool (eqb m k))
@@ -376,12 +389,14 @@ module _ (text : List ℕ) (s : Scope) (n : ℕ) (formed : IsFormed s.types) (ty
   forms_hold (some e es) never =
       ap (λ (b : Bool). b && have_form text (holding s cs) es) (form_holds (has_form text (holding s cs) e) (first_pos e) (λ f h. never f (inl h))) ∙ forms_hold es (λ f h. never f (inr h))
 
-  variables_hold : (all es : TreeExs) → have_form text (holding s cs) es ≡ true → Never (FailsInEach text (holding s cs) es) → Never (SinglesFail (seen text (holding s cs) es)) → Never (ValuesLeftOut (seen text (holding s cs) es))
-      → EachHolds role.Variable None all es
-  variables_hold all none forms each singles plain = tt
-  variables_hold all (some e es) forms each singles plain =
-      let form = both_form (has_form text (holding s cs) e) (have_form text (holding s cs) es) forms in
-      ((form.0, λ f h. each f (inl h), λ f h. singles f (inl h), λ f h. plain f (inl h)), variables_hold all es form.1 (λ f h. each f (inr h)) (λ f h. singles f (inr h)) (λ f h. plain f (inr h)))
+  variables_hold : (all es : TreeExs) → have_form text (holding s cs) es ≡ true → Never (FailsInEach text (holding s cs) es) → Never (SinglesFail (seen text (holding s cs) es)) → Never (RangeFails (seen text (holding s cs) es))
+      → Never (ValuesLeftOut (seen text (holding s cs) es)) → EachHolds role.Variable None all es
+  variables_hold all none forms each singles ranges plain = tt
+  variables_hold all (some e es) forms each singles ranges plain =
+      let form = both_form (has_form text (holding s cs) e) (have_form text (holding s cs) es) forms in (
+        (form.0, λ f h. each f (inl h), λ f h. singles f (inl h), λ f h. ranges f (inl h), λ f h. plain f (inl h)),
+        variables_hold all es form.1 (λ f h. each f (inr h)) (λ f h. singles f (inr h)) (λ f h. ranges f (inr h)) (λ f h. plain f (inr h)),
+      )
 
   abbrev IsPlainType : TreeEx → Type 0
   IsPlainType t = Never (IsFault (left_out_fault (type_in text (holding s cs) t) (first_pos t)))
@@ -417,6 +432,12 @@ module _ (text : List ℕ) (s : Scope) (n : ℕ) (formed : IsFormed s.types) (ty
       places : length (wanted text (holding s cs) (record { names = ns; type_expr = None; values = es })) ≡ length ns
       places = length-map ns (λ (n : Name). type_asked text (holding s cs) None)
 
+      -- each value has its place
+      ranges : (is : List Item) → paired role.Variable ns None es 0 ns es ≡ Some is → Never (RangeFails os)
+      ranges is e f h =
+          let long : length os ≡ length ns = paired_long role.Variable ns None es 0 ns es is e in
+          never f (inl (inl (inl (inr (subst (λ (l : List Seen). RangeFails l f) (sym (take_all (length (wanted text (holding s cs) (record { names = ns; type_expr = None; values = es }))) os (omega (arith, long, places)))) h)))))
+
       count_never : Never (CountFails (single_count os) (length ns) (fault WrongCount at))
       count_never f h =
           never f (inl (inr (subst (λ (o : Option Many). CountFails (count_of os o) (length (wanted text (holding s cs) (record { names = ns; type_expr = None; values = es }))) (fault WrongCount at) f) (sym alone)
@@ -424,7 +445,7 @@ module _ (text : List ℕ) (s : Scope) (n : ℕ) (formed : IsFormed s.types) (ty
 
       by : (o : Option (List Item)) → paired role.Variable ns None es 0 ns es ≡ o → AllByRecursion Sound (or_unvalued o (unvalued role.Variable ns None es 0 ns))
       by None e = unvalued_sound role.Variable ns None es 0 ns (λ f h. h) (forms, waits_for_one role.Variable None ns es (fault WrongCount at) e each singles count_never)
-      by (Some is) e = paired_sound role.Variable ns None es 0 ns es is e (λ f h. h) (variables_hold es es forms each singles plain)
+      by (Some is) e = paired_sound role.Variable ns None es 0 ns es is e (λ f h. h) (variables_hold es es forms each singles (ranges is e) plain)
 
   variables_sound : (at : Pos) (t : Option TreeEx) (ns : List Name) (es : TreeExs) → Never (VariablesFail text (holding s cs) at (record { names = ns; type_expr = t; values = es }))
       → AllByRecursion Sound (items_of role.Variable (record { names = ns; type_expr = t; values = es }))
@@ -456,10 +477,11 @@ module _ (text : List ℕ) (s : Scope) (n : ℕ) (formed : IsFormed s.types) (ty
   known_needs t (Some e) es type_never holds1 is all =
       let f = value_given t e holds1.0 (all_right text s cs (filled cs) (names_in_some t) (names_in e) all) type_never holds1.1 holds1.2 holds1.3 in none_some (sym is ∙ f.1)
 
-  abbrev WaitedUnknown : Option TreeEx → TreeExs → Type 0
-  WaitedUnknown v es = Unknown (cond (waited_form text (holding s cs) v es) (numbers_of text (holding s cs) (names_waited v es)) [])
+  abbrev VariableUnknown : Option TreeEx → Option TreeEx → TreeExs → Type 0
+  VariableUnknown (Some t) v es = Unknown (numbers_of text (holding s cs) (names_in t))
+  VariableUnknown None v es = Unknown (cond (waited_form text (holding s cs) v es) (numbers_of text (holding s cs) (names_waited v es)) [])
 
-  with_form : (v : Option TreeEx) (es : TreeExs) → waited_form text (holding s cs) v es ≡ true → Unknown (numbers_of text (holding s cs) (names_waited v es)) → WaitedUnknown v es
+  with_form : (v : Option TreeEx) (es : TreeExs) → waited_form text (holding s cs) v es ≡ true → Unknown (numbers_of text (holding s cs) (names_waited v es)) → VariableUnknown None v es
   with_form v es form u = subst (λ (b : Bool). Unknown (cond b (numbers_of text (holding s cs) (names_waited v es)) [])) (sym form) u
 
   -- a type that isn't left out has a zero value
@@ -474,19 +496,29 @@ module _ (text : List ℕ) (s : Scope) (n : ℕ) (formed : IsFormed s.types) (ty
       let z = zero_there t at (λ f h. never f (subst (λ (x : Option ValueType). IsFault (left_out_fault x at) f) (sym o_is) h)) in
       none_some (sym is ∙ ap (option_and_then zero_of) o_is ∙ z.1)
 
-  variable_needs : (t v : Option TreeEx) (es : TreeExs) (k : ℕ) → Never (TypeFails text (holding s cs) t) → HoldsInitial t v es → option_and_then zero_of (variable_type text (holding s cs) t v es k) ≡ None → WaitedUnknown v es
-  variable_needs (Some e) v es k type_never holds1 is = let t = type_here e type_never in absurd (never_unknown (type_in text (holding s cs) e) (first_pos e) t.0 t.1 holds1 is)
-  variable_needs None None es k type_never holds1 is = by (unknown (names_in_each es))
+  -- an operand that is a value by itself has a type
+  own_there : (x : Operand) (at : Pos) → Never (IsFault (range_fault at (Some x))) → (t : ValueType) × (type_of x ≡ Some t) × (option_and_then (λ e. type_of x) (as_value x) ≡ Some t)
+  own_there x at never = by (as_value x) refl (as_value_decided at x)
     where
-      by : AllSame text s cs (filled cs) (names_in_each es) ⊎ Unknown (numbers_of text (holding s cs) (names_in_each es)) → WaitedUnknown None es
+      by : (o : Option Ex) → as_value x ≡ o → Decided o (IsFault (range_fault at (Some x))) → (t : ValueType) × (type_of x ≡ Some t) × (option_and_then (λ e. type_of x) (as_value x) ≡ Some t)
+      by None is d = absurd (never d.0 d.1)
+      by (Some v) is d = let t = typed_value x v is in (t.0, t.1, ap (option_and_then (λ e. type_of x)) is ∙ t.1)
+
+  variable_needs : (t v : Option TreeEx) (es : TreeExs) (m k : ℕ) → Never (TypeFails text (holding s cs) t) → HoldsInitial t v es → option_and_then zero_of (variable_type text (holding s cs) t v es m k) ≡ None → VariableUnknown t v es
+  variable_needs (Some e) v es m k type_never holds1 is = let t = type_here e type_never in absurd (never_unknown (type_in text (holding s cs) e) (first_pos e) t.0 t.1 holds1 is)
+  variable_needs None None es m k type_never holds1 is = by (unknown (names_in_each es))
+    where
+      by : AllSame text s cs (filled cs) (names_in_each es) ⊎ Unknown (numbers_of text (holding s cs) (names_in_each es)) → VariableUnknown None None es
       by (inl all) = absurd (holds1.1 all)
       by (inr u) = with_form None es holds1.0 u
-  variable_needs None (Some e) es k type_never holds1 is = by (unknown (names_in e))
+  variable_needs None (Some e) es m k type_never holds1 is = by (unknown (names_in e))
     where
-      by : AllSame text s cs (filled cs) (names_in e) ⊎ Unknown (numbers_of text (holding s cs) (names_in e)) → WaitedUnknown (Some e) es
+      by : AllSame text s cs (filled cs) (names_in e) ⊎ Unknown (numbers_of text (holding s cs) (names_in e)) → VariableUnknown None (Some e) es
       by (inl all) =
           let x = operand_here e all holds1.1 holds1.2 in
-          absurd (never_unknown (type_in_one (gives text (holding s cs) e)) (first_pos e) (type_of x.0) (ap (option_map type_of) x.1) holds1.3 is)
+          let t = own_there x.0 (first_pos e) (λ f h. holds1.3 f (subst (λ (o : Option Operand). IsFault (range_fault (first_pos e) o) f) (sym x.1) h)) in
+          absurd (never_unknown (own_type (gives text (holding s cs) e)) (first_pos e) t.0 (ap (option_and_then (λ y. option_and_then (λ v. type_of y) (as_value y))) x.1 ∙ t.2)
+          (λ f h. holds1.4 f (subst (λ (o : Option ValueType). IsFault (left_out_fault o (first_pos e)) f) (ap (option_and_then (λ y. option_and_then (λ v. type_of y) (as_value y))) x.1 ∙ t.2 ∙ sym (ap (option_and_then type_of) x.1 ∙ t.1)) h)) is)
       by (inr u) = with_form (Some e) es holds1.0 u
 
   constant_needs : (i : Item) → Never (TypeFails text (holding s cs) i.type_expr) → Holds i.type_expr i.value i.values → given_by text (holding s cs) i.type_expr i.value ≡ None → Unknown (needed_as text (holding s cs) role.Constant i)
@@ -499,7 +531,11 @@ module _ (text : List ℕ) (s : Scope) (n : ℕ) (formed : IsFormed s.types) (ty
   needs_as : (r : Role) (i : Item) → Never (TypeFails text (holding s cs) i.type_expr) → HoldsAs r i.type_expr i.value i.values → given_as text r (holding s cs) i ≡ None → Unknown (needed_as text (holding s cs) r i)
   needs_as role.Constant i type_never holds1 is = constant_needs i type_never holds1 is
   needs_as role.Variable i type_never holds1 is =
-      variable_needs i.type_expr i.value i.values i.place type_never holds1 is
+      by i.type_expr (variable_needs i.type_expr i.value i.values (length i.names) i.place type_never holds1 is)
+    where
+      by : (t : Option TreeEx) → VariableUnknown t i.value i.values → Unknown (needed_for text (holding s cs) t i)
+      by None u = u
+      by (Some t) u = u
 
   item_needs : (i : Item) → Sound i → given text (holding s cs) i ≡ None → Unknown (needed text (holding s cs) i)
   item_needs i sound is = needs_as i.role i sound.type_holds sound.value_holds is

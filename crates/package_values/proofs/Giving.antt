@@ -18,7 +18,7 @@ use Rattle.type_faults.specs.Given.{allowed}
 use Rattle.base.specs.Types.{same_type}
 use Rattle.constants.specs.Constants.{constant_type, is_held, holds}
 use Rattle.type_faults.proofs.Options.{and_then_some, map_some, none_some, same_some}
-use Rattle.operators.specs.Operands.{Operand, constant, value, type_of}
+use Rattle.operators.specs.Operands.{Operand, constant, value, nil, type_of, as_value}
 use Rattle.operators.specs.Operators.{has_rules}
 use Rattle.operators.proofs.Held.{IsHeld}
 use Rattle.names.specs.declared.scope.Declared.{Declared}
@@ -26,7 +26,7 @@ use Rattle.names.specs.declared.scope.Declared.TheVariants as declared
 use Rattle.names.specs.Scope.{Scope, declaration}
 use Rattle.names.specs.Naming.{name_in}
 use Rattle.names.specs.Types.{type_in}
-use Rattle.expression_types.specs.Typing.{Gives, one, called, asking, printed, global_read, name_operand, prefix_gives, pair_gives, single, operand_in, value_in, part_in, Seen, listed, values, parts, type_in_one, Many, many_in, many, types_with, value_types, values_agree, each, fits_with, fits, all_values, taken, Callee, printer, panicker, reader, exiter, function, conversion, no_function, no_spread, no_text_spread, nothing, callee_value, callee_declared, exit_places, panicked_with, exited_with, called_with, spread_over, callee, gives, seen}
+use Rattle.expression_types.specs.Typing.{Gives, one, called, asking, printed, global_read, name_operand, prefix_gives, pair_gives, single, operand_in, value_in, part_in, Seen, listed, values, parts, type_in_one, Many, many_in, many, types_with, values_agree, each, fits_with, fits, all_values, taken, Callee, printer, panicker, reader, exiter, function, conversion, no_function, no_spread, no_text_spread, nothing, callee_value, callee_declared, exit_places, panicked_with, exited_with, called_with, spread_over, callee, gives, seen}
 use Rattle.expression_types.proofs.Held.{operand_held}
 use Rattle.package_values.specs.declared.items.Role.{Role}
 use Rattle.package_values.specs.declared.items.Role.TheVariants as role
@@ -40,7 +40,7 @@ holding s cs = record s { values = cs }
 -- ---- what is given stays so where more is known
 
 -- an operand that is called gives nothing
-no_value_call : (at : Pos) (spread : Bool) (o : Option Operand) (os : List Seen) (g : Gives) → called_with at (spread_over spread (callee_value o)) os ≡ Some g → ⊥
+pub no_value_call : (at : Pos) (spread : Bool) (o : Option Operand) (os : List Seen) (g : Gives) → called_with at (spread_over spread (callee_value o)) os ≡ Some g → ⊥
 no_value_call at false None os g h = none_some h
 no_value_call at true None os g h = none_some h
 no_value_call at false (Some x) os g h = none_some h
@@ -50,6 +50,7 @@ pub a_constant : (o : Option Operand) (f : Fixed) → option_and_then as_constan
 a_constant None f h = absurd (none_some h)
 a_constant (Some (constant g)) f h = ap (λ (x : Fixed). Some (constant x)) (same_some h)
 a_constant (Some (value t x)) f h = absurd (none_some h)
+a_constant (Some nil) f h = absurd (none_some h)
 
 prefix_still : (op : UnOp) (b : Bool) (x y : Option Operand) → ((a : Operand) → x ≡ Some a → y ≡ Some a) → (g : Gives) → prefix_gives op b x ≡ Some g → prefix_gives op b y ≡ Some g
 prefix_still op false x y still g h = h
@@ -64,7 +65,7 @@ pair_still at op (Some a) (Some b) u v s1 s2 g h =
 
 -- ---- expressions that all give something
 
-abbrev AllGive : List Seen → Type 0
+abbrev pub AllGive : List Seen → Type 0
 AllGive [] = Unit {0}
 AllGive (o ∷ os) = ((g : Gives) × (o.gives ≡ Some g)) × AllGive os
 
@@ -79,7 +80,7 @@ listed_give k none_is (o ∷ os) xs h =
     let q = map_some (λ ys. p.0 ∷ ys) (listed k os) xs p.2 in
     (there_is k none_is o.gives p.0 p.1, listed_give k none_is os q.0 q.1)
 
-many_give : (os : List Seen) (m : Many) → many os ≡ Some m → AllGive os
+pub many_give : (os : List Seen) (m : Many) → many os ≡ Some m → AllGive os
 many_give [] m h = tt
 many_give (o ∷ []) m h = (there_is many_in refl o.gives m h, tt)
 many_give (o ∷ q ∷ os) m h = absurd (none_some h)
@@ -106,7 +107,7 @@ allowed_gives true o x h = (refl, h)
 allowed_gives false o x h = absurd (none_some h)
 
 -- what a call gives rests on arguments that all give something
-call_gives : (at : Pos) (k : Callee) (os : List Seen) (g : Gives) → called_with at k os ≡ Some g → AllGive os
+pub call_gives : (at : Pos) (k : Callee) (os : List Seen) (g : Gives) → called_with at k os ≡ Some g → AllGive os
 call_gives at (printer line) os g h = let p = map_some (printed at line) (parts os) g h in listed_give part_in refl os p.0 p.1
 call_gives at panicker os g h = let p = and_then_some (panicked_with at) (parts os) g h in listed_give part_in refl os p.0 p.1
 call_gives at reader os g h = no_places os (many os) refl (allowed_gives (fits [] os) (Some (asking at)) g h).0
@@ -205,22 +206,26 @@ module _ (text : List ℕ) (s : Scope) where
         let q = and_then_some as_constant (operand_in (gives text (holding s cs) e)) p.0 p.1 in
         ap (option_and_then (accepted text (holding s ds) t)) (ap (option_and_then as_constant) (operand_still e q.0 q.1) ∙ q.2) ∙ sym (accepted_same t p.0) ∙ p.2
 
-    initial_still : (v : Option TreeEx) (es : TreeExs) (k : ℕ) (t : ValueType) → initial_type text (holding s cs) v es k ≡ Some t → initial_type text (holding s ds) v es k ≡ Some t
-    initial_still (Some e) es k t h = let p = map_some type_of (operand_in (gives text (holding s cs) e)) t h in ap (option_map type_of) (operand_still e p.0 p.1) ∙ ap Some p.2
-    initial_still None es k t h =
+    initial_still : (v : Option TreeEx) (es : TreeExs) (n k : ℕ) (t : ValueType) → initial_type text (holding s cs) v es n k ≡ Some t → initial_type text (holding s ds) v es n k ≡ Some t
+    initial_still (Some e) es n k t h =
+        let p = and_then_some (λ x. option_and_then (λ v. type_of x) (as_value x)) (operand_in (gives text (holding s cs) e)) t h in
+        ap (option_and_then (λ x. option_and_then (λ v. type_of x) (as_value x))) (operand_still e p.0 p.1) ∙ p.2
+    initial_still None es n k t h =
         let os = seen text (holding s cs) es in
-        let p = and_then_some (λ ts. slice_get ts k) (value_types os) t h in
-        ap (λ (l : List Seen). option_and_then (λ ts. slice_get ts k) (value_types l)) (sym (seen_still es (types_give os (many os) p.0 refl p.1))) ∙ h
+        let result = λ (m : Many). allowed (length m.types == n) (slice_get m.types k) in
+        let p = and_then_some result (many os) t h in
+        ap (λ (l : List Seen). option_and_then result (many l)) (sym (seen_still es (many_give os p.0 p.1))) ∙ h
 
-    variable_still : (t v : Option TreeEx) (es : TreeExs) (k : ℕ) (u : ValueType) → variable_type text (holding s cs) t v es k ≡ Some u → variable_type text (holding s ds) t v es k ≡ Some u
-    variable_still (Some e) v es k u h = sym (type_same cs ds e) ∙ h
-    variable_still None v es k u h = initial_still v es k u h
+    variable_still : (t v : Option TreeEx) (es : TreeExs) (n k : ℕ) (u : ValueType) → variable_type text (holding s cs) t v es n k ≡ Some u → variable_type text (holding s ds) t v es n k ≡ Some u
+    variable_still (Some e) v es n k u h = sym (type_same cs ds e) ∙ h
+    variable_still None v es n k u h = initial_still v es n k u h
 
     still_as : (r : Role) (i : Item) (f : Fixed) → given_as text r (holding s cs) i ≡ Some f → given_as text r (holding s ds) i ≡ Some f
     still_as role.Constant i f h = given_still i.type_expr i.value f h
     still_as role.Variable i f h =
-        let p = and_then_some zero_of (variable_type text (holding s cs) i.type_expr i.value i.values i.place) f h in
-        ap (option_and_then zero_of) (variable_still i.type_expr i.value i.values i.place p.0 p.1) ∙ p.2
+        let n = length i.names in
+        let p = and_then_some zero_of (variable_type text (holding s cs) i.type_expr i.value i.values n i.place) f h in
+        ap (option_and_then zero_of) (variable_still i.type_expr i.value i.values n i.place p.0 p.1) ∙ p.2
 
   pub monotone : (cs ds : List (Option Fixed)) → Within cs ds → (i : Item) (f : Fixed) → give cs i ≡ Some f → give ds i ≡ Some f
   monotone cs ds within i f h = still_as cs ds within i.role i f h
@@ -235,6 +240,7 @@ module _ (text : List ℕ) (s : Scope) where
   name_held cs held (Some (declared.Global k g)) x is = let p = map_some (global_read g.0) (known cs k.0) x is in subst IsHeld p.2 tt
   name_held cs held (Some (declared.Variable site t)) x is = subst IsHeld (same_some is) tt
   name_held cs held (Some (declared.Truth b)) x is = subst IsHeld (same_some is) refl
+  name_held cs held (Some declared.Nil) x is = subst IsHeld (same_some is) tt
   name_held cs held d x is = absurd (none_some is)
 
   typed_held : (t : ValueType) (c f : Fixed) → with_type t c ≡ Some f → is_held f.value_type f.value ≡ true
@@ -263,7 +269,7 @@ module _ (text : List ℕ) (s : Scope) where
   held_as : (cs : List (Option Fixed)) → AreHeld cs → (r : Role) (i : Item) (f : Fixed) → given_as text r (holding s cs) i ≡ Some f → is_held f.value_type f.value ≡ true
   held_as cs held role.Constant i f is = by_value cs held i.type_expr i.value f is
   held_as cs held role.Variable i f is =
-      let p = and_then_some zero_of (variable_type text (holding s cs) i.type_expr i.value i.values i.place) f is in
+      let p = and_then_some zero_of (variable_type text (holding s cs) i.type_expr i.value i.values (length i.names) i.place) f is in
       zero_held p.0 f p.2
 
   pub given_held : (cs : List (Option Fixed)) → AreHeld cs → (i : Item) (f : Fixed) → give cs i ≡ Some f → is_held f.value_type f.value ≡ true

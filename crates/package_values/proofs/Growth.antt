@@ -18,7 +18,7 @@ module _ {A : Type 0} where
   some_is : {f g : A} → Some f ≡ Some g → f ≡ g
   some_is e = cc
 
-  set_known : (cs : List (Option A)) (k : ℕ) (o : Option A) → k < length cs → known (slice_set cs k o) k ≡ o
+  pub set_known : (cs : List (Option A)) (k : ℕ) (o : Option A) → k < length cs → known (slice_set cs k o) k ≡ o
   set_known [] k o l = absurd (omega (arith, l))
   set_known (c ∷ cs) zero o l = refl
   set_known (c ∷ cs) (suc k) o l = set_known cs k o (omega (arith, l))
@@ -29,6 +29,13 @@ module _ {A : Type 0} where
   set_other (c ∷ cs) zero (suc j) o f h = inr h
   set_other (c ∷ cs) (suc k) zero o f h = inr h
   set_other (c ∷ cs) (suc k) (suc j) o f h = elim (set_other cs k j o f h) [ inl p ↦ inl (ap suc p.0, p.1) | inr q ↦ inr q ]
+
+  pub set_others : (cs : List (Option A)) (k j : ℕ) (o : Option A) → (j ≡ k → ⊥) → known (slice_set cs k o) j ≡ known cs j
+  set_others [] k j o other = refl
+  set_others (c ∷ cs) zero zero o other = absurd (other refl)
+  set_others (c ∷ cs) zero (suc j) o other = refl
+  set_others (c ∷ cs) (suc k) zero o other = refl
+  set_others (c ∷ cs) (suc k) (suc j) o other = set_others cs k j o (λ e. other (ap suc e))
 
   set_grows : (cs : List (Option A)) (k : ℕ) (o : Option A) → ((f : A) → known cs k ≡ Some f → o ≡ Some f) → (j : ℕ) (f : A) → known cs j ≡ Some f → known (slice_set cs k o) j ≡ Some f
   set_grows [] k o keeps j f h = h

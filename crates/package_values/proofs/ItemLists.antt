@@ -1,6 +1,6 @@
--- The constants and variables of declarations, and looks that change nothing.
-use Rattle.std.proofs.Common.{◌≡◌, ℕ, zero, suc, ◌+◌, ◌-◌, ◌<◌, ◌≤◌, min, map, drop, Bool, true, false, List, [], ◌∷◌, ◌++◌, length, Option, Some, None, refl, sym, ap, ◌∙◌, arith, append_assoc}
-use Rattle.std.specs.Prelude.{slice_get, slice_set, option_and_then, ◌==◌}
+-- The constants and variables of declarations.
+use Rattle.std.proofs.Common.{◌≡◌, ℕ, zero, suc, ◌+◌, ◌≤◌, min, map, drop, Bool, true, false, List, [], ◌∷◌, ◌++◌, length, Option, Some, None, refl, sym, ap, ◌∙◌, arith, append_assoc}
+use Rattle.std.specs.Prelude.{◌==◌}
 use Rattle.std.proofs.lemmas.Bool.{eqb-true}
 use Rattle.std.specs.Option.{option_map}
 use Rattle.syntax.specs.declared.expression.Name.{Name}
@@ -11,13 +11,10 @@ use Rattle.syntax.specs.declared.statement.ValueSpec.{ValueSpec as CodeValueSpec
 use Rattle.syntax.specs.Expressions.{Ex as TreeEx, Exs as TreeExs, ex_of, exs_of, ex_in, elements_of}
 use Rattle.syntax.specs.Statements.{value_spec_of}
 use Rattle.syntax.specs.Declarations.{Declaration, constants, variables, types, function}
-use Rattle.constants.specs.declared.constant.Fixed.{Fixed}
-use Rattle.names.specs.Scope.{Scope, fixed, with_fixed}
-use Rattle.package_values.specs.Values.{Item, unvalued, paired, or_unvalued, items_of, items_in, settled, given, look, looks}
+use Rattle.package_values.specs.Values.{Item, unvalued, paired, or_unvalued, items_of, items_in}
 use Rattle.std.proofs.lemmas.List.{map-append}
 use Rattle.package_values.specs.declared.items.Item.{Item as ItemData}
 use Rattle.package_values.specs.declared.items.Role.{Role}
-use Rattle.package_values.specs.declared.items.Role.TheVariants as role
 use Rattle.package_values.specs.Needs.{names_in_elements}
 use Rattle.package_values.specs.ValueFaults.{is_bare}
 use Rattle.package_values.specs.Passing.{item_of, item_views, names_in_element, items_of_decl, pairs}
@@ -38,20 +35,6 @@ module _ (r : Role) (names : List Name) (t : Option TreeEx) (all : TreeExs) wher
   paired_none k [] (e ∷ es) differ = refl
   paired_none k (n ∷ ns) [] differ = refl
   paired_none k (n ∷ ns) (e ∷ es) differ = ap (option_map (λ (l : List Item). valued r names t all k n e ∷ l)) (paired_none (1 + k) ns es (λ is. differ (omega (arith, is))))
-
--- what is known already changes nothing
-set_same : {A : Type 0} (xs : List (Option A)) (k : ℕ) (o : Option A) → option_and_then (λ x. x) (slice_get xs k) ≡ o → slice_set xs k o ≡ xs
-set_same [] k o is = refl
-set_same (x ∷ xs) zero o is = ap (λ y. y ∷ xs) (sym is)
-set_same (x ∷ xs) (suc k) o is = ap (λ l. x ∷ l) (set_same xs k o is)
-
-pub with_fixed_same : (s : Scope) (k : ℕ) (o : Option Fixed) → fixed s k ≡ o → with_fixed s k o ≡ s
-with_fixed_same s k o is = ap (λ (l : List (Option Fixed)). record s { values = l }) (set_same s.values k o is)
-
-module _ (text : List ℕ) where
-  pub looks_same : (n : ℕ) (s : Scope) (is : List Item) → look text 0 s is ≡ s → looks text n s is ≡ s
-  looks_same zero s is e = refl
-  looks_same (suc n) s is e = ap (λ (r : Scope). looks text n r is) e ∙ looks_same n s is e
 
 -- one more in front of those to come
 pub pushed_map : {A B : Type 0} (f : A → B) (xs : List A) (x : A) (y : B) (all rest : List B) → f x ≡ y → all ≡ map f xs ++ (y ∷ rest) → all ≡ map f (xs ++ x ∷ []) ++ rest
@@ -83,13 +66,6 @@ module _ (r : Role) (names : List Name) (t : Option TreeEx) (all : TreeExs) wher
   no_pairs place (n ∷ ns) (e ∷ es) zero le = absurd (omega (arith, le))
   no_pairs place (n ∷ ns) (e ∷ es) (suc k) le = no_pairs place ns es k (omega (arith, le))
 
--- a look at one of them
-pub look_one : (text : List ℕ) (s s1 : Scope) (k n : ℕ) (o : Option Fixed) (x : Item) (rest : List Item) (all : Scope) → all ≡ look text k s (x ∷ rest) → n ≡ k → o ≡ given text s x → s1 ≡ with_fixed s n o → all ≡ look text (k + 1) s1 rest
-look_one text s s1 k n o x rest all front n_is o_is s1_is =
-    let one : 1 + k ≡ k + 1 = omega arith in
-    let now : with_fixed s k (given text s x) ≡ s1 = sym (s1_is ∙ ap (λ (j : ℕ). with_fixed s j o) n_is ∙ ap (λ (p : Option Fixed). with_fixed s k p) o_is) in
-    front ∙ ap (λ (j : ℕ). look text j (with_fixed s k (given text s x)) rest) one ∙ ap (λ (r : Scope). look text (k + 1) r rest) now
-
 module _ (r : Role) (v : CodeValueSpec) where
   abbrev names : List Name
   names = v.names.items
@@ -116,18 +92,6 @@ items_one (types at specs) ds = refl
 items_one (function g) ds = refl
 
 -- ---- all looks
-
-module _ (text : List ℕ) (start s : Scope) (is : List Item) (k : ℕ) (so_far : (m : ℕ) → m + k ≡ length is → looks text (length is) start is ≡ looks text m s is) where
-  -- a look that changes nothing is the last
-  pub settled_same : (s1 : Scope) → k < length is → s1 ≡ look text 0 s is → s1 ≡ s → s1 ≡ settled text start is
-  settled_same s1 l look_is same =
-      let e : (length is - k) + k ≡ length is = omega arith in
-      same ∙ sym (so_far (length is - k) e ∙ looks_same text (length is - k) s is (sym look_is ∙ same))
-
-  pub settled_end : k ≡ length is → s ≡ settled text start is
-  settled_end e = sym (so_far 0 (omega (arith, e)))
-
--- ---- a declaration with a type alone
 
 pub bare_is : (e : TreeEx) (xs : List Expr) → is_bare (Some e) (exs_of xs) ≡ (length xs == 0)
 bare_is e [] = refl

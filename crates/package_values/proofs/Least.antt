@@ -16,7 +16,7 @@ module _ {A : Type 0} where
   abbrev AllHave : (ℕ → A → Type 0) → List (Option A) → Type 0
   AllHave P cs = (k : ℕ) (f : A) → known cs k ≡ Some f → P k f
 
-  set_has : (P : ℕ → A → Type 0) (cs : List (Option A)) (k : ℕ) (o : Option A) → ((f : A) → o ≡ Some f → P k f) → AllHave P cs → AllHave P (slice_set cs k o)
+  pub set_has : (P : ℕ → A → Type 0) (cs : List (Option A)) (k : ℕ) (o : Option A) → ((f : A) → o ≡ Some f → P k f) → AllHave P cs → AllHave P (slice_set cs k o)
   set_has P [] k o new before j f h = before j f h
   set_has P (c ∷ cs) zero o new before zero f h = new f h
   set_has P (c ∷ cs) zero o new before (suc j) f h = before (suc j) f h

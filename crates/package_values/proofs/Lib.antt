@@ -6,4 +6,5 @@ pub mod Leaving
 pub mod Least
 pub mod Rules
 pub mod Same
-pub mod Walks
+pub mod Marks
+pub mod Ordered

@@ -1,20 +1,23 @@
 -- The rules of declarations of constants and variables, one declaration after the other, and what needs what as a table.
 use Rattle.std.proofs.Common.{◌≡◌, ℕ, zero, suc, ◌+◌, ◌<◌, ◌≤◌, ◌⊎◌, inl, inr, true, false, List, [], ◌∷◌, length, map, get_or, Option, Some, None, refl, sym, ap, ◌∙◌, subst, arith, eqb}
-use Rattle.std.specs.Prelude.{slice_get}
+use Rattle.std.specs.Prelude.{slice_get, IsTrue, ◌↔◌, Bool}
 use Rattle.std.proofs.lemmas.Bool.{cases_Bool, eqb-true, eqb-false}
 use Rattle.base.specs.declared.pos.Pos.{Pos}
 use Rattle.syntax.specs.Declarations.{Declaration, constants, variables, types, function}
 use Rattle.type_faults.specs.declared.fault.Fault.{Fault}
 use Rattle.type_faults.specs.declared.fault.FaultKind.TheVariants.{SelfReference}
 use Rattle.type_faults.specs.Faults.{fault}
-use Rattle.type_faults.proofs.Leasts.{Covers, Kept}
+use Rattle.type_faults.specs.Least.{IsLeast}
+use Rattle.type_faults.proofs.Leasts.{Covers, Kept, same_fault}
 use Rattle.names.specs.Scope.{Scope}
 use Rattle.package_values.specs.declared.items.Item.{Item as ItemData}
 use Rattle.package_values.specs.Values.{Item}
-use Rattle.package_values.specs.Needs.{Among, needed, needed_in, Reaches, at_once, through}
+use Rattle.package_values.specs.Needs.{needed, needed_in, Reaches, at_once, through}
 use Rattle.package_values.specs.ValueFaults.{cycle_place, DeclarationsFail, Recurs}
-use Rattle.package_values.specs.Passing.{DeclarationFails, item_of, item_views, row, Leads, RecursAt}
-use Rattle.package_values.specs.Passing as passing
+use Rattle.package_values.specs.Passing.{DeclarationFails, item_of, item_views, RecursAt, recursion_fault, has_mark, is_marked}
+use Rattle.components.specs.Components.{AreOnCycles}
+use Rattle.components.specs.Graph.{Among, row, Leads}
+use Rattle.components.specs.Graph as graph
 
 -- the same faults are ahead
 pub kept_as : (Whole A B : Fault → Type 0) (least : Option Fault) → ((g : Fault) → A g → B g) → ((g : Fault) → B g → A g) → Kept Whole A least → Kept Whole B least
@@ -23,6 +26,22 @@ kept_as Whole A B least into back k = record { sound = k.sound; covered = λ g h
     covered : (g : Fault) → Covers least g ⊎ A g → Covers least g ⊎ B g
     covered g (inl c) = inl c
     covered g (inr a) = inr (into g a)
+
+marked_there : (marks : List Bool) (k : ℕ) → k < length marks → (b : Bool) × (slice_get marks k ≡ Some b)
+marked_there [] k l = absurd (omega (arith, l))
+marked_there (m ∷ ms) zero l = (m, refl)
+marked_there (m ∷ ms) (suc k) l = marked_there ms k (omega (arith, l))
+
+pub on_cycle : (t : List (List ℕ)) (marks : List Bool) → AreOnCycles t marks → (k : ℕ) → k < length t → IsTrue (is_marked marks k) ↔ Leads t k k
+on_cycle t marks are k l =
+    let size = are.size in
+    let m = marked_there marks k (omega (arith, l, size)) in
+    subst (λ (o : Option Bool). IsTrue (has_mark o) ↔ Leads t k k) (sym m.1) (are.is k m.0 m.1)
+
+-- what is on a cycle has a fault of its own
+pub recursion_least : (t : List (List ℕ)) (k : ℕ) (place : Pos) (b : Bool) → (IsTrue b ↔ Leads t k k) → IsLeast (RecursAt t k place) (recursion_fault b place)
+recursion_least t k place true cycles = (record { leads = cycles.0 refl; at = refl }, λ g h. same_fault (fault SelfReference place) g h.at)
+recursion_least t k place false cycles = λ f h. let bad : false ≡ true = cycles.1 h.leads in cc
 
 abbrev pub place_of : Item → Pos
 place_of i = cycle_place i.role i.name i.names
@@ -50,12 +69,12 @@ module _ (text : List ℕ) (s : Scope) where
   rows (i ∷ is) (suc j) = rows is j
 
   pub leads_of : (is : List Item) (j k : ℕ) → Reaches text s is j k → Leads (map (needed text s) is) j k
-  leads_of is j k (at_once h) = passing.at_once (subst (λ (l : List ℕ). Among k l) (sym (rows is j)) h)
-  leads_of is j k (through {j = m} h way) = passing.through (subst (λ (l : List ℕ). Among m l) (sym (rows is j)) h) (leads_of is m k way)
+  leads_of is j k (at_once h) = graph.at_once (subst (λ (l : List ℕ). Among k l) (sym (rows is j)) h)
+  leads_of is j k (through {j = m} h way) = graph.through (subst (λ (l : List ℕ). Among m l) (sym (rows is j)) h) (leads_of is m k way)
 
   pub reaches_of : (is : List Item) (j k : ℕ) → Leads (map (needed text s) is) j k → Reaches text s is j k
-  reaches_of is j k (passing.at_once h) = at_once (subst (λ (l : List ℕ). Among k l) (rows is j) h)
-  reaches_of is j k (passing.through {j = m} h way) = through (subst (λ (l : List ℕ). Among m l) (rows is j) h) (reaches_of is m k way)
+  reaches_of is j k (graph.at_once h) = at_once (subst (λ (l : List ℕ). Among k l) (rows is j) h)
+  reaches_of is j k (graph.through {j = m} h way) = through (subst (λ (l : List ℕ). Among m l) (rows is j) h) (reaches_of is m k way)
 
   -- those that need themselves from a number on
   pub record RecursFrom (is : List Item) (k : ℕ) (f : Fault) : Type 0 where

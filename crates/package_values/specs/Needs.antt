@@ -1,10 +1,11 @@
--- Which constants and variables of a package need others: a constant needs each one that its type or its value names. A variable needs each
--- one that its value names, where that has the form of a constant: any other value is refused, and needs none. Where a declaration has another
--- number of values than of names, each of its names needs what any of its values names: how many values there are is known only where each
--- gives one.
-use Rattle.std.specs.Prelude.{◌≡◌, ◌⊎◌, ℕ, List, [], ◌∷◌, ◌++◌, slice_get, Bool, true, false, ◌&&◌, if◌then◌else◌, Option, Some, None}
+-- Which constants and variables of a package need others: a constant needs each one that its type or its value names. A variable with a type
+-- needs those that the type names: it has the type whatever its value. One without needs those that its value names, where that has the form
+-- of a constant: any other value is refused, and needs none. Where a declaration has another number of values than of names, each of its
+-- names needs what any of its values names: how many values there are is known only where each gives one.
+use Rattle.std.specs.Prelude.{ℕ, List, [], ◌∷◌, ◌++◌, slice_get, Bool, true, false, ◌&&◌, if◌then◌else◌, Option, Some, None}
 use Rattle.syntax.specs.declared.expression.Name.{Name}
 use Rattle.syntax.specs.Expressions.{Ex as TreeEx, Exs as TreeExs, Bound as TreeBound, Elements as TreeElements, number, string, name, unary, binary, paren, call, selector, index, slice, array_type, slice_type, literal, elements, none, some, no_bound, bound_at, no_elements, element, spelled}
+use Rattle.components.specs.Graph.{Among}
 use Rattle.names.specs.declared.scope.Declared.{Declared}
 use Rattle.names.specs.declared.scope.Declared.TheVariants.{Variable, Untyped, Constant, Global, Function, External}
 use Rattle.names.specs.Scope.{Scope, declaration}
@@ -61,10 +62,18 @@ abbrev pub also : Option ℕ → List ℕ → List ℕ
 also None ks = ks
 also (Some k) ks = k ∷ ks
 
--- a number is one of some
-abbrev pub Among : ℕ → List ℕ → Type 0
-Among k [] = ⊥
-Among k (j ∷ js) = (k ≡ j) ⊎ Among k js
+-- what the type of a variable names, or else what its values name
+abbrev pub variable_mentions : Option TreeEx → Option TreeEx → TreeExs → List Name
+variable_mentions (Some t) v es = names_in t
+variable_mentions None v es = names_waited v es
+
+-- the names that what is known of one rests on
+abbrev pub mentions_as : Role → Item → List Name
+mentions_as role.Constant i = names_in_some i.type_expr ++ names_waited i.value i.values
+mentions_as role.Variable i = variable_mentions i.type_expr i.value i.values
+
+abbrev pub mentions : Item → List Name
+mentions i = mentions_as i.role i
 
 -- whether a name may stand in a constant expression: it stands for no variable or function of the program
 abbrev pub may_be_constant : Option Declared → Bool
@@ -98,10 +107,19 @@ module _ (text : List ℕ) (s : Scope) where
   numbers_of [] = []
   numbers_of (n ∷ ns) = also (value_number (declaration s (spelled text n))) (numbers_of ns)
 
+  -- the constants and variables among them
+  abbrev pub mentioned : Item → List ℕ
+  mentioned i = numbers_of (mentions i)
+
+  -- those that a variable needs
+  abbrev pub needed_for : Option TreeEx → Item → List ℕ
+  needed_for (Some t) i = numbers_of (names_in t)
+  needed_for None i = if waited_form i.value i.values then numbers_of (names_waited i.value i.values) else []
+
   -- the constants and variables that one needs
   abbrev pub needed_as : Role → Item → List ℕ
-  needed_as role.Constant i = numbers_of (names_in_some i.type_expr ++ names_waited i.value i.values)
-  needed_as role.Variable i = if waited_form i.value i.values then numbers_of (names_waited i.value i.values) else []
+  needed_as role.Constant i = numbers_of (mentions_as role.Constant i)
+  needed_as role.Variable i = needed_for i.type_expr i
 
   abbrev pub needed : Item → List ℕ
   needed i = needed_as i.role i

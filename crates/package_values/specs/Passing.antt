@@ -1,7 +1,6 @@
 -- What lies in memory as abstract syntax, and what the passes work out of what they know of the parts.
-use Rattle.std.specs.Prelude.{◌≡◌, ℕ, ◌+◌, Bool, true, false, List, [], ◌∷◌, ◌++◌, map, slice_get, slice_set, Option, Some, None}
+use Rattle.std.specs.Prelude.{◌≡◌, ℕ, ◌+◌, Bool, false, List, [], ◌∷◌, map, slice_get, option_and_then, Option, Some, None, if◌then◌else◌}
 use Rattle.std.specs.Option.{option_map}
-use Rattle.std.specs.Global.{Vec}
 use Rattle.base.specs.declared.pos.Pos.{Pos}
 use Rattle.syntax.specs.declared.expression.Name.{Name}
 use Rattle.syntax.specs.declared.expression.Expr.{Expr}
@@ -12,11 +11,12 @@ use Rattle.syntax.specs.Declarations.{Declaration, constants, variables, types, 
 use Rattle.type_faults.specs.declared.fault.Fault.{Fault}
 use Rattle.type_faults.specs.declared.fault.FaultKind.TheVariants.{SelfReference}
 use Rattle.type_faults.specs.Faults.{fault}
-use Rattle.names.specs.Scope.{Scope}
+use Rattle.constants.specs.declared.constant.Fixed.{Fixed}
+use Rattle.components.specs.Graph.{Leads}
+use Rattle.names.specs.Scope.{Scope, with_fixed}
 use Rattle.package_values.specs.declared.items.Item.{Item as ItemData}
-use Rattle.package_values.specs.declared.reaching.Search.{Search as SearchData}
-use Rattle.package_values.specs.Values.{Item, items_in_specs}
-use Rattle.package_values.specs.Needs.{Among, names_in}
+use Rattle.package_values.specs.Values.{Item, items_in_specs, given}
+use Rattle.package_values.specs.Needs.{names_in}
 use Rattle.package_values.specs.ValueFaults.{SpecsFail, AllVariablesFail}
 use Rattle.package_values.specs.declared.items.Role.{Role}
 use Rattle.package_values.specs.declared.items.Role.TheVariants as role
@@ -56,35 +56,16 @@ DeclarationFails text s (variables pos specs) f = AllVariablesFail text s pos sp
 DeclarationFails text s (types pos specs) f = ⊥
 DeclarationFails text s (function g) f = ⊥
 
--- ---- what needs what, as a table
-
-abbrev pub table_of : List (Vec ℕ) → List (List ℕ)
-table_of rows = map (λ row. row.items) rows
-
-abbrev pub row_in : Option (List ℕ) → List ℕ
-row_in None = []
-row_in (Some ks) = ks
-
-abbrev pub row : List (List ℕ) → ℕ → List ℕ
-row t j = row_in (slice_get t j)
-
--- one leads to another through any number of others
-pub data Leads (t : List (List ℕ)) : ℕ → ℕ → Type 0 where
-  at_once : {j k : ℕ} → Among k (row t j) → Leads t j k
-  through : {i j k : ℕ} → Among j (row t i) → Leads t j k → Leads t i k
+-- ---- what needs what, as a graph
 
 pub record RecursAt (t : List (List ℕ)) (k : ℕ) (place : Pos) (f : Fault) : Type 0 where
   pub leads : Leads t k k
   pub at : f ≡ fault SelfReference place
 
--- ---- a walk: which numbers have a mark, and which are still ahead
+abbrev pub recursion_fault : Bool → Pos → Option Fault
+recursion_fault needs_itself pos = if needs_itself then Some (fault SelfReference pos) else None
 
-pub record Search : Type 0 where
-  pub marks : List Bool
-  pub ahead : List ℕ
-
-abbrev pub search_of : SearchData → Search
-search_of s = record { marks = s.marks.items; ahead = s.ahead.items }
+-- ---- marks
 
 abbrev pub has_mark : Option Bool → Bool
 has_mark None = false
@@ -93,15 +74,19 @@ has_mark (Some b) = b
 abbrev pub is_marked : List Bool → ℕ → Bool
 is_marked marks k = has_mark (slice_get marks k)
 
--- one more with a mark
-abbrev pub with_mark : Option Bool → Search → ℕ → Search
-with_mark None s k = s
-with_mark (Some true) s k = s
-with_mark (Some false) s k = record { marks = slice_set s.marks k true; ahead = s.ahead ++ k ∷ [] }
+-- ---- the pass: what the declaration of each gives, one after the other
 
-abbrev pub mark : Search → ℕ → Search
-mark s k = with_mark (slice_get s.marks k) s k
+module _ (text : List ℕ) (is : List Item) where
+  abbrev pub given_at : Scope → ℕ → Option Fixed
+  given_at s k = option_and_then (given text s) (slice_get is k)
 
-abbrev pub mark_each : Search → List ℕ → Search
-mark_each s [] = s
-mark_each s (k ∷ ks) = mark_each (mark s k) ks
+  abbrev pub with_given : Scope → ℕ → Scope
+  with_given s k = with_fixed s k (given_at s k)
+
+  abbrev pub each_given : Scope → List ℕ → Scope
+  each_given s [] = s
+  each_given s (k ∷ ks) = each_given (with_given s k) ks
+
+  abbrev pub all_given : Scope → List (List ℕ) → Scope
+  all_given s [] = s
+  all_given s (ks ∷ kss) = all_given (each_given s ks) kss

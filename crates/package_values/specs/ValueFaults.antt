@@ -13,14 +13,14 @@ use Rattle.type_faults.specs.declared.fault.FaultKind.TheVariants.{Redeclared, M
 use Rattle.base.specs.declared.value_type.ValueType.{ValueType}
 use Rattle.constants.specs.Constants.{is_held}
 use Rattle.type_faults.specs.Faults.{fault, IsFault}
-use Rattle.operators.specs.Operands.{Operand, constant, value, type_of}
+use Rattle.operators.specs.Operands.{Operand, constant, value, nil}
 use Rattle.names.specs.declared.scope.Declared.{Declared}
 use Rattle.names.specs.declared.scope.Declared.TheVariants.{Constant, Global}
 use Rattle.names.specs.Universe.{is_blank}
 use Rattle.names.specs.Scope.{Scope, declaration}
 use Rattle.names.specs.Types.{type_in}
 use Rattle.names.specs.Faults.{FailsAsType}
-use Rattle.expression_types.specs.Typing.{accepts, operand_in, type_in_one, Seen, are_single, seen}
+use Rattle.expression_types.specs.Typing.{accepts_operand, operand_in, type_in_one, Seen, are_single, seen}
 use Rattle.expression_types.specs.Faults.{SinglesFail, CountFails, TakeFails, FailsInEach}
 use Rattle.package_values.specs.declared.items.Role.{Role}
 use Rattle.package_values.specs.declared.items.Role.TheVariants as role
@@ -35,10 +35,11 @@ single_count os = if are_single os then Some (length os) else None
 abbrev pub fitting_value_fault : Option ValueType → Pos → Operand → Option Fault
 fitting_value_fault t pos (constant f) = if is_held t f.value then None else Some (fault ConstRange pos)
 fitting_value_fault t pos (value u x) = Some (fault Unfit pos)
+fitting_value_fault t pos nil = Some (fault Unfit pos)
 
 abbrev pub value_fault : Option ValueType → Pos → Option Operand → Option Fault
 value_fault t pos None = None
-value_fault t pos (Some x) = if accepts t (type_of x) then fitting_value_fault t pos x else Some (fault Mismatch pos)
+value_fault t pos (Some x) = if accepts_operand t x then fitting_value_fault t pos x else Some (fault Mismatch pos)
 
 abbrev pub ValuesFail : Option ValueType → List Seen → Fault → Type 0
 ValuesFail t [] f = ⊥

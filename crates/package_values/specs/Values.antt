@@ -1,7 +1,7 @@
 -- The constants and the package variables of a package, and what is known of them: the values of constants and the types of variables (Go
 -- specification, "Constant declarations", "Constant expressions", "Representability", "Variable declarations"). Their order in the text is
 -- free: one may stand before those that its value names.
-use Rattle.std.specs.Prelude.{ℕ, zero, suc, ◌+◌, pos, false, slice_get, length, ◌&&◌, List, [], ◌∷◌, ◌++◌, Option, Some, None, option_and_then}
+use Rattle.std.specs.Prelude.{ℕ, zero, suc, ◌+◌, pos, false, slice_get, length, ◌==◌, ◌&&◌, List, [], ◌∷◌, ◌++◌, Option, Some, None, option_and_then}
 use Rattle.std.specs.Option.{option_map}
 use Rattle.syntax.specs.declared.expression.Name.{Name}
 use Rattle.syntax.specs.Expressions.{Ex as TreeEx, Exs as TreeExs, none, some}
@@ -14,10 +14,10 @@ use Rattle.base.specs.declared.value_type.ValueType.TheVariants.{Int, Bool as Bo
 use Rattle.type_faults.specs.Given.{allowed}
 use Rattle.base.specs.Types.{same_type}
 use Rattle.constants.specs.Constants.{constant_type, holds}
-use Rattle.operators.specs.Operands.{Operand, constant, value}
+use Rattle.operators.specs.Operands.{Operand, constant, value, nil}
 use Rattle.names.specs.Scope.{Scope, with_fixed}
 use Rattle.names.specs.Types.{type_in}
-use Rattle.expression_types.specs.Typing.{Gives, operand_in, type_in_one, value_types, gives, seen}
+use Rattle.expression_types.specs.Typing.{Gives, operand_in, own_type, many, gives, seen}
 use Rattle.package_values.specs.declared.items.Role.{Role}
 use Rattle.package_values.specs.declared.items.Role.TheVariants as role
 
@@ -75,6 +75,7 @@ zero_of other = None
 abbrev pub as_constant : Operand → Option Fixed
 as_constant (constant f) = Some f
 as_constant (value t x) = None
+as_constant nil = None
 
 abbrev pub constant_in : Option Gives → Option Fixed
 constant_in o = option_and_then as_constant (operand_in o)
@@ -93,21 +94,22 @@ module _ (text : List ℕ) where
   given_by s t None = None
   given_by s t (Some e) = option_and_then (accepted s t) (constant_in (gives text s e))
 
-  -- the type that the values of a declaration give the variable at a place: that of its own value, or of a result of the call that stands alone
-  abbrev pub initial_type : Scope → Option TreeEx → TreeExs → ℕ → Option ValueType
-  initial_type s (Some e) es k = type_in_one (gives text s e)
-  initial_type s None es k = option_and_then (λ ts. slice_get ts k) (value_types (seen text s es))
+  -- the type that the values of a declaration of n names give the variable at a place: that of its own value, or of a result of the call that
+  -- stands alone and has n of them; a faulty value gives none
+  abbrev pub initial_type : Scope → Option TreeEx → TreeExs → (n k : ℕ) → Option ValueType
+  initial_type s (Some e) es n k = own_type (gives text s e)
+  initial_type s None es n k = option_and_then (λ m. allowed (length m.types == n) (slice_get m.types k)) (many (seen text s es))
 
   -- the type of a variable, as far as the types of variables and the constants are known in a scope: a type that stands there holds whatever
   -- the value
-  abbrev pub variable_type : Scope → Option TreeEx → Option TreeEx → TreeExs → ℕ → Option ValueType
-  variable_type s (Some t) v es k = type_in text s t
-  variable_type s None v es k = initial_type s v es k
+  abbrev pub variable_type : Scope → Option TreeEx → Option TreeEx → TreeExs → (n k : ℕ) → Option ValueType
+  variable_type s (Some t) v es n k = type_in text s t
+  variable_type s None v es n k = initial_type s v es n k
 
   -- what is known of one of them then
   abbrev pub given_as : Role → Scope → Item → Option Fixed
   given_as role.Constant s i = given_by s i.type_expr i.value
-  given_as role.Variable s i = option_and_then zero_of (variable_type s i.type_expr i.value i.values i.place)
+  given_as role.Variable s i = option_and_then zero_of (variable_type s i.type_expr i.value i.values (length i.names) i.place)
 
   abbrev pub given : Scope → Item → Option Fixed
   given s i = given_as i.role s i

@@ -14,15 +14,15 @@ ghost use Rattle.expression_types.specs.Typing.{operand_in, seen};
 ghost use Rattle.expression_types.specs.Faults.{SinglesFail, CountFails, FailsInEach};
 ghost use Rattle.expression_types.specs.Passing.{gives_of, seens};
 ghost use Rattle.package_values.specs.ValueFaults.{single_count, fitting_value_fault, value_fault, ValuesFail, is_this_value, value_name_fault, type_asked, TypeFails, SpecFails, SpecsFail, form_fault, FormsFail, left_out_fault, ValuesLeftOut, LeftOut, wanted, is_bare, InitialsFail, VariablesFail, AllVariablesFail, first_of, cycle_place, DeclarationsFail, NamesFail, Recurs, ItemsFail};
-ghost use Rattle.package_values.specs.Passing.{item_views, table_of, DeclarationFails, RecursAt};
+ghost use Rattle.package_values.specs.Passing.{item_views, DeclarationFails, recursion_fault, is_marked};
 
 use crate::items::{Item, Role, items_in};
 use crate::needs::{has_form, needs};
-use crate::reaching::reaches_itself;
 use crate::values::{constant_in, zero_of};
 use base::{NoMemory, Pos, ValueType};
+use components::strong_components;
 use expression_types::{
-    accepts, are_single, check_list, count_fault, one_type, singles_fault, take_fault,
+    agrees, are_single, check_list, count_fault, is_single, one_type, singles_fault, take_fault,
 };
 use names::{Declared, Scope, is_blank, spelled, type_fault, type_in};
 use operators::held_fault;
@@ -64,8 +64,10 @@ fn single_count(items: &[expression_types::Item]) -> Option<usize>
 fn value_fault(value_type: Option<ValueType>, item: &expression_types::Item) -> Option<Fault>
     ensures { result ≡ value_fault value_type item.now.pos (operand_in (option_map gives_of item.now.gives)) }
 {
-    let own_type = one_type(&item.gives)?;
-    if !accepts(value_type, own_type) {
+    if !is_single(&item.gives) {
+        return None;
+    }
+    if !agrees(value_type, &item.gives) {
         return Some(Fault {
             kind: FaultKind::Mismatch,
             pos: item.pos,
@@ -397,22 +399,26 @@ fn cycle_pos(item: &Item) -> Pos
     }
 }
 
-/// The fault of a constant or variable that needs itself, where it does.
-fn item_recursion(
-    alloc: Global,
-    table: &[Vec<u32>],
-    number: usize,
-    pos: Pos,
-) -> Result<Option<Fault>, NoMemory>
-    ensures { IfOk result (λ r. IsLeast (RecursAt (table_of table.now) number pos) r) }
+/// The fault of a constant or variable, where it needs itself.
+fn item_recursion(needs_itself: bool, pos: Pos) -> Option<Fault>
+    ensures { result ≡ recursion_fault needs_itself pos }
 {
-    if reaches_itself(alloc, table, number)? {
-        Ok(Some(Fault {
+    if needs_itself {
+        Some(Fault {
             kind: FaultKind::SelfReference,
             pos,
-        }))
+        })
     } else {
-        Ok(None)
+        None
+    }
+}
+
+fn is_marked(marks: &[bool], number: usize) -> bool
+    ensures { result ≡ is_marked marks.now number }
+{
+    match marks.get(number) {
+        Some(mark) => *mark,
+        None => false,
     }
 }
 
@@ -425,10 +431,13 @@ fn recursion_fault(
 ) -> Result<Option<Fault>, NoMemory>
     ensures { IfOk result (λ r. IsLeast (Recurs text.now (scope_of scope.now) (item_views items.now)) r) }
 {
-    let table = needs(alloc, text, scope, items)?;
+    let needs = needs(alloc, text, scope, items)?;
+    let found = strong_components(alloc, &needs)?;
+    let on_cycles = found.on_cycles(alloc, &needs)?;
     let mut fault = None;
     for index in 0..items.len() {
-        let own = item_recursion(alloc, &table, index, cycle_pos(&items[index]))?;
+        let needs_itself = is_marked(&on_cycles, index);
+        let own = item_recursion(needs_itself, cycle_pos(&items[index]));
         fault = lesser(fault, own);
     }
     Ok(fault)

@@ -1,10 +1,10 @@
 //! The constants and the variables of a package: the values of the one and the types of the other, whatever their order in the text, and the
 //! rules of their declarations.
 //!
-//! Each look goes over all of them in turn and notes what the scope so far gives each: the value of a constant, and the zero value of a
-//! variable's type. What rests on others is known one look after them at the latest, so after as many looks as there are constants and
-//! variables all is known that can be; the pass ends with the first look that changes nothing. What is not known then has a fault of its own,
-//! or needs one that has, or needs itself. The last is found by walking from each one over those that its value names.
+//! What is known of one rests on what is known of those that its type and its value name. So one pass is enough that comes to each after those
+//! that it names: in the order of the strongly connected components of the graph of names. What is named in a circle gives nothing, since
+//! nothing is given by what names something unknown; so no order among those is of matter. What is not known after the pass has a fault of
+//! its own, or needs one that has, or needs itself: the last is where it lies on a cycle of the graph of needs.
 //!
 //! `laws` says what is known without looks: the least that the declarations give.
 #![tactic(auto)]
@@ -13,7 +13,6 @@ mod faults;
 mod items;
 pub mod laws;
 mod needs;
-mod reaching;
 mod values;
 
 pub use faults::items_fault;

@@ -4,9 +4,10 @@ ghost use Rattle.std.specs.Prelude.{◌≡◌, ◌++◌, IfOk, OnOk, map, Option
 ghost use Rattle.std.specs.Option.{option_map};
 ghost use Rattle.syntax.specs.Expressions.{ex_of, exs_of, ex_in, bound_of, elements_of, spelled};
 ghost use Rattle.names.specs.Scope.{scope_of, declaration};
-ghost use Rattle.package_values.specs.Needs.{names_in, names_in_each, names_in_bound, names_in_elements, names_in_some, names_waited, value_number, may_be_constant, has_form, have_form, waited_form, numbers_of, needed_as, needed};
-ghost use Rattle.package_values.specs.declared.items.Role.TheVariants.{Constant as ConstantRole, Variable as VariableRole};
-ghost use Rattle.package_values.specs.Passing.{item_of, item_views, names_in_element, table_of};
+ghost use Rattle.package_values.specs.Needs.{names_in, names_in_each, names_in_bound, names_in_elements, names_in_some, names_waited, value_number, mentions, may_be_constant, has_form, have_form, waited_form, numbers_of, mentioned, needed_as, needed};
+ghost use Rattle.package_values.specs.declared.items.Role.TheVariants.{Variable as VariableRole};
+ghost use Rattle.package_values.specs.Passing.{item_of, item_views, names_in_element};
+ghost use Rattle.components.specs.Graph.{rows};
 
 use crate::items::{Item, Role};
 use base::NoMemory;
@@ -202,19 +203,50 @@ fn waited_form(text: &[u8], scope: &Scope, value: Option<&Expr>, values: &[Expr]
     }
 }
 
-/// The constants and variables that a constant needs.
-fn needed_by_constant(
+/// The names that what is known of one rests on.
+fn add_mentions(names: &mut Vec<Name>, item: &Item) -> Result<(), NoMemory>
+    ensures { OnOk result (names.new.items ≡ names.old.items ++ mentions (item_of item.now)) }
+{
+    match item.role {
+        Role::Constant => {
+            add_names_in_some(names, item.type_expr)?;
+            add_names_waited(names, item.value, item.values)
+        }
+        Role::Variable => match item.type_expr {
+            Some(e) => add_names(names, e),
+            None => add_names_waited(names, item.value, item.values),
+        },
+    }
+}
+
+/// The constants and variables among the names that what is known of one rests on.
+fn mentioned_by(
     alloc: Global,
     text: &[u8],
     scope: &Scope,
     item: &Item,
 ) -> Result<Vec<u32>, NoMemory>
-    ensures { IfOk result (λ v. v.items ≡ needed_as text.now (scope_of scope.now) ConstantRole (item_of item.now)) }
+    ensures { IfOk result (λ v. v.items ≡ mentioned text.now (scope_of scope.now) (item_of item.now)) }
 {
     let mut names = Vec::new(alloc);
-    add_names_in_some(&mut names, item.type_expr)?;
-    add_names_waited(&mut names, item.value, item.values)?;
+    add_mentions(&mut names, item)?;
     numbers_of(alloc, text, scope, &names)
+}
+
+/// The same for each.
+pub fn mentioned(
+    alloc: Global,
+    text: &[u8],
+    scope: &Scope,
+    items: &[Item],
+) -> Result<Vec<Vec<u32>>, NoMemory>
+    ensures { IfOk result (λ v. rows v.items ≡ map (mentioned text.now (scope_of scope.now)) (item_views items.now)) }
+{
+    let mut all = Vec::new(alloc);
+    for index in 0..items.len() {
+        all.push(mentioned_by(alloc, text, scope, &items[index])?)?;
+    }
+    Ok(all)
 }
 
 /// The constants and variables that a variable needs.
@@ -227,10 +259,14 @@ fn needed_by_variable(
     ensures { IfOk result (λ v. v.items ≡ needed_as text.now (scope_of scope.now) VariableRole (item_of item.now)) }
 {
     let mut names = Vec::new(alloc);
-    if !waited_form(text, scope, item.value, item.values) {
-        return Ok(Vec::new(alloc));
+    match item.type_expr {
+        Some(e) => add_names(&mut names, e)?,
+        None => {
+            if waited_form(text, scope, item.value, item.values) {
+                add_names_waited(&mut names, item.value, item.values)?;
+            }
+        }
     }
-    add_names_waited(&mut names, item.value, item.values)?;
     numbers_of(alloc, text, scope, &names)
 }
 
@@ -239,7 +275,7 @@ fn needed(alloc: Global, text: &[u8], scope: &Scope, item: &Item) -> Result<Vec<
     ensures { IfOk result (λ v. v.items ≡ needed text.now (scope_of scope.now) (item_of item.now)) }
 {
     match item.role {
-        Role::Constant => needed_by_constant(alloc, text, scope, item),
+        Role::Constant => mentioned_by(alloc, text, scope, item),
         Role::Variable => needed_by_variable(alloc, text, scope, item),
     }
 }
@@ -251,7 +287,7 @@ pub fn needs(
     scope: &Scope,
     items: &[Item],
 ) -> Result<Vec<Vec<u32>>, NoMemory>
-    ensures { IfOk result (λ v. table_of v.items ≡ map (needed text.now (scope_of scope.now)) (item_views items.now)) }
+    ensures { IfOk result (λ v. rows v.items ≡ map (needed text.now (scope_of scope.now)) (item_views items.now)) }
 {
     let mut table = Vec::new(alloc);
     for index in 0..items.len() {

@@ -1,18 +1,21 @@
 //! The values of constants and the types of variables.
 
-ghost use Rattle.std.specs.Prelude.{◌≡◌, IfOk, OnOk, true, false, None, option_and_then};
+ghost use Rattle.std.specs.Prelude.{◌≡◌, IfOk, OnOk, ℕ, None, length, option_and_then};
 ghost use Rattle.std.specs.Option.{option_map};
 ghost use Rattle.syntax.specs.Expressions.{ex_in, exs_of};
 ghost use Rattle.syntax.specs.Declarations.{declarations_of};
-ghost use Rattle.names.specs.Scope.{scope_of, with_fixed};
+ghost use Rattle.components.specs.Components.{component_lists};
+ghost use Rattle.names.specs.Scope.{scope_of, fixed};
 ghost use Rattle.expression_types.specs.Passing.{gives_of};
-ghost use Rattle.package_values.specs.Values.{constant_in, with_type, accepted, given_by, zero_of, initial_type, variable_type, given, look, settled, items_in};
-ghost use Rattle.package_values.specs.Passing.{item_of, item_views};
+ghost use Rattle.package_values.specs.Values.{constant_in, with_type, accepted, given_by, zero_of, initial_type, variable_type, given, settled, items_in};
+ghost use Rattle.package_values.specs.Passing.{item_of, item_views, given_at, each_given, all_given};
 
 use crate::items::{Item, Role, items_in};
+use crate::needs::mentioned;
 use base::{NoMemory, ValueType, same_type};
+use components::{Component, strong_components};
 use constants::{Constant, Fixed, constant_type, is_held};
-use expression_types::{Gives, check_expr, check_list, one_type, value_types};
+use expression_types::{Gives, check_expr, check_list, many_types, own_type};
 use names::{Scope, ValueId, type_in};
 use operators::Operand;
 use std::alloc::Global;
@@ -91,21 +94,22 @@ pub fn zero_of(value_type: ValueType) -> Option<Fixed>
     })
 }
 
-/// The type of the value at a place among all values of a declaration.
-fn type_at(
+/// The type of a result of the call that stands alone, where it has as many as there are names.
+fn result_type(
     alloc: Global,
     text: &[u8],
     scope: &Scope,
     values: &[Expr],
+    names: usize,
     place: usize,
 ) -> Result<Option<ValueType>, NoMemory>
-    ensures { IfOk result (λ r. r ≡ initial_type text.now (scope_of scope.now) None (exs_of values.now) place) }
+    ensures { IfOk result (λ r. r ≡ initial_type text.now (scope_of scope.now) None (exs_of values.now) names place) }
 {
     let listed = check_list(alloc, text, scope, values)?;
-    match value_types(alloc, &listed.items)? {
-        Some(types) => Ok(types.get(place).copied()),
-        None => Ok(None),
-    }
+    Ok(match many_types(&listed.items) {
+        Some((_, types)) if types.len() == names => types.get(place).copied(),
+        _ => None,
+    })
 }
 
 /// The type that the values of a declaration give a variable.
@@ -115,16 +119,21 @@ fn initial_type(
     scope: &Scope,
     item: &Item,
 ) -> Result<Option<ValueType>, NoMemory>
-    ensures { IfOk result (λ r. r ≡ initial_type text.now (scope_of scope.now) (item_of item.now).value (item_of item.now).values (item_of item.now).place) }
+    ensures { IfOk result (λ r. r ≡ initial_type text.now (scope_of scope.now) (item_of item.now).value (item_of item.now).values (length (item_of item.now).names) (item_of item.now).place) }
 {
     match item.value {
         Some(value) => {
             let checked = check_expr(alloc, text, scope, value)?;
-            let found = one_type(&checked.gives);
-            drop(checked);
-            Ok(found)
+            Ok(own_type(checked.gives))
         }
-        None => type_at(alloc, text, scope, item.values, item.place),
+        None => result_type(
+            alloc,
+            text,
+            scope,
+            item.values,
+            item.names.len(),
+            item.place,
+        ),
     }
 }
 
@@ -135,7 +144,7 @@ fn variable_type(
     scope: &Scope,
     item: &Item,
 ) -> Result<Option<ValueType>, NoMemory>
-    ensures { IfOk result (λ r. r ≡ variable_type text.now (scope_of scope.now) (item_of item.now).type_expr (item_of item.now).value (item_of item.now).values (item_of item.now).place) }
+    ensures { IfOk result (λ r. r ≡ variable_type text.now (scope_of scope.now) (item_of item.now).type_expr (item_of item.now).value (item_of item.now).values (length (item_of item.now).names) (item_of item.now).place) }
 {
     match item.type_expr {
         Some(e) => Ok(type_in(text, scope, e)),
@@ -150,7 +159,7 @@ fn variable_known(
     scope: &Scope,
     item: &Item,
 ) -> Result<Option<Fixed>, NoMemory>
-    ensures { IfOk result (λ r. r ≡ option_and_then zero_of (variable_type text.now (scope_of scope.now) (item_of item.now).type_expr (item_of item.now).value (item_of item.now).values (item_of item.now).place)) }
+    ensures { IfOk result (λ r. r ≡ option_and_then zero_of (variable_type text.now (scope_of scope.now) (item_of item.now).type_expr (item_of item.now).value (item_of item.now).values (length (item_of item.now).names) (item_of item.now).place)) }
 {
     match variable_type(alloc, text, scope, item)? {
         Some(value_type) => Ok(zero_of(value_type)),
@@ -168,80 +177,65 @@ fn given(alloc: Global, text: &[u8], scope: &Scope, item: &Item) -> Result<Optio
     }
 }
 
-fn is_same_value(a: Constant, b: Constant) -> bool
-    ensures { result ≡ true → a ≡ b }
+/// What is known of the one of a number, as far as the others are known in a scope.
+fn given_at(
+    alloc: Global,
+    text: &[u8],
+    scope: &Scope,
+    items: &[Item],
+    number: u32,
+) -> Result<Option<Fixed>, NoMemory>
+    ensures { IfOk result (λ r. r ≡ given_at text.now (item_views items.now) (scope_of scope.now) number) }
 {
-    match (a, b) {
-        (Constant::Number(x), Constant::Number(y)) => x == y,
-        (Constant::Truth(x), Constant::Truth(y)) => x == y,
-        _ => false,
+    match items.get(number as usize) {
+        Some(item) => given(alloc, text, scope, item),
+        None => Ok(None),
     }
 }
 
-fn is_same_type(s: Option<ValueType>, t: Option<ValueType>) -> bool
-    ensures { result ≡ true → s ≡ t }
+/// Says what is known of those of these numbers, one after the other.
+fn settle_each(
+    alloc: Global,
+    text: &[u8],
+    scope: &mut Scope,
+    items: &[Item],
+    numbers: &[u32],
+) -> Result<(), NoMemory>
+    ensures { OnOk result (scope_of scope.new ≡ each_given text.now (item_views items.now) (scope_of scope.old) numbers.now) }
 {
-    match (s, t) {
-        (Some(s), Some(t)) => same_type(s, t),
-        (None, None) => true,
-        _ => false,
+    for number in numbers {
+        let value = given_at(alloc, text, scope, items, *number)?;
+        scope.set_fixed(ValueId(*number), value);
     }
+    Ok(())
 }
 
-/// Whether the same is known.
-fn is_same(a: Option<Fixed>, b: Option<Fixed>) -> bool
-    ensures { result ≡ true → a ≡ b }
+/// The same for the nodes of components.
+fn settle_all(
+    alloc: Global,
+    text: &[u8],
+    scope: &mut Scope,
+    items: &[Item],
+    components: &[Component],
+) -> Result<(), NoMemory>
+    ensures { OnOk result (scope_of scope.new ≡ all_given text.now (item_views items.now) (scope_of scope.old) (component_lists components.now)) }
 {
-    match (a, b) {
-        (Some(a), Some(b)) => {
-            is_same_type(a.value_type, b.value_type) && is_same_value(a.value, b.value)
-        }
-        (None, None) => true,
-        _ => false,
+    for component in components {
+        settle_each(alloc, text, scope, items, &component.nodes)?;
     }
+    Ok(())
 }
 
-/// Says what is known of a constant or variable, and whether that is new.
-fn renew(scope: &mut Scope, number: ValueId, value: Option<Fixed>) -> bool
-    ensures scope { scope_of scope.new ≡ with_fixed (scope_of scope.old) number.0 value }
-    ensures same { result ≡ false → scope_of scope.new ≡ scope_of scope.old }
-{
-    if is_same(scope.fixed(number), value) {
-        false
-    } else {
-        scope.set_fixed(number, value);
-        true
-    }
-}
-
-/// One look at all constants and variables in turn, and whether it makes anything new known.
-fn look(alloc: Global, text: &[u8], scope: &mut Scope, items: &[Item]) -> Result<bool, NoMemory>
-    ensures scope { OnOk result (scope_of scope.new ≡ look text.now 0 (scope_of scope.old) (item_views items.now)) }
-    ensures same { IfOk result (λ is_new. is_new ≡ false → scope_of scope.new ≡ scope_of scope.old) }
-{
-    let mut is_new = false;
-    for index in 0..items.len() {
-        let Ok(number) = u32::try_from(index) else {
-            return Err(NoMemory);
-        };
-        let value = given(alloc, text, scope, &items[index])?;
-        let is_renewed = renew(scope, ValueId(number), value);
-        is_new = is_new || is_renewed;
-    }
-    Ok(is_new)
-}
-
-/// Works out the constants and the types of the variables of a package: with as many looks as there are of them all is known that can be,
-/// whatever their order in the text. The first look that makes nothing new known is the last.
+/// Works out the constants and the types of the variables of a package, each after those that it names: what looks at all of them would find,
+/// as often as there are some.
 pub fn settle(alloc: Global, text: &[u8], scope: &mut Scope, decls: &[Decl]) -> Result<(), NoMemory>
+    requires as_many { length (scope_of scope.old).values ≡ length (items_in (declarations_of decls.now)) }
+    requires unknown { (k : ℕ) → fixed (scope_of scope.old) k ≡ None }
     ensures { OnOk result (scope_of scope.new ≡ settled text.now (scope_of scope.old) (items_in (declarations_of decls.now))) }
 {
     let items = items_in(alloc, decls)?;
-    'looks: for _ in 0..items.len() {
-        let is_new = look(alloc, text, scope, &items)?;
-        if !is_new {
-            return Ok(());
-        }
-    }
+    let named = mentioned(alloc, text, scope, &items)?;
+    let found = strong_components(alloc, &named)?;
+    settle_all(alloc, text, scope, &items, &found.components)?;
     Ok(())
 }

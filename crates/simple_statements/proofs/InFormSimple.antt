@@ -335,7 +335,7 @@ module _ (T : Table) (text : List ℕ) (p : Program) (all : List Site) (has : Ha
           let form = u.5 in
           let place1 : PlFits p scope ints u.1 = subst (λ (x : TypeTree). PlFits p scope x u.1) (int_tree T formed) (subst (λ (k : ValueType). PlFits p scope (type_tree T k) u.1) form.2 (own_fits ext (name_in e) u.0 u.1 u.3)) in
           let right : OperandFits T p scope u.2 = operand_fits T p scope (gives text s v) u.2 (maybe_fits T p scope (gives text s v) (λ g g_is. given_fits v g g_is)) u.4 in
-          let right1 : ExFits p scope ints form.0 = subst (λ (x : TypeTree). ExFits p scope x form.0) (int_tree T formed) (subst (λ (k : ValueType). ExFits p scope (type_tree T k) form.0) form.1 (value_fits T p scope formed u.2 form.0 right form.3)) in
+          let right1 : ExFits p scope ints form.0 = subst (λ (x : TypeTree). ExFits p scope x form.0) (int_tree T formed) (value_fits T p scope formed u.2 Int form.0 form.1 right form.3) in
           let whole : update (position at) u.1 (arithmetic_of tree_op) form.0 ≡ t = same_some (ap updated (sym form.4) ∙ q.2) in
           subst (λ (x : St). Still looped scope x) whole (refl, λ m n. (arithmetic_is tree_op, place1, right1), refl)
 

@@ -27,7 +27,7 @@ use Rattle.type_faults.specs.Faults.{fault, IsFault}
 use Rattle.type_faults.proofs.Decided.{Decided, Tested, further, mapped, after, both_tested}
 use Rattle.type_faults.proofs.Options.{and_then_some, map_some, none_some, same_some}
 use Rattle.operators.specs.Operands.{Operand, value, type_of, as_value}
-use Rattle.operators.specs.Operators.{takes, right_allowed, both_values, arithmetic_of, combined}
+use Rattle.operators.specs.Operators.{takes, takes_both, right_allowed, both_values, arithmetic_of, combined}
 use Rattle.operators.specs.Faults.{pair_fault}
 use Rattle.operators.proofs.DecidedOperators.{pair_decided}
 use Rattle.names.specs.Blocks.{Blocks}
@@ -153,23 +153,24 @@ variable_read (Some v) x is = (v.value_type, v.place, sym (same_some is))
 
 -- what an operator gives of a variable and an operand has the form of an operator on two
 abbrev pub UpdatedAs : Pos → TypedOp → ValueType → Pl → Operand → Operand → Type 0
-UpdatedAs at typed_op t q y z = (e : Ex) × (type_of y ≡ Int) × (t ≡ Int) × (as_value y ≡ Some e) × (z ≡ value Int (binary (position at) typed_op (read q) e))
+UpdatedAs at typed_op t q y z = (e : Ex) × (type_of y ≡ Some Int) × (t ≡ Int) × (as_value y ≡ Some e) × (z ≡ value Int (binary (position at) typed_op (read q) e))
 
-takes_ints : (tree_op : ArithmeticOp) (s t : ValueType) → takes (Arithmetic tree_op) s t ≡ true → (s ≡ Int) × (t ≡ Int)
-takes_ints tree_op Int Int is = (refl, refl)
-takes_ints tree_op s t is = absurd cc is
+takes_ints : (tree_op : ArithmeticOp) (s : ValueType) (t : Option ValueType) → takes_both (Arithmetic tree_op) (Some s) t ≡ true → (s ≡ Int) × (t ≡ Some Int)
+takes_ints tree_op Int (Some Int) is = (refl, refl)
+takes_ints tree_op s (Some t) is = absurd cc is
+takes_ints tree_op s None is = absurd cc is
 
 pub combined_as : (at : Pos) (tree_op : ArithmeticOp) (t : ValueType) (q : Pl) (y z : Operand) → combined at (Arithmetic tree_op) (value t (read q)) y ≡ Some z → UpdatedAs at (arithmetic_of tree_op) t q y z
 combined_as at tree_op t q y z is =
-    let a = allowed_is (takes (Arithmetic tree_op) t (type_of y) && right_allowed (Arithmetic tree_op) y) (both_values at (Arithmetic tree_op) (Some (read q)) (as_value y)) z is in
-    let ints = takes_ints tree_op t (type_of y) (first_true (takes (Arithmetic tree_op) t (type_of y)) (right_allowed (Arithmetic tree_op) y) a.0) in
+    let a = allowed_is (takes_both (Arithmetic tree_op) (Some t) (type_of y) && right_allowed (Arithmetic tree_op) y) (both_values at (Arithmetic tree_op) (Some (read q)) (as_value y)) z is in
+    let ints = takes_ints tree_op t (type_of y) (first_true (takes_both (Arithmetic tree_op) (Some t) (type_of y)) (right_allowed (Arithmetic tree_op) y) a.0) in
     by (as_value y) refl ints.0 ints.1 a.1
   where
     first_true : (a b : Bool) → (a && b) ≡ true → a ≡ true
     first_true true b is1 = refl
     first_true false b is1 = cc is1
 
-    by : (o : Option Ex) → as_value y ≡ o → t ≡ Int → type_of y ≡ Int → both_values at (Arithmetic tree_op) (Some (read q)) o ≡ Some z → UpdatedAs at (arithmetic_of tree_op) t q y z
+    by : (o : Option Ex) → as_value y ≡ o → t ≡ Int → type_of y ≡ Some Int → both_values at (Arithmetic tree_op) (Some (read q)) o ≡ Some z → UpdatedAs at (arithmetic_of tree_op) t q y z
     by None o_is t_is y_is is1 = absurd (none_some is1)
     by (Some e) o_is t_is y_is is1 = (e, y_is, t_is, o_is, sym (same_some is1))
 
@@ -212,12 +213,14 @@ module _ (text : List ℕ) where
   value_decided : (s : Scope) (e : TreeEx) (o : Option Gives) → Decided o (Fails text s e) → (f : Fault) × (Fails text s e f ⊎ IsFault (value_left_fault o (first_pos e)) f)
   value_decided s e None d = (d.0, inl d.1)
   value_decided s e (Some (one x)) d = (fault NotAssignable (first_pos e), inr refl)
-  value_decided s e (Some (called at ts g es)) d = (fault NotAssignable (first_pos e), inr refl)
-  value_decided s e (Some (asking at)) d = (fault NotAssignable (first_pos e), inr refl)
-  value_decided s e (Some (quoted at bytes)) d = (fault OutOfProfile at, inr refl)
-  value_decided s e (Some (printed at line ps)) d = (fault NotAssignable (first_pos e), inr refl)
-  value_decided s e (Some (panicked at p)) d = (fault NotAssignable (first_pos e), inr refl)
-  value_decided s e (Some (exited at x)) d = (fault NotAssignable (first_pos e), inr refl)
+  value_decided s e (Some (called at [] g es)) d = (_, inr refl)
+  value_decided s e (Some (called at (t ∷ []) g es)) d = (fault NotAssignable (first_pos e), inr refl)
+  value_decided s e (Some (called at (t ∷ u ∷ ts) g es)) d = (_, inr refl)
+  value_decided s e (Some (asking at)) d = (_, inr refl)
+  value_decided s e (Some (quoted at bytes)) d = (_, inr refl)
+  value_decided s e (Some (printed at line ps)) d = (_, inr refl)
+  value_decided s e (Some (panicked at p)) d = (_, inr refl)
+  value_decided s e (Some (exited at x)) d = (_, inr refl)
 
   side_decided : (s : Scope) (settled : IsSettled s) (o : Option Name) (e : TreeEx) → Decided (left text s o) (LeftSideFails text s o e)
   side_decided s settled None e = value_decided s e (gives text s e) (gives_decided text s settled e)

@@ -10,6 +10,7 @@ use Rattle.base.specs.declared.value_type.ValueType.{ValueType}
 use Rattle.type_faults.specs.Given.{allowed}
 use Rattle.type_faults.proofs.Options.{and_then_some, map_some, none_some}
 use Rattle.operators.specs.Operands.{type_of, as_value}
+use Rattle.expression_types.proofs.InForm.{typed_value}
 use Rattle.names.specs.Scope.{Scope}
 use Rattle.names.proofs.Settled.{IsSettled}
 use Rattle.expression_types.specs.Typing.{Seen, Many, type_in_one, fits_with, all_values, types_with, many, operand_in, value_in, values, single_types, value_types, values_agree, types_agree, each, taken}
@@ -35,8 +36,9 @@ types_of_values (o ∷ os) xs is =
     let q = map_some (λ ys. r.0 ∷ ys) (values os) xs r.2 in
     let p = and_then_some as_value (operand_in o.gives) r.0 r.1 in
     let rest = types_of_values os q.0 q.1 in
-    let one : type_in_one o.gives ≡ Some (type_of p.0) = ap (option_map type_of) p.1 in
-    (type_of p.0 ∷ rest.0, ap (option_and_then (λ t. option_map (λ ts. t ∷ ts) (single_types os))) one ∙ ap (option_map (λ ts. type_of p.0 ∷ ts)) rest.1, ap suc rest.2)
+    let t = typed_value p.0 r.0 p.2 in
+    let one : type_in_one o.gives ≡ Some t.0 = ap (option_and_then type_of) p.1 ∙ t.1 in
+    (t.0 ∷ rest.0, ap (option_and_then (λ t. option_map (λ ts. t ∷ ts) (single_types os))) one ∙ ap (option_map (λ ts. t.0 ∷ ts)) rest.1, ap suc rest.2)
 
 -- there are as many as places
 pub types_taken : (ps : List (Option ValueType)) (os : List Seen) (es : Exs) → taken ps os ≡ Some es → (ts : List ValueType) × (value_types os ≡ Some ts) × (length ts ≡ length ps)

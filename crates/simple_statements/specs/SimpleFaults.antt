@@ -1,6 +1,7 @@
 -- Which rules fail in a statement without statements in it, and where each is reported. A rule is looked at only where its operands have
 -- types.
 use Rattle.std.specs.Prelude.{ℕ, ◌⊎◌, Bool, true, false, not, ◌&&◌, length, List, [], ◌∷◌, Option, Some, None, is_some, option_and_then, if◌then◌else◌}
+use Rattle.std.specs.Option.{option_or}
 use Rattle.base.specs.declared.pos.Pos.{Pos}
 use Rattle.type_faults.specs.declared.fault.Fault.{Fault}
 use Rattle.syntax.specs.declared.expression.Name.{Name}
@@ -13,9 +14,8 @@ use Rattle.syntax.specs.Statements.{Simple, ValueSpec}
 use Rattle.syntax.specs.Statements as tree
 use Rattle.type_faults.specs.declared.fault.FaultKind.TheVariants.{Unknown, Redeclared, NothingNew, NotAssignable, WrongCount, ResultCount, NotUsedValue, Unfit, OutOfProfile}
 use Rattle.base.specs.declared.value_type.ValueType.TheVariants.{Int}
-use Rattle.base.specs.Types.{same_type}
 use Rattle.type_faults.specs.Faults.{fault, IsFault}
-use Rattle.operators.specs.Operands.{Operand, type_of}
+use Rattle.operators.specs.Operands.{Operand, is_assignable}
 use Rattle.operators.specs.Faults.{pair_fault}
 use Rattle.names.specs.Blocks.{Blocks}
 use Rattle.names.specs.declared.scope.Declared.{Declared}
@@ -25,7 +25,7 @@ use Rattle.names.specs.Scope.{Scope, declaration, is_here}
 use Rattle.names.specs.Naming.{name_in}
 use Rattle.names.specs.Faults.{FailsAsType}
 use Rattle.expression_types.specs.Typing.{Gives, one, called, asking, quoted, printed, panicked, exited, operand_in, Seen, many, count, gives, seen}
-use Rattle.expression_types.specs.Faults.{refused_fault, ValuesFail, PlacedFail, CountFails, TakeFails, Fails, FailsInEach, FailsAsOperand}
+use Rattle.expression_types.specs.Faults.{refused_fault, single_fault, ValuesFail, PlacedFail, CountFails, TakeFails, Fails, FailsInEach, FailsAsOperand}
 use Rattle.signatures.specs.declared.entries.Role.TheVariants.{Parameter}
 use Rattle.signatures.specs.EntryFaults.{EntriesFail}
 use Rattle.signatures.specs.Failing.{fault_where}
@@ -57,11 +57,10 @@ abbrev pub own_fault : (is_blank : Bool) → Option Declared → Pos → Pos →
 own_fault true d pos whole = Some (fault Unknown pos)
 own_fault false d pos whole = left_fault false d pos whole
 
--- any other left side that gives something; a string stands nowhere else than among operands
+-- any other left side that gives something: what is not one value has the fault of that alone
 abbrev pub value_left_fault : Option Gives → Pos → Option Fault
 value_left_fault None pos = None
-value_left_fault (Some (quoted string_pos bytes)) pos = Some (fault OutOfProfile string_pos)
-value_left_fault (Some g) pos = Some (fault NotAssignable pos)
+value_left_fault (Some g) pos = option_or (single_fault (Some g)) (Some (fault NotAssignable pos))
 
 -- where a statement with names begins, and one with expressions on its left
 abbrev pub names_place : List Name → Pos → Pos
@@ -88,7 +87,7 @@ use_fault (Some (exited call_pos e)) at = None
 -- `++` and `--` take an int
 abbrev pub step_fault : Option Operand → Pos → Option Fault
 step_fault None pos = None
-step_fault (Some x) pos = fault_where (not (same_type Int (type_of x))) (fault Unfit pos)
+step_fault (Some x) pos = fault_where (not (is_assignable Int x)) (fault Unfit pos)
 
 -- other values than the function gives back
 abbrev pub ReturnFails : Pos → Returns → List Seen → Fault → Type 0

@@ -20,7 +20,7 @@ ghost use Rattle.simple_statements.specs.SimpleFaults.{left_fault, new_name_faul
 
 use base::{NoMemory, Pos, SiteId, ValueType};
 use constants::constant_type;
-use expression_types::{Gives, check_expr};
+use expression_types::{Gives, check_expr, single_fault};
 use names::{Blocks, Declared, Scope, is_blank, name_in, spelled};
 use signatures::{Slot, fault_where};
 use std::alloc::Global;
@@ -233,16 +233,18 @@ fn name_left_fault(text: &[u8], scope: &Scope, name: Name, whole: Pos) -> Option
     left_fault_of(is_blank(bytes), scope.declaration(bytes), name.pos, whole)
 }
 
-/// The fault of a left side that is no name and gives something.
+/// The fault of a left side that is no name and gives something: what is not one value has the fault of that alone.
 fn value_left_fault(gives: &Option<Gives>, pos: Pos) -> Option<Fault>
     ensures { result ≡ value_left_fault (option_map gives_of gives.now) pos }
 {
-    let (kind, pos) = match gives {
-        Some(Gives::Quoted(pos, _)) => (FaultKind::OutOfProfile, *pos),
-        Some(_) => (FaultKind::NotAssignable, pos),
-        None => return None,
+    let own = Fault {
+        kind: FaultKind::NotAssignable,
+        pos,
     };
-    Some(Fault { kind, pos })
+    match gives {
+        Some(_) => single_fault(gives).or(Some(own)),
+        None => None,
+    }
 }
 
 /// The fault of a left side that is no name.

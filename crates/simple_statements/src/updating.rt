@@ -25,10 +25,10 @@ ghost use Rattle.simple_statements.specs.SimpleFaults.{own_fault, step_fault, gi
 
 use crate::declaring::{Variable, left_fault_of, lefts_pos, value_fault, variable_named};
 use crate::statements::Line;
-use base::{NoMemory, Pos, ValueType, same_type};
+use base::{NoMemory, Pos, ValueType};
 use expression_types::{Item, check_list, check_single, count, values_fault};
 use names::{Declared, Scope, is_blank, name_in, spelled};
-use operators::{Operand, pair_fault, paired, type_of};
+use operators::{Operand, is_assignable, pair_fault, paired};
 use signatures::fault_where;
 use std::alloc::Global;
 use syntax::{ArithmeticOp, Expr, Name};
@@ -284,7 +284,7 @@ fn step_fault(operand: &Option<Operand>, pos: Pos) -> Option<Fault>
         pos,
     };
     match operand {
-        Some(operand) => fault_where(!same_type(ValueType::Int, type_of(operand)), own),
+        Some(operand) => fault_where(!is_assignable(ValueType::Int, operand), own),
         None => None,
     }
 }

@@ -18,12 +18,13 @@ use Rattle.base.proofs.Types.{same_is}
 use Rattle.typed.specs.Tables.{Table}
 use Rattle.typed.specs.Formed.{IsFormed}
 use Rattle.type_faults.proofs.Options.{and_then_some, map_some, none_some, same_some}
-use Rattle.operators.specs.Operands.{type_of, as_value}
+use Rattle.operators.specs.Operands.{is_assignable, as_value}
 use Rattle.names.specs.Scope.{Scope, type_tree, type_trees, opened}
 use Rattle.names.specs.Types.{type_in}
 use Rattle.names.proofs.Trees.{int_tree}
 use Rattle.expression_types.specs.Typing.{operand_in, taken, value_types, gives, seen, condition, test}
-use Rattle.expression_types.proofs.InForm.{Agrees, AreAccepted, OptionalFits, AllFit, value_fits, operand_fits, maybe_fits, taken_fits, gives_fit, seen_fit, condition_fits, test_fits}
+use Rattle.types_go.proofs.SettledHeads.{number_is}
+use Rattle.expression_types.proofs.InForm.{Agrees, AreAccepted, OptionalFits, AllFit, assigned_type, value_fits, operand_fits, maybe_fits, taken_fits, gives_fit, seen_fit, condition_fits, test_fits}
 use Rattle.signatures.specs.declared.slots.Slot.{Slot}
 use Rattle.signatures.specs.declared.entries.Role.TheVariants.{Parameter}
 use Rattle.signatures.specs.Entries.{sites_of, entry_left, slot_with, slots_each, entries, behind_entries}
@@ -35,7 +36,7 @@ use Rattle.simple_statements.proofs.SettledValues.{allowed_is}
 use Rattle.simple_statements.proofs.SettledSimple.{assignment_some}
 use Rattle.simple_statements.proofs.Growth.{grows_simple}
 use Rattle.simple_statements.proofs.InFormSimple.{Formed, StFormed, Still, accepted_long, known_all, lefts_fit, simple_still, simple_formed}
-use Rattle.types_go.specs.Statements.{Choice, Head, repeated, counted, alone, new_in, declared_in, headed, chosen, looped_by, key_of, as_int, number_type, all_accept, target_slots, header, init_statement, post_simple, post_statement, behind_post_simple, behind_post, guard_head, over, all_blank, target_lefts, clause_scope, clause_head}
+use Rattle.types_go.specs.Statements.{Choice, Head, for_clause, range_clause, alone, new_in, declared_in, headed, chosen, for_of, key_of, as_int, number_type, all_accept, target_slots, header, init_statement, post_simple, post_statement, behind_post_simple, behind_post, guard_head, over, all_blank, target_lefts, clause_scope, clause_head}
 use Rattle.types_go.proofs.StatementGrowth.{grows_header, keeps_post}
 
 -- ---- init statements
@@ -170,22 +171,22 @@ module _ (T : Table) (text : List ℕ) (p : Program) (all : List Site) (has : Ha
 
     -- its header in form, and the scope of its body
     abbrev pub HeadFits : (looped : Bool) → Scope → Head → Type 0
-    HeadFits looped h (repeated init test1 post) =
+    HeadFits looped h (for_clause init test1 post) =
         InitFits looped s scope h init × TestFits p (init_scope scope init) test1 × (births_all post ≡ 0) × ((m n : ℕ) → StsFit p wanted1 named false (init_scope scope init) m n post)
-    HeadFits looped h (counted e key) =
+    HeadFits looped h (range_clause e key) =
         Visible h (scope_behind scope (key ∷ [])) × ExFits p scope ints e × (length s.sites + new_sites (key ∷ []) ≡ length h.sites)
         × ((n : ℕ) → length h.sites ≤ n → LeftsFit p scope (length s.sites) n (ints ∷ []) (key ∷ []))
 
     abbrev pub head_scope : Head → List ℕ
-    head_scope (repeated init test1 post) = init_scope scope init
-    head_scope (counted e key) = scope_behind scope (key ∷ [])
+    head_scope (for_clause init test1 post) = init_scope scope init
+    head_scope (range_clause e key) = scope_behind scope (key ∷ [])
 
     pub head_visible : (looped : Bool) (h : Scope) (k : Head) → HeadFits looped h k → Visible h (head_scope k)
-    head_visible looped h (repeated init test1 post) fits = fits.0.visible
-    head_visible looped h (counted e key) fits = fits.0
+    head_visible looped h (for_clause init test1 post) fits = fits.0.visible
+    head_visible looped h (range_clause e key) fits = fits.0
 
-    pub loop_formed : (looped : Bool) (h after : Scope) (k : Head) (y : Sts) → HeadFits looped h k → StsFormed true h (head_scope k) after y → Formed1 looped s scope after (looped_by k y)
-    loop_formed looped h after (repeated init test1 post) y fits a =
+    pub loop_formed : (looped : Bool) (h after : Scope) (k : Head) (y : Sts) → HeadFits looped h k → StsFormed true h (head_scope k) after y → Formed1 looped s scope after (for_of k y)
+    loop_formed looped h after (for_clause init test1 post) y fits a =
         fits.0.headed_fits after (for_stmt (declared_in init) test1 post y) (λ sc. refl)
         (record {
           count = omega (arith, a.count, fits.2);
@@ -194,14 +195,14 @@ module _ (T : Table) (text : List ℕ) (p : Program) (all : List Site) (has : Ha
       where
         moved : births_all post ≡ 0 → length h.sites ≡ length h.sites + births_all post
         moved is = omega (arith, is)
-    loop_formed looped h after (counted e key) y fits a = record {
+    loop_formed looped h after (range_clause e key) y fits a = record {
       count = omega (arith, a.count, fits.2, alone_sites key);
       fit = λ n le. (fits.1, fits.3 n (omega (arith, le, a.count)), subst (λ j. StsFit p wanted1 named true (scope_behind scope (key ∷ [])) j n y) (sym fits.2) (a.fit n le));
     }
 
-    pub loop_keeps : (looped : Bool) (h : Scope) (k : Head) (y : Sts) → HeadFits looped h k → scope_after scope (looped_by k y) ≡ scope
-    loop_keeps looped h (repeated init test1 post) y fits = fits.0.keeps (for_stmt (declared_in init) test1 post y) (λ sc. refl)
-    loop_keeps looped h (counted e key) y fits = refl
+    pub loop_keeps : (looped : Bool) (h : Scope) (k : Head) (y : Sts) → HeadFits looped h k → scope_after scope (for_of k y) ≡ scope
+    loop_keeps looped h (for_clause init test1 post) y fits = fits.0.keeps (for_stmt (declared_in init) test1 post y) (λ sc. refl)
+    loop_keeps looped h (range_clause e key) y fits = refl
 
     optional_test : (sc : List ℕ) (o : Option Ex) → OptionalFits p sc o → TestFits p sc o
     optional_test sc None fits = tt
@@ -330,40 +331,40 @@ module _ (T : Table) (text : List ℕ) (p : Program) (all : List Site) (has : Ha
     over_fits : (e : TreeEx) (x : Ex) → Extends s.sites all → over text s e ≡ Some x → ExFits p scope ints x
     over_fits e x ext is =
         let q = and_then_some as_int (operand_in (gives text s e)) x is in
-        let a = allowed_is (same_type Int (type_of q.0)) (as_value q.0) x q.2 in
+        let a = allowed_is (is_assignable Int q.0) (as_value q.0) x q.2 in
         let agrees = agreed s refl ext in
         let fits = operand_fits s.types p scope (gives text s e) q.0 (maybe_fits s.types p scope (gives text s e) (λ g g_is. gives_fit p scope text s (shown_site s scope visible) (shown_number s scope visible) visible.held agrees e g g_is)) q.1 in
         subst (λ (u : TypeTree). ExFits p scope u x) (int_tree s.types agrees.formed)
-        (subst (λ (t : ValueType). ExFits p scope (type_tree s.types t) x) (sym (same_is Int (type_of q.0) a.0)) (value_fits s.types p scope agrees.formed q.0 x fits a.1))
+        (value_fits s.types p scope agrees.formed q.0 Int x (assigned_type Int q.0 a.0) fits a.1)
 
     pub clause_fits : (looped : Bool) (c : Clause) (k : Head) → clause_head text s c ≡ Some k → Within p all (clause_scope text s c) → HeadFits looped (clause_scope text s c) k
     clause_fits looped forever k is ext = subst (λ (x : Head). HeadFits looped (opened s) x) (same_some is) (no_init looped s scope visible, tt, refl, λ m n. tt)
     clause_fits looped (while_true e) k is ext =
-        let r = and_then_some (λ x. option_map (repeated None x) (Some done)) (option_map Some (condition text (opened s) e)) k is in
+        let r = and_then_some (λ x. option_map (for_clause None x) (Some done)) (option_map Some (condition text (opened s) e)) k is in
         let q = map_some Some (condition text (opened s) e) r.0 r.1 in
         let fits = condition_fits p scope text (opened s) (shown_site (opened s) scope (visible_opened s scope visible)) (shown_number (opened s) scope (visible_opened s scope visible)) (visible_opened s scope visible).held (agreed (opened s) refl ext.0) e q.0 q.1 in
-        subst (λ (x : Head). HeadFits looped (opened s) x) (same_some (ap (λ (x : Option Ex). Some (repeated None x done)) q.2 ∙ r.2)) (no_init looped s scope visible, fits, refl, λ m n. tt)
+        subst (λ (x : Head). HeadFits looped (opened s) x) (same_some (ap (λ (x : Option Ex). Some (for_clause None x done)) q.2 ∙ r.2)) (no_init looped s scope visible, fits, refl, λ m n. tt)
     clause_fits looped (counting init test1 post) k is ext =
         let h = header text s init in
-        let r = and_then_some (λ i. option_and_then (λ x. option_map (repeated i x) (post_statement text h post)) (test text h test1)) (init_statement text s init) k is in
-        let q = and_then_some (λ x. option_map (repeated r.0 x) (post_statement text h post)) (test text h test1) k r.2 in
-        let o = map_some (repeated r.0 q.0) (post_statement text h post) k q.2 in
+        let r = and_then_some (λ i. option_and_then (λ x. option_map (for_clause i x) (post_statement text h post)) (test text h test1)) (init_statement text s init) k is in
+        let q = and_then_some (λ x. option_map (for_clause r.0 x) (post_statement text h post)) (test text h test1) k r.2 in
+        let o = map_some (for_clause r.0 q.0) (post_statement text h post) k q.2 in
         let ext1 = within_before p all h (behind_post text h post) (keeps_grows h (behind_post text h post) (keeps_post text h post)) ext in
         let i = init_fits looped init r.0 r.1 ext1 in
         let agrees = agreed h (grows_header text s init).kept ext1.0 in
         let last1 = post_fits h (init_scope scope r.0) post o.0 i.visible (grows_types (opened s) h (grows_header text s init) ∙ types_are) agrees ext o.1 in
         subst (λ (x : Head). HeadFits looped (behind_post text h post) x) o.2 (init_behind looped h post r.0 i, optional_test (init_scope scope r.0) q.0 (test_fits p (init_scope scope r.0) text h (shown_site h (init_scope scope r.0) i.visible) (shown_number h (init_scope scope r.0) i.visible) i.visible.held agrees test1 q.0 q.1), last1.0, last1.1)
     clause_fits looped (ranging t at e) k is ext =
-        let n = number_type (over text s e) in
-        let r = and_then_some (λ x. option_map (counted x) (option_and_then key_of (target_lefts text (opened s) n t))) (over text s e) k is in
-        let q = map_some (counted r.0) (option_and_then key_of (target_lefts text (opened s) n t)) k r.2 in
+        let n = number_type (operand_in (gives text s e)) in
+        let r = and_then_some (λ x. option_map (range_clause x) (option_and_then key_of (target_lefts text (opened s) n t))) (over text s e) k is in
+        let q = map_some (range_clause r.0) (option_and_then key_of (target_lefts text (opened s) n t)) k r.2 in
         let l = and_then_some key_of (target_lefts text (opened s) n t) q.0 q.1 in
-        let int1 : n ≡ Some Int = ap number_type r.1 in
+        let int1 : n ≡ Some Int = number_is (operand_in (gives text s e)) r.0 r.1 in
         let ext1 : Extends (behind_entries text (opened s) (target_slots (Some Int) t)).sites all = subst (λ (o : Option ValueType). Extends (behind_entries text (opened s) (target_slots o t)).sites all) int1 ext.0 in
         let ext0 = extends_twice s.sites (behind_entries text (opened s) (target_slots (Some Int) t)).sites all (grows_entries text (opened s) (target_slots (Some Int) t)).sites ext1 in
         let f = keys_fit t l.0 q.0 ext0 ext1 (ap (λ (o : Option ValueType). target_lefts text (opened s) o t) (sym int1) ∙ l.1) l.2 in
         subst (λ (x : Head). HeadFits looped (behind_entries text (opened s) (target_slots n t)) x) q.2
-        (subst (λ (o : Option ValueType). HeadFits looped (behind_entries text (opened s) (target_slots o t)) (counted r.0 q.0)) (sym int1) (f.shows, over_fits e r.0 ext0 r.1, f.count, f.fit))
+        (subst (λ (o : Option ValueType). HeadFits looped (behind_entries text (opened s) (target_slots o t)) (range_clause r.0 q.0)) (sym int1) (f.shows, over_fits e r.0 ext0 r.1, f.count, f.fit))
 
     -- ---- variables
 

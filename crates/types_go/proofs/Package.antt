@@ -1,20 +1,21 @@
 -- The package block, where functions, constants and variables are declared.
-use Rattle.std.proofs.Common.{◌≡◌, ℕ, zero, suc, ◌+◌, Bool, true, false, cond, List, [], ◌∷◌, ◌++◌, length, map, Option, Some, None, refl, sym, ap, ◌∙◌, arith, append-nil, append_assoc, length-append}
-use Rattle.std.specs.Prelude.{◌&&◌}
+use Rattle.std.proofs.Common.{◌≡◌, ℕ, zero, suc, ◌+◌, Bool, true, false, cond, List, [], ◌∷◌, ◌++◌, length, map, Option, Some, None, refl, sym, ap, ◌∙◌, subst, arith, append-nil, append_assoc, length-append}
+use Rattle.std.specs.Prelude.{◌&&◌, slice_get, option_and_then}
 use Rattle.std.proofs.lemmas.List.{map-append, length-map}
 use Rattle.syntax.specs.declared.expression.Name.{Name}
 use Rattle.syntax.specs.Expressions.{Ex as TreeEx, Exs as TreeExs, none, some, spelled}
 use Rattle.syntax.specs.Statements.{ValueSpec}
-use Rattle.syntax.specs.Declarations.{Function as TreeFunction, Declaration, constants, variables, types}
+use Rattle.constants.specs.declared.constant.Fixed.{Fixed}
+use Rattle.syntax.specs.Declarations.{TypeSpec, Function as TreeFunction, Declaration, constants, variables, types}
 use Rattle.syntax.specs.Declarations as tree
 use Rattle.type_faults.proofs.Options.{map_some, none_some, same_some}
-use Rattle.names.specs.declared.scope.Declared.TheVariants.{Constant, Global, Function, External}
+use Rattle.names.specs.declared.scope.Declared.TheVariants.{Constant, Global, Function, External, TypeName}
 use Rattle.names.specs.Universe.{is_blank}
 use Rattle.names.specs.Scope.{Scope, Signature, with_declaration, with_signature, with_value, with_global, with_fixed}
 use Rattle.package_values.specs.declared.items.Role.{Role}
 use Rattle.package_values.specs.declared.items.Role.TheVariants as role
 use Rattle.package_values.specs.Values.{Item, unvalued, paired, or_unvalued, items_of, items_in_specs, items_in, given, look, looks, settled}
-use Rattle.signatures.specs.Signatures.{declares_name, external_named, is_external, signature_in, with_constant_name, with_constant_names, with_constants, with_variable_name, with_variable_names, with_package_variables, with_function, with_items}
+use Rattle.signatures.specs.Signatures.{declares_name, external_named, is_external, signature_in, with_constant_name, with_constant_names, with_constants, with_variable_name, with_variable_names, with_package_variables, with_name, with_types, with_function, with_items}
 use Rattle.function_heads.specs.Heads.{functions_in, is_supported, are_supported}
 
 pub both_second : (a b : Bool) → (a && b) ≡ true → b ≡ true
@@ -223,28 +224,91 @@ module _ (text : List ℕ) (heads : Scope) where
       by false true = refl
       by false false = refl
 
+  types_values : (s : Scope) (ts : List TypeSpec) → (with_types text s ts).values ≡ s.values
+  types_values s [] = refl
+  types_values s (t ∷ ts) = types_values (with_name text TypeName s t.name) ts ∙ by (declares_name s (spelled text t.name))
+    where
+      by : (b : Bool) → (cond b (with_declaration s (spelled text t.name) TypeName) s).values ≡ s.values
+      by true = refl
+      by false = refl
+
+  -- there are as many constants and variables as are declared
+  pub values_long : (s : Scope) (ds : List Declaration) → length (with_items text heads s ds).values ≡ length s.values + length (items_in ds)
+  values_long s [] = omega arith
+  values_long s (constants at specs ∷ ds) =
+      let one = specs_long text s specs in
+      let both1 = length-append (items_in_specs role.Constant specs) (items_in ds) in
+      let rest = values_long (with_constants text s specs) ds in
+      omega (arith, one, both1, rest)
+  values_long s (variables at specs ∷ ds) =
+      let one = variables_long text s specs in
+      let both1 = length-append (items_in_specs role.Variable specs) (items_in ds) in
+      let rest = values_long (with_package_variables text s specs) ds in
+      omega (arith, one, both1, rest)
+  values_long s (types at specs ∷ ds) =
+      let one = ap (λ (l : List (Option Fixed)). length l) (types_values s specs) in
+      let rest = values_long (with_types text s specs) ds in
+      omega (arith, one, rest)
+  values_long s (tree.function g ∷ ds) =
+      let one = function_long s g in
+      let rest = values_long (with_function text heads s g) ds in
+      omega (arith, one, rest)
+
+  -- ---- nothing is known of them before they are worked out
+
+  abbrev pub AreUnknown : List (Option Fixed) → Type 0
+  AreUnknown vs = (k : ℕ) → option_and_then (λ o. o) (slice_get vs k) ≡ None
+
+  unknown_more : (vs : List (Option Fixed)) → AreUnknown vs → AreUnknown (vs ++ None ∷ [])
+  unknown_more [] h zero = refl
+  unknown_more [] h (suc k) = refl
+  unknown_more (v ∷ vs) h zero = h zero
+  unknown_more (v ∷ vs) h (suc k) = unknown_more vs (λ j. h (suc j)) k
+
+  constants_unknown : (s : Scope) (ns : List Name) → AreUnknown s.values → AreUnknown (with_constant_names text s ns).values
+  constants_unknown s [] h = h
+  constants_unknown s (n ∷ ns) h = constants_unknown (with_constant_name text s n) ns (by (declares_name s (spelled text n)))
+    where
+      by : (b : Bool) → AreUnknown (constant_one text s n b).values
+      by true = unknown_more s.values h
+      by false = unknown_more s.values h
+
+  constant_specs_unknown : (s : Scope) (vs : List ValueSpec) → AreUnknown s.values → AreUnknown (with_constants text s vs).values
+  constant_specs_unknown s [] h = h
+  constant_specs_unknown s (v ∷ vs) h = constant_specs_unknown (with_constant_names text s v.names) vs (constants_unknown s v.names h)
+
+  variables_unknown : (s : Scope) (ns : List Name) → AreUnknown s.values → AreUnknown (with_variable_names text s ns).values
+  variables_unknown s [] h = h
+  variables_unknown s (n ∷ ns) h = variables_unknown (with_variable_name text s n) ns (by (is_blank (spelled text n)) (declares_name s (spelled text n)))
+    where
+      by : (b c : Bool) → AreUnknown (variable_one text s n b c).values
+      by true c = unknown_more s.values h
+      by false true = unknown_more s.values h
+      by false false = unknown_more s.values h
+
+  variable_specs_unknown : (s : Scope) (vs : List ValueSpec) → AreUnknown s.values → AreUnknown (with_package_variables text s vs).values
+  variable_specs_unknown s [] h = h
+  variable_specs_unknown s (v ∷ vs) h = variable_specs_unknown (with_variable_names text s v.names) vs (variables_unknown s v.names h)
+
+  function_unknown : (s : Scope) (g : TreeFunction) → AreUnknown s.values → AreUnknown (with_function text heads s g).values
+  function_unknown s g h = by (is_external text heads g) (declares_name s (spelled text g.name))
+    where
+      by : (b c : Bool) → AreUnknown (declared_one s g b c).values
+      by true true = h
+      by true false = h
+      by false true = h
+      by false false = h
+
+  pub values_unknown : (s : Scope) (ds : List Declaration) → AreUnknown s.values → AreUnknown (with_items text heads s ds).values
+  values_unknown s [] h = h
+  values_unknown s (constants at specs ∷ ds) h = values_unknown (with_constants text s specs) ds (constant_specs_unknown s specs h)
+  values_unknown s (variables at specs ∷ ds) h = values_unknown (with_package_variables text s specs) ds (variable_specs_unknown s specs h)
+  values_unknown s (types at specs ∷ ds) h = values_unknown (with_types text s specs) ds (subst AreUnknown (sym (types_values s specs)) h)
+  values_unknown s (tree.function g ∷ ds) h = values_unknown (with_function text heads s g) ds (function_unknown s g h)
+
   module _ (r : Scope) where
     others_supported : (g : TreeFunction) (ds : List Declaration) → are_supported text heads r (tree.function g ∷ ds) ≡ true → are_supported text heads r ds ≡ true
     others_supported g ds is = both_second (is_supported text heads r (tree.function g)) (are_supported text heads r ds) is
-
-    -- there are as many constants and variables as are declared
-    pub values_long : (s : Scope) (ds : List Declaration) → are_supported text heads r ds ≡ true → length (with_items text heads s ds).values ≡ length s.values + length (items_in ds)
-    values_long s [] is = omega arith
-    values_long s (constants at specs ∷ ds) is =
-        let one = specs_long text s specs in
-        let both1 = length-append (items_in_specs role.Constant specs) (items_in ds) in
-        let rest = values_long (with_constants text s specs) ds is in
-        omega (arith, one, both1, rest)
-    values_long s (variables at specs ∷ ds) is =
-        let one = variables_long text s specs in
-        let both1 = length-append (items_in_specs role.Variable specs) (items_in ds) in
-        let rest = values_long (with_package_variables text s specs) ds is in
-        omega (arith, one, both1, rest)
-    values_long s (types at specs ∷ ds) is = cc is
-    values_long s (tree.function g ∷ ds) is =
-        let one = function_long s g in
-        let rest = values_long (with_function text heads s g) ds (others_supported g ds is) in
-        omega (arith, one, rest)
 
     -- the signatures are those of the functions that have numbers
     pub signatures_are : (s : Scope) (ds : List Declaration) → are_supported text heads r ds ≡ true → (with_items text heads s ds).signatures ≡ s.signatures ++ map (signature_in text heads) (functions_in text heads ds)

@@ -46,7 +46,7 @@ use Rattle.types_go.specs.Statements.{behind_all}
 use Rattle.function_heads.specs.Heads.{functions_in, is_supported, are_supported, function_head}
 use Rattle.types_go.specs.Functions.{Member, of_function, of_variable, numbered, functions_of, type_or_int, behind_variable, members_in, behind_params, body_scope, behind_body, behind_function, returns_of, may_end, func, param_entries, result_entries, body_of, parts, function_with, function, functions, declarations_in, heads_of, members, package_scope, program_functions}
 use Rattle.types_go.specs.StatementFaults.{FailsInStatements}
-use Rattle.function_heads.specs.HeadFaults.{FailsInHead, FailsInTypes, external_fault, init_fault, external_name_fault, DeclarationFails, DeclarationsFail}
+use Rattle.function_heads.specs.HeadFaults.{FailsInHead, FailsInTypes, external_fault, missing_body_fault, init_fault, external_name_fault, DeclarationFails, DeclarationsFail}
 use Rattle.types_go.specs.FunctionFaults.{FailsInParts, FailsWith, FailsInFunction, FailsInFunctions}
 use Rattle.types_go.proofs.Package.{both_second, constant_one, variable_one, declared_one, values_long, signatures_are, items_kept}
 use Rattle.types_go.proofs.Types.{items_types}
@@ -87,7 +87,7 @@ of_language : (s : Scope) → NoTypes s → (n : List ℕ) (d : Declared) → de
 of_language s no_types n d is = by (lookup s.blocks n) is
   where
     by : (o : Option ℕ) → numbered_name s n o ≡ Some d → IsOfLanguage s.types d
-    by None is1 = predeclared_is (IsOfLanguage s.types) (int_known s.types no_types.formed) (bool_known s.types no_types.formed) (λ b. tt) (λ line. tt) tt tt tt n d is1
+    by None is1 = predeclared_is (IsOfLanguage s.types) (int_known s.types no_types.formed) (bool_known s.types no_types.formed) (λ b. tt) tt (λ line. tt) tt tt tt n d is1
     by (Some k) is1 = found_declared s.types s.declared k d no_types.all is1
 
 known_decided : (t : ValueType) (b : Bool) → b ≡ true → Decided (allowed b (Some t)) (IsFault None)
@@ -168,7 +168,11 @@ module _ (text : List ℕ) (heads : Scope) where
       (name_tested i (is_blank (spelled text g.name)) (declaration s (spelled text g.name)) g.name.pos) (where_not (nat_lt i 4096) (fault TooLarge g.name.pos))
 
   with_decided : (s : Scope) (i : ℕ) (g : TreeFunction) (o : Option Body) → NoTypes heads → IsSettled s → Decided (function_with text heads s i g o) (FailsWith text heads s i g o)
-  with_decided s i g None no_types settled = (external_fault g, inr refl)
+  with_decided s i g None no_types settled = by (signature_in text heads g) refl (signature_decided no_types g)
+    where
+      by : (o : Option Signature) → signature_in text heads g ≡ o → Decided o (λ f. TypesFail text heads (params_of g.params) f ⊎ TypesFail text heads (params_of g.results) f) → (f : Fault) × FailsWith text heads s i g None f
+      by None is d = (d.0, inl (inr (inl d.1)))
+      by (Some sig) is d = (external_fault g, inr (subst (λ (o : Option Signature). IsFault (missing_body_fault o (external_fault g)) (external_fault g)) (sym is) refl))
   with_decided s i g (Some b) no_types settled =
       three_decided (function_head text s i g) (is_small heads.types (signature_in text heads g)) (may_end text heads s g b) (parts text heads s g b) (FailsInHead text s i g) (FailsInTypes text heads g) (FailsInParts text heads s g b) (IsFault (fault_where (not (may_end text heads s g b)) (fault MissingReturn b.end)))
       (head_tested s i g) (small_tested heads.types (signature_in text heads g) g.name.pos (λ f. TypesFail text heads (params_of g.params) f ⊎ TypesFail text heads (params_of g.results) f) (signature_decided no_types g))
@@ -234,7 +238,10 @@ module _ (text : List ℕ) (heads : Scope) where
   AllSigned (g ∷ gs) = HasSignature (signature_in text heads g) × AllSigned gs
 
   unsigned_with : (s : Scope) (i : ℕ) (g : TreeFunction) (o : Option Body) → NoTypes heads → signature_in text heads g ≡ None → (function_with text heads s i g o ≡ None) × ((f : Fault) × FailsWith text heads s i g o f)
-  unsigned_with s i g None no_types is = (refl, (external_fault g, inr refl))
+  unsigned_with s i g None no_types is =
+      let d : (f : Fault) × (TypesFail text heads (params_of g.params) f ⊎ TypesFail text heads (params_of g.results) f) =
+      subst (λ o. Decided o (λ f. TypesFail text heads (params_of g.params) f ⊎ TypesFail text heads (params_of g.results) f)) is (signature_decided no_types g) in
+      (refl, (d.0, inl (inr (inl d.1))))
   unsigned_with s i g (Some b) no_types is =
       let d : (f : Fault) × (TypesFail text heads (params_of g.params) f ⊎ TypesFail text heads (params_of g.results) f) =
       subst (λ o. Decided o (λ f. TypesFail text heads (params_of g.params) f ⊎ TypesFail text heads (params_of g.results) f)) is (signature_decided no_types g) in
@@ -365,7 +372,7 @@ module _ (text : List ℕ) (heads : Scope) where
       let given = subst AllGiven (sym (signatures_are text heads r beginning ds is)) (given_all (functions_in text heads ds) signed) in
       let waiting = all_waiting s.types s.signatures (length s.values) s.declared given (items_kept text heads r Numbered numbered_constant numbered_variable numbered_function beginning ds is tt) in
       let unknown = items_kept text heads r (λ (v : Scope). AllByRecursion IsUnknown v.values) unknown_constant unknown_variable unknown_function beginning ds is tt in
-      let many = values_long text heads r beginning ds is in
+      let many = values_long text heads beginning ds in
       let formed : IsFormed s.types = subst IsFormed (sym (items_types text heads r ds is)) formed_beginning in
       is_settled text s ds (record { as_many = omega (arith, many); unknown = unknown; typed = waiting; formed = formed; never = sound })
     where

@@ -20,7 +20,7 @@ use Rattle.base.specs.Types.{same_type}
 use Rattle.type_faults.specs.Faults.{fault, IsFault}
 use Rattle.type_faults.proofs.Decided.{Decided, Tested, further, tested, turned, mapped, after, both_tested}
 use Rattle.type_faults.proofs.Options.{and_then_some, map_some, none_some, same_some}
-use Rattle.operators.specs.Operands.{Operand, type_of, as_value}
+use Rattle.operators.specs.Operands.{Operand, is_assignable, as_value}
 use Rattle.names.specs.Universe.{is_blank}
 use Rattle.names.specs.Scope.{Scope, is_here, opened}
 use Rattle.names.specs.Naming.{name_in}
@@ -38,7 +38,7 @@ use Rattle.simple_statements.specs.SimpleStatements.{wanted, lefts, all_wanted, 
 use Rattle.simple_statements.specs.SimpleFaults.{names_place, LeftsFail}
 use Rattle.simple_statements.proofs.SettledValues.{allowed_is}
 use Rattle.simple_statements.proofs.SettledSimple.{lefts_decided, simple_decided, settled_simple}
-use Rattle.types_go.specs.Statements.{Choice, Head, repeated, counted, alone, choice_head, loop_head, key_of, range_head, as_int, number_type, all_accept, target_slots, header, init_statement, post_simple, post_statement, behind_post_simple, behind_post, guard_head, over, all_blank, target_lefts, clause_scope, clause_head}
+use Rattle.types_go.specs.Statements.{Choice, Head, for_clause, range_clause, alone, choice_head, loop_head, key_of, range_head, as_int, number_type, all_accept, target_slots, header, init_statement, post_simple, post_statement, behind_post_simple, behind_post, guard_head, over, all_blank, target_lefts, clause_scope, clause_head}
 use Rattle.types_go.specs.StatementFaults.{over_fault, given_fault, keys_fault, key_count, name_count, FailsInInit, PostFails, FailsInPost, FailsInOver, GivenFail, TargetsFail, target_count, FailsInRange, FailsInClause, FailsInGuard}
 
 -- ---- of their parts
@@ -50,7 +50,7 @@ loop_head_decided : (i : Option (Option St)) (c : Option (Option Ex)) (o : Optio
     → Decided (loop_head i c o) (λ f. (P f ⊎ Q f) ⊎ R f)
 loop_head_decided None c o P Q R p q r = (p.0, inl (inl p.1))
 loop_head_decided (Some h) None o P Q R p q r = let f = q h refl in (f.0, inl (inr f.1))
-loop_head_decided (Some h) (Some x) o P Q R p q r = further (λ f. P f ⊎ Q f) R (option_map (repeated h x) o) (λ f k. elim k [ inl u ↦ p f u | inr u ↦ q h refl f u ]) (mapped (repeated h x) o R (r h refl))
+loop_head_decided (Some h) (Some x) o P Q R p q r = further (λ f. P f ⊎ Q f) R (option_map (for_clause h x) o) (λ f k. elim k [ inl u ↦ p f u | inr u ↦ q h refl f u ]) (mapped (for_clause h x) o R (r h refl))
 
 while_decided : (c : Option Ex) (P : Fault → Type 0) → Decided c P → Decided (loop_head (Some None) (option_map Some c) (Some done)) P
 while_decided None P p = p
@@ -63,24 +63,25 @@ more_keys at n two = by (nat_le n 1) refl
     by true is = let le = leb-true n 1 is in absurd (omega (arith, le, two))
     by false is = (fault WrongCount at, refl)
 
-key_decided : (x : Ex) (at : Pos) (l : List Left) → Decided (key_of l) (IsFault (keys_fault at (Some x) (Some (key_count l))))
-key_decided x at [] = λ f h. h
-key_decided x at (l ∷ []) = λ f h. h
-key_decided x at (l ∷ blank ∷ []) = λ f h. h
-key_decided x at (l ∷ k ∷ ls) = more_keys at (length (l ∷ k ∷ ls)) (omega arith)
+key_decided : (at : Pos) (l : List Left) → Decided (key_of l) (IsFault (keys_fault at (Some Int) (Some (key_count l))))
+key_decided at [] = λ f h. h
+key_decided at (l ∷ []) = λ f h. h
+key_decided at (l ∷ blank ∷ []) = λ f h. h
+key_decided at (l ∷ k ∷ ls) = more_keys at (length (l ∷ k ∷ ls)) (omega arith)
 
-range_head_decided : (e : Option Ex) (ls : Option (List Left)) (at : Pos) (n : Option ℕ) (P Q : Fault → Type 0) → Decided e P → ((x : Ex) → e ≡ Some x → Decided ls Q) → ((l : List Left) → ls ≡ Some l → n ≡ Some (key_count l))
-    → Decided (range_head e ls) (λ f. (P f ⊎ Q f) ⊎ IsFault (keys_fault at e n) f)
-range_head_decided None ls at n P Q p q long = (p.0, inl (inl p.1))
-range_head_decided (Some x) None at n P Q p q long = let f = q x refl in (f.0, inl (inr f.1))
-range_head_decided (Some x) (Some l) at n P Q p q long =
-    subst (λ (m : Option ℕ). Decided (option_map (counted x) (key_of l)) (λ f. (P f ⊎ Q f) ⊎ IsFault (keys_fault at (Some x) m) f)) (sym (long l refl))
-    (further (λ f. P f ⊎ Q f) (IsFault (keys_fault at (Some x) (Some (key_count l)))) (option_map (counted x) (key_of l)) (λ f k. elim k [ inl u ↦ p f u | inr u ↦ q x refl f u ])
-    (mapped (counted x) (key_of l) (IsFault (keys_fault at (Some x) (Some (key_count l)))) (key_decided x at l)))
+range_head_decided : (e : Option Ex) (u : Option ValueType) (ls : Option (List Left)) (at : Pos) (n : Option ℕ) (P Q : Fault → Type 0) → Decided e P → ((x : Ex) → e ≡ Some x → u ≡ Some Int) → ((x : Ex) → e ≡ Some x → Decided ls Q)
+    → ((l : List Left) → ls ≡ Some l → n ≡ Some (key_count l)) → Decided (range_head e ls) (λ f. (P f ⊎ Q f) ⊎ IsFault (keys_fault at u n) f)
+range_head_decided None u ls at n P Q p typed q long = (p.0, inl (inl p.1))
+range_head_decided (Some x) u None at n P Q p typed q long = let f = q x refl in (f.0, inl (inr f.1))
+range_head_decided (Some x) u (Some l) at n P Q p typed q long =
+    subst (λ (v : Option ValueType). Decided (option_map (range_clause x) (key_of l)) (λ f. (P f ⊎ Q f) ⊎ IsFault (keys_fault at v n) f)) (sym (typed x refl))
+    (subst (λ (m : Option ℕ). Decided (option_map (range_clause x) (key_of l)) (λ f. (P f ⊎ Q f) ⊎ IsFault (keys_fault at (Some Int) m) f)) (sym (long l refl))
+    (further (λ f. P f ⊎ Q f) (IsFault (keys_fault at (Some Int) (Some (key_count l)))) (option_map (range_clause x) (key_of l)) (λ f k. elim k [ inl u ↦ p f u | inr u ↦ q x refl f u ])
+    (mapped (range_clause x) (key_of l) (IsFault (keys_fault at (Some Int) (Some (key_count l)))) (key_decided at l))))
 
 int_decided : (at place : Pos) (o : Option Operand) (P : Fault → Type 0) → Decided o P → Decided (option_and_then as_int o) (λ f. P f ⊎ IsFault (over_fault at place o) f)
 int_decided at place None P d = (d.0, inl d.1)
-int_decided at place (Some x) P d = further P (IsFault (over_fault at place (Some x))) (as_int x) d (by (same_type Int (type_of x)))
+int_decided at place (Some x) P d = further P (IsFault (over_fault at place (Some x))) (as_int x) d (by (is_assignable Int x))
   where
     by : (b : Bool) → Decided (allowed b (as_value x)) (IsFault (cond b (range_fault place (Some x)) (Some (fault Unfit at))))
     by true = as_value_decided place x
@@ -89,9 +90,14 @@ int_decided at place (Some x) P d = further P (IsFault (over_fault at place (Som
 given_tested : (t : ValueType) (p : Option ValueType) (at : Pos) → Tested (accepts p t) (IsFault (given_fault (Some t) p at))
 given_tested t p at = where_not (accepts p t) (fault Mismatch at)
 
--- a header that is typed has an int
-number_is : (e : Option Ex) (x : Ex) → e ≡ Some x → number_type e ≡ Some Int
-number_is e x is = ap number_type is
+-- what a header goes over gives numbers that are ints
+pub number_is : (o : Option Operand) (x : Ex) → option_and_then as_int o ≡ Some x → number_type o ≡ Some Int
+number_is None x is = absurd (none_some is)
+number_is (Some y) x is = by (is_assignable Int y) is
+  where
+    by : (b : Bool) → allowed b (as_value y) ≡ Some x → cond b (Some Int) None ≡ Some Int
+    by true is1 = refl
+    by false is1 = absurd (none_some is1)
 
 module _ (text : List ℕ) where
   -- ---- headers
@@ -162,7 +168,7 @@ module _ (text : List ℕ) where
       let r = entries_first s t n ns es is in
       ap suc (entries_long (behind_entry text s (slot_with t n)) t ns r.1 r.3) ∙ ap (λ l. length (map entry_left l)) r.4
 
-  -- as many left sides as are counted
+  -- as many left sides as are range_clause
   last_counted : (b h : Bool) (site : ℕ) (l : Left) (e : Option ℕ) → entry_of Parameter b h site ≡ Some e → cond b 1 2 ≡ key_count (l ∷ entry_left e ∷ [])
   last_counted true h site l e is = ap (λ x. key_count (l ∷ entry_left x ∷ [])) (same_some is)
   last_counted false true site l e is = absurd (none_some is)
@@ -200,11 +206,12 @@ module _ (text : List ℕ) where
       let q = map_some (map entry_left) (entries text Parameter s (map (slot_with t) ns)) l a.1 in
       ap Some (names_counted s t ns q.0 q.1 ∙ ap key_count q.2)
 
-  range_decided : (s : Scope) (at : Pos) (t : Targets) (e : TreeEx) → IsSettled s → Decided (range_head (over text s e) (target_lefts text (opened s) (number_type (over text s e)) t)) (FailsInRange text s at t e)
+  range_decided : (s : Scope) (at : Pos) (t : Targets) (e : TreeEx) → IsSettled s → Decided (range_head (over text s e) (target_lefts text (opened s) (number_type (operand_in (gives text s e))) t)) (FailsInRange text s at t e)
   range_decided s at t e settled =
-      let n = number_type (over text s e) in
-      range_head_decided (over text s e) (target_lefts text (opened s) n t) at (target_count text (opened s) t) (FailsInOver text s at e) (TargetsFail text (opened s) n t) (over_decided s at e settled)
-      (λ x is. subst (λ (o : Option ValueType). Decided (target_lefts text (opened s) o t) (TargetsFail text (opened s) o t)) (sym (number_is (over text s e) x is)) (targets_decided (opened s) Int t (settled_opened s settled)))
+      let n = number_type (operand_in (gives text s e)) in
+      range_head_decided (over text s e) n (target_lefts text (opened s) n t) at (target_count text (opened s) t) (FailsInOver text s at e) (TargetsFail text (opened s) n t) (over_decided s at e settled)
+      (λ x is. number_is (operand_in (gives text s e)) x is)
+      (λ x is. subst (λ (o : Option ValueType). Decided (target_lefts text (opened s) o t) (TargetsFail text (opened s) o t)) (sym (number_is (operand_in (gives text s e)) x is)) (targets_decided (opened s) Int t (settled_opened s settled)))
       (λ l is. targets_counted (opened s) n t l is)
 
   pub clause_decided : (s : Scope) (at : Pos) (c : Clause) → IsSettled s → Decided (clause_head text s c) (FailsInClause text s at c)
@@ -237,9 +244,9 @@ module _ (text : List ℕ) where
   settled_clause s forever h settled is = settled_opened s settled
   settled_clause s (while_true e) h settled is = settled_opened s settled
   settled_clause s (counting init test1 post) h settled is =
-      let r = and_then_some (λ i. option_and_then (λ x. option_map (repeated i x) (post_statement text (header text s init) post)) (test text (header text s init) test1)) (init_statement text s init) h is in
+      let r = and_then_some (λ i. option_and_then (λ x. option_map (for_clause i x) (post_statement text (header text s init) post)) (test text (header text s init) test1)) (init_statement text s init) h is in
       settled_post (header text s init) post (settled_header s init r.0 settled r.1)
   settled_clause s (ranging t at e) h settled is =
-      let r = and_then_some (λ x. option_map (counted x) (option_and_then key_of (target_lefts text (opened s) (number_type (over text s e)) t))) (over text s e) h is in
-      subst (λ (o : Option ValueType). IsSettled (behind_entries text (opened s) (target_slots o t))) (sym (number_is (over text s e) r.0 r.1))
+      let r = and_then_some (λ x. option_map (range_clause x) (option_and_then key_of (target_lefts text (opened s) (number_type (operand_in (gives text s e))) t))) (over text s e) h is in
+      subst (λ (o : Option ValueType). IsSettled (behind_entries text (opened s) (target_slots o t))) (sym (number_is (operand_in (gives text s e)) r.0 r.1))
       (settled_entries text (opened s) (target_slots (Some Int) t) (slots_typed Int t) (settled_opened s settled))

@@ -22,7 +22,7 @@ use Rattle.simple_statements.specs.SimpleStatements.{Returns, before, returned, 
 use Rattle.simple_statements.specs.SimpleFaults.{ReturnFails, FailsInSimple}
 use Rattle.simple_statements.proofs.SettledSimple.{return_decided, simple_decided, settled_simple}
 use Rattle.simple_statements.proofs.SettledVariables.{specs_decided, settled_specs}
-use Rattle.types_go.specs.Statements.{Choice, Head, alone, chosen, looped_by, choice_of, loop_of, header, guard_head, clause_scope, clause_head, behind, behind_else, behind_all, statement, alternative, statements}
+use Rattle.types_go.specs.Statements.{Choice, Head, alone, chosen, for_of, choice_of, loop_of, header, guard_head, clause_scope, clause_head, behind, behind_else, behind_all, statement, alternative, statements}
 use Rattle.types_go.specs.StatementFaults.{FailsInClause, FailsInGuard, FailsInStatement, FailsInElse, FailsInStatements}
 use Rattle.types_go.proofs.SettledHeads.{guard_decided, settled_guard, clause_decided, settled_clause}
 
@@ -45,10 +45,10 @@ choice_some h a b t is =
     let p = map_some (chosen r.0 q.0) b t q.2 in
     (r.0, q.0, p.0, r.1, q.1, p.1, p.2)
 
-pub loop_some : (h : Option Head) (b : Option Sts) (t : St) → loop_of h b ≡ Some t → (c : Head) × (y : Sts) × (h ≡ Some c) × (b ≡ Some y) × (looped_by c y ≡ t)
+pub loop_some : (h : Option Head) (b : Option Sts) (t : St) → loop_of h b ≡ Some t → (c : Head) × (y : Sts) × (h ≡ Some c) × (b ≡ Some y) × (for_of c y ≡ t)
 loop_some h b t is =
-    let r = and_then_some (λ c. option_map (looped_by c) b) h t is in
-    let q = map_some (looped_by r.0) b t r.2 in
+    let r = and_then_some (λ c. option_map (for_of c) b) h t is in
+    let q = map_some (for_of r.0) b t r.2 in
     (r.0, q.0, r.1, q.1, q.2)
 
 module _ (text : List ℕ) (r : Returns) where
@@ -113,8 +113,8 @@ module _ (text : List ℕ) (r : Returns) where
     statement_decided looped s (tree.for_stmt at c body) settled =
         let h = clause_scope text s c in
         mapped alone (loop_of (clause_head text s c) (statements text r true (opened h) body)) _
-        (after (clause_head text s c) (λ k. option_map (looped_by k) (statements text r true (opened h) body)) (FailsInClause text s at c) (FailsInStatements text r true (opened h) body) (clause_decided text s at c settled)
-        (λ k is. mapped (looped_by k) (statements text r true (opened h) body) (FailsInStatements text r true (opened h) body) (statements_decided true (opened h) body (settled_opened h (settled_clause text s c k settled is)))))
+        (after (clause_head text s c) (λ k. option_map (for_of k) (statements text r true (opened h) body)) (FailsInClause text s at c) (FailsInStatements text r true (opened h) body) (clause_decided text s at c settled)
+        (λ k is. mapped (for_of k) (statements text r true (opened h) body) (FailsInStatements text r true (opened h) body) (statements_decided true (opened h) body (settled_opened h (settled_clause text s c k settled is)))))
     statement_decided looped s (tree.break_stmt at) settled = jump_decided looped (alone break_stmt) (fault BreakOutside at)
     statement_decided looped s (tree.continue_stmt at) settled = jump_decided looped (alone continue_stmt) (fault BreakOutside at)
     statement_decided looped s (tree.return_stmt at es) settled =

@@ -3,7 +3,7 @@ use Rattle.std.proofs.Common.{ℕ, List, Option, Some, None}
 use Rattle.syntax.specs.Statements.{Simple, Guard, Clause, forever, while_true, counting, ranging, Stm, Stms, Els}
 use Rattle.syntax.specs.Statements as tree
 use Rattle.names.specs.Scope.{Scope, opened, closed}
-use Rattle.expression_types.specs.Typing.{gives}
+use Rattle.expression_types.specs.Typing.{operand_in, gives}
 use Rattle.signatures.proofs.Growth.{Grows, Keeps, grows_none, grows_twice, keeps_twice, keeps_none, keeps_grows, keeps_strings, keeps_inner, grows_entries}
 use Rattle.simple_statements.specs.SimpleStatements.{strings_in}
 use Rattle.simple_statements.proofs.Growth.{grows_simple, grows_specs}
@@ -33,7 +33,7 @@ module _ (text : List ℕ) where
   grows_clause s (counting init test post) =
       let h = header text s init in
       grows_twice (opened s) h (behind_post text h post) (grows_header s init) (keeps_grows h (behind_post text h post) (keeps_post h post))
-  grows_clause s (ranging t at e) = grows_entries text (opened s) (target_slots (number_type (over text s e)) t)
+  grows_clause s (ranging t at e) = grows_entries text (opened s) (target_slots (number_type (operand_in (gives text s e))) t)
 
   -- what is after the header keeps the header's block
   keeps_headed : (s h r : Scope) → Grows (opened s) h → Keeps h r → Keeps s (closed r)

@@ -19,7 +19,7 @@ use Rattle.typed_syntax.specs.Form.{ends, ends_all, breaks, breaks_all}
 use Rattle.base.specs.declared.value_type.ValueType.TheVariants.{Int, Bool as Truth, Struct, Array}
 use Rattle.type_faults.specs.Given.{both}
 use Rattle.type_faults.proofs.Options.{and_then_some, map_some, none_some, same_some}
-use Rattle.operators.specs.Operands.{Operand, constant, value}
+use Rattle.operators.specs.Operands.{Operand, constant, value, nil}
 use Rattle.operators.specs.Operators.{combined}
 use Rattle.names.specs.declared.scope.Declared.{Declared}
 use Rattle.names.specs.declared.scope.Declared.TheVariants.{Variable, Untyped, Panic}
@@ -32,7 +32,7 @@ use Rattle.simple_statements.specs.SimpleStatements.{Returns, only, before, expr
 use Rattle.simple_statements.proofs.SettledValues.{allowed_is}
 use Rattle.simple_statements.proofs.SettledSimple.{where_some, assignment_some}
 use Rattle.terminating.specs.Terminating.{is_endless, leaves, leaves_else, leaves_any, is_panic, names_panic, panics, ends_simple, is_terminating, is_terminating_else, ends_after}
-use Rattle.types_go.specs.Statements.{Choice, Head, repeated, counted, alone, declared_in, headed, looped_by, choice_of, loop_of, header, init_statement, post_statement, guard_head, clause_scope, clause_head, key_of, number_type, over, target_lefts, behind, behind_all, statement, alternative, statements}
+use Rattle.types_go.specs.Statements.{Choice, Head, for_clause, range_clause, alone, declared_in, headed, for_of, choice_of, loop_of, header, init_statement, post_statement, guard_head, clause_scope, clause_head, key_of, number_type, over, target_lefts, behind, behind_all, statement, alternative, statements}
 use Rattle.types_go.proofs.StatementGrowth.{grows, grows_header, keeps_block}
 use Rattle.types_go.proofs.Inside.{Inside, inside_opened, inside_grows, MayPanic, panic_inside}
 use Rattle.types_go.proofs.SettledStatements.{choice_some, loop_some}
@@ -87,6 +87,7 @@ assigned_still ls v t is = let a = assignment_some ls v t is in ap breaks (sym a
 
 updated_still : (x : Operand) (t : St) → updated x ≡ Some t → IsStill t
 updated_still (constant c) t is = absurd (none_some is)
+updated_still nil t is = absurd (none_some is)
 updated_still (value u (binary_of at o (read q) e)) t is = ap breaks (sym (same_some is))
 updated_still (value u (binary_of at o (constant_of v) e)) t is = absurd (none_some is)
 updated_still (value u (binary_of at o (unary_of g a) e)) t is = absurd (none_some is)
@@ -107,6 +108,7 @@ updated_still (value u (literal n es)) t is = absurd (none_some is)
 
 stepped_still : (p : Position) (o : TypedOp) (x : Operand) (t : St) → stepped p o x ≡ Some t → IsStill t
 stepped_still p o (constant c) t is = absurd (none_some is)
+stepped_still p o nil t is = absurd (none_some is)
 stepped_still p o (value Int (read q)) t is = ap breaks (sym (same_some is))
 stepped_still p o (value Truth e) t is = absurd (none_some is)
 stepped_still p o (value (Struct k) e) t is = absurd (none_some is)
@@ -230,34 +232,34 @@ module _ (text : List ℕ) where
       let q = map_some (λ x. record { init = r.0; condition = x }) (condition text (header text s g.init) g.condition) c r.2 in
       subst (λ (k : Choice). StillInit k.init) q.2 (init_still s g.init r.0 r.1)
 
-  loop_still : (s : Scope) (c : Clause) (k : Head) (y : Sts) → clause_head text s c ≡ Some k → IsStill (looped_by k y)
-  loop_still s forever k y is = ap (λ (x : Head). breaks (looped_by x y)) (sym (same_some is))
+  loop_still : (s : Scope) (c : Clause) (k : Head) (y : Sts) → clause_head text s c ≡ Some k → IsStill (for_of k y)
+  loop_still s forever k y is = ap (λ (x : Head). breaks (for_of x y)) (sym (same_some is))
   loop_still s (while_true e) k y is =
-      let r = and_then_some (λ x. option_map (repeated None x) (Some done)) (option_map Some (condition text (opened s) e)) k is in
-      ap (λ (x : Head). breaks (looped_by x y)) (sym (same_some r.2))
+      let r = and_then_some (λ x. option_map (for_clause None x) (Some done)) (option_map Some (condition text (opened s) e)) k is in
+      ap (λ (x : Head). breaks (for_of x y)) (sym (same_some r.2))
   loop_still s (counting init test1 post) k y is =
       let h = header text s init in
-      let r = and_then_some (λ i. option_and_then (λ x. option_map (repeated i x) (post_statement text h post)) (test text h test1)) (init_statement text s init) k is in
-      let q = and_then_some (λ x. option_map (repeated r.0 x) (post_statement text h post)) (test text h test1) k r.2 in
-      let o = map_some (repeated r.0 q.0) (post_statement text h post) k q.2 in
-      ap (λ (x : Head). breaks (looped_by x y)) (sym o.2) ∙ headed_breaks r.0 (for_stmt (declared_in r.0) q.0 o.0 y) (init_still s init r.0 r.1)
+      let r = and_then_some (λ i. option_and_then (λ x. option_map (for_clause i x) (post_statement text h post)) (test text h test1)) (init_statement text s init) k is in
+      let q = and_then_some (λ x. option_map (for_clause r.0 x) (post_statement text h post)) (test text h test1) k r.2 in
+      let o = map_some (for_clause r.0 q.0) (post_statement text h post) k q.2 in
+      ap (λ (x : Head). breaks (for_of x y)) (sym o.2) ∙ headed_breaks r.0 (for_stmt (declared_in r.0) q.0 o.0 y) (init_still s init r.0 r.1)
   loop_still s (ranging t at e) k y is =
-      let n = number_type (over text s e) in
-      let r = and_then_some (λ x. option_map (counted x) (option_and_then key_of (target_lefts text (opened s) n t))) (over text s e) k is in
-      let q = map_some (counted r.0) (option_and_then key_of (target_lefts text (opened s) n t)) k r.2 in
-      ap (λ (x : Head). breaks (looped_by x y)) (sym q.2)
+      let n = number_type (operand_in (gives text s e)) in
+      let r = and_then_some (λ x. option_map (range_clause x) (option_and_then key_of (target_lefts text (opened s) n t))) (over text s e) k is in
+      let q = map_some (range_clause r.0) (option_and_then key_of (target_lefts text (opened s) n t)) k r.2 in
+      ap (λ (x : Head). breaks (for_of x y)) (sym q.2)
 
   -- an endless loop that nothing leaves
-  loop_ends : (s : Scope) (c : Clause) (k : Head) (y : Sts) → clause_head text s c ≡ Some k → is_endless c ≡ true → breaks_all y ≡ false → ends (looped_by k y) ≡ true
-  loop_ends s forever k y is endless still = ap (λ (x : Head). ends (looped_by x y)) (sym (same_some is)) ∙ ap not still
+  loop_ends : (s : Scope) (c : Clause) (k : Head) (y : Sts) → clause_head text s c ≡ Some k → is_endless c ≡ true → breaks_all y ≡ false → ends (for_of k y) ≡ true
+  loop_ends s forever k y is endless still = ap (λ (x : Head). ends (for_of x y)) (sym (same_some is)) ∙ ap not still
   loop_ends s (while_true e) k y is endless still = cc endless
   loop_ends s (ranging t at e) k y is endless still = cc endless
   loop_ends s (counting init (Some e) post) k y is endless still = cc endless
   loop_ends s (counting init None post) k y is endless still =
       let h = header text s init in
-      let r = and_then_some (λ i. option_and_then (λ x. option_map (repeated i x) (post_statement text h post)) (Some None)) (init_statement text s init) k is in
-      let o = map_some (repeated r.0 None) (post_statement text h post) k r.2 in
-      ap (λ (x : Head). ends (looped_by x y)) (sym o.2) ∙ (headed_ends r.0 (for_stmt (declared_in r.0) None o.0 y) ∙ ap not still)
+      let r = and_then_some (λ i. option_and_then (λ x. option_map (for_clause i x) (post_statement text h post)) (Some None)) (init_statement text s init) k is in
+      let o = map_some (for_clause r.0 None) (post_statement text h post) k r.2 in
+      ap (λ (x : Head). ends (for_of x y)) (sym o.2) ∙ (headed_ends r.0 (for_stmt (declared_in r.0) None o.0 y) ∙ ap not still)
 
   spec_still : (s : Scope) (v : ValueSpec) (t : St) → spec_statement text s v ≡ Some t → IsStill t
   spec_still s v t is =

@@ -15,7 +15,7 @@ use Rattle.base.specs.declared.value_type.ValueType.{ValueType}
 use Rattle.base.specs.declared.value_type.ValueType.TheVariants.{Int}
 use Rattle.base.specs.Types.{same_type}
 use Rattle.type_faults.specs.Faults.{fault, IsFault, FormFails}
-use Rattle.operators.specs.Operands.{Operand, type_of}
+use Rattle.operators.specs.Operands.{Operand, is_assignable}
 use Rattle.names.specs.Universe.{is_blank}
 use Rattle.names.specs.Scope.{Scope, opened, closed}
 use Rattle.names.specs.Naming.{name_in}
@@ -32,7 +32,7 @@ use Rattle.types_go.specs.Statements.{number_type, header, over, all_blank, clau
 -- `range` goes over an int: any other value is reported at the word of the statement
 abbrev pub over_fault : Pos → Pos → Option Operand → Option Fault
 over_fault pos value_pos None = None
-over_fault pos value_pos (Some x) = if same_type Int (type_of x) then range_fault value_pos (Some x) else Some (fault Unfit pos)
+over_fault pos value_pos (Some x) = if is_assignable Int x then range_fault value_pos (Some x) else Some (fault Unfit pos)
 
 -- a left side of another type than that of the numbers
 abbrev pub given_fault : Option ValueType → Option ValueType → Pos → Option Fault
@@ -45,10 +45,10 @@ key_count (l ∷ blank ∷ []) = 1
 key_count ls = length ls
 
 -- more than one left side
-abbrev pub keys_fault : Pos → Option Ex → Option ℕ → Option Fault
+abbrev pub keys_fault : Pos → Option ValueType → Option ℕ → Option Fault
 keys_fault pos None n = None
-keys_fault pos (Some x) None = None
-keys_fault pos (Some x) (Some n) = fault_where (not (nat_le n 1)) (fault WrongCount pos)
+keys_fault pos (Some t) None = None
+keys_fault pos (Some t) (Some n) = fault_where (not (nat_le n 1)) (fault WrongCount pos)
 
 module _ (text : List ℕ) where
   -- ---- headers of `if` and `for`, whose word stands at a place
@@ -90,7 +90,8 @@ module _ (text : List ℕ) where
 
   abbrev pub FailsInRange : Scope → Pos → Targets → TreeEx → Fault → Type 0
   FailsInRange s pos t e f =
-      (FailsInOver s pos e f ⊎ TargetsFail (opened s) (number_type (over text s e)) t f) ⊎ IsFault (keys_fault pos (over text s e) (target_count (opened s) t)) f
+      (FailsInOver s pos e f ⊎ TargetsFail (opened s) (number_type (operand_in (gives text s e))) t f)
+      ⊎ IsFault (keys_fault pos (number_type (operand_in (gives text s e))) (target_count (opened s) t)) f
 
   abbrev pub FailsInClause : Scope → Pos → Clause → Fault → Type 0
   FailsInClause s pos forever f = ⊥

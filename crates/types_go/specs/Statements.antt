@@ -1,6 +1,6 @@
 -- The typed statements that the rules of the language give a tree (Go specification, "If statements", "For statements", "Break statements",
 -- "Continue statements", "Return statements").
-use Rattle.std.specs.Prelude.{ℕ, Bool, true, not, ◌&&◌, List, [], ◌∷◌, map, Option, Some, None, option_and_then}
+use Rattle.std.specs.Prelude.{ℕ, Bool, true, not, ◌&&◌, List, [], ◌∷◌, map, Option, Some, None, option_and_then, if◌then◌else◌}
 use Rattle.std.specs.Option.{option_map}
 use Rattle.syntax.specs.declared.expression.Name.{Name}
 use Rattle.syntax.specs.Expressions.{Ex as TreeEx, spelled}
@@ -11,7 +11,7 @@ use Rattle.base.specs.declared.value_type.ValueType.{ValueType}
 use Rattle.base.specs.declared.value_type.ValueType.TheVariants.{Int}
 use Rattle.type_faults.specs.Given.{allowed}
 use Rattle.base.specs.Types.{same_type}
-use Rattle.operators.specs.Operands.{Operand, type_of, as_value}
+use Rattle.operators.specs.Operands.{Operand, is_assignable, as_value}
 use Rattle.names.specs.Universe.{is_blank}
 use Rattle.names.specs.Scope.{Scope, opened, closed}
 use Rattle.expression_types.specs.Typing.{accepts, operand_in, gives, seen, condition, test}
@@ -51,24 +51,24 @@ chosen h a b = headed h.init (if_stmt h.condition a b)
 
 -- the header of a loop, or of one over an int with what gets the number
 pub data Head : Type 0 where
-  repeated : Option St → Option Ex → Sts → Head
-  counted : Ex → Left → Head
+  for_clause : Option St → Option Ex → Sts → Head
+  range_clause : Ex → Left → Head
 
-abbrev pub looped_by : Head → Sts → St
-looped_by (repeated init test1 post) body = headed init (for_stmt (declared_in init) test1 post body)
-looped_by (counted e key) body = range (over_int e) key blank body
+abbrev pub for_of : Head → Sts → St
+for_of (for_clause init test1 post) body = headed init (for_stmt (declared_in init) test1 post body)
+for_of (range_clause e key) body = range (over_int e) key blank body
 
 abbrev pub choice_of : Option Choice → Option Sts → Option Sts → Option St
 choice_of h a b = option_and_then (λ c. option_and_then (λ y. option_map (chosen c y) b) a) h
 
 abbrev pub loop_of : Option Head → Option Sts → Option St
-loop_of h body = option_and_then (λ c. option_map (looped_by c) body) h
+loop_of h body = option_and_then (λ c. option_map (for_of c) body) h
 
 abbrev pub choice_head : Option (Option St) → Option Ex → Option Choice
 choice_head i c = option_and_then (λ h. option_map (λ x. record { init = h; condition = x }) c) i
 
 abbrev pub loop_head : Option (Option St) → Option (Option Ex) → Option Sts → Option Head
-loop_head i c post = option_and_then (λ h. option_and_then (λ x. option_map (repeated h x) post) c) i
+loop_head i c post = option_and_then (λ h. option_and_then (λ x. option_map (for_clause h x) post) c) i
 
 -- what gets the number of a `range`: one left side at most, and a blank one after it is as if absent
 abbrev pub key_of : List Left → Option Left
@@ -78,16 +78,16 @@ key_of (l ∷ blank ∷ []) = Some l
 key_of (l ∷ k ∷ ls) = None
 
 abbrev pub range_head : Option Ex → Option (List Left) → Option Head
-range_head e ls = option_and_then (λ x. option_map (counted x) (option_and_then key_of ls)) e
+range_head e ls = option_and_then (λ x. option_map (range_clause x) (option_and_then key_of ls)) e
 
 -- an int that a `range` goes over
 abbrev pub as_int : Operand → Option Ex
-as_int x = allowed (same_type Int (type_of x)) (as_value x)
+as_int x = allowed (is_assignable Int x) (as_value x)
 
--- the type of the numbers
-abbrev pub number_type : Option Ex → Option ValueType
+-- the type of the numbers: of an int, whatever its value
+abbrev pub number_type : Option Operand → Option ValueType
 number_type None = None
-number_type (Some x) = Some Int
+number_type (Some x) = if is_assignable Int x then Some Int else None
 
 -- whether left sides that ask for these types may get a value of one, where that is known
 abbrev pub all_accept : Option ValueType → List (Option ValueType) → Bool
@@ -165,13 +165,13 @@ module _ (text : List ℕ) where
   clause_scope s forever = opened s
   clause_scope s (while_true e) = opened s
   clause_scope s (counting init test1 post) = behind_post (header s init) post
-  clause_scope s (ranging t pos e) = behind_entries text (opened s) (target_slots (number_type (over s e)) t)
+  clause_scope s (ranging t pos e) = behind_entries text (opened s) (target_slots (number_type (operand_in (gives text s e))) t)
 
   abbrev pub clause_head : Scope → Clause → Option Head
-  clause_head s forever = Some (repeated None None done)
+  clause_head s forever = Some (for_clause None None done)
   clause_head s (while_true e) = loop_head (Some None) (option_map Some (condition text (opened s) e)) (Some done)
   clause_head s (counting init test1 post) = loop_head (init_statement s init) (test text (header s init) test1) (post_statement (header s init) post)
-  clause_head s (ranging t pos e) = range_head (over s e) (target_lefts (opened s) (number_type (over s e)) t)
+  clause_head s (ranging t pos e) = range_head (over s e) (target_lefts (opened s) (number_type (operand_in (gives text s e))) t)
 
   -- ---- the scope after a statement
 

@@ -11,7 +11,7 @@ ghost use Rattle.type_faults.specs.Faults.{fault as fault_at, IsFault};
 ghost use Rattle.type_faults.specs.declared.fault.FaultKind.TheVariants.{BreakOutside as Outside};
 ghost use Rattle.names.specs.Scope.{scope_of, opened, closed};
 ghost use Rattle.simple_statements.specs.SimpleStatements.{returns_view, before};
-ghost use Rattle.types_go.specs.Statements.{alone, headed, new_in, declared_in, chosen, looped_by, choice_of, loop_of, statement, alternative, statements, behind, behind_else, behind_all};
+ghost use Rattle.types_go.specs.Statements.{alone, headed, new_in, declared_in, chosen, for_of, choice_of, loop_of, statement, alternative, statements, behind, behind_else, behind_all};
 ghost use Rattle.signatures.specs.Failing.{fault_where};
 ghost use Rattle.types_go.specs.StatementFaults.{FailsInStatement, FailsInElse, FailsInStatements};
 ghost use Rattle.types_go.specs.StatementPassing.{choice_view, head_view, with_more};
@@ -111,11 +111,11 @@ fn chosen(
 
 /// A loop of its header and its body.
 #[tactic(auto, using(typed::proofs::Rows::stmt_rows))]
-fn looped_by(alloc: Global, head: Head, body: Vec<typed::Stmt>) -> Result<typed::Stmt, NoMemory>
-    ensures { IfOk result (λ s. st_of s ≡ looped_by (head_view head) (sts_of body.items)) }
+fn for_of(alloc: Global, head: Head, body: Vec<typed::Stmt>) -> Result<typed::Stmt, NoMemory>
+    ensures { IfOk result (λ s. st_of s ≡ for_of (head_view head) (sts_of body.items)) }
 {
     match head {
-        Head::Repeated(init, test, post) => {
+        Head::ForClause(init, test, post) => {
             let Ok(sites) = declared_in(alloc, &init) else {
                 drop(init);
                 drop(test);
@@ -123,7 +123,7 @@ fn looped_by(alloc: Global, head: Head, body: Vec<typed::Stmt>) -> Result<typed:
             };
             headed(alloc, init, typed::Stmt::For(sites, test, post, body))
         }
-        Head::Counted(e, key) => Ok(typed::Stmt::Count(e, key, body)),
+        Head::RangeClause(e, key) => Ok(typed::Stmt::Count(e, key, body)),
     }
 }
 
@@ -154,7 +154,7 @@ fn loop_of(
     ensures { IfOk result (λ r. option_map st_of r ≡ loop_of (option_map head_view head) (option_map (λ v. sts_of v.items) body)) }
 {
     match (head, body) {
-        (Some(head), Some(body)) => Ok(Some(looped_by(alloc, head, body)?)),
+        (Some(head), Some(body)) => Ok(Some(for_of(alloc, head, body)?)),
         (head, body) => {
             drop(head);
             drop(body);
@@ -175,7 +175,7 @@ fn choice(alloc: Global, head: Guarded, body: Lines, rest: Lines) -> Result<Line
 }
 
 /// A loop of what its parts are.
-fn repeated(alloc: Global, head: Headed, body: Lines) -> Result<Lines, NoMemory>
+fn for_clause(alloc: Global, head: Headed, body: Lines) -> Result<Lines, NoMemory>
     ensures statements { IfOk result (λ c. option_map (λ v. sts_of v.items) c.statements ≡ option_map alone (loop_of (option_map head_view head.head) (option_map (λ v. sts_of v.items) body.statements))) }
     ensures fault { IfOk result (λ c. c.fault ≡ lesser head.fault body.fault) }
 {
@@ -278,7 +278,7 @@ fn check_stmt(
             let head = check_clause(alloc, text, scope, *pos, clause)?;
             let body = check_inner(alloc, text, returns, true, scope, body)?;
             scope.close();
-            repeated(alloc, head, body)
+            for_clause(alloc, head, body)
         }
         Stmt::Return(pos, es) => {
             let given = check_return(alloc, text, returns, scope, *pos, es)?;

@@ -20,7 +20,6 @@ ghost use Rattle.signatures.specs.Failing.{fault_where};
 ghost use Rattle.simple_statements.specs.SimpleStatements.{returns_view};
 ghost use Rattle.signatures.specs.Signatures.{is_named};
 ghost use Rattle.types_go.specs.Functions.{returns_of, may_end, parts, function_with, function, functions_of, type_or_int, int_in, truth_in, first_value, behind_variable, initial, globals_of, functions, globals, behind_body, behind_function, behind_members};
-ghost use Rattle.function_heads.specs.HeadFaults.{FailsInHead, external_fault};
 ghost use Rattle.types_go.specs.FunctionFaults.{FailsInParts, FailsWith, FailsInFunction, FailsInFunctions};
 
 use crate::blocks::check_stmts;
@@ -28,7 +27,7 @@ use crate::members::Member;
 use base::{NoMemory, ValueType};
 use constants::{Constant, Fixed, constant_type, int_constant};
 use expression_types::check_expr;
-use function_heads::{assemble, check_head, check_types, external_fault};
+use function_heads::{assemble, check_head, check_types, missing_body_fault};
 use names::{Scope, ValueId, is_blank, spelled};
 use package_values::{Item, constant_in};
 use signatures::{
@@ -154,16 +153,25 @@ fn check_with_body(
 }
 
 /// A function without a body, by its number.
-fn check_external(text: &[u8], scope: &Scope, number: usize, f: &Func) -> Function
-    ensures func { (all : List TypeTree) → option_map (func_of all) result.func ≡ None }
-    ensures pos { (p : Place) → IsAt p result.func }
-    ensures fault { IsLeast (λ g. FailsInHead text.now (scope_of scope.now) number (function_of f.now) g ⊎ (g ≡ external_fault (function_of f.now))) result.fault }
+fn check_external(
+    alloc: Global,
+    text: &[u8],
+    heads: &Scope,
+    scope: &Scope,
+    number: usize,
+    f: &Func,
+) -> Result<Function, NoMemory>
+    ensures func { IfOk result (λ r. (all : List TypeTree) → option_map (func_of all) r.func ≡ None) }
+    ensures pos { IfOk result (λ r. (p : Place) → IsAt p r.func) }
+    ensures fault { IfOk result (λ r. IsLeast (FailsWith text.now (scope_of heads.now) (scope_of scope.now) number (function_of f.now) None) r.fault) }
 {
     let head = check_head(text, scope, number, f);
-    Function {
+    let types = check_types(alloc, text, heads, f)?;
+    let own = missing_body_fault(alloc, text, heads, f)?;
+    Ok(Function {
         func: None,
-        fault: lesser(head.fault, Some(external_fault(f))),
-    }
+        fault: lesser(lesser(head.fault, types.fault), own),
+    })
 }
 
 /// A function, by its number.
@@ -183,7 +191,7 @@ fn check_function(
 {
     match &f.body {
         Some(body) => check_with_body(alloc, text, heads, scope, number, f, body),
-        None => Ok(check_external(text, scope, number, f)),
+        None => check_external(alloc, text, heads, scope, number, f),
     }
 }
 

@@ -12,7 +12,7 @@ ghost use Rattle.type_faults.specs.Faults.{fault as fault_at, IsFault};
 ghost use Rattle.operators.specs.Passing.{operand_of};
 ghost use Rattle.names.specs.Universe.{is_blank};
 ghost use Rattle.names.specs.Scope.{scope_of, opened};
-ghost use Rattle.expression_types.specs.Typing.{test, condition_in};
+ghost use Rattle.expression_types.specs.Typing.{test, condition_in, operand_in, gives};
 ghost use Rattle.expression_types.specs.Faults.{range_fault, FailsInTest};
 ghost use Rattle.signatures.specs.Entries.{slot_with, behind_entries};
 ghost use Rattle.simple_statements.specs.SimpleStatements.{all_wanted, wanted};
@@ -20,10 +20,10 @@ ghost use Rattle.types_go.specs.Statements.{alone, key_of, range_head, as_int, n
 ghost use Rattle.types_go.specs.StatementFaults.{over_fault, given_fault, keys_fault, key_count, name_count, target_count, FailsInInit, PostFails, FailsInPost, FailsInOver, GivenFail, TargetsFail, FailsInRange, FailsInClause, FailsInGuard};
 ghost use Rattle.types_go.specs.StatementPassing.{choice_view, head_view};
 
-use base::{NoMemory, Pos, ValueType, same_type};
+use base::{NoMemory, Pos, ValueType};
 use expression_types::{Condition, Test, accepts, check_condition, check_single, check_test};
 use names::{Scope, is_blank, name_in, spelled};
-use operators::{Operand, as_value, constant_range_fault, type_of};
+use operators::{Operand, as_value, constant_range_fault, is_assignable};
 use signatures::{Role, check_entries, entry_lefts, fault_where, slots_with};
 use simple_statements::{Line, all_wanted, check_lefts, check_simple, left_out, names_pos, wanted};
 use std::alloc::Global;
@@ -42,9 +42,9 @@ pub struct Choice {
 #[derive(Drop)]
 pub enum Head {
     /// The init statement, where there is one, the condition, where there is one, and the post statement.
-    Repeated(Option<typed::Stmt>, Option<typed::Expr>, Vec<typed::Stmt>),
-    /// The int that is counted up to, and what gets the number.
-    Counted(typed::Expr, Left),
+    ForClause(Option<typed::Stmt>, Option<typed::Expr>, Vec<typed::Stmt>),
+    /// The int that is range_clause up to, and what gets the number.
+    RangeClause(typed::Expr, Left),
 }
 
 /// What is known of the header of an `if`.
@@ -75,9 +75,10 @@ struct Post {
     fault: Option<Fault>,
 }
 
-/// What is known of an int that a `range` goes over.
+/// What is known of an int that a `range` goes over: the type of the numbers, its value, and the fault.
 #[derive(Drop)]
 struct Over {
+    numbers: Option<ValueType>,
     value: Option<typed::Expr>,
     fault: Option<Fault>,
 }
@@ -221,7 +222,7 @@ fn loop_head(
     ensures { option_map head_view result ≡ loop_head (option_map (option_map st_of) init) (option_map test_of test) (option_map (λ v. sts_of v.items) post) }
 {
     match (init, test, post) {
-        (Some(init), Some(test), Some(post)) => Some(Head::Repeated(init, test, post)),
+        (Some(init), Some(test), Some(post)) => Some(Head::ForClause(init, test, post)),
         (init, test, post) => {
             drop(init);
             drop(test);
@@ -265,7 +266,7 @@ fn check_counting(
 fn as_int(operand: Operand) -> Option<typed::Expr>
     ensures { option_map ex_of result ≡ as_int (operand_of operand) }
 {
-    if same_type(ValueType::Int, type_of(&operand)) {
+    if is_assignable(ValueType::Int, &operand) {
         as_value(operand)
     } else {
         drop(operand);
@@ -282,13 +283,17 @@ fn int_of(operand: Option<Operand>) -> Option<typed::Expr>
     }
 }
 
-/// The fault of a constant that no int can hold.
+/// The fault of what is no value by itself: a constant that no int can hold, or `nil`.
 fn range_fault(operand: &Operand, pos: Pos) -> Option<Fault>
     ensures { result ≡ range_fault pos (Some (operand_of operand.now)) }
 {
     match operand {
         Operand::Constant(fixed) => constant_range_fault(pos, fixed.value),
         Operand::Value(_, _) => None,
+        Operand::Nil => Some(Fault {
+            kind: FaultKind::Unfit,
+            pos,
+        }),
     }
 }
 
@@ -298,7 +303,7 @@ fn over_fault(pos: Pos, value_pos: Pos, operand: &Option<Operand>) -> Option<Fau
 {
     match operand {
         Some(operand) => {
-            if same_type(ValueType::Int, type_of(operand)) {
+            if is_assignable(ValueType::Int, operand) {
                 range_fault(operand, value_pos)
             } else {
                 Some(Fault {
@@ -319,24 +324,26 @@ fn check_over(
     pos: Pos,
     e: &Expr,
 ) -> Result<Over, NoMemory>
+    ensures numbers { IfOk result (λ o. o.numbers ≡ number_type (operand_in (gives text.now (scope_of scope.now) (tree_of e.now)))) }
     ensures value { IfOk result (λ o. option_map ex_of o.value ≡ over text.now (scope_of scope.now) (tree_of e.now)) }
     ensures fault { IfOk result (λ o. IsLeast (FailsInOver text.now (scope_of scope.now) pos (tree_of e.now)) o.fault) }
 {
     let found = check_single(alloc, text, scope, e)?;
     let own = over_fault(pos, found.pos, &found.operand);
     Ok(Over {
+        numbers: number_type(&found.operand),
         value: int_of(found.operand),
         fault: lesser(found.fault, own),
     })
 }
 
-/// The type of the numbers.
-fn number_type(over: &Option<typed::Expr>) -> Option<ValueType>
-    ensures { result ≡ number_type (option_map ex_of over.now) }
+/// The type of the numbers: of an int, whatever its value.
+fn number_type(operand: &Option<Operand>) -> Option<ValueType>
+    ensures { result ≡ number_type (option_map operand_of operand.now) }
 {
-    match over {
-        Some(_) => Some(ValueType::Int),
-        None => None,
+    match operand {
+        Some(operand) if is_assignable(ValueType::Int, operand) => Some(ValueType::Int),
+        _ => None,
     }
 }
 
@@ -514,14 +521,14 @@ fn check_targets(
 }
 
 /// The fault of more than one left side.
-fn keys_fault(pos: Pos, over: &Option<typed::Expr>, count: Option<usize>) -> Option<Fault>
-    ensures { result ≡ keys_fault pos (option_map ex_of over.now) count }
+fn keys_fault(pos: Pos, numbers: Option<ValueType>, count: Option<usize>) -> Option<Fault>
+    ensures { result ≡ keys_fault pos numbers count }
 {
     let own = Fault {
         kind: FaultKind::WrongCount,
         pos,
     };
-    match (over, count) {
+    match (numbers, count) {
         (Some(_), Some(count)) => fault_where(!(count <= 1), own),
         _ => None,
     }
@@ -553,7 +560,7 @@ fn range_head(over: Option<typed::Expr>, lefts: Option<Vec<Left>>) -> Option<Hea
     ensures { option_map head_view result ≡ range_head (option_map ex_of over) (option_map (λ v. map left_view v.items) lefts) }
 {
     match (over, key_in(lefts)) {
-        (Some(over), Some(key)) => Some(Head::Counted(over, key)),
+        (Some(over), Some(key)) => Some(Head::RangeClause(over, key)),
         (over, key) => {
             drop(over);
             drop(key);
@@ -571,15 +578,14 @@ fn check_range(
     targets: &Targets,
     e: &Expr,
 ) -> Result<Headed, NoMemory>
-    ensures head { IfOk result (λ h. option_map head_view h.head ≡ range_head (over text.now (scope_of scope.old) (tree_of e.now)) (target_lefts text.now (opened (scope_of scope.old)) (number_type (over text.now (scope_of scope.old) (tree_of e.now))) (targets_of targets.now))) }
+    ensures head { IfOk result (λ h. option_map head_view h.head ≡ range_head (over text.now (scope_of scope.old) (tree_of e.now)) (target_lefts text.now (opened (scope_of scope.old)) (number_type (operand_in (gives text.now (scope_of scope.old) (tree_of e.now)))) (targets_of targets.now))) }
     ensures fault { IfOk result (λ h. IsLeast (FailsInRange text.now (scope_of scope.old) pos (targets_of targets.now) (tree_of e.now)) h.fault) }
-    ensures scope { OnOk result (scope_of scope.new ≡ behind_entries text.now (opened (scope_of scope.old)) (target_slots (number_type (over text.now (scope_of scope.old) (tree_of e.now))) (targets_of targets.now))) }
+    ensures scope { OnOk result (scope_of scope.new ≡ behind_entries text.now (opened (scope_of scope.old)) (target_slots (number_type (operand_in (gives text.now (scope_of scope.old) (tree_of e.now)))) (targets_of targets.now))) }
 {
     let over = check_over(alloc, text, scope, pos, e)?;
     scope.open()?;
-    let given = number_type(&over.value);
-    let keys = check_targets(alloc, text, scope, given, targets)?;
-    let own = keys_fault(pos, &over.value, keys.count);
+    let keys = check_targets(alloc, text, scope, over.numbers, targets)?;
+    let own = keys_fault(pos, over.numbers, keys.count);
     Ok(Headed {
         head: range_head(over.value, keys.lefts),
         fault: lesser(lesser(over.fault, keys.fault), own),
@@ -622,7 +628,7 @@ pub fn check_clause(
         Clause::Forever => {
             scope.open()?;
             Ok(Headed {
-                head: Some(Head::Repeated(None, None, Vec::new(alloc))),
+                head: Some(Head::ForClause(None, None, Vec::new(alloc))),
                 fault: None,
             })
         }

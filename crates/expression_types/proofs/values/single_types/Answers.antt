@@ -1,4 +1,5 @@
 use Rattle.std.proofs.Common.{◌≡◌, [], ◌∷◌, ◌+◌, List, Option, drop, arith, sym, ap, ◌∙◌}
+use Rattle.std.specs.Prelude.{option_and_then}
 use Rattle.std.specs.Option.{option_map}
 use Rattle.base.specs.declared.value_type.ValueType.{ValueType}
 use Rattle.operators.specs.Operands.{type_of}
@@ -22,7 +23,7 @@ loop-item-preserved c =
     let rest = single_types (seens (drop (k + 1) xs)) in
     let x = operand_in (option_map gives_of item.gives) in
     let kept : single_types (seens xs) ≡ joined before (single_types (seens (item ∷ drop (k + 1) xs))) = c.loop-item.invariant ∙ ap (λ (l : List Item). joined before (single_types (seens l))) here in
-    kept ∙ joined_more before (option_map type_of x) rest ∙ ap (λ o. joined o rest) (sym (c.in_ok-types.ensures ∙ ap (with_last before) c.one_type.ensures))
+    kept ∙ joined_more before (option_and_then type_of x) rest ∙ ap (λ o. joined o rest) (sym (c.in_ok-types.ensures ∙ ap (with_last before) c.one_type.ensures))
 
 pub returns : goal.returns
 returns c =

@@ -1,6 +1,6 @@
-use Rattle.std.proofs.Common.{◌≡◌, ◌⊎◌, Bool, true, false, List, Option, ap, ◌∙◌, sym, subst}
+use Rattle.std.proofs.Common.{◌≡◌, Bool, false, List, Option, ap, ◌∙◌, sym, subst}
 use Rattle.syntax.specs.declared.expression.Expr.{Expr}
-use Rattle.syntax.specs.Expressions.{exs_of, ex_in}
+use Rattle.syntax.specs.Expressions.{exs_of}
 use Rattle.syntax.specs.Statements.{value_spec_of}
 use Rattle.type_faults.specs.declared.fault.FaultKind.TheVariants.{WrongCount}
 use Rattle.base.specs.declared.value_type.ValueType.{ValueType}

@@ -1,6 +1,6 @@
 use Rattle.std.proofs.Common.{◌≡◌, ◌⊎◌, List, ap, ◌∙◌, subst}
 use Rattle.syntax.specs.declared.expression.Expr.{Expr}
-use Rattle.syntax.specs.Expressions.{exs_of, ex_in}
+use Rattle.syntax.specs.Expressions.{exs_of}
 use Rattle.syntax.specs.Statements.{value_spec_of}
 use Rattle.type_faults.specs.Least.{IsLeast}
 use Rattle.type_faults.proofs.Leasts.{least_join}

@@ -4,7 +4,8 @@ use Rattle.names.specs.Scope.{scope_of}
 use Rattle.type_faults.proofs.Lists.{from_one, nothing_left}
 use Rattle.package_values.specs.declared.items.Item.{Item as ItemData}
 use Rattle.package_values.specs.Needs.{needed}
-use Rattle.package_values.specs.Passing.{item_of, item_views, table_of}
+use Rattle.components.specs.Graph.{rows}
+use Rattle.package_values.specs.Passing.{item_of, item_views}
 use Rattle.package_values.proofs.ItemLists.{pushed_map}
 use Rattle.package_values.proofs.needs.needs.Goals as goal
 
@@ -20,7 +21,7 @@ loop-index-preserved c =
     let here : drop k xs ≡ x ∷ drop (k + 1) xs = from_one xs k x c.loop-index-test.true c.index-items-index.is in
     rw (c.in_ok-push.ensures.items)
     (pushed_map (λ (r : Vec ℕ). r.items) so_far c.in_ok-needed.field-0 (needed text s (item_of x)) _ rest c.in_ok-needed.ensures
-    (c.loop-index.invariant ∙ ap (λ (l : List ItemData). table_of so_far ++ map (needed text s) (item_views l)) here))
+    (c.loop-index.invariant ∙ ap (λ (l : List ItemData). rows so_far ++ map (needed text s) (item_views l)) here))
 
 pub returns : goal.returns
 returns c =
@@ -28,6 +29,6 @@ returns c =
     let s = scope_of c.args.scope.now in
     let xs = c.args.items.now in
     let k = c.loop-index.index in
-    let so_far = table_of c.loop-index.table.items in
+    let so_far = rows c.loop-index.table.items in
     let none : drop k xs ≡ [] = nothing_left xs k (λ l. absurd (omega (arith, l, c.loop-index-test.false))) in
     sym (c.loop-index.invariant ∙ ap (λ (l : List ItemData). so_far ++ map (needed text s) (item_views l)) none ∙ append-nil so_far)

@@ -194,7 +194,7 @@ check_stmt-returns-in_ok-body-in-For-clause-fault t c =
     let whole : IsLeast (FailsInStatement text rets looped s (stm_of c.args.s.now)) (lesser head.fault body.fault) =
     subst (λ (x : Stm). IsLeast (FailsInStatement text rets looped s x) (lesser head.fault body.fault)) (sym shape)
     (loop_least text rets looped s at clause ms head.fault body.fault c.in_ok-head-in-For.ensures.fault b) in
-    if_ok _ (λ l. IsLeast (FailsInStatement text rets looped s (stm_of c.args.s.now)) l.fault) c.repeated.result (λ l e. subst (λ f. IsLeast (FailsInStatement text rets looped s (stm_of c.args.s.now)) f) (sym e) whole) c.repeated.ensures.fault
+    if_ok _ (λ l. IsLeast (FailsInStatement text rets looped s (stm_of c.args.s.now)) l.fault) c.for_clause.result (λ l e. subst (λ f. IsLeast (FailsInStatement text rets looped s (stm_of c.args.s.now)) f) (sym e) whole) c.for_clause.ensures.fault
 
 pub check_else-returns-in-Block-clause-fault : goal.check_else-returns-in-Block-clause-fault
 check_else-returns-in-Block-clause-fault t c =

@@ -1,3 +1,4 @@
+use Rattle.type_faults.proofs.Leasts.{if_ok}
 use Rattle.types_go.proofs.functions.check_function.Goals as goal
 
 pub returns-in-Some-clause-fault : goal.returns-in-Some-clause-fault
@@ -7,4 +8,4 @@ pub returns-in-None-clause-fault : goal.returns-in-None-clause-fault
 returns-in-None-clause-fault c = rw (c.in-None.is) c.check_external.ensures.fault
 
 pub returns-in-None-clause-pos : goal.returns-in-None-clause-pos
-returns-in-None-clause-pos c = c.check_external.ensures.pos c.args.f.now.name.pos
+returns-in-None-clause-pos c = if_ok _ _ c.check_external.result (λ x h. h c.args.f.now.name.pos) c.check_external.ensures.pos

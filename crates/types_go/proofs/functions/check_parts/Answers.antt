@@ -80,9 +80,9 @@ returns-clause-func c =
     c.in_ok-params.ensures.entries ∙ ap (λ v. entries text Parameter v c.deref-2.result.now) open1 ∙ ap (λ (l : List Slot). entries text Parameter (opened s) l) ps_are in
     let rs : results ≡ result_entries text heads s g =
     c.in_ok-results.ensures.entries ∙ ap (λ v. entries text Result v c.deref-3.result.now) behind1 ∙ ap (λ (l : List Slot). entries text Result (behind_params text heads s g) l) rs_are in
-    let counted : c.deref.result.now ≡ slots_of text heads g.results = c.deref.ensures.value ∙ c.in_ok-result_slots.ensures in
+    let range_clause : c.deref.result.now ≡ slots_of text heads g.results = c.deref.ensures.value ∙ c.in_ok-result_slots.ensures in
     let given = returns_view c.in_ok-returns.returns in
-    let returns : given ≡ returns_of text heads g = returns_is text heads g given c.deref.result.now c.in_ok-returns.ensures counted in
+    let returns : given ≡ returns_of text heads g = returns_is text heads g given c.deref.result.now c.in_ok-returns.ensures range_clause in
     let typed : body ≡ body_of text heads s g b =
     c.in_ok-lines.ensures.statements ∙ ap (λ x. statements text x false (scope_of c.check_entries-2.new.scope) (stms_of c.deref-4.result.now)) returns
     ∙ ap (λ v. statements text (returns_of text heads g) false v (stms_of c.deref-4.result.now)) behind2 ∙ ap (λ (l : List Stmt). statements text (returns_of text heads g) false (body_scope text heads s g) (stms_of l)) c.deref-4.ensures.value in
@@ -112,9 +112,9 @@ returns-clause-fault c =
     c.in_ok-params.ensures.scope ∙ ap (λ v. behind_entries text v c.deref-2.result.now) open1 ∙ ap (λ (l : List Slot). behind_entries text (opened s) l) ps_are in
     let behind2 : scope_of c.check_entries-2.new.scope ≡ body_scope text heads s g =
     c.in_ok-results.ensures.scope ∙ ap (λ v. behind_entries text v c.deref-3.result.now) behind1 ∙ ap (λ (l : List Slot). behind_entries text (behind_params text heads s g) l) rs_are in
-    let counted : c.deref.result.now ≡ slots_of text heads g.results = c.deref.ensures.value ∙ c.in_ok-result_slots.ensures in
+    let range_clause : c.deref.result.now ≡ slots_of text heads g.results = c.deref.ensures.value ∙ c.in_ok-result_slots.ensures in
     let given = returns_view c.in_ok-returns.returns in
-    let returns : given ≡ returns_of text heads g = returns_is text heads g given c.deref.result.now c.in_ok-returns.ensures counted in
+    let returns : given ≡ returns_of text heads g = returns_is text heads g given c.deref.result.now c.in_ok-returns.ensures range_clause in
     let x : IsLeast (EntriesFail text Parameter (opened s) (slots_of text heads g.params)) params =
     subst (λ v. IsLeast (EntriesFail text Parameter v (slots_of text heads g.params)) params) open1 (subst (λ (l : List Slot). IsLeast (EntriesFail text Parameter (scope_of c.open.new.self) l) params) ps_are c.in_ok-params.ensures.fault) in
     let y : IsLeast (EntriesFail text Result (behind_params text heads s g) (slots_of text heads g.results)) results =

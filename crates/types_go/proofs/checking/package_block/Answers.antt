@@ -1,0 +1,24 @@
+use Rattle.std.proofs.Common.{rules, ◌≡◌, ℕ, ◌+◌, List, length, Option, None, refl, sym, ap, ◌∙◌, subst, arith}
+use Rattle.syntax.specs.Declarations.{declarations_of}
+use Rattle.names.specs.Scope.{Scope, scope_of, fixed, beginning}
+use Rattle.signatures.specs.Signatures.{with_items}
+use Rattle.package_values.specs.Values.{items_in}
+use Rattle.types_go.proofs.Package.{values_long, values_unknown}
+use Rattle.types_go.proofs.checking.package_block.Goals as goal
+
+pub settle-requires-clause-as_many : goal.settle-requires-clause-as_many
+settle-requires-clause-as_many c =
+    let text = c.args.text.now in
+    let heads = scope_of c.args.heads.now in
+    let ds = declarations_of c.args.decls.now in
+    let is : scope_of c.add_items.new.scope ≡ with_items text heads beginning ds = search rules in
+    let none : 0 + length (items_in ds) ≡ length (items_in ds) = omega arith in
+    ap (λ (r : Scope). length r.values) is ∙ (values_long text heads beginning ds ∙ none)
+
+pub settle-requires-clause-unknown : goal.settle-requires-clause-unknown
+settle-requires-clause-unknown c =
+    let text = c.args.text.now in
+    let heads = scope_of c.args.heads.now in
+    let ds = declarations_of c.args.decls.now in
+    let is : scope_of c.add_items.new.scope ≡ with_items text heads beginning ds = search rules in
+    λ k. ap (λ (r : Scope). fixed r k) is ∙ values_unknown text heads beginning ds (λ j. refl) k
