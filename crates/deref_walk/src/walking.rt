@@ -3,6 +3,7 @@
 ghost use Rattle.std.specs.Prelude.{◌≡◌, ◌<◌, pos, negsuc, ◌≤ℤ◌, List, [], ◌∷◌, length, slice_get, Some, IfOk, OnOk};
 ghost use Rattle.std.specs.List.{Contains};
 ghost use Rattle.deref_walk.specs.Flow.{farthest, number_after};
+ghost use Rattle.deref_walk.specs.Weights.{AreWeights};
 ghost use Rattle.deref_walk.specs.Found.{IsLowest, IsWalked, IsKept, IsLook};
 ghost use Rattle.deref_walk.specs.declared.found.Way.TheVariants.{Along};
 ghost use Rattle.deref_walk.specs.declared.found.Found.{Found as AnyFound};
@@ -18,17 +19,25 @@ use std::alloc::Global;
 /// What lies further away counts as lying this far away.
 const FARTHEST: i64 = 1000;
 
-/// The number after an edge from what is found at its near end.
-fn number_after(near: &Found, edge: &Edge) -> i32
+/// The number after an edge of this weight, at whose near end the number is `near`.
+pub fn number_after(near: i32, weight: i32) -> i32
+    ensures { result ≡ number_after near weight }
+{
+    let sum = i64::from(near.max(0)) + i64::from(weight);
+    sum.min(FARTHEST) as i32
+}
+
+/// The number at the far end of an edge, from what is found at its near end.
+fn far_number(near: &Found, edge: &Edge) -> i32
     ensures { result ≡ number_after near.now.number edge.now.weight }
 {
-    let sum = i64::from(near.number.max(0)) + i64::from(edge.weight);
-    sum.min(FARTHEST) as i32
+    number_after(near.number, edge.weight)
 }
 
 /// What is found at the far end of an edge, from the entry that stands at a place.
 fn far_end(found: &[Found], before: usize, edge: &Edge) -> Found
-    requires { before < length found.now }
+    requires within { before < length found.now }
+    requires weight { negsuc 0 ≤ℤ edge.now.weight }
     ensures loc { result.loc ≡ edge.now.from }
     ensures way { result.way ≡ Along before edge.now.weight }
     ensures number { (g : AnyFound) → slice_get found.now before ≡ Some g → result.number ≡ number_after g.number edge.now.weight }
@@ -37,7 +46,7 @@ fn far_end(found: &[Found], before: usize, edge: &Edge) -> Found
 {
     Found {
         loc: edge.from,
-        number: number_after(&found[before], edge),
+        number: far_number(&found[before], edge),
         way: Way::Along(before, edge.weight),
     }
 }
@@ -45,7 +54,8 @@ fn far_end(found: &[Found], before: usize, edge: &Edge) -> Found
 /// Looks at an edge to the location of an entry that has its least number: where the number at the far end falls, that is noted, and
 /// true is answered.
 fn look_from(levels: &mut Levels, edge: &Edge, before: usize) -> Result<bool, NoMemory>
-    requires { IsLowest levels.old.found.items edge.now.to (Some before) }
+    requires lowest { IsLowest levels.old.found.items edge.now.to (Some before) }
+    requires weight { negsuc 0 ≤ℤ edge.now.weight }
     ensures kept { OnOk result ((edges : List AnyEdge) → Contains edges edge.now
         → IsKept edges levels.old.found.items levels.new.found.items) }
     ensures fell { IfOk result (λ fell. (edges : List AnyEdge) → Contains edges edge.now
@@ -61,6 +71,7 @@ fn look_from(levels: &mut Levels, edge: &Edge, before: usize) -> Result<bool, No
 
 /// Looks at an edge.
 fn look(levels: &mut Levels, edge: &Edge) -> Result<bool, NoMemory>
+    requires { negsuc 0 ≤ℤ edge.now.weight }
     ensures kept { OnOk result ((edges : List AnyEdge) → Contains edges edge.now
         → IsKept edges levels.old.found.items levels.new.found.items) }
     ensures fell { IfOk result (λ fell. (edges : List AnyEdge) → Contains edges edge.now
@@ -74,6 +85,7 @@ fn look(levels: &mut Levels, edge: &Edge) -> Result<bool, NoMemory>
 
 /// Looks at all edges: whether a number fell.
 fn look_at_all(levels: &mut Levels, edges: &[Edge]) -> Result<bool, NoMemory>
+    requires { AreWeights edges.now }
     ensures kept { OnOk result (IsKept edges.now levels.old.found.items levels.new.found.items) }
     ensures fell { IfOk result (λ fell. IsLook edges.now edges.now levels.old.found.items levels.new.found.items fell) }
 {

@@ -1,5 +1,4 @@
 //! What no clause of `deref_walk` says: that memory is given where it is ample, and worked graphs.
-ghost use Rattle.std.specs.Prelude.{negsuc, ◌≤ℤ◌};
 
 use base::SiteId;
 use deref_walk::{Edge, Graph, Levels, Loc, Step, walk};
@@ -10,9 +9,7 @@ fn site(number: u32) -> Loc {
     Loc::Site(SiteId(number))
 }
 
-fn edge(to: u32, from: u32, weight: i32) -> Edge
-    requires { negsuc 0 ≤ℤ weight }
-{
+fn edge(to: u32, from: u32, weight: i32) -> Edge {
     Edge {
         to: site(to),
         from: site(from),
@@ -21,10 +18,7 @@ fn edge(to: u32, from: u32, weight: i32) -> Edge
 }
 
 fn walked(alloc: Global, edges: Vec<Edge>) -> Result<Levels, Fail> {
-    let graph = Graph {
-        locations: Vec::new(alloc),
-        edges,
-    };
+    let graph = Graph::new(Vec::new(alloc), edges).ok_or("a weight is below -1")?;
     Ok(walk(alloc, &graph, site(0))?)
 }
 
