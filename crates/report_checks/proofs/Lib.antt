@@ -1,0 +1,4 @@
+pub mod Choices
+pub mod Cutting
+pub mod Decimals
+pub mod Exact
