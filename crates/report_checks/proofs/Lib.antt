@@ -2,3 +2,5 @@ pub mod Choices
 pub mod Cutting
 pub mod Decimals
 pub mod Exact
+pub mod Judged
+pub mod Splitting

@@ -10,10 +10,19 @@
 //! means that they do by a relation on whole reports (`specs/Report`), to which the law `sound` leads.
 #![tactic(auto)]
 
+mod checking;
 mod cuts;
+mod fault;
+mod graph;
+mod judging;
 mod line;
+mod lines;
 mod numbers;
 mod reading;
+mod sites;
+mod state;
 
+pub use checking::check_report;
+pub use fault::ReportFault;
 pub use line::{Known, Line, Placed, SiteLine, StepLine, TagFlow, TagLine};
 pub use reading::read_line;
