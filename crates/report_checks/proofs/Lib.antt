@@ -3,4 +3,5 @@ pub mod Cutting
 pub mod Decimals
 pub mod Exact
 pub mod Judged
+pub mod Passed
 pub mod Splitting

@@ -1,7 +1,9 @@
--- Texts (the text of each line), Lines, Verdict (which lines pass, and the first fault) and Faults are the contract. Cuts and Reading are inside: the line of a text as a function, which is shown to be the one that Texts has.
+-- Texts (the text of each line), Lines, Verdict (which lines pass, and the first fault), Faults and Report (what a report that passes
+-- is) are the contract. Cuts and Reading are inside: the line of a text as a function, which is shown to be the one that Texts has.
 pub mod Cuts
 pub mod Reading
 pub mod Texts
 pub mod Lines
 pub mod Faults
 pub mod Verdict
+pub mod Report

@@ -15,6 +15,7 @@ mod cuts;
 mod fault;
 mod graph;
 mod judging;
+pub mod laws;
 mod line;
 mod lines;
 mod numbers;
