@@ -5,3 +5,4 @@ pub mod Exact
 pub mod Judged
 pub mod Passed
 pub mod Splitting
+pub mod Gapped

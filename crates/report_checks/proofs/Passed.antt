@@ -82,7 +82,7 @@ unfolding after_step
 step_on l s k h = ap (after_step l s) h
 
 module _ (edges : List Edge) (locations : List Location) (heap : SiteId → Bool) where
-  pub judge : State → ℕ → List (Option Line) → Option ReportFault
+  judge : State → ℕ → List (Option Line) → Option ReportFault
   judge state n read = first_fault edges locations heap state n read
 
   -- steps that lead to the address of a site, and what comes behind them
@@ -169,7 +169,7 @@ module _ (edges : List Edge) (locations : List Location) (heap : SiteId → Bool
   mutual
     unfolding judge first_fault fault_of state_after next_of
 
-    pub sites_are : (last : Option SiteId) (n : ℕ) (read : List (Option Line)) → judge (states.Sites last) n read ≡ None → IsReport edges locations heap last read
+    sites_are : (last : Option SiteId) (n : ℕ) (read : List (Option Line)) → judge (states.Sites last) n read ≡ None → IsReport edges locations heap last read
     sites_are last n [] h = ended no_tags
     sites_are last n (None ∷ read) h = absurd (cc)
     sites_are last n (Some (lines.Site s) ∷ read) h =
@@ -188,6 +188,11 @@ module _ (edges : List Edge) (locations : List Location) (heap : SiteId → Bool
         let k = next_of read in
         let a = neither (step_fault edges path n s k) (judge (after_step path.site s k) (n + 1) read) h in
         step_is path n s read k a.0 a.1 (λ step. path_is (record { site = path.site; at = s.from; sum = s.sum }) (n + 1) read (ap is_something step)) (sites_are (Some path.site) (n + 1) read)
+
+-- lines without a fault
+pub lines_are : (edges : List Edge) (locations : List Location) (heap : SiteId → Bool) (read : List (Option Line)) → first_fault edges locations heap (states.Sites None) 1 read ≡ None → IsReport edges locations heap None read
+unfolding judge
+lines_are edges locations heap read h = sites_are edges locations heap None 1 read h
 
 -- ---- one line for each site
 
@@ -263,14 +268,14 @@ not_counted : (b : Bool) → b ≡ false → one_if b ≡ 0
 unfolding one_if
 not_counted b h = ap one_if h
 
-lines_for : SiteId → List (Option Line) → ℕ
+pub lines_for : SiteId → List (Option Line) → ℕ
 lines_for l read = count_by (is_line_of l) read
 
 one_line : (l : SiteId) (o : Option Line) (read : List (Option Line)) → lines_for l (o ∷ read) ≡ one_if (is_line_of l o) + lines_for l read
 unfolding lines_for one_if
 one_line l o read = sum_by-cons (λ (x : Option Line). cond (is_line_of l x) 1 0) o read
 
-has_some : (l : SiteId) (read : List (Option Line)) → has_line read l ≡ true → 1 ≤ lines_for l read
+pub has_some : (l : SiteId) (read : List (Option Line)) → has_line read l ≡ true → 1 ≤ lines_for l read
 has_some l [] h = absurd (let e : false ≡ true = h in cc)
 has_some l (o ∷ read) h = elim (or_cases (is_line_of l o) (has_line read l) h) [
   | inl here ↦ (let e = one_line l o read in let f = counted (is_line_of l o) here in omega arith)
@@ -304,7 +309,7 @@ module _ (edges : List Edge) (locations : List Location) (heap : SiteId → Bool
   ]
 
   -- lines after a site are not those of it or of lesser ones
-  later : {last : Option SiteId} {read : List (Option Line)} → IsReport edges locations heap last read → is_above last l ≡ false → lines_for l read ≡ 0
+  pub later : {last : Option SiteId} {read : List (Option Line)} → IsReport edges locations heap last read → is_above last l ≡ false → lines_for l read ≡ 0
   later (ended tags) h = in_tags tags
   later (stays {last = last} {read = read} s next placed report) h = later_one last s read next.above h (later report)
   later (known {last = last} {read = read} s why next placed report) h = later_one last s read next.above h (later report)
@@ -317,10 +322,10 @@ module _ (edges : List Edge) (locations : List Location) (heap : SiteId → Bool
   most_one (flows {read = read} s root steps next placed out leads report) = at_most s (map line_of steps ++ read) (λ k. in_steps steps read ∙ later report k) (let e = in_steps steps read in let k = most_one report in omega arith)
 
 pub passed : PassedIsReport
-unfolding verdict judge lines_for
+unfolding verdict lines_for
 passed edges locations read h =
     let parts = answer_ok (first_fault edges locations (on_heap read) (states.Sites None) 1 read) (missing locations read) h in
-    let report = sites_are edges locations (on_heap read) None 1 read parts.0 in
+    let report = lines_are edges locations (on_heap read) read parts.0 in
     record {
       lines = report;
       once = λ l there. (

@@ -6,9 +6,9 @@ ghost use Rattle.report_checks.specs.declared.state.State.TheVariants.{Sites};
 ghost use Rattle.report_checks.specs.Verdict.{on_heap, first_fault, verdict};
 
 use crate::fault::ReportFault;
+use crate::gaps::first_gap;
 use crate::judging::fault_of;
 use crate::lines::{line_at, next_at};
-use crate::sites::missing;
 use crate::state::{State, state_after};
 use base::SiteId;
 use deref_walk::Graph;
@@ -42,7 +42,7 @@ pub fn check_report(report: &[u8], graph: &Graph) -> Result<(), ReportFault>
     if let Some(fault) = first_fault(report, graph) {
         return Err(fault);
     }
-    if let Some(site) = missing(report, &graph.locations) {
+    if let Some(site) = first_gap(report, &graph.locations) {
         return Err(ReportFault::SiteMissing(site));
     }
     Ok(())

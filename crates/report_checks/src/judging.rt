@@ -14,7 +14,7 @@ use deref_walk::{Edge, Graph, Loc, Location, is_same, number_after};
 
 /// Whether a site comes after the last one.
 #[tactic(auto, unfolding(crate::specs::Verdict::is_above))]
-fn is_above(last: Option<SiteId>, site: SiteId) -> bool
+pub(crate) fn is_above(last: Option<SiteId>, site: SiteId) -> bool
     ensures { result ≡ is_above last site }
 {
     match last {

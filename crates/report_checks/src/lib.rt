@@ -13,6 +13,7 @@
 mod checking;
 mod cuts;
 mod fault;
+mod gaps;
 mod graph;
 mod judging;
 pub mod laws;

@@ -1,8 +1,8 @@
 //! What the lines of a report say of sites.
 
-ghost use Rattle.std.specs.Prelude.{◌≡◌, not};
+ghost use Rattle.std.specs.Prelude.{◌≡◌};
 ghost use Rattle.report_checks.specs.Lines.{lines_of};
-ghost use Rattle.report_checks.specs.Verdict.{is_on_heap, is_heap_line, on_heap, is_put_on_heap, outlives, is_line_of, has_line, lesser, site_if, missing};
+ghost use Rattle.report_checks.specs.Verdict.{is_on_heap, is_heap_line, on_heap, is_put_on_heap, outlives};
 
 use crate::graph::{is_there, lies_outside, outlives_all};
 use crate::line::{Line, Placed};
@@ -45,74 +45,6 @@ fn on_heap(report: &[u8], site: SiteId) -> bool
         at = read.next;
     }
     false
-}
-
-/// Whether a line is a site's.
-#[tactic(auto, unfolding(crate::specs::Verdict::is_line_of))]
-fn is_line_of(site: SiteId, line: Option<Line>) -> bool
-    ensures { result ≡ is_line_of site line }
-{
-    match line {
-        Some(Line::Site(line)) => line.site.0 == site.0,
-        _ => false,
-    }
-}
-
-/// Whether a report has a line of a site.
-fn has_line(report: &[u8], site: SiteId) -> bool
-    ensures { result ≡ has_line (lines_of report.now) site }
-{
-    let mut at = 0;
-    while at < report.len() {
-        let read = line_at(report, at);
-        if is_line_of(site, read.line) {
-            return true;
-        }
-        at = read.next;
-    }
-    false
-}
-
-/// The lesser site of two.
-#[tactic(auto, unfolding(crate::specs::Verdict::lesser))]
-fn lesser(a: Option<SiteId>, b: Option<SiteId>) -> Option<SiteId>
-    ensures { result ≡ lesser a b }
-{
-    match (a, b) {
-        (None, _) => b,
-        (Some(_), None) => a,
-        (Some(l), Some(m)) => { if m.0 < l.0 { b } else { a } }
-    }
-}
-
-/// The site of a location, if the report has no line of it.
-#[tactic(auto, unfolding(crate::specs::Verdict::site_if))]
-fn missing_at(report: &[u8], location: &Location) -> Option<SiteId>
-    ensures { result ≡ site_if (λ l. not (has_line (lines_of report.now) l)) location.now.loc }
-{
-    match location.loc {
-        Loc::Site(site) => {
-            if has_line(report, site) {
-                None
-            } else {
-                Some(site)
-            }
-        }
-        Loc::Heap | Loc::Result(_, _) | Loc::Carry(_) => None,
-    }
-}
-
-/// The least site of a graph of which a report has no line.
-pub(crate) fn missing(report: &[u8], locations: &[Location]) -> Option<SiteId>
-    ensures { result ≡ missing locations.now (lines_of report.now) }
-{
-    let mut least = None;
-    let mut left = locations.len();
-    while left > 0 {
-        left -= 1;
-        least = lesser(missing_at(report, &locations[left]), least);
-    }
-    least
 }
 
 /// Whether a report puts a location on the heap.

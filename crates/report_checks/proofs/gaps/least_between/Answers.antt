@@ -1,11 +1,11 @@
 use Rattle.std.proofs.Common.{◌≡◌, ℕ, ◌+◌, ◌-◌, ◌<◌, ◌≤◌, List, [], ◌∷◌, length, get_or, drop, Option, None, refl, sym, ap, ◌∙◌, arith}
-use Rattle.std.specs.Prelude.{Bool, not}
+use Rattle.std.specs.Prelude.{Bool}
 use Rattle.std.proofs.lemmas.List.{at_drop_more, drop_all}
 use Rattle.base.specs.declared.ids.SiteId.{SiteId}
 use Rattle.deref_walk.specs.declared.graph.Location.{Location}
-use Rattle.report_checks.specs.Lines.{lines_of}
-use Rattle.report_checks.specs.Verdict.{has_line, lesser, site_if, least_site}
-use Rattle.report_checks.proofs.sites.missing.Goals as goal
+use Rattle.report_checks.specs.Verdict.{lesser, site_if, least_site}
+use Rattle.report_checks.specs.Gaps.{is_between}
+use Rattle.report_checks.proofs.gaps.least_between.Goals as goal
 
 none_left : (wanted : SiteId → Bool) (locations : List Location) → locations ≡ [] → None ≡ least_site wanted locations
 unfolding least_site
@@ -30,8 +30,8 @@ loop-left-init c = record { within = omega arith; so_far = none_left _ _ (drop_a
 pub loop-left-preserved : goal.loop-left-preserved
 loop-left-preserved c =
     let l = c.loop-left in
-    let wanted : SiteId → Bool = λ s. not (has_line (lines_of c.args.report.now) s) in
+    let wanted : SiteId → Bool = is_between c.args.last c.args.end in
     record {
       within = (let h : l.left ≤ length c.args.locations.now = l.invariant.within in omega arith);
-      so_far = c.lesser-least.ensures ∙ ap (λ (o : Option SiteId). lesser o l.least) c.missing_at.ensures ∙ one_back wanted c.args.locations.now l.left _ l.least c.loop-left-test.true l.invariant.within l.invariant.so_far;
+      so_far = c.lesser-least.ensures ∙ ap (λ (o : Option SiteId). lesser o l.least) c.between_at.ensures ∙ one_back wanted c.args.locations.now l.left _ l.least c.loop-left-test.true l.invariant.within l.invariant.so_far;
     }
