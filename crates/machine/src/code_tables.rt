@@ -130,14 +130,14 @@ impl<'a> Tables<'a> {
 
     // The instruction at a place.
     #[inline(always)]
-    pub(crate) fn fetch(&self, _words: &Vec<u64>, at: RunState) -> Instr
+    pub(crate) fn fetch(&self, _words: &Vec<u64>, at: RunState) -> &Instr
         requires inside { Inside self.now (length _words.now.items) at.pc at.base }
         requires place { at.pc < length self.now.instrs }
-        ensures is { slice_get self.now.instrs at.pc ≡ Some result }
-        ensures touches { Touches self.now (length _words.now.items) at.base result }
-        ensures leads { Leads self.now (length _words.now.items) at.pc at.base result }
+        ensures is { slice_get self.now.instrs at.pc ≡ Some result.now }
+        ensures touches { Touches self.now (length _words.now.items) at.base result.now }
+        ensures leads { Leads self.now (length _words.now.items) at.pc at.base result.now }
     {
         let instrs = self.instrs;
-        instrs[at.pc]
+        &instrs[at.pc]
     }
 }

@@ -161,8 +161,8 @@ fn element_address(first: u64, index: i64, len: u16, w: u16) -> Option<u64>
 }
 
 /// The slot a gets the address of an element of w words: the one with the index in slot c of an array of len elements that
-/// begins at the word of slot b. It stands out of line, so that the other instructions keep their registers.
-#[inline(never)]
+/// begins at the word of slot b.
+#[inline(always)]
 pub fn index(words: &mut Vec<u64>, at: RunState, a: u16, b: u16, c: u16, len: u16, w: u16) -> Next
     requires slots { (at.base + a < length words.old.items) × (at.base + b < length words.old.items)
         × (at.base + c < length words.old.items) }

@@ -17,6 +17,7 @@ use std::alloc::Global;
 /// Runs `steps` steps, or fewer where it ends before, with a stack of at most `stack_max` words and a heap. The items of the
 /// input come from it through the reader. The answer says where the run then stands. The block of words grows at its low
 /// end as calls need it.
+#[inline(never)]
 pub fn run<I: Source, O: Sink>(
     alloc: Global,
     code: &Code,

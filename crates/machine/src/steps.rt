@@ -235,7 +235,7 @@ pub fn step<I: Source, O: Sink>(
     ensures room { result.ending ≡ Some Ending.NoMemory → NoRoom tables.now at }
 {
     let base = at.base;
-    match tables.fetch(words, at) {
+    match *tables.fetch(words, at) {
         Instr::Const { a, word } => {
             set_slot(words, base, a as usize, word);
             Next::on(at)

@@ -92,29 +92,29 @@ returns-in-Call-clause-step g c =
     nothing_read _ _ _ _ c.call.ensures.read (refl, refl)
     (λ items reads.
     let more : reads + 0 ≡ reads = omega arith in
-    rw (more, c.in-Call.ensures.is, ← c.own_frame-frame.ensures.is, c.callee-callee.ensures.is) (told_nothing _ _ _ _ _ (c.call.ensures.calls reads c.args.heap.now)))
+    rw (more, c.fetch.ensures.is, c.in-Call.is, ← c.own_frame-frame.ensures.is, c.callee-callee.ensures.is) (told_nothing _ _ _ _ _ (c.call.ensures.calls reads c.args.heap.now)))
 
 pub returns-in-Return-clause-step : goal.returns-in-Return-clause-step
 returns-in-Return-clause-step g c =
     nothing_read _ _ _ _ c.leave.ensures.read (refl, refl)
-    (λ items reads. let more : reads + 0 ≡ reads = omega arith in rw (more, c.in-Return.ensures.is) (told_nothing _ _ _ _ _ (c.leave.ensures.returns reads c.args.heap.now)))
+    (λ items reads. let more : reads + 0 ≡ reads = omega arith in rw (more, c.fetch.ensures.is, c.in-Return.is) (told_nothing _ _ _ _ _ (c.leave.ensures.returns reads c.args.heap.now)))
 
 pub returns-in-Load-clause-step : goal.returns-in-Load-clause-step
 returns-in-Load-clause-step g c =
     nothing_read _ _ _ _ c.load.ensures.read (refl, refl)
-    (λ items reads. let more : reads + 0 ≡ reads = omega arith in rw (more, c.in-Load.ensures.is) (told_nothing _ _ _ _ _ (c.load.ensures.loads reads)))
+    (λ items reads. let more : reads + 0 ≡ reads = omega arith in rw (more, c.fetch.ensures.is, c.in-Load.is) (told_nothing _ _ _ _ _ (c.load.ensures.loads reads)))
 
 pub returns-in-Store-clause-step : goal.returns-in-Store-clause-step
 returns-in-Store-clause-step g c =
     nothing_read _ _ _ _ c.store.ensures.read (refl, refl)
-    (λ items reads. let more : reads + 0 ≡ reads = omega arith in rw (more, c.in-Store.ensures.is) (told_nothing _ _ _ _ _ (c.store.ensures.stores reads)))
+    (λ items reads. let more : reads + 0 ≡ reads = omega arith in rw (more, c.fetch.ensures.is, c.in-Store.is) (told_nothing _ _ _ _ _ (c.store.ensures.stores reads)))
 
 pub returns-in-Offset-clause-step : goal.returns-in-Offset-clause-step
 returns-in-Offset-clause-step g c =
     nothing_read _ _ _ _ c.offset.ensures.read (refl, refl)
-    (λ items reads. let more : reads + 0 ≡ reads = omega arith in rw (more, c.in-Offset.ensures.is) (told_nothing _ _ _ _ _ (c.offset.ensures.offsets reads c.args.heap.now)))
+    (λ items reads. let more : reads + 0 ≡ reads = omega arith in rw (more, c.fetch.ensures.is, c.in-Offset.is) (told_nothing _ _ _ _ _ (c.offset.ensures.offsets reads c.args.heap.now)))
 
 pub returns-in-Index-clause-step : goal.returns-in-Index-clause-step
 returns-in-Index-clause-step g c =
     nothing_read _ _ _ _ c.index.ensures.read (refl, refl)
-    (λ items reads. let more : reads + 0 ≡ reads = omega arith in rw (more, c.in-Index.ensures.is) (told_nothing _ _ _ _ _ (c.index.ensures.indexes reads c.args.heap.now)))
+    (λ items reads. let more : reads + 0 ≡ reads = omega arith in rw (more, c.fetch.ensures.is, c.in-Index.is) (told_nothing _ _ _ _ _ (c.index.ensures.indexes reads c.args.heap.now)))
