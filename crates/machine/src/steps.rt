@@ -203,8 +203,9 @@ fn read_int<I: Source>(
 }
 
 /// Does one instruction, where the stack may have at most `stack_max` words. The place in the answer is that of the next one,
-/// or where the run ended.
-#[inline(always)]
+/// or where the run ended. It stands out
+/// of line: a loop of steps calls it for what is rare.
+#[inline(never)]
 pub fn step<I: Source, O: Sink>(
     alloc: Global,
     tables: &Tables<'_>,
@@ -351,6 +352,146 @@ pub fn step<I: Source, O: Sink>(
         Instr::PanicBool { a } => Next::panicked(
             at,
             Panic::Bool(slot(words, base, a as usize) != 0),
+        ),
+    }
+}
+
+// The same. What the call answers in memory is made and read here alone, so that no other instruction writes it.
+#[inline(always)]
+fn step_apart<I: Source, O: Sink>(
+    alloc: Global,
+    tables: &Tables<'_>,
+    words: &mut Vec<u64>,
+    stack_max: u64,
+    heap: &mut Heap,
+    at: RunState,
+    reader: &mut IntReader,
+    input: &mut I,
+    out: &mut O,
+) -> Next
+    requires words { (length words.old.items ≤ stack_max) × (stack_max ≤ 2 ^ 32) }
+    requires inside { Inside tables.now (length words.old.items) at.pc at.base }
+    requires place { (at.pc < length tables.now.instrs) × (length tables.now.instrs < 2 ^ 40) }
+    ensures step { WithAnswers result.ending (to_come reader.old (I.left input.old)) (to_come reader.new (I.left input.new))
+        ((reader.new ≡ reader.old) × (input.new ≡ input.old))
+        (λ items reads answered. Answers (act tables.now stack_max items (state_of words.old.items at reads heap.old))
+        (state_of words.new.items result.at (reads + answered) heap.new) answered result.ending
+        (O.taken out.old) (O.taken out.new) (O.faults out.old) (O.faults out.new)) }
+    ensures later { O.faults out.old ≤ O.faults out.new }
+    ensures source_later { I.faults input.old ≤ I.faults input.new }
+    ensures read_fault { result.ending ≡ Some Ending.ReadFault → Rose (I.faults input.old) (I.faults input.new) }
+    ensures stays { result.ending ≡ None → Inside tables.now (length words.new.items) result.at.pc result.at.base }
+    ensures length { length words.new.items ≤ stack_max }
+    ensures status { StatusFits result.ending }
+    ensures memory { result.ending ≡ Some Ending.NoMemory → CallFits tables.now stack_max at.pc (drop at.base words.old.items)
+        × Took (O.taken out.old) (O.taken out.new) [] × (words.new ≡ words.old) }
+    ensures room { result.ending ≡ Some Ending.NoMemory → NoRoom tables.now at }
+{
+    let next = step(
+        alloc, tables, words, stack_max, heap, at, reader, input, out,
+    );
+    Next {
+        at: next.at,
+        ending: next.ending,
+    }
+}
+
+/// The same, for a loop: the instructions that programs do most stand in it, so that its state has the registers.
+#[inline(always)]
+pub fn step_in_loop<I: Source, O: Sink>(
+    alloc: Global,
+    tables: &Tables<'_>,
+    words: &mut Vec<u64>,
+    stack_max: u64,
+    heap: &mut Heap,
+    at: RunState,
+    reader: &mut IntReader,
+    input: &mut I,
+    out: &mut O,
+) -> Next
+    requires words { (length words.old.items ≤ stack_max) × (stack_max ≤ 2 ^ 32) }
+    requires inside { Inside tables.now (length words.old.items) at.pc at.base }
+    requires place { (at.pc < length tables.now.instrs) × (length tables.now.instrs < 2 ^ 40) }
+    ensures step { WithAnswers result.ending (to_come reader.old (I.left input.old)) (to_come reader.new (I.left input.new))
+        ((reader.new ≡ reader.old) × (input.new ≡ input.old))
+        (λ items reads answered. Answers (act tables.now stack_max items (state_of words.old.items at reads heap.old))
+        (state_of words.new.items result.at (reads + answered) heap.new) answered result.ending
+        (O.taken out.old) (O.taken out.new) (O.faults out.old) (O.faults out.new)) }
+    ensures later { O.faults out.old ≤ O.faults out.new }
+    ensures source_later { I.faults input.old ≤ I.faults input.new }
+    ensures read_fault { result.ending ≡ Some Ending.ReadFault → Rose (I.faults input.old) (I.faults input.new) }
+    ensures stays { result.ending ≡ None → Inside tables.now (length words.new.items) result.at.pc result.at.base }
+    ensures length { length words.new.items ≤ stack_max }
+    ensures status { StatusFits result.ending }
+    ensures memory { result.ending ≡ Some Ending.NoMemory → CallFits tables.now stack_max at.pc (drop at.base words.old.items)
+        × Took (O.taken out.old) (O.taken out.new) [] × (words.new ≡ words.old) }
+    ensures room { result.ending ≡ Some Ending.NoMemory → NoRoom tables.now at }
+{
+    let base = at.base;
+    match *tables.fetch(words, at) {
+        Instr::Const { a, word } => {
+            set_slot(words, base, a as usize, word);
+            Next::on(at)
+        }
+        Instr::Move { a, b } => {
+            let word = slot(words, base, b as usize);
+            set_slot(words, base, a as usize, word);
+            Next::on(at)
+        }
+        Instr::MoveWords { a, b, n } => {
+            copy_slots(words, base, b as usize, a as usize, n as usize);
+            Next::on(at)
+        }
+        Instr::Bin { op, a, b, c } => {
+            let given = bin(
+                op,
+                slot(words, base, b as usize),
+                slot(words, base, c as usize),
+            );
+            match given {
+                Ok(word) => {
+                    set_slot(words, base, a as usize, word);
+                    Next::on(at)
+                }
+                Err(fault) => Next::panicked(at, panic_of(fault)),
+            }
+        }
+        Instr::Jump { to } => Next::to(to as usize, base),
+        Instr::JumpZero { a, to } => {
+            if slot(words, base, a as usize) == 0 {
+                Next::to(to as usize, base)
+            } else {
+                Next::on(at)
+            }
+        }
+        Instr::Call { func } => {
+            let frame = tables.own_frame(words, at);
+            let callee = tables.callee(words, base, func);
+            call(alloc, words, stack_max, at, frame, callee)
+        }
+        Instr::ArgumentWords { a, b, n } => {
+            let frame = tables.own_frame(words, at);
+            match incoming(words, stack_max, base, frame, b, n) {
+                Ok(index) => {
+                    copy_slots(words, base, index, a as usize, n as usize);
+                    Next::on(at)
+                }
+                Err(ending) => Next::ended(at, ending),
+            }
+        }
+        Instr::SetResults { a, b, n } => {
+            let frame = tables.own_frame(words, at);
+            match incoming(words, stack_max, base, frame, b, n) {
+                Ok(index) => {
+                    copy_slots(words, base, a as usize, index, n as usize);
+                    Next::on(at)
+                }
+                Err(ending) => Next::ended(at, ending),
+            }
+        }
+        Instr::Return => leave(tables, words, stack_max, at),
+        _ => step_apart(
+            alloc, tables, words, stack_max, heap, at, reader, input, out,
         ),
     }
 }
