@@ -55,6 +55,17 @@ pub fn run<I: Source, O: Sink>(
             Some(_) => return next,
         }
         left -= 1;
+        if left == 0 {
+            return Next { at, ending: None };
+        }
+        let after = step_in_loop(
+            alloc, &tables, words, stack_max, heap, at, reader, input, out,
+        );
+        match after.ending {
+            None => at = after.at,
+            Some(_) => return after,
+        }
+        left -= 1;
     }
     Next { at, ending: None }
 }
