@@ -1,5 +1,5 @@
 -- Lists of words that a block and its frames are made of.
-use Rattle.std.proofs.Common.{◌≡◌, ℕ, ◌+◌, ◌-◌, ◌≤◌, List, [], ◌∷◌, ◌++◌, length, take, drop, replicate, get_or, refl, ap, sym, ◌∙◌, arith, append_assoc}
+use Rattle.std.proofs.Common.{◌≡◌, ℕ, ◌+◌, ◌-◌, ◌<◌, ◌≤◌, List, [], ◌∷◌, ◌++◌, length, take, drop, replicate, get_or, refl, ap, sym, ◌∙◌, arith, append_assoc}
 use Rattle.std.specs.Prelude.{slice_index, slice_set}
 use Rattle.std.proofs.Math.Seq.{drop-set-add, get_or-drop}
 use Rattle.std.proofs.lemmas.List.{take-append-drop, drop-append-le, drop-take, drop-drop, drop_at, drop_more, set_at, set-append_right, length-take-le, length-replicate}
@@ -30,6 +30,16 @@ pub copied : (words : List ℕ) (base from to count : ℕ) → base + to ≤ len
     → drop base (put_words words (base + to) (words_at words (base + from) count)) ≡ put_words (drop base words) to (words_at (drop base words) from count)
 copied words base from to count room =
     put_behind words (words_at words (base + from) count) base to room ∙ ap (λ l. put_words (drop base words) to (take count l)) (sym (drop-drop from base words))
+
+-- a copy of one word
+pub copied_one : (words : List ℕ) (from to : ℕ) → from < length words → to < length words → slice_set words to (slice_index words from) ≡ put_words words to (words_at words from 1)
+copied_one words from to inside room =
+    let one : words_at words from 1 ≡ get_or words from 0 ∷ [] = ap (take 1) (drop_more words from 0 inside) in
+    let apart : words ≡ take to words ++ (get_or words to 0 ∷ drop (to + 1) words) =
+    sym (take-append-drop to words) ∙ ap (λ l. take to words ++ l) (drop_more words to 0 room) in
+    ap (λ l. slice_set l to (slice_index words from)) apart
+    ∙ set_at (take to words) (get_or words to 0) (drop (to + 1) words) (get_or words from 0) to (length-take-le to words (omega (arith, room)))
+    ∙ ap (put_words words to) (sym one)
 
 -- zeros after an index, seen from the index
 pub cleared : (words : List ℕ) (base from count : ℕ) → base + from + count ≤ length words

@@ -95,7 +95,8 @@ fn copy_block(words: &mut Vec<u64>, from: usize, to: usize, count: usize)
     copy_words(words.as_mut_slice(), from, to, count);
 }
 
-/// `count` slots from `to` on get the words of the slots from `from` on, as through a copy.
+/// `count` slots from `to` on get the words of the slots from `from` on, as through a copy. One word is most often copied, and
+/// then by no call.
 #[inline(always)]
 pub fn copy_slots(words: &mut Vec<u64>, base: usize, from: usize, to: usize, count: usize)
     requires { (base + (from + count) ≤ length words.old.items) × (base + (to + count) ≤ length words.old.items) }
@@ -103,6 +104,11 @@ pub fn copy_slots(words: &mut Vec<u64>, base: usize, from: usize, to: usize, cou
         ≡ put_words (drop base words.old.items) to (words_at (drop base words.old.items) from count) }
     ensures length { length words.new.items ≡ length words.old.items }
 {
+    if count == 1 {
+        let word = slot(words, base, from);
+        set_slot(words, base, to, word);
+        return;
+    }
     copy_block(words, base + from, base + to, count);
 }
 

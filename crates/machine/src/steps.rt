@@ -489,6 +489,8 @@ pub fn step_in_loop<I: Source, O: Sink>(
                 Err(ending) => Next::ended(at, ending),
             }
         }
+        Instr::Load { a, b, off, n } => load(words, stack_max, heap, at, a, b, off, n),
+        Instr::Store { a, off, c, n } => store(words, stack_max, heap, at, a, off, c, n),
         Instr::Return => leave(tables, words, stack_max, at),
         _ => step_apart(
             alloc, tables, words, stack_max, heap, at, reader, input, out,

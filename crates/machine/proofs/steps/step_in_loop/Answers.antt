@@ -50,3 +50,13 @@ pub returns-in-Return-clause-step : goal.returns-in-Return-clause-step
 returns-in-Return-clause-step g c =
     nothing_read _ _ _ _ c.leave.ensures.read (refl, refl)
     (λ items reads. let more : reads + 0 ≡ reads = omega arith in rw (more, c.fetch.ensures.is, c.in-Return.is) (told_nothing _ _ _ _ _ (c.leave.ensures.returns reads c.args.heap.now)))
+
+pub returns-in-Load-clause-step : goal.returns-in-Load-clause-step
+returns-in-Load-clause-step g c =
+    nothing_read _ _ _ _ c.load.ensures.read (refl, refl)
+    (λ items reads. let more : reads + 0 ≡ reads = omega arith in rw (more, c.fetch.ensures.is, c.in-Load.is) (told_nothing _ _ _ _ _ (c.load.ensures.loads reads)))
+
+pub returns-in-Store-clause-step : goal.returns-in-Store-clause-step
+returns-in-Store-clause-step g c =
+    nothing_read _ _ _ _ c.store.ensures.read (refl, refl)
+    (λ items reads. let more : reads + 0 ≡ reads = omega arith in rw (more, c.fetch.ensures.is, c.in-Store.is) (told_nothing _ _ _ _ _ (c.store.ensures.stores reads)))
