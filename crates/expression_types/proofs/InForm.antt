@@ -32,7 +32,6 @@ use Rattle.typed_syntax.specs.Types.{TypeTree, ints, bools, width}
 use Rattle.typed_syntax.specs.Value.{int}
 use Rattle.constants.specs.declared.constant.Constant.{Constant}
 use Rattle.constants.specs.declared.constant.Constant.TheVariants.{Number, Truth}
-use Rattle.constants.specs.declared.constant.Fixed.{Fixed}
 use Rattle.base.specs.declared.value_type.ValueType.{ValueType}
 use Rattle.base.specs.declared.value_type.ValueType.TheVariants.{Int, Bool as Boolean}
 use Rattle.base.specs.Types.{same_type}
@@ -45,16 +44,19 @@ use Rattle.operators.specs.declared.folding.ConstFault.{ConstFault}
 use Rattle.operators.specs.Folding.{folded_one}
 use Rattle.operators.specs.Operands.{Operand, constant, value, nil, type_of, is_assignable, constant_value, const_of, as_value, constant_of}
 use Rattle.operators.specs.Operators.{joint_type, converts, worked_out, has_rules, takes_one, prefix_of, prefixed, takes, takes_both, result_type, right_allowed, arithmetic_of, compare_of, typed_pair, both_values, value_pair, combined}
-use Rattle.operators.proofs.Held.{AreHeld, held_type, constant_is}
+use Rattle.operators.proofs.Held.{held_type, constant_is}
 use Rattle.names.specs.declared.scope.Declared.{Declared}
 use Rattle.names.specs.declared.scope.ValueId.{ValueId}
 use Rattle.names.specs.declared.scope.GlobalId.{GlobalId}
 use Rattle.names.specs.declared.scope.Declared.TheVariants as declared
 use Rattle.names.specs.declared.scope.External.TheVariants.{ReadInt, Exit}
-use Rattle.names.specs.Scope.{Scope, Signature, type_number, type_tree, type_trees, declaration, signature, fixed}
+use Rattle.names.specs.Scope.{Scope, Signature, type_number, type_tree, type_trees, declaration, signature, known}
 use Rattle.names.specs.Naming.{name_in}
+use Rattle.names.specs.declared.scope.Known.{Known}
+use Rattle.names.specs.declared.scope.Known.TheVariants as known_as
+use Rattle.names.proofs.Settled.{IsSound, AreSound}
 use Rattle.names.proofs.Trees.{int_tree, bool_tree, solid}
-use Rattle.expression_types.specs.Typing.{Part, said, valued, Gives, one, called, asking, quoted, printed, panicked, exited, known_type, global_read, name_operand, prefix_gives, pair_gives, single, operand_in, value_in, shown_type, shown_of, as_part, part_in, Seen, values, parts, type_in_one, single_types, Many, many_in, many, types_with, value_types, accepts, types_agree, accepts_operand, operand_agrees, values_agree, each, fits_with, fits, all_values, taken, asked, Callee, printer, panicker, reader, exiter, function, conversion, no_function, no_spread, no_text_spread, nothing, function_with, callee_declared, callee_value, spread_over, panicked_with, exit_places, exited_with, called_with, as_condition, callee, gives, seen, condition, test}
+use Rattle.expression_types.specs.Typing.{Part, said, valued, Gives, one, called, asking, quoted, printed, panicked, exited, known_type, global_read, constant_read, name_operand, prefix_gives, pair_gives, single, operand_in, value_in, shown_type, shown_of, as_part, part_in, Seen, values, parts, type_in_one, single_types, Many, many_in, many, types_with, value_types, accepts, types_agree, accepts_operand, operand_agrees, values_agree, each, fits_with, fits, all_values, taken, asked, Callee, printer, panicker, reader, exiter, function, conversion, no_function, no_spread, no_text_spread, nothing, function_with, callee_declared, callee_value, spread_over, panicked_with, exit_places, exited_with, called_with, as_condition, callee, gives, seen, condition, test}
 use Rattle.expression_types.proofs.DecidedValues.{many_single}
 
 is_word : (z : ℤ) → is_int z ≡ true → IsWord (int z)
@@ -66,7 +68,7 @@ pub record Agrees (s : Scope) (p : Program) : Type 0 where
   pub sites : (k : ℕ) (site : Site) → slice_get s.sites k ≡ Some site → site_type p k ≡ tree_named s.types site.type_id.0
   pub functions : (f : ℕ) (sig : Signature) → signature s f ≡ Some sig
       → (func : Func) × (slice_get p.funcs f ≡ Some func) × (func.param_types ≡ type_trees s.types sig.params) × (func.results ≡ type_trees s.types sig.results)
-  pub globals : (g k : ℕ) (f : Fixed) → slice_get s.globals g ≡ Some k → fixed s k ≡ Some f → (g < length p.globals) × (global_type p g ≡ type_tree s.types (known_type f))
+  pub globals : (g k : ℕ) (x : Known) → slice_get s.globals g ≡ Some k → known s k ≡ Some x → (g < length p.globals) × (global_type p g ≡ type_tree s.types (known_type x))
   pub types : p.types ≡ trees s.types
   pub formed : IsFormed s.types
 
@@ -518,7 +520,7 @@ module _ (T : Table) (p : Program) (scope : List ℕ) where
     call_fits at no_text_spread os g k all is = absurd (none_some is)
     call_fits at nothing os g k all is = absurd (none_some is)
 
-module _ (p : Program) (scope : List ℕ) (text : List ℕ) (s : Scope) (are_shown : AreShown s scope) (are_numbered : AreNumbered s) (held : AreHeld s.values) (agrees : Agrees s p) where
+module _ (p : Program) (scope : List ℕ) (text : List ℕ) (s : Scope) (are_shown : AreShown s scope) (are_numbered : AreNumbered s) (sound : AreSound s.values) (agrees : Agrees s p) where
   abbrev Fits : Gives → Type 0
   Fits g = GivesFit s.types p scope g
 
@@ -528,21 +530,22 @@ module _ (p : Program) (scope : List ℕ) (text : List ℕ) (s : Scope) (are_sho
   variable_fits : (n : List ℕ) (site : SiteId) (t : ValueType) → declaration s n ≡ Some (declared.Variable site t) → PlFits p scope (type_tree s.types t) (typed.local site.0 typed.here)
   variable_fits n site t is = let k = are_shown n site t is in (k.0, agrees.sites site.0 k.1.0 k.1.1 ∙ ap (tree_named s.types) k.1.2, solid s.types agrees.formed (type_number s.types t))
 
-  constant_fits_name : (o : Option Fixed) (g : Gives) → ((f : Fixed) → o ≡ Some f → is_held f.value_type f.value ≡ true) → option_map one (option_map constant o) ≡ Some g → Fits g
-  constant_fits_name None g known is = absurd (none_some is)
-  constant_fits_name (Some f) g known is = subst Fits (same_some is) (known f refl)
+  constant_fits_name : (o : Option Known) (g : Gives) → ((x : Known) → o ≡ Some x → IsSound x) → option_map one (option_map constant_read o) ≡ Some g → Fits g
+  constant_fits_name None g is_sound is = absurd (none_some is)
+  constant_fits_name (Some (known_as.Constant f)) g is_sound is = subst Fits (same_some is) (is_sound (known_as.Constant f) refl)
+  constant_fits_name (Some (known_as.Variable t)) g is_sound is = subst Fits (same_some is) tt
 
-  global_fits : (g k : ℕ) (o : Option Fixed) (x : Gives) → fixed s k ≡ o → slice_get s.globals g ≡ Some k → option_map one (option_map (global_read g) o) ≡ Some x → Fits x
-  global_fits g k None x known at is = absurd (none_some is)
-  global_fits g k (Some f) x known at is = subst Fits (same_some is) (agrees.globals g k f at known)
+  global_fits : (g k : ℕ) (o : Option Known) (x : Gives) → known s k ≡ o → slice_get s.globals g ≡ Some k → option_map one (option_map (global_read g) o) ≡ Some x → Fits x
+  global_fits g k None x known_is at is = absurd (none_some is)
+  global_fits g k (Some y) x known_is at is = subst Fits (same_some is) (agrees.globals g k y at known_is)
 
   name_fits : (d : Option Declared) (g : Gives) → ((site : SiteId) (t : ValueType) → d ≡ Some (declared.Variable site t) → PlFits p scope (type_tree s.types t) (typed.local site.0 typed.here))
       → ((k : ValueId) (h : GlobalId) → d ≡ Some (declared.Global k h) → slice_get s.globals h.0 ≡ Some k.0) → option_map one (name_operand s d) ≡ Some g → Fits g
   name_fits None g has at is = absurd (none_some is)
   name_fits (Some (declared.Variable site t)) g has at is = subst Fits (same_some is) (has site t refl)
   name_fits (Some declared.Untyped) g has at is = absurd (none_some is)
-  name_fits (Some (declared.Constant k)) g has at is = constant_fits_name (fixed s k.0) g (λ f known. held k.0 f known) is
-  name_fits (Some (declared.Global k h)) g has at is = global_fits h.0 k.0 (fixed s k.0) g refl (at k h refl) is
+  name_fits (Some (declared.Constant k)) g has at is = constant_fits_name (known s k.0) g (λ x known_is. sound k.0 x known_is) is
+  name_fits (Some (declared.Global k h)) g has at is = global_fits h.0 k.0 (known s k.0) g refl (at k h refl) is
   name_fits (Some (declared.Function f)) g has at is = absurd (none_some is)
   name_fits (Some (declared.External e place)) g has at is = absurd (none_some is)
   name_fits (Some declared.TypeName) g has at is = absurd (none_some is)
@@ -566,8 +569,8 @@ module _ (p : Program) (scope : List ℕ) (text : List ℕ) (s : Scope) (are_sho
   declared_fits None = tt
   declared_fits (Some (declared.Variable site t)) = tt
   declared_fits (Some declared.Untyped) = tt
-  declared_fits (Some (declared.Constant k)) = callee_value_fits (option_map constant (fixed s k.0))
-  declared_fits (Some (declared.Global k g)) = callee_value_fits (option_map (global_read g.0) (fixed s k.0))
+  declared_fits (Some (declared.Constant k)) = callee_value_fits (option_map constant_read (known s k.0))
+  declared_fits (Some (declared.Global k g)) = callee_value_fits (option_map (global_read g.0) (known s k.0))
   declared_fits (Some (declared.Function f)) = callee_signed f.0 (signature s f.0) refl
   declared_fits (Some (declared.External ReadInt at)) = tt
   declared_fits (Some (declared.External Exit at)) = tt

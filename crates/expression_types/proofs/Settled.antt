@@ -12,7 +12,6 @@ use Rattle.type_faults.specs.declared.fault.Fault.{Fault}
 use Rattle.type_faults.specs.declared.fault.FaultKind.TheVariants.{NotCallable, WrongCount, ConstRange, Unfit, OutOfProfile}
 use Rattle.constants.specs.declared.constant.Constant.{Constant}
 use Rattle.constants.specs.declared.constant.Constant.TheVariants.{Number, Truth}
-use Rattle.constants.specs.declared.constant.Fixed.{Fixed}
 use Rattle.base.specs.declared.value_type.ValueType.{ValueType}
 use Rattle.base.specs.declared.value_type.ValueType.TheVariants.{Int, Bool as Boolean, Struct, Array}
 use Rattle.base.specs.Types.{same_type}
@@ -28,11 +27,13 @@ use Rattle.operators.proofs.Held.{IsHeld, held_type}
 use Rattle.operators.proofs.DecidedOperators.{prefix_decided, one_decided, pair_decided}
 use Rattle.names.specs.declared.scope.Declared.{Declared}
 use Rattle.names.specs.declared.scope.Declared.TheVariants as declared
+use Rattle.names.specs.declared.scope.Known.{Known}
+use Rattle.names.specs.declared.scope.Known.TheVariants as known_as
 use Rattle.names.specs.declared.scope.External.TheVariants.{ReadInt, Exit}
-use Rattle.names.specs.Scope.{Scope, Signature, declaration, signature, fixed}
+use Rattle.names.specs.Scope.{Scope, Signature, declaration, signature, known}
 use Rattle.names.specs.Naming.{name_in}
-use Rattle.names.proofs.Settled.{HasSignature, HasValue, IsTyped, IsSettled, declared_typed}
-use Rattle.expression_types.specs.Typing.{Gives, one, global_read, name_operand, prefix_gives, operand_in, Seen, parts, taken, Callee, printer, panicker, reader, exiter, function, conversion, no_function, no_spread, no_text_spread, nothing, function_with, callee_declared, callee_value, spread_over, called_with, as_condition, callee, gives, seen, condition, test}
+use Rattle.names.proofs.Settled.{HasSignature, IsKnown, IsTyped, IsSettled, declared_typed}
+use Rattle.expression_types.specs.Typing.{Gives, one, global_read, constant_read, name_operand, prefix_gives, operand_in, Seen, parts, taken, Callee, printer, panicker, reader, exiter, function, conversion, no_function, no_spread, no_text_spread, nothing, function_with, callee_declared, callee_value, spread_over, called_with, as_condition, callee, gives, seen, condition, test}
 use Rattle.expression_types.specs.Faults.{WhereTaken, name_fault, callee_name_fault, single_fault, literal_fault, condition_fault, PrintFails, CallFails, CalleeFails, Fails, FailsInEach, FailsAsOperand, FailsInCondition, FailsInTest}
 use Rattle.expression_types.proofs.Held.{operand_held}
 use Rattle.expression_types.proofs.DecidedValues.{operand_decided, given_all, take_decided, print_decided, panic_decided, read_decided, exit_decided, refused, parts_refused}
@@ -64,11 +65,11 @@ condition_value_decided at (constant a) held = by (constant_type a.value_type a.
 
 -- ---- names
 
-constant_name_decided : (o : Option Fixed) → HasValue o → Decided (option_map one (option_map constant o)) (IsFault None)
+constant_name_decided : (o : Option Known) → IsKnown o → Decided (option_map one (option_map constant_read o)) (IsFault None)
 constant_name_decided None has = absurd has
 constant_name_decided (Some f) has = λ g h. h
 
-global_name_decided : (g : ℕ) (o : Option Fixed) → HasValue o → Decided (option_map one (option_map (global_read g) o)) (IsFault None)
+global_name_decided : (g : ℕ) (o : Option Known) → IsKnown o → Decided (option_map one (option_map (global_read g) o)) (IsFault None)
 global_name_decided g None has = absurd has
 global_name_decided g (Some f) has = λ h k. k
 
@@ -76,8 +77,8 @@ name_decided : (s : Scope) (d : Option Declared) (at : Pos) → ((x : Declared) 
 name_decided s None at typed = (_, refl)
 name_decided s (Some (declared.Variable site t)) at typed = λ f h. h
 name_decided s (Some declared.Untyped) at typed = absurd (typed declared.Untyped refl)
-name_decided s (Some (declared.Constant k)) at typed = constant_name_decided (fixed s k.0) (typed (declared.Constant k) refl)
-name_decided s (Some (declared.Global k g)) at typed = global_name_decided g.0 (fixed s k.0) (typed (declared.Global k g) refl)
+name_decided s (Some (declared.Constant k)) at typed = constant_name_decided (known s k.0) (typed (declared.Constant k) refl)
+name_decided s (Some (declared.Global k g)) at typed = global_name_decided g.0 (known s k.0) (typed (declared.Global k g) refl)
 name_decided s (Some (declared.Function g)) at typed = (_, refl)
 name_decided s (Some (declared.External e place)) at typed = (_, refl)
 name_decided s (Some declared.TypeName) at typed = (_, refl)
@@ -90,11 +91,12 @@ name_decided s (Some declared.LeftOutType) at typed = (_, refl)
 name_decided s (Some declared.LeftOutValue) at typed = (_, refl)
 
 -- a constant that a name stands for is held by its type
-fixed_held : (o : Option Fixed) (x : Operand) → HasValue o → option_map constant o ≡ Some x → IsHeld x
-fixed_held None x has is = absurd has
-fixed_held (Some f) x has is = subst IsHeld (same_some is) has
+known_held : (o : Option Known) (x : Operand) → IsKnown o → option_map constant_read o ≡ Some x → IsHeld x
+known_held None x has is = absurd has
+known_held (Some (known_as.Constant f)) x has is = subst IsHeld (same_some is) has
+known_held (Some (known_as.Variable t)) x has is = subst IsHeld (same_some is) tt
 
-global_held : (g : ℕ) (o : Option Fixed) (x : Operand) → option_map (global_read g) o ≡ Some x → IsHeld x
+global_held : (g : ℕ) (o : Option Known) (x : Operand) → option_map (global_read g) o ≡ Some x → IsHeld x
 global_held g None x is = absurd (none_some is)
 global_held g (Some f) x is = subst IsHeld (same_some is) tt
 
@@ -102,8 +104,8 @@ name_held : (s : Scope) (d : Option Declared) (x : Operand) → ((y : Declared) 
 name_held s None x typed is = absurd (none_some is)
 name_held s (Some (declared.Variable site t)) x typed is = subst IsHeld (same_some is) tt
 name_held s (Some declared.Untyped) x typed is = absurd (none_some is)
-name_held s (Some (declared.Constant k)) x typed is = fixed_held (fixed s k.0) x (typed (declared.Constant k) refl) is
-name_held s (Some (declared.Global k g)) x typed is = global_held g.0 (fixed s k.0) x is
+name_held s (Some (declared.Constant k)) x typed is = known_held (known s k.0) x (typed (declared.Constant k) refl) is
+name_held s (Some (declared.Global k g)) x typed is = global_held g.0 (known s k.0) x is
 name_held s (Some (declared.Function g)) x typed is = absurd (none_some is)
 name_held s (Some (declared.External e place)) x typed is = absurd (none_some is)
 name_held s (Some declared.TypeName) x typed is = absurd (none_some is)
@@ -138,11 +140,11 @@ callee_function_is : (f : ℕ) (sig : Option Signature) (C : Fault → Type 0) �
 callee_function_is f None C has none = absurd has
 callee_function_is f (Some sig) C has none = none
 
-callee_constant_is : (o : Option Fixed) (C : Fault → Type 0) → HasValue o → ((g : Fault) → C g → ⊥) → CalleeIs (callee_value (option_map constant o)) C
+callee_constant_is : (o : Option Known) (C : Fault → Type 0) → IsKnown o → ((g : Fault) → C g → ⊥) → CalleeIs (callee_value (option_map constant_read o)) C
 callee_constant_is None C has none = absurd has
 callee_constant_is (Some f) C has none = none
 
-callee_global_is : (g : ℕ) (o : Option Fixed) (C : Fault → Type 0) → HasValue o → ((f : Fault) → C f → ⊥) → CalleeIs (callee_value (option_map (global_read g) o)) C
+callee_global_is : (g : ℕ) (o : Option Known) (C : Fault → Type 0) → IsKnown o → ((f : Fault) → C f → ⊥) → CalleeIs (callee_value (option_map (global_read g) o)) C
 callee_global_is g None C has none = absurd has
 callee_global_is g (Some f) C has none = none
 
@@ -150,8 +152,8 @@ callee_declared_is : (s : Scope) (d : Option Declared) (at : Pos) → ((x : Decl
 callee_declared_is s None at typed = (_, refl)
 callee_declared_is s (Some (declared.Variable site t)) at typed = λ f h. h
 callee_declared_is s (Some declared.Untyped) at typed = absurd (typed declared.Untyped refl)
-callee_declared_is s (Some (declared.Constant k)) at typed = callee_constant_is (fixed s k.0) (IsFault (callee_name_fault (Some (declared.Constant k)) at)) (typed (declared.Constant k) refl) (λ f h. h)
-callee_declared_is s (Some (declared.Global k g)) at typed = callee_global_is g.0 (fixed s k.0) (IsFault (callee_name_fault (Some (declared.Global k g)) at)) (typed (declared.Global k g) refl) (λ f h. h)
+callee_declared_is s (Some (declared.Constant k)) at typed = callee_constant_is (known s k.0) (IsFault (callee_name_fault (Some (declared.Constant k)) at)) (typed (declared.Constant k) refl) (λ f h. h)
+callee_declared_is s (Some (declared.Global k g)) at typed = callee_global_is g.0 (known s k.0) (IsFault (callee_name_fault (Some (declared.Global k g)) at)) (typed (declared.Global k g) refl) (λ f h. h)
 callee_declared_is s (Some (declared.Function g)) at typed = callee_function_is g.0 (signature s g.0) (IsFault (callee_name_fault (Some (declared.Function g)) at)) (typed (declared.Function g) refl) (λ f h. h)
 callee_declared_is s (Some (declared.External ReadInt place)) at typed = λ f h. h
 callee_declared_is s (Some (declared.External Exit place)) at typed = λ f h. h

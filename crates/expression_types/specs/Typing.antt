@@ -13,7 +13,6 @@ use Rattle.typed_syntax.specs.Syntax.{Ex, Exs, read, local, global, here, none, 
 use Rattle.typed_syntax.specs.Syntax as typed
 use Rattle.typed_syntax.specs.Types.{TypeTree, ints, bools}
 use Rattle.constants.specs.declared.constant.Constant.TheVariants.{Number, Truth}
-use Rattle.constants.specs.declared.constant.Fixed.{Fixed}
 use Rattle.base.specs.declared.value_type.ValueType.{ValueType}
 use Rattle.string_value.specs.StringValue.{string_value}
 use Rattle.base.specs.declared.value_type.ValueType.TheVariants.{Int, Bool as Boolean}
@@ -24,9 +23,11 @@ use Rattle.operators.specs.Operands.{Operand, constant, value, nil, type_of, is_
 use Rattle.operators.specs.Operators.{has_rules, prefixed, combined}
 use Rattle.names.specs.declared.scope.Declared.{Declared}
 use Rattle.names.specs.declared.scope.Declared.TheVariants as declared
+use Rattle.names.specs.declared.scope.Known.{Known}
+use Rattle.names.specs.declared.scope.Known.TheVariants as known_as
 use Rattle.names.specs.declared.scope.External.{External as ExternalFunction}
 use Rattle.names.specs.declared.scope.External.TheVariants as external
-use Rattle.names.specs.Scope.{Scope, Signature, declaration, signature, fixed}
+use Rattle.names.specs.Scope.{Scope, Signature, declaration, signature, known}
 use Rattle.names.specs.Naming.{name_in, between}
 
 -- an operand of `print`, `println` or `panic`: the bytes of a string, or a value and its type
@@ -52,20 +53,27 @@ pub data Gives : Type 0 where
 
 -- ---- names
 
--- the type of a package variable, by what is known of it, and its read
-abbrev pub known_type : Fixed → ValueType
-known_type f = constant_type f.value_type f.value
+-- the type of a constant or a package variable, by what is known of it
+abbrev pub known_type : Known → ValueType
+known_type (known_as.Constant f) = constant_type f.value_type f.value
+known_type (known_as.Variable t) = t
 
-abbrev pub global_read : ℕ → Fixed → Operand
-global_read g f = value (known_type f) (read (global g here))
+-- the read of a package variable
+abbrev pub global_read : ℕ → Known → Operand
+global_read g k = value (known_type k) (read (global g here))
+
+-- the value of a constant; the type of a variable is none, and is known of no constant
+abbrev pub constant_read : Known → Operand
+constant_read (known_as.Constant f) = constant f
+constant_read (known_as.Variable t) = nil
 
 -- a constant whose value is known, or the read of a variable with a type
 abbrev pub name_operand : Scope → Option Declared → Option Operand
 name_operand s None = None
 name_operand s (Some (declared.Variable site t)) = Some (value t (read (local site.0 here)))
 name_operand s (Some declared.Untyped) = None
-name_operand s (Some (declared.Constant k)) = option_map constant (fixed s k.0)
-name_operand s (Some (declared.Global k g)) = option_map (global_read g.0) (fixed s k.0)
+name_operand s (Some (declared.Constant k)) = option_map constant_read (known s k.0)
+name_operand s (Some (declared.Global k g)) = option_map (global_read g.0) (known s k.0)
 name_operand s (Some (declared.Function f)) = None
 name_operand s (Some (declared.External e at)) = None
 name_operand s (Some declared.TypeName) = None
@@ -310,8 +318,8 @@ abbrev pub callee_declared : Scope → Option Declared → Callee
 callee_declared s None = nothing
 callee_declared s (Some (declared.Variable site t)) = no_function
 callee_declared s (Some declared.Untyped) = nothing
-callee_declared s (Some (declared.Constant k)) = callee_value (option_map constant (fixed s k.0))
-callee_declared s (Some (declared.Global k g)) = callee_value (option_map (global_read g.0) (fixed s k.0))
+callee_declared s (Some (declared.Constant k)) = callee_value (option_map constant_read (known s k.0))
+callee_declared s (Some (declared.Global k g)) = callee_value (option_map (global_read g.0) (known s k.0))
 callee_declared s (Some (declared.Function f)) = function_with f.0 (signature s f.0)
 callee_declared s (Some (declared.External e at)) = callee_external e
 callee_declared s (Some declared.TypeName) = conversion

@@ -6,11 +6,10 @@ ghost use Rattle.syntax.specs.Expressions.{ex_of as tree_of, spelled};
 ghost use Rattle.type_faults.specs.declared.fault.FaultKind.TheVariants.{WrongCount};
 ghost use Rattle.type_faults.specs.Least.{IsLeast};
 ghost use Rattle.type_faults.specs.Faults.{fault as fault_at, IsFault, FormFails};
-ghost use Rattle.operators.specs.Operands.{constant};
 ghost use Rattle.operators.specs.Passing.{operand_of};
 ghost use Rattle.names.specs.Scope.{scope_of, declaration, signature};
 ghost use Rattle.names.specs.Naming.{name_in};
-ghost use Rattle.expression_types.specs.Typing.{global_read, operand_in, function_with, callee_declared, callee_value, spread_over, many, count, part_count, exit_places, panicked_with, exited_with, called_with};
+ghost use Rattle.expression_types.specs.Typing.{global_read, constant_read, operand_in, function_with, callee_declared, callee_value, spread_over, many, count, part_count, exit_places, panicked_with, exited_with, called_with};
 ghost use Rattle.expression_types.specs.Faults.{ValuesFail, PrintFails, TakeFails, CallFails, callee_name_fault, refused_fault};
 ghost use Rattle.expression_types.specs.Passing.{part_view, gives_of, seens, callee_of};
 ghost use Rattle.typed.specs.View.{ex_of};
@@ -21,8 +20,7 @@ use crate::values::{
     take_fault, taken, values, values_fault,
 };
 use base::{FuncId, NoMemory, Pos, ValueType};
-use constants::Fixed;
-use names::{Declared, External, Scope, spelled};
+use names::{Declared, External, Known, Scope, spelled};
 use operators::Operand;
 use std::alloc::Global;
 use syntax::Name;
@@ -44,11 +42,11 @@ fn callee_function(alloc: Global, scope: &Scope, function: FuncId) -> Result<Cal
 }
 
 /// A constant or a package variable as what is called, where its type is known.
-fn callee_known(fixed: Option<Fixed>) -> Callee
-    ensures constant { callee_of result ≡ callee_value (option_map constant fixed) }
-    ensures variable { (g : ℕ) → callee_of result ≡ callee_value (option_map (global_read g) fixed) }
+fn callee_known(known: Option<Known>) -> Callee
+    ensures constant { callee_of result ≡ callee_value (option_map constant_read known) }
+    ensures variable { (g : ℕ) → callee_of result ≡ callee_value (option_map (global_read g) known) }
 {
-    match fixed {
+    match known {
         Some(_) => Callee::NoFunction,
         None => Callee::Nothing,
     }
@@ -64,7 +62,7 @@ fn callee_declared(
     Ok(match declared {
         Some(Declared::Function(function)) => return callee_function(alloc, scope, function),
         Some(Declared::Constant(number) | Declared::Global(number, _)) => {
-            callee_known(scope.fixed(number))
+            callee_known(scope.known(number))
         }
         Some(Declared::External(External::ReadInt, _)) => Callee::Reader,
         Some(Declared::External(External::Exit, _)) => Callee::Exiter,

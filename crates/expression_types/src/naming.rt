@@ -6,29 +6,49 @@ ghost use Rattle.syntax.specs.Expressions.{name as name_of};
 ghost use Rattle.type_faults.specs.Least.{IsLeast};
 ghost use Rattle.operators.specs.Passing.{operand_of};
 ghost use Rattle.names.specs.Scope.{scope_of};
-ghost use Rattle.expression_types.specs.Typing.{one, global_read, name_operand, gives};
+ghost use Rattle.expression_types.specs.Typing.{one, known_type, global_read, constant_read, name_operand, gives};
 ghost use Rattle.expression_types.specs.Faults.{name_fault, Fails};
 ghost use Rattle.expression_types.specs.Passing.{gives_of};
 
 use crate::gives::Gives;
-use base::Pos;
-use constants::{Constant, Fixed, constant_type, untyped};
-use names::{Declared, GlobalId, Scope, spelled};
+use base::{Pos, ValueType};
+use constants::{Constant, constant_type, untyped};
+use names::{Declared, GlobalId, Known, Scope, spelled};
 use operators::Operand;
 use std::alloc::Global;
 use syntax::Name;
 use type_faults::{Fault, FaultKind};
 use typed::{Expr, Place};
 
+/// The type of a constant or a package variable, by what is known of it.
+pub fn known_type(known: Known) -> ValueType
+    ensures { result ≡ known_type known }
+{
+    match known {
+        Known::Constant(fixed) => constant_type(fixed),
+        Known::Variable(value_type) => value_type,
+    }
+}
+
 /// The read of a package variable, of which this is known.
 #[tactic(auto, using(typed::proofs::Rows::expr_rows))]
-fn global_read(alloc: Global, global: GlobalId, known: Fixed) -> Operand
+fn global_read(alloc: Global, global: GlobalId, known: Known) -> Operand
     ensures { operand_of result ≡ global_read global.0 known }
 {
     Operand::Value(
-        constant_type(known),
+        known_type(known),
         Expr::Read(Place::Global(global.0, Vec::new(alloc))),
     )
+}
+
+/// The value of a constant of which this is known; a type is known of no constant.
+fn constant_read(known: Known) -> Operand
+    ensures { operand_of result ≡ constant_read known }
+{
+    match known {
+        Known::Constant(fixed) => Operand::Constant(fixed),
+        Known::Variable(_) => Operand::Nil,
+    }
 }
 
 #[tactic(auto, using(typed::proofs::Rows::expr_rows))]
@@ -40,9 +60,9 @@ fn value_of(alloc: Global, scope: &Scope, declared: Option<Declared>) -> Option<
             value_type,
             Expr::Read(Place::Local(site, Vec::new(alloc))),
         ),
-        Some(Declared::Constant(number)) => Operand::Constant(scope.fixed(number)?),
+        Some(Declared::Constant(number)) => constant_read(scope.known(number)?),
         Some(Declared::Global(number, global)) => {
-            global_read(alloc, global, scope.fixed(number)?)
+            global_read(alloc, global, scope.known(number)?)
         }
         Some(Declared::Truth(truth)) => Operand::Constant(untyped(Constant::Truth(truth))),
         Some(Declared::Nil) => Operand::Nil,

@@ -2,7 +2,7 @@
 
 use base::{FuncId, Pos, ValueType};
 use constants::{Constant, untyped};
-use names::{Blocks, Declared, Scope, ValueId, beginning, type_fault, type_in};
+use names::{Blocks, Declared, Known, Scope, ValueId, beginning, type_fault, type_in};
 use std::alloc::Global;
 use std::process::Abort;
 use std::test::Fail;
@@ -66,16 +66,16 @@ fn the_universe(rt: HostRuntime) -> Result<(), Fail> {
 }
 
 fn check_constants(rt: &impl Abort, scope: &mut Scope) -> Result<(), Fail> {
-    let five = untyped(Constant::Number(5));
+    let five = Known::Constant(untyped(Constant::Number(5)));
     scope.add_value(None)?;
     scope.add_value(None)?;
     assert_eq!(rt; scope.value_count(), 2);
-    scope.set_fixed(ValueId(1), Some(five));
-    scope.set_fixed(ValueId(2), Some(five));
+    scope.set_known(ValueId(1), Some(five));
+    scope.set_known(ValueId(2), Some(five));
     assert_eq!(rt; scope.value_count(), 2);
-    assert_eq!(rt; scope.fixed(ValueId(0)), None);
-    assert_eq!(rt; scope.fixed(ValueId(1)), Some(five));
-    assert_eq!(rt; scope.fixed(ValueId(2)), None);
+    assert_eq!(rt; scope.known(ValueId(0)), None);
+    assert_eq!(rt; scope.known(ValueId(1)), Some(five));
+    assert_eq!(rt; scope.known(ValueId(2)), None);
     Ok(())
 }
 

@@ -8,7 +8,6 @@ use Rattle.base.specs.declared.pos.Pos.{Pos}
 use Rattle.syntax.specs.FirstBytes.{first_pos}
 use Rattle.syntax.specs.Expressions.{Ex as TreeEx, name, paren, spelled}
 use Rattle.type_faults.specs.declared.fault.FaultKind.TheVariants.{OutOfProfile}
-use Rattle.constants.specs.declared.constant.Fixed.{Fixed}
 use Rattle.base.specs.declared.value_type.ValueType.{ValueType}
 use Rattle.base.specs.declared.value_type.ValueType.TheVariants.{Int, Bool as Boolean}
 use Rattle.typed.specs.Tables.{Table}
@@ -21,6 +20,8 @@ use Rattle.type_faults.proofs.Options.{none_some, same_some}
 use Rattle.names.specs.Blocks.{lookup}
 use Rattle.names.specs.declared.scope.Declared.{Declared}
 use Rattle.names.specs.declared.scope.Declared.TheVariants as declared
+use Rattle.names.specs.declared.scope.Known.{Known}
+use Rattle.names.specs.declared.scope.Known.TheVariants as known_as
 use Rattle.names.specs.Universe.{is_type_name, is_value_name, left_out, predeclared_function, predeclared}
 use Rattle.names.specs.Scope.{Scope, Signature, numbered, declaration}
 use Rattle.names.specs.Types.{is_known, declared_type, type_in}
@@ -31,17 +32,26 @@ abbrev pub HasSignature : Option Signature → Type 0
 HasSignature None = ⊥
 HasSignature (Some sig) = ⊤
 
--- a value that is known, and held by its type
-abbrev pub HasValue : Option Fixed → Type 0
-HasValue None = ⊥
-HasValue (Some f) = is_held f.value_type f.value ≡ true
+-- the value of a constant is held by its type
+abbrev pub IsSound : Known → Type 0
+IsSound (known_as.Constant f) = is_held f.value_type f.value ≡ true
+IsSound (known_as.Variable t) = ⊤
+
+-- what is known of the constants and variables is sound
+abbrev pub AreSound : List (Option Known) → Type 0
+AreSound ks = (k : ℕ) (x : Known) → option_and_then (λ o. o) (slice_get ks k) ≡ Some x → IsSound x
+
+-- something is known, and it is sound
+abbrev pub IsKnown : Option Known → Type 0
+IsKnown None = ⊥
+IsKnown (Some x) = IsSound x
 
 -- a variable with a type, a constant or package variable of which something is known, a function with a signature, or what needs none; a type is known
-abbrev pub IsTyped : Table → List (Option Signature) → List (Option Fixed) → Declared → Type 0
+abbrev pub IsTyped : Table → List (Option Signature) → List (Option Known) → Declared → Type 0
 IsTyped T sigs values (declared.Variable site t) = ⊤
 IsTyped T sigs values declared.Untyped = ⊥
-IsTyped T sigs values (declared.Constant k) = HasValue (option_and_then (λ o. o) (slice_get values k.0))
-IsTyped T sigs values (declared.Global k g) = HasValue (option_and_then (λ o. o) (slice_get values k.0))
+IsTyped T sigs values (declared.Constant k) = IsKnown (option_and_then (λ o. o) (slice_get values k.0))
+IsTyped T sigs values (declared.Global k g) = IsKnown (option_and_then (λ o. o) (slice_get values k.0))
 IsTyped T sigs values (declared.Function f) = HasSignature (option_and_then (λ o. o) (slice_get sigs f.0))
 IsTyped T sigs values (declared.External e at) = ⊤
 IsTyped T sigs values declared.TypeName = ⊥
@@ -87,7 +97,7 @@ module _ (P : Declared → Type 0) (int_is : P (declared.«Type» Int)) (bool_is
       (by_test P (bytes_eq n (codes "true")) (declared.Truth true) _ (truth_is true)
       (by_test P (bytes_eq n (codes "false")) (declared.Truth false) _ (truth_is false) (by_test P (bytes_eq n (codes "nil")) declared.Nil _ nil_is (function_is n)))))
 
-predeclared_typed : (T : Table) → IsFormed T → (sigs : List (Option Signature)) (values : List (Option Fixed)) (n : List ℕ) (d : Declared) → predeclared n ≡ Some d → IsTyped T sigs values d
+predeclared_typed : (T : Table) → IsFormed T → (sigs : List (Option Signature)) (values : List (Option Known)) (n : List ℕ) (d : Declared) → predeclared n ≡ Some d → IsTyped T sigs values d
 predeclared_typed T formed sigs values n d is = predeclared_is (IsTyped T sigs values) (int_known T formed) (bool_known T formed) (λ b. tt) tt (λ line. tt) tt tt tt n d is
 
 numbered_typed : (s : Scope) → IsSettled s → (n : List ℕ) (o : Option ℕ) (d : Declared) → numbered s n o ≡ Some d → IsTyped s.types s.signatures s.values d

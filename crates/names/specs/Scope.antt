@@ -8,11 +8,11 @@ use Rattle.base.specs.declared.value_type.ValueType.{ValueType}
 use Rattle.base.specs.declared.value_type.ValueType.TheVariants.{Int, Bool as Truth}
 use Rattle.typed.specs.Tables.{Table, number_of}
 use Rattle.typed.specs.Trees.{tree_named}
-use Rattle.constants.specs.declared.constant.Fixed.{Fixed}
 use Rattle.names.specs.Blocks.{Blocks, lookup, innermost, insert}
 use Rattle.names.specs.declared.scope.Signature.{Signature as SignatureData}
 use Rattle.names.specs.declared.scope.Declared.{Declared}
 use Rattle.names.specs.declared.scope.Declared.TheVariants.{Variable, Untyped}
+use Rattle.names.specs.declared.scope.Known.{Known}
 use Rattle.names.specs.declared.scope.Scope.{Scope as ScopeData}
 use Rattle.names.specs.Universe.{predeclared}
 
@@ -41,14 +41,14 @@ signature_of s = record { params = s.params.items; results = s.results.items }
 
 -- the blocks that are open, which number the declarations; the declarations; the sites of the variables with a type; the signatures of the
 -- functions, where they have one; what is known of the constants and the package variables, which are numbered together: the value of a
--- constant, and of a variable the zero value of its type; which of them are the package variables with a name; the bytes of the strings
--- that stand in statements so far; and the types of the program
+-- constant, and the type of a variable; which of them are the package variables with a name; the bytes of the strings that stand in
+-- statements so far; and the types of the program
 pub record Scope : Type 0 where
   pub blocks : Blocks
   pub declared : List Declared
   pub sites : List Site
   pub signatures : List (Option Signature)
-  pub values : List (Option Fixed)
+  pub values : List (Option Known)
   pub globals : List ℕ
   pub strings : List (List ℕ)
   pub types : Table
@@ -74,8 +74,8 @@ abbrev pub signature : Scope → ℕ → Option Signature
 signature s f = option_and_then (λ o. o) (slice_get s.signatures f)
 
 -- what is known of a constant or a package variable, by its number
-abbrev pub fixed : Scope → ℕ → Option Fixed
-fixed s k = option_and_then (λ o. o) (slice_get s.values k)
+abbrev pub known : Scope → ℕ → Option Known
+known s k = option_and_then (λ o. o) (slice_get s.values k)
 
 -- one more declaration, of a name of the innermost block
 abbrev pub with_declaration : Scope → List ℕ → Declared → Scope
@@ -95,7 +95,7 @@ abbrev pub with_signature : Scope → Option Signature → Scope
 with_signature s o = record s { signatures = s.signatures ++ o ∷ [] }
 
 -- one more constant or package variable, of which something is known or nothing
-abbrev pub with_value : Scope → Option Fixed → Scope
+abbrev pub with_value : Scope → Option Known → Scope
 with_value s o = record s { values = s.values ++ o ∷ [] }
 
 -- one more package variable with a name, which is the constant or variable of the next number
@@ -103,8 +103,8 @@ abbrev pub with_global : Scope → Scope
 with_global s = record s { globals = s.globals ++ length s.values ∷ [] }
 
 -- what is known of the constant or package variable of a number
-abbrev pub with_fixed : Scope → ℕ → Option Fixed → Scope
-with_fixed s k o = record s { values = slice_set s.values k o }
+abbrev pub with_known : Scope → ℕ → Option Known → Scope
+with_known s k o = record s { values = slice_set s.values k o }
 
 -- more strings
 abbrev pub with_strings : Scope → List (List ℕ) → Scope

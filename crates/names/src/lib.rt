@@ -16,6 +16,8 @@ mod universe;
 
 pub use blocks::Blocks;
 pub use naming::{between, name_in, spelled};
-pub use scope::{Declared, External, GlobalId, Scope, Signature, ValueId, beginning, type_id};
+pub use scope::{
+    Declared, External, GlobalId, Known, Scope, Signature, ValueId, beginning, type_id,
+};
 pub use type_names::{type_fault, type_in};
 pub use universe::{is_blank, is_main};

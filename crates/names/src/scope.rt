@@ -2,7 +2,7 @@
 
 ghost use Rattle.std.specs.Prelude.{◌≡◌, ◌<◌, length, map, OnOk, IfOk, Option, None, Some, ◌+◌};
 ghost use Rattle.std.specs.Option.{option_map};
-ghost use Rattle.names.specs.Scope.{type_number, scope_of, signature_of, declaration, is_here, signature, fixed, beginning, with_declaration, with_site, with_variable, with_signature, with_value, with_global, with_fixed, with_strings, opened, closed};
+ghost use Rattle.names.specs.Scope.{type_number, scope_of, signature_of, declaration, is_here, signature, known, beginning, with_declaration, with_site, with_variable, with_signature, with_value, with_global, with_known, with_strings, opened, closed};
 
 use crate::blocks::Blocks;
 use crate::universe::predeclared;
@@ -40,6 +40,15 @@ pub struct ValueId(pub u32);
 #[derive(Clone, Copy, Debug, PartialEq, Eq)]
 pub struct GlobalId(pub u32);
 
+/// What is known of a constant or of a package variable of the program.
+#[derive(Clone, Copy, Debug, PartialEq, Eq)]
+pub enum Known {
+    /// A constant's value.
+    Constant(Fixed),
+    /// A variable's type.
+    Variable(ValueType),
+}
+
 /// What a name stands for.
 #[derive(Clone, Copy, Debug, PartialEq, Eq)]
 pub enum Declared {
@@ -75,15 +84,15 @@ pub enum Declared {
 
 /// The declarations that are in scope: the open blocks number them. And the sites of the variables that have a type, the
 /// signature of each function, where it has one, and the bytes of the strings that stand in statements so far. Of each
-/// constant and each package variable, which are numbered together, it says what is known: the value of a constant, and of a
-/// variable the zero value of its type. And the types of the program.
+/// constant and each package variable, which are numbered together, it says what is known, where something is. And the
+/// types of the program.
 #[derive(Drop)]
 pub struct Scope {
     pub names: Blocks,
     pub declared: Vec<Declared>,
     pub sites: Vec<Site>,
     pub signatures: Vec<Option<Signature>>,
-    pub values: Vec<Option<Fixed>>,
+    pub values: Vec<Option<Known>>,
     pub globals: Vec<ValueId>,
     pub strings: Vec<Vec<u8>>,
     pub types: TypeTable,
@@ -151,20 +160,20 @@ impl Scope {
     }
 
     /// What is known of a constant or a package variable.
-    pub fn fixed(&self, number: ValueId) -> Option<Fixed>
-        ensures { result ≡ fixed (scope_of self.now) number.0 }
+    pub fn known(&self, number: ValueId) -> Option<Known>
+        ensures { result ≡ known (scope_of self.now) number.0 }
     {
         match self.values.get(number.0 as usize) {
-            Some(value) => *value,
+            Some(known) => *known,
             None => None,
         }
     }
 
     /// Adds a constant or a package variable with the next number, by what is known of it.
-    pub fn add_value(&mut self, value: Option<Fixed>) -> Result<(), NoMemory>
-        ensures { OnOk result (scope_of self.new ≡ with_value (scope_of self.old) value) }
+    pub fn add_value(&mut self, known: Option<Known>) -> Result<(), NoMemory>
+        ensures { OnOk result (scope_of self.new ≡ with_value (scope_of self.old) known) }
     {
-        self.values.push(value)?;
+        self.values.push(known)?;
         Ok(())
     }
 
@@ -187,12 +196,12 @@ impl Scope {
     }
 
     /// Says what is known of a constant or a package variable.
-    pub fn set_fixed(&mut self, number: ValueId, value: Option<Fixed>)
-        ensures { scope_of self.new ≡ with_fixed (scope_of self.old) number.0 value }
+    pub fn set_known(&mut self, number: ValueId, known: Option<Known>)
+        ensures { scope_of self.new ≡ with_known (scope_of self.old) number.0 known }
     {
         let index = number.0 as usize;
         if index < self.values.len() {
-            self.values[index] = value;
+            self.values[index] = known;
         }
     }
 

@@ -1,6 +1,6 @@
 -- Constants that operands and operators give are held by their types.
-use Rattle.std.proofs.Common.{◌≡◌, ℕ, Bool, true, false, List, Option, Some, None, Result, Ok, Err, refl, subst}
-use Rattle.std.specs.Prelude.{option_and_then, slice_get, ◌&&◌}
+use Rattle.std.proofs.Common.{◌≡◌, Bool, true, false, Option, Some, None, Result, Ok, Err, refl, subst}
+use Rattle.std.specs.Prelude.{◌&&◌}
 use Rattle.std.specs.Option.{option_map}
 use Rattle.base.specs.declared.pos.Pos.{Pos}
 use Rattle.syntax.specs.declared.operator.BinOp.{BinOp}
@@ -27,10 +27,6 @@ abbrev pub IsHeld : Operand → Type 0
 IsHeld (constant f) = is_held f.value_type f.value ≡ true
 IsHeld (value t x) = Unit {0}
 IsHeld nil = Unit {0}
-
--- the constants of a scope whose values are known
-abbrev pub AreHeld : List (Option Fixed) → Type 0
-AreHeld constants = (k : ℕ) (f : Fixed) → option_and_then (λ o. o) (slice_get constants k) ≡ Some f → is_held f.value_type f.value ≡ true
 
 -- a type that holds a constant is the one that the constant has by itself
 pub held_type : (t : Option ValueType) (c : Constant) → is_held t c ≡ true → constant_type t c ≡ constant_type None c

@@ -18,7 +18,6 @@ use Rattle.constants.specs.declared.constant.Fixed.{Fixed}
 use Rattle.type_faults.specs.declared.fault.Fault.{Fault}
 use Rattle.type_faults.specs.declared.fault.FaultKind.TheVariants.{Mismatch, WrongCount, ConstRange, Unfit, SelfReference, OutOfProfile}
 use Rattle.base.specs.declared.value_type.ValueType.{ValueType}
-use Rattle.base.specs.declared.value_type.ValueType.TheVariants.{Int, Bool as Boolean, Struct, Array}
 use Rattle.typed.specs.Tables.{Table}
 use Rattle.typed.specs.Formed.{IsFormed}
 use Rattle.base.specs.Types.{same_type}
@@ -32,17 +31,19 @@ use Rattle.operators.specs.Operators.{has_rules, prefixed, combined}
 use Rattle.names.specs.Blocks.{lookup}
 use Rattle.names.specs.declared.scope.Declared.{Declared}
 use Rattle.names.specs.declared.scope.Declared.TheVariants as declared
-use Rattle.names.specs.Scope.{Scope, Signature, numbered, declaration, fixed}
+use Rattle.names.specs.declared.scope.Known.{Known}
+use Rattle.names.specs.declared.scope.Known.TheVariants as known_as
+use Rattle.names.specs.Scope.{Scope, Signature, numbered, declaration}
 use Rattle.names.specs.Types.{type_in}
 use Rattle.names.specs.Faults.{FailsAsType}
-use Rattle.names.proofs.Settled.{HasValue, IsTyped, IsSettled, predeclared_is, type_decided}
+use Rattle.names.proofs.Settled.{IsSound, AreSound, IsKnown, IsTyped, IsSettled, predeclared_is, type_decided}
 use Rattle.expression_types.specs.Typing.{are_single, Gives, one, name_operand, prefix_gives, accepts_operand, single, operand_in, type_in_one, own_type, Seen, Many, many_in, many as many_of, count_of, gives, seen}
 use Rattle.expression_types.specs.Faults.{single_fault, range_fault, RangeFails, CountFails, SinglesFail, ValuesFail as ManyFail, Fails, FailsInEach}
 use Rattle.expression_types.proofs.DecidedValues.{single_decided, as_value_decided}
 use Rattle.expression_types.proofs.InForm.{typed_value}
 use Rattle.type_faults.proofs.Lists.{take_all}
 use Rattle.expression_types.proofs.Settled.{gives_decided}
-use Rattle.package_values.specs.Values.{Item, as_constant, unvalued, paired, or_unvalued, items_of, items_in_specs, items_in, with_type, zero_of, accepted, given_by, variable_type, given_as, given, settled}
+use Rattle.package_values.specs.Values.{Item, as_constant, unvalued, paired, or_unvalued, items_of, items_in_specs, items_in, with_type, is_variable_type, known_variable, accepted, given_by, variable_type, given_as, given, settled}
 use Rattle.package_values.specs.declared.items.Role.{Role}
 use Rattle.package_values.specs.declared.items.Role.TheVariants as role
 use Rattle.package_values.specs.Needs.{names_in, names_in_each, names_in_some, names_waited, value_number, also, has_form, have_form, waited_form, numbers_of, needed_for, needed_as, needed, needed_in, Needs, Reaches, at_once, through}
@@ -50,7 +51,7 @@ use Rattle.package_values.specs.ValueFaults.{single_count, value_fault, ValuesFa
 use Rattle.components.specs.Graph.{Among}
 use Rattle.package_values.specs.Passing.{has_mark, is_marked}
 use Rattle.package_values.proofs.Growth.{known, Consistent, IsEnd, rounds, rounds_good, rounds_settle, all_seen, rounds_hold}
-use Rattle.package_values.proofs.Giving.{holding, give, monotone, type_same, given_held, looks_are}
+use Rattle.package_values.proofs.Giving.{holding, give, monotone, type_same, given_sound, looks_are}
 use Rattle.package_values.proofs.Same.{NameSame, AllSame, all_left, all_right, gives_same, fails_back, type_fails_back}
 use Rattle.package_values.proofs.Marks.{unmarked, set_count, set_only, set_length}
 
@@ -80,27 +81,24 @@ nothing_known (c ∷ cs) all (suc k) f h = nothing_known cs all.1 k f h
 
 -- ---- a value in place of each that isn't known
 
-abbrev filled_one : Option Fixed → Option Fixed
-filled_one None = Some (untyped (Truth true))
+abbrev filled_one : Option Known → Option Known
+filled_one None = Some (known_as.Constant (untyped (Truth true)))
 filled_one (Some f) = Some f
 
-abbrev filled : List (Option Fixed) → List (Option Fixed)
+abbrev filled : List (Option Known) → List (Option Known)
 filled cs = map filled_one cs
 
-filled_known : (cs : List (Option Fixed)) (k : ℕ) (f : Fixed) → known cs k ≡ Some f → known cs k ≡ known (filled cs) k
+filled_known : (cs : List (Option Known)) (k : ℕ) (f : Known) → known cs k ≡ Some f → known cs k ≡ known (filled cs) k
 filled_known [] k f h = refl
 filled_known (None ∷ cs) zero f h = absurd (none_some h)
 filled_known (Some g ∷ cs) zero f h = refl
 filled_known (c ∷ cs) (suc k) f h = filled_known cs k f h
 
-abbrev AreHeld : List (Option Fixed) → Type 0
-AreHeld cs = (k : ℕ) (f : Fixed) → known cs k ≡ Some f → is_held f.value_type f.value ≡ true
-
-filled_value : (cs : List (Option Fixed)) → AreHeld cs → (k : ℕ) → k < length cs → HasValue (known (filled cs) k)
-filled_value [] held k l = absurd (omega (arith, l))
-filled_value (None ∷ cs) held zero l = refl
-filled_value (Some f ∷ cs) held zero l = held zero f refl
-filled_value (c ∷ cs) held (suc k) l = filled_value cs (λ j f h. held (suc j) f h) k (omega (arith, l))
+filled_value : (cs : List (Option Known)) → AreSound cs → (k : ℕ) → k < length cs → IsKnown (known (filled cs) k)
+filled_value [] sound k l = absurd (omega (arith, l))
+filled_value (None ∷ cs) sound zero l = refl
+filled_value (Some f ∷ cs) sound zero l = sound zero f refl
+filled_value (c ∷ cs) sound (suc k) l = filled_value cs (λ j f h. sound (suc j) f h) k (omega (arith, l))
 
 -- what is typed once the constants and variables are known, of which there are n
 abbrev pub IsTypedOnceKnown : Table → List (Option Signature) → ℕ → Declared → Type 0
@@ -108,7 +106,7 @@ IsTypedOnceKnown T sigs n (declared.Constant k) = k.0 < n
 IsTypedOnceKnown T sigs n (declared.Global k g) = k.0 < n
 IsTypedOnceKnown T sigs n d = IsTyped T sigs [] d
 
-typed_by : (T : Table) (sigs : List (Option Signature)) (cs : List (Option Fixed)) → ((k : ℕ) → k < length cs → HasValue (known cs k)) → (n : ℕ) → n ≡ length cs → (d : Declared) → IsTypedOnceKnown T sigs n d → IsTyped T sigs cs d
+typed_by : (T : Table) (sigs : List (Option Signature)) (cs : List (Option Known)) → ((k : ℕ) → k < length cs → IsKnown (known cs k)) → (n : ℕ) → n ≡ length cs → (d : Declared) → IsTypedOnceKnown T sigs n d → IsTyped T sigs cs d
 typed_by T sigs cs has n many (declared.Constant k) h = has k.0 (omega (arith, h, many))
 typed_by T sigs cs has n many (declared.Global k g) h = has k.0 (omega (arith, h, many))
 typed_by T sigs cs has n many d h = h
@@ -123,8 +121,8 @@ number_below T sigs n (declared.Constant k) h j e = subst (λ (m : ℕ). m < n) 
 number_below T sigs n (declared.Global k g) h j e = subst (λ (m : ℕ). m < n) (same_some e) h
 number_below T sigs n d h j e = absurd (none_some e)
 
-module _ (text : List ℕ) (s : Scope) (n : ℕ) (formed : IsFormed s.types) (typed : AllByRecursion (IsTypedOnceKnown s.types s.signatures n) s.declared) (cs : List (Option Fixed)) (many : length cs ≡ n) (held : AreHeld cs) where
-  many_filled : (xs : List (Option Fixed)) → length (filled xs) ≡ length xs
+module _ (text : List ℕ) (s : Scope) (n : ℕ) (formed : IsFormed s.types) (typed : AllByRecursion (IsTypedOnceKnown s.types s.signatures n) s.declared) (cs : List (Option Known)) (many : length cs ≡ n) (held : AreSound cs) where
+  many_filled : (xs : List (Option Known)) → length (filled xs) ≡ length xs
   many_filled [] = refl
   many_filled (x ∷ xs) = ap suc (many_filled xs)
 
@@ -149,7 +147,7 @@ module _ (text : List ℕ) (s : Scope) (n : ℕ) (formed : IsFormed s.types) (ty
   abbrev Unknown : List ℕ → Type 0
   Unknown ks = (j : ℕ) × Among j ks × (known cs j ≡ None) × (j < n)
 
-  unknown_at : (k : ℕ) → k < n → (o : Option Fixed) → known cs k ≡ o → (known cs k ≡ known (filled cs) k) ⊎ ((j : ℕ) × (Some k ≡ Some j) × (known cs j ≡ None) × (j < n))
+  unknown_at : (k : ℕ) → k < n → (o : Option Known) → known cs k ≡ o → (known cs k ≡ known (filled cs) k) ⊎ ((j : ℕ) × (Some k ≡ Some j) × (known cs j ≡ None) × (j < n))
   unknown_at k l None e = inr (k, refl, e, l)
   unknown_at k l (Some f) e = inl (filled_known cs k f e)
 
@@ -484,17 +482,18 @@ module _ (text : List ℕ) (s : Scope) (n : ℕ) (formed : IsFormed s.types) (ty
   with_form : (v : Option TreeEx) (es : TreeExs) → waited_form text (holding s cs) v es ≡ true → Unknown (numbers_of text (holding s cs) (names_waited v es)) → VariableUnknown None v es
   with_form v es form u = subst (λ (b : Bool). Unknown (cond b (numbers_of text (holding s cs) (names_waited v es)) [])) (sym form) u
 
-  -- a type that isn't left out has a zero value
-  zero_there : (t : ValueType) (at : Pos) → Never (IsFault (left_out_fault (Some t) at)) → (f : Fixed) × (zero_of t ≡ Some f)
-  zero_there Int at never = (_, refl)
-  zero_there Boolean at never = (_, refl)
-  zero_there (Struct k) at never = absurd (never _ refl)
-  zero_there (Array n e) at never = absurd (never _ refl)
+  -- a variable of a type that isn't left out is known
+  variable_there : (t : ValueType) (at : Pos) → Never (IsFault (left_out_fault (Some t) at)) → (x : Known) × (known_variable t ≡ Some x)
+  variable_there t at never = by (is_variable_type t) never
+    where
+      by : (b : Bool) → Never (IsFault (cond b None (Some (fault OutOfProfile at)))) → (x : Known) × (allowed b (Some (known_as.Variable t)) ≡ Some x)
+      by true free = (known_as.Variable t, refl)
+      by false free = absurd (free _ refl)
 
-  never_unknown : (o : Option ValueType) (at : Pos) (t : ValueType) → o ≡ Some t → Never (IsFault (left_out_fault o at)) → option_and_then zero_of o ≡ None → ⊥
+  never_unknown : (o : Option ValueType) (at : Pos) (t : ValueType) → o ≡ Some t → Never (IsFault (left_out_fault o at)) → option_and_then known_variable o ≡ None → ⊥
   never_unknown o at t o_is never is =
-      let z = zero_there t at (λ f h. never f (subst (λ (x : Option ValueType). IsFault (left_out_fault x at) f) (sym o_is) h)) in
-      none_some (sym is ∙ ap (option_and_then zero_of) o_is ∙ z.1)
+      let z = variable_there t at (λ f h. never f (subst (λ (x : Option ValueType). IsFault (left_out_fault x at) f) (sym o_is) h)) in
+      none_some (sym is ∙ ap (option_and_then known_variable) o_is ∙ z.1)
 
   -- an operand that is a value by itself has a type
   own_there : (x : Operand) (at : Pos) → Never (IsFault (range_fault at (Some x))) → (t : ValueType) × (type_of x ≡ Some t) × (option_and_then (λ e. type_of x) (as_value x) ≡ Some t)
@@ -504,7 +503,7 @@ module _ (text : List ℕ) (s : Scope) (n : ℕ) (formed : IsFormed s.types) (ty
       by None is d = absurd (never d.0 d.1)
       by (Some v) is d = let t = typed_value x v is in (t.0, t.1, ap (option_and_then (λ e. type_of x)) is ∙ t.1)
 
-  variable_needs : (t v : Option TreeEx) (es : TreeExs) (m k : ℕ) → Never (TypeFails text (holding s cs) t) → HoldsInitial t v es → option_and_then zero_of (variable_type text (holding s cs) t v es m k) ≡ None → VariableUnknown t v es
+  variable_needs : (t v : Option TreeEx) (es : TreeExs) (m k : ℕ) → Never (TypeFails text (holding s cs) t) → HoldsInitial t v es → option_and_then known_variable (variable_type text (holding s cs) t v es m k) ≡ None → VariableUnknown t v es
   variable_needs (Some e) v es m k type_never holds1 is = let t = type_here e type_never in absurd (never_unknown (type_in text (holding s cs) e) (first_pos e) t.0 t.1 holds1 is)
   variable_needs None None es m k type_never holds1 is = by (unknown (names_in_each es))
     where
@@ -529,7 +528,7 @@ module _ (text : List ℕ) (s : Scope) (n : ℕ) (formed : IsFormed s.types) (ty
       by (inr u) = u
 
   needs_as : (r : Role) (i : Item) → Never (TypeFails text (holding s cs) i.type_expr) → HoldsAs r i.type_expr i.value i.values → given_as text r (holding s cs) i ≡ None → Unknown (needed_as text (holding s cs) r i)
-  needs_as role.Constant i type_never holds1 is = constant_needs i type_never holds1 is
+  needs_as role.Constant i type_never holds1 is = constant_needs i type_never holds1 (no_map known_as.Constant (given_by text (holding s cs) i.type_expr i.value) is)
   needs_as role.Variable i type_never holds1 is =
       by i.type_expr (variable_needs i.type_expr i.value i.values (length i.names) i.place type_never holds1 is)
     where
@@ -599,10 +598,10 @@ module _ (text : List ℕ) (s : Scope) (n : ℕ) (formed : IsFormed s.types) (ty
         all_unmarked zero = refl
         all_unmarked (suc m) = ap suc (all_unmarked m)
 
-        known_or_not : (k : ℕ) → k < n → (f : Fixed) × (known cs k ≡ Some f)
+        known_or_not : (k : ℕ) → k < n → (f : Known) × (known cs k ≡ Some f)
         known_or_not k l = by (known cs k) refl
           where
-            by : (o : Option Fixed) → known cs k ≡ o → (f : Fixed) × (known cs k ≡ Some f)
+            by : (o : Option Known) → known cs k ≡ o → (f : Known) × (known cs k ≡ Some f)
             by None e = absurd (walk n (replicate n false) k (omega (arith, all_unmarked n)) (free n k l) (length-replicate n false) e (λ j h. absurd (none_marked n j h)))
             by (Some f) e = (f, e)
 
@@ -615,17 +614,17 @@ pub record NothingFails (text : List ℕ) (s : Scope) (ds : List Declaration) : 
   pub never : (f : Fault) → ItemsFail text (settled text s (items_in ds)) ds f → ⊥
 
 module _ (text : List ℕ) (s : Scope) (ds : List Declaration) where
-  abbrev behind : List (Option Fixed)
+  abbrev behind : List (Option Known)
   behind = rounds (give text s) (monotone text s) (length (items_in ds)) s.values (items_in ds)
 
-  abbrev HasValueAt : List (Option Fixed) → ℕ → Type 0
-  HasValueAt cs k = (f : Fixed) × (known cs k ≡ Some f)
+  abbrev HasValueAt : List (Option Known) → ℕ → Type 0
+  HasValueAt cs k = (f : Known) × (known cs k ≡ Some f)
 
   module _ (h : NothingFails text s ds) where
     settled_is : settled text s (items_in ds) ≡ holding s behind
     settled_is = looks_are text s (length (items_in ds)) s.values (items_in ds)
 
-    nothing : (k : ℕ) (f : Fixed) → known s.values k ≡ Some f → ⊥
+    nothing : (k : ℕ) (f : Known) → known s.values k ≡ Some f → ⊥
     nothing = nothing_known s.values h.unknown
 
     consistent : Consistent (give text s) (monotone text s) (items_in ds) s.values
@@ -634,9 +633,9 @@ module _ (text : List ℕ) (s : Scope) (ds : List Declaration) where
     end : IsEnd (give text s) (monotone text s) (items_in ds) behind
     end = rounds_settle (give text s) (monotone text s) (items_in ds) s.values consistent h.as_many
 
-    held : AreHeld behind
+    held : AreSound behind
     held =
-        rounds_hold (give text s) (monotone text s) (items_in ds) (λ (f : Fixed). is_held f.value_type f.value ≡ true) (given_held text s) (length (items_in ds)) s.values
+        rounds_hold (give text s) (monotone text s) (items_in ds) IsSound (given_sound text s) (length (items_in ds)) s.values
         (λ k f e. absurd (nothing k f e))
 
     never_here : (f : Fault) → ItemsFail text (holding s behind) ds f → ⊥
@@ -659,7 +658,7 @@ module _ (text : List ℕ) (s : Scope) (ds : List Declaration) where
         item_needs text s (length s.values) h.formed h.typed behind many_behind held i (element (Sound text s (length s.values) h.formed h.typed behind many_behind held) (items_in ds) k i sound at)
         (by (give text s behind i) refl)
       where
-        by : (o : Option Fixed) → give text s behind i ≡ o → give text s behind i ≡ None
+        by : (o : Option Known) → give text s behind i ≡ o → give text s behind i ≡ None
         by None e = e
         by (Some f) e = absurd (none_some (sym unknown_at ∙ all_seen (give text s) (monotone text s) (items_in ds) behind (rounds_good (give text s) (monotone text s) (items_in ds) (length (items_in ds)) s.values consistent).consistent end k i f at e (let as_many = h.as_many in let many = many_behind in omega (arith, below text s (length s.values) h.formed h.typed behind many_behind held (items_in ds) k i at, as_many, many))))
 
@@ -667,11 +666,11 @@ module _ (text : List ℕ) (s : Scope) (ds : List Declaration) where
     known_behind k l = known_or_not text s (length s.values) h.formed h.typed behind many_behind held (items_in ds) (sym h.as_many) next no_cycle k l
 
     -- something is known of each
-    pub all_known : (k : ℕ) → k < length s.values → (f : Fixed) × (fixed (settled text s (items_in ds)) k ≡ Some f)
-    all_known k l = let f = known_behind k l in (f.0, ap (λ (r : Scope). fixed r k) settled_is ∙ f.1)
+    pub all_known : (k : ℕ) → k < length s.values → (f : Known) × (known (settled text s (items_in ds)).values k ≡ Some f)
+    all_known k l = let f = known_behind k l in (f.0, ap (λ (r : Scope). known r.values k) settled_is ∙ f.1)
 
-    has_value : (k : ℕ) → k < length behind → HasValue (known behind k)
-    has_value k l = let many = many_behind in let f = known_behind k (omega (arith, l, many)) in subst HasValue (sym f.1) (held k f.0 f.1)
+    has_value : (k : ℕ) → k < length behind → IsKnown (known behind k)
+    has_value k l = let many = many_behind in let f = known_behind k (omega (arith, l, many)) in subst IsKnown (sym f.1) (held k f.0 f.1)
 
     -- and each declaration a type
     pub is_settled : IsSettled (settled text s (items_in ds))

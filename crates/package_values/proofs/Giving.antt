@@ -13,7 +13,6 @@ use Rattle.syntax.specs.Expressions.{Ex as TreeEx, Exs as TreeExs, some, number,
 use Rattle.typed_syntax.specs.Syntax.{Exs}
 use Rattle.constants.specs.declared.constant.Fixed.{Fixed}
 use Rattle.base.specs.declared.value_type.ValueType.{ValueType}
-use Rattle.base.specs.declared.value_type.ValueType.TheVariants.{Int, Bool as Boolean}
 use Rattle.type_faults.specs.Given.{allowed}
 use Rattle.base.specs.Types.{same_type}
 use Rattle.constants.specs.Constants.{constant_type, is_held, holds}
@@ -23,19 +22,27 @@ use Rattle.operators.specs.Operators.{has_rules}
 use Rattle.operators.proofs.Held.{IsHeld}
 use Rattle.names.specs.declared.scope.Declared.{Declared}
 use Rattle.names.specs.declared.scope.Declared.TheVariants as declared
+use Rattle.names.specs.declared.scope.Known.{Known}
+use Rattle.names.specs.declared.scope.Known.TheVariants as known_as
 use Rattle.names.specs.Scope.{Scope, declaration}
 use Rattle.names.specs.Naming.{name_in}
 use Rattle.names.specs.Types.{type_in}
-use Rattle.expression_types.specs.Typing.{Gives, one, called, asking, printed, global_read, name_operand, prefix_gives, pair_gives, single, operand_in, value_in, part_in, Seen, listed, values, parts, type_in_one, Many, many_in, many, types_with, values_agree, each, fits_with, fits, all_values, taken, Callee, printer, panicker, reader, exiter, function, conversion, no_function, no_spread, no_text_spread, nothing, callee_value, callee_declared, exit_places, panicked_with, exited_with, called_with, spread_over, callee, gives, seen}
+use Rattle.names.proofs.Settled.{IsSound, AreSound}
+use Rattle.expression_types.specs.Typing.{Gives, one, called, asking, printed, global_read, constant_read, name_operand, prefix_gives, pair_gives, single, operand_in, value_in, part_in, Seen, listed, values, parts, type_in_one, Many, many_in, many, types_with, values_agree, each, fits_with, fits, all_values, taken, Callee, printer, panicker, reader, exiter, function, conversion, no_function, no_spread, no_text_spread, nothing, callee_value, callee_declared, exit_places, panicked_with, exited_with, called_with, spread_over, callee, gives, seen}
 use Rattle.expression_types.proofs.Held.{operand_held}
 use Rattle.package_values.specs.declared.items.Role.{Role}
 use Rattle.package_values.specs.declared.items.Role.TheVariants as role
-use Rattle.package_values.specs.Values.{Item, as_constant, constant_in, with_type, zero_of, accepted, given_by, initial_type, variable_type, given_as, given, look, looks}
+use Rattle.package_values.specs.Values.{Item, as_constant, constant_in, with_type, known_variable, is_variable_type, accepted, given_by, initial_type, variable_type, given_as, given, look, looks}
 use Rattle.package_values.proofs.Growth.{known, Within, renewed, rounds}
 
--- a scope with these constants
-abbrev pub holding : Scope → List (Option Fixed) → Scope
+-- a scope with these constants and variables
+abbrev pub holding : Scope → List (Option Known) → Scope
 holding s cs = record s { values = cs }
+
+-- a variable is of a type whose variables have rules
+abbrev pub HasRules : Known → Type 0
+HasRules (known_as.Constant f) = Unit {0}
+HasRules (known_as.Variable t) = is_variable_type t ≡ true
 
 -- ---- what is given stays so where more is known
 
@@ -126,27 +133,27 @@ call_gives at no_text_spread os g h = absurd (none_some h)
 call_gives at nothing os g h = absurd (none_some h)
 
 module _ (text : List ℕ) (s : Scope) where
-  abbrev pub give : List (Option Fixed) → Item → Option Fixed
+  abbrev pub give : List (Option Known) → Item → Option Known
   give cs i = given text (holding s cs) i
 
-  pub type_same : (cs ds : List (Option Fixed)) (e : TreeEx) → type_in text (holding s cs) e ≡ type_in text (holding s ds) e
+  pub type_same : (cs ds : List (Option Known)) (e : TreeEx) → type_in text (holding s cs) e ≡ type_in text (holding s ds) e
   type_same cs ds (name n) = refl
   type_same cs ds (paren at e) = type_same cs ds e
   type_same cs ds e = refl
 
-  module _ (cs ds : List (Option Fixed)) (within : Within cs ds) where
-    known_still : {A : Type 0} (h : Fixed → A) (k : ℕ) (x : A) → option_map h (known cs k) ≡ Some x → option_map h (known ds k) ≡ Some x
+  module _ (cs ds : List (Option Known)) (within : Within cs ds) where
+    known_still : {A : Type 0} (h : Known → A) (k : ℕ) (x : A) → option_map h (known cs k) ≡ Some x → option_map h (known ds k) ≡ Some x
     known_still h k x is = let p = map_some h (known cs k) x is in ap (option_map h) (within k p.0 p.1) ∙ ap Some p.2
 
     name_still : (d : Option Declared) (x : Operand) → name_operand (holding s cs) d ≡ Some x → name_operand (holding s ds) d ≡ Some x
-    name_still (Some (declared.Constant k)) x h = known_still constant k.0 x h
+    name_still (Some (declared.Constant k)) x h = known_still constant_read k.0 x h
     name_still (Some (declared.Global k g)) x h = known_still (global_read g.0) k.0 x h
     name_still d x h = h
 
     -- what is called is the same, where the call gives something
     declared_still : (at : Pos) (spread : Bool) (d : Option Declared) (os : List Seen) (g : Gives) → called_with at (spread_over spread (callee_declared (holding s cs) d)) os ≡ Some g
         → callee_declared (holding s cs) d ≡ callee_declared (holding s ds) d
-    declared_still at spread (Some (declared.Constant k)) os g h = absurd (no_value_call at spread (option_map constant (known cs k.0)) os g h)
+    declared_still at spread (Some (declared.Constant k)) os g h = absurd (no_value_call at spread (option_map constant_read (known cs k.0)) os g h)
     declared_still at spread (Some (declared.Global k j)) os g h = absurd (no_value_call at spread (option_map (global_read j.0) (known cs k.0)) os g h)
     declared_still at spread d os g h = refl
 
@@ -220,28 +227,30 @@ module _ (text : List ℕ) (s : Scope) where
     variable_still (Some e) v es n k u h = sym (type_same cs ds e) ∙ h
     variable_still None v es n k u h = initial_still v es n k u h
 
-    still_as : (r : Role) (i : Item) (f : Fixed) → given_as text r (holding s cs) i ≡ Some f → given_as text r (holding s ds) i ≡ Some f
-    still_as role.Constant i f h = given_still i.type_expr i.value f h
-    still_as role.Variable i f h =
+    still_as : (r : Role) (i : Item) (x : Known) → given_as text r (holding s cs) i ≡ Some x → given_as text r (holding s ds) i ≡ Some x
+    still_as role.Constant i x h =
+        let p = map_some known_as.Constant (given_by text (holding s cs) i.type_expr i.value) x h in ap (option_map known_as.Constant) (given_still i.type_expr i.value p.0 p.1) ∙ ap Some p.2
+    still_as role.Variable i x h =
         let n = length i.names in
-        let p = and_then_some zero_of (variable_type text (holding s cs) i.type_expr i.value i.values n i.place) f h in
-        ap (option_and_then zero_of) (variable_still i.type_expr i.value i.values n i.place p.0 p.1) ∙ p.2
+        let p = and_then_some known_variable (variable_type text (holding s cs) i.type_expr i.value i.values n i.place) x h in
+        ap (option_and_then known_variable) (variable_still i.type_expr i.value i.values n i.place p.0 p.1) ∙ p.2
 
-  pub monotone : (cs ds : List (Option Fixed)) → Within cs ds → (i : Item) (f : Fixed) → give cs i ≡ Some f → give ds i ≡ Some f
-  monotone cs ds within i f h = still_as cs ds within i.role i f h
+  pub monotone : (cs ds : List (Option Known)) → Within cs ds → (i : Item) (x : Known) → give cs i ≡ Some x → give ds i ≡ Some x
+  monotone cs ds within i x h = still_as cs ds within i.role i x h
 
-  -- ---- what is given is held by its type
+  -- ---- the value of a constant is held by its type
 
-  abbrev AreHeld : List (Option Fixed) → Type 0
-  AreHeld cs = (k : ℕ) (f : Fixed) → known cs k ≡ Some f → is_held f.value_type f.value ≡ true
+  constant_held : (k : Known) (x : Operand) → IsSound k → constant_read k ≡ x → IsHeld x
+  constant_held (known_as.Constant f) x sound is = subst IsHeld is sound
+  constant_held (known_as.Variable t) x sound is = subst IsHeld is tt
 
-  name_held : (cs : List (Option Fixed)) → AreHeld cs → (d : Option Declared) (x : Operand) → name_operand (holding s cs) d ≡ Some x → IsHeld x
-  name_held cs held (Some (declared.Constant k)) x is = let p = map_some constant (known cs k.0) x is in subst IsHeld p.2 (held k.0 p.0 p.1)
-  name_held cs held (Some (declared.Global k g)) x is = let p = map_some (global_read g.0) (known cs k.0) x is in subst IsHeld p.2 tt
-  name_held cs held (Some (declared.Variable site t)) x is = subst IsHeld (same_some is) tt
-  name_held cs held (Some (declared.Truth b)) x is = subst IsHeld (same_some is) refl
-  name_held cs held (Some declared.Nil) x is = subst IsHeld (same_some is) tt
-  name_held cs held d x is = absurd (none_some is)
+  name_held : (cs : List (Option Known)) → AreSound cs → (d : Option Declared) (x : Operand) → name_operand (holding s cs) d ≡ Some x → IsHeld x
+  name_held cs sound (Some (declared.Constant k)) x is = let p = map_some constant_read (known cs k.0) x is in constant_held p.0 x (sound k.0 p.0 p.1) p.2
+  name_held cs sound (Some (declared.Global k g)) x is = let p = map_some (global_read g.0) (known cs k.0) x is in subst IsHeld p.2 tt
+  name_held cs sound (Some (declared.Variable site t)) x is = subst IsHeld (same_some is) tt
+  name_held cs sound (Some (declared.Truth b)) x is = subst IsHeld (same_some is) refl
+  name_held cs sound (Some declared.Nil) x is = subst IsHeld (same_some is) tt
+  name_held cs sound d x is = absurd (none_some is)
 
   typed_held : (t : ValueType) (c f : Fixed) → with_type t c ≡ Some f → is_held f.value_type f.value ≡ true
   typed_held t c f is = by (same_type t (constant_type c.value_type c.value)) (holds t c.value) refl is
@@ -251,35 +260,44 @@ module _ (text : List ℕ) (s : Scope) where
       by true false e is1 = absurd (none_some is1)
       by false h e is1 = absurd (none_some is1)
 
-  accepted_held : (cs : List (Option Fixed)) (t : Option TreeEx) (c f : Fixed) → is_held c.value_type c.value ≡ true → accepted text (holding s cs) t c ≡ Some f → is_held f.value_type f.value ≡ true
+  accepted_held : (cs : List (Option Known)) (t : Option TreeEx) (c f : Fixed) → is_held c.value_type c.value ≡ true → accepted text (holding s cs) t c ≡ Some f → is_held f.value_type f.value ≡ true
   accepted_held cs None c f held is = subst (λ (g : Fixed). is_held g.value_type g.value ≡ true) (same_some is) held
   accepted_held cs (Some e) c f held is = let p = and_then_some (λ t. with_type t c) (type_in text (holding s cs) e) f is in typed_held p.0 c f p.2
 
-  by_value : (cs : List (Option Fixed)) → AreHeld cs → (t v : Option TreeEx) (f : Fixed) → given_by text (holding s cs) t v ≡ Some f → is_held f.value_type f.value ≡ true
-  by_value cs held t None f is = absurd (none_some is)
-  by_value cs held t (Some e) f is =
+  by_value : (cs : List (Option Known)) → AreSound cs → (t v : Option TreeEx) (f : Fixed) → given_by text (holding s cs) t v ≡ Some f → is_held f.value_type f.value ≡ true
+  by_value cs sound t None f is = absurd (none_some is)
+  by_value cs sound t (Some e) f is =
       let p = and_then_some (accepted text (holding s cs) t) (constant_in (gives text (holding s cs) e)) f is in
-      accepted_held cs t p.0 f (operand_held text (holding s cs) (λ n x h. name_held cs held (declaration s n) x h) e (constant p.0) (a_constant (operand_in (gives text (holding s cs) e)) p.0 p.1)) p.2
+      accepted_held cs t p.0 f (operand_held text (holding s cs) (λ n x h. name_held cs sound (declaration s n) x h) e (constant p.0) (a_constant (operand_in (gives text (holding s cs) e)) p.0 p.1)) p.2
 
-  zero_held : (t : ValueType) (f : Fixed) → zero_of t ≡ Some f → is_held f.value_type f.value ≡ true
-  zero_held Int f is = subst (λ (g : Fixed). is_held g.value_type g.value ≡ true) (same_some is) refl
-  zero_held Boolean f is = subst (λ (g : Fixed). is_held g.value_type g.value ≡ true) (same_some is) refl
-  zero_held t f is = absurd (none_some is)
+  variable_known : (t : ValueType) (x : Known) → known_variable t ≡ Some x → (is_variable_type t ≡ true) × (known_as.Variable t ≡ x)
+  variable_known t x is = let p = allowed_gives (is_variable_type t) (Some (known_as.Variable t)) x is in (p.0, same_some p.1)
 
-  held_as : (cs : List (Option Fixed)) → AreHeld cs → (r : Role) (i : Item) (f : Fixed) → given_as text r (holding s cs) i ≡ Some f → is_held f.value_type f.value ≡ true
-  held_as cs held role.Constant i f is = by_value cs held i.type_expr i.value f is
-  held_as cs held role.Variable i f is =
-      let p = and_then_some zero_of (variable_type text (holding s cs) i.type_expr i.value i.values (length i.names) i.place) f is in
-      zero_held p.0 f p.2
+  sound_as : (cs : List (Option Known)) → AreSound cs → (r : Role) (i : Item) (x : Known) → given_as text r (holding s cs) i ≡ Some x → IsSound x
+  sound_as cs sound role.Constant i x is =
+      let p = map_some known_as.Constant (given_by text (holding s cs) i.type_expr i.value) x is in subst IsSound p.2 (by_value cs sound i.type_expr i.value p.0 p.1)
+  sound_as cs sound role.Variable i x is =
+      let p = and_then_some known_variable (variable_type text (holding s cs) i.type_expr i.value i.values (length i.names) i.place) x is in subst IsSound (variable_known p.0 x p.2).1 tt
 
-  pub given_held : (cs : List (Option Fixed)) → AreHeld cs → (i : Item) (f : Fixed) → give cs i ≡ Some f → is_held f.value_type f.value ≡ true
-  given_held cs held i f is = held_as cs held i.role i f is
+  pub given_sound : (cs : List (Option Known)) → AreSound cs → (i : Item) (x : Known) → give cs i ≡ Some x → IsSound x
+  given_sound cs sound i x is = sound_as cs sound i.role i x is
+
+  -- ---- a variable that is known is of a type with rules
+
+  rules_as : (r : Role) (i : Item) (x : Known) → given_as text r s i ≡ Some x → HasRules x
+  rules_as role.Constant i x is = let p = map_some known_as.Constant (given_by text s i.type_expr i.value) x is in subst HasRules p.2 tt
+  rules_as role.Variable i x is =
+      let p = and_then_some known_variable (variable_type text s i.type_expr i.value i.values (length i.names) i.place) x is in
+      let q = variable_known p.0 x p.2 in subst HasRules q.1 q.0
+
+  pub given_rules : (i : Item) (x : Known) → given text s i ≡ Some x → HasRules x
+  given_rules i x is = rules_as i.role i x is
 
   -- looks change the constants alone
-  pub look_is : (k : ℕ) (cs : List (Option Fixed)) (is : List Item) → look text k (holding s cs) is ≡ holding s (renewed give monotone k cs is)
+  pub look_is : (k : ℕ) (cs : List (Option Known)) (is : List Item) → look text k (holding s cs) is ≡ holding s (renewed give monotone k cs is)
   look_is k cs [] = refl
   look_is k cs (i ∷ is) = look_is (1 + k) (slice_set cs k (give cs i)) is
 
-  pub looks_are : (n : ℕ) (cs : List (Option Fixed)) (is : List Item) → looks text n (holding s cs) is ≡ holding s (rounds give monotone n cs is)
+  pub looks_are : (n : ℕ) (cs : List (Option Known)) (is : List Item) → looks text n (holding s cs) is ≡ holding s (rounds give monotone n cs is)
   looks_are zero cs is = refl
   looks_are (suc n) cs is = ap (λ (r : Scope). looks text n r is) (look_is 0 cs is) ∙ looks_are n (renewed give monotone 0 cs is) is

@@ -2,11 +2,11 @@
 use Rattle.std.proofs.Common.{◌≡◌, ℕ, zero, suc, ◌+◌, List, [], ◌∷◌, length, Option, Some, None, refl, sym, ap, ◌∙◌, subst, arith}
 use Rattle.std.specs.Prelude.{slice_get, slice_set}
 use Rattle.std.proofs.lemmas.Option.{slice_get_within}
-use Rattle.constants.specs.declared.constant.Fixed.{Fixed}
+use Rattle.names.specs.declared.scope.Known.{Known}
 use Rattle.type_faults.proofs.Options.{none_some}
-use Rattle.names.specs.Scope.{Scope, fixed}
+use Rattle.names.specs.Scope.{Scope}
 use Rattle.package_values.specs.Values.{Item, settled}
-use Rattle.package_values.specs.Laws.{with_known, HasValue, follows, HoldsValues, SettledIsLeast}
+use Rattle.package_values.specs.Laws.{knowing, HasValue, follows, HoldsValues, SettledIsLeast}
 use Rattle.package_values.proofs.Growth.{known, Within, Consistent, renewed, rounds, rounds_good, rounds_settle, rounds_many, all_seen}
 use Rattle.package_values.proofs.Giving.{give, monotone, looks_are}
 
@@ -38,22 +38,22 @@ module _ {A : Type 0} where
       ∙ ap (λ (o : Option A). o ∷ ds) (same_one c d (λ f h. there zero f h) (λ f h. back zero f h))
 
 module _ (text : List ℕ) (s : Scope) (is : List Item) where
-  abbrev found : List (Option Fixed)
+  abbrev found : List (Option Known)
   found = rounds (give text s) (monotone text s) (length is) s.values is
 
-  found_is : settled text s is ≡ with_known s found
+  found_is : settled text s is ≡ knowing s found
   found_is = looks_are text s (length is) s.values is
 
   -- ---- what is found is a value
 
-  abbrev Sound : List (Option Fixed) → Type 0
+  abbrev Sound : List (Option Known) → Type 0
   Sound cs = AllHave (HasValue text s is) cs
 
   -- some of the constants, from a number on
   abbrev From : ℕ → List Item → Type 0
   From k js = (j : ℕ) (i : Item) → slice_get js j ≡ Some i → slice_get is (j + k) ≡ Some i
 
-  look_sound : (k : ℕ) (js : List Item) (cs : List (Option Fixed)) → From k js → Sound cs → Sound (renewed (give text s) (monotone text s) k cs js)
+  look_sound : (k : ℕ) (js : List Item) (cs : List (Option Known)) → From k js → Sound cs → Sound (renewed (give text s) (monotone text s) k cs js)
   look_sound k [] cs here before = before
   look_sound k (i ∷ js) cs here before =
       let first : slice_get is k ≡ Some i = let e : zero + k ≡ k = omega arith in subst (λ (n : ℕ). slice_get is n ≡ Some i) e (here zero i refl) in
@@ -61,14 +61,14 @@ module _ (text : List ℕ) (s : Scope) (is : List Item) where
       (λ j x at. let e : suc j + k ≡ j + (1 + k) = omega arith in subst (λ (n : ℕ). slice_get is n ≡ Some x) e (here (suc j) x at))
       (set_has (HasValue text s is) cs k (give text s cs i) (λ f gives. follows cs i before first gives) before)
 
-  looks_sound : (n : ℕ) (cs : List (Option Fixed)) → Sound cs → Sound (rounds (give text s) (monotone text s) n cs is)
+  looks_sound : (n : ℕ) (cs : List (Option Known)) → Sound cs → Sound (rounds (give text s) (monotone text s) n cs is)
   looks_sound zero cs before = before
   looks_sound (suc n) cs before =
       looks_sound n (renewed (give text s) (monotone text s) 0 cs is)
       (look_sound 0 is cs (λ j i at. let e : j ≡ j + 0 = omega arith in subst (λ (n : ℕ). slice_get is n ≡ Some i) e at) before)
 
-  module _ (many : length s.values ≡ length is) (unknown : (k : ℕ) → fixed s k ≡ None) where
-    nothing : (k : ℕ) (f : Fixed) → known s.values k ≡ Some f → ⊥
+  module _ (many : length s.values ≡ length is) (unknown : (k : ℕ) → known s.values k ≡ None) where
+    nothing : (k : ℕ) (f : Known) → known s.values k ≡ Some f → ⊥
     nothing k f h = none_some (sym (unknown k) ∙ h)
 
     sound : Sound found
@@ -82,21 +82,21 @@ module _ (text : List ℕ) (s : Scope) (is : List Item) where
     found_many : length found ≡ length s.values
     found_many = rounds_many (give text s) (monotone text s) (length is) s.values is
 
-    complete : (k : ℕ) (f : Fixed) → HasValue text s is k f → known found k ≡ Some f
+    complete : (k : ℕ) (f : Known) → HasValue text s is k f → known found k ≡ Some f
     complete k f (follows cs i before at gives) =
         all_seen (give text s) (monotone text s) is found (rounds_good (give text s) (monotone text s) is (length is) s.values consistent).consistent
         (rounds_settle (give text s) (monotone text s) is s.values consistent many) k i f at
         (monotone text s cs found (λ j g h. complete j g (before j g h)) i f gives)
         (let l = slice_get_within is k i at in let long = found_many in omega (arith, l, long, many))
 
-    holds : HoldsValues text s is (with_known s found)
+    holds : HoldsValues text s is (knowing s found)
     holds = record { rest = refl; as_many = found_many; values = λ k f. (sound k f, complete k f) }
 
     -- ---- and nothing else holds them
 
-    only : (behind : Scope) → HoldsValues text s is behind → behind ≡ with_known s found
+    only : (behind : Scope) → HoldsValues text s is behind → behind ≡ knowing s found
     only behind h =
-        h.rest ∙ ap (λ (cs : List (Option Fixed)). with_known s cs)
+        h.rest ∙ ap (λ (cs : List (Option Known)). knowing s cs)
         (same_known behind.values found (h.as_many ∙ sym found_many) (λ k f e. complete k f ((h.values k f).0 e)) (λ k f e. (h.values k f).1 (sound k f e)))
 
 pub settled_is_least : SettledIsLeast

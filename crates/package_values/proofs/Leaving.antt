@@ -1,13 +1,13 @@
 -- What the looks at the constants leave as it is.
 use Rattle.std.proofs.Common.{◌≡◌, ℕ, List, length, Option, ap, ◌∙◌}
-use Rattle.constants.specs.declared.constant.Fixed.{Fixed}
+use Rattle.names.specs.declared.scope.Known.{Known}
 use Rattle.names.specs.Scope.{Scope}
 use Rattle.package_values.specs.Values.{Item, settled}
 use Rattle.package_values.proofs.Growth.{rounds, rounds_many}
 use Rattle.package_values.proofs.Giving.{holding, give, monotone, looks_are}
 
 module _ (text : List ℕ) (s : Scope) (is : List Item) where
-  abbrev values : List (Option Fixed)
+  abbrev values : List (Option Known)
   values = rounds (give text s) (monotone text s) (length is) s.values is
 
   settled_is : settled text s is ≡ holding s values

@@ -17,19 +17,21 @@ use Rattle.constants.specs.declared.constant.Fixed.{Fixed}
 use Rattle.typed.specs.Tables.{Table}
 use Rattle.type_faults.specs.Given.{allowed}
 use Rattle.type_faults.proofs.Options.{and_then_some, map_some, none_some, same_some}
-use Rattle.operators.specs.Operands.{Operand, constant, type_of, as_value}
+use Rattle.operators.specs.Operands.{Operand, type_of, as_value}
 use Rattle.operators.specs.Operators.{has_rules}
 use Rattle.components.specs.Graph.{Among, row, Leads, at_once, through, Reaches, itself, onward}
 use Rattle.components.specs.Components.{StandsAt, Stands, AreComponents}
 use Rattle.names.specs.declared.scope.Declared.{Declared}
 use Rattle.names.specs.declared.scope.Declared.TheVariants as declared
-use Rattle.names.specs.Scope.{Scope, declaration, fixed}
+use Rattle.names.specs.declared.scope.Known.{Known}
+use Rattle.names.specs.declared.scope.Known.TheVariants as known_as
+use Rattle.names.specs.Scope.{Scope, declaration}
 use Rattle.names.specs.Naming.{name_in}
 use Rattle.names.specs.Types.{type_in, declared_type}
-use Rattle.expression_types.specs.Typing.{Gives, one, global_read, name_operand, prefix_gives, pair_gives, single, operand_in, own_type, Many, many, Seen, called_with, spread_over, callee, callee_declared, gives, seen}
+use Rattle.expression_types.specs.Typing.{Gives, one, global_read, constant_read, name_operand, prefix_gives, pair_gives, single, operand_in, own_type, Many, many, Seen, called_with, spread_over, callee, callee_declared, gives, seen}
 use Rattle.package_values.specs.declared.items.Role.{Role}
 use Rattle.package_values.specs.declared.items.Role.TheVariants as role
-use Rattle.package_values.specs.Values.{Item, as_constant, constant_in, with_type, zero_of, accepted, given_by, variable_type, given_as, settled}
+use Rattle.package_values.specs.Values.{Item, as_constant, constant_in, with_type, known_variable, accepted, given_by, variable_type, given_as, settled}
 use Rattle.package_values.specs.Needs.{names_in, names_in_each, names_in_some, names_waited, value_number, also, numbers_of, variable_mentions, mentions_as, mentions, mentioned}
 use Rattle.package_values.specs.Laws.{HasValue, follows, HoldsValues}
 use Rattle.package_values.specs.Passing.{each_given, all_given}
@@ -75,27 +77,27 @@ row_is h (y ∷ ys) (suc k) x e = row_is h ys k x e
 module _ (text : List ℕ) (s : Scope) where
   -- ---- the names are those of constants and variables that are known
 
-  abbrev NameKnown : List (Option Fixed) → Option Declared → Type 0
-  NameKnown cs (Some (declared.Constant k)) = (f : Fixed) × (known cs k.0 ≡ Some f)
-  NameKnown cs (Some (declared.Global k g)) = (f : Fixed) × (known cs k.0 ≡ Some f)
+  abbrev NameKnown : List (Option Known) → Option Declared → Type 0
+  NameKnown cs (Some (declared.Constant k)) = (f : Known) × (known cs k.0 ≡ Some f)
+  NameKnown cs (Some (declared.Global k g)) = (f : Known) × (known cs k.0 ≡ Some f)
   NameKnown cs other = Unit {0}
 
-  abbrev AllKnown : List (Option Fixed) → List Name → Type 0
+  abbrev AllKnown : List (Option Known) → List Name → Type 0
   AllKnown cs [] = Unit {0}
   AllKnown cs (n ∷ ns) = NameKnown cs (declaration s (spelled text n)) × AllKnown cs ns
 
-  known_append : (cs : List (Option Fixed)) (ns ms : List Name) → AllKnown cs ns → AllKnown cs ms → AllKnown cs (ns ++ ms)
+  known_append : (cs : List (Option Known)) (ns ms : List Name) → AllKnown cs ns → AllKnown cs ms → AllKnown cs (ns ++ ms)
   known_append cs [] ms a b = b
   known_append cs (n ∷ ns) ms a b = (a.0, known_append cs ns ms a.1 b)
 
-  also_known : (cs : List (Option Fixed)) (d : Option Declared) (ks : List ℕ) (j : ℕ) → NameKnown cs d → (Among j ks → (f : Fixed) × (known cs j ≡ Some f)) → Among j (also (value_number d) ks) → (f : Fixed) × (known cs j ≡ Some f)
+  also_known : (cs : List (Option Known)) (d : Option Declared) (ks : List ℕ) (j : ℕ) → NameKnown cs d → (Among j ks → (f : Known) × (known cs j ≡ Some f)) → Among j (also (value_number d) ks) → (f : Known) × (known cs j ≡ Some f)
   also_known cs (Some (declared.Constant k)) ks j h rest (inl e) = (h.0, ap (known cs) e ∙ h.1)
   also_known cs (Some (declared.Constant k)) ks j h rest (inr a) = rest a
   also_known cs (Some (declared.Global k g)) ks j h rest (inl e) = (h.0, ap (known cs) e ∙ h.1)
   also_known cs (Some (declared.Global k g)) ks j h rest (inr a) = rest a
   also_known cs d ks j h rest a = rest a
 
-  known_among : (cs : List (Option Fixed)) (ns : List Name) (j : ℕ) → AllKnown cs ns → Among j (numbers_of text s ns) → (f : Fixed) × (known cs j ≡ Some f)
+  known_among : (cs : List (Option Known)) (ns : List Name) (j : ℕ) → AllKnown cs ns → Among j (numbers_of text s ns) → (f : Known) × (known cs j ≡ Some f)
   known_among cs [] j all a = absurd a
   known_among cs (n ∷ ns) j all a = also_known cs (declaration s (spelled text n)) (numbers_of text s ns) j all.0 (λ b. known_among cs ns j all.1 b) a
 
@@ -108,12 +110,12 @@ module _ (text : List ℕ) (s : Scope) where
   also_later (Some k) j ks a = inr a
 
   -- what stays known is the same
-  one_same : (ks ds : List (Option Fixed)) (d : Option Declared) → NameKnown ks d → ((k : ℕ) (f : Fixed) → value_number d ≡ Some k → known ks k ≡ Some f → known ds k ≡ Some f) → NameSame text s ks ds d
+  one_same : (ks ds : List (Option Known)) (d : Option Declared) → NameKnown ks d → ((k : ℕ) (f : Known) → value_number d ≡ Some k → known ks k ≡ Some f → known ds k ≡ Some f) → NameSame text s ks ds d
   one_same ks ds (Some (declared.Constant k)) h stays = h.1 ∙ sym (stays k.0 h.0 refl h.1)
   one_same ks ds (Some (declared.Global k g)) h stays = h.1 ∙ sym (stays k.0 h.0 refl h.1)
   one_same ks ds d h stays = tt
 
-  all_same : (ks ds : List (Option Fixed)) (ns : List Name) → AllKnown ks ns → ((k : ℕ) (f : Fixed) → Among k (numbers_of text s ns) → known ks k ≡ Some f → known ds k ≡ Some f) → AllSame text s ks ds ns
+  all_same : (ks ds : List (Option Known)) (ns : List Name) → AllKnown ks ns → ((k : ℕ) (f : Known) → Among k (numbers_of text s ns) → known ks k ≡ Some f → known ds k ≡ Some f) → AllSame text s ks ds ns
   all_same ks ds [] all stays = tt
   all_same ks ds (n ∷ ns) all stays = (
     one_same ks ds (declaration s (spelled text n)) all.0 (λ k f e h. stays k f (also_first (value_number (declaration s (spelled text n))) k (numbers_of text s ns) e) h),
@@ -122,14 +124,14 @@ module _ (text : List ℕ) (s : Scope) where
 
   -- ---- what gives something names what is known
 
-  module _ (cs : List (Option Fixed)) where
+  module _ (cs : List (Option Known)) where
     operand_known : (d : Option Declared) (x : Operand) → name_operand (holding s cs) d ≡ Some x → NameKnown cs d
-    operand_known (Some (declared.Constant k)) x h = let p = map_some constant (known cs k.0) x h in (p.0, p.1)
+    operand_known (Some (declared.Constant k)) x h = let p = map_some constant_read (known cs k.0) x h in (p.0, p.1)
     operand_known (Some (declared.Global k g)) x h = let p = map_some (global_read g.0) (known cs k.0) x h in (p.0, p.1)
     operand_known d x h = tt
 
     declared_known : (at : Pos) (spread : Bool) (d : Option Declared) (os : List Seen) (g : Gives) → called_with at (spread_over spread (callee_declared (holding s cs) d)) os ≡ Some g → NameKnown cs d
-    declared_known at spread (Some (declared.Constant k)) os g h = absurd (no_value_call at spread (option_map constant (known cs k.0)) os g h)
+    declared_known at spread (Some (declared.Constant k)) os g h = absurd (no_value_call at spread (option_map constant_read (known cs k.0)) os g h)
     declared_known at spread (Some (declared.Global k j)) os g h = absurd (no_value_call at spread (option_map (global_read j.0) (known cs k.0)) os g h)
     declared_known at spread d os g h = tt
 
@@ -201,15 +203,15 @@ module _ (text : List ℕ) (s : Scope) where
         let p = and_then_some (λ (m : Many). allowed (length m.types == n) (slice_get m.types k)) (many os) u h in
         seen_known es (many_give os p.0 p.1)
 
-    item_known : (r : Role) (i : Item) (f : Fixed) → given_as text r (holding s cs) i ≡ Some f → AllKnown cs (mentions_as r i)
-    item_known role.Constant i f h = constant_known i.type_expr i.value i.values f h
-    item_known role.Variable i f h =
-        let p = and_then_some zero_of (variable_type text (holding s cs) i.type_expr i.value i.values (length i.names) i.place) f h in
+    item_known : (r : Role) (i : Item) (x : Known) → given_as text r (holding s cs) i ≡ Some x → AllKnown cs (mentions_as r i)
+    item_known role.Constant i x h = let p = map_some known_as.Constant (given_by text (holding s cs) i.type_expr i.value) x h in constant_known i.type_expr i.value i.values p.0 p.1
+    item_known role.Variable i x h =
+        let p = and_then_some known_variable (variable_type text (holding s cs) i.type_expr i.value i.values (length i.names) i.place) x h in
         variable_known i.type_expr i.value i.values (length i.names) i.place p.0 p.1
 
   -- ---- where all that it names is the same, it gives the same
 
-  module _ (cs ds : List (Option Fixed)) where
+  module _ (cs ds : List (Option Known)) where
     accepted_as : (t : Option TreeEx) (c : Fixed) → accepted text (holding s cs) t c ≡ accepted text (holding s ds) t c
     accepted_as None c = refl
     accepted_as (Some e) c = ap (option_and_then (λ t. with_type t c)) (type_same text s cs ds e)
@@ -230,8 +232,8 @@ module _ (text : List ℕ) (s : Scope) where
     variable_same None None es n k all = ap (λ (os : List Seen). option_and_then (λ m. allowed (length m.types == n) (slice_get m.types k)) (many os)) (seen_same text s cs ds es all)
 
     item_same : (r : Role) (i : Item) → AllSame text s cs ds (mentions_as r i) → given_as text r (holding s cs) i ≡ given_as text r (holding s ds) i
-    item_same role.Constant i all = constant_same i.type_expr i.value i.values all
-    item_same role.Variable i all = ap (option_and_then zero_of) (variable_same i.type_expr i.value i.values (length i.names) i.place all)
+    item_same role.Constant i all = ap (option_map known_as.Constant) (constant_same i.type_expr i.value i.values all)
+    item_same role.Variable i all = ap (option_and_then known_variable) (variable_same i.type_expr i.value i.values (length i.names) i.place all)
 
   -- ---- the pass
 
@@ -242,41 +244,41 @@ module _ (text : List ℕ) (s : Scope) where
     named_in : (k j : ℕ) (i : Item) → slice_get is k ≡ Some i → Among j (row graph k) → Among j (mentioned text s i)
     named_in k j i at a = subst (λ (ks : List ℕ). Among j ks) (row_is (mentioned text s) is k i at) a
 
-    has_ground : (k : ℕ) (f : Fixed) → HasValue text s is k f → Grounded graph k
+    has_ground : (k : ℕ) (f : Known) → HasValue text s is k f → Grounded graph k
     has_ground k f (follows ks i before at gives1) =
         grounded (λ j a.
         let p = known_among ks (mentions i) j (item_known ks i.role i f gives1) (named_in k j i at a) in
         has_ground j p.0 (before j p.0 p.1))
 
-    within : (k : ℕ) (f : Fixed) → HasValue text s is k f → k < length is
+    within : (k : ℕ) (f : Known) → HasValue text s is k f → k < length is
     within k f (follows ks i before at gives1) = slice_get_within is k i at
 
     -- what is known at a number, and after several numbers
-    abbrev known_at : List (Option Fixed) → ℕ → Option Fixed
+    abbrev known_at : List (Option Known) → ℕ → Option Known
     known_at cs k = option_and_then (give text s cs) (slice_get is k)
 
-    abbrev each_known : List (Option Fixed) → List ℕ → List (Option Fixed)
+    abbrev each_known : List (Option Known) → List ℕ → List (Option Known)
     each_known cs [] = cs
     each_known cs (k ∷ ks) = each_known (slice_set cs k (known_at cs k)) ks
 
-    abbrev all_known : List (Option Fixed) → List (List ℕ) → List (Option Fixed)
+    abbrev all_known : List (Option Known) → List (List ℕ) → List (Option Known)
     all_known cs [] = cs
     all_known cs (ks ∷ kss) = all_known (each_known cs ks) kss
 
-    each_is : (cs : List (Option Fixed)) (ks : List ℕ) → each_given text is (holding s cs) ks ≡ holding s (each_known cs ks)
+    each_is : (cs : List (Option Known)) (ks : List ℕ) → each_given text is (holding s cs) ks ≡ holding s (each_known cs ks)
     each_is cs [] = refl
     each_is cs (k ∷ ks) = each_is (slice_set cs k (known_at cs k)) ks
 
-    all_is : (cs : List (Option Fixed)) (kss : List (List ℕ)) → all_given text is (holding s cs) kss ≡ holding s (all_known cs kss)
+    all_is : (cs : List (Option Known)) (kss : List (List ℕ)) → all_given text is (holding s cs) kss ≡ holding s (all_known cs kss)
     all_is cs [] = refl
     all_is cs (ks ∷ kss) = ap (λ (r : Scope). all_given text is r kss) (each_is cs ks) ∙ all_is (each_known cs ks) kss
 
     module _ (parts : List (List ℕ)) (are : AreComponents graph parts) where
       -- the components before a place are passed, and those of it before another
-      record Passed (c p : ℕ) (cs : List (Option Fixed)) : Type 0 where
+      record Passed (c p : ℕ) (cs : List (Option Known)) : Type 0 where
         pub as_many : length cs ≡ length is
-        pub sound : (k : ℕ) (f : Fixed) → known cs k ≡ Some f → HasValue text s is k f
-        pub complete : (d i k : ℕ) (f : Fixed) → StandsAt parts d i k → (d < c) ⊎ ((d ≡ c) × (i < p)) → HasValue text s is k f → known cs k ≡ Some f
+        pub sound : (k : ℕ) (f : Known) → known cs k ≡ Some f → HasValue text s is k f
+        pub complete : (d i k : ℕ) (f : Known) → StandsAt parts d i k → (d < c) ⊎ ((d ≡ c) × (i < p)) → HasValue text s is k f → known cs k ≡ Some f
 
       long : length graph ≡ length is
       long = length-map is (mentioned text s)
@@ -285,7 +287,7 @@ module _ (text : List ℕ) (s : Scope) where
       below c i k at = let l = are.only c k (i, at) in omega (arith, l, long)
 
       -- what a node names stands in an earlier component, where it has a value
-      ahead : (c i k j : ℕ) (f : Fixed) → StandsAt parts c i k → Among j (row graph k) → HasValue text s is j f → (d : ℕ) × (d < c) × Stands parts d j
+      ahead : (c i k j : ℕ) (f : Known) → StandsAt parts c i k → Among j (row graph k) → HasValue text s is j f → (d : ℕ) × (d < c) × Stands parts d j
       ahead c i k j f at a has =
           let l = within j f has in
           let there = are.earlier c k j (i, at) a (omega (arith, l, long)) in
@@ -316,7 +318,7 @@ module _ (text : List ℕ) (s : Scope) where
           same_some (sym b.2 ∙ ap (λ (l : List ℕ). slice_get l i) lists ∙ a.2)
 
       -- one more node
-      step : (c p k : ℕ) (cs : List (Option Fixed)) → StandsAt parts c p k → Passed c p cs → Passed c (suc p) (slice_set cs k (known_at cs k))
+      step : (c p k : ℕ) (cs : List (Option Known)) → StandsAt parts c p k → Passed c p cs → Passed c (suc p) (slice_set cs k (known_at cs k))
       step c p k cs at before = record {
         as_many = set_many cs k (known_at cs k) ∙ before.as_many;
         sound = set_has (HasValue text s is) cs k (known_at cs k)
@@ -324,7 +326,7 @@ module _ (text : List ℕ) (s : Scope) where
         complete = complete;
       }
         where
-          here : (f : Fixed) → HasValue text s is k f → known_at cs k ≡ Some f
+          here : (f : Known) → HasValue text s is k f → known_at cs k ≡ Some f
           here f (follows ks i sound1 at1 gives1) =
               let all = item_known ks i.role i f gives1 in
               let same = all_same ks cs (mentions i) all (λ j g a h.
@@ -333,7 +335,7 @@ module _ (text : List ℕ) (s : Scope) where
               before.complete q.0 q.2.0 j g q.2.1 (inl q.1) has) in
               ap (option_and_then (give text s cs)) at1 ∙ (sym (item_same ks cs i.role i same) ∙ gives1)
 
-          complete : (d i m : ℕ) (f : Fixed) → StandsAt parts d i m → (d < c) ⊎ ((d ≡ c) × (i < suc p)) → HasValue text s is m f → known (slice_set cs k (known_at cs k)) m ≡ Some f
+          complete : (d i m : ℕ) (f : Known) → StandsAt parts d i m → (d < c) ⊎ ((d ≡ c) × (i < suc p)) → HasValue text s is m f → known (slice_set cs k (known_at cs k)) m ≡ Some f
           complete d i m f stands earlier has = by (node m k)
             where
               node : (x y : ℕ) → (x ≡ y) ⊎ (x ≡ y → ⊥)
@@ -366,7 +368,7 @@ module _ (text : List ℕ) (s : Scope) where
               by (inr other) = set_others cs k m (known_at cs k) other ∙ before.complete d i m f stands (place other earlier) has
 
       -- the rest of a component
-      nodes_pass : (c p : ℕ) (nodes rest : List ℕ) (cs : List (Option Fixed)) → slice_get parts c ≡ Some nodes → ((i k : ℕ) → slice_get rest i ≡ Some k → slice_get nodes (i + p) ≡ Some k) → length rest + p ≡ length nodes
+      nodes_pass : (c p : ℕ) (nodes rest : List ℕ) (cs : List (Option Known)) → slice_get parts c ≡ Some nodes → ((i k : ℕ) → slice_get rest i ≡ Some k → slice_get nodes (i + p) ≡ Some k) → length rest + p ≡ length nodes
           → Passed c p cs → Passed c (length nodes) (each_known cs rest)
       nodes_pass c p nodes [] cs at from long1 before = let e : p ≡ length nodes = omega (arith, long1) in subst (λ (n : ℕ). Passed c n cs) e before
       nodes_pass c p nodes (k ∷ rest) cs at from long1 before =
@@ -375,7 +377,7 @@ module _ (text : List ℕ) (s : Scope) where
           (omega (arith, long1))
           (step c p k cs (nodes, at, let e : 0 + p ≡ p = omega arith in subst (λ (n : ℕ). slice_get nodes n ≡ Some k) e (from zero k refl)) before)
 
-      one_pass : (c : ℕ) (nodes : List ℕ) (cs : List (Option Fixed)) → slice_get parts c ≡ Some nodes → Passed c 0 cs → Passed (suc c) 0 (each_known cs nodes)
+      one_pass : (c : ℕ) (nodes : List ℕ) (cs : List (Option Known)) → slice_get parts c ≡ Some nodes → Passed c 0 cs → Passed (suc c) 0 (each_known cs nodes)
       one_pass c nodes cs at before =
           let whole = nodes_pass c 0 nodes nodes cs at (λ i k h. let e : i ≡ i + 0 = omega arith in subst (λ (n : ℕ). slice_get nodes n ≡ Some k) e h) (omega arith) before in
           record {
@@ -399,7 +401,7 @@ module _ (text : List ℕ) (s : Scope) where
               split (suc x) (suc y) l1 = elim (split x y (omega (arith, l1))) [ inl m ↦ inl (omega (arith, m)) | inr e ↦ inr (ap suc e) ]
           place d i k stands (inr q) = let l = q.1 in absurd (omega (arith, l))
 
-      parts_pass : (c : ℕ) (rest : List (List ℕ)) (cs : List (Option Fixed)) → ((d : ℕ) (nodes : List ℕ) → slice_get rest d ≡ Some nodes → slice_get parts (d + c) ≡ Some nodes) → Passed c 0 cs → Passed (length rest + c) 0 (all_known cs rest)
+      parts_pass : (c : ℕ) (rest : List (List ℕ)) (cs : List (Option Known)) → ((d : ℕ) (nodes : List ℕ) → slice_get rest d ≡ Some nodes → slice_get parts (d + c) ≡ Some nodes) → Passed c 0 cs → Passed (length rest + c) 0 (all_known cs rest)
       parts_pass c [] cs from before = let e : c ≡ 0 + c = omega arith in subst (λ (n : ℕ). Passed n 0 cs) e before
       parts_pass c (nodes ∷ rest) cs from before =
           let e : length rest + suc c ≡ suc (length rest) + c = omega arith in
@@ -407,7 +409,7 @@ module _ (text : List ℕ) (s : Scope) where
           (parts_pass (suc c) rest (each_known cs nodes) (λ d ns h. let f : suc d + c ≡ d + suc c = omega arith in subst (λ (n : ℕ). slice_get parts n ≡ Some ns) f (from (suc d) ns h))
           (one_pass c nodes cs (let f : 0 + c ≡ c = omega arith in subst (λ (n : ℕ). slice_get parts n ≡ Some nodes) f (from zero nodes refl)) before))
 
-      module _ (many : length s.values ≡ length is) (unknown : (k : ℕ) → fixed s k ≡ None) where
+      module _ (many : length s.values ≡ length is) (unknown : (k : ℕ) → known s.values k ≡ None) where
         start : Passed 0 0 s.values
         start = record {
           as_many = many;
@@ -418,7 +420,7 @@ module _ (text : List ℕ) (s : Scope) where
         end : Passed (length parts + 0) 0 (all_known s.values parts)
         end = parts_pass 0 parts s.values (λ d nodes h. let e : d ≡ d + 0 = omega arith in subst (λ (n : ℕ). slice_get parts n ≡ Some nodes) e h) start
 
-        complete_all : (k : ℕ) (f : Fixed) → HasValue text s is k f → known (all_known s.values parts) k ≡ Some f
+        complete_all : (k : ℕ) (f : Known) → HasValue text s is k f → known (all_known s.values parts) k ≡ Some f
         complete_all k f has =
             let l = within k f has in
             let place = are.all k (omega (arith, l, long)) in

@@ -9,18 +9,17 @@ use Rattle.syntax.specs.FirstBytes.{first_pos}
 use Rattle.syntax.specs.Expressions.{Ex as TreeEx, Exs as TreeExs, number, string, name, unary, binary, paren, call, selector, index, slice, array_type, slice_type, literal, elements, some, spelled}
 use Rattle.syntax.specs.Expressions as tree
 use Rattle.type_faults.specs.declared.fault.Fault.{Fault}
-use Rattle.constants.specs.declared.constant.Fixed.{Fixed}
 use Rattle.type_faults.specs.Faults.{IsFault, FormFails}
 use Rattle.type_faults.proofs.Options.{none_some, same_some}
-use Rattle.operators.specs.Operands.{constant}
 use Rattle.operators.specs.Operators.{has_rules}
 use Rattle.operators.specs.Faults.{prefix_fault, pair_fault}
 use Rattle.names.specs.declared.scope.Declared.{Declared}
 use Rattle.names.specs.declared.scope.Declared.TheVariants as declared
+use Rattle.names.specs.declared.scope.Known.{Known}
 use Rattle.names.specs.Scope.{Scope, declaration}
 use Rattle.names.specs.Naming.{name_in}
 use Rattle.names.specs.Faults.{FailsAsType}
-use Rattle.expression_types.specs.Typing.{Gives, one, global_read, name_operand, prefix_gives, pair_gives, operand_in, Seen, Callee, callee_value, callee_declared, called_with, spread_over, callee, gives, seen}
+use Rattle.expression_types.specs.Typing.{Gives, one, global_read, constant_read, name_operand, prefix_gives, pair_gives, operand_in, Seen, Callee, callee_value, callee_declared, called_with, spread_over, callee, gives, seen}
 use Rattle.expression_types.specs.Faults.{WhereTaken, single_fault, CallFails, CalleeFails, Fails, FailsInEach}
 use Rattle.package_values.specs.Needs.{names_in, names_in_each, names_in_bound}
 use Rattle.package_values.proofs.Growth.{known}
@@ -30,7 +29,7 @@ where_taken : (b : Bool) (P Q R : Fault → Type 0) (f : Fault) → (P f → Q f
 where_taken true P Q R f into h = into h
 where_taken false P Q R f into h = h
 
-module _ (text : List ℕ) (s : Scope) (cs ds : List (Option Fixed)) where
+module _ (text : List ℕ) (s : Scope) (cs ds : List (Option Known)) where
   -- a name stands for the same in both
   abbrev pub NameSame : Option Declared → Type 0
   NameSame (Some (declared.Constant k)) = known cs k.0 ≡ known ds k.0
@@ -52,12 +51,12 @@ module _ (text : List ℕ) (s : Scope) (cs ds : List (Option Fixed)) where
   -- ---- what is given
 
   operand_same : (d : Option Declared) → NameSame d → name_operand (holding s cs) d ≡ name_operand (holding s ds) d
-  operand_same (Some (declared.Constant k)) h = ap (option_map constant) h
+  operand_same (Some (declared.Constant k)) h = ap (option_map constant_read) h
   operand_same (Some (declared.Global k g)) h = ap (option_map (global_read g.0)) h
   operand_same d h = refl
 
   declared_same : (d : Option Declared) → NameSame d → callee_declared (holding s cs) d ≡ callee_declared (holding s ds) d
-  declared_same (Some (declared.Constant k)) h = ap (λ o. callee_value (option_map constant o)) h
+  declared_same (Some (declared.Constant k)) h = ap (λ o. callee_value (option_map constant_read o)) h
   declared_same (Some (declared.Global k g)) h = ap (λ o. callee_value (option_map (global_read g.0) o)) h
   declared_same d h = refl
 
@@ -110,7 +109,7 @@ module _ (text : List ℕ) (s : Scope) (cs ds : List (Option Fixed)) where
   type_fails_back (paren at e) f h = type_fails_back e f h
   type_fails_back e f h = h
 
-  abbrev OperandFails : List (Option Fixed) → TreeEx → Fault → Type 0
+  abbrev OperandFails : List (Option Known) → TreeEx → Fault → Type 0
   OperandFails xs e f = Fails text (holding s xs) e f ⊎ IsFault (single_fault (gives text (holding s xs) e)) f
 
   operand_back : (e : TreeEx) (f : Fault) → gives text (holding s cs) e ≡ gives text (holding s ds) e → (Fails text (holding s ds) e f → Fails text (holding s cs) e f) → OperandFails ds e f → OperandFails cs e f
@@ -122,7 +121,7 @@ module _ (text : List ℕ) (s : Scope) (cs ds : List (Option Fixed)) where
   unary_back at op e f g into (inl h) = inl (operand_back e f g into h)
   unary_back at op e f g into (inr h) = inr (subst (λ (o : Option Gives). IsFault (prefix_fault at op (operand_in o)) f) (sym g) h)
 
-  abbrev PairFault : List (Option Fixed) → BinOp → TreeEx → TreeEx → Fault → Type 0
+  abbrev PairFault : List (Option Known) → BinOp → TreeEx → TreeEx → Fault → Type 0
   PairFault xs op a b f = IsFault (pair_fault (first_pos a) (first_pos b) op (operand_in (gives text (holding s xs) a)) (operand_in (gives text (holding s xs) b))) f
 
   binary_back : (op : BinOp) (a b : TreeEx) (f : Fault) → gives text (holding s cs) a ≡ gives text (holding s ds) a → gives text (holding s cs) b ≡ gives text (holding s ds) b
@@ -139,7 +138,7 @@ module _ (text : List ℕ) (s : Scope) (cs ds : List (Option Fixed)) where
   callee_fails None P Q g k e f into (inr h) = inr (subst (λ (o : Option Gives). IsFault (single_fault o) f) (sym e) h)
   callee_fails (Some n) P Q g k e f into h = h
 
-  abbrev CallsFail : List (Option Fixed) → TreeEx → TreeExs → Bool → Fault → Type 0
+  abbrev CallsFail : List (Option Known) → TreeEx → TreeExs → Bool → Fault → Type 0
   CallsFail xs g es spread f =
       (CalleeFails text (holding s xs) (name_in g) (λ h. Fails text (holding s xs) g h) (gives text (holding s xs) g) f ⊎ FailsInEach text (holding s xs) es f)
       ⊎ CallFails (first_pos g) (spread_over spread (callee text (holding s xs) (name_in g) (gives text (holding s xs) g))) (seen text (holding s xs) es) f

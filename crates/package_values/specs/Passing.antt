@@ -11,9 +11,9 @@ use Rattle.syntax.specs.Declarations.{Declaration, constants, variables, types, 
 use Rattle.type_faults.specs.declared.fault.Fault.{Fault}
 use Rattle.type_faults.specs.declared.fault.FaultKind.TheVariants.{SelfReference}
 use Rattle.type_faults.specs.Faults.{fault}
-use Rattle.constants.specs.declared.constant.Fixed.{Fixed}
 use Rattle.components.specs.Graph.{Leads}
-use Rattle.names.specs.Scope.{Scope, with_fixed}
+use Rattle.names.specs.declared.scope.Known.{Known}
+use Rattle.names.specs.Scope.{Scope, with_known}
 use Rattle.package_values.specs.declared.items.Item.{Item as ItemData}
 use Rattle.package_values.specs.Values.{Item, items_in_specs, given}
 use Rattle.package_values.specs.Needs.{names_in}
@@ -77,11 +77,11 @@ is_marked marks k = has_mark (slice_get marks k)
 -- ---- the pass: what the declaration of each gives, one after the other
 
 module _ (text : List ℕ) (is : List Item) where
-  abbrev pub given_at : Scope → ℕ → Option Fixed
+  abbrev pub given_at : Scope → ℕ → Option Known
   given_at s k = option_and_then (given text s) (slice_get is k)
 
   abbrev pub with_given : Scope → ℕ → Scope
-  with_given s k = with_fixed s k (given_at s k)
+  with_given s k = with_known s k (given_at s k)
 
   abbrev pub each_given : Scope → List ℕ → Scope
   each_given s [] = s

@@ -1,6 +1,6 @@
 -- Which rules fail in the declarations of constants and variables of a package, and where each is reported. They are looked at where what can be
 -- known of them is known.
-use Rattle.std.specs.Prelude.{◌≡◌, ◌⊎◌, ℕ, suc, ◌==◌, length, map, Bool, true, false, List, [], ◌∷◌, codes, slice_get, is_some, Option, Some, None, if◌then◌else◌}
+use Rattle.std.specs.Prelude.{◌≡◌, ◌⊎◌, ℕ, suc, ◌==◌, length, map, Bool, true, false, List, [], ◌∷◌, codes, slice_get, Option, Some, None, if◌then◌else◌}
 use Rattle.std.specs.Str.{bytes_eq}
 use Rattle.base.specs.declared.pos.Pos.{Pos}
 use Rattle.syntax.specs.declared.expression.Name.{Name}
@@ -24,7 +24,7 @@ use Rattle.expression_types.specs.Typing.{accepts_operand, operand_in, type_in_o
 use Rattle.expression_types.specs.Faults.{SinglesFail, CountFails, TakeFails, FailsInEach}
 use Rattle.package_values.specs.declared.items.Role.{Role}
 use Rattle.package_values.specs.declared.items.Role.TheVariants as role
-use Rattle.package_values.specs.Values.{Item, items_in, zero_of}
+use Rattle.package_values.specs.Values.{Item, items_in, is_variable_type}
 use Rattle.package_values.specs.Needs.{has_form, Reaches}
 
 -- how many values there are, where each gives one
@@ -60,10 +60,10 @@ value_name_fault k false false d pos = if is_this_value k d then None else Some 
 abbrev pub form_fault : Bool → Pos → Option Fault
 form_fault has_form pos = if has_form then None else Some (fault OutOfProfile pos)
 
--- a variable of another type than int and bool
+-- a variable of a type whose variables have no rules
 abbrev pub left_out_fault : Option ValueType → Pos → Option Fault
 left_out_fault None pos = None
-left_out_fault (Some t) pos = if is_some (zero_of t) then None else Some (fault OutOfProfile pos)
+left_out_fault (Some t) pos = if is_variable_type t then None else Some (fault OutOfProfile pos)
 
 -- such values, which have no type beside them
 abbrev pub ValuesLeftOut : List Seen → Fault → Type 0
@@ -117,7 +117,7 @@ module _ (text : List ℕ) (s : Scope) where
   InitialsFail true pos v f = ⊥
   InitialsFail false pos v f = TakeFails (fault WrongCount pos) (wanted v) (seen text s v.values) f ⊎ FormsFail v.values f
 
-  -- variables of another type than int and bool: at the type that stands there, or at a value without one
+  -- variables of such a type: at the type that stands there, or at a value without one
   abbrev pub LeftOut : Option TreeEx → List Seen → Fault → Type 0
   LeftOut None os f = ValuesLeftOut os f
   LeftOut (Some e) os f = IsFault (left_out_fault (type_in text s e) (first_pos e)) f

@@ -1,13 +1,12 @@
 -- The constants and the package variables of a package, and what is known of them: the values of constants and the types of variables (Go
 -- specification, "Constant declarations", "Constant expressions", "Representability", "Variable declarations"). Their order in the text is
 -- free: one may stand before those that its value names.
-use Rattle.std.specs.Prelude.{ℕ, zero, suc, ◌+◌, pos, false, slice_get, length, ◌==◌, ◌&&◌, List, [], ◌∷◌, ◌++◌, Option, Some, None, option_and_then}
+use Rattle.std.specs.Prelude.{ℕ, zero, suc, ◌+◌, Bool, true, false, slice_get, length, ◌==◌, ◌&&◌, List, [], ◌∷◌, ◌++◌, Option, Some, None, option_and_then}
 use Rattle.std.specs.Option.{option_map}
 use Rattle.syntax.specs.declared.expression.Name.{Name}
 use Rattle.syntax.specs.Expressions.{Ex as TreeEx, Exs as TreeExs, none, some}
 use Rattle.syntax.specs.Statements.{ValueSpec}
 use Rattle.syntax.specs.Declarations.{Declaration, constants, variables, types, function}
-use Rattle.constants.specs.declared.constant.Constant.TheVariants.{Number, Truth}
 use Rattle.constants.specs.declared.constant.Fixed.{Fixed}
 use Rattle.base.specs.declared.value_type.ValueType.{ValueType}
 use Rattle.base.specs.declared.value_type.ValueType.TheVariants.{Int, Bool as Boolean}
@@ -15,7 +14,9 @@ use Rattle.type_faults.specs.Given.{allowed}
 use Rattle.base.specs.Types.{same_type}
 use Rattle.constants.specs.Constants.{constant_type, holds}
 use Rattle.operators.specs.Operands.{Operand, constant, value, nil}
-use Rattle.names.specs.Scope.{Scope, with_fixed}
+use Rattle.names.specs.declared.scope.Known.{Known}
+use Rattle.names.specs.declared.scope.Known.TheVariants as known_as
+use Rattle.names.specs.Scope.{Scope, with_known}
 use Rattle.names.specs.Types.{type_in}
 use Rattle.expression_types.specs.Typing.{Gives, operand_in, own_type, many, gives, seen}
 use Rattle.package_values.specs.declared.items.Role.{Role}
@@ -65,11 +66,15 @@ items_in (function f ∷ ds) = items_in ds
 
 -- ---- values
 
--- a variable of a type is known by the zero value of the type; variables of other types than int and bool are left out
-abbrev pub zero_of : ValueType → Option Fixed
-zero_of Int = Some (record { value_type = Some Int; value = Number (pos 0) })
-zero_of Boolean = Some (record { value_type = Some Boolean; value = Truth false })
-zero_of other = None
+-- the types of which package variables have rules; the others are left out
+abbrev pub is_variable_type : ValueType → Bool
+is_variable_type Int = true
+is_variable_type Boolean = true
+is_variable_type other = false
+
+-- what is known of a variable of a type
+abbrev pub known_variable : ValueType → Option Known
+known_variable t = allowed (is_variable_type t) (Some (known_as.Variable t))
 
 -- what gives a constant
 abbrev pub as_constant : Operand → Option Fixed
@@ -107,17 +112,17 @@ module _ (text : List ℕ) where
   variable_type s None v es n k = initial_type s v es n k
 
   -- what is known of one of them then
-  abbrev pub given_as : Role → Scope → Item → Option Fixed
-  given_as role.Constant s i = given_by s i.type_expr i.value
-  given_as role.Variable s i = option_and_then zero_of (variable_type s i.type_expr i.value i.values (length i.names) i.place)
+  abbrev pub given_as : Role → Scope → Item → Option Known
+  given_as role.Constant s i = option_map known_as.Constant (given_by s i.type_expr i.value)
+  given_as role.Variable s i = option_and_then known_variable (variable_type s i.type_expr i.value i.values (length i.names) i.place)
 
-  abbrev pub given : Scope → Item → Option Fixed
+  abbrev pub given : Scope → Item → Option Known
   given s i = given_as i.role s i
 
   -- one look at all constants and variables in turn, from a number on
   abbrev pub look : ℕ → Scope → List Item → Scope
   look k s [] = s
-  look k s (i ∷ is) = look (1 + k) (with_fixed s k (given s i)) is
+  look k s (i ∷ is) = look (1 + k) (with_known s k (given s i)) is
 
   -- n looks
   abbrev pub looks : ℕ → Scope → List Item → Scope

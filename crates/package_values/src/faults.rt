@@ -18,7 +18,7 @@ ghost use Rattle.package_values.specs.Passing.{item_views, DeclarationFails, rec
 
 use crate::items::{Item, Role, items_in};
 use crate::needs::{has_form, needs};
-use crate::values::{constant_in, zero_of};
+use crate::values::{constant_in, is_variable_type};
 use base::{NoMemory, Pos, ValueType};
 use components::strong_components;
 use expression_types::{
@@ -158,12 +158,12 @@ fn forms_fault(text: &[u8], scope: &Scope, values: &[Expr]) -> Option<Fault>
     fault
 }
 
-/// The fault of a variable of another type than int and bool.
+/// The fault of a variable of a type whose variables have no rules.
 fn left_out_fault(value_type: Option<ValueType>, pos: Pos) -> Option<Fault>
     ensures { result ≡ left_out_fault value_type pos }
 {
     match value_type {
-        Some(value_type) if zero_of(value_type).is_none() => Some(Fault {
+        Some(value_type) if !is_variable_type(value_type) => Some(Fault {
             kind: FaultKind::OutOfProfile,
             pos,
         }),

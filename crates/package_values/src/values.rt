@@ -5,18 +5,19 @@ ghost use Rattle.std.specs.Option.{option_map};
 ghost use Rattle.syntax.specs.Expressions.{ex_in, exs_of};
 ghost use Rattle.syntax.specs.Declarations.{declarations_of};
 ghost use Rattle.components.specs.Components.{component_lists};
-ghost use Rattle.names.specs.Scope.{scope_of, fixed};
+ghost use Rattle.names.specs.Scope.{scope_of, known};
+ghost use Rattle.names.specs.declared.scope.Known.TheVariants.{Constant as ConstantKnown};
 ghost use Rattle.expression_types.specs.Passing.{gives_of};
-ghost use Rattle.package_values.specs.Values.{constant_in, with_type, accepted, given_by, zero_of, initial_type, variable_type, given, settled, items_in};
+ghost use Rattle.package_values.specs.Values.{constant_in, with_type, accepted, given_by, is_variable_type, known_variable, initial_type, variable_type, given, settled, items_in};
 ghost use Rattle.package_values.specs.Passing.{item_of, item_views, given_at, each_given, all_given};
 
 use crate::items::{Item, Role, items_in};
 use crate::needs::mentioned;
 use base::{NoMemory, ValueType, same_type};
 use components::{Component, strong_components};
-use constants::{Constant, Fixed, constant_type, is_held};
+use constants::{Fixed, constant_type, is_held};
 use expression_types::{Gives, check_expr, check_list, many_types, own_type};
-use names::{Scope, ValueId, type_in};
+use names::{Known, Scope, ValueId, type_in};
 use operators::Operand;
 use std::alloc::Global;
 use syntax::{Decl, Expr};
@@ -79,19 +80,22 @@ fn constant_value(
     }
 }
 
-/// A variable of a type is known by the zero value of the type; variables of other types than int and bool are left out.
-pub fn zero_of(value_type: ValueType) -> Option<Fixed>
-    ensures { result ≡ zero_of value_type }
+/// Whether package variables of a type have rules; those of other types are left out.
+pub fn is_variable_type(value_type: ValueType) -> bool
+    ensures { result ≡ is_variable_type value_type }
 {
-    let value = match value_type {
-        ValueType::Int => Constant::Number(0),
-        ValueType::Bool => Constant::Truth(false),
-        _ => return None,
-    };
-    Some(Fixed {
-        value_type: Some(value_type),
-        value,
-    })
+    matches!(value_type, ValueType::Int | ValueType::Bool)
+}
+
+/// What is known of a variable of a type.
+fn known_variable(value_type: ValueType) -> Option<Known>
+    ensures { result ≡ known_variable value_type }
+{
+    if is_variable_type(value_type) {
+        Some(Known::Variable(value_type))
+    } else {
+        None
+    }
 }
 
 /// The type of a result of the call that stands alone, where it has as many as there are names.
@@ -152,27 +156,42 @@ fn variable_type(
     }
 }
 
+/// What is known of a constant, as far as the constants are known in a scope.
+fn constant_known(
+    alloc: Global,
+    text: &[u8],
+    scope: &Scope,
+    item: &Item,
+) -> Result<Option<Known>, NoMemory>
+    ensures { IfOk result (λ r. r ≡ option_map ConstantKnown (given_by text.now (scope_of scope.now) (item_of item.now).type_expr (item_of item.now).value)) }
+{
+    match constant_value(alloc, text, scope, item)? {
+        Some(fixed) => Ok(Some(Known::Constant(fixed))),
+        None => Ok(None),
+    }
+}
+
 /// What is known of a variable, as far as types and constants are known in a scope.
 fn variable_known(
     alloc: Global,
     text: &[u8],
     scope: &Scope,
     item: &Item,
-) -> Result<Option<Fixed>, NoMemory>
-    ensures { IfOk result (λ r. r ≡ option_and_then zero_of (variable_type text.now (scope_of scope.now) (item_of item.now).type_expr (item_of item.now).value (item_of item.now).values (length (item_of item.now).names) (item_of item.now).place)) }
+) -> Result<Option<Known>, NoMemory>
+    ensures { IfOk result (λ r. r ≡ option_and_then known_variable (variable_type text.now (scope_of scope.now) (item_of item.now).type_expr (item_of item.now).value (item_of item.now).values (length (item_of item.now).names) (item_of item.now).place)) }
 {
     match variable_type(alloc, text, scope, item)? {
-        Some(value_type) => Ok(zero_of(value_type)),
+        Some(value_type) => Ok(known_variable(value_type)),
         None => Ok(None),
     }
 }
 
 /// What is known of a constant or variable, as far as the others are known in a scope.
-fn given(alloc: Global, text: &[u8], scope: &Scope, item: &Item) -> Result<Option<Fixed>, NoMemory>
+fn given(alloc: Global, text: &[u8], scope: &Scope, item: &Item) -> Result<Option<Known>, NoMemory>
     ensures { IfOk result (λ r. r ≡ given text.now (scope_of scope.now) (item_of item.now)) }
 {
     match item.role {
-        Role::Constant => constant_value(alloc, text, scope, item),
+        Role::Constant => constant_known(alloc, text, scope, item),
         Role::Variable => variable_known(alloc, text, scope, item),
     }
 }
@@ -184,7 +203,7 @@ fn given_at(
     scope: &Scope,
     items: &[Item],
     number: u32,
-) -> Result<Option<Fixed>, NoMemory>
+) -> Result<Option<Known>, NoMemory>
     ensures { IfOk result (λ r. r ≡ given_at text.now (item_views items.now) (scope_of scope.now) number) }
 {
     match items.get(number as usize) {
@@ -204,8 +223,8 @@ fn settle_each(
     ensures { OnOk result (scope_of scope.new ≡ each_given text.now (item_views items.now) (scope_of scope.old) numbers.now) }
 {
     for number in numbers {
-        let value = given_at(alloc, text, scope, items, *number)?;
-        scope.set_fixed(ValueId(*number), value);
+        let known = given_at(alloc, text, scope, items, *number)?;
+        scope.set_known(ValueId(*number), known);
     }
     Ok(())
 }
@@ -230,7 +249,7 @@ fn settle_all(
 /// as often as there are some.
 pub fn settle(alloc: Global, text: &[u8], scope: &mut Scope, decls: &[Decl]) -> Result<(), NoMemory>
     requires as_many { length (scope_of scope.old).values ≡ length (items_in (declarations_of decls.now)) }
-    requires unknown { (k : ℕ) → fixed (scope_of scope.old) k ≡ None }
+    requires unknown { (k : ℕ) → known (scope_of scope.old) k ≡ None }
     ensures { OnOk result (scope_of scope.new ≡ settled text.now (scope_of scope.old) (items_in (declarations_of decls.now))) }
 {
     let items = items_in(alloc, decls)?;

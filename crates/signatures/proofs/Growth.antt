@@ -6,7 +6,7 @@ use Rattle.std.specs.Prelude.{⊤, not, ◌&&◌}
 use Rattle.std.specs.List.{AllByRecursion}
 use Rattle.base.specs.declared.pos.Pos.{Pos}
 use Rattle.std.specs.Str.{bytes_eq}
-use Rattle.constants.specs.declared.constant.Fixed.{Fixed}
+use Rattle.names.specs.declared.scope.Known.{Known}
 use Rattle.base.specs.declared.value_type.ValueType.{ValueType}
 use Rattle.syntax.specs.declared.expression.Name.{Name}
 use Rattle.syntax.specs.Expressions.{spelled}
@@ -38,7 +38,7 @@ Extends a b = (more : List Site) × (b ≡ a ++ more)
 -- the types
 pub record Package : Type 0 where
   pub signatures : List (Option Signature)
-  pub values : List (Option Fixed)
+  pub values : List (Option Known)
   pub globals : List ℕ
   pub types : Table
 

@@ -8,7 +8,6 @@ use Rattle.base.specs.declared.value_type.ValueType.{ValueType}
 use Rattle.typed_syntax.specs.Form.{InScope}
 use Rattle.typed.specs.Tables.{Table}
 use Rattle.type_faults.proofs.Options.{none_some}
-use Rattle.operators.proofs.Held.{AreHeld}
 use Rattle.typed.specs.declared.program.Site.{Site}
 use Rattle.names.specs.Blocks.{Names, Blocks, entry_of, or_else, lookup, with_entry, insert}
 use Rattle.names.specs.declared.scope.Declared.{Declared}
@@ -17,7 +16,7 @@ use Rattle.names.specs.declared.scope.GlobalId.{GlobalId}
 use Rattle.names.specs.declared.scope.Declared.TheVariants.{Variable, Global}
 use Rattle.names.specs.Universe.{predeclared}
 use Rattle.names.specs.Scope.{Scope, type_number, numbered, declaration, with_declaration, with_site, with_variable, with_strings, opened, beginning}
-use Rattle.names.proofs.Settled.{predeclared_is}
+use Rattle.names.proofs.Settled.{AreSound, predeclared_is}
 use Rattle.signatures.proofs.Growth.{Extends, Package, Keeps}
 
 -- the numbers of the names lie below one
@@ -172,7 +171,7 @@ numbered_shown s scope sites globals name (Some k) d here is = here k refl is
 pub record Visible (s : Scope) (scope : List ℕ) : Type 0 where
   pub bounded : BlocksBelow (length s.declared) s.blocks
   pub shown : (name : List ℕ) (d : Declared) → declaration s name ≡ Some d → IsShown s.types scope s.sites s.globals d
-  pub held : AreHeld s.values
+  pub held : AreSound s.values
 
 -- of a variable, and of a package variable
 pub shown_site : (s : Scope) (scope : List ℕ) → Visible s scope → (name : List ℕ) (site : SiteId) (t : ValueType) → declaration s name ≡ Some (Variable site t) → InScope site.0 scope × HasSite s.types s.sites site.0 t
@@ -195,7 +194,7 @@ pub visible_kept : (s r : Scope) (scope : List ℕ) → Visible s scope → Keep
 visible_kept s r scope v k = record {
   bounded = subst (λ bs. BlocksBelow (length r.declared) bs) (sym k.blocks) (more_blocks (length s.declared) (length r.declared) (omega (arith, longer)) s.blocks v.bounded);
   shown = λ name d is. numbered_shown r scope r.sites r.globals name (lookup r.blocks name) d (λ j j_is got. here name d j j_is got) is;
-  held = subst AreHeld (sym (ap (λ (q : Package). q.values) k.kept)) v.held;
+  held = subst AreSound (sym (ap (λ (q : Package). q.values) k.kept)) v.held;
 }
   where
     longer : length r.declared ≡ length s.declared + length k.declared.0

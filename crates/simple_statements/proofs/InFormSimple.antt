@@ -20,7 +20,6 @@ use Rattle.typed.specs.Positions.{position}
 use Rattle.typed_syntax.specs.Syntax.{Exs, Left, Pl, St, Program, read, global, here, none, more, results, read_int as asked_two, blank, new, to, update, return_stmt}
 use Rattle.typed_syntax.specs.Form.{IsArithmetic, IsStep, PlFits, LeftsFit, new_sites, births, scope_behind, scope_after, ExFits, ExsFit, PieceFits, PiecesFit, ReturnFits, StFits}
 use Rattle.typed_syntax.specs.Types.{TypeTree, ints, bools}
-use Rattle.constants.specs.declared.constant.Fixed.{Fixed}
 use Rattle.base.specs.declared.value_type.ValueType.{ValueType}
 use Rattle.base.specs.declared.value_type.ValueType.TheVariants.{Int, Bool as Truth, Struct, Array}
 use Rattle.typed.specs.Tables.{Table}
@@ -32,7 +31,8 @@ use Rattle.operators.specs.Operators.{arithmetic_of, combined}
 use Rattle.names.specs.declared.scope.Declared.{Declared}
 use Rattle.names.specs.declared.scope.Declared.TheVariants as declared
 use Rattle.names.specs.Universe.{is_blank}
-use Rattle.names.specs.Scope.{Scope, type_number, type_tree, type_trees, declaration, is_here, fixed, with_variable, with_strings}
+use Rattle.names.specs.declared.scope.Known.{Known as KnownOf}
+use Rattle.names.specs.Scope.{Scope, type_number, type_tree, type_trees, declaration, is_here, known as scope_known, with_variable, with_strings}
 use Rattle.names.specs.Naming.{name_in}
 use Rattle.names.proofs.Trees.{int_tree, solid}
 use Rattle.expression_types.specs.Typing.{known_type, Part, said, valued, Gives, one, called, asking, quoted, printed, panicked, exited, operand_in, Seen, value_types, asked, taken, gives, seen}
@@ -215,7 +215,7 @@ module _ (T : Table) (text : List ℕ) (p : Program) (all : List Site) (has : Ha
   pub known_all : (s : Scope) (scope : List ℕ) → Visible s scope → s.types ≡ T → Agrees s p → Extends s.sites all → (n : List ℕ) → Known T p scope (variable_of s (declaration s n))
   known_all s scope visible types_are agrees ext n = by (declaration s n) refl
     where
-      global_known : (k g : ℕ) (o : Option Fixed) → fixed s k ≡ o → slice_get s.globals g ≡ Some k → Known T p scope (option_map (global_variable g) o)
+      global_known : (k g : ℕ) (o : Option KnownOf) → scope_known s k ≡ o → slice_get s.globals g ≡ Some k → Known T p scope (option_map (global_variable g) o)
       global_known k g None known at v is = absurd (none_some is)
       global_known k g (Some f) known at v is = subst (λ (x : Variable). PlFits p scope (type_tree T x.value_type) x.place) (same_some is) (subst (λ (U : Table). PlFits p scope (type_tree U (known_type f)) (global g here)) types_are (agrees.globals g k f at known))
 
@@ -223,7 +223,7 @@ module _ (T : Table) (text : List ℕ) (p : Program) (all : List Site) (has : Ha
       by (Some (declared.Variable site u)) found v is =
           let k = shown_site s scope visible n site u found in
           subst (λ (x : Variable). PlFits p scope (type_tree T x.value_type) x.place) (same_some is) (k.0, site_shown T p all has s types_are ext site.0 u k.1, solid T (subst IsFormed types_are agrees.formed) (type_number T u))
-      by (Some (declared.Global k g)) found v is = global_known k.0 g.0 (fixed s k.0) refl (shown_number s scope visible n k g found) v is
+      by (Some (declared.Global k g)) found v is = global_known k.0 g.0 (scope_known s k.0) refl (shown_number s scope visible n k g found) v is
       by other found v is = absurd (none_some is)
 
   module _ (wanted1 : List TypeTree) (named : ℕ) where

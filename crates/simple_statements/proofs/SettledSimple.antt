@@ -19,7 +19,6 @@ use Rattle.typed.specs.Positions.{position}
 use Rattle.typed_syntax.specs.Positions.{Position}
 use Rattle.typed_syntax.specs.Syntax.{Ex, Exs, Left, Pl, St, to, binary, read, none, assign, update, return_stmt}
 use Rattle.type_faults.specs.declared.fault.FaultKind.TheVariants.{Unknown, Redeclared, NothingNew, NotAssignable, NotUsedValue, WrongCount, ResultCount, Unfit, OutOfProfile}
-use Rattle.constants.specs.declared.constant.Fixed.{Fixed}
 use Rattle.base.specs.declared.value_type.ValueType.{ValueType}
 use Rattle.base.specs.declared.value_type.ValueType.TheVariants.{Int, Bool as Truth}
 use Rattle.type_faults.specs.Given.{both}
@@ -34,9 +33,10 @@ use Rattle.names.specs.Blocks.{Blocks}
 use Rattle.names.specs.declared.scope.Declared.{Declared}
 use Rattle.names.specs.declared.scope.Declared.TheVariants as declared
 use Rattle.names.specs.Universe.{is_blank}
-use Rattle.names.specs.Scope.{Scope, declaration, is_here, fixed}
+use Rattle.names.specs.declared.scope.Known.{Known}
+use Rattle.names.specs.Scope.{Scope, declaration, is_here, known}
 use Rattle.names.specs.Naming.{name_in}
-use Rattle.names.proofs.Settled.{HasValue, IsTyped, IsSettled, declared_typed}
+use Rattle.names.proofs.Settled.{IsKnown, IsTyped, IsSettled, declared_typed}
 use Rattle.expression_types.specs.Typing.{Gives, one, called, asking, quoted, printed, panicked, exited, operand_in, Seen, many, count, taken, gives, seen}
 use Rattle.expression_types.specs.Faults.{refused_fault, ValuesFail, CountFails, TakeFails, Fails, FailsInEach, FailsAsOperand}
 use Rattle.expression_types.proofs.DecidedValues.{given_all, operand_decided, take_decided, refused}
@@ -55,7 +55,7 @@ abbrev NameTyped : Scope → Option Declared → Type 0
 NameTyped s d = (x : Declared) → d ≡ Some x → IsTyped s.types s.signatures s.values x
 
 -- what follows from a package variable of which something is known
-known_decided : {A : Type 0} (h : Variable → A) (g : ℕ) (o : Option Fixed) → HasValue o → Decided (option_map h (option_map (global_variable g) o)) (IsFault None)
+known_decided : {A : Type 0} (h : Variable → A) (g : ℕ) (o : Option Known) → IsKnown o → Decided (option_map h (option_map (global_variable g) o)) (IsFault None)
 known_decided h g None has = absurd has
 known_decided h g (Some f) has = λ k j. j
 
@@ -63,7 +63,7 @@ left_decided : (s : Scope) (is_blank : Bool) (d : Option Declared) (at whole : P
 left_decided s true d at whole typed = λ f h. h
 left_decided s false None at whole typed = (fault Unknown at, refl)
 left_decided s false (Some (declared.Variable site t)) at whole typed = λ f h. h
-left_decided s false (Some (declared.Global k g)) at whole typed = known_decided (λ v. to v.place) g.0 (fixed s k.0) (typed (declared.Global k g) refl)
+left_decided s false (Some (declared.Global k g)) at whole typed = known_decided (λ v. to v.place) g.0 (known s k.0) (typed (declared.Global k g) refl)
 left_decided s false (Some declared.Untyped) at whole typed = absurd (typed declared.Untyped refl)
 left_decided s false (Some declared.TypeName) at whole typed = (fault Unfit at, refl)
 left_decided s false (Some (declared.«Type» t)) at whole typed = (fault Unfit at, refl)
@@ -75,7 +75,7 @@ own_decided : (s : Scope) (is_blank : Bool) (d : Option Declared) (at whole : Po
 own_decided s true d at whole typed = (fault Unknown at, refl)
 own_decided s false None at whole typed = (fault Unknown at, refl)
 own_decided s false (Some (declared.Variable site t)) at whole typed = λ f h. h
-own_decided s false (Some (declared.Global k g)) at whole typed = known_decided (λ v. value v.value_type (read v.place)) g.0 (fixed s k.0) (typed (declared.Global k g) refl)
+own_decided s false (Some (declared.Global k g)) at whole typed = known_decided (λ v. value v.value_type (read v.place)) g.0 (known s k.0) (typed (declared.Global k g) refl)
 own_decided s false (Some declared.Untyped) at whole typed = absurd (typed declared.Untyped refl)
 own_decided s false (Some declared.TypeName) at whole typed = (fault Unfit at, refl)
 own_decided s false (Some (declared.«Type» t)) at whole typed = (fault Unfit at, refl)

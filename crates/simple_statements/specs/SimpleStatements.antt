@@ -2,7 +2,6 @@
 -- declarations", "Variable declarations", "Assignment statements", "IncDec statements", "Expression statements", "Return statements").
 use Rattle.std.specs.Prelude.{ℕ, ◌+◌, length, Bool, true, false, not, ◌&&◌, ◌||◌, List, [], ◌∷◌, map, Option, Some, None, is_some, option_and_then, if◌then◌else◌}
 use Rattle.std.specs.Option.{option_map}
-use Rattle.constants.specs.declared.constant.Fixed.{Fixed}
 use Rattle.base.specs.declared.value_type.ValueType.{ValueType}
 use Rattle.base.specs.declared.pos.Pos.{Pos}
 use Rattle.syntax.specs.declared.expression.Name.{Name}
@@ -27,7 +26,8 @@ use Rattle.names.specs.Blocks.{Blocks, innermost, insert}
 use Rattle.names.specs.declared.scope.Declared.{Declared}
 use Rattle.names.specs.declared.scope.Declared.TheVariants as declared
 use Rattle.names.specs.Universe.{is_blank}
-use Rattle.names.specs.Scope.{Scope, declaration, is_here, fixed, with_variable, with_strings}
+use Rattle.names.specs.declared.scope.Known.{Known}
+use Rattle.names.specs.Scope.{Scope, declaration, is_here, known, with_variable, with_strings}
 use Rattle.names.specs.Naming.{name_in}
 use Rattle.names.specs.Types.{type_in}
 use Rattle.expression_types.specs.Typing.{known_type, Part, said, valued, Gives, one, called, asking, quoted, printed, panicked, exited, operand_in, Seen, value_types, taken, gives, seen}
@@ -61,13 +61,13 @@ pub record Variable : Type 0 where
 abbrev pub variable_view : VariableData → Variable
 variable_view v = record { value_type = v.value_type; place = place_of v.place }
 
-abbrev pub global_variable : ℕ → Fixed → Variable
-global_variable g f = record { value_type = known_type f; place = global g here }
+abbrev pub global_variable : ℕ → Known → Variable
+global_variable g k = record { value_type = known_type k; place = global g here }
 
 -- the variable that a name stands for, where its type is known
 abbrev pub variable_of : Scope → Option Declared → Option Variable
 variable_of s (Some (declared.Variable site t)) = Some (record { value_type = t; place = local site.0 here })
-variable_of s (Some (declared.Global k g)) = option_map (global_variable g.0) (fixed s k.0)
+variable_of s (Some (declared.Global k g)) = option_map (global_variable g.0) (known s k.0)
 variable_of s other = None
 
 -- it as a left side, the type that it asks for, and its value

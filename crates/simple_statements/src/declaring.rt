@@ -19,8 +19,7 @@ ghost use Rattle.signatures.specs.Failing.{fault_where};
 ghost use Rattle.simple_statements.specs.SimpleFaults.{left_fault, new_name_fault, value_left_fault, LeftSideFails, LeftsFail, NewNamesFail, TwiceFails, names_place, lefts_place};
 
 use base::{NoMemory, Pos, SiteId, ValueType};
-use constants::constant_type;
-use expression_types::{Gives, check_expr, single_fault};
+use expression_types::{Gives, check_expr, known_type, single_fault};
 use names::{Blocks, Declared, Scope, is_blank, name_in, spelled};
 use signatures::{Slot, fault_where};
 use std::alloc::Global;
@@ -59,9 +58,9 @@ fn variable_of(alloc: Global, scope: &Scope, declared: Option<Declared>) -> Opti
             value_type,
             place: Place::Local(site, Vec::new(alloc)),
         }),
-        Some(Declared::Global(number, global)) => match scope.fixed(number) {
+        Some(Declared::Global(number, global)) => match scope.known(number) {
             Some(known) => Some(Variable {
-                value_type: constant_type(known),
+                value_type: known_type(known),
                 place: Place::Global(global.0, Vec::new(alloc)),
             }),
             None => None,

@@ -5,7 +5,7 @@ use Rattle.syntax.specs.Declarations.{Body, Function as TreeFunction}
 use Rattle.syntax.specs.Expressions.{spelled}
 use Rattle.base.specs.declared.value_type.ValueType.{ValueType}
 use Rattle.names.specs.Universe.{is_blank}
-use Rattle.names.specs.Scope.{Scope, fixed, with_site, opened}
+use Rattle.names.specs.Scope.{Scope, known, with_site, opened}
 use Rattle.package_values.specs.Values.{Item}
 use Rattle.signatures.specs.Signatures.{slots_of}
 use Rattle.signatures.proofs.Growth.{Grows, Keeps, grows_twice, keeps_twice, keeps_none, keeps_inner, grows_entries}
@@ -33,7 +33,7 @@ module _ (text : List ℕ) (heads : Scope) where
   keeps_named s t at false = record { blocks = refl; declared = ([], sym (append-nil s.declared), tt); sites = (_, refl); kept = refl; strings = omega arith }
 
   pub keeps_variable : (s : Scope) (k : ℕ) (i : Item) → Keeps s (behind_variable text s k i)
-  keeps_variable s k i = keeps_named s (type_or_int (fixed s k)) i.name.pos (is_blank (spelled text i.name))
+  keeps_variable s k i = keeps_named s (type_or_int (known s k)) i.name.pos (is_blank (spelled text i.name))
 
   pub keeps_members : (s : Scope) (ms : List Member) → Keeps s (behind_members text heads s ms)
   keeps_members s [] = keeps_none s

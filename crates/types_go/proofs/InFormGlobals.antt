@@ -24,17 +24,20 @@ use Rattle.typed.specs.Formed.{IsFormed}
 use Rattle.constants.specs.Constants.{is_int, is_held, constant_type}
 use Rattle.type_faults.proofs.Options.{and_then_some, map_some, none_some, same_some}
 use Rattle.names.specs.Universe.{is_blank}
-use Rattle.names.specs.Scope.{Scope, type_number, type_tree, fixed, with_site}
-use Rattle.operators.proofs.Held.{AreHeld}
+use Rattle.names.specs.declared.scope.Known.{Known}
+use Rattle.names.specs.declared.scope.Known.TheVariants as known_as
+use Rattle.names.specs.Scope.{Scope, type_number, type_tree, known, with_site}
+use Rattle.names.proofs.Settled.{AreSound}
 use Rattle.names.proofs.Trees.{int_tree, bool_tree}
 use Rattle.package_values.specs.declared.items.Role.TheVariants as role
-use Rattle.package_values.specs.Values.{Item, items_in_specs}
+use Rattle.package_values.specs.Values.{Item, items_in_specs, is_variable_type}
 use Rattle.signatures.specs.Signatures.{is_external}
 use Rattle.signatures.proofs.Growth.{Extends, Package, package_of}
 use Rattle.signatures.proofs.Visible.{HasSite, has_longer, new_site}
 use Rattle.signatures.proofs.InFormEntries.{HasSites, site_is}
 use Rattle.types_go.specs.Functions.{Member, of_function, of_variable, numbered, type_or_int, int_in, first_value, behind_variable, initial, members_in, behind_body, behind_function, function, functions, behind_members, globals}
 use Rattle.types_go.proofs.SettledFunctions.{function_some}
+use Rattle.types_go.proofs.Visible.{AreOfRules}
 use Rattle.types_go.proofs.Growth.{keeps_function, keeps_variable, keeps_members}
 use Rattle.types_go.proofs.InFormStatements.{AreGlobals}
 use Rattle.types_go.proofs.Package.{names_numbers, all_names, items_names, globals_numbers}
@@ -64,9 +67,16 @@ held_basic (Some Boolean) c is = inr refl
 held_basic (Some (Struct k)) c is = absurd (false≢true is)
 held_basic (Some (Array n e)) c is = absurd (false≢true is)
 
-known_basic : (values : List (Option Fixed)) → AreHeld values → (k : ℕ) (o : Option Fixed) → option_and_then (λ (x : Option Fixed). x) (slice_get values k) ≡ o → IsBasic (type_or_int o)
-known_basic values held k None is = inl refl
-known_basic values held k (Some f) is = held_basic f.value_type f.value (held k f is)
+rules_basic : (t : ValueType) → is_variable_type t ≡ true → IsBasic t
+rules_basic Int is = inl refl
+rules_basic Boolean is = inr refl
+rules_basic (Struct k) is = absurd (false≢true is)
+rules_basic (Array n e) is = absurd (false≢true is)
+
+known_basic : (s : Scope) → AreSound s.values → AreOfRules s → (k : ℕ) (o : Option Known) → known s k ≡ o → IsBasic (type_or_int o)
+known_basic s held rules k None is = inl refl
+known_basic s held rules k (Some (known_as.Constant f)) is = held_basic f.value_type f.value (held k (known_as.Constant f) is)
+known_basic s held rules k (Some (known_as.Variable t)) is = rules_basic t (rules k (known_as.Variable t) is)
 
 module _ (T : Table) (formed : IsFormed T) where
   first_fits : (t : ValueType) (c : Option Fixed) → IsBasic t → IsOf (type_tree T t) (first_value t c) × IsWord (first_value t c)
@@ -144,13 +154,13 @@ module _ (text : List ℕ) (heads : Scope) where
       let later = global_at s1 ms g k is in
       (later.0, later.1, subst (λ (q : Package). TypedAt q (behind_members text heads s1 ms).sites later.0.0 k) (keeps_function text heads s h).kept later.2)
   global_at s (of_variable v x ∷ ms) g k is =
-      by (λ j is1. global_at s ms j k is1) (λ j is1. global_at (with_site s (type_or_int (fixed s v)) x.name.pos) ms j k is1) (is_blank (spelled text x.name)) g is
+      by (λ j is1. global_at s ms j k is1) (λ j is1. global_at (with_site s (type_or_int (known s v)) x.name.pos) ms j k is1) (is_blank (spelled text x.name)) g is
     where
       c : Option Fixed
       c = initial text s x.value
 
       t : ValueType
-      t = type_or_int (fixed s v)
+      t = type_or_int (known s v)
 
       s1 : Scope
       s1 = with_site s t x.name.pos
@@ -183,13 +193,13 @@ module _ (text : List ℕ) (heads : Scope) where
       let long = extends_length s.sites s1.sites (keeps_function text heads s h).sites in
       (omega (arith, later.0, long), subst (λ (q : Package). Begins q (behind_members text heads s1 ms).sites entry) (keeps_function text heads s h).kept later.1)
   global_begins s (of_variable v x ∷ ms) j entry is =
-      by (λ n is1. global_begins s ms n entry is1) (λ n is1. global_begins (with_site s (type_or_int (fixed s v)) x.name.pos) ms n entry is1) (is_blank (spelled text x.name)) j is
+      by (λ n is1. global_begins s ms n entry is1) (λ n is1. global_begins (with_site s (type_or_int (known s v)) x.name.pos) ms n entry is1) (is_blank (spelled text x.name)) j is
     where
       c : Option Fixed
       c = initial text s x.value
 
       t : ValueType
-      t = type_or_int (fixed s v)
+      t = type_or_int (known s v)
 
       s1 : Scope
       s1 = with_site s t x.name.pos
@@ -262,13 +272,13 @@ module _ (text : List ℕ) (heads : Scope) where
       let behind1 = (global_begins s1 ms j entry at).0 in
       subst (λ (l : List Func). Apart entry.0 l) q.2 (one_apart entry.0 r.0 q.0 (omega (arith, own.1, behind1)) (globals_apart s1 (1 + i) ms q.0 q.1 j entry at))
   globals_apart s i (of_variable v x ∷ ms) fs is j entry at =
-      by (λ n is1 at1. globals_apart s i ms fs is1 n entry at1) (λ n is1 at1. globals_apart (with_site s (type_or_int (fixed s v)) x.name.pos) i ms fs is1 n entry at1) (is_blank (spelled text x.name)) j is at
+      by (λ n is1 at1. globals_apart s i ms fs is1 n entry at1) (λ n is1 at1. globals_apart (with_site s (type_or_int (known s v)) x.name.pos) i ms fs is1 n entry at1) (is_blank (spelled text x.name)) j is at
     where
       c : Option Fixed
       c = initial text s x.value
 
       t : ValueType
-      t = type_or_int (fixed s v)
+      t = type_or_int (known s v)
 
       s1 : Scope
       s1 = with_site s t x.name.pos
@@ -296,25 +306,25 @@ module _ (text : List ℕ) (heads : Scope) where
     got (x ∷ gs) (suc g) entry d is = let k = got gs g entry d is in (omega (arith, k.0), k.1)
 
     -- its type in the program
-    type_of_site : (site k : ℕ) → (behind_members text heads s ms).sites ≡ all → TypedAt (package_of s) (behind_members text heads s ms).sites site k → site_type p site ≡ type_tree T (type_or_int (fixed s k))
+    type_of_site : (site k : ℕ) → (behind_members text heads s ms).sites ≡ all → TypedAt (package_of s) (behind_members text heads s ms).sites site k → site_type p site ≡ type_tree T (type_or_int (known s k))
     type_of_site site k sites typed =
-        site_is T p all has site (type_or_int (fixed s k))
-        (subst (λ (U : Table). HasSite U all site (type_or_int (fixed s k))) types_are (subst (λ (l : List Site). HasSite s.types l site (type_or_int (fixed s k))) sites typed))
+        site_is T p all has site (type_or_int (known s k))
+        (subst (λ (U : Table). HasSite U all site (type_or_int (known s k))) types_are (subst (λ (l : List Site). HasSite s.types l site (type_or_int (known s k))) sites typed))
 
     pub globals_agree : s.globals ≡ member_numbers text ms → p.globals ≡ globals text heads s ms → (behind_members text heads s ms).sites ≡ all → AreGlobals T (package_of s) p
-    globals_agree numbers globals1 sites g k f at known =
+    globals_agree numbers globals1 sites g k x at known_is =
         let found = global_at s ms g k (ap (λ l. slice_get l g) (sym numbers) ∙ at) in
         let here = got p.globals g found.0 (0, int (pos 0)) (ap (λ (l : List (ℕ × Value)). slice_get l g) globals1 ∙ found.1) in
         let type_is = type_of_site found.0.0 k sites found.2 in
-        (here.0, ap (λ (y : ℕ × Value). site_type p y.0) here.1 ∙ type_is ∙ ap (λ (o : Option Fixed). type_tree T (type_or_int o)) known)
+        (here.0, ap (λ (y : ℕ × Value). site_type p y.0) here.1 ∙ type_is ∙ ap (λ (o : Option Known). type_tree T (type_or_int o)) known_is)
 
-    pub globals_fit : IsFormed T → AreHeld s.values → (fs : List Func) → functions text heads s 0 ms ≡ Some fs → p.funcs ≡ fs → (behind_members text heads s ms).sites ≡ all → (j : ℕ) (entry : ℕ × Value) → slice_get (globals text heads s ms) j ≡ Some entry
+    pub globals_fit : IsFormed T → AreSound s.values → AreOfRules s → (fs : List Func) → functions text heads s 0 ms ≡ Some fs → p.funcs ≡ fs → (behind_members text heads s ms).sites ≡ all → (j : ℕ) (entry : ℕ × Value) → slice_get (globals text heads s ms) j ≡ Some entry
         → GlobalFits p entry
-    globals_fit formed held fs is funcs sites j entry at =
+    globals_fit formed held rules fs is funcs sites j entry at =
         let begins = (global_begins s ms j entry at).1 in
         let k = begins.0 in
-        let t = type_or_int (fixed s k) in
-        let basic = known_basic s.values held k (fixed s k) refl in
+        let t = type_or_int (known s k) in
+        let basic = known_basic s held rules k (known s k) refl in
         let type_is = type_of_site entry.0 k sites begins.1.1.0 in
         let fits = first_fits T formed t begins.1.0 basic in
         record {

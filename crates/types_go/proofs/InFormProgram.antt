@@ -43,7 +43,7 @@ use Rattle.types_go.proofs.Package.{constant_one, variable_one, declared_one, si
 use Rattle.types_go.proofs.Types.{heads_types, block_types}
 use Rattle.types_go.proofs.StatementGrowth.{grows_all}
 use Rattle.types_go.proofs.Growth.{keeps_function, keeps_variable, keeps_members, grows_body}
-use Rattle.types_go.proofs.Visible.{visible_package}
+use Rattle.types_go.proofs.Visible.{visible_package, rules_package}
 use Rattle.types_go.proofs.InFormStatements.{AreSigned, AreGlobals, formed_all}
 use Rattle.types_go.proofs.InFormGlobals.{member_numbers, members_numbers, globals_agree, globals_fit}
 use Rattle.types_go.proofs.Inside.{inside_start, inside_grows}
@@ -454,5 +454,5 @@ in_form t p a =
       few = few;
       main = (at.1.1.0, at.1.1.1.0, plain.0, plain.1.0, plain.1.1);
       solid = λ site. sites_solid h.types formed all site;
-      globals = λ i g got. globals_fit t.text h h.types p0 all has s own_types gs formed visible.held a.funcs found refl refl i g got;
+      globals = λ i g got. globals_fit t.text h h.types p0 all has s own_types gs formed visible.held (rules_package t.text h s ds w.0) a.funcs found refl refl i g got;
     })

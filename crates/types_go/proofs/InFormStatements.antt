@@ -11,9 +11,9 @@ use Rattle.typed.specs.Trees.{trees}
 use Rattle.typed.specs.Formed.{IsFormed}
 use Rattle.typed_syntax.specs.Types.{TypeTree, ints}
 use Rattle.typed_syntax.specs.Form.{births, births_all, scope_after, StFits, StsFit}
-use Rattle.constants.specs.declared.constant.Fixed.{Fixed}
 use Rattle.type_faults.specs.Given.{allowed}
 use Rattle.type_faults.proofs.Options.{and_then_some, map_some, same_some}
+use Rattle.names.specs.declared.scope.Known.{Known}
 use Rattle.names.specs.Scope.{Scope, Signature, type_tree, type_trees, opened, closed}
 use Rattle.expression_types.specs.Typing.{known_type, seen}
 use Rattle.expression_types.proofs.InForm.{Agrees}
@@ -36,7 +36,7 @@ AreSigned T sigs fs = (f : ℕ) (sig : Signature) → option_and_then (λ o. o) 
 
 -- the package variables of a program have the types that are known of them
 abbrev pub AreGlobals : Table → Package → Program → Type 0
-AreGlobals T own p = (g k : ℕ) (f : Fixed) → slice_get own.globals g ≡ Some k → option_and_then (λ o. o) (slice_get own.values k) ≡ Some f → (g < length p.globals) × (global_type p g ≡ type_tree T (known_type f))
+AreGlobals T own p = (g k : ℕ) (x : Known) → slice_get own.globals g ≡ Some k → option_and_then (λ o. o) (slice_get own.values k) ≡ Some x → (g < length p.globals) × (global_type p g ≡ type_tree T (known_type x))
 
 -- the scope after statements
 abbrev pub scope_behind_all : List ℕ → Sts → List ℕ

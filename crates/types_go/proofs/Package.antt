@@ -5,13 +5,13 @@ use Rattle.std.proofs.lemmas.List.{map-append, length-map}
 use Rattle.syntax.specs.declared.expression.Name.{Name}
 use Rattle.syntax.specs.Expressions.{Ex as TreeEx, Exs as TreeExs, none, some, spelled}
 use Rattle.syntax.specs.Statements.{ValueSpec}
-use Rattle.constants.specs.declared.constant.Fixed.{Fixed}
+use Rattle.names.specs.declared.scope.Known.{Known}
 use Rattle.syntax.specs.Declarations.{TypeSpec, Function as TreeFunction, Declaration, constants, variables, types}
 use Rattle.syntax.specs.Declarations as tree
 use Rattle.type_faults.proofs.Options.{map_some, none_some, same_some}
 use Rattle.names.specs.declared.scope.Declared.TheVariants.{Constant, Global, Function, External, TypeName}
 use Rattle.names.specs.Universe.{is_blank}
-use Rattle.names.specs.Scope.{Scope, Signature, with_declaration, with_signature, with_value, with_global, with_fixed}
+use Rattle.names.specs.Scope.{Scope, Signature, with_declaration, with_signature, with_value, with_global, with_known}
 use Rattle.package_values.specs.declared.items.Role.{Role}
 use Rattle.package_values.specs.declared.items.Role.TheVariants as role
 use Rattle.package_values.specs.Values.{Item, unvalued, paired, or_unvalued, items_of, items_in_specs, items_in, given, look, looks, settled}
@@ -246,7 +246,7 @@ module _ (text : List ℕ) (heads : Scope) where
       let rest = values_long (with_package_variables text s specs) ds in
       omega (arith, one, both1, rest)
   values_long s (types at specs ∷ ds) =
-      let one = ap (λ (l : List (Option Fixed)). length l) (types_values s specs) in
+      let one = ap (λ (l : List (Option Known)). length l) (types_values s specs) in
       let rest = values_long (with_types text s specs) ds in
       omega (arith, one, rest)
   values_long s (tree.function g ∷ ds) =
@@ -256,10 +256,10 @@ module _ (text : List ℕ) (heads : Scope) where
 
   -- ---- nothing is known of them before they are worked out
 
-  abbrev pub AreUnknown : List (Option Fixed) → Type 0
+  abbrev pub AreUnknown : List (Option Known) → Type 0
   AreUnknown vs = (k : ℕ) → option_and_then (λ o. o) (slice_get vs k) ≡ None
 
-  unknown_more : (vs : List (Option Fixed)) → AreUnknown vs → AreUnknown (vs ++ None ∷ [])
+  unknown_more : (vs : List (Option Known)) → AreUnknown vs → AreUnknown (vs ++ None ∷ [])
   unknown_more [] h zero = refl
   unknown_more [] h (suc k) = refl
   unknown_more (v ∷ vs) h zero = h zero
@@ -388,10 +388,10 @@ module _ (text : List ℕ) (heads : Scope) where
           items_kept (with_function text heads s g) ds (others_supported g ds is) (function_kept s g (is_external text heads g) (declares_name s (spelled text g.name)) p)
 
 -- what another value of a constant or variable keeps, working them out keeps
-module _ (text : List ℕ) (P : Scope → Type 0) (kept : (s : Scope) (k : ℕ) (i : Item) → P s → P (with_fixed s k (given text s i))) where
+module _ (text : List ℕ) (P : Scope → Type 0) (kept : (s : Scope) (k : ℕ) (i : Item) → P s → P (with_known s k (given text s i))) where
   look_kept : (k : ℕ) (s : Scope) (is : List Item) → P s → P (look text k s is)
   look_kept k s [] p = p
-  look_kept k s (i ∷ is) p = look_kept (1 + k) (with_fixed s k (given text s i)) is (kept s k i p)
+  look_kept k s (i ∷ is) p = look_kept (1 + k) (with_known s k (given text s i)) is (kept s k i p)
 
   looks_kept : (n : ℕ) (s : Scope) (is : List Item) → P s → P (looks text n s is)
   looks_kept zero s is p = p

@@ -16,7 +16,6 @@ use Rattle.typed.specs.Tables.{Table}
 use Rattle.typed.specs.Formed.{IsFormed}
 use Rattle.type_faults.specs.declared.fault.FaultKind.TheVariants.{Unknown, Redeclared, MissingReturn, Unfit, OutOfProfile, TooLarge}
 use Rattle.base.specs.declared.value_type.ValueType.{ValueType}
-use Rattle.constants.specs.declared.constant.Fixed.{Fixed}
 use Rattle.type_faults.specs.Given.{allowed}
 use Rattle.type_faults.specs.Faults.{fault, IsFault}
 use Rattle.type_faults.proofs.Decided.{Decided, Tested, further, same, mapped, after, both_decided, both_tested}
@@ -25,8 +24,9 @@ use Rattle.names.specs.Blocks.{lookup}
 use Rattle.names.specs.declared.scope.Declared.{Declared}
 use Rattle.names.specs.declared.scope.Declared.TheVariants.{Untyped, Constant, Global, Function, External, TypeName}
 use Rattle.names.specs.declared.scope.Declared.TheVariants as declared
+use Rattle.names.specs.declared.scope.Known.{Known}
 use Rattle.names.specs.Universe.{is_blank}
-use Rattle.names.specs.Scope.{Scope, Signature, numbered as numbered_name, declaration, fixed, with_declaration, with_site, opened, beginning}
+use Rattle.names.specs.Scope.{Scope, Signature, numbered as numbered_name, declaration, known, with_declaration, with_site, opened, beginning}
 use Rattle.names.specs.Types.{is_known, declared_type, type_in}
 use Rattle.names.proofs.Trees.{int_known, bool_known, formed_beginning}
 use Rattle.names.specs.Faults.{type_name_fault, FailsAsType}
@@ -220,7 +220,7 @@ module _ (text : List ℕ) (heads : Scope) where
   settled_named s t at false settled = record { all = settled.all; formed = settled.formed }
 
   settled_variable : (s : Scope) (k : ℕ) (v : Item) → IsSettled s → IsSettled (behind_variable text s k v)
-  settled_variable s k v settled = settled_named s (type_or_int (fixed s k)) v.name.pos (is_blank (spelled text v.name)) settled
+  settled_variable s k v settled = settled_named s (type_or_int (known s k)) v.name.pos (is_blank (spelled text v.name)) settled
 
   functions_decided : (s : Scope) (i : ℕ) (gs : List Member) → NoTypes heads → IsSettled s → Decided (functions text heads s i gs) (FailsInFunctions text heads s i gs)
   functions_decided s i [] no_types settled = λ f h. h
@@ -335,10 +335,10 @@ module _ (text : List ℕ) (heads : Scope) where
       by false true = one_more_declared (AreNumbered (length s.signatures) (length (s.values ++ None ∷ []))) s.declared (Global (record { 0 = length s.values }) (record { 0 = length s.globals })) more (omega (arith, long))
 
   -- a constant or variable of which nothing is known yet
-  abbrev IsUnknown : Option Fixed → Type 0
+  abbrev IsUnknown : Option Known → Type 0
   IsUnknown o = IsNone o
 
-  one_more_unknown : (os : List (Option Fixed)) → AllByRecursion IsUnknown os → AllByRecursion IsUnknown (os ++ None ∷ [])
+  one_more_unknown : (os : List (Option Known)) → AllByRecursion IsUnknown os → AllByRecursion IsUnknown (os ++ None ∷ [])
   one_more_unknown [] all = (refl, tt)
   one_more_unknown (o ∷ os) all = (all.0, one_more_unknown os all.1)
 

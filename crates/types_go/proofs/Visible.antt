@@ -1,48 +1,57 @@
--- The package block names no variables of functions, its variables have their numbers, and its constants are held by their types.
+-- The package block names no variables of functions, its variables have their numbers, its constants are held by their types, and the types of
+-- its variables have rules.
 use Rattle.std.proofs.Common.{◌≡◌, ℕ, zero, suc, Bool, true, false, List, [], ◌∷◌, ◌++◌, length, Option, Some, None, refl}
-use Rattle.std.specs.Prelude.{slice_get, slice_set}
+use Rattle.std.specs.Prelude.{slice_get, slice_set, option_and_then}
 use Rattle.typed.specs.declared.program.Site.{Site}
-use Rattle.constants.specs.declared.constant.Fixed.{Fixed}
 use Rattle.syntax.specs.declared.expression.Name.{Name}
 use Rattle.syntax.specs.Expressions.{spelled}
 use Rattle.syntax.specs.Declarations.{Function as TreeFunction, Declaration}
-use Rattle.constants.specs.Constants.{is_held}
 use Rattle.type_faults.proofs.Options.{none_some}
-use Rattle.operators.proofs.Held.{AreHeld}
 use Rattle.names.specs.declared.scope.Declared.TheVariants.{Variable, Constant, Global, Function, External}
 use Rattle.names.specs.declared.scope.Declared.{Declared}
 use Rattle.typed.specs.Tables.{Table}
-use Rattle.names.specs.Scope.{Scope, with_global, with_fixed, beginning}
+use Rattle.names.specs.declared.scope.Known.{Known}
+use Rattle.names.specs.Scope.{Scope, known, with_global, with_known, beginning}
+use Rattle.names.proofs.Settled.{IsSound}
 use Rattle.package_values.specs.Values.{Item, items_in, given, settled}
-use Rattle.package_values.proofs.Giving.{given_held}
+use Rattle.package_values.proofs.Giving.{given_sound, HasRules, given_rules}
 use Rattle.signatures.specs.Signatures.{external_named, with_items}
 use Rattle.signatures.proofs.Growth.{extends_none}
 use Rattle.signatures.proofs.Visible.{IsShown, Visible, visible_beginning, visible_more}
 use Rattle.function_heads.specs.Heads.{are_supported}
 use Rattle.types_go.proofs.Package.{constant_one, numbered_one, variable_one, declared_one, items_kept, settled_kept}
 
--- a constant whose value isn't known yet
-held_more : (os : List (Option Fixed)) → AreHeld os → AreHeld (os ++ None ∷ [])
-held_more [] held zero f is = absurd (none_some is)
-held_more [] held (suc k) f is = absurd (none_some is)
-held_more (o ∷ os) held zero f is = held zero f is
-held_more (o ∷ os) held (suc k) f is = held_more os (λ j. held (suc j)) k f is
+module _ (P : Known → Type 0) where
+  -- what is known of constants and variables is such
+  abbrev AllKnown : List (Option Known) → Type 0
+  AllKnown os = (k : ℕ) (x : Known) → option_and_then (λ o. o) (slice_get os k) ≡ Some x → P x
 
--- a constant with another value
-held_set : (os : List (Option Fixed)) (k : ℕ) (o : Option Fixed) → ((f : Fixed) → o ≡ Some f → is_held f.value_type f.value ≡ true) → AreHeld os → AreHeld (slice_set os k o)
-held_set [] k o one held j f is = absurd (none_some is)
-held_set (p ∷ os) zero o one held zero f is = one f is
-held_set (p ∷ os) zero o one held (suc j) f is = held (suc j) f is
-held_set (p ∷ os) (suc k) o one held zero f is = held zero f is
-held_set (p ∷ os) (suc k) o one held (suc j) f is = held_set os k o one (λ i. held (suc i)) j f is
+  -- and of one more, of which nothing is known yet
+  more_known : (os : List (Option Known)) → AllKnown os → AllKnown (os ++ None ∷ [])
+  more_known [] all zero x is = absurd (none_some is)
+  more_known [] all (suc k) x is = absurd (none_some is)
+  more_known (o ∷ os) all zero x is = all zero x is
+  more_known (o ∷ os) all (suc k) x is = more_known os (λ j. all (suc j)) k x is
+
+  -- where something else is known of one
+  set_known : (os : List (Option Known)) (k : ℕ) (o : Option Known) → ((x : Known) → o ≡ Some x → P x) → AllKnown os → AllKnown (slice_set os k o)
+  set_known [] k o one all j x is = absurd (none_some is)
+  set_known (p ∷ os) zero o one all zero x is = one x is
+  set_known (p ∷ os) zero o one all (suc j) x is = all (suc j) x is
+  set_known (p ∷ os) (suc k) o one all zero x is = all zero x is
+  set_known (p ∷ os) (suc k) o one all (suc j) x is = set_known os k o one (λ i. all (suc i)) j x is
+
+-- the types of the variables that are known have rules
+abbrev pub AreOfRules : Scope → Type 0
+AreOfRules s = (k : ℕ) (x : Known) → known s k ≡ Some x → HasRules x
 
 -- the package block names no variables of functions, its variables have their numbers, and its constants are held by their types
 module _ (text : List ℕ) where
   visible_constant : (s : Scope) (n : Name) (declares : Bool) → Visible s [] → Visible (constant_one text s n declares) []
-  visible_constant s n false v = record { bounded = v.bounded; shown = v.shown; held = held_more s.values v.held }
+  visible_constant s n false v = record { bounded = v.bounded; shown = v.shown; held = more_known IsSound s.values v.held }
   visible_constant s n true v =
       let w = visible_more s s.sites [] [] (spelled text n) (Constant (record { 0 = length s.values })) v (extends_none s.sites) (λ u h. h) tt in
-      record { bounded = w.0; shown = w.1; held = held_more s.values v.held }
+      record { bounded = w.0; shown = w.1; held = more_known IsSound s.values v.held }
 
   -- one more package variable with a name keeps the numbers of the others
   get_more : (ks : List ℕ) (k g j : ℕ) → slice_get ks g ≡ Some j → slice_get (ks ++ k ∷ []) g ≡ Some j
@@ -71,12 +80,12 @@ module _ (text : List ℕ) where
       record { bounded = w.0; shown = w.1; held = v.held }
 
   visible_variable : (s : Scope) (n : Name) (blank declares : Bool) → Visible s [] → Visible (variable_one text s n blank declares) []
-  visible_variable s n true declares v = record { bounded = v.bounded; shown = v.shown; held = held_more s.values v.held }
-  visible_variable s n false true v = let w = visible_named s n true v in record { bounded = w.bounded; shown = w.shown; held = held_more s.values v.held }
-  visible_variable s n false false v = let w = visible_named s n false v in record { bounded = w.bounded; shown = w.shown; held = held_more s.values v.held }
+  visible_variable s n true declares v = record { bounded = v.bounded; shown = v.shown; held = more_known IsSound s.values v.held }
+  visible_variable s n false true v = let w = visible_named s n true v in record { bounded = w.bounded; shown = w.shown; held = more_known IsSound s.values v.held }
+  visible_variable s n false false v = let w = visible_named s n false v in record { bounded = w.bounded; shown = w.shown; held = more_known IsSound s.values v.held }
 
-  visible_fixed : (s : Scope) (k : ℕ) (i : Item) → Visible s [] → Visible (with_fixed s k (given text s i)) []
-  visible_fixed s k i v = record { bounded = v.bounded; shown = v.shown; held = held_set s.values k (given text s i) (λ f is. given_held text s s.values v.held i f is) v.held }
+  visible_known : (s : Scope) (k : ℕ) (i : Item) → Visible s [] → Visible (with_known s k (given text s i)) []
+  visible_known s k i v = record { bounded = v.bounded; shown = v.shown; held = set_known IsSound s.values k (given text s i) (λ x is. given_sound text s s.values v.held i x is) v.held }
 
 module _ (text : List ℕ) (heads : Scope) where
   visible_function : (s : Scope) (g : TreeFunction) (external declares : Bool) → Visible s [] → Visible (declared_one text heads s g external declares) []
@@ -94,4 +103,26 @@ module _ (text : List ℕ) (heads : Scope) where
 
   pub visible_package : (r : Scope) (ds : List Declaration) → are_supported text heads r ds ≡ true → Visible (settled text (with_items text heads beginning ds) (items_in ds)) []
   visible_package r ds is =
-      settled_kept text (λ (s : Scope). Visible s []) (visible_fixed text) (with_items text heads beginning ds) (items_in ds) (items_kept text heads r (λ (s : Scope). Visible s []) (visible_constant text) (visible_variable text) visible_function beginning ds is visible_beginning)
+      settled_kept text (λ (s : Scope). Visible s []) (visible_known text) (with_items text heads beginning ds) (items_in ds) (items_kept text heads r (λ (s : Scope). Visible s []) (visible_constant text) (visible_variable text) visible_function beginning ds is visible_beginning)
+
+  -- the types of the variables that are known have rules
+
+  rules_constant : (s : Scope) (n : Name) (declares : Bool) → AreOfRules s → AreOfRules (constant_one text s n declares)
+  rules_constant s n true all = more_known (HasRules) s.values all
+  rules_constant s n false all = more_known (HasRules) s.values all
+
+  rules_variable : (s : Scope) (n : Name) (blank declares : Bool) → AreOfRules s → AreOfRules (variable_one text s n blank declares)
+  rules_variable s n true declares all = more_known (HasRules) s.values all
+  rules_variable s n false true all = more_known (HasRules) s.values all
+  rules_variable s n false false all = more_known (HasRules) s.values all
+
+  rules_function : (s : Scope) (g : TreeFunction) (external declares : Bool) → AreOfRules s → AreOfRules (declared_one text heads s g external declares)
+  rules_function s g true true all = all
+  rules_function s g true false all = all
+  rules_function s g false true all = all
+  rules_function s g false false all = all
+
+  pub rules_package : (r : Scope) (ds : List Declaration) → are_supported text heads r ds ≡ true → AreOfRules (settled text (with_items text heads beginning ds) (items_in ds))
+  rules_package r ds is =
+      settled_kept text AreOfRules (λ s k i all. set_known (HasRules) s.values k (given text s i) (given_rules text s i) all) (with_items text heads beginning ds) (items_in ds)
+      (items_kept text heads r AreOfRules rules_constant rules_variable rules_function beginning ds is (λ k x known_is. absurd (none_some known_is)))

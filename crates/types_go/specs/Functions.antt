@@ -15,7 +15,8 @@ use Rattle.base.specs.declared.value_type.ValueType.TheVariants.{Int, Bool as Bo
 use Rattle.constants.specs.Constants.{is_int}
 use Rattle.type_faults.specs.Given.{allowed}
 use Rattle.names.specs.Universe.{is_blank, is_main}
-use Rattle.names.specs.Scope.{Scope, declaration, fixed, with_site, opened, closed, beginning}
+use Rattle.names.specs.declared.scope.Known.{Known}
+use Rattle.names.specs.Scope.{Scope, declaration, known, with_site, opened, closed, beginning}
 use Rattle.expression_types.specs.Typing.{known_type, gives}
 use Rattle.package_values.specs.declared.items.Role.TheVariants as role
 use Rattle.package_values.specs.Values.{Item, items_in_specs, items_in, constant_in, settled}
@@ -44,9 +45,9 @@ functions_of (of_function f ∷ ms) = f ∷ functions_of ms
 functions_of (of_variable k i ∷ ms) = functions_of ms
 
 -- the type of a package variable of which this is known
-abbrev pub type_or_int : Option Fixed → ValueType
+abbrev pub type_or_int : Option Known → ValueType
 type_or_int None = Int
-type_or_int (Some f) = known_type f
+type_or_int (Some k) = known_type k
 
 -- what an int or a truth value begins with: the constant that its value gives, or else the zero value; variables of other types are refused
 abbrev pub int_in : Constant → ℤ
@@ -67,7 +68,7 @@ first_value t f = int (pos 0)
 module _ (text : List ℕ) where
   -- with a name a variable has a site
   abbrev pub behind_variable : Scope → ℕ → Item → Scope
-  behind_variable s k i = if is_blank (spelled text i.name) then s else with_site s (type_or_int (fixed s k)) i.name.pos
+  behind_variable s k i = if is_blank (spelled text i.name) then s else with_site s (type_or_int (known s k)) i.name.pos
 
   abbrev pub initial : Scope → Option TreeEx → Option Fixed
   initial s None = None
@@ -75,7 +76,7 @@ module _ (text : List ℕ) where
 
   -- the site of a variable with a name, and what it begins with
   abbrev pub globals_of : Scope → ℕ → Item → List (ℕ × Value)
-  globals_of s k i = if is_blank (spelled text i.name) then [] else (length s.sites, first_value (type_or_int (fixed s k)) (initial s i.value)) ∷ []
+  globals_of s k i = if is_blank (spelled text i.name) then [] else (length s.sites, first_value (type_or_int (known s k)) (initial s i.value)) ∷ []
 
 -- in a text, among the names of its package
 module _ (text : List ℕ) (heads : Scope) where

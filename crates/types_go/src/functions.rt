@@ -11,7 +11,7 @@ ghost use Rattle.typed_syntax.specs.Types.{TypeTree};
 ghost use Rattle.type_faults.specs.Least.{IsLeast};
 ghost use Rattle.type_faults.specs.Given.{allowed};
 ghost use Rattle.names.specs.Universe.{is_blank};
-ghost use Rattle.names.specs.Scope.{scope_of, fixed, with_site};
+ghost use Rattle.names.specs.Scope.{scope_of, known, with_site};
 ghost use Rattle.type_faults.specs.Given.{with_last};
 ghost use Rattle.function_heads.specs.Assembled.{IsAt};
 ghost use Rattle.types_go.specs.Passing.{AreAt, member_views};
@@ -25,10 +25,10 @@ ghost use Rattle.types_go.specs.FunctionFaults.{FailsInParts, FailsWith, FailsIn
 use crate::blocks::check_stmts;
 use crate::members::Member;
 use base::{NoMemory, ValueType};
-use constants::{Constant, Fixed, constant_type, int_constant};
-use expression_types::check_expr;
+use constants::{Constant, Fixed, int_constant};
+use expression_types::{check_expr, known_type};
 use function_heads::{assemble, check_head, check_types, missing_body_fault};
-use names::{Scope, ValueId, is_blank, spelled};
+use names::{Known, Scope, ValueId, is_blank, spelled};
 use package_values::{Item, constant_in};
 use signatures::{
     Role, Slot, check_entries, fault_where, has_some, is_named, slot_types, slots_of,
@@ -211,11 +211,11 @@ fn with_func(
 }
 
 /// The type of a package variable of which this is known.
-fn type_or_int(known: Option<Fixed>) -> ValueType
+fn type_or_int(known: Option<Known>) -> ValueType
     ensures { result ≡ type_or_int known }
 {
     match known {
-        Some(known) => constant_type(known),
+        Some(known) => known_type(known),
         None => ValueType::Int,
     }
 }
@@ -280,10 +280,10 @@ fn check_named(
     number: ValueId,
     item: &Item,
 ) -> Result<PackageVariable, NoMemory>
-    ensures scope { OnOk result (scope_of scope.new ≡ with_site (scope_of scope.old) (type_or_int (fixed (scope_of scope.old) number.0)) item.now.name.pos) }
-    ensures global { IfOk result (λ g. (types : List TypeTree) → global_of types g ≡ (length (scope_of scope.old).sites, first_value (type_or_int (fixed (scope_of scope.old) number.0)) (initial text.now (scope_of scope.old) (item_of item.now).value))) }
+    ensures scope { OnOk result (scope_of scope.new ≡ with_site (scope_of scope.old) (type_or_int (known (scope_of scope.old) number.0)) item.now.name.pos) }
+    ensures global { IfOk result (λ g. (types : List TypeTree) → global_of types g ≡ (length (scope_of scope.old).sites, first_value (type_or_int (known (scope_of scope.old) number.0)) (initial text.now (scope_of scope.old) (item_of item.now).value))) }
 {
-    let value_type = type_or_int(scope.fixed(number));
+    let value_type = type_or_int(scope.known(number));
     let initial = initial(alloc, text, scope, item.value)?;
     let site = scope.next_site()?;
     scope.add_site(value_type, item.name.pos)?;

@@ -1,6 +1,6 @@
 use Rattle.std.proofs.Common.{rules, ◌≡◌, ℕ, ◌+◌, List, length, Option, None, refl, sym, ap, ◌∙◌, subst, arith}
 use Rattle.syntax.specs.Declarations.{declarations_of}
-use Rattle.names.specs.Scope.{Scope, scope_of, fixed, beginning}
+use Rattle.names.specs.Scope.{Scope, scope_of, known, beginning}
 use Rattle.signatures.specs.Signatures.{with_items}
 use Rattle.package_values.specs.Values.{items_in}
 use Rattle.types_go.proofs.Package.{values_long, values_unknown}
@@ -21,4 +21,4 @@ settle-requires-clause-unknown c =
     let heads = scope_of c.args.heads.now in
     let ds = declarations_of c.args.decls.now in
     let is : scope_of c.add_items.new.scope ≡ with_items text heads beginning ds = search rules in
-    λ k. ap (λ (r : Scope). fixed r k) is ∙ values_unknown text heads beginning ds (λ j. refl) k
+    λ k. ap (λ (r : Scope). known r k) is ∙ values_unknown text heads beginning ds (λ j. refl) k

@@ -4,7 +4,7 @@ use Rattle.syntax.specs.Expressions.{spelled}
 use Rattle.typed.specs.View.{global_of}
 use Rattle.typed_syntax.specs.Value.{Value}
 use Rattle.names.specs.Universe.{is_blank}
-use Rattle.names.specs.Scope.{scope_of, fixed}
+use Rattle.names.specs.Scope.{scope_of, known}
 use Rattle.package_values.specs.Passing.{item_of}
 use Rattle.types_go.specs.Functions.{type_or_int, first_value, initial}
 use Rattle.types_go.proofs.functions.check_variable.Goals as goal
@@ -15,7 +15,7 @@ returns-then-is_blank-clause-globals c =
     let s = scope_of c.args.scope.now in
     let i = item_of c.args.item.now in
     let gs = c.args.globals.now.items in
-    let entry : ℕ × Value = (length s.sites, first_value (type_or_int (fixed s c.args.number.0)) (initial text s i.value)) in
+    let entry : ℕ × Value = (length s.sites, first_value (type_or_int (known s c.args.number.0)) (initial text s i.value)) in
     let blank : is_blank (spelled text i.name) ≡ true = sym (c.is_blank.ensures ∙ ap is_blank c.spelled.ensures) ∙ c.if-is_blank.true in
     λ types. sym (append-nil (map (global_of types) gs)) ∙ ap (λ (b : Bool). map (global_of types) gs ++ cond b [] (entry ∷ [])) (sym blank)
 
@@ -25,7 +25,7 @@ returns-clause-globals c =
     let s = scope_of c.args.scope.now in
     let i = item_of c.args.item.now in
     let gs = c.args.globals.now.items in
-    let entry : ℕ × Value = (length s.sites, first_value (type_or_int (fixed s c.args.number.0)) (initial text s i.value)) in
+    let entry : ℕ × Value = (length s.sites, first_value (type_or_int (known s c.args.number.0)) (initial text s i.value)) in
     let named : is_blank (spelled text i.name) ≡ false = sym (c.is_blank.ensures ∙ ap is_blank c.spelled.ensures) ∙ c.if-is_blank.false in
     rw (c.in_ok-push.ensures.items)
     (λ types.
