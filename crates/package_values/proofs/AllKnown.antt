@@ -60,7 +60,7 @@ element P [] k x all is = absurd (none_some is)
 element P (y ∷ ys) zero x all is = subst P (same_some is) all.0
 element P (y ∷ ys) (suc k) x all is = element P ys k x all.1 is
 
-there : {A : Type 0} (xs : List A) (k : ℕ) → k < length xs → (x : A) × (slice_get xs k ≡ Some x)
+pub there : {A : Type 0} (xs : List A) (k : ℕ) → k < length xs → (x : A) × (slice_get xs k ≡ Some x)
 there [] k l = absurd (omega (arith, l))
 there (x ∷ xs) zero l = (x, refl)
 there (x ∷ xs) (suc k) l = there xs k (omega (arith, l))
@@ -69,7 +69,7 @@ all_append : {A : Type 0} (P : A → Type 0) (xs ys : List A) → AllByRecursion
 all_append P [] ys a b = b
 all_append P (x ∷ xs) ys a b = (a.0, all_append P xs ys a.1 b)
 
-all_map : {A : Type 0} (P Q : A → Type 0) (xs : List A) → ((x : A) → P x → Q x) → AllByRecursion P xs → AllByRecursion Q xs
+pub all_map : {A : Type 0} (P Q : A → Type 0) (xs : List A) → ((x : A) → P x → Q x) → AllByRecursion P xs → AllByRecursion Q xs
 all_map P Q [] into all = tt
 all_map P Q (x ∷ xs) into all = (into x all.0, all_map P Q xs into all.1)
 
@@ -106,7 +106,7 @@ IsTypedOnceKnown T sigs n (declared.Constant k) = k.0 < n
 IsTypedOnceKnown T sigs n (declared.Global k g) = k.0 < n
 IsTypedOnceKnown T sigs n d = IsTyped T sigs [] d
 
-typed_by : (T : Table) (sigs : List (Option Signature)) (cs : List (Option Known)) → ((k : ℕ) → k < length cs → IsKnown (known cs k)) → (n : ℕ) → n ≡ length cs → (d : Declared) → IsTypedOnceKnown T sigs n d → IsTyped T sigs cs d
+pub typed_by : (T : Table) (sigs : List (Option Signature)) (cs : List (Option Known)) → ((k : ℕ) → k < length cs → IsKnown (known cs k)) → (n : ℕ) → n ≡ length cs → (d : Declared) → IsTypedOnceKnown T sigs n d → IsTyped T sigs cs d
 typed_by T sigs cs has n many (declared.Constant k) h = has k.0 (omega (arith, h, many))
 typed_by T sigs cs has n many (declared.Global k g) h = has k.0 (omega (arith, h, many))
 typed_by T sigs cs has n many d h = h
@@ -614,14 +614,14 @@ pub record NothingFails (text : List ℕ) (s : Scope) (ds : List Declaration) : 
   pub never : (f : Fault) → ItemsFail text (settled text s (items_in ds)) ds f → ⊥
 
 module _ (text : List ℕ) (s : Scope) (ds : List Declaration) where
-  abbrev behind : List (Option Known)
+  abbrev pub behind : List (Option Known)
   behind = rounds (give text s) (monotone text s) (length (items_in ds)) s.values (items_in ds)
 
   abbrev HasValueAt : List (Option Known) → ℕ → Type 0
   HasValueAt cs k = (f : Known) × (known cs k ≡ Some f)
 
   module _ (h : NothingFails text s ds) where
-    settled_is : settled text s (items_in ds) ≡ holding s behind
+    pub settled_is : settled text s (items_in ds) ≡ holding s behind
     settled_is = looks_are text s (length (items_in ds)) s.values (items_in ds)
 
     nothing : (k : ℕ) (f : Known) → known s.values k ≡ Some f → ⊥
@@ -638,7 +638,7 @@ module _ (text : List ℕ) (s : Scope) (ds : List Declaration) where
         rounds_hold (give text s) (monotone text s) (items_in ds) IsSound (given_sound text s) (length (items_in ds)) s.values
         (λ k f e. absurd (nothing k f e))
 
-    never_here : (f : Fault) → ItemsFail text (holding s behind) ds f → ⊥
+    pub never_here : (f : Fault) → ItemsFail text (holding s behind) ds f → ⊥
     never_here f x = h.never f (subst (λ (r : Scope). ItemsFail text r ds f) (sym settled_is) x)
 
     many_behind : length behind ≡ length s.values
@@ -665,6 +665,46 @@ module _ (text : List ℕ) (s : Scope) (ds : List Declaration) where
     known_behind : (k : ℕ) → k < length s.values → HasValueAt behind k
     known_behind k l = known_or_not text s (length s.values) h.formed h.typed behind many_behind held (items_in ds) (sym h.as_many) next no_cycle k l
 
+    -- so the names in an expression stand for what is known
+
+    same_behind : (ns : List Name) → AllSame text s behind (filled behind) ns
+    same_behind ns = by (unknown text s (length s.values) h.formed h.typed behind many_behind held ns)
+      where
+        by : AllSame text s behind (filled behind) ns ⊎ Unknown text s (length s.values) h.formed h.typed behind many_behind held (numbers_of text (holding s behind) ns) → AllSame text s behind (filled behind) ns
+        by (inl all) = all
+        by (inr u) = let k = known_behind u.0 u.3 in absurd (none_some (sym u.2 ∙ k.1))
+
+    abbrev NeverHere : (Fault → Type 0) → Type 0
+    NeverHere P = (f : Fault) → P f → ⊥
+
+    pub type_behind : (e : TreeEx) → NeverHere (FailsAsType text (holding s behind) e) → (t : ValueType) × (type_in text (holding s behind) e ≡ Some t)
+    type_behind e never = type_here text s (length s.values) h.formed h.typed behind many_behind held e never
+
+    pub value_behind : (t : Option TreeEx) (e : TreeEx) (at : Pos) → NeverHere (TypeFails text (holding s behind) t) → NeverHere (Fails text (holding s behind) e)
+        → NeverHere (IsFault (single_fault (gives text (holding s behind) e))) → NeverHere (IsFault (value_fault (type_asked text (holding s behind) t) at (operand_in (gives text (holding s behind) e))))
+        → (f : Fixed) × (given_by text (holding s behind) t (Some e) ≡ Some f)
+    value_behind t e at = value_given text s (length s.values) h.formed h.typed behind many_behind held t e at (same_behind (names_in e))
+
+    pub single_behind : (es : TreeExs) → NeverHere (FailsInEach text (holding s behind) es) → NeverHere (SinglesFail (seen text (holding s behind) es)) → are_single (seen text (holding s behind) es) ≡ true
+    single_behind es = all_single text s (length s.values) h.formed h.typed behind many_behind held es (same_behind (names_in_each es))
+
+    pub forms_behind : (es : TreeExs) → NeverHere (FormsFail text (holding s behind) es) → have_form text (holding s behind) es ≡ true
+    forms_behind es = forms_hold text s (length s.values) h.formed h.typed behind many_behind held es
+
+    pub no_call_behind : (es : TreeExs) → have_form text (holding s behind) es ≡ true → many_of (seen text (holding s behind) es) ≡ None
+    no_call_behind es = forms_no_call text s (length s.values) h.formed h.typed behind many_behind held es
+
+    pub counted_behind : (m k : ℕ) (own : Fault) → NeverHere (CountFails (Some m) k own) → m ≡ k
+    counted_behind m k own = counted text s (length s.values) h.formed h.typed behind many_behind held m k own
+
+    -- what is known of each is what its declaration gives
+    pub known_there : (k : ℕ) (i : Item) → slice_get (items_in ds) k ≡ Some i → HasValueAt behind k
+    known_there k i at =
+        let as_many = h.as_many in let l = below text s (length s.values) h.formed h.typed behind many_behind held (items_in ds) k i at in known_behind k (omega (arith, l, as_many))
+
+    pub given_there : (k : ℕ) (i : Item) (x : Known) → slice_get (items_in ds) k ≡ Some i → known behind k ≡ Some x → give text s behind i ≡ Some x
+    given_there = (rounds_good (give text s) (monotone text s) (items_in ds) (length (items_in ds)) s.values consistent).consistent
+
     -- something is known of each
     pub all_known : (k : ℕ) → k < length s.values → (f : Known) × (known (settled text s (items_in ds)).values k ≡ Some f)
     all_known k l = let f = known_behind k l in (f.0, ap (λ (r : Scope). known r.values k) settled_is ∙ f.1)
@@ -673,7 +713,9 @@ module _ (text : List ℕ) (s : Scope) (ds : List Declaration) where
     has_value k l = let many = many_behind in let f = known_behind k (omega (arith, l, many)) in subst IsKnown (sym f.1) (held k f.0 f.1)
 
     -- and each declaration a type
-    pub is_settled : IsSettled (settled text s (items_in ds))
-    is_settled =
-        subst (λ (r : Scope). IsSettled r) (sym settled_is)
+    pub settled_behind : IsSettled (holding s behind)
+    settled_behind =
         (record { all = all_map (IsTypedOnceKnown s.types s.signatures (length s.values)) (IsTyped s.types s.signatures behind) s.declared (λ d x. typed_by s.types s.signatures behind has_value (length s.values) (sym many_behind) d x) h.typed; formed = h.formed })
+
+    pub is_settled : IsSettled (settled text s (items_in ds))
+    is_settled = subst (λ (r : Scope). IsSettled r) (sym settled_is) settled_behind

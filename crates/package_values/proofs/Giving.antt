@@ -109,7 +109,7 @@ no_places [] o is h = tt
 no_places (x ∷ os) None is h = let z = eqb-true (length (x ∷ os)) 0 (first_true (length (x ∷ os) == 0) (values_agree [] (x ∷ os)) h) in absurd (omega (arith, z))
 no_places os (Some m) is h = many_give os m is
 
-allowed_gives : {A : Type 0} (b : Bool) (o : Option A) (x : A) → allowed b o ≡ Some x → (b ≡ true) × (o ≡ Some x)
+pub allowed_gives : {A : Type 0} (b : Bool) (o : Option A) (x : A) → allowed b o ≡ Some x → (b ≡ true) × (o ≡ Some x)
 allowed_gives true o x h = (refl, h)
 allowed_gives false o x h = absurd (none_some h)
 
@@ -270,7 +270,7 @@ module _ (text : List ℕ) (s : Scope) where
       let p = and_then_some (accepted text (holding s cs) t) (constant_in (gives text (holding s cs) e)) f is in
       accepted_held cs t p.0 f (operand_held text (holding s cs) (λ n x h. name_held cs sound (declaration s n) x h) e (constant p.0) (a_constant (operand_in (gives text (holding s cs) e)) p.0 p.1)) p.2
 
-  variable_known : (t : ValueType) (x : Known) → known_variable t ≡ Some x → (is_variable_type t ≡ true) × (known_as.Variable t ≡ x)
+  pub variable_known : (t : ValueType) (x : Known) → known_variable t ≡ Some x → (is_variable_type t ≡ true) × (known_as.Variable t ≡ x)
   variable_known t x is = let p = allowed_gives (is_variable_type t) (Some (known_as.Variable t)) x is in (p.0, same_some p.1)
 
   sound_as : (cs : List (Option Known)) → AreSound cs → (r : Role) (i : Item) (x : Known) → given_as text r (holding s cs) i ≡ Some x → IsSound x

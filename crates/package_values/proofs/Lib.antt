@@ -8,3 +8,5 @@ pub mod Rules
 pub mod Same
 pub mod Marks
 pub mod Ordered
+pub mod Accepted
+pub mod NoneFails

@@ -42,6 +42,7 @@ use Rattle.types_go.specs.FunctionFaults.{FailsInFunctions, FailsIn}
 use Rattle.types_go.specs.Checked.{Types, sites_in, types_in, strings_in, globals_in, program_with}
 use Rattle.types_go.proofs.Package.{settled_kept}
 use Rattle.types_go.proofs.SettledFunctions.{all_decided}
+use Rattle.types_go.proofs.Declared.{all_declared, circle_free, sound_of}
 
 insert_length : (bs : Blocks) (name : List ℕ) (k : ℕ) → length (insert bs name k) ≡ length bs
 insert_length [] name k = refl
@@ -115,7 +116,8 @@ typed t p types_are values_sound funcs main sites strings globals1 = record {
   main = p.main.0;
   functions = funcs;
   main_is = main;
-  values = values_sound;
+  declarations = all_declared t (map (func_of (types_in t)) p.funcs.items) values_sound funcs;
+  no_circle = circle_free t values_sound;
   is = ap (λ (types : List TypeTree). program_in types p) types_are ∙ ap (λ (l : List (ℕ × Value)). record {
     funcs = map (func_of (types_in t)) p.funcs.items;
     types = types_in t;
@@ -164,9 +166,9 @@ OtherFails t f = DeclarationsFail t.text (heads_of t) (package_scope t) (declara
 -- a tree with a typed program has no failing rule
 pub typed_or_fails : (t : Syntax) (p : Program) (f : Fault) → Types t p → FailsIn t f → ⊥
 typed_or_fails t p f a (inl h) = main_sound (main_number t) a.main f a.main_is h
-typed_or_fails t p f a (inr (inl (inr h))) = a.values f h
-typed_or_fails t p f a (inr (inl (inl h))) = decided_some (program_functions t) a.funcs (OtherFails t) a.functions (all_decided t a.values) f (inl h)
-typed_or_fails t p f a (inr (inr h)) = decided_some (program_functions t) a.funcs (OtherFails t) a.functions (all_decided t a.values) f (inr h)
+typed_or_fails t p f a (inr (inl (inr h))) = sound_of t p a f h
+typed_or_fails t p f a (inr (inl (inl h))) = decided_some (program_functions t) a.funcs (OtherFails t) a.functions (all_decided t (sound_of t p a)) f (inl h)
+typed_or_fails t p f a (inr (inr h)) = decided_some (program_functions t) a.funcs (OtherFails t) a.functions (all_decided t (sound_of t p a)) f (inr h)
 
 -- where no rule fails there is a typed program
 pub given_main : (t : Syntax) → IsLeast (FailsIn t) None → main_number t ≡ None → ⊥

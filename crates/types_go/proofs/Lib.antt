@@ -1,4 +1,5 @@
 mod Answering
+mod Declared
 mod Growth
 mod InFormGlobals
 mod InFormProgram

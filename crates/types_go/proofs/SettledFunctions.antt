@@ -19,7 +19,7 @@ use Rattle.base.specs.declared.value_type.ValueType.{ValueType}
 use Rattle.type_faults.specs.Given.{allowed}
 use Rattle.type_faults.specs.Faults.{fault, IsFault}
 use Rattle.type_faults.proofs.Decided.{Decided, Tested, further, same, mapped, after, both_decided, both_tested}
-use Rattle.type_faults.proofs.Options.{and_then_some, map_some, same_some}
+use Rattle.type_faults.proofs.Options.{and_then_some, map_some, none_some, same_some}
 use Rattle.names.specs.Blocks.{lookup}
 use Rattle.names.specs.declared.scope.Declared.{Declared}
 use Rattle.names.specs.declared.scope.Declared.TheVariants.{Untyped, Constant, Global, Function, External, TypeName}
@@ -34,7 +34,9 @@ use Rattle.names.proofs.Settled.{HasSignature, IsSettled, predeclared_is}
 use Rattle.package_values.specs.declared.items.Role.TheVariants as role
 use Rattle.package_values.specs.Values.{Item, items_in_specs, items_in, settled}
 use Rattle.package_values.specs.ValueFaults.{ItemsFail}
-use Rattle.package_values.proofs.AllKnown.{IsTypedOnceKnown, is_settled}
+use Rattle.package_values.specs.Accepted.{DeclarationsAre}
+use Rattle.package_values.proofs.AllKnown.{IsTypedOnceKnown, NothingFails, is_settled}
+use Rattle.package_values.proofs.Accepted.{declarations_are}
 use Rattle.signatures.specs.declared.slots.Slot.{Slot}
 use Rattle.signatures.specs.declared.entries.Role.TheVariants.{Parameter, Result}
 use Rattle.signatures.specs.EntryFaults.{EntriesFail}
@@ -73,7 +75,7 @@ IsOfLanguage T TypeName = ⊥
 IsOfLanguage T (declared.«Type» t) = is_known T t ≡ true
 IsOfLanguage T other = ⊤
 
-record NoTypes (s : Scope) : Type 0 where
+pub record NoTypes (s : Scope) : Type 0 where
   pub all : AllByRecursion (IsOfLanguage s.types) s.declared
   pub formed : IsFormed s.types
 
@@ -364,17 +366,24 @@ module _ (text : List ℕ) (heads : Scope) where
   all_waiting T sigs m (External e at ∷ ds) given all = (tt, all_waiting T sigs m ds given all.1)
   all_waiting T sigs m (d ∷ ds) given all = absurd all.0
 
-  -- where all functions have signatures and no rule of the constants and variables fails, the block is settled
-  package_settled : (r : Scope) (ds : List Declaration) → are_supported text heads r ds ≡ true → AllSigned (functions_in text heads ds)
-      → ((f : Fault) → ItemsFail text (settled text (with_items text heads beginning ds) (items_in ds)) ds f → ⊥) → IsSettled (settled text (with_items text heads beginning ds) (items_in ds))
-  package_settled r ds is signed sound =
+  -- where all functions have signatures, the declarations have types as soon as the constants and variables do
+  pub waiting : (r : Scope) (ds : List Declaration) → are_supported text heads r ds ≡ true → AllSigned (functions_in text heads ds)
+      → AllByRecursion (IsTypedOnceKnown (with_items text heads beginning ds).types (with_items text heads beginning ds).signatures (length (with_items text heads beginning ds).values)) (with_items text heads beginning ds).declared
+  waiting r ds is signed =
       let s = with_items text heads beginning ds in
       let given = subst AllGiven (sym (signatures_are text heads r beginning ds is)) (given_all (functions_in text heads ds) signed) in
-      let waiting = all_waiting s.types s.signatures (length s.values) s.declared given (items_kept text heads r Numbered numbered_constant numbered_variable numbered_function beginning ds is tt) in
+      all_waiting s.types s.signatures (length s.values) s.declared given (items_kept text heads r Numbered numbered_constant numbered_variable numbered_function beginning ds is tt)
+
+  pub formed_items : (r : Scope) (ds : List Declaration) → are_supported text heads r ds ≡ true → IsFormed (with_items text heads beginning ds).types
+  formed_items r ds is = subst IsFormed (sym (items_types text heads r ds is)) formed_beginning
+
+  -- where no rule of the constants and variables fails either
+  nothing_fails : (r : Scope) (ds : List Declaration) → are_supported text heads r ds ≡ true → AllSigned (functions_in text heads ds)
+      → ((f : Fault) → ItemsFail text (settled text (with_items text heads beginning ds) (items_in ds)) ds f → ⊥) → NothingFails text (with_items text heads beginning ds) ds
+  nothing_fails r ds is signed sound =
       let unknown = items_kept text heads r (λ (v : Scope). AllByRecursion IsUnknown v.values) unknown_constant unknown_variable unknown_function beginning ds is tt in
       let many = values_long text heads beginning ds in
-      let formed : IsFormed s.types = subst IsFormed (sym (items_types text heads r ds is)) formed_beginning in
-      is_settled text s ds (record { as_many = omega (arith, many); unknown = unknown; typed = waiting; formed = formed; never = sound })
+      record { as_many = omega (arith, many); unknown = unknown; typed = waiting r ds is signed; formed = formed_items r ds is; never = sound }
     where
       unknown_constant : (s : Scope) (n : Name) (declares : Bool) → AllByRecursion IsUnknown s.values → AllByRecursion IsUnknown (constant_one text s n declares).values
       unknown_constant s n true all = one_more_unknown s.values all
@@ -390,6 +399,16 @@ module _ (text : List ℕ) (heads : Scope) where
       unknown_function s g true false all = all
       unknown_function s g false true all = all
       unknown_function s g false false all = all
+
+  -- then the block is settled
+  package_settled : (r : Scope) (ds : List Declaration) → are_supported text heads r ds ≡ true → AllSigned (functions_in text heads ds)
+      → ((f : Fault) → ItemsFail text (settled text (with_items text heads beginning ds) (items_in ds)) ds f → ⊥) → IsSettled (settled text (with_items text heads beginning ds) (items_in ds))
+  package_settled r ds is signed sound = is_settled text (with_items text heads beginning ds) ds (nothing_fails r ds is signed sound)
+
+  -- and its declarations of constants and variables are those of an accepted package
+  pub package_declared : (r : Scope) (ds : List Declaration) → are_supported text heads r ds ≡ true → AllSigned (functions_in text heads ds)
+      → ((f : Fault) → ItemsFail text (settled text (with_items text heads beginning ds) (items_in ds)) ds f → ⊥) → DeclarationsAre text (settled text (with_items text heads beginning ds) (items_in ds)) ds
+  package_declared r ds is signed sound = declarations_are text (with_items text heads beginning ds) ds (nothing_fails r ds is signed sound)
 
   decided_none : {A : Type 0} (o : Option A) (P : Fault → Type 0) → o ≡ None → (f : Fault) → P f → Decided o P
   decided_none None P is f h = (f, h)
@@ -412,6 +431,14 @@ module _ (text : List ℕ) (heads : Scope) where
           → functions_of (cond b (members_in text heads k ds) (of_function g ∷ members_in text heads k ds)) ≡ cond b (functions_in text heads ds) (g ∷ functions_in text heads ds)
       by later true = later
       by later false = ap (λ l. g ∷ l) later
+
+  -- typed functions have signatures
+  pub signed_always : NoTypes heads → (s : Scope) (ds : List Declaration) (fs : List Func) → functions text heads s 0 (members_in text heads 0 ds) ≡ Some fs → AllSigned (functions_in text heads ds)
+  signed_always no_types s ds fs found =
+      elim (signed_or s 0 (members_in text heads 0 ds) no_types) [
+        | inl all ↦ subst AllSigned (members_functions 0 ds) all
+        | inr none ↦ absurd (none_some (sym none.0 ∙ found))
+      ]
 
   -- the functions of a package without a failing rule of its constants and variables
   all_functions : NoTypes heads → (r : Scope) (ds : List Declaration) → are_supported text heads r ds ≡ true
@@ -471,6 +498,10 @@ module _ (text : List ℕ) (heads r : Scope) where
   heads_no_types s (tree.function g ∷ ds) is all =
       heads_no_types (with_name text Untyped s g.name) ds (both_second (is_supported text heads r (tree.function g)) (are_supported text heads r ds) is) (name_no_type s g.name all)
 
+-- the names of a tree whose declarations are of forms that are taken
+pub no_types_of : (t : Syntax) → are_supported t.text (heads_of t) (package_scope t) (declarations_in t) ≡ true → NoTypes (heads_of t)
+no_types_of t is = heads_no_types t.text (heads_of t) (package_scope t) beginning (declarations_in t) is (record { all = tt; formed = formed_beginning })
+
 pub all_decided : (t : Syntax) → ((f : Fault) → ItemsFail t.text (package_scope t) (declarations_in t) f → ⊥)
     → Decided (program_functions t) (λ f. DeclarationsFail t.text (heads_of t) (package_scope t) (declarations_in t) f ⊎ FailsInFunctions t.text (heads_of t) (package_scope t) 0 (members t) f)
 all_decided t sound = by (are_supported t.text h s ds) refl (forms_tested t.text h s ds)
@@ -492,4 +523,4 @@ all_decided t sound = by (are_supported t.text h s ds) refl (forms_tested t.text
     by false is forms = (forms.0, inl forms.1)
     by true is forms =
         further (DeclarationsFail t.text h s ds) (FailsInFunctions t.text h s 0 gs) (functions t.text h s 0 gs) forms
-        (all_functions t.text h (heads_no_types t.text h s beginning ds is (record { all = tt; formed = formed_beginning })) s ds is sound)
+        (all_functions t.text h (no_types_of t is) s ds is sound)

@@ -1,5 +1,5 @@
 -- What the checker of types answers.
-use Rattle.std.specs.Prelude.{◌≡◌, ℕ, List, map, Some, Result, Ok, Err}
+use Rattle.std.specs.Prelude.{◌≡◌, ℕ, List, map, slice_get, Some, Result, Ok, Err}
 use Rattle.base.specs.declared.pos.Pos.{Pos}
 use Rattle.syntax.specs.Declarations.{Syntax}
 use Rattle.typed_syntax.specs.Syntax.{Func, Program}
@@ -13,7 +13,9 @@ use Rattle.type_faults.specs.declared.fault.TypeFault.{TypeFault}
 use Rattle.type_faults.specs.declared.fault.TypeFault.TheVariants as type_fault
 use Rattle.type_faults.specs.declared.fault.Fault.{Fault}
 use Rattle.type_faults.specs.Least.{IsLeast}
-use Rattle.package_values.specs.ValueFaults.{ItemsFail}
+use Rattle.package_values.specs.Values.{Item, items_in}
+use Rattle.package_values.specs.Needs.{Reaches}
+use Rattle.package_values.specs.Accepted.{DeclarationsAre}
 use Rattle.types_go.specs.Functions.{behind_members, globals, members, declarations_in, heads_of, numbered_functions, package_scope, main_number, program_functions}
 use Rattle.types_go.specs.FunctionFaults.{FailsIn}
 
@@ -50,8 +52,9 @@ pub record Types (t : Syntax) (p : Program) : Type 0 where
   pub main : ℕ
   pub functions : program_functions t ≡ Some funcs
   pub main_is : main_number t ≡ Some main
-  -- no rule of the constants and variables fails
-  pub values : (f : Fault) → ItemsFail t.text (package_scope t) (declarations_in t) f → ⊥
+  -- the declarations of constants and variables are those of an accepted package, and none of these needs itself
+  pub declarations : DeclarationsAre t.text (package_scope t) (declarations_in t)
+  pub no_circle : (k : ℕ) (i : Item) → slice_get (items_in (declarations_in t)) k ≡ Some i → Reaches t.text (package_scope t) (items_in (declarations_in t)) k k → ⊥
   pub is : p ≡ program_with t funcs main
 
 -- the fault that is reported: of the rules that fail, the one with the least offset, then with the least number
