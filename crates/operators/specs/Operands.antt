@@ -1,7 +1,7 @@
 -- What an expression gives as one value, and constants as operands (Go specification, "Constant expressions").
 use Rattle.std.specs.Prelude.{Bool, false, Option, Some, None, Result, Ok, Err, if◌then◌else◌}
 use Rattle.typed_syntax.specs.Value.{int, bool}
-use Rattle.typed_syntax.specs.Syntax.{Ex}
+use Rattle.typed_syntax.specs.Syntax.{Ex, Pl, read}
 use Rattle.typed_syntax.specs.Syntax as typed
 use Rattle.constants.specs.declared.constant.Constant.{Constant}
 use Rattle.constants.specs.declared.constant.Constant.TheVariants.{Number, Truth}
@@ -31,6 +31,16 @@ abbrev pub is_assignable : ValueType → Operand → Bool
 is_assignable t (constant f) = same_type t (constant_type f.value_type f.value)
 is_assignable t (value u x) = same_type t u
 is_assignable t nil = false
+
+-- a place of a type: a variable or a part of one, which can be given a value (Go specification, "Address operators", "Assignment statements")
+pub record TypedPlace : Type 0 where
+  pub value_type : ValueType
+  pub place : Pl
+
+-- the place whose value an operand is; what is worked out otherwise is that of none
+abbrev pub place_of : Operand → Option TypedPlace
+place_of (value t (read q)) = Some (record { value_type = t; place = q })
+place_of other = None
 
 -- a constant as a value of its type, where the type has one
 abbrev pub constant_value : Constant → Option Ex

@@ -14,6 +14,8 @@ mod prefixes;
 
 pub use constant_faults::{constant_range_fault, held_fault};
 pub use folding::{Const, ConstFault, compare, fold, fold_one};
-pub use operand::{Operand, as_value, is_assignable, type_of, value_of};
+pub use operand::{
+    Operand, TypedPlace, as_value, is_assignable, is_place, place_in, type_of, value_of,
+};
 pub use pairs::{combined, pair_fault, paired};
 pub use prefixes::{has_rules, prefix_fault, prefixed};

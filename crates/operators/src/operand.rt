@@ -1,10 +1,10 @@
 //! Operands: what expressions give as one value, and constants among them.
 
-ghost use Rattle.std.specs.Prelude.{◌≡◌, option_and_then};
+ghost use Rattle.std.specs.Prelude.{◌≡◌, option_and_then, is_some};
 ghost use Rattle.std.specs.Option.{option_map};
 ghost use Rattle.typed.specs.View.{ex_of};
-ghost use Rattle.operators.specs.Operands.{type_of, is_assignable, as_value, constant_value, const_of, of_type, constant_of};
-ghost use Rattle.operators.specs.Passing.{operand_of};
+ghost use Rattle.operators.specs.Operands.{type_of, is_assignable, place_of, as_value, constant_value, const_of, of_type, constant_of};
+ghost use Rattle.operators.specs.Passing.{operand_of, typed_place_of};
 ghost use Rattle.operators.specs.Faults.{constant_fault};
 
 use crate::constant_faults::held_fault;
@@ -12,7 +12,7 @@ use crate::folding::{Const, ConstFault};
 use base::{Pos, ValueType, same_type};
 use constants::{Constant, Fixed, constant_type, int_constant, is_held};
 use type_faults::{Fault, FaultKind};
-use typed::{Const as TypedConst, Expr};
+use typed::{Const as TypedConst, Expr, Place};
 
 /// What an expression gives as one value: a constant, a value of a type that is worked out when the program runs, or `nil`.
 #[derive(Drop)]
@@ -41,6 +41,43 @@ pub fn is_assignable(value_type: ValueType, operand: &Operand) -> bool
         Some(own_type) => same_type(value_type, own_type),
         None => false,
     }
+}
+
+/// A place of a type: a variable or a part of one, which can be given a value (Go specification, "Address operators", "Assignment
+/// statements").
+#[derive(Drop)]
+pub struct TypedPlace {
+    pub value_type: ValueType,
+    pub place: Place,
+}
+
+/// The place whose value an operand is; what is worked out otherwise is that of none.
+#[tactic(auto, using(typed::proofs::Rows::expr_rows))]
+fn place_of(operand: Operand) -> Option<TypedPlace>
+    ensures { option_map typed_place_of result ≡ place_of (operand_of operand) }
+{
+    match operand {
+        Operand::Value(value_type, Expr::Read(place)) => Some(TypedPlace { value_type, place }),
+        _ => None,
+    }
+}
+
+/// The place whose value an operand is that may have failed.
+pub fn place_in(operand: Option<Operand>) -> Option<TypedPlace>
+    ensures { option_map typed_place_of result ≡ option_and_then place_of (option_map operand_of operand) }
+{
+    match operand {
+        Some(operand) => place_of(operand),
+        None => None,
+    }
+}
+
+/// Whether an operand is the value of a place.
+#[tactic(auto, using(typed::proofs::Rows::expr_rows))]
+pub fn is_place(operand: &Operand) -> bool
+    ensures { result ≡ is_some (place_of (operand_of operand.now)) }
+{
+    matches!(operand, Operand::Value(_, Expr::Read(_)))
 }
 
 /// A constant as a value of its type, where the type has one.

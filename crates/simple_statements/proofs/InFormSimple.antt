@@ -1,14 +1,13 @@
 -- Typed simple statements are in form: sites are born in the order of the text, what is named is in scope, and each value has the type of
 -- its place.
 use Rattle.std.proofs.Common.{◌≡◌, ℕ, suc, ◌+◌, ◌≤◌, Bool, true, false, cond, List, [], ◌∷◌, ◌++◌, ◌⊎◌, inl, inr, Option, Some, None, refl, sym, ap, ◌∙◌, subst, arith, length, length-append}
-use Rattle.std.specs.Prelude.{option_and_then, slice_get, not, ◌&&◌}
+use Rattle.std.specs.Prelude.{option_and_then, not, ◌&&◌}
 use Rattle.std.specs.Option.{option_map}
 use Rattle.base.specs.declared.pos.Pos.{Pos}
 use Rattle.syntax.specs.declared.expression.Name.{Name}
 use Rattle.syntax.specs.declared.operator.ArithmeticOp.{ArithmeticOp}
 use Rattle.syntax.specs.declared.operator.ArithmeticOp.TheVariants as arithmetic
 use Rattle.syntax.specs.declared.operator.BinOp.TheVariants.{Arithmetic}
-use Rattle.syntax.specs.FirstBytes.{first_pos}
 use Rattle.syntax.specs.Expressions.{Ex as TreeEx, Exs as TreeExs, some, spelled}
 use Rattle.syntax.specs.Expressions as expressions
 use Rattle.syntax.specs.Statements.{Simple}
@@ -17,7 +16,7 @@ use Rattle.typed_syntax.specs.declared.operators.BinOp.{BinOp as TypedOp}
 use Rattle.typed_syntax.specs.declared.operators.BinOp.TheVariants as op
 use Rattle.typed.specs.declared.program.Site.{Site}
 use Rattle.typed.specs.Positions.{position}
-use Rattle.typed_syntax.specs.Syntax.{Exs, Left, Pl, St, Program, read, global, here, none, more, results, read_int as asked_two, blank, new, to, update, return_stmt}
+use Rattle.typed_syntax.specs.Syntax.{Exs, Left, Pl, St, Program, read, none, more, results, read_int as asked_two, blank, new, to, update, return_stmt}
 use Rattle.typed_syntax.specs.Form.{IsArithmetic, IsStep, PlFits, LeftsFit, new_sites, births, scope_behind, scope_after, ExFits, ExsFit, PieceFits, PiecesFit, ReturnFits, StFits}
 use Rattle.typed_syntax.specs.Types.{TypeTree, ints, bools}
 use Rattle.base.specs.declared.value_type.ValueType.{ValueType}
@@ -26,23 +25,20 @@ use Rattle.typed.specs.Tables.{Table}
 use Rattle.typed.specs.Formed.{IsFormed}
 use Rattle.type_faults.specs.Given.{both}
 use Rattle.type_faults.proofs.Options.{and_then_some, map_some, none_some, same_some}
-use Rattle.operators.specs.Operands.{value}
+use Rattle.operators.specs.Operands.{Operand, value, TypedPlace, place_of}
 use Rattle.operators.specs.Operators.{arithmetic_of, combined}
-use Rattle.names.specs.declared.scope.Declared.{Declared}
-use Rattle.names.specs.declared.scope.Declared.TheVariants as declared
 use Rattle.names.specs.Universe.{is_blank}
-use Rattle.names.specs.declared.scope.Known.{Known as KnownOf}
-use Rattle.names.specs.Scope.{Scope, type_number, type_tree, type_trees, declaration, is_here, known as scope_known, with_variable, with_strings}
+use Rattle.names.specs.Scope.{Scope, type_number, type_tree, type_trees, is_here, with_variable, with_strings}
 use Rattle.names.specs.Naming.{name_in}
-use Rattle.names.proofs.Trees.{int_tree, solid}
-use Rattle.expression_types.specs.Typing.{known_type, Part, said, valued, Gives, one, called, asking, quoted, printed, panicked, exited, operand_in, Seen, value_types, asked, taken, gives, seen}
+use Rattle.names.proofs.Trees.{int_tree}
+use Rattle.expression_types.specs.Typing.{Part, said, valued, Gives, one, called, asking, quoted, printed, panicked, exited, operand_in, Seen, value_types, asked, taken, gives, seen}
 use Rattle.expression_types.proofs.InForm.{Agrees, AreAccepted, PartFits, PartsFit, GivesFit, AllFit, OperandFits, CallFits, value_fits, operand_fits, taken_fits, asked_types, gives_fit, seen_fit, maybe_fits}
 use Rattle.signatures.specs.declared.slots.Slot.{Slot}
 use Rattle.signatures.specs.Entries.{slot_with, slots_each}
 use Rattle.signatures.proofs.Growth.{Extends, extends_twice}
 use Rattle.signatures.proofs.Visible.{new_site, Visible, shown_site, shown_number, visible_with, visible_strings}
 use Rattle.signatures.proofs.InFormEntries.{HasSites, site_shown, Within}
-use Rattle.simple_statements.specs.SimpleStatements.{Returns, Variable, global_variable, variable_of, variable_named, only, target, variable_type, variable_value, left_of, wanted_of, new_left_of, new_wanted_of, declares, strings_of, piece_from, pieces_from, strings_in_call, strings_in, expressed, updated, stepped, returned, assignment, left, wanted, lefts, all_wanted, new_left, new_wanted, new_lefts, all_new_wanted, new_slots, with_variables, may_define, own_value, definition_types, behind_simple, update_one, update_statement, step_statement, simple_statement}
+use Rattle.simple_statements.specs.SimpleStatements.{Returns, only, target, place_type, place_value, is_blank_name, place_in, left_of, wanted_of, new_left_of, new_wanted_of, declares, strings_of, piece_from, pieces_from, strings_in_call, strings_in, expressed, updated, stepped, returned, assignment, left, wanted, lefts, all_wanted, new_left, new_wanted, new_lefts, all_new_wanted, new_slots, with_variables, may_define, own_value, definition_types, behind_simple, update_one, update_statement, step_statement, simple_statement}
 use Rattle.simple_statements.proofs.SettledSimple.{assignment_some, where_some, own_read, update_some}
 use Rattle.simple_statements.proofs.Growth.{grows_variables}
 
@@ -103,14 +99,14 @@ module _ (T : Table) (p : Program) where
   abbrev IsOld : List ℕ → ValueType → Left → Type 0
   IsOld scope t l = (l ≡ blank) ⊎ ((q : Pl) × (l ≡ to q) × PlFits p scope (type_tree T t) q)
 
-  abbrev Known : List ℕ → Option Variable → Type 0
-  Known scope o = (v : Variable) → o ≡ Some v → PlFits p scope (type_tree T v.value_type) v.place
+  abbrev Known : List ℕ → Option TypedPlace → Type 0
+  Known scope o = (v : TypedPlace) → o ≡ Some v → PlFits p scope (type_tree T v.value_type) v.place
 
-  target_old : (scope : List ℕ) (o : Option Variable) (t : ValueType) (l : Left) → Known scope o → ((u : ValueType) → variable_type o ≡ Some u → u ≡ t) → target o ≡ Some l → IsOld scope t l
+  target_old : (scope : List ℕ) (o : Option TypedPlace) (t : ValueType) (l : Left) → Known scope o → ((u : ValueType) → place_type o ≡ Some u → u ≡ t) → target o ≡ Some l → IsOld scope t l
   target_old scope None t l has wants is = absurd (none_some is)
   target_old scope (Some v) t l has wants is = inr (v.place, sym (same_some is), subst (λ (u : ValueType). PlFits p scope (type_tree T u) v.place) (wants v.value_type refl) (has v refl))
 
-  left_old : (scope : List ℕ) (b : Bool) (o : Option Variable) (t : ValueType) (l : Left) → Known scope o → ((u : ValueType) → wanted_of b o ≡ Some u → u ≡ t) → left_of b o ≡ Some l → IsOld scope t l
+  left_old : (scope : List ℕ) (b : Bool) (o : Option TypedPlace) (t : ValueType) (l : Left) → Known scope o → ((u : ValueType) → wanted_of b o ≡ Some u → u ≡ t) → left_of b o ≡ Some l → IsOld scope t l
   left_old scope true o t l has wants is = inl (sym (same_some is))
   left_old scope false o t l has wants is = target_old scope o t l has wants is
 
@@ -125,23 +121,22 @@ module _ (T : Table) (p : Program) where
   old_more scope t ts l ls (inr o) k = subst (λ (x : Left). OldFit scope (t ∷ ts) (x ∷ ls)) (sym o.1) (record { fit = λ m n. (o.2, k.fit m n); sites = k.sites; behind = k.behind })
 
   module _ (text : List ℕ) where
-    -- the variables that names stand for have places of their types
+    -- what expressions give the values of are places of their types
     abbrev KnownAll : Scope → List ℕ → Type 0
-    KnownAll s scope = (n : List ℕ) → Known scope (variable_of s (declaration s n))
+    KnownAll s scope = (e : TreeEx) → Known scope (place_in text s e)
 
-    side_old : (s : Scope) (scope : List ℕ) (known : KnownAll s scope) (o : Option Name) (t : ValueType) (l : Left) → ((u : ValueType) → wanted text s o ≡ Some u → u ≡ t) → left text s o ≡ Some l → IsOld scope t l
-    side_old s scope known None t l wants is = absurd (none_some is)
-    side_old s scope known (Some n) t l wants is = left_old scope (is_blank (spelled text n)) (variable_named text s n) t l (known (spelled text n)) wants is
+    side_old : (s : Scope) (scope : List ℕ) (known : KnownAll s scope) (e : TreeEx) (t : ValueType) (l : Left) → ((u : ValueType) → wanted text s e ≡ Some u → u ≡ t) → left text s e ≡ Some l → IsOld scope t l
+    side_old s scope known e t l wants is = left_old scope (is_blank_name text (name_in e)) (place_in text s e) t l (known e) wants is
 
     pub lefts_fit : (s : Scope) (scope : List ℕ) (known : KnownAll s scope) (es : TreeExs) (ts : List ValueType) (ls : List Left) → AreAccepted (all_wanted text s es) ts → lefts text s es ≡ Some ls → OldFit scope ts ls
     lefts_fit s scope known expressions.none [] ls accepted is = subst (λ (l : List Left). OldFit scope [] l) (same_some is) (record { fit = λ m n. tt; sites = refl; behind = λ wide. refl })
     lefts_fit s scope known expressions.none (t ∷ ts) ls accepted is = absurd accepted
-    lefts_fit s scope known (some e es) [] ls accepted is = absurd (omega (arith, accepted_long (wanted text s (name_in e) ∷ all_wanted text s es) [] accepted))
+    lefts_fit s scope known (some e es) [] ls accepted is = absurd (omega (arith, accepted_long (wanted text s e ∷ all_wanted text s es) [] accepted))
     lefts_fit s scope known (some e es) (t ∷ ts) ls accepted is =
-        let a = accepted_head (wanted text s (name_in e)) (all_wanted text s es) t ts accepted in
-        let r = and_then_some (λ l. option_map (λ xs. l ∷ xs) (lefts text s es)) (left text s (name_in e)) ls is in
+        let a = accepted_head (wanted text s e) (all_wanted text s es) t ts accepted in
+        let r = and_then_some (λ l. option_map (λ xs. l ∷ xs) (lefts text s es)) (left text s e) ls is in
         let q = map_some (λ xs. r.0 ∷ xs) (lefts text s es) ls r.2 in
-        subst (λ (l : List Left). OldFit scope (t ∷ ts) l) q.2 (old_more scope t ts r.0 q.0 (side_old s scope known (name_in e) t r.0 a.0 r.1) (lefts_fit s scope known es ts q.0 a.1 q.1))
+        subst (λ (l : List Left). OldFit scope (t ∷ ts) l) q.2 (old_more scope t ts r.0 q.0 (side_old s scope known e t r.0 a.0 r.1) (lefts_fit s scope known es ts q.0 a.1 q.1))
 
     -- left sides in a scope, some of which are new variables, after others
     record NewFit (scope0 : List ℕ) (s : Scope) (scope : List ℕ) (vs : List Slot) (ts : List ValueType) (ls : List Left) (n : ℕ) : Type 0 where
@@ -191,15 +186,15 @@ module _ (T : Table) (p : Program) where
           Later = (s2 : Scope) (scope2 : List ℕ) (ls2 : List Left) → s2.types ≡ T → Visible s2 scope2 → new_lefts text s0 (length s2.sites) ns ≡ Some ls2 → length (with_variables text s2 rest_slots).sites ≤ n → Extends (with_variables text s2 rest_slots).sites all
               → NewFit scope0 s2 scope2 rest_slots ts ls2 n
 
-          by : (b h : Bool) (l : Left) (rest : List Left) → ((u : ValueType) → new_wanted_of b h (variable_named text s0 x) ≡ Some u → u ≡ t)
-              → new_left_of b h (variable_named text s0 x) (length s.sites) ≡ Some l
+          by : (b h : Bool) (l : Left) (rest : List Left) → ((u : ValueType) → new_wanted_of b h (place_in text s0 (expressions.name x)) ≡ Some u → u ≡ t)
+              → new_left_of b h (place_in text s0 (expressions.name x)) (length s.sites) ≡ Some l
               → new_lefts text s0 (cond (not b && not h) (1 + length s.sites) (length s.sites)) ns ≡ Some rest
               → length (with_variables text s (cond (not b && not h) (slot_with (Some t) x ∷ rest_slots) rest_slots)).sites ≤ n
               → Extends (with_variables text s (cond (not b && not h) (slot_with (Some t) x ∷ rest_slots) rest_slots)).sites all → Later
               → NewFit scope0 s scope (cond (not b && not h) (slot_with (Some t) x ∷ rest_slots) rest_slots) (t ∷ ts) (l ∷ rest) n
           by true h l rest wants l_is rest_is le1 ext1 later = old_left scope0 s scope rest_slots t ts l rest n (inl (sym (same_some l_is))) (later s scope rest types_are visible rest_is le1 ext1)
           by false true l rest wants l_is rest_is le1 ext1 later =
-              old_left scope0 s scope rest_slots t ts l rest n (target_old scope0 (variable_named text s0 x) t l (known0 (spelled text x)) wants l_is) (later s scope rest types_are visible rest_is le1 ext1)
+              old_left scope0 s scope rest_slots t ts l rest n (target_old scope0 (place_in text s0 (expressions.name x)) t l (known0 (expressions.name x)) wants l_is) (later s scope rest types_are visible rest_is le1 ext1)
           by false false l rest wants l_is rest_is le1 ext1 later =
               let s1 = with_variable (Some t) s (spelled text x) x.pos in
               let one1 : length s1.sites ≡ length s.sites + 1 = length-append s.sites (record { pos = x.pos; type_id = record { 0 = type_number s.types t } } ∷ []) in
@@ -211,20 +206,18 @@ module _ (T : Table) (p : Program) where
 -- ---- statements
 
 module _ (T : Table) (text : List ℕ) (p : Program) (all : List Site) (has : HasSites T p all) where
-  -- what a scope shows has a place of its type in the program
-  pub known_all : (s : Scope) (scope : List ℕ) → Visible s scope → s.types ≡ T → Agrees s p → Extends s.sites all → (n : List ℕ) → Known T p scope (variable_of s (declaration s n))
-  known_all s scope visible types_are agrees ext n = by (declaration s n) refl
+  -- what an expression gives the value of is a place of its type
+  pub known_all : (s : Scope) (scope : List ℕ) → Visible s scope → s.types ≡ T → Agrees s p → (e : TreeEx) → Known T p scope (place_in text s e)
+  known_all s scope visible types_are agrees e v is =
+      let q = and_then_some place_of (operand_in (gives text s e)) v is in
+      of_operand q.0 (operand_fits T p scope (gives text s e) q.0 (maybe_fits T p scope (gives text s e) fits) q.1) q.2
     where
-      global_known : (k g : ℕ) (o : Option KnownOf) → scope_known s k ≡ o → slice_get s.globals g ≡ Some k → Known T p scope (option_map (global_variable g) o)
-      global_known k g None known at v is = absurd (none_some is)
-      global_known k g (Some f) known at v is = subst (λ (x : Variable). PlFits p scope (type_tree T x.value_type) x.place) (same_some is) (subst (λ (U : Table). PlFits p scope (type_tree U (known_type f)) (global g here)) types_are (agrees.globals g k f at known))
+      fits : (g : Gives) → gives text s e ≡ Some g → GivesFit T p scope g
+      fits g g_is = subst (λ (U : Table). GivesFit U p scope g) types_are (gives_fit p scope text s (shown_site s scope visible) (shown_number s scope visible) visible.held agrees e g g_is)
 
-      by : (d : Option Declared) → declaration s n ≡ d → Known T p scope (variable_of s d)
-      by (Some (declared.Variable site u)) found v is =
-          let k = shown_site s scope visible n site u found in
-          subst (λ (x : Variable). PlFits p scope (type_tree T x.value_type) x.place) (same_some is) (k.0, site_shown T p all has s types_are ext site.0 u k.1, solid T (subst IsFormed types_are agrees.formed) (type_number T u))
-      by (Some (declared.Global k g)) found v is = global_known k.0 g.0 (scope_known s k.0) refl (shown_number s scope visible n k g found) v is
-      by other found v is = absurd (none_some is)
+      of_operand : (x : Operand) → OperandFits T p scope x → place_of x ≡ Some v → PlFits p scope (type_tree T v.value_type) v.place
+      of_operand (value t (read q)) fit found = subst (λ (y : TypedPlace). PlFits p scope (type_tree T y.value_type) y.place) (same_some found) fit
+      of_operand x fit found = absurd (none_some found)
 
   module _ (wanted1 : List TypeTree) (named : ℕ) where
     abbrev pub StFormed : (looped : Bool) → Scope → List ℕ → Scope → St → Type 0
@@ -284,16 +277,16 @@ module _ (T : Table) (text : List ℕ) (p : Program) (all : List Site) (has : Ha
       all_given : (es : TreeExs) → AllFit T p scope (seen text s es)
       all_given es = subst (λ (U : Table). AllFit U p scope (seen text s es)) types_are (seen_fit p scope text s (shown_site s scope visible) (shown_number s scope visible) visible.held agrees es)
 
-      assign_still : (ls : TreeExs) (es : TreeExs) (t : St) → Extends s.sites all → assignment (lefts text s ls) (taken (all_wanted text s ls) (seen text s es)) ≡ Some t → Still looped scope t
-      assign_still ls es t ext is =
+      assign_still : (ls : TreeExs) (es : TreeExs) (t : St) → assignment (lefts text s ls) (taken (all_wanted text s ls) (seen text s es)) ≡ Some t → Still looped scope t
+      assign_still ls es t is =
           let a = assignment_some (lefts text s ls) (taken (all_wanted text s ls) (seen text s es)) t is in
           let values = taken_fits T p scope formed (all_wanted text s ls) (seen text s es) a.1 (all_given es) a.3 in
-          let left1 = lefts_fit T p text s scope (known_all s scope visible types_are agrees ext) ls values.types a.0 values.accepted a.2 in
+          let left1 = lefts_fit T p text s scope (known_all s scope visible types_are agrees) ls values.types a.0 values.accepted a.2 in
           subst (λ (x : St). Still looped scope x) a.4 (left1.sites, λ m n. (type_trees T values.types, left1.fit m n, values.fit), left1.behind scope)
 
-      define_formed : (ns : List Name) (at : Pos) (es : TreeExs) (t : St) → Extends (behind_simple text s (tree.define ns at es)).sites all → Extends s.sites all → simple_statement text s (tree.define ns at es) ≡ Some t
+      define_formed : (ns : List Name) (at : Pos) (es : TreeExs) (t : St) → Extends (behind_simple text s (tree.define ns at es)).sites all → simple_statement text s (tree.define ns at es) ≡ Some t
           → StFormed looped s scope (behind_simple text s (tree.define ns at es)) t × Visible (behind_simple text s (tree.define ns at es)) (scope_after scope t)
-      define_formed ns at es t ext ext0 is =
+      define_formed ns at es t ext is =
           let v = taken (all_new_wanted text s ns) (seen text s es) in
           let w = where_some (may_define text s ns) (assignment (new_lefts text s (length s.sites) ns) v) t is in
           let a = assignment_some (new_lefts text s (length s.sites) ns) v t w.1 in
@@ -303,58 +296,57 @@ module _ (T : Table) (text : List ℕ) (p : Program) (all : List Site) (has : Ha
           let after = with_variables text s vs in
           let ext1 : Extends after.sites all = subst (λ (o : Option (List ValueType)). Extends (with_variables text s (new_slots text s (slots_each o ns))).sites all) found ext in
           let fits : (n : ℕ) → length after.sites ≤ n → NewFit T p text scope s scope vs values.types a.0 n =
-          λ n le. new_lefts_fit T p text all has s scope (known_all s scope visible types_are agrees ext0) n ns values.types s scope a.0 types_are visible values.accepted a.2 le ext1 in
+          λ n le. new_lefts_fit T p text all has s scope (known_all s scope visible types_are agrees) n ns values.types s scope a.0 types_are visible values.accepted a.2 le ext1 in
           let whole = fits (length after.sites) (omega arith) in
           subst (λ (o : Option (List ValueType)). StFormed looped s scope (with_variables text s (new_slots text s (slots_each o ns))) t × Visible (with_variables text s (new_slots text s (slots_each o ns))) (scope_after scope t)) (sym found)
           (subst (λ (x : St). StFormed looped s scope after x × Visible after (scope_after scope x)) a.4
           (record { count = whole.count; fit = λ n le. (type_trees T values.types, (fits n le).fit, values.fit) }, whole.visible))
 
-      -- the value of a variable is one of its type
-      own_fits : Extends s.sites all → (o : Option Name) (t : ValueType) (q : Pl) → own_value text s o ≡ Some (value t (read q)) → PlFits p scope (type_tree T t) q
-      own_fits ext None t q is = absurd (none_some is)
-      own_fits ext (Some n) t q is = by (is_blank (spelled text n)) is
+      -- the value of a left side is one of its type
+      own_fits : (e : TreeEx) (t : ValueType) (q : Pl) → own_value text s e ≡ Some (value t (read q)) → PlFits p scope (type_tree T t) q
+      own_fits e t q is = by (is_blank_name text (name_in e)) is
         where
-          of_variable : (o : Option Variable) → Known T p scope o → variable_value o ≡ Some (value t (read q)) → PlFits p scope (type_tree T t) q
-          of_variable None known is1 = absurd (none_some is1)
-          of_variable (Some v) known is1 =
+          of_place : (o : Option TypedPlace) → Known T p scope o → place_value o ≡ Some (value t (read q)) → PlFits p scope (type_tree T t) q
+          of_place None known is1 = absurd (none_some is1)
+          of_place (Some v) known is1 =
               let read_is : value v.value_type (read v.place) ≡ value t (read q) = same_some is1 in
               let type_is : v.value_type ≡ t = cc in
               let place_is : v.place ≡ q = cc in
               subst (λ (u : ValueType). PlFits p scope (type_tree T u) q) type_is (subst (λ (l : Pl). PlFits p scope (type_tree T v.value_type) l) place_is (known v refl))
 
-          by : (b : Bool) → cond b None (variable_value (variable_named text s n)) ≡ Some (value t (read q)) → PlFits p scope (type_tree T t) q
+          by : (b : Bool) → cond b None (place_value (place_in text s e)) ≡ Some (value t (read q)) → PlFits p scope (type_tree T t) q
           by true is1 = absurd (none_some is1)
-          by false is1 = of_variable (variable_named text s n) (known_all s scope visible types_are agrees ext (spelled text n)) is1
+          by false is1 = of_place (place_in text s e) (known_all s scope visible types_are agrees e) is1
 
-      update_one_still : Extends s.sites all → (at : Pos) (tree_op : ArithmeticOp) (e v : TreeEx) (t : St) → update_one text s at tree_op e v ≡ Some t → Still looped scope t
-      update_one_still ext at tree_op e v t is =
-          let a = own_value text s (name_in e) in
+      update_one_still : (at : Pos) (tree_op : ArithmeticOp) (e v : TreeEx) (t : St) → update_one text s at tree_op e v ≡ Some t → Still looped scope t
+      update_one_still at tree_op e v t is =
+          let a = own_value text s e in
           let b = operand_in (gives text s v) in
           let q = and_then_some updated (both (combined at (Arithmetic tree_op)) a b) t is in
-          let u = update_some at tree_op a b q.0 (λ x x_is. own_read text s (name_in e) x x_is) q.1 in
+          let u = update_some at tree_op a b q.0 (λ x x_is. own_read text s e x x_is) q.1 in
           let form = u.5 in
-          let place1 : PlFits p scope ints u.1 = subst (λ (x : TypeTree). PlFits p scope x u.1) (int_tree T formed) (subst (λ (k : ValueType). PlFits p scope (type_tree T k) u.1) form.2 (own_fits ext (name_in e) u.0 u.1 u.3)) in
+          let place1 : PlFits p scope ints u.1 = subst (λ (x : TypeTree). PlFits p scope x u.1) (int_tree T formed) (subst (λ (k : ValueType). PlFits p scope (type_tree T k) u.1) form.2 (own_fits e u.0 u.1 u.3)) in
           let right : OperandFits T p scope u.2 = operand_fits T p scope (gives text s v) u.2 (maybe_fits T p scope (gives text s v) (λ g g_is. given_fits v g g_is)) u.4 in
           let right1 : ExFits p scope ints form.0 = subst (λ (x : TypeTree). ExFits p scope x form.0) (int_tree T formed) (value_fits T p scope formed u.2 Int form.0 form.1 right form.3) in
           let whole : update (position at) u.1 (arithmetic_of tree_op) form.0 ≡ t = same_some (ap updated (sym form.4) ∙ q.2) in
           subst (λ (x : St). Still looped scope x) whole (refl, λ m n. (arithmetic_is tree_op, place1, right1), refl)
 
-      update_still : Extends s.sites all → (at : Pos) (tree_op : ArithmeticOp) (e v : Option TreeEx) (t : St) → update_statement text s at tree_op e v ≡ Some t → Still looped scope t
-      update_still ext at tree_op None v t is = absurd (none_some is)
-      update_still ext at tree_op (Some e) None t is = absurd (none_some is)
-      update_still ext at tree_op (Some e) (Some v) t is = update_one_still ext at tree_op e v t is
+      update_still : (at : Pos) (tree_op : ArithmeticOp) (e v : Option TreeEx) (t : St) → update_statement text s at tree_op e v ≡ Some t → Still looped scope t
+      update_still at tree_op None v t is = absurd (none_some is)
+      update_still at tree_op (Some e) None t is = absurd (none_some is)
+      update_still at tree_op (Some e) (Some v) t is = update_one_still at tree_op e v t is
 
-      step_still : Extends s.sites all → (at : Pos) (typed_op : TypedOp) → IsStep typed_op → (e : TreeEx) (t : St) → step_statement text s at typed_op e ≡ Some t → Still looped scope t
-      step_still ext at typed_op steps e t is =
-          let q = and_then_some (stepped (position at) typed_op) (own_value text s (name_in e)) t is in
-          let x = own_read text s (name_in e) q.0 q.1 in
+      step_still : (at : Pos) (typed_op : TypedOp) → IsStep typed_op → (e : TreeEx) (t : St) → step_statement text s at typed_op e ≡ Some t → Still looped scope t
+      step_still at typed_op steps e t is =
+          let q = and_then_some (stepped (position at) typed_op) (own_value text s e) t is in
+          let x = own_read text s e q.0 q.1 in
           by x.0 x.1 (q.1 ∙ ap Some x.2) (ap (stepped (position at) typed_op) (sym x.2) ∙ q.2)
         where
-          by : (u : ValueType) (l : Pl) → own_value text s (name_in e) ≡ Some (value u (read l)) → stepped (position at) typed_op (value u (read l)) ≡ Some t → Still looped scope t
+          by : (u : ValueType) (l : Pl) → own_value text s e ≡ Some (value u (read l)) → stepped (position at) typed_op (value u (read l)) ≡ Some t → Still looped scope t
           by Truth l found is1 = absurd (none_some is1)
           by (Struct k) l found is1 = absurd (none_some is1)
           by (Array n u) l found is1 = absurd (none_some is1)
-          by Int l found is1 = subst (λ (y : St). Still looped scope y) (same_some is1) (refl, λ m n. (steps, subst (λ (x : TypeTree). PlFits p scope x l) (int_tree T formed) (own_fits ext (name_in e) Int l found)), refl)
+          by Int l found is1 = subst (λ (y : St). Still looped scope y) (same_some is1) (refl, λ m n. (steps, subst (λ (x : TypeTree). PlFits p scope x l) (int_tree T formed) (own_fits e Int l found)), refl)
 
       call_still : (e : TreeEx) (t : St) → Within p all (with_strings s (strings_in (gives text s e))) → option_and_then (expressed (length s.strings)) (gives text s e) ≡ Some t → Still looped scope t
       call_still e t within is =
@@ -365,11 +357,11 @@ module _ (T : Table) (text : List ℕ) (p : Program) (all : List Site) (has : Ha
 
       pub simple_still : (m : Simple) (t : St) → DeclaresNone m → Within p all (behind_simple text s m) → simple_statement text s m ≡ Some t → Still looped scope t
       simple_still (tree.express e) t none1 within is = call_still e t within is
-      simple_still (tree.assign ls at es) t none1 within is = assign_still ls es t within.0 is
-      simple_still (tree.update ls at tree_op es) t none1 within is = update_still within.0 at tree_op (only ls) (only es) t is
+      simple_still (tree.assign ls at es) t none1 within is = assign_still ls es t is
+      simple_still (tree.update ls at tree_op es) t none1 within is = update_still at tree_op (only ls) (only es) t is
       simple_still (tree.define ns at es) t none1 within is = absurd none1
-      simple_still (tree.increment e at) t none1 within is = step_still within.0 at op.Add (inl refl) e t is
-      simple_still (tree.decrement e at) t none1 within is = step_still within.0 at op.Sub (inr refl) e t is
+      simple_still (tree.increment e at) t none1 within is = step_still at op.Add (inl refl) e t is
+      simple_still (tree.decrement e at) t none1 within is = step_still at op.Sub (inr refl) e t is
 
       call_formed : (e : TreeEx) (t : St) → Still looped scope t → StFormed looped s scope (behind_simple text s (tree.express e)) t × Visible (behind_simple text s (tree.express e)) (scope_after scope t)
       call_formed e t f =
@@ -378,14 +370,14 @@ module _ (T : Table) (text : List ℕ) (p : Program) (all : List Site) (has : Ha
             subst (λ (w : List ℕ). Visible (with_strings s strings1) w) (sym f.2) (visible_strings s scope strings1 visible),
           )
 
-      pub simple_formed : (m : Simple) (t : St) → Within p all (behind_simple text s m) → Extends s.sites all → simple_statement text s m ≡ Some t
+      pub simple_formed : (m : Simple) (t : St) → Within p all (behind_simple text s m) → simple_statement text s m ≡ Some t
           → StFormed looped s scope (behind_simple text s m) t × Visible (behind_simple text s m) (scope_after scope t)
-      simple_formed (tree.express e) t within ext0 is = call_formed e t (call_still e t within is)
-      simple_formed (tree.assign ls at es) t within ext0 is = still_formed looped s scope t visible (simple_still (tree.assign ls at es) t tt within is)
-      simple_formed (tree.update ls at tree_op es) t within ext0 is = still_formed looped s scope t visible (simple_still (tree.update ls at tree_op es) t tt within is)
-      simple_formed (tree.define ns at es) t within ext0 is = define_formed ns at es t within.0 ext0 is
-      simple_formed (tree.increment e at) t within ext0 is = still_formed looped s scope t visible (simple_still (tree.increment e at) t tt within is)
-      simple_formed (tree.decrement e at) t within ext0 is = still_formed looped s scope t visible (simple_still (tree.decrement e at) t tt within is)
+      simple_formed (tree.express e) t within is = call_formed e t (call_still e t within is)
+      simple_formed (tree.assign ls at es) t within is = still_formed looped s scope t visible (simple_still (tree.assign ls at es) t tt within is)
+      simple_formed (tree.update ls at tree_op es) t within is = still_formed looped s scope t visible (simple_still (tree.update ls at tree_op es) t tt within is)
+      simple_formed (tree.define ns at es) t within is = define_formed ns at es t within.0 is
+      simple_formed (tree.increment e at) t within is = still_formed looped s scope t visible (simple_still (tree.increment e at) t tt within is)
+      simple_formed (tree.decrement e at) t within is = still_formed looped s scope t visible (simple_still (tree.decrement e at) t tt within is)
 
       pub return_formed : (r : Returns) (goes : ReturnsFit T r wanted1 named) (es : TreeExs) (t : St) → returned r (seen text s es) ≡ Some t → StFormed looped s scope s t × Visible s (scope_after scope t)
       return_formed r goes es t is = still_formed looped s scope t visible (return_still looped scope r goes formed (seen text s es) t (all_given es) is)

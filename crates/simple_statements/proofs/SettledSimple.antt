@@ -20,13 +20,13 @@ use Rattle.typed_syntax.specs.Positions.{Position}
 use Rattle.typed_syntax.specs.Syntax.{Ex, Exs, Left, Pl, St, to, binary, read, none, assign, update, return_stmt}
 use Rattle.type_faults.specs.declared.fault.FaultKind.TheVariants.{Unknown, Redeclared, NothingNew, NotAssignable, NotUsedValue, WrongCount, ResultCount, Unfit, OutOfProfile}
 use Rattle.base.specs.declared.value_type.ValueType.{ValueType}
-use Rattle.base.specs.declared.value_type.ValueType.TheVariants.{Int, Bool as Truth}
+use Rattle.base.specs.declared.value_type.ValueType.TheVariants.{Int}
 use Rattle.type_faults.specs.Given.{both}
 use Rattle.type_faults.specs.Faults.{fault, IsFault}
 use Rattle.type_faults.proofs.Decided.{Decided, Tested, further, mapped, after, both_tested}
 use Rattle.type_faults.proofs.Options.{and_then_some, map_some, none_some, same_some}
-use Rattle.operators.specs.Operands.{Operand, value, type_of, as_value}
-use Rattle.operators.specs.Operators.{takes, takes_both, right_allowed, both_values, arithmetic_of, combined}
+use Rattle.operators.specs.Operands.{Operand, constant, value, type_of, as_value, TypedPlace, place_of}
+use Rattle.operators.specs.Operators.{takes_both, right_allowed, both_values, arithmetic_of, combined}
 use Rattle.operators.specs.Faults.{pair_fault}
 use Rattle.operators.proofs.DecidedOperators.{pair_decided}
 use Rattle.names.specs.Blocks.{Blocks}
@@ -34,18 +34,19 @@ use Rattle.names.specs.declared.scope.Declared.{Declared}
 use Rattle.names.specs.declared.scope.Declared.TheVariants as declared
 use Rattle.names.specs.Universe.{is_blank}
 use Rattle.names.specs.declared.scope.Known.{Known}
+use Rattle.names.specs.declared.scope.Known.TheVariants as known_as
 use Rattle.names.specs.Scope.{Scope, declaration, is_here, known}
 use Rattle.names.specs.Naming.{name_in}
 use Rattle.names.proofs.Settled.{IsKnown, IsTyped, IsSettled, declared_typed}
-use Rattle.expression_types.specs.Typing.{Gives, one, called, asking, quoted, printed, panicked, exited, operand_in, Seen, many, count, taken, gives, seen}
+use Rattle.expression_types.specs.Typing.{global_read, constant_read, name_operand, Gives, one, called, asking, quoted, printed, panicked, exited, operand_in, Seen, many, count, taken, gives, seen}
 use Rattle.expression_types.specs.Faults.{refused_fault, ValuesFail, CountFails, TakeFails, Fails, FailsInEach, FailsAsOperand}
 use Rattle.expression_types.proofs.DecidedValues.{given_all, operand_decided, take_decided, refused}
 use Rattle.expression_types.proofs.Settled.{gives_decided, seen_decided}
 use Rattle.signatures.specs.Entries.{slots_each}
 use Rattle.signatures.specs.Failing.{fault_where}
 use Rattle.signatures.proofs.SettledEntries.{where_tested, some_tested}
-use Rattle.simple_statements.specs.SimpleStatements.{Returns, Variable, global_variable, variable_of, variable_named, only, variable_value, left_of, new_left_of, declares, noted, is_noted, expressed, assignment, updated, stepped, returned, left, lefts, all_wanted, new_left, new_lefts, all_new_wanted, new_slots, with_variables, are_distinct, has_all, may_define, own_value, behind_simple, update_one, update_statement, step_statement, simple_statement}
-use Rattle.simple_statements.specs.SimpleFaults.{left_fault, new_name_fault, own_fault, value_left_fault, names_place, lefts_place, use_fault, step_fault, ReturnFails, LeftSideFails, LeftsFail, OwnSideFails, OwnSidesFail, NewNamesFail, TwiceFails, FailsInAssignment, FailsInDefinition, have_values, given_count, UpdateFails, FailsInStep, FailsInSimple}
+use Rattle.simple_statements.specs.SimpleStatements.{Returns, only, place_value, left_of, is_blank_name, place_in, new_left_of, declares, noted, is_noted, expressed, assignment, updated, stepped, returned, left, lefts, all_wanted, new_left, new_lefts, all_new_wanted, new_slots, with_variables, are_distinct, has_all, may_define, own_value, behind_simple, update_one, update_statement, step_statement, simple_statement}
+use Rattle.simple_statements.specs.SimpleFaults.{left_fault, new_name_fault, own_fault, place_fault, names_place, lefts_place, use_fault, step_fault, ReturnFails, LeftSideFails, LeftsFail, OwnSideFails, OwnSidesFail, NewNamesFail, TwiceFails, FailsInAssignment, FailsInDefinition, have_values, given_count, UpdateFails, FailsInStep, FailsInSimple}
 use Rattle.simple_statements.proofs.SettledValues.{settled_new, allowed_is, taken_types_are}
 
 -- ---- left sides
@@ -54,39 +55,55 @@ use Rattle.simple_statements.proofs.SettledValues.{settled_new, allowed_is, take
 abbrev NameTyped : Scope → Option Declared → Type 0
 NameTyped s d = (x : Declared) → d ≡ Some x → IsTyped s.types s.signatures s.values x
 
+-- the place that a name stands for
+abbrev declared_place : Scope → Option Declared → Option TypedPlace
+declared_place s d = option_and_then place_of (name_operand s d)
+
 -- what follows from a package variable of which something is known
-known_decided : {A : Type 0} (h : Variable → A) (g : ℕ) (o : Option Known) → IsKnown o → Decided (option_map h (option_map (global_variable g) o)) (IsFault None)
+known_decided : {A : Type 0} (h : TypedPlace → A) (g : ℕ) (o : Option Known) → IsKnown o → Decided (option_map h (option_and_then place_of (option_map (global_read g) o))) (IsFault None)
 known_decided h g None has = absurd has
 known_decided h g (Some f) has = λ k j. j
 
-left_decided : (s : Scope) (is_blank : Bool) (d : Option Declared) (at whole : Pos) → NameTyped s d → Decided (left_of is_blank (variable_of s d)) (IsFault (left_fault is_blank d at whole))
+-- a constant is no place
+constant_decided : {A : Type 0} (h : TypedPlace → A) (o : Option Known) (f : Fault) → Decided (option_map h (option_and_then place_of (option_map constant_read o))) (IsFault (Some f))
+constant_decided h None f = (f, refl)
+constant_decided h (Some (known_as.Constant c)) f = (f, refl)
+constant_decided h (Some (known_as.Variable t)) f = (f, refl)
+
+-- a name whose place is asked for
+name_decided : {A : Type 0} (h : TypedPlace → A) (s : Scope) (d : Option Declared) (at whole : Pos) → NameTyped s d → Decided (option_map h (declared_place s d)) (IsFault (left_fault false d at whole))
+name_decided h s None at whole typed = (fault Unknown at, refl)
+name_decided h s (Some (declared.Variable site t)) at whole typed = λ f k. k
+name_decided h s (Some (declared.Constant k)) at whole typed = constant_decided h (known s k.0) (fault NotAssignable whole)
+name_decided h s (Some (declared.Global k g)) at whole typed = known_decided h g.0 (known s k.0) (typed (declared.Global k g) refl)
+name_decided h s (Some declared.Untyped) at whole typed = absurd (typed declared.Untyped refl)
+name_decided h s (Some declared.TypeName) at whole typed = (fault Unfit at, refl)
+name_decided h s (Some (declared.«Type» t)) at whole typed = (fault Unfit at, refl)
+name_decided h s (Some declared.LeftOutType) at whole typed = (fault OutOfProfile at, refl)
+name_decided h s (Some declared.LeftOutValue) at whole typed = (fault OutOfProfile at, refl)
+name_decided h s (Some other) at whole typed = (fault NotAssignable whole, refl)
+
+left_decided : (s : Scope) (is_blank : Bool) (d : Option Declared) (at whole : Pos) → NameTyped s d → Decided (left_of is_blank (declared_place s d)) (IsFault (left_fault is_blank d at whole))
 left_decided s true d at whole typed = λ f h. h
-left_decided s false None at whole typed = (fault Unknown at, refl)
-left_decided s false (Some (declared.Variable site t)) at whole typed = λ f h. h
-left_decided s false (Some (declared.Global k g)) at whole typed = known_decided (λ v. to v.place) g.0 (known s k.0) (typed (declared.Global k g) refl)
-left_decided s false (Some declared.Untyped) at whole typed = absurd (typed declared.Untyped refl)
-left_decided s false (Some declared.TypeName) at whole typed = (fault Unfit at, refl)
-left_decided s false (Some (declared.«Type» t)) at whole typed = (fault Unfit at, refl)
-left_decided s false (Some declared.LeftOutType) at whole typed = (fault OutOfProfile at, refl)
-left_decided s false (Some declared.LeftOutValue) at whole typed = (fault OutOfProfile at, refl)
-left_decided s false (Some other) at whole typed = (fault NotAssignable whole, refl)
+left_decided s false d at whole typed = name_decided (λ x. to x.place) s d at whole typed
 
-own_decided : (s : Scope) (is_blank : Bool) (d : Option Declared) (at whole : Pos) → NameTyped s d → Decided (cond is_blank None (variable_value (variable_of s d))) (IsFault (own_fault is_blank d at whole))
+own_decided : (s : Scope) (is_blank : Bool) (d : Option Declared) (at whole : Pos) → NameTyped s d → Decided (cond is_blank None (place_value (declared_place s d))) (IsFault (own_fault is_blank d at whole))
 own_decided s true d at whole typed = (fault Unknown at, refl)
-own_decided s false None at whole typed = (fault Unknown at, refl)
-own_decided s false (Some (declared.Variable site t)) at whole typed = λ f h. h
-own_decided s false (Some (declared.Global k g)) at whole typed = known_decided (λ v. value v.value_type (read v.place)) g.0 (known s k.0) (typed (declared.Global k g) refl)
-own_decided s false (Some declared.Untyped) at whole typed = absurd (typed declared.Untyped refl)
-own_decided s false (Some declared.TypeName) at whole typed = (fault Unfit at, refl)
-own_decided s false (Some (declared.«Type» t)) at whole typed = (fault Unfit at, refl)
-own_decided s false (Some declared.LeftOutType) at whole typed = (fault OutOfProfile at, refl)
-own_decided s false (Some declared.LeftOutValue) at whole typed = (fault OutOfProfile at, refl)
-own_decided s false (Some other) at whole typed = (fault NotAssignable whole, refl)
+own_decided s false d at whole typed = name_decided (λ x. value x.value_type (read x.place)) s d at whole typed
 
-new_left_decided : (s : Scope) (is_blank is_here : Bool) (d : Option Declared) (site : ℕ) (at : Pos) → NameTyped s d → Decided (new_left_of is_blank is_here (variable_of s d) site) (IsFault (new_name_fault is_blank is_here d at))
+new_left_decided : (s : Scope) (is_blank is_here : Bool) (d : Option Declared) (site : ℕ) (at : Pos) → NameTyped s d → Decided (new_left_of is_blank is_here (declared_place s d) site) (IsFault (new_name_fault is_blank is_here d at))
 new_left_decided s true is_here d site at typed = λ f h. h
 new_left_decided s false true d site at typed = left_decided s false d at at typed
 new_left_decided s false false d site at typed = λ f h. h
+
+-- an expression whose place is asked for
+place_decided : {A : Type 0} (h : TypedPlace → A) (o : Option Operand) (P : Fault → Type 0) (at : Pos) → Decided o P → Decided (option_map h (option_and_then place_of o)) (λ f. P f ⊎ IsFault (place_fault o at) f)
+place_decided h None P at d = (d.0, inl d.1)
+place_decided h (Some x) P at d = by (place_of x)
+  where
+    by : (q : Option TypedPlace) → Decided (option_map h q) (λ f. P f ⊎ IsFault (fault_where (not (is_some q)) (fault NotAssignable at)) f)
+    by None = (fault NotAssignable at, inr refl)
+    by (Some q) = λ f k. elim k [ inl u ↦ d f u | inr u ↦ u ]
 
 -- ---- what statements are made of
 
@@ -147,9 +164,9 @@ return_decided at r (o ∷ os) P d = mapped return_stmt (taken r.wanted (o ∷ o
 abbrev pub IsRead : Operand → Type 0
 IsRead x = (t : ValueType) × (q : Pl) × (x ≡ value t (read q))
 
-variable_read : (v : Option Variable) (x : Operand) → variable_value v ≡ Some x → IsRead x
-variable_read None x is = absurd (none_some is)
-variable_read (Some v) x is = (v.value_type, v.place, sym (same_some is))
+place_read : (v : Option TypedPlace) (x : Operand) → place_value v ≡ Some x → IsRead x
+place_read None x is = absurd (none_some is)
+place_read (Some v) x is = (v.value_type, v.place, sym (same_some is))
 
 -- what an operator gives of a variable and an operand has the form of an operator on two
 abbrev pub UpdatedAs : Pos → TypedOp → ValueType → Pl → Operand → Operand → Type 0
@@ -210,46 +227,53 @@ step_decided op_at typed_op (Some x) at P reads d =
     by t q = (fault Unfit at, inr refl)
 
 module _ (text : List ℕ) where
-  value_decided : (s : Scope) (e : TreeEx) (o : Option Gives) → Decided o (Fails text s e) → (f : Fault) × (Fails text s e f ⊎ IsFault (value_left_fault o (first_pos e)) f)
-  value_decided s e None d = (d.0, inl d.1)
-  value_decided s e (Some (one x)) d = (fault NotAssignable (first_pos e), inr refl)
-  value_decided s e (Some (called at [] g es)) d = (_, inr refl)
-  value_decided s e (Some (called at (t ∷ []) g es)) d = (fault NotAssignable (first_pos e), inr refl)
-  value_decided s e (Some (called at (t ∷ u ∷ ts) g es)) d = (_, inr refl)
-  value_decided s e (Some (asking at)) d = (_, inr refl)
-  value_decided s e (Some (quoted at bytes)) d = (_, inr refl)
-  value_decided s e (Some (printed at line ps)) d = (_, inr refl)
-  value_decided s e (Some (panicked at p)) d = (_, inr refl)
-  value_decided s e (Some (exited at x)) d = (_, inr refl)
-
-  side_decided : (s : Scope) (settled : IsSettled s) (o : Option Name) (e : TreeEx) → Decided (left text s o) (LeftSideFails text s o e)
-  side_decided s settled None e = value_decided s e (gives text s e) (gives_decided text s settled e)
-  side_decided s settled (Some n) e =
-      left_decided s (is_blank (spelled text n)) (declaration s (spelled text n)) n.pos (first_pos e) (λ x is. declared_typed s settled (spelled text n) x is)
-
-  own_side_decided : (s : Scope) (settled : IsSettled s) (o : Option Name) (e : TreeEx) → Decided (own_value text s o) (OwnSideFails text s o e)
-  own_side_decided s settled None e = value_decided s e (gives text s e) (gives_decided text s settled e)
-  own_side_decided s settled (Some n) e =
-      own_decided s (is_blank (spelled text n)) (declaration s (spelled text n)) n.pos (first_pos e) (λ x is. declared_typed s settled (spelled text n) x is)
-
-  pub own_read : (s : Scope) (o : Option Name) (x : Operand) → own_value text s o ≡ Some x → IsRead x
-  own_read s None x is = absurd (none_some is)
-  own_read s (Some n) x is = by (is_blank (spelled text n)) is
+  -- the place that a name is, in parentheses or not, is the one that it stands for
+  pub named_place : (s : Scope) (e : TreeEx) (n : Name) → name_in e ≡ Some n → place_in text s e ≡ declared_place s (declaration s (spelled text n))
+  named_place s (expressions.name m) n is =
+      ap (option_and_then place_of) (one_in (name_operand s (declaration s (spelled text m)))) ∙ ap (λ (x : Name). declared_place s (declaration s (spelled text x))) (same_some is)
     where
-      by : (b : Bool) → cond b None (variable_value (variable_named text s n)) ≡ Some x → IsRead x
+      one_in : (o : Option Operand) → operand_in (option_map one o) ≡ o
+      one_in None = refl
+      one_in (Some x) = refl
+  named_place s (expressions.paren at e) n is = named_place s e n is
+  named_place s e n is = absurd (none_some is)
+
+  side_decided : (s : Scope) (settled : IsSettled s) (e : TreeEx) → Decided (left text s e) (LeftSideFails text s (name_in e) e)
+  side_decided s settled e = by (name_in e) refl
+    where
+      by : (o : Option Name) → name_in e ≡ o → Decided (left_of (is_blank_name text o) (place_in text s e)) (LeftSideFails text s o e)
+      by None is = place_decided (λ x. to x.place) (operand_in (gives text s e)) (FailsAsOperand text s e) (first_pos e) (operand_decided (gives text s e) (Fails text s e) (gives_decided text s settled e))
+      by (Some n) is =
+          subst (λ (q : Option TypedPlace). Decided (left_of (is_blank (spelled text n)) q) (LeftSideFails text s (Some n) e)) (sym (named_place s e n is))
+          (left_decided s (is_blank (spelled text n)) (declaration s (spelled text n)) n.pos (first_pos e) (λ x x_is. declared_typed s settled (spelled text n) x x_is))
+
+  own_side_decided : (s : Scope) (settled : IsSettled s) (e : TreeEx) → Decided (own_value text s e) (OwnSideFails text s (name_in e) e)
+  own_side_decided s settled e = by (name_in e) refl
+    where
+      by : (o : Option Name) → name_in e ≡ o → Decided (cond (is_blank_name text o) None (place_value (place_in text s e))) (OwnSideFails text s o e)
+      by None is =
+          place_decided (λ x. value x.value_type (read x.place)) (operand_in (gives text s e)) (FailsAsOperand text s e) (first_pos e) (operand_decided (gives text s e) (Fails text s e) (gives_decided text s settled e))
+      by (Some n) is =
+          subst (λ (q : Option TypedPlace). Decided (cond (is_blank (spelled text n)) None (place_value q)) (OwnSideFails text s (Some n) e)) (sym (named_place s e n is))
+          (own_decided s (is_blank (spelled text n)) (declaration s (spelled text n)) n.pos (first_pos e) (λ x x_is. declared_typed s settled (spelled text n) x x_is))
+
+  pub own_read : (s : Scope) (e : TreeEx) (x : Operand) → own_value text s e ≡ Some x → IsRead x
+  own_read s e x is = by (is_blank_name text (name_in e)) is
+    where
+      by : (b : Bool) → cond b None (place_value (place_in text s e)) ≡ Some x → IsRead x
       by true is1 = absurd (none_some is1)
-      by false is1 = variable_read (variable_named text s n) x is1
+      by false is1 = place_read (place_in text s e) x is1
 
   own_sides_tested : (s : Scope) (settled : IsSettled s) (ls : TreeExs) → Tested (have_values text s ls) (OwnSidesFail text s ls)
   own_sides_tested s settled expressions.none = λ f h. h
   own_sides_tested s settled (some e es) =
-      both_tested (OwnSideFails text s (name_in e) e) (OwnSidesFail text s es) (is_some (own_value text s (name_in e))) (have_values text s es)
-      (some_tested (own_value text s (name_in e)) (OwnSideFails text s (name_in e) e) (own_side_decided s settled (name_in e) e)) (own_sides_tested s settled es)
+      both_tested (OwnSideFails text s (name_in e) e) (OwnSidesFail text s es) (is_some (own_value text s e)) (have_values text s es)
+      (some_tested (own_value text s e) (OwnSideFails text s (name_in e) e) (own_side_decided s settled e)) (own_sides_tested s settled es)
 
   pub lefts_decided : (s : Scope) (settled : IsSettled s) (ls : TreeExs) → Decided (lefts text s ls) (LeftsFail text s ls)
   lefts_decided s settled expressions.none = λ f h. h
   lefts_decided s settled (some e es) =
-      after (left text s (name_in e)) (λ l. option_map (λ ls. l ∷ ls) (lefts text s es)) (LeftSideFails text s (name_in e) e) (LeftsFail text s es) (side_decided s settled (name_in e) e)
+      after (left text s e) (λ l. option_map (λ ls. l ∷ ls) (lefts text s es)) (LeftSideFails text s (name_in e) e) (LeftsFail text s es) (side_decided s settled e)
       (λ l is. mapped (λ ls. l ∷ ls) (lefts text s es) (LeftsFail text s es) (lefts_decided s settled es))
 
   new_lefts_decided : (s : Scope) (settled : IsSettled s) (site : ℕ) (ns : List Name) → Decided (new_lefts text s site ns) (NewNamesFail text s ns)
@@ -258,7 +282,8 @@ module _ (text : List ℕ) where
       let bytes = spelled text n in
       let behind1 = cond (declares s bytes) (1 + site) site in
       after (new_left text s site n) (λ l. option_map (λ ls. l ∷ ls) (new_lefts text s behind1 ns)) (IsFault (new_name_fault (is_blank bytes) (is_here s bytes) (declaration s bytes) n.pos)) (NewNamesFail text s ns)
-      (new_left_decided s (is_blank bytes) (is_here s bytes) (declaration s bytes) site n.pos (λ x is. declared_typed s settled bytes x is))
+      (subst (λ (q : Option TypedPlace). Decided (new_left_of (is_blank bytes) (is_here s bytes) q site) (IsFault (new_name_fault (is_blank bytes) (is_here s bytes) (declaration s bytes) n.pos))) (sym (named_place s (expressions.name n) n refl))
+      (new_left_decided s (is_blank bytes) (is_here s bytes) (declaration s bytes) site n.pos (λ x is. declared_typed s settled bytes x is)))
       (λ l is. mapped (λ ls. l ∷ ls) (new_lefts text s behind1 ns) (NewNamesFail text s ns) (new_lefts_decided s settled behind1 ns))
 
   pub distinct_tested : (names : Blocks) (ns : List Name) → Tested (are_distinct text names ns) (TwiceFails text names ns)
@@ -284,15 +309,15 @@ module _ (text : List ℕ) where
 
   update_one_decided : (s : Scope) (at : Pos) (tree_op : ArithmeticOp) (e v : TreeEx) → IsSettled s
       → Decided (update_one text s at tree_op e v)
-      (λ f. (OwnSideFails text s (name_in e) e f ⊎ FailsAsOperand text s v f) ⊎ IsFault (pair_fault (first_pos e) (first_pos v) (Arithmetic tree_op) (own_value text s (name_in e)) (operand_in (gives text s v))) f)
+      (λ f. (OwnSideFails text s (name_in e) e f ⊎ FailsAsOperand text s v f) ⊎ IsFault (pair_fault (first_pos e) (first_pos v) (Arithmetic tree_op) (own_value text s e) (operand_in (gives text s v))) f)
   update_one_decided s at tree_op e v settled =
-      let a = own_value text s (name_in e) in
+      let a = own_value text s e in
       let b = operand_in (gives text s v) in
       let k = combined at (Arithmetic tree_op) in
       passed (both k a b) updated _
-      (pair_decided at (first_pos e) (first_pos v) (Arithmetic tree_op) a b (OwnSideFails text s (name_in e) e) (FailsAsOperand text s v) (own_side_decided s settled (name_in e) e)
+      (pair_decided at (first_pos e) (first_pos v) (Arithmetic tree_op) a b (OwnSideFails text s (name_in e) e) (FailsAsOperand text s v) (own_side_decided s settled e)
       (operand_decided (gives text s v) (Fails text s v) (gives_decided text s settled v)))
-      (λ z is. update_passes at tree_op a b z (λ x x_is. own_read s (name_in e) x x_is) is)
+      (λ z is. update_passes at tree_op a b z (λ x x_is. own_read s e x x_is) is)
 
   refused_update : (s : Scope) (ls : TreeExs) (own : Fault) (es : TreeExs) → IsSettled s
       → (f : Fault) × (((OwnSidesFail text s ls f ⊎ FailsInEach text s es f) ⊎ ValuesFail (many (seen text s es)) (seen text s es) f) ⊎ IsFault (refused_fault (given_count (have_values text s ls) (seen text s es)) own) f)
@@ -313,7 +338,7 @@ module _ (text : List ℕ) where
 
   step_statement_decided : (s : Scope) (op_at : Pos) (typed_op : TypedOp) (e : TreeEx) → IsSettled s → Decided (step_statement text s op_at typed_op e) (FailsInStep text s e)
   step_statement_decided s op_at typed_op e settled =
-      step_decided (position op_at) typed_op (own_value text s (name_in e)) (first_pos e) (OwnSideFails text s (name_in e) e) (λ x is. own_read s (name_in e) x is) (own_side_decided s settled (name_in e) e)
+      step_decided (position op_at) typed_op (own_value text s e) (first_pos e) (OwnSideFails text s (name_in e) e) (λ x is. own_read s e x is) (own_side_decided s settled e)
 
   pub simple_decided : (s : Scope) (m : Simple) → IsSettled s → Decided (simple_statement text s m) (FailsInSimple text s m)
   simple_decided s (tree.express e) settled = use_decided (length s.strings) (gives text s e) (first_pos e) (Fails text s e) (gives_decided text s settled e)

@@ -1,7 +1,6 @@
 -- Which rules fail in a statement without statements in it, and where each is reported. A rule is looked at only where its operands have
 -- types.
 use Rattle.std.specs.Prelude.{ℕ, ◌⊎◌, Bool, true, false, not, ◌&&◌, length, List, [], ◌∷◌, Option, Some, None, is_some, option_and_then, if◌then◌else◌}
-use Rattle.std.specs.Option.{option_or}
 use Rattle.base.specs.declared.pos.Pos.{Pos}
 use Rattle.type_faults.specs.declared.fault.Fault.{Fault}
 use Rattle.syntax.specs.declared.expression.Name.{Name}
@@ -15,7 +14,7 @@ use Rattle.syntax.specs.Statements as tree
 use Rattle.type_faults.specs.declared.fault.FaultKind.TheVariants.{Unknown, Redeclared, NothingNew, NotAssignable, WrongCount, ResultCount, NotUsedValue, Unfit, OutOfProfile}
 use Rattle.base.specs.declared.value_type.ValueType.TheVariants.{Int}
 use Rattle.type_faults.specs.Faults.{fault, IsFault}
-use Rattle.operators.specs.Operands.{Operand, is_assignable}
+use Rattle.operators.specs.Operands.{Operand, is_assignable, place_of}
 use Rattle.operators.specs.Faults.{pair_fault}
 use Rattle.names.specs.Blocks.{Blocks}
 use Rattle.names.specs.declared.scope.Declared.{Declared}
@@ -25,7 +24,7 @@ use Rattle.names.specs.Scope.{Scope, declaration, is_here}
 use Rattle.names.specs.Naming.{name_in}
 use Rattle.names.specs.Faults.{FailsAsType}
 use Rattle.expression_types.specs.Typing.{Gives, one, called, asking, quoted, printed, panicked, exited, operand_in, Seen, many, count, gives, seen}
-use Rattle.expression_types.specs.Faults.{refused_fault, single_fault, ValuesFail, PlacedFail, CountFails, TakeFails, Fails, FailsInEach, FailsAsOperand}
+use Rattle.expression_types.specs.Faults.{refused_fault, ValuesFail, PlacedFail, CountFails, TakeFails, Fails, FailsInEach, FailsAsOperand}
 use Rattle.signatures.specs.declared.entries.Role.TheVariants.{Parameter}
 use Rattle.signatures.specs.EntryFaults.{EntriesFail}
 use Rattle.signatures.specs.Failing.{fault_where}
@@ -57,10 +56,10 @@ abbrev pub own_fault : (is_blank : Bool) → Option Declared → Pos → Pos →
 own_fault true d pos whole = Some (fault Unknown pos)
 own_fault false d pos whole = left_fault false d pos whole
 
--- any other left side that gives something: what is not one value has the fault of that alone
-abbrev pub value_left_fault : Option Gives → Pos → Option Fault
-value_left_fault None pos = None
-value_left_fault (Some g) pos = option_or (single_fault (Some g)) (Some (fault NotAssignable pos))
+-- what is no place can't be given a value
+abbrev pub place_fault : Option Operand → Pos → Option Fault
+place_fault None pos = None
+place_fault (Some x) pos = fault_where (not (is_some (place_of x))) (fault NotAssignable pos)
 
 -- where a statement with names begins, and one with expressions on its left
 abbrev pub names_place : List Name → Pos → Pos
@@ -102,7 +101,7 @@ module _ (text : List ℕ) where
   -- a left side of `=`: a name, in parentheses or not, or an expression with its own rules
   abbrev pub LeftSideFails : Scope → Option Name → TreeEx → Fault → Type 0
   LeftSideFails s (Some n) e f = IsFault (left_fault (is_blank (spelled text n)) (declaration s (spelled text n)) n.pos (first_pos e)) f
-  LeftSideFails s None e f = Fails text s e f ⊎ IsFault (value_left_fault (gives text s e) (first_pos e)) f
+  LeftSideFails s None e f = FailsAsOperand text s e f ⊎ IsFault (place_fault (operand_in (gives text s e)) (first_pos e)) f
 
   abbrev pub LeftsFail : Scope → TreeExs → Fault → Type 0
   LeftsFail s expressions.none f = ⊥
@@ -111,7 +110,7 @@ module _ (text : List ℕ) where
   -- the same where its value is asked for
   abbrev pub OwnSideFails : Scope → Option Name → TreeEx → Fault → Type 0
   OwnSideFails s (Some n) e f = IsFault (own_fault (is_blank (spelled text n)) (declaration s (spelled text n)) n.pos (first_pos e)) f
-  OwnSideFails s None e f = Fails text s e f ⊎ IsFault (value_left_fault (gives text s e) (first_pos e)) f
+  OwnSideFails s None e f = LeftSideFails s None e f
 
   abbrev pub OwnSidesFail : Scope → TreeExs → Fault → Type 0
   OwnSidesFail s expressions.none f = ⊥
@@ -144,13 +143,13 @@ module _ (text : List ℕ) where
   -- how many values there are, where each left side has one of its own
   abbrev pub have_values : Scope → TreeExs → Bool
   have_values s expressions.none = true
-  have_values s (some e es) = is_some (own_value text s (name_in e)) && have_values s es
+  have_values s (some e es) = is_some (own_value text s e) && have_values s es
 
   -- the operator between one left side and one value; with another number of them, the statement is at fault
   abbrev pub UpdateFails : Scope → TreeExs → Pos → ArithmeticOp → TreeExs → Option TreeEx → Option TreeEx → Fault → Type 0
   UpdateFails s ls pos tree_op es (Some e) (Some v) f =
       (OwnSideFails s (name_in e) e f ⊎ FailsAsOperand text s v f)
-      ⊎ IsFault (pair_fault (first_pos e) (first_pos v) (Arithmetic tree_op) (own_value text s (name_in e)) (operand_in (gives text s v))) f
+      ⊎ IsFault (pair_fault (first_pos e) (first_pos v) (Arithmetic tree_op) (own_value text s e) (operand_in (gives text s v))) f
   UpdateFails s ls pos tree_op es e v f =
       ((OwnSidesFail s ls f ⊎ FailsInEach text s es f) ⊎ ValuesFail (many (seen text s es)) (seen text s es) f)
       ⊎ IsFault (refused_fault (given_count (have_values s ls) (seen text s es)) (fault WrongCount (lefts_place ls pos))) f
@@ -159,7 +158,7 @@ module _ (text : List ℕ) where
   FailsInUpdate s ls pos tree_op es f = UpdateFails s ls pos tree_op es (only ls) (only es) f
 
   abbrev pub FailsInStep : Scope → TreeEx → Fault → Type 0
-  FailsInStep s e f = OwnSideFails s (name_in e) e f ⊎ IsFault (step_fault (own_value text s (name_in e)) (first_pos e)) f
+  FailsInStep s e f = OwnSideFails s (name_in e) e f ⊎ IsFault (step_fault (own_value text s e) (first_pos e)) f
 
   abbrev pub FailsInSimple : Scope → Simple → Fault → Type 0
   FailsInSimple s (tree.express e) f = Fails text s e f ⊎ IsFault (use_fault (gives text s e) (first_pos e)) f

@@ -7,35 +7,29 @@ use Rattle.base.specs.declared.pos.Pos.{Pos}
 use Rattle.syntax.specs.declared.expression.Name.{Name}
 use Rattle.syntax.specs.declared.operator.ArithmeticOp.{ArithmeticOp}
 use Rattle.syntax.specs.declared.operator.BinOp.TheVariants.{Arithmetic}
-use Rattle.syntax.specs.FirstBytes.{first_pos}
 use Rattle.syntax.specs.Expressions.{Ex as TreeEx, Exs as TreeExs, some, spelled}
 use Rattle.syntax.specs.Expressions as expressions
 use Rattle.syntax.specs.Statements.{Simple, ValueSpec}
 use Rattle.syntax.specs.Statements as tree
 use Rattle.typed_syntax.specs.declared.operators.BinOp.{BinOp as TypedOp}
 use Rattle.typed_syntax.specs.declared.operators.BinOp.TheVariants as op
-use Rattle.typed.specs.View.{place_of}
 use Rattle.typed.specs.Positions.{position}
 use Rattle.typed_syntax.specs.Positions.{Position}
-use Rattle.typed_syntax.specs.Syntax.{Exs, Left, Piece, Pl, St, Sts, text as string_number, shown, binary, read, local, global, here, none, results, read_int, blank, new, to, declare, assign, update, bump, discard, return_stmt, print, panic, exit, done, next}
+use Rattle.typed_syntax.specs.Syntax.{Exs, Left, Piece, St, Sts, text as string_number, shown, binary, read, none, results, read_int, blank, new, to, declare, assign, update, bump, discard, return_stmt, print, panic, exit, done, next}
 use Rattle.base.specs.declared.value_type.ValueType.TheVariants.{Int}
 use Rattle.type_faults.specs.Given.{allowed, both}
-use Rattle.operators.specs.Operands.{Operand, value}
+use Rattle.operators.specs.Operands.{Operand, value, TypedPlace, place_of}
 use Rattle.operators.specs.Operators.{combined}
 use Rattle.names.specs.Blocks.{Blocks, innermost, insert}
-use Rattle.names.specs.declared.scope.Declared.{Declared}
-use Rattle.names.specs.declared.scope.Declared.TheVariants as declared
 use Rattle.names.specs.Universe.{is_blank}
-use Rattle.names.specs.declared.scope.Known.{Known}
-use Rattle.names.specs.Scope.{Scope, declaration, is_here, known, with_variable, with_strings}
+use Rattle.names.specs.Scope.{Scope, is_here, with_variable, with_strings}
 use Rattle.names.specs.Naming.{name_in}
 use Rattle.names.specs.Types.{type_in}
-use Rattle.expression_types.specs.Typing.{known_type, Part, said, valued, Gives, one, called, asking, quoted, printed, panicked, exited, operand_in, Seen, value_types, taken, gives, seen}
+use Rattle.expression_types.specs.Typing.{Part, said, valued, Gives, one, called, asking, quoted, printed, panicked, exited, operand_in, Seen, value_types, taken, gives, seen}
 use Rattle.signatures.specs.declared.slots.Slot.{Slot}
 use Rattle.signatures.specs.declared.entries.Role.TheVariants.{Parameter}
 use Rattle.signatures.specs.Entries.{sites_of, entry_left, slot_with, slots_each, entries, behind_entries}
 use Rattle.simple_statements.specs.declared.statements.Returns.{Returns as ReturnsData}
-use Rattle.simple_statements.specs.declared.declaring.Variable.{Variable as VariableData}
 
 -- what a function gives back: the types of its values, where they are known, and whether a `return` may have none
 pub record Returns : Type 0 where
@@ -53,46 +47,29 @@ only (some e (some g es)) = None
 
 -- ---- left sides
 
--- a variable with a type, and its place
-pub record Variable : Type 0 where
-  pub value_type : ValueType
-  pub place : Pl
+-- a place as a left side, the type that it asks for, and its value
+abbrev pub target : Option TypedPlace → Option Left
+target p = option_map (λ x. to x.place) p
 
-abbrev pub variable_view : VariableData → Variable
-variable_view v = record { value_type = v.value_type; place = place_of v.place }
+abbrev pub place_type : Option TypedPlace → Option ValueType
+place_type p = option_map (λ x. x.value_type) p
 
-abbrev pub global_variable : ℕ → Known → Variable
-global_variable g k = record { value_type = known_type k; place = global g here }
-
--- the variable that a name stands for, where its type is known
-abbrev pub variable_of : Scope → Option Declared → Option Variable
-variable_of s (Some (declared.Variable site t)) = Some (record { value_type = t; place = local site.0 here })
-variable_of s (Some (declared.Global k g)) = option_map (global_variable g.0) (known s k.0)
-variable_of s other = None
-
--- it as a left side, the type that it asks for, and its value
-abbrev pub target : Option Variable → Option Left
-target v = option_map (λ x. to x.place) v
-
-abbrev pub variable_type : Option Variable → Option ValueType
-variable_type v = option_map (λ x. x.value_type) v
-
-abbrev pub variable_value : Option Variable → Option Operand
-variable_value v = option_map (λ x. value x.value_type (read x.place)) v
+abbrev pub place_value : Option TypedPlace → Option Operand
+place_value p = option_map (λ x. value x.value_type (read x.place)) p
 
 -- a left side of `=`, and the type that it asks for
-abbrev pub left_of : (is_blank : Bool) → Option Variable → Option Left
-left_of is_blank v = if is_blank then Some blank else target v
+abbrev pub left_of : (is_blank : Bool) → Option TypedPlace → Option Left
+left_of is_blank p = if is_blank then Some blank else target p
 
-abbrev pub wanted_of : (is_blank : Bool) → Option Variable → Option ValueType
-wanted_of is_blank v = if is_blank then None else variable_type v
+abbrev pub wanted_of : (is_blank : Bool) → Option TypedPlace → Option ValueType
+wanted_of is_blank p = if is_blank then None else place_type p
 
 -- a left side of `:=`: a variable that the block has, or a new one with the next site
-abbrev pub new_left_of : (is_blank is_here : Bool) → Option Variable → ℕ → Option Left
-new_left_of is_blank is_here v site = if is_blank then Some blank else (if is_here then target v else Some (new site))
+abbrev pub new_left_of : (is_blank is_here : Bool) → Option TypedPlace → ℕ → Option Left
+new_left_of is_blank is_here p site = if is_blank then Some blank else (if is_here then target p else Some (new site))
 
-abbrev pub new_wanted_of : (is_blank is_here : Bool) → Option Variable → Option ValueType
-new_wanted_of is_blank is_here v = if is_here then wanted_of is_blank v else None
+abbrev pub new_wanted_of : (is_blank is_here : Bool) → Option TypedPlace → Option ValueType
+new_wanted_of is_blank is_here p = if is_here then wanted_of is_blank p else None
 
 -- whether a `:=` declares the name
 abbrev pub declares : Scope → List ℕ → Bool
@@ -177,26 +154,30 @@ is_bare (Some e) expressions.none = true
 is_bare (Some e) (some x xs) = false
 
 module _ (text : List ℕ) where
-  abbrev pub variable_named : Scope → Name → Option Variable
-  variable_named s n = variable_of s (declaration s (spelled text n))
+  -- the place whose value an expression gives
+  abbrev pub place_in : Scope → TreeEx → Option TypedPlace
+  place_in s e = option_and_then place_of (operand_in (gives text s e))
 
-  -- a left side of `=`: a name, in parentheses or not; any other expression is none
-  abbrev pub left : Scope → Option Name → Option Left
-  left s None = None
-  left s (Some n) = left_of (is_blank (spelled text n)) (variable_named s n)
+  -- whether an expression is the blank name, in parentheses or not
+  abbrev pub is_blank_name : Option Name → Bool
+  is_blank_name None = false
+  is_blank_name (Some n) = is_blank (spelled text n)
 
-  abbrev pub wanted : Scope → Option Name → Option ValueType
-  wanted s None = None
-  wanted s (Some n) = wanted_of (is_blank (spelled text n)) (variable_named s n)
+  -- a left side of `=`: the blank name, or what is a place
+  abbrev pub left : Scope → TreeEx → Option Left
+  left s e = left_of (is_blank_name (name_in e)) (place_in s e)
 
-  -- the left sides of `=`, where each is a variable with a type or blank, and the types that they ask for
+  abbrev pub wanted : Scope → TreeEx → Option ValueType
+  wanted s e = wanted_of (is_blank_name (name_in e)) (place_in s e)
+
+  -- the left sides of `=`, where each is a place with a type or blank, and the types that they ask for
   abbrev pub lefts : Scope → TreeExs → Option (List Left)
   lefts s expressions.none = Some []
-  lefts s (some e es) = option_and_then (λ l. option_map (λ ls. l ∷ ls) (lefts s es)) (left s (name_in e))
+  lefts s (some e es) = option_and_then (λ l. option_map (λ ls. l ∷ ls) (lefts s es)) (left s e)
 
   abbrev pub all_wanted : Scope → TreeExs → List (Option ValueType)
   all_wanted s expressions.none = []
-  all_wanted s (some e es) = wanted s (name_in e) ∷ all_wanted s es
+  all_wanted s (some e es) = wanted s e ∷ all_wanted s es
 
   -- the names that a `:=` declares, where it begins
   abbrev pub slot_declares : Scope → Option Name → Bool
@@ -208,10 +189,10 @@ module _ (text : List ℕ) where
   new_slots s (v ∷ vs) = if slot_declares s v.name then v ∷ new_slots s vs else new_slots s vs
 
   abbrev pub new_left : Scope → ℕ → Name → Option Left
-  new_left s site n = new_left_of (is_blank (spelled text n)) (is_here s (spelled text n)) (variable_named s n) site
+  new_left s site n = new_left_of (is_blank (spelled text n)) (is_here s (spelled text n)) (place_in s (expressions.name n)) site
 
   abbrev pub new_wanted : Scope → Name → Option ValueType
-  new_wanted s n = new_wanted_of (is_blank (spelled text n)) (is_here s (spelled text n)) (variable_named s n)
+  new_wanted s n = new_wanted_of (is_blank (spelled text n)) (is_here s (spelled text n)) (place_in s (expressions.name n))
 
   -- its left sides, the new ones of which have sites from one on, and the types that they ask for
   abbrev pub new_lefts : Scope → ℕ → List Name → Option (List Left)
@@ -243,10 +224,9 @@ module _ (text : List ℕ) where
   abbrev pub may_define : Scope → List Name → Bool
   may_define s ns = are_distinct ([] ∷ []) ns && not (has_all s ns)
 
-  -- the value of a variable that is given another one of its own
-  abbrev pub own_value : Scope → Option Name → Option Operand
-  own_value s None = None
-  own_value s (Some n) = if is_blank (spelled text n) then None else variable_value (variable_named s n)
+  -- the value of a left side that is given another one of its own; the blank name has none
+  abbrev pub own_value : Scope → TreeEx → Option Operand
+  own_value s e = if is_blank_name (name_in e) then None else place_value (place_in s e)
 
   -- ---- simple statements
 
@@ -262,13 +242,13 @@ module _ (text : List ℕ) where
   behind_simple s (tree.decrement e pos) = s
 
   abbrev pub update_one : Scope → Pos → ArithmeticOp → TreeEx → TreeEx → Option St
-  update_one s pos tree_op e v = option_and_then updated (both (combined pos (Arithmetic tree_op)) (own_value s (name_in e)) (operand_in (gives text s v)))
+  update_one s pos tree_op e v = option_and_then updated (both (combined pos (Arithmetic tree_op)) (own_value s e) (operand_in (gives text s v)))
 
   abbrev pub update_statement : Scope → Pos → ArithmeticOp → Option TreeEx → Option TreeEx → Option St
   update_statement s pos tree_op e v = option_and_then (λ x. option_and_then (update_one s pos tree_op x) v) e
 
   abbrev pub step_statement : Scope → Pos → TypedOp → TreeEx → Option St
-  step_statement s pos typed_op e = option_and_then (stepped (position pos) typed_op) (own_value s (name_in e))
+  step_statement s pos typed_op e = option_and_then (stepped (position pos) typed_op) (own_value s e)
 
   abbrev pub simple_statement : Scope → Simple → Option St
   simple_statement s (tree.express e) = option_and_then (expressed (length s.strings)) (gives text s e)

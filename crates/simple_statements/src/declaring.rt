@@ -1,35 +1,33 @@
-//! Names on the left of `=` and `:=`.
+//! Names on the left of `:=`.
 
 ghost use Rattle.std.specs.Prelude.{◌≡◌, Option, Some, None, IfOk, OnOk, List, map, length, is_some, [], ◌∷◌, not, ◌&&◌, ◌||◌, ◌⊎◌, ◌+◌, ◌++◌, if◌then◌else◌};
 ghost use Rattle.std.specs.Option.{option_map};
-ghost use Rattle.syntax.specs.Expressions.{spelled, ex_of as tree_of, exs_of as trees_of};
-ghost use Rattle.syntax.specs.FirstBytes.{first_pos};
+ghost use Rattle.syntax.specs.Expressions.{spelled, name as name_of};
 ghost use Rattle.typed.specs.View.{left_of as left_view};
 ghost use Rattle.type_faults.specs.Least.{IsLeast};
 ghost use Rattle.type_faults.specs.Faults.{fault as fault_at, IsFault};
 ghost use Rattle.type_faults.specs.declared.fault.FaultKind.TheVariants.{NothingNew};
 ghost use Rattle.names.specs.Universe.{is_blank};
 ghost use Rattle.names.specs.Scope.{scope_of, declaration, is_here};
-ghost use Rattle.names.specs.Naming.{name_in};
-ghost use Rattle.expression_types.specs.Typing.{gives};
-ghost use Rattle.type_faults.specs.Given.{with_last};
-ghost use Rattle.expression_types.specs.Passing.{gives_of};
-ghost use Rattle.simple_statements.specs.SimpleStatements.{variable_view, variable_of, variable_named, target, variable_type, left_of, wanted_of, new_left_of, new_wanted_of, declares, slot_declares, left, wanted, new_left, new_wanted, noted, is_noted, lefts, all_wanted, new_lefts, all_new_wanted, new_slots, with_slot, with_variables, has_all, may_define};
+ghost use Rattle.operators.specs.Passing.{typed_place_of};
+ghost use Rattle.simple_statements.specs.SimpleStatements.{place_in, new_left_of, new_wanted_of, declares, slot_declares, new_left, new_wanted, noted, is_noted, new_lefts, all_new_wanted, new_slots, with_slot, with_variables, has_all, may_define};
 ghost use Rattle.signatures.specs.Failing.{fault_where};
-ghost use Rattle.simple_statements.specs.SimpleFaults.{left_fault, new_name_fault, value_left_fault, LeftSideFails, LeftsFail, NewNamesFail, TwiceFails, names_place, lefts_place};
+ghost use Rattle.simple_statements.specs.SimpleFaults.{new_name_fault, NewNamesFail, TwiceFails, names_place};
 
+use crate::sides::{left_fault_of, target, wanted_of, with_left};
 use base::{NoMemory, Pos, SiteId, ValueType};
-use expression_types::{Gives, check_expr, known_type, single_fault};
-use names::{Blocks, Declared, Scope, is_blank, name_in, spelled};
+use expression_types::check_single;
+use names::{Blocks, Declared, Scope, is_blank, spelled};
+use operators::{TypedPlace, place_in};
 use signatures::{Slot, fault_where};
 use std::alloc::Global;
 use syntax::{Expr, Name};
 use type_faults::{Fault, FaultKind, lesser};
-use typed::{Left, Place};
+use typed::Left;
 
-/// What is known of left sides.
+/// The left sides of a `:=`, and the fault.
 #[derive(Drop)]
-pub struct Lefts {
+pub struct NewLefts {
     pub lefts: Option<Vec<Left>>,
     pub fault: Option<Fault>,
 }
@@ -41,124 +39,35 @@ pub struct Declaration {
     pub fault: Option<Fault>,
 }
 
-/// A variable with a type, and its place.
-#[derive(Drop)]
-pub struct Variable {
-    pub value_type: ValueType,
-    pub place: Place,
-}
-
-/// The variable that a name stands for, where its type is known.
-#[tactic(auto, using(typed::proofs::Rows::expr_rows))]
-fn variable_of(alloc: Global, scope: &Scope, declared: Option<Declared>) -> Option<Variable>
-    ensures { option_map variable_view result ≡ variable_of (scope_of scope.now) declared }
+/// The place that a name is.
+fn name_place(
+    alloc: Global,
+    text: &[u8],
+    scope: &Scope,
+    name: Name,
+) -> Result<Option<TypedPlace>, NoMemory>
+    ensures { IfOk result (λ p. option_map typed_place_of p ≡ place_in text.now (scope_of scope.now) (name_of name)) }
 {
-    match declared {
-        Some(Declared::Variable(site, value_type)) => Some(Variable {
-            value_type,
-            place: Place::Local(site, Vec::new(alloc)),
-        }),
-        Some(Declared::Global(number, global)) => match scope.known(number) {
-            Some(known) => Some(Variable {
-                value_type: known_type(known),
-                place: Place::Global(global.0, Vec::new(alloc)),
-            }),
-            None => None,
-        },
-        _ => None,
-    }
+    let single = check_single(alloc, text, scope, &Expr::Name(name))?;
+    Ok(place_in(single.operand))
 }
 
-pub fn variable_named(alloc: Global, text: &[u8], scope: &Scope, name: Name) -> Option<Variable>
-    ensures { option_map variable_view result ≡ variable_named text.now (scope_of scope.now) name }
-{
-    variable_of(alloc, scope, scope.declaration(spelled(text, name)))
-}
-
-/// A variable as a left side.
-fn target(variable: Option<Variable>) -> Option<Left>
-    ensures { option_map left_view result ≡ target (option_map variable_view variable) }
-{
-    match variable {
-        Some(variable) => Some(Left::To(variable.place)),
-        None => None,
-    }
-}
-
-/// The type that a variable asks for.
-fn variable_type(variable: Option<Variable>) -> Option<ValueType>
-    ensures { result ≡ variable_type (option_map variable_view variable) }
-{
-    match variable {
-        Some(variable) => Some(variable.value_type),
-        None => None,
-    }
-}
-
-fn left_of(blank: bool, variable: Option<Variable>) -> Option<Left>
-    ensures { option_map left_view result ≡ left_of blank (option_map variable_view variable) }
-{
-    if blank {
-        Some(Left::Blank)
-    } else {
-        target(variable)
-    }
-}
-
-fn wanted_of(blank: bool, variable: Option<Variable>) -> Option<ValueType>
-    ensures { result ≡ wanted_of blank (option_map variable_view variable) }
-{
-    if blank { None } else { variable_type(variable) }
-}
-
-fn new_left_of(blank: bool, here: bool, variable: Option<Variable>, site: SiteId) -> Option<Left>
-    ensures { option_map left_view result ≡ new_left_of blank here (option_map variable_view variable) site.0 }
+fn new_left_of(blank: bool, here: bool, place: Option<TypedPlace>, site: SiteId) -> Option<Left>
+    ensures { option_map left_view result ≡ new_left_of blank here (option_map typed_place_of place) site.0 }
 {
     if blank {
         Some(Left::Blank)
     } else if here {
-        target(variable)
+        target(place)
     } else {
         Some(Left::New(site))
     }
 }
 
-fn new_wanted_of(blank: bool, here: bool, variable: Option<Variable>) -> Option<ValueType>
-    ensures { result ≡ new_wanted_of blank here (option_map variable_view variable) }
+fn new_wanted_of(blank: bool, here: bool, place: &Option<TypedPlace>) -> Option<ValueType>
+    ensures { result ≡ new_wanted_of blank here (option_map typed_place_of place.now) }
 {
-    if here {
-        wanted_of(blank, variable)
-    } else {
-        None
-    }
-}
-
-fn with_left(lefts: Option<Vec<Left>>, left: Option<Left>) -> Result<Option<Vec<Left>>, NoMemory>
-    ensures { IfOk result (λ r. option_map (λ v. map left_view v.items) r ≡ with_last (option_map (λ v. map left_view v.items) lefts) (option_map left_view left)) }
-{
-    match (lefts, left) {
-        (Some(mut lefts), Some(left)) => {
-            lefts.push(left)?;
-            Ok(Some(lefts))
-        }
-        _ => Ok(None),
-    }
-}
-
-pub fn left_fault_of(blank: bool, declared: Option<Declared>, pos: Pos, whole: Pos) -> Option<Fault>
-    ensures { result ≡ left_fault blank declared pos whole }
-{
-    if blank {
-        return None;
-    }
-    let (kind, pos) = match declared {
-        None => (FaultKind::Unknown, pos),
-        Some(Declared::Variable(_, _) | Declared::Untyped | Declared::Global(_, _)) => return None,
-        Some(Declared::TypeName | Declared::Type(_)) => (FaultKind::Unfit, pos),
-        Some(Declared::LeftOutType | Declared::LeftOutValue) => (FaultKind::OutOfProfile, pos),
-        Some(_) => (FaultKind::NotAssignable, whole),
-    };
-    Some(Fault { kind, pos })
+    if here { wanted_of(blank, place) } else { None }
 }
 
 fn new_name_fault_of(blank: bool, here: bool, declared: Option<Declared>, pos: Pos) -> Option<Fault>
@@ -173,130 +82,6 @@ fn new_name_fault_of(blank: bool, here: bool, declared: Option<Declared>, pos: P
     }
 }
 
-fn name_left(alloc: Global, text: &[u8], scope: &Scope, name: Name) -> Option<Left>
-    ensures { option_map left_view result ≡ left text.now (scope_of scope.now) (Some name) }
-{
-    let bytes = spelled(text, name);
-    left_of(is_blank(bytes), variable_named(alloc, text, scope, name))
-}
-
-/// A left side of a `=`.
-fn left(alloc: Global, text: &[u8], scope: &Scope, e: &Expr) -> Option<Left>
-    ensures { option_map left_view result ≡ left text.now (scope_of scope.now) (name_in (tree_of e.now)) }
-{
-    match name_in(e) {
-        Some(name) => name_left(alloc, text, scope, name),
-        None => None,
-    }
-}
-
-fn name_wanted(alloc: Global, text: &[u8], scope: &Scope, name: Name) -> Option<ValueType>
-    ensures { result ≡ wanted text.now (scope_of scope.now) (Some name) }
-{
-    let bytes = spelled(text, name);
-    wanted_of(is_blank(bytes), variable_named(alloc, text, scope, name))
-}
-
-/// The type that a left side of a `=` asks for.
-pub fn wanted(alloc: Global, text: &[u8], scope: &Scope, e: &Expr) -> Option<ValueType>
-    ensures { result ≡ wanted text.now (scope_of scope.now) (name_in (tree_of e.now)) }
-{
-    match name_in(e) {
-        Some(name) => name_wanted(alloc, text, scope, name),
-        None => None,
-    }
-}
-
-/// The types that the left sides of a `=` ask for.
-pub fn all_wanted(
-    alloc: Global,
-    text: &[u8],
-    scope: &Scope,
-    es: &[Expr],
-) -> Result<Vec<Option<ValueType>>, NoMemory>
-    ensures { IfOk result (λ v. v.items ≡ all_wanted text.now (scope_of scope.now) (trees_of es.now)) }
-{
-    let mut types = Vec::new(alloc);
-    for e in es {
-        types.push(wanted(alloc, text, scope, e))?;
-    }
-    Ok(types)
-}
-
-/// The fault of a name as a left side, which begins at a place.
-#[tactic(auto, using(type_faults::proofs::Leasts::leaf))]
-fn name_left_fault(text: &[u8], scope: &Scope, name: Name, whole: Pos) -> Option<Fault>
-    ensures { IsLeast (IsFault (left_fault (is_blank (spelled text.now name)) (declaration (scope_of scope.now) (spelled text.now name)) name.pos whole)) result }
-{
-    let bytes = spelled(text, name);
-    left_fault_of(is_blank(bytes), scope.declaration(bytes), name.pos, whole)
-}
-
-/// The fault of a left side that is no name and gives something: what is not one value has the fault of that alone.
-fn value_left_fault(gives: &Option<Gives>, pos: Pos) -> Option<Fault>
-    ensures { result ≡ value_left_fault (option_map gives_of gives.now) pos }
-{
-    let own = Fault {
-        kind: FaultKind::NotAssignable,
-        pos,
-    };
-    match gives {
-        Some(_) => single_fault(gives).or(Some(own)),
-        None => None,
-    }
-}
-
-/// The fault of a left side that is no name.
-pub fn value_fault(
-    alloc: Global,
-    text: &[u8],
-    scope: &Scope,
-    e: &Expr,
-) -> Result<Option<Fault>, NoMemory>
-    ensures { IfOk result (λ f. IsLeast (LeftSideFails text.now (scope_of scope.now) None (tree_of e.now)) f) }
-{
-    let checked = check_expr(alloc, text, scope, e)?;
-    let own = value_left_fault(&checked.gives, checked.pos);
-    let fault = lesser(checked.fault, own);
-    drop(checked);
-    Ok(fault)
-}
-
-/// The fault of a left side.
-fn left_fault(
-    alloc: Global,
-    text: &[u8],
-    scope: &Scope,
-    e: &Expr,
-) -> Result<Option<Fault>, NoMemory>
-    ensures { IfOk result (λ f. IsLeast (LeftSideFails text.now (scope_of scope.now) (name_in (tree_of e.now)) (tree_of e.now)) f) }
-{
-    match name_in(e) {
-        Some(name) => Ok(name_left_fault(text, scope, name, e.pos())),
-        None => value_fault(alloc, text, scope, e),
-    }
-}
-
-/// The left sides of a `=`.
-pub fn check_lefts(
-    alloc: Global,
-    text: &[u8],
-    scope: &Scope,
-    es: &[Expr],
-) -> Result<Lefts, NoMemory>
-    ensures lefts { IfOk result (λ l. option_map (λ v. map left_view v.items) l.lefts ≡ lefts text.now (scope_of scope.now) (trees_of es.now)) }
-    ensures fault { IfOk result (λ l. IsLeast (LeftsFail text.now (scope_of scope.now) (trees_of es.now)) l.fault) }
-{
-    let mut lefts = Some(Vec::new(alloc));
-    let mut fault = None;
-    for e in es {
-        let own = left_fault(alloc, text, scope, e)?;
-        fault = lesser(fault, own);
-        lefts = with_left(lefts, left(alloc, text, scope, e))?;
-    }
-    Ok(Lefts { lefts, fault })
-}
-
 /// The left side that a name of a `:=` is, after `before` new ones.
 fn new_left(
     alloc: Global,
@@ -309,23 +94,21 @@ fn new_left(
 {
     let bytes = spelled(text, name);
     let site = scope.site_behind(before)?;
-    Ok(new_left_of(
-        is_blank(bytes),
-        scope.is_here(bytes),
-        variable_named(alloc, text, scope, name),
-        site,
-    ))
+    let place = name_place(alloc, text, scope, name)?;
+    Ok(new_left_of(is_blank(bytes), scope.is_here(bytes), place, site))
 }
 
-fn new_wanted(alloc: Global, text: &[u8], scope: &Scope, name: Name) -> Option<ValueType>
-    ensures { result ≡ new_wanted text.now (scope_of scope.now) name }
+fn new_wanted(
+    alloc: Global,
+    text: &[u8],
+    scope: &Scope,
+    name: Name,
+) -> Result<Option<ValueType>, NoMemory>
+    ensures { IfOk result (λ t. t ≡ new_wanted text.now (scope_of scope.now) name) }
 {
     let bytes = spelled(text, name);
-    new_wanted_of(
-        is_blank(bytes),
-        scope.is_here(bytes),
-        variable_named(alloc, text, scope, name),
-    )
+    let place = name_place(alloc, text, scope, name)?;
+    Ok(new_wanted_of(is_blank(bytes), scope.is_here(bytes), &place))
 }
 
 /// The types that the left sides of a `:=` ask for.
@@ -339,7 +122,8 @@ pub fn all_new_wanted(
 {
     let mut types = Vec::new(alloc);
     for name in names {
-        types.push(new_wanted(alloc, text, scope, *name))?;
+        let value_type = new_wanted(alloc, text, scope, *name)?;
+        types.push(value_type)?;
     }
     Ok(types)
 }
@@ -384,7 +168,7 @@ pub fn check_new_lefts(
     text: &[u8],
     scope: &Scope,
     names: &[Name],
-) -> Result<Lefts, NoMemory>
+) -> Result<NewLefts, NoMemory>
     ensures lefts { IfOk result (λ l. option_map (λ v. map left_view v.items) l.lefts ≡ new_lefts text.now (scope_of scope.now) (length (scope_of scope.now).sites) names.now) }
     ensures fault { IfOk result (λ l. IsLeast (NewNamesFail text.now (scope_of scope.now) names.now) l.fault) }
 {
@@ -397,7 +181,7 @@ pub fn check_new_lefts(
         lefts = with_left(lefts, left)?;
         count = next_count(declares(text, scope, *name), count)?;
     }
-    Ok(Lefts { lefts, fault })
+    Ok(NewLefts { lefts, fault })
 }
 
 fn slot_declares(text: &[u8], scope: &Scope, name: Option<Name>) -> bool
@@ -547,16 +331,6 @@ pub fn names_pos(names: &[Name], pos: Pos) -> Pos
 {
     match names {
         [name, ..] => name.pos,
-        [] => pos,
-    }
-}
-
-/// Where a statement with expressions on its left begins.
-pub fn lefts_pos(lefts: &[Expr], pos: Pos) -> Pos
-    ensures { result ≡ lefts_place (trees_of lefts.now) pos }
-{
-    match lefts {
-        [first, ..] => first.pos(),
         [] => pos,
     }
 }

@@ -10,10 +10,12 @@
 
 mod declaring;
 mod operands;
+mod sides;
 mod statements;
 mod updating;
 mod variables;
 
-pub use declaring::{Lefts, all_wanted, check_lefts, names_pos, wanted};
+pub use declaring::names_pos;
+pub use sides::{Lefts, check_lefts};
 pub use statements::{Line, Lines, Returns, check_return, check_simple, left_out};
 pub use variables::check_var;

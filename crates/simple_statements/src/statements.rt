@@ -18,10 +18,10 @@ ghost use Rattle.signatures.specs.Failing.{fault_where};
 ghost use Rattle.simple_statements.specs.SimpleFaults.{use_fault, ReturnFails, FailsInSimple, FailsInAssignment, FailsInDefinition, lefts_place};
 
 use crate::declaring::{
-    all_new_wanted, all_wanted, check_lefts, check_names, check_new_lefts, declare_variables,
-    lefts_pos, names_pos, new_slots,
+    all_new_wanted, check_names, check_new_lefts, declare_variables, names_pos, new_slots,
 };
 use crate::operands::{numbered, pieces};
+use crate::sides::{check_lefts, lefts_pos};
 use crate::updating::{check_step, check_update};
 use base::{NoMemory, Pos, ValueType};
 use expression_types::{
@@ -170,17 +170,16 @@ fn check_assign(
 {
     let left = check_lefts(alloc, text, scope, places)?;
     let listed = check_list(alloc, text, scope, es)?;
-    let wanted = all_wanted(alloc, text, scope, places)?;
     let own = Fault {
         kind: FaultKind::WrongCount,
         pos: lefts_pos(places, pos),
     };
     let counted = count_where(&left.lefts, &listed.items);
     let values_fault = lesser(
-        placed_fault(&wanted, &listed.items),
-        count_fault(counted, place_count(&wanted), own),
+        placed_fault(&left.wanted, &listed.items),
+        count_fault(counted, place_count(&left.wanted), own),
     );
-    let values = taken(alloc, &wanted, listed.items)?;
+    let values = taken(alloc, &left.wanted, listed.items)?;
     Ok(Line {
         statement: assignment(left.lefts, values),
         fault: lesser(lesser(left.fault, listed.fault), values_fault),

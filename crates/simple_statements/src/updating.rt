@@ -3,7 +3,7 @@
 ghost use Rattle.std.specs.Prelude.{◌≡◌, ◌⊎◌, Option, Some, None, IfOk, is_some, not, ◌&&◌, option_and_then, if◌then◌else◌};
 ghost use Rattle.std.specs.Option.{option_map};
 ghost use Rattle.syntax.specs.declared.operator.BinOp.TheVariants.{Arithmetic as ArithmeticOf};
-ghost use Rattle.syntax.specs.Expressions.{spelled, ex_of as tree_of, exs_of as trees_of};
+ghost use Rattle.syntax.specs.Expressions.{ex_of as tree_of, exs_of as trees_of};
 ghost use Rattle.syntax.specs.FirstBytes.{first_pos};
 ghost use Rattle.typed.specs.View.{st_of};
 ghost use Rattle.typed.specs.Positions.{position};
@@ -14,24 +14,23 @@ ghost use Rattle.type_faults.specs.declared.fault.FaultKind.TheVariants.{WrongCo
 ghost use Rattle.operators.specs.Operators.{combined};
 ghost use Rattle.operators.specs.Faults.{pair_fault};
 ghost use Rattle.operators.specs.Passing.{operand_of};
-ghost use Rattle.names.specs.Universe.{is_blank};
-ghost use Rattle.names.specs.Scope.{scope_of, declaration};
+ghost use Rattle.names.specs.Scope.{scope_of};
 ghost use Rattle.names.specs.Naming.{name_in};
 ghost use Rattle.expression_types.specs.Typing.{many, count, gives, seen, operand_in};
 ghost use Rattle.expression_types.specs.Faults.{refused_fault, ValuesFail, FailsInEach, FailsAsOperand};
 ghost use Rattle.expression_types.specs.Passing.{seens};
-ghost use Rattle.simple_statements.specs.SimpleStatements.{variable_view, variable_named, only, variable_value, own_value, updated, stepped, update_one, update_statement, step_statement};
-ghost use Rattle.simple_statements.specs.SimpleFaults.{own_fault, step_fault, given_count, have_values, lefts_place, OwnSideFails, OwnSidesFail, FailsInUpdate, FailsInStep};
+ghost use Rattle.simple_statements.specs.SimpleStatements.{only, own_value, updated, stepped, update_one, update_statement, step_statement};
+ghost use Rattle.simple_statements.specs.SimpleFaults.{step_fault, given_count, have_values, lefts_place, OwnSideFails, OwnSidesFail, FailsInUpdate, FailsInStep};
 
-use crate::declaring::{Variable, left_fault_of, lefts_pos, value_fault, variable_named};
+use crate::sides::{check_own, lefts_pos};
 use crate::statements::Line;
 use base::{NoMemory, Pos, ValueType};
 use expression_types::{Item, check_list, check_single, count, values_fault};
-use names::{Declared, Scope, is_blank, name_in, spelled};
+use names::Scope;
 use operators::{Operand, is_assignable, pair_fault, paired};
 use signatures::fault_where;
 use std::alloc::Global;
-use syntax::{ArithmeticOp, Expr, Name};
+use syntax::{ArithmeticOp, Expr};
 use type_faults::{Fault, FaultKind, lesser};
 use typed::BinOp;
 
@@ -42,81 +41,11 @@ struct Sides {
     fault: Option<Fault>,
 }
 
-fn variable_value(variable: Option<Variable>) -> Option<Operand>
-    ensures { option_map operand_of result ≡ variable_value (option_map variable_view variable) }
+/// Whether values are known, and one more.
+fn with_known(known: bool, value: &Option<Operand>) -> bool
+    ensures { result ≡ (known && is_some (option_map operand_of value.now)) }
 {
-    match variable {
-        Some(variable) => Some(Operand::Value(
-            variable.value_type,
-            typed::Expr::Read(variable.place),
-        )),
-        None => None,
-    }
-}
-
-fn name_value(alloc: Global, text: &[u8], scope: &Scope, name: Name) -> Option<Operand>
-    ensures { option_map operand_of result ≡ own_value text.now (scope_of scope.now) (Some name) }
-{
-    let bytes = spelled(text, name);
-    if is_blank(bytes) {
-        None
-    } else {
-        variable_value(variable_named(alloc, text, scope, name))
-    }
-}
-
-/// The value of a variable that is given another one of its own.
-fn own_value(alloc: Global, text: &[u8], scope: &Scope, e: &Expr) -> Option<Operand>
-    ensures { option_map operand_of result ≡ own_value text.now (scope_of scope.now) (name_in (tree_of e.now)) }
-{
-    match name_in(e) {
-        Some(name) => name_value(alloc, text, scope, name),
-        None => None,
-    }
-}
-
-fn own_fault_of(blank: bool, declared: Option<Declared>, pos: Pos, whole: Pos) -> Option<Fault>
-    ensures { result ≡ own_fault blank declared pos whole }
-{
-    if blank {
-        Some(Fault {
-            kind: FaultKind::Unknown,
-            pos,
-        })
-    } else {
-        left_fault_of(false, declared, pos, whole)
-    }
-}
-
-/// The fault of a name whose value is asked for, as a left side that begins at a place.
-#[tactic(auto, using(type_faults::proofs::Leasts::leaf))]
-fn name_fault(text: &[u8], scope: &Scope, name: Name, whole: Pos) -> Option<Fault>
-    ensures { IsLeast (IsFault (own_fault (is_blank (spelled text.now name)) (declaration (scope_of scope.now) (spelled text.now name)) name.pos whole)) result }
-{
-    let bytes = spelled(text, name);
-    own_fault_of(is_blank(bytes), scope.declaration(bytes), name.pos, whole)
-}
-
-/// The fault of a left side whose value is asked for.
-fn side_fault(
-    alloc: Global,
-    text: &[u8],
-    scope: &Scope,
-    e: &Expr,
-) -> Result<Option<Fault>, NoMemory>
-    ensures { IfOk result (λ f. IsLeast (OwnSideFails text.now (scope_of scope.now) (name_in (tree_of e.now)) (tree_of e.now)) f) }
-{
-    match name_in(e) {
-        Some(name) => Ok(name_fault(text, scope, name, e.pos())),
-        None => value_fault(alloc, text, scope, e),
-    }
-}
-
-/// Whether values are known, and that of one more left side.
-fn with_known(alloc: Global, text: &[u8], scope: &Scope, known: bool, e: &Expr) -> bool
-    ensures { result ≡ (known && is_some (own_value text.now (scope_of scope.now) (name_in (tree_of e.now)))) }
-{
-    known && own_value(alloc, text, scope, e).is_some()
+    known && value.is_some()
 }
 
 /// Left sides whose values are asked for.
@@ -127,9 +56,9 @@ fn check_sides(alloc: Global, text: &[u8], scope: &Scope, es: &[Expr]) -> Result
     let mut known = true;
     let mut fault = None;
     for e in es {
-        known = with_known(alloc, text, scope, known, e);
-        let own = side_fault(alloc, text, scope, e)?;
-        fault = lesser(fault, own);
+        let own = check_own(alloc, text, scope, e)?;
+        known = with_known(known, &own.value);
+        fault = lesser(fault, own.fault);
     }
     Ok(Sides { known, fault })
 }
@@ -175,17 +104,16 @@ fn check_one(
     value: &Expr,
 ) -> Result<Line, NoMemory>
     ensures statement { IfOk result (λ c. option_map st_of c.statement ≡ update_one text.now (scope_of scope.now) pos op (tree_of e.now) (tree_of value.now)) }
-    ensures fault { IfOk result (λ c. IsLeast (λ f. (OwnSideFails text.now (scope_of scope.now) (name_in (tree_of e.now)) (tree_of e.now) f ⊎ FailsAsOperand text.now (scope_of scope.now) (tree_of value.now) f) ⊎ IsFault (pair_fault (first_pos (tree_of e.now)) (first_pos (tree_of value.now)) (ArithmeticOf op) (own_value text.now (scope_of scope.now) (name_in (tree_of e.now))) (operand_in (gives text.now (scope_of scope.now) (tree_of value.now)))) f) c.fault) }
+    ensures fault { IfOk result (λ c. IsLeast (λ f. (OwnSideFails text.now (scope_of scope.now) (name_in (tree_of e.now)) (tree_of e.now) f ⊎ FailsAsOperand text.now (scope_of scope.now) (tree_of value.now) f) ⊎ IsFault (pair_fault (first_pos (tree_of e.now)) (first_pos (tree_of value.now)) (ArithmeticOf op) (own_value text.now (scope_of scope.now) (tree_of e.now)) (operand_in (gives text.now (scope_of scope.now) (tree_of value.now)))) f) c.fault) }
 {
-    let side = side_fault(alloc, text, scope, e)?;
+    let left = check_own(alloc, text, scope, e)?;
     let right = check_single(alloc, text, scope, value)?;
-    let left = own_value(alloc, text, scope, e);
     let tree_op = syntax::BinOp::Arithmetic(op);
-    let own = pair_fault(tree_op, e.pos(), right.pos, &left, &right.operand);
-    let operand = paired(alloc, tree_op, pos, left, right.operand)?;
+    let own = pair_fault(tree_op, e.pos(), right.pos, &left.value, &right.operand);
+    let operand = paired(alloc, tree_op, pos, left.value, right.operand)?;
     Ok(Line {
         statement: updated_of(operand),
-        fault: lesser(lesser(side, right.fault), own),
+        fault: lesser(lesser(left.fault, right.fault), own),
     })
 }
 
@@ -301,11 +229,10 @@ pub fn check_step(
     ensures statement { IfOk result (λ c. option_map st_of c.statement ≡ step_statement text.now (scope_of scope.now) pos op (tree_of e.now)) }
     ensures fault { IfOk result (λ c. IsLeast (FailsInStep text.now (scope_of scope.now) (tree_of e.now)) c.fault) }
 {
-    let side = side_fault(alloc, text, scope, e)?;
-    let operand = own_value(alloc, text, scope, e);
-    let own = step_fault(&operand, e.pos());
+    let left = check_own(alloc, text, scope, e)?;
+    let own = step_fault(&left.value, e.pos());
     Ok(Line {
-        statement: stepped(pos, op, operand),
-        fault: lesser(side, own),
+        statement: stepped(pos, op, left.value),
+        fault: lesser(left.fault, own),
     })
 }

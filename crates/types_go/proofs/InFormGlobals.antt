@@ -8,7 +8,6 @@ use Rattle.syntax.specs.Expressions.{spelled}
 use Rattle.syntax.specs.Declarations.{Function as TreeFunction, Declaration, constants, variables, types}
 use Rattle.syntax.specs.Declarations as tree
 use Rattle.syntax.specs.declared.expression.Name.{Name}
-use Rattle.base.specs.declared.pos.Pos.{Pos}
 use Rattle.typed.specs.declared.program.Site.{Site}
 use Rattle.typed_syntax.specs.Syntax.{Func, Program, site_type}
 use Rattle.typed_syntax.specs.Form.{IsPlain, IsWord, GlobalFits}

@@ -142,7 +142,7 @@ module _ (T : Table) (text : List ℕ) (p : Program) (all : List Site) (has : Ha
         let ext0 = (within_before p all (opened s) (header text s (Some m)) (grows_simple text (opened s) m) ext).0 in
         subst (λ (o : Option St). InitFits looped s scope (header text s (Some m)) o) q.2
         (some_init looped s scope (header text s (Some m)) q.0
-        (simple_formed T text p all has wanted1 named looped (opened s) scope (visible_opened s scope visible) types_are (agreed (opened s) refl ext0) m q.0 ext ext0 q.1))
+        (simple_formed T text p all has wanted1 named looped (opened s) scope (visible_opened s scope visible) types_are (agreed (opened s) refl ext0) m q.0 ext q.1))
 
     -- ---- an `if`
 
@@ -297,7 +297,7 @@ module _ (T : Table) (text : List ℕ) (p : Program) (all : List Site) (has : Ha
     assigned_fits : (ls : TreeExs) (l : List Left) (key : Left) → Extends s.sites all → lefts text (opened s) ls ≡ Some l → all_accept (Some Int) (all_wanted text (opened s) ls) ≡ true → key_of l ≡ Some key → KeyFits (opened s) key
     assigned_fits ls l key ext found accept is =
         let ps = all_wanted text (opened s) ls in
-        let old = lefts_fit T p text (opened s) scope (known_all T text p all has (opened s) scope (visible_opened s scope visible) types_are (agreed (opened s) refl ext) ext) ls (map (λ (q : Option ValueType). Int) ps) l (given_types Int ps accept) found in
+        let old = lefts_fit T p text (opened s) scope (known_all T text p all has (opened s) scope (visible_opened s scope visible) types_are (agreed (opened s) refl ext)) ls (map (λ (q : Option ValueType). Int) ps) l (given_types Int ps accept) found in
         let sites_are : new_sites (key ∷ []) ≡ 0 = sym (key_sites l key is) ∙ old.sites in
         record {
           shows = subst (λ (w : List ℕ). Visible (opened s) w) (sym (old.behind scope) ∙ key_scope scope l key is) (visible_opened s scope visible);

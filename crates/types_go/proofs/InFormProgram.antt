@@ -2,7 +2,6 @@
 use Rattle.std.proofs.Common.{◌≡◌, ℕ, zero, suc, ◌+◌, ◌<◌, ◌≤◌, Bool, true, false, cond, List, [], ◌∷◌, ◌++◌, ◌⊎◌, inl, inr, map, get_or, Option, Some, None, refl, sym, ap, ◌∙◌, subst, arith, length, append-nil}
 use Rattle.std.specs.Prelude.{option_and_then, ◌&&◌, ◌||◌, ◌==◌, nat_lt, slice_get, codes}
 use Rattle.std.specs.Option.{option_map}
-use Rattle.std.specs.List.{AllByRecursion}
 use Rattle.std.proofs.lemmas.Bool.{eqb-true, ltb-true, leb-true}
 use Rattle.std.proofs.lemmas.List.{length-map}
 use Rattle.syntax.specs.declared.expression.Name.{Name}
@@ -10,7 +9,7 @@ use Rattle.syntax.specs.Expressions.{Ex as TreeEx, Exs as TreeExs, some, spelled
 use Rattle.syntax.specs.Expressions as expressions
 use Rattle.syntax.specs.Declarations.{Field, Parameters, unnamed, named, Body, Function as TreeFunction, Declaration, Syntax}
 use Rattle.typed.specs.declared.program.Site.{Site}
-use Rattle.typed_syntax.specs.Syntax.{Sts, Func, Program, all_width, argument_words, result_words, site_type}
+use Rattle.typed_syntax.specs.Syntax.{Sts, Func, Program, all_width, site_type}
 use Rattle.typed.specs.Tables.{Table}
 use Rattle.typed.specs.Trees.{trees, tree_named}
 use Rattle.typed.specs.Formed.{IsFormed}

@@ -147,7 +147,7 @@ module _ (T : Table) (text : List ℕ) (p : Program) (all : List Site) (has : Ha
           let q = map_some alone (simple_statement text s m) b is in
           let ext0 = (within_before p all s (behind text s (tree.simple m)) (grows text s (tree.simple m)) ext).0 in
           subst (λ (x : Sts). Whole looped s scope (behind text s (tree.simple m)) x) q.2
-          (one looped s (behind text s (tree.simple m)) scope q.0 (simple_formed T text p all has wanted1 named looped s scope v (typed s g) (agreed s g ext0) m q.0 ext ext0 q.1))
+          (one looped s (behind text s (tree.simple m)) scope q.0 (simple_formed T text p all has wanted1 named looped s scope v (typed s g) (agreed s g ext0) m q.0 ext q.1))
       formed looped s scope (tree.block ms) b v g ext is =
           let inner = closed (behind_all text (opened s) ms) in
           let q = map_some (λ x. alone (block x)) (statements text r looped (opened s) ms) b is in

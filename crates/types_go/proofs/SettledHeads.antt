@@ -16,14 +16,12 @@ use Rattle.type_faults.specs.declared.fault.FaultKind.TheVariants.{NothingNew, M
 use Rattle.base.specs.declared.value_type.ValueType.{ValueType}
 use Rattle.base.specs.declared.value_type.ValueType.TheVariants.{Int}
 use Rattle.type_faults.specs.Given.{allowed}
-use Rattle.base.specs.Types.{same_type}
 use Rattle.type_faults.specs.Faults.{fault, IsFault}
 use Rattle.type_faults.proofs.Decided.{Decided, Tested, further, tested, turned, mapped, after, both_tested}
 use Rattle.type_faults.proofs.Options.{and_then_some, map_some, none_some, same_some}
 use Rattle.operators.specs.Operands.{Operand, is_assignable, as_value}
 use Rattle.names.specs.Universe.{is_blank}
 use Rattle.names.specs.Scope.{Scope, is_here, opened}
-use Rattle.names.specs.Naming.{name_in}
 use Rattle.names.proofs.Settled.{IsSettled}
 use Rattle.expression_types.specs.Typing.{accepts, operand_in, gives, condition, test}
 use Rattle.expression_types.specs.Faults.{range_fault, Fails, FailsAsOperand, FailsInCondition, FailsInTest}
@@ -137,17 +135,17 @@ module _ (text : List ℕ) where
   over_decided s at e settled =
       int_decided at (first_pos e) (operand_in (gives text s e)) (FailsAsOperand text s e) (operand_decided (gives text s e) (Fails text s e) (gives_decided text s settled e))
 
-  given_all_tested : (s : Scope) (t : ValueType) (ls : TreeExs) → Tested (all_accept (Some t) (all_wanted text s ls)) (GivenFail text s (Some t) ls)
+  given_all_tested : (s : Scope) (t : ValueType) (ls : TreeExs) → Tested (all_accept (Some t) (all_wanted text s ls)) (GivenFail (Some t) (all_wanted text s ls) ls)
   given_all_tested s t expressions.none = λ f h. h
   given_all_tested s t (some e es) =
-      both_tested (IsFault (given_fault (Some t) (wanted text s (name_in e)) (first_pos e))) (GivenFail text s (Some t) es) (accepts (wanted text s (name_in e)) t) (all_accept (Some t) (all_wanted text s es))
-      (given_tested t (wanted text s (name_in e)) (first_pos e)) (given_all_tested s t es)
+      both_tested (IsFault (given_fault (Some t) (wanted text s e) (first_pos e))) (GivenFail (Some t) (all_wanted text s es) es) (accepts (wanted text s e) t) (all_accept (Some t) (all_wanted text s es))
+      (given_tested t (wanted text s e) (first_pos e)) (given_all_tested s t es)
 
   targets_decided : (s : Scope) (t : ValueType) (targets : Targets) → IsSettled s → Decided (target_lefts text s (Some t) targets) (TargetsFail text s (Some t) targets)
   targets_decided s t no_targets settled = λ f h. h
   targets_decided s t (targets_assigned ls at) settled =
-      turned (GivenFail text s (Some t) ls) (LeftsFail text s ls) (target_lefts text s (Some t) (targets_assigned ls at))
-      (tested (GivenFail text s (Some t) ls) (LeftsFail text s ls) (all_accept (Some t) (all_wanted text s ls)) (lefts text s ls) (given_all_tested s t ls) (lefts_decided text s settled ls))
+      turned (GivenFail (Some t) (all_wanted text s ls) ls) (LeftsFail text s ls) (target_lefts text s (Some t) (targets_assigned ls at))
+      (tested (GivenFail (Some t) (all_wanted text s ls) ls) (LeftsFail text s ls) (all_accept (Some t) (all_wanted text s ls)) (lefts text s ls) (given_all_tested s t ls) (lefts_decided text s settled ls))
   targets_decided s t (targets_defined ns at) settled =
       turned (IsFault (fault_where (all_blank text ns) (fault NothingNew at))) (EntriesFail text Parameter s (map (slot_with (Some t)) ns)) (target_lefts text s (Some t) (targets_defined ns at))
       (tested (IsFault (fault_where (all_blank text ns) (fault NothingNew at))) (EntriesFail text Parameter s (map (slot_with (Some t)) ns)) (not (all_blank text ns)) (option_map (map entry_left) (entries text Parameter s (map (slot_with (Some t)) ns)))

@@ -7,7 +7,7 @@ use Rattle.expression_types.specs.Typing.{operand_in, gives}
 use Rattle.signatures.proofs.Growth.{Grows, Keeps, grows_none, grows_twice, keeps_twice, keeps_none, keeps_grows, keeps_strings, keeps_inner, grows_entries}
 use Rattle.simple_statements.specs.SimpleStatements.{strings_in}
 use Rattle.simple_statements.proofs.Growth.{grows_simple, grows_specs}
-use Rattle.types_go.specs.Statements.{number_type, over, target_slots, header, behind_post_simple, behind_post, clause_scope, behind, behind_else, behind_all}
+use Rattle.types_go.specs.Statements.{number_type, target_slots, header, behind_post_simple, behind_post, clause_scope, behind, behind_else, behind_all}
 
 module _ (text : List ℕ) where
   pub grows_header : (s : Scope) (init : Option Simple) → Grows (opened s) (header text s init)

@@ -201,7 +201,7 @@ module _ (text : List ℕ) where
   update_still : (s : Scope) (at : Pos) (tree_op : ArithmeticOp) (e v : Option TreeEx) (t : St) → update_statement text s at tree_op e v ≡ Some t → IsStill t
   update_still s at tree_op None v t is = absurd (none_some is)
   update_still s at tree_op (Some e) None t is = absurd (none_some is)
-  update_still s at tree_op (Some e) (Some v) t is = let q = and_then_some updated (both (combined at (Arithmetic tree_op)) (own_value text s (name_in e)) (operand_in (gives text s v))) t is in updated_still q.0 t q.2
+  update_still s at tree_op (Some e) (Some v) t is = let q = and_then_some updated (both (combined at (Arithmetic tree_op)) (own_value text s e) (operand_in (gives text s v))) t is in updated_still q.0 t q.2
 
   simple_still : (s : Scope) (m : Simple) (t : St) → simple_statement text s m ≡ Some t → IsStill t
   simple_still s (tree.express e) t is = let q = and_then_some (expressed (length s.strings)) (gives text s e) t is in expressed_still (length s.strings) q.0 t q.2
@@ -210,8 +210,8 @@ module _ (text : List ℕ) where
   simple_still s (tree.define ns at es) t is =
       let w = where_some (may_define text s ns) (assignment (new_lefts text s (length s.sites) ns) (taken (all_new_wanted text s ns) (seen text s es))) t is in
       assigned_still (new_lefts text s (length s.sites) ns) (taken (all_new_wanted text s ns) (seen text s es)) t w.1
-  simple_still s (tree.increment e at) t is = let q = and_then_some (stepped (position at) op.Add) (own_value text s (name_in e)) t is in stepped_still (position at) op.Add q.0 t q.2
-  simple_still s (tree.decrement e at) t is = let q = and_then_some (stepped (position at) op.Sub) (own_value text s (name_in e)) t is in stepped_still (position at) op.Sub q.0 t q.2
+  simple_still s (tree.increment e at) t is = let q = and_then_some (stepped (position at) op.Add) (own_value text s e) t is in stepped_still (position at) op.Add q.0 t q.2
+  simple_still s (tree.decrement e at) t is = let q = and_then_some (stepped (position at) op.Sub) (own_value text s e) t is in stepped_still (position at) op.Sub q.0 t q.2
 
   -- an init statement has no `break`
   abbrev StillInit : Option St → Type 0

@@ -5,27 +5,24 @@ use Rattle.base.specs.declared.pos.Pos.{Pos}
 use Rattle.syntax.specs.declared.expression.Name.{Name}
 use Rattle.syntax.specs.FirstBytes.{first_pos}
 use Rattle.syntax.specs.Expressions.{Ex as TreeEx, Exs as TreeExs, some, spelled}
-use Rattle.syntax.specs.Expressions as expressions
 use Rattle.syntax.specs.Statements.{Simple, Targets, no_targets, targets_assigned, targets_defined, Clause, forever, while_true, counting, ranging, Stm, Stms, Els}
 use Rattle.syntax.specs.Statements as tree
-use Rattle.typed_syntax.specs.Syntax.{Ex, Left, blank}
+use Rattle.typed_syntax.specs.Syntax.{Left, blank}
 use Rattle.type_faults.specs.declared.fault.Fault.{Fault}
 use Rattle.type_faults.specs.declared.fault.FaultKind.TheVariants.{NothingNew, Mismatch, WrongCount, Unfit, BreakOutside}
 use Rattle.base.specs.declared.value_type.ValueType.{ValueType}
 use Rattle.base.specs.declared.value_type.ValueType.TheVariants.{Int}
-use Rattle.base.specs.Types.{same_type}
 use Rattle.type_faults.specs.Faults.{fault, IsFault, FormFails}
 use Rattle.operators.specs.Operands.{Operand, is_assignable}
 use Rattle.names.specs.Universe.{is_blank}
 use Rattle.names.specs.Scope.{Scope, opened, closed}
-use Rattle.names.specs.Naming.{name_in}
 use Rattle.expression_types.specs.Typing.{accepts, operand_in, gives, seen}
 use Rattle.expression_types.specs.Faults.{range_fault, FailsInEach, FailsAsOperand, FailsInCondition, FailsInTest}
 use Rattle.signatures.specs.declared.entries.Role.TheVariants.{Parameter}
 use Rattle.signatures.specs.Entries.{slot_with}
 use Rattle.signatures.specs.EntryFaults.{EntriesFail}
 use Rattle.signatures.specs.Failing.{fault_where}
-use Rattle.simple_statements.specs.SimpleStatements.{Returns, wanted, lefts}
+use Rattle.simple_statements.specs.SimpleStatements.{Returns, lefts, all_wanted}
 use Rattle.simple_statements.specs.SimpleFaults.{names_place, ReturnFails, LeftsFail, FailsInSimple, FailsInSpecs}
 use Rattle.types_go.specs.Statements.{number_type, header, over, all_blank, clause_scope, behind, behind_all}
 
@@ -38,6 +35,11 @@ over_fault pos value_pos (Some x) = if is_assignable Int x then range_fault valu
 abbrev pub given_fault : Option ValueType → Option ValueType → Pos → Option Fault
 given_fault None p pos = None
 given_fault (Some t) p pos = fault_where (not (accepts p t)) (fault Mismatch pos)
+
+-- left sides that ask for these types, where each gets a value of a type
+abbrev pub GivenFail : Option ValueType → List (Option ValueType) → TreeExs → Fault → Type 0
+GivenFail t (p ∷ ps) (some e es) f = IsFault (given_fault t p (first_pos e)) f ⊎ GivenFail t ps es f
+GivenFail t ps es f = ⊥
 
 -- how many left sides there are; a blank one after another is as if absent
 abbrev pub key_count : List Left → ℕ
@@ -69,13 +71,9 @@ module _ (text : List ℕ) where
   abbrev pub FailsInOver : Scope → Pos → TreeEx → Fault → Type 0
   FailsInOver s pos e f = FailsAsOperand text s e f ⊎ IsFault (over_fault pos (first_pos e) (operand_in (gives text s e))) f
 
-  abbrev pub GivenFail : Scope → Option ValueType → TreeExs → Fault → Type 0
-  GivenFail s t expressions.none f = ⊥
-  GivenFail s t (some e es) f = IsFault (given_fault t (wanted text s (name_in e)) (first_pos e)) f ⊎ GivenFail s t es f
-
   abbrev pub TargetsFail : Scope → Option ValueType → Targets → Fault → Type 0
   TargetsFail s t no_targets f = ⊥
-  TargetsFail s t (targets_assigned ls pos) f = LeftsFail text s ls f ⊎ GivenFail s t ls f
+  TargetsFail s t (targets_assigned ls pos) f = LeftsFail text s ls f ⊎ GivenFail t (all_wanted text s ls) ls f
   TargetsFail s t (targets_defined ns pos) f = EntriesFail text Parameter s (map (slot_with t) ns) f ⊎ IsFault (fault_where (all_blank text ns) (fault NothingNew pos)) f
 
   abbrev pub name_count : List Name → ℕ

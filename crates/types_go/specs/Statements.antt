@@ -10,7 +10,6 @@ use Rattle.typed_syntax.specs.Syntax.{Ex, Left, St, Sts, blank, new, to, over_in
 use Rattle.base.specs.declared.value_type.ValueType.{ValueType}
 use Rattle.base.specs.declared.value_type.ValueType.TheVariants.{Int}
 use Rattle.type_faults.specs.Given.{allowed}
-use Rattle.base.specs.Types.{same_type}
 use Rattle.operators.specs.Operands.{Operand, is_assignable, as_value}
 use Rattle.names.specs.Universe.{is_blank}
 use Rattle.names.specs.Scope.{Scope, opened, closed}

@@ -15,7 +15,6 @@ ghost use Rattle.names.specs.Scope.{scope_of, opened};
 ghost use Rattle.expression_types.specs.Typing.{test, condition_in, operand_in, gives};
 ghost use Rattle.expression_types.specs.Faults.{range_fault, FailsInTest};
 ghost use Rattle.signatures.specs.Entries.{slot_with, behind_entries};
-ghost use Rattle.simple_statements.specs.SimpleStatements.{all_wanted, wanted};
 ghost use Rattle.types_go.specs.Statements.{alone, key_of, range_head, as_int, number_type, over, all_accept, all_blank, target_slots, target_lefts, header, init_statement, post_simple, post_statement, behind_post_simple, behind_post, guard_head, choice_head, loop_head, clause_scope, clause_head};
 ghost use Rattle.types_go.specs.StatementFaults.{over_fault, given_fault, keys_fault, key_count, name_count, target_count, FailsInInit, PostFails, FailsInPost, FailsInOver, GivenFail, TargetsFail, FailsInRange, FailsInClause, FailsInGuard};
 ghost use Rattle.types_go.specs.StatementPassing.{choice_view, head_view};
@@ -25,7 +24,7 @@ use expression_types::{Condition, Test, accepts, check_condition, check_single, 
 use names::{Scope, is_blank, name_in, spelled};
 use operators::{Operand, as_value, constant_range_fault, is_assignable};
 use signatures::{Role, check_entries, entry_lefts, fault_where, slots_with};
-use simple_statements::{Line, all_wanted, check_lefts, check_simple, left_out, names_pos, wanted};
+use simple_statements::{Line, check_lefts, check_simple, left_out, names_pos};
 use std::alloc::Global;
 use syntax::{Clause, Expr, Guard, Name, Simple, Targets};
 use type_faults::{Fault, FaultKind, lesser};
@@ -362,17 +361,15 @@ fn given_fault(given: Option<ValueType>, wanted: Option<ValueType>, pos: Pos) ->
 }
 
 fn given_faults(
-    alloc: Global,
-    text: &[u8],
-    scope: &Scope,
     given: Option<ValueType>,
+    wanted: &[Option<ValueType>],
     es: &[Expr],
 ) -> Option<Fault>
-    ensures { IsLeast (GivenFail text.now (scope_of scope.now) given (trees_of es.now)) result }
+    ensures { IsLeast (GivenFail given wanted.now (trees_of es.now)) result }
 {
     let mut fault = None;
-    for e in es {
-        let own = given_fault(given, wanted(alloc, text, scope, e), e.pos());
+    for index in 0..wanted.len().min(es.len()) {
+        let own = given_fault(given, wanted[index], es[index].pos());
         fault = lesser(fault, own);
     }
     fault
@@ -437,11 +434,10 @@ fn check_assigned(
     ensures fault { IfOk result (λ k. IsLeast (TargetsFail text.now (scope_of scope.now) given (targets_assigned (trees_of es.now) pos)) k.fault) }
 {
     let left = check_lefts(alloc, text, scope, es)?;
-    let wanted = all_wanted(alloc, text, scope, es)?;
-    let own = given_faults(alloc, text, scope, given, es);
+    let own = given_faults(given, &left.wanted, es);
     let count = left_count(&left.lefts);
     Ok(Keys {
-        lefts: lefts_where(all_accept(given, &wanted), left.lefts),
+        lefts: lefts_where(all_accept(given, &left.wanted), left.lefts),
         count,
         fault: lesser(left.fault, own),
     })

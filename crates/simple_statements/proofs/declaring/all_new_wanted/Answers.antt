@@ -15,7 +15,7 @@ loop-name-preserved c =
     let n : Name = get_or xs k no_name in
     let so_far = c.loop-name.types.items in
     let here : drop k xs ≡ n ∷ drop (k + 1) xs = from_there xs k no_name c.loop-name-test.true in
-    rw (c.in_ok-push.ensures.items, c.new_wanted.ensures)
+    rw (c.in_ok-push.ensures.items, c.in_ok-value_type.ensures)
     (c.loop-name.invariant ∙ ap (λ (l : List Name). so_far ++ all_new_wanted text s l) here ∙ sym (append_assoc so_far (new_wanted text s n ∷ []) (all_new_wanted text s (drop (k + 1) xs))))
 
 pub returns : goal.returns

@@ -21,7 +21,7 @@ returns-clause-fault c =
     let es = exs_of c.args.es.now in
     let listed = c.in_ok-listed.listed in
     let items = listed.items.items in
-    let ps = c.in_ok-wanted.wanted.items in
+    let ps = c.in_ok-left.left.wanted.items in
     let ls = option_map (λ v. map left_of v.items) c.in_ok-left.left.lefts in
     let counted : c.count_where-counted.result ≡ option_and_then (λ l. count (seens items)) ls =
     c.count_where-counted.ensures ∙ ap (λ (l : List Item). option_and_then (λ k. count (seens l)) ls) c.deref.ensures.value in
@@ -30,5 +30,5 @@ returns-clause-fault c =
     let placed : IsLeast (PlacedFail ps (seens items)) c.placed_fault.result =
     subst (λ (l : List (Option ValueType)). IsLeast (PlacedFail l (seens items)) c.placed_fault.result) c.deref-2.ensures.value placed0 in
     rw (c.lesser-2.ensures, c.lesser.ensures, c.lesser-values_fault.ensures, c.count_fault.ensures, counted, c.place_count.ensures, c.lefts_pos.ensures)
-    (assign_least text s ns c.args.pos es ls ps (seens items) c.in_ok-left.left.fault listed.fault c.placed_fault.result c.in_ok-left.ensures.lefts c.in_ok-wanted.ensures c.in_ok-listed.ensures.seen
+    (assign_least text s ns c.args.pos es ls ps (seens items) c.in_ok-left.left.fault listed.fault c.placed_fault.result c.in_ok-left.ensures.lefts c.in_ok-left.ensures.wanted c.in_ok-listed.ensures.seen
     c.in_ok-left.ensures.fault c.in_ok-listed.ensures.fault placed)

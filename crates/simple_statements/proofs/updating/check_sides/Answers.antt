@@ -23,11 +23,11 @@ loop-e-preserved c =
     let e = ex_of x in
     let rest = drop (k + 1) xs in
     let here : drop k xs ≡ x ∷ rest = from_one xs k x c.loop-e-test.true c.e-item.is in
-    let front : have_values text s (exs_of xs) ≡ (c.loop-e.known && (is_some (own_value text s (name_in e)) && have_values text s (exs_of rest))) =
+    let front : have_values text s (exs_of xs) ≡ (c.loop-e.known && (is_some (own_value text s e) && have_values text s (exs_of rest))) =
     c.loop-e.invariant.0 ∙ ap (λ (l : List Expr). c.loop-e.known && have_values text s (exs_of l)) here in
     let kept = subst (λ (l : List Expr). Kept (OwnSidesFail text s (exs_of xs)) (OwnSidesFail text s (exs_of l)) c.loop-e.fault) here c.loop-e.invariant.1 in (
-      rw (c.with_known-known.ensures) (front ∙ and_all c.loop-e.known (is_some (own_value text s (name_in e))) (have_values text s (exs_of rest))),
-      rw (c.lesser-fault.ensures) (kept_more (OwnSidesFail text s (exs_of xs)) (OwnSideFails text s (name_in e) e) (OwnSidesFail text s (exs_of rest)) c.loop-e.fault c.in_ok-own.own kept c.in_ok-own.ensures),
+      rw (c.with_known-known.ensures, c.in_ok-own.ensures.value) (front ∙ and_all c.loop-e.known (is_some (own_value text s e)) (have_values text s (exs_of rest))),
+      rw (c.lesser-fault.ensures) (kept_more (OwnSidesFail text s (exs_of xs)) (OwnSideFails text s (name_in e) e) (OwnSidesFail text s (exs_of rest)) c.loop-e.fault c.in_ok-own.own.fault kept c.in_ok-own.ensures.fault),
     )
 
 pub returns-clause-known : goal.returns-clause-known

@@ -3,4 +3,4 @@ use Rattle.simple_statements.proofs.updating.check_step.Goals as goal
 
 pub returns-clause-fault : goal.returns-clause-fault
 returns-clause-fault c =
-    rw (c.lesser.ensures, c.step_fault-own.ensures, c.own_value-operand.ensures, c.pos.ensures) (least_join _ _ c.in_ok-side.side _ c.in_ok-side.ensures (leaf _))
+    rw (c.lesser.ensures, c.step_fault-own.ensures, c.in_ok-left.ensures.value, c.pos.ensures) (least_join _ _ c.in_ok-left.left.fault _ c.in_ok-left.ensures.fault (leaf _))

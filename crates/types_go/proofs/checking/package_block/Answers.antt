@@ -1,4 +1,4 @@
-use Rattle.std.proofs.Common.{rules, ◌≡◌, ℕ, ◌+◌, List, length, Option, None, refl, sym, ap, ◌∙◌, subst, arith}
+use Rattle.std.proofs.Common.{rules, ◌≡◌, ◌+◌, length, refl, ap, ◌∙◌, arith}
 use Rattle.syntax.specs.Declarations.{declarations_of}
 use Rattle.names.specs.Scope.{Scope, scope_of, known, beginning}
 use Rattle.signatures.specs.Signatures.{with_items}

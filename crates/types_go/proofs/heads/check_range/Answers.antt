@@ -1,8 +1,6 @@
 use Rattle.std.proofs.Common.{◌≡◌, Option, ap, ◌∙◌, subst}
-use Rattle.std.specs.Option.{option_map}
 use Rattle.syntax.specs.Expressions.{ex_of as tree_of}
 use Rattle.syntax.specs.Statements.{targets_of}
-use Rattle.typed.specs.View.{ex_of}
 use Rattle.base.specs.declared.value_type.ValueType.{ValueType}
 use Rattle.type_faults.specs.Least.{IsLeast}
 use Rattle.type_faults.proofs.Leasts.{least_join, leaf}

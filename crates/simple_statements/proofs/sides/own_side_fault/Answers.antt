@@ -1,13 +1,14 @@
-use Rattle.std.proofs.Common.{◌≡◌, Some, None, sym, ◌∙◌, subst}
+use Rattle.std.proofs.Common.{◌≡◌, Option, Some, None, sym, ◌∙◌, subst}
 use Rattle.base.specs.declared.pos.Pos.{Pos}
+use Rattle.syntax.specs.declared.expression.Name.{Name}
 use Rattle.syntax.specs.Expressions.{ex_of, spelled}
 use Rattle.type_faults.specs.Least.{IsLeast}
 use Rattle.type_faults.specs.Faults.{IsFault}
 use Rattle.names.specs.Universe.{is_blank}
 use Rattle.names.specs.Scope.{scope_of, declaration}
 use Rattle.names.specs.Naming.{name_in}
-use Rattle.simple_statements.proofs.updating.side_fault.Goals as goal
-use Rattle.simple_statements.specs.SimpleFaults.{own_fault}
+use Rattle.simple_statements.proofs.sides.own_side_fault.Goals as goal
+use Rattle.simple_statements.specs.SimpleFaults.{own_fault, LeftSideFails}
 
 pub returns-in-Some : goal.returns-in-Some
 returns-in-Some c =
@@ -16,9 +17,9 @@ returns-in-Some c =
     let n = c.in-Some.name in
     let bytes = spelled text n in
     rw (found)
-    (subst (λ (p : Pos). IsLeast (IsFault (own_fault (is_blank bytes) (declaration (scope_of c.args.scope.now) bytes) n.pos p)) c.name_fault.result) c.pos.ensures c.name_fault.ensures)
+    (subst (λ (p : Pos). IsLeast (IsFault (own_fault (is_blank bytes) (declaration (scope_of c.args.scope.now) bytes) n.pos p)) c.name_own_fault.result) c.pos.ensures c.name_own_fault.ensures)
 
 pub returns-in-None : goal.returns-in-None
 returns-in-None c =
     let found : name_in (ex_of c.args.e.now) ≡ None = sym c.name_in.ensures ∙ c.in-None.is in
-    rw (found) c.value_fault.ensures
+    rw (found) (subst (λ (o : Option Name). IsLeast (LeftSideFails c.args.text.now (scope_of c.args.scope.now) o (ex_of c.args.e.now)) c.args.fault) found c.requires)
