@@ -7,6 +7,8 @@
 #[cfg(test)]
 mod batches;
 #[cfg(test)]
+mod declared_structs;
+#[cfg(test)]
 mod demo_programs;
 #[cfg(test)]
 mod devices;

@@ -1,0 +1,9 @@
+pub mod Capped
+pub mod Ways
+pub mod Sums
+pub mod Filled
+pub mod Flaws
+pub mod Each
+pub mod Judged
+pub mod Typed
+pub mod Steps
